@@ -1,0 +1,3 @@
+pub mod Buffer
+pub use Rattle.tape_base.specs.Limits
+pub use Rattle.tape_base.specs.Place

@@ -1,0 +1,103 @@
+// The buffer and its places.
+ghost use Rattle.std.specs.Prelude.{◌≡◌, ◌<◌, ◌≤◌, ◌+◌, ◌*◌, ◌^◌, length, IfOk};
+ghost use Rattle.agg_buffer.specs.Buffer.{Buffer, empty_buffer, filled_of, next_place_of, bytes_at, IsFilled, IsWhole, Adds, Refuses, IfPlaced, IfNoRoom, room_of};
+
+use crate::answers::PutAnswer;
+use std::alloc::{AllocError, Global};
+use std::marker::Model;
+use tape_base::Geometry;
+
+const BLOCK: usize = 512;
+
+/// Blocks of consecutive places, in memory. It reserves its places from its cursor on.
+#[derive(Debug, Drop)]
+pub struct AggBuffer {
+    cursor: u64,
+    reserved: u32,
+    bytes: Vec<u8>,
+}
+
+impl Model for AggBuffer {
+    ghost use Rattle.std.specs.Prelude.{◌≡◌, ◌<◌, ◌≤◌, ◌*◌, ◌%◌, ◌^◌, vec_len, vec_capacity};
+    ghost use Rattle.agg_buffer.specs.Buffer.{Buffer};
+
+    ghost Value = { Buffer };
+
+    ghost view = { λ b. record { cursor = b.cursor; reserved = b.reserved; bytes = b.bytes.items } };
+
+    ghost invariant = { λ b. (b.cursor < 2 ^ 62) × (b.reserved ≤ 8192) × (vec_len b.bytes % 512 ≡ 0)
+        × (vec_len b.bytes ≤ 512 * b.reserved) × (512 * b.reserved ≤ vec_capacity b.bytes) };
+}
+
+impl AggBuffer {
+    pub fn new(alloc: Global, g: &Geometry, cursor: u64) -> Result<AggBuffer, AllocError>
+        requires { cursor < 2 ^ 62 }
+        ensures { IfOk result (λ b. b ≡ empty_buffer cursor g.now.agg) }
+    {
+        Ok(AggBuffer {
+            cursor,
+            reserved: g.agg,
+            bytes: Vec::with_capacity(alloc, g.agg as usize * BLOCK)?,
+        })
+    }
+
+    /// Empties the buffer, and goes on at another cursor.
+    pub fn begin(&mut self, cursor: u64)
+        requires { cursor < 2 ^ 62 }
+        ensures { self.new ≡ empty_buffer cursor self.old.reserved }
+    {
+        self.bytes.clear();
+        self.cursor = cursor;
+    }
+
+    /// The place of the next piece.
+    pub fn next_place(&self) -> u64
+        ensures place { result ≡ next_place_of self.now }
+        ensures within { result ≤ self.now.cursor + self.now.reserved }
+    {
+        self.cursor + self.filled() as u64
+    }
+
+    /// Puts a piece behind the others, where its blocks are left.
+    pub fn put(&mut self, piece: &[u8]) -> PutAnswer
+        requires { IsWhole piece.now }
+        ensures placed { IfPlaced result (λ place. place ≡ next_place_of self.old) }
+        ensures added { IfPlaced result (λ _. Adds self.old self.new piece.now) }
+        ensures no_room { IfNoRoom result (λ left. left ≡ room_of self.old) }
+        ensures refused { IfNoRoom result (λ _. Refuses self.old self.new piece.now) }
+    {
+        let left = self.reserved - self.filled();
+        if piece.len() / BLOCK > left as usize {
+            return PutAnswer::NoRoom { left };
+        }
+        let place = self.next_place();
+        let put: Result<_, _> = self.bytes.extend_from_slice(piece);
+        put.unwrap();
+        PutAnswer::Placed(place)
+    }
+
+    /// The bytes of filled blocks.
+    pub fn get(&self, place: u64, blocks: u32) -> &[u8]
+        requires { IsFilled self.now place blocks }
+        ensures bytes { result.now ≡ bytes_at self.now place blocks }
+        ensures whole { length result.now ≡ 512 * blocks }
+    {
+        let first = (place - self.cursor) as usize * BLOCK;
+        &self.bytes[first..first + blocks as usize * BLOCK]
+    }
+
+    /// All bytes put since the buffer began.
+    pub fn bytes(&self) -> &[u8]
+        ensures bytes { result.now ≡ self.now.bytes }
+        ensures whole { length result.now ≡ 512 * filled_of self.now }
+    {
+        &self.bytes
+    }
+
+    fn filled(&self) -> u32
+        ensures filled { result ≡ filled_of self.now }
+        ensures within { result ≤ self.now.reserved }
+    {
+        (self.bytes.len() / BLOCK) as u32
+    }
+}

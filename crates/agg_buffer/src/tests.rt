@@ -1,0 +1,63 @@
+use crate::{AggBuffer, PutAnswer};
+use std::test::Fail;
+use tape_base::Geometry;
+
+// A buffer of 8 blocks.
+fn small() -> Result<Geometry, &'static str> {
+    Geometry::check(1, 64, 64, 8, 16, 4, 7).map_err(|_| "refused")
+}
+
+#[test]
+fn pieces_stand_one_behind_another(rt: HostRuntime) -> Result<(), Fail> {
+    let mut buffer = AggBuffer::new(rt.alloc(), &small()?, 64)?;
+    assert_eq!(rt; buffer.next_place(), 64);
+    assert_eq!(rt; buffer.bytes().len(), 0);
+    for (byte, blocks, place) in [(0x61, 1, 64), (0x62, 3, 65), (0x63, 4, 68)] {
+        let piece = vec![in rt.alloc(); byte; 512 * blocks]?;
+        assert!(rt; piece.len() > 0 && piece.len() % 512 == 0);
+        assert_eq!(rt; buffer.put(&piece), PutAnswer::Placed(place));
+        assert_eq!(rt; buffer.next_place(), place + blocks as u64);
+    }
+    let bytes = buffer.bytes();
+    assert_eq!(rt; bytes.len(), 4096);
+    assert_eq!(rt;
+        (bytes[0], bytes[511], bytes[512], bytes[2047]),
+        (0x61, 0x61, 0x62, 0x62)
+    );
+    assert_eq!(rt; (bytes[2048], bytes[4095]), (0x63, 0x63));
+    Ok(())
+}
+
+#[test]
+fn pieces_are_read_back_at_their_places(rt: HostRuntime) -> Result<(), Fail> {
+    let mut buffer = AggBuffer::new(rt.alloc(), &small()?, 120)?;
+    assert_eq!(rt; buffer.put(&[0x61; 512]), PutAnswer::Placed(120));
+    assert_eq!(rt; buffer.get(120, 1), [0x61; 512].as_slice());
+    assert_eq!(rt; buffer.put(&[0x62; 1024]), PutAnswer::Placed(121));
+    assert_eq!(rt; buffer.get(121, 2), [0x62; 1024].as_slice());
+    Ok(())
+}
+
+#[test]
+fn a_piece_above_what_is_left_changes_nothing(rt: HostRuntime) -> Result<(), Fail> {
+    let mut buffer = AggBuffer::new(rt.alloc(), &small()?, 64)?;
+    assert_eq!(rt; buffer.put(&[0x61; 4608]), PutAnswer::NoRoom { left: 8 });
+    assert_eq!(rt; buffer.put(&[0x61; 3584]), PutAnswer::Placed(64));
+    assert_eq!(rt; buffer.put(&[0x62; 1024]), PutAnswer::NoRoom { left: 1 });
+    assert_eq!(rt; buffer.next_place(), 71);
+    assert_eq!(rt; buffer.bytes(), [0x61; 3584].as_slice());
+    assert_eq!(rt; buffer.put(&[0x63; 512]), PutAnswer::Placed(71));
+    assert_eq!(rt; buffer.put(&[0x64; 512]), PutAnswer::NoRoom { left: 0 });
+    Ok(())
+}
+
+#[test]
+fn the_next_buffer_is_empty(rt: HostRuntime) -> Result<(), Fail> {
+    let mut buffer = AggBuffer::new(rt.alloc(), &small()?, 64)?;
+    assert_eq!(rt; buffer.put(&[0x61; 4096]), PutAnswer::Placed(64));
+    buffer.begin(128);
+    assert_eq!(rt; buffer.next_place(), 128);
+    assert_eq!(rt; buffer.bytes().len(), 0);
+    assert_eq!(rt; buffer.put(&[0x62; 4096]), PutAnswer::Placed(128));
+    Ok(())
+}

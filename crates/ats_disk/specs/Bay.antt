@@ -1,0 +1,15 @@
+-- What a bay tells of the devices that it gave and got back.
+use Rattle.std.specs.Prelude.{◌≡◌, ℕ, ◌≤◌}
+use Rattle.ats_disk.specs.Device.{State}
+
+-- a device that was given back
+pub record Return : Type 0 where
+  pub faults : ℕ
+
+abbrev pub return_with : ℕ → Return
+return_with faults = record { faults = faults }
+
+-- a device as it is attached: not smaller than was asked, and without faults
+pub record IsAttached (blocks : ℕ) (device : State) : Type 0 where
+  pub size : blocks ≤ device.size
+  pub faults : device.faults ≡ 0

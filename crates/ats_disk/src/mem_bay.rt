@@ -1,0 +1,101 @@
+// A bay of devices in memory.
+ghost use Rattle.std.specs.Prelude.{◌+◌, ◌≤◌, vec_len, vec_capacity};
+
+use crate::{Bay, BayFault, Disk, MemDisk};
+use std::alloc::Global;
+
+/// How many blocks a device has that is attached at its own size.
+pub const OWN_BLOCKS: u64 = 64;
+
+/// A bay that takes every name as that of a new device in memory.
+#[derive(Drop)]
+pub struct MemBay {
+    attached: u64,
+    fail_at: Vec<u64>,
+    faults: u64,
+    /// The counts of faults of the devices that were given back.
+    returned: Vec<u64>,
+    out: usize,
+    ghost room: { vec_len returned + out ≤ vec_capacity returned },
+}
+
+impl MemBay {
+    ghost use Rattle.ats_disk.specs.MemBay.{told_by, returned_to, IsNew};
+
+    /// The attach calls whose numbers are listed fail; the first has the number 1.
+    pub fn new(alloc: Global, fail_at: Vec<u64>) -> MemBay
+        ensures { IsNew fail_at.items result }
+    {
+        MemBay {
+            attached: 0,
+            fail_at,
+            faults: 0,
+            returned: Vec::new(alloc),
+            out: 0,
+        }
+    }
+}
+
+impl Bay for MemBay {
+    ghost use Rattle.std.specs.Prelude.{◌≡◌, ◌↔◌, ℕ, ◌+◌, ◌<◌, ◌≤◌, ◌++◌, ◌∷◌, [], Contains, IfOk, OnOk, OnErr, IsErrOf};
+    ghost use Rattle.edge_io.specs.Causes.{Rose, one_more};
+    ghost use Rattle.ats_disk.specs.Device.{told_of};
+    ghost use Rattle.ats_disk.specs.Bay.{IsAttached, return_with};
+    ghost use Rattle.ats_disk.specs.MemBay.{told_by, returned_to, attach_calls, fail_numbers, size_for};
+    ghost use Rattle.ats_disk.specs.MemDisk.{disk_state, IsFresh};
+
+    type Dev = MemDisk;
+
+    ghost told = { told_by };
+
+    ghost returned = { returned_to };
+
+    ghost out = { λ bay. bay.out };
+
+    ghost faults = { λ bay. bay.faults };
+
+    fn attach(&mut self, alloc: Global, _name: &[u8], blocks: u64) -> Result<MemDisk, BayFault>
+        ensures device { IfOk result (λ device. IsAttached blocks (disk_state device)) }
+        ensures fresh { IfOk result (λ device. IsFresh (size_for blocks) device) }
+        ensures told { IfOk result (λ device. told_by self.new ≡ told_by self.old ++ told_of (disk_state device) ∷ []) }
+        ensures out { OnOk result (self.new.out ≡ self.old.out + 1) }
+        ensures refused { OnErr result ((told_by self.new ≡ told_by self.old) × (self.new.out ≡ self.old.out)) }
+        ensures returned { returned_to self.new ≡ returned_to self.old }
+        ensures later { self.old.faults ≤ self.new.faults }
+        ensures failed { (count : ℕ) → IsErrOf result (BayFault.Failed count)
+            → (count ≡ self.new.faults) × Rose self.old.faults self.new.faults }
+        ensures exactly { ((count : ℕ) × IsErrOf result (BayFault.Failed count))
+            ↔ Contains (fail_numbers self.old) (one_more (attach_calls self.old)) }
+        ensures calls { (attach_calls self.new ≡ one_more (attach_calls self.old))
+            × (fail_numbers self.new ≡ fail_numbers self.old) }
+    {
+        self.attached = self.attached.saturating_add(1);
+        if self.fail_at.contains(&self.attached) {
+            self.faults = self.faults.saturating_add(1);
+            return Err(BayFault::Failed { count: self.faults });
+        }
+        self.returned.reserve(self.out + 1)?;
+        let device = MemDisk::new(alloc, if blocks == 0 { OWN_BLOCKS } else { blocks })?;
+        self.out += 1;
+        Ok(device)
+    }
+
+    fn give_back(&mut self, device: MemDisk)
+        requires { 0 < self.old.out }
+        ensures returned { returned_to self.new ≡ returned_to self.old
+            ++ return_with (disk_state device).faults ∷ [] }
+        ensures told { told_by self.new ≡ told_by self.old }
+        ensures out { self.new.out + 1 ≡ self.old.out }
+        ensures faults { self.new.faults ≡ self.old.faults }
+        ensures calls { (attach_calls self.new ≡ attach_calls self.old)
+            × (fail_numbers self.new ≡ fail_numbers self.old) }
+    {
+        let kept: Result<_, _> = self.returned.push(device.faults());
+        kept.unwrap();
+        self.out -= 1;
+    }
+
+    fn faults(&self) -> u64 {
+        self.faults
+    }
+}

@@ -1,0 +1,56 @@
+-- How a step that is not answered ends a run.
+use Rattle.std.proofs.Common.{ℕ, List, ◌++◌, Option, Some, None, Result, Ok, Err, refl, sym, ◌∙◌, ap, append-nil, append_assoc}
+use Rattle.std.specs.Prelude.{OnOk, IfErr}
+use Rattle.std.specs.Io.KnownBytes.{Appends, Keeps}
+use Rattle.std.proofs.KnownBytes.{Appends-trans}
+use Rattle.ats_disk.specs.Bay.{Return}
+use Rattle.ats_disk.specs.declared.device.Disk.{Ghosts as DiskGhosts}
+use Rattle.cache_chronicle.specs.declared.chronicle.Chronicle.{Ghosts as ChronicleGhosts}
+use Rattle.script_lang.specs.declared.step.Step.{Step}
+use Rattle.script_lang.specs.declared.answer.StepAnswer.{StepAnswer}
+use Rattle.script_lang.specs.Texts.{answer_line}
+use Rattle.cache_tool.specs.declared.tape.Tape.{Tape}
+use Rattle.cache_tool.specs.declared.run.Halt.{Halt}
+use Rattle.cache_tool.specs.declared.run.Halt.TheVariants.{Stop, WriteFault, Memory}
+use Rattle.cache_tool.specs.Run.{Run}
+use Rattle.cache_tool.specs.Session.{DeviceMoves}
+use Rattle.cache_tool.specs.Story.{SendsFront, SendsAnswers, Counts}
+use Rattle.cache_tool.specs.Halt.{Halts, IsUnwritten}
+
+pub OnOk-map : {T E : Type 0} (r : Result T E) (P Q : Type 0) → (P → Q) → OnOk r P → OnOk r Q
+OnOk-map (Ok x) P Q f h = f h
+OnOk-map (Err e) P Q f h = tt
+
+pub IfErr-map : {T E : Type 0} (r : Result T E) (P Q : E → Type 0) → ((e : E) → P e → Q e) → IfErr r P → IfErr r Q
+IfErr-map (Ok x) P Q f h = tt
+IfErr-map (Err e) P Q f h = f e h
+
+module _ {D C : Type 0} (disk : DiskGhosts D) (chronicle : ChronicleGhosts C) where
+  pub unwritten_halts : (run : Run) (step : Step) (session : Option (Tape D C)) (said : StepAnswer) (before now : List Return) (old new : Option (List ℕ)) (sink bay : Counts)
+      → DeviceMoves disk chronicle run step session said before now → (halt : Halt) → IsUnwritten old new sink.before sink.now (answer_line said) halt
+      → Halts disk chronicle run step session before now old new sink bay halt
+  unwritten_halts run step session said before now old new sink bay moves WriteFault h = (record { said = said; done = moves; text = h.0 }, h.1)
+  unwritten_halts run step session said before now old new sink bay moves Memory h = record { said = said; done = moves; text = h }
+  unwritten_halts run step session said before now old new sink bay moves (Stop why) h = absurd h
+
+-- ---- the text so far
+
+pub Appends-kept : (a b c : Option (List ℕ)) (bs : List ℕ) → Appends a b bs → Keeps b c → Appends a c bs
+Appends-kept None b c bs p q = tt
+Appends-kept (Some x) None c bs p q = absurd p
+Appends-kept (Some x) (Some y) None bs p q = absurd q
+Appends-kept (Some x) (Some y) (Some z) bs p q = q ∙ p
+
+pub front_more : (a b c : Option (List ℕ)) (bs text : List ℕ) → Appends a b bs → SendsFront b c text → SendsFront a c (bs ++ text)
+front_more a b c bs text p q = record {
+  front = bs ++ q.front;
+  rest = q.rest;
+  split = ap (λ t. bs ++ t) q.split ∙ sym (append_assoc bs q.front q.rest);
+  appends = Appends-trans a b c bs q.front p q.appends;
+}
+
+pub answers_of_all : (a b : Option (List ℕ)) (bs : List ℕ) → Appends a b bs → SendsAnswers a b bs
+answers_of_all a b bs h = record { sent = bs; unsent = None; split = sym (append-nil bs); appends = h }
+
+pub answers_before : (a b c : Option (List ℕ)) (bs : List ℕ) (said : StepAnswer) → Appends a b bs → Keeps b c → SendsAnswers a c (bs ++ answer_line said)
+answers_before a b c bs said p q = record { sent = bs; unsent = Some said; split = refl; appends = Appends-kept a b c bs p q }

@@ -1,0 +1,95 @@
+-- What a line makes of the story of a run.
+use Rattle.std.proofs.Common.{◌≡◌, ℕ, ◌+◌, ◌≤◌, List, [], ◌∷◌, ◌++◌, length, Option, Some, None, Ok, refl, sym, ◌∙◌, ap, subst, append_assoc, append-nil, arith, length-append}
+use Rattle.std.specs.Io.KnownBytes.{Appends}
+use Rattle.edge_io.specs.declared.reader.TheConstants.{MAX_LINE_BYTES}
+use Rattle.edge_io.specs.Lines.{lines_of}
+use Rattle.edge_io.specs.LineReader.{AnswersKnown}
+use Rattle.ats_disk.specs.Bay.{Return}
+use Rattle.script_lang.specs.declared.line.LineAnswer.TheVariants as line
+use Rattle.script_lang.specs.declared.step.Step.{Step}
+use Rattle.script_lang.specs.declared.answer.StepAnswer.{StepAnswer}
+use Rattle.script_lang.specs.Grammar.{reading_of}
+use Rattle.script_lang.specs.Texts.{answer_line}
+use Rattle.cache_tool.specs.Run.{Run, Turn, no_turn, fresh, LineTakes, StepTakes, after_line, after_step, step_answer, line_text, run_after}
+use Rattle.cache_tool.specs.Session.{ComeBack}
+use Rattle.cache_tool.specs.Story.{Story, AreShort, IsBehind, IsNext, GoesOn, Owes}
+use Rattle.cache_tool.proofs.Runs.{IsRun-more, run_after-more, output_of-more, AreReached-append}
+
+-- ---- the bytes of a line
+
+AreShort-more : (lines : List (List ℕ)) (bytes : List ℕ) → AreShort lines → length bytes ≤ MAX_LINE_BYTES → AreShort (lines ++ bytes ∷ [])
+AreShort-more [] bytes short last = (last, tt)
+AreShort-more (l ∷ lines) bytes short last = (short.0, AreShort-more lines bytes short.1 last)
+
+pub IsBehind-more : (first : Option (List ℕ)) (lines : List (List ℕ)) (given : ℕ) (unread unread' : Option (List ℕ)) (bytes : List ℕ)
+    → given ≡ length lines → IsBehind first lines unread → AnswersKnown given unread unread' (Ok (Some bytes)) → IsBehind first (lines ++ bytes ∷ []) unread'
+IsBehind-more None lines given unread unread' bytes counted behind known = tt
+IsBehind-more (Some f) lines given None unread' bytes counted behind known = absurd behind
+IsBehind-more (Some f) lines given (Some u) None bytes counted behind known = absurd known
+IsBehind-more (Some f) lines given (Some u) (Some u') bytes counted behind known = record {
+  all = behind.all ∙ ap (λ rest. lines ++ rest) known.first ∙ sym (append_assoc lines (bytes ∷ []) (lines_of u'));
+  short = AreShort-more lines bytes behind.short known.short;
+  within = omega (arith, length-append lines (bytes ∷ []), known.within, counted);
+}
+
+pub IsNext-known : (given : ℕ) (unread unread' : Option (List ℕ)) (bytes : List ℕ) → AnswersKnown given unread unread' (Ok (Some bytes)) → IsNext given unread bytes
+IsNext-known given None unread' bytes known = tt
+IsNext-known given (Some u) None bytes known = absurd known
+IsNext-known given (Some u) (Some u') bytes known = (u', known)
+
+-- ---- devices that came back
+
+pub ComeBack-nothing : (a : List Return) → ComeBack a a []
+ComeBack-nothing a = record { devices = []; returned = sym (append-nil a); reached = tt }
+
+pub ComeBack-trans : (a b c : List Return) (counts more : List ℕ) → ComeBack a b counts → ComeBack b c more → ComeBack a c (counts ++ more)
+ComeBack-trans a b c counts more first second = record {
+  devices = first.devices ++ second.devices;
+  returned = second.returned ∙ ap (λ l. l ++ second.devices) first.returned ∙ append_assoc a first.devices second.devices;
+  reached = AreReached-append counts more first.devices second.devices first.reached second.reached;
+}
+
+-- ---- a line more
+
+module _ (first taken_first taken : Option (List ℕ)) (returned_first returned : List Return) (unread unread' : Option (List ℕ)) (given given' : ℕ) (Plays : Run → Type 0)
+    (story : GoesOn first taken_first returned_first unread given taken returned Plays) (bytes : List ℕ) (known : AnswersKnown given unread unread' (Ok (Some bytes))) (counted : given' ≡ given + 1) where
+  abbrev here : Run
+  here = run_after fresh story.lines story.turns
+
+  pub line_more : (turn : Turn) (Text : List ℕ → Type 0) (Devices Behind : Run → Type 0) → LineTakes here turn bytes
+      → ((out : List ℕ) → Appends taken_first taken out → Text (out ++ line_text here turn bytes))
+      → Devices (after_line here turn bytes) → Behind (after_line here turn bytes) → Story first unread' given' Text Devices Behind
+  line_more turn Text Devices Behind takes text devices behind = record {
+    lines = story.lines ++ bytes ∷ [];
+    turns = story.turns ++ turn ∷ [];
+    taken = IsBehind-more first story.lines given unread unread' bytes story.counted story.taken known;
+    counted = counted ∙ ap (λ n. n + 1) story.counted ∙ sym (length-append story.lines (bytes ∷ []));
+    legal = IsRun-more bytes turn fresh story.lines story.turns story.legal takes;
+    text = subst Text (sym (output_of-more bytes turn fresh story.lines story.turns story.legal)) (text _ story.text);
+    devices = subst Devices (sym (run_after-more bytes turn fresh story.lines story.turns story.legal)) devices;
+    behind = subst Behind (sym (run_after-more bytes turn fresh story.lines story.turns story.legal)) behind;
+  }
+
+  -- an empty line or a comment
+  pub passed_more : reading_of bytes ≡ line.Nothing → GoesOn first taken_first returned_first unread' given' taken returned Plays
+  passed_more e =
+      line_more no_turn (Appends taken_first taken) (λ run. ComeBack returned_first returned run.ended) Plays
+      (rw e refl) (λ out appends. rw e (rw append-nil appends)) (rw e story.devices) (rw e story.behind)
+
+  -- a step, whose answer was written as far as this
+  module _ (step : Step) (asks : reading_of bytes ≡ line.Step step) (turn : Turn) (said : StepAnswer) (takes : StepTakes here turn step) (says : step_answer here turn step ≡ said)
+      (counts : List ℕ) (ended : (after_step here turn step).ended ≡ here.ended ++ counts) (returned' : List Return) (back : ComeBack returned returned' counts) where
+    back_all : ComeBack returned_first returned' (after_step here turn step).ended
+    back_all = rw ended (ComeBack-trans returned_first returned returned' here.ended counts story.devices back)
+
+    pub step_more : (Text : List ℕ → Type 0) (Plays' : Run → Type 0) → ((out : List ℕ) → Appends taken_first taken out → Text (out ++ answer_line said))
+        → Plays' (after_step here turn step) → Story first unread' given' Text (λ run. ComeBack returned_first returned' run.ended) Plays'
+    step_more Text Plays' text plays =
+        line_more turn Text (λ run. ComeBack returned_first returned' run.ended) Plays' (rw asks takes)
+        (λ out appends. rw (asks, says) (text out appends)) (rw asks back_all) (rw asks plays)
+
+    pub step_owes : (Text : List ℕ → Type 0) (Plays' Behind : Run → Type 0) → ((out : List ℕ) → Appends taken_first taken out → Text (out ++ answer_line said))
+        → Plays' (after_step here turn step) → Behind (after_step here turn step) → Story first unread' given' Text (Owes returned_first returned' Plays') Behind
+    step_owes Text Plays' Behind text plays behind =
+        line_more turn Text (Owes returned_first returned' Plays') Behind (rw asks takes)
+        (λ out appends. rw (asks, says) (text out appends)) (rw asks (record { back = back_all; plays = plays })) (rw asks behind)

@@ -1,0 +1,23 @@
+-- The story goes on from the first line, and the counts only rise.
+use Rattle.std.proofs.Common.{◌≡◌, ◌+◌, ◌-◌, ◌≤◌}
+use Rattle.edge_io.specs.declared.reader.TheConstants.{MAX_LINES}
+use Rattle.edge_io.specs.LineReader.{unread, lines_given, source_of}
+use Rattle.cache_tool.specs.Session.{Plays, AreTapes, held}
+use Rattle.cache_tool.specs.Story.{GoesOn}
+use Rattle.cache_chronicle.specs.contracts.full.FullChronicleChronicle.TheImpl.{ghosts}
+use Rattle.cache_tool.proofs.run.run_lines.Given as goal
+
+abbrev pub invariant-lines : goal.invariant-lines
+invariant-lines g l = record {
+  goes : GoesOn (unread g.S.Source.left l.initial.reader) (g.K.Sink.taken l.initial.sink) (g.B.Bay.returned l.initial.bay) (unread g.S.Source.left l.reader) (lines_given l.reader) (g.K.Sink.taken l.sink) (g.B.Bay.returned l.bay)
+      (λ run. Plays g.B.Dev.Disk ghosts run l.session);
+  tapes : AreTapes g.B.Dev.Disk ghosts l.session;
+  out : g.B.Bay.out l.bay ≡ g.B.Bay.out l.initial.bay + held l.session;
+  source : (source_of l.reader).ghost_name ≡ (source_of l.initial.reader).ghost_name;
+  source_later : g.S.Source.faults (source_of l.initial.reader).now ≤ g.S.Source.faults (source_of l.reader).now;
+  sink_later : g.K.Sink.faults l.initial.sink ≤ g.K.Sink.faults l.sink;
+  bay_later : g.B.Bay.faults l.initial.bay ≤ g.B.Bay.faults l.bay;
+}
+
+abbrev pub decreases-lines : goal.decreases-lines
+decreases-lines g l = MAX_LINES - lines_given l.reader

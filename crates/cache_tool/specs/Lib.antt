@@ -1,0 +1,10 @@
+pub mod Tape
+pub mod Found
+pub mod Run
+pub mod Session
+pub mod Stop
+pub mod Lines
+pub mod Story
+pub mod Ending
+pub mod Halt
+pub mod Top

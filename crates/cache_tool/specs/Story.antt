@@ -1,0 +1,131 @@
+-- How far a run has come, and how it may end.
+use Rattle.std.specs.Prelude.{◌≡◌, ℕ, ◌+◌, ◌≤◌, ◌⊎◌, List, [], ◌∷◌, ◌++◌, length, Option, Some, None, ⊤}
+use Rattle.std.specs.Io.KnownBytes.{Appends}
+use Rattle.edge_io.specs.Causes.{Rose}
+use Rattle.edge_io.specs.declared.reader.TheConstants.{MAX_LINE_BYTES, MAX_LINES}
+use Rattle.edge_io.specs.Lines.{lines_of, IsTooLong, IsTooMany, GivesLine}
+use Rattle.ats_disk.specs.Bay.{Return}
+use Rattle.script_lang.specs.declared.line.BadLine.{BadLine}
+use Rattle.script_lang.specs.declared.line.LineAnswer.TheVariants as line
+use Rattle.script_lang.specs.declared.step.Step.{Step}
+use Rattle.script_lang.specs.declared.answer.LastLine.{LastLine}
+use Rattle.script_lang.specs.declared.answer.LastLine.TheVariants as last
+use Rattle.script_lang.specs.declared.answer.StepAnswer.{StepAnswer}
+use Rattle.script_lang.specs.Texts.{answer_line}
+use Rattle.script_lang.specs.Grammar.{reading_of}
+use Rattle.cache_tool.specs.Run.{Run, Turn, fresh, IsRun, run_after, output_of}
+use Rattle.cache_tool.specs.Session.{ComeBack}
+use Rattle.cache_tool.specs.Stop.{IsUnfitPut, NeedsSession, Attaches}
+
+-- no line is longer than a line may be
+abbrev pub AreShort : List (List ℕ) → Type 0
+AreShort [] = ⊤
+AreShort (bytes ∷ lines) = (length bytes ≤ MAX_LINE_BYTES) × AreShort lines
+
+-- the lines that were taken from known bytes, no more and none longer than may be, and what is left of the bytes
+pub record Taken (first : List ℕ) (lines : List (List ℕ)) (now : List ℕ) : Type 0 where
+  pub all : lines_of first ≡ lines ++ lines_of now
+  pub short : AreShort lines
+  pub within : length lines ≤ MAX_LINES
+
+abbrev pub IsBehind : Option (List ℕ) → List (List ℕ) → Option (List ℕ) → Type 0
+IsBehind None lines now = ⊤
+IsBehind (Some first) lines None = ⊥
+IsBehind (Some first) lines (Some now) = Taken first lines now
+
+-- Lines were taken, each did what it must, and what their answers, their devices and the run behind them keep.
+pub record Story (first now : Option (List ℕ)) (given : ℕ) (Text : List ℕ → Type 0) (Devices Behind : Run → Type 0) : Type 0 where
+  pub lines : List (List ℕ)
+  pub turns : List Turn
+  pub taken : IsBehind first lines now
+  pub counted : given ≡ length lines
+  pub legal : IsRun fresh lines turns
+  pub text : Text (output_of fresh lines turns)
+  pub devices : Devices (run_after fresh lines turns)
+  pub behind : Behind (run_after fresh lines turns)
+
+-- ---- how a run ends
+
+-- these are the bytes of the next line, which is not too long nor one too many
+abbrev pub IsNext : ℕ → Option (List ℕ) → List ℕ → Type 0
+IsNext given None bytes = ⊤
+IsNext given (Some unread) bytes = (behind : List ℕ) × GivesLine given unread bytes behind
+
+abbrev pub IsTooLongAt : ℕ → Option (List ℕ) → Type 0
+IsTooLongAt given None = ⊤
+IsTooLongAt given (Some unread) = IsTooLong given unread
+
+abbrev pub IsTooManyAt : ℕ → Option (List ℕ) → Type 0
+IsTooManyAt given None = ⊤
+IsTooManyAt given (Some unread) = IsTooMany given unread
+
+-- a line is not in the grammar, or its body does not fit the session
+pub record IsBadLine (run : Run) (given : ℕ) (unread : Option (List ℕ)) (fault : BadLine) : Type 0 where
+  pub bytes : List ℕ
+  pub next : IsNext given unread bytes
+  pub bad : (reading_of bytes ≡ line.Bad fault) ⊎ ((step : Step) × (reading_of bytes ≡ line.Step step) × IsUnfitPut run.state step fault)
+
+-- a line needs a session, and there is none
+pub record LacksCache (run : Run) (given : ℕ) (unread : Option (List ℕ)) : Type 0 where
+  pub bytes : List ℕ
+  pub next : IsNext given unread bytes
+  pub step : Step
+  pub asks : reading_of bytes ≡ line.Step step
+  pub needs : NeedsSession step
+  pub none : run.state ≡ None
+
+-- the next line is a format that attaches a device, and the bay's count rose
+pub record MeetsBayFault (given : ℕ) (unread : Option (List ℕ)) (before now : ℕ) : Type 0 where
+  pub bytes : List ℕ
+  pub next : IsNext given unread bytes
+  pub step : Step
+  pub asks : reading_of bytes ≡ line.Step step
+  pub attaches : Attaches step
+  pub rose : Rose before now
+
+-- a count of faults, before and now
+pub record Counts : Type 0 where
+  pub before : ℕ
+  pub now : ℕ
+
+abbrev pub counts : ℕ → ℕ → Counts
+counts before now = record { before = before; now = now }
+
+-- why a run ends with this last line, behind so many lines
+abbrev pub Because : (source bay : Counts) → Option (List ℕ) → ℕ → Run → LastLine → Type 0
+Because source bay unread given run last.Usage = ⊥
+Because source bay unread given run (last.BadScript number fault) = (number ≡ given + 1) × IsBadLine run given unread fault
+Because source bay unread given run last.ReadFault = Rose source.before source.now
+Because source bay unread given run last.BayFault = MeetsBayFault given unread bay.before bay.now
+Because source bay unread given run (last.LineTooLong number) = (number ≡ given + 1) × IsTooLongAt given unread
+Because source bay unread given run last.TooManyLines = IsTooManyAt given unread
+Because source bay unread given run (last.NoCache number) = (number ≡ given + 1) × LacksCache run given unread
+
+-- what became of the text of one answer, or of none
+abbrev pub text_of : Option StepAnswer → List ℕ
+text_of None = []
+text_of (Some said) = answer_line said
+
+-- whole answers went out: all of these, or all but the last
+pub record SendsAnswers (old new : Option (List ℕ)) (text : List ℕ) : Type 0 where
+  pub sent : List ℕ
+  pub unsent : Option StepAnswer
+  pub split : text ≡ sent ++ text_of unsent
+  pub appends : Appends old new sent
+
+-- a front of these bytes went out
+pub record SendsFront (old new : Option (List ℕ)) (text : List ℕ) : Type 0 where
+  pub front : List ℕ
+  pub rest : List ℕ
+  pub split : text ≡ front ++ rest
+  pub appends : Appends old new front
+
+-- the run goes on: the devices that it ended came back, and the session plays the run
+abbrev pub GoesOn : (first taken_first : Option (List ℕ)) → List Return → (unread : Option (List ℕ)) → ℕ → (taken : Option (List ℕ)) → List Return → (Run → Type 0) → Type 0
+GoesOn first taken_first returned_first unread given taken returned Plays =
+    Story first unread given (Appends taken_first taken) (λ run. ComeBack returned_first returned run.ended) Plays
+
+-- what a session owes once the run has ended: the devices that it ended came back, and it plays the run
+pub record Owes (returned_first returned : List Return) (Plays : Run → Type 0) (run : Run) : Type 0 where
+  pub back : ComeBack returned_first returned run.ended
+  pub plays : Plays run

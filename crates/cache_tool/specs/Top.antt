@@ -1,0 +1,60 @@
+-- What the program promises of a run: its status, its output and its devices.
+use Rattle.std.specs.Prelude.{◌≡◌, ℕ, ◌⊎◌, List, [], ◌∷◌, ◌++◌, map, codes, Option, string_bytes, ⊤}
+use Rattle.std.specs.declared.string.String.{String}
+use Rattle.std.specs.Io.KnownBytes.{Appends, IsAtEnd}
+use Rattle.edge_io.specs.Causes.{Rose}
+use Rattle.ats_disk.specs.Bay.{Return}
+use Rattle.script_lang.specs.declared.answer.LastLine.{LastLine}
+use Rattle.script_lang.specs.declared.answer.LastLine.TheVariants as last
+use Rattle.script_lang.specs.Texts.{last_line}
+use Rattle.cache_tool.specs.declared.top.Status.{Status}
+use Rattle.cache_tool.specs.declared.top.Status.TheVariants as status
+use Rattle.cache_tool.specs.Run.{Run, counts_of}
+use Rattle.cache_tool.specs.Session.{ComeBack}
+use Rattle.cache_tool.specs.Story.{Because, Counts, SendsFront, SendsAnswers}
+use Rattle.cache_tool.specs.Ending.{StoryUpTo}
+
+-- the one word `replay`
+abbrev pub IsReplay : {A : Type 0} → List (String A) → Type 0
+IsReplay words = map string_bytes words ≡ codes "replay" ∷ []
+
+-- the status of a run that ends early
+abbrev pub status_of : LastLine → Status
+status_of last.Usage = status.Usage
+status_of (last.BadScript line fault) = status.BadScript
+status_of last.ReadFault = status.ReadFault
+status_of last.BayFault = status.BayFault
+status_of (last.LineTooLong line) = status.LineTooLong
+status_of last.TooManyLines = status.TooManyLines
+status_of (last.NoCache line) = status.NoCache
+
+-- The last line went out behind these bytes, or the sink's count rose and a front of that line did.
+pub record CutOff (old new : Option (List ℕ)) (sink : Counts) (before text : List ℕ) : Type 0 where
+  pub rose : Rose sink.before sink.now
+  pub front : List ℕ
+  pub rest : List ℕ
+  pub split : text ≡ front ++ rest
+  pub appends : Appends old new (before ++ front)
+
+abbrev pub WentOut : Option (List ℕ) → Option (List ℕ) → Counts → (before text : List ℕ) → Type 0
+WentOut old new sink before text = Appends old new (before ++ text) ⊎ CutOff old new sink before text
+
+-- every device came back, in the order in which they were attached, with counts that none told exceeds
+abbrev pub DevicesBack : List Return → List Return → Run → Type 0
+DevicesBack before now run = ComeBack before now (counts_of run)
+
+-- a run that ended early: the answers of the lines before went out, and behind them the last line or a front of it
+pub record EndsEarly (first old new : Option (List ℕ)) (source sink bay : Counts) (before now : List Return) (s : Status) : Type 0 where
+  pub why : LastLine
+  pub said : s ≡ status_of why
+  pub upto : StoryUpTo first (λ out. WentOut old new sink out (last_line why)) (DevicesBack before now) (λ unread given run. Because source bay unread given run why)
+
+-- What each status says. Done: the script was read to its end, and the output is the answers of all its lines. Usage: the
+-- last line alone went out. WriteFault: the sink's count rose, and a front of the answers went out. OutOfMemory: whole
+-- answers went out, of all lines that were taken or of all but the last. The others name the cause that ended the run.
+abbrev pub Concludes : (first old new : Option (List ℕ)) → (source sink bay : Counts) → (before now : List Return) → Status → Type 0
+Concludes first old new source sink bay before now status.Done = StoryUpTo first (Appends old new) (DevicesBack before now) (λ unread given run. IsAtEnd unread)
+Concludes first old new source sink bay before now status.Usage = WentOut old new sink [] (last_line last.Usage) × (now ≡ before)
+Concludes first old new source sink bay before now status.WriteFault = StoryUpTo first (SendsFront old new) (DevicesBack before now) (λ unread given run. Rose sink.before sink.now)
+Concludes first old new source sink bay before now status.OutOfMemory = StoryUpTo first (SendsAnswers old new) (DevicesBack before now) (λ unread given run. ⊤)
+Concludes first old new source sink bay before now s = EndsEarly first old new source sink bay before now s

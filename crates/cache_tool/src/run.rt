@@ -1,0 +1,183 @@
+// The lines of a script, one after the other.
+ghost use Rattle.std.specs.Prelude.{◌≡◌, ◌+◌, ◌<◌, ◌≤◌, ℕ, List, Option, None, OnOk, IfErr};
+ghost use Rattle.std.specs.Io.KnownBytes.{Appends, Keeps};
+ghost use Rattle.edge_io.specs.Causes.{Rose};
+ghost use Rattle.edge_io.specs.LineReader.{unread, lines_given, source_of};
+ghost use Rattle.ats_disk.specs.Bay.{Return};
+ghost use Rattle.script_lang.specs.Texts.{answer_line};
+ghost use Rattle.cache_tool.specs.Run.{Run};
+ghost use Rattle.cache_tool.specs.Session.{Plays, AreTapes, held};
+ghost use Rattle.cache_tool.specs.Story.{GoesOn, Owes, SendsFront, counts};
+ghost use Rattle.cache_tool.specs.Halt.{IsUnwritten, Written, Halts, last_of, ending_of};
+ghost use Rattle.cache_tool.specs.Ending.{Ends};
+
+use crate::device::Session;
+use crate::lines::{Reading, next_reading};
+use crate::session::Stop;
+use crate::steps::answer;
+use ats_disk::{Bay, Disk};
+use cache_chronicle::{Chronicle, FullChronicle};
+use edge_io::{LineFault, LineReader, MAX_LINES, Sink, Source};
+use script_lang::{LastLine, LineAnswer, Step, StepAnswer, answer_text};
+use std::alloc::Global;
+
+/// How a run of lines ends.
+#[derive(Clone, Copy, Debug)]
+pub(crate) enum Ending {
+    Done,
+    Stopped(LastLine),
+    WriteFault,
+    OutOfMemory,
+}
+
+/// Why a step ends the run.
+#[derive(Debug, Drop)]
+pub(crate) enum Halt {
+    /// It was not done.
+    Stop(Stop),
+    WriteFault,
+    /// It was done, and there is no memory for its answer.
+    Memory,
+}
+
+/// Writes an answer out.
+fn write_answer<K: Sink>(alloc: Global, sink: &mut K, said: &StepAnswer) -> Result<(), Halt>
+    ensures written { OnOk result (Appends (K.taken sink.old) (K.taken sink.new) (answer_line said.now)) }
+    ensures failed { IfErr result (IsUnwritten (K.taken sink.old) (K.taken sink.new) (K.faults sink.old) (K.faults sink.new) (answer_line said.now)) }
+    ensures later { K.faults sink.old ≤ K.faults sink.new }
+{
+    let Ok(text) = answer_text(alloc, said) else {
+        return Err(Halt::Memory);
+    };
+    match sink.write_all(text.as_bytes()) {
+        Ok(()) => Ok(()),
+        Err(_) => Err(Halt::WriteFault),
+    }
+}
+
+/// Does a step, and writes its answer out.
+fn take_step<K: Sink, B: Bay>(
+    alloc: Global,
+    sink: &mut K,
+    bay: &mut B,
+    session: &mut Session<B::Dev>,
+    step: &Step,
+) -> Result<(), Halt>
+    requires held { held session.old ≤ B.out bay.old }
+    requires tapes { AreTapes B.Dev.Disk ⟦<FullChronicle as Chronicle>⟧ session.old }
+    ensures done { OnOk result ((run : Run) → Plays B.Dev.Disk ⟦<FullChronicle as Chronicle>⟧ run session.old
+        → Written B.Dev.Disk ⟦<FullChronicle as Chronicle>⟧ run step.now session.new (B.returned bay.old) (B.returned bay.new)
+        (Appends (K.taken sink.old) (K.taken sink.new))) }
+    ensures halted { IfErr result (λ halt. (run : Run) → Plays B.Dev.Disk ⟦<FullChronicle as Chronicle>⟧ run session.old
+        → Halts B.Dev.Disk ⟦<FullChronicle as Chronicle>⟧ run step.now session.new (B.returned bay.old) (B.returned bay.new)
+        (K.taken sink.old) (K.taken sink.new) (counts (K.faults sink.old) (K.faults sink.new))
+        (counts (B.faults bay.old) (B.faults bay.new)) halt) }
+    ensures tapes { AreTapes B.Dev.Disk ⟦<FullChronicle as Chronicle>⟧ session.new }
+    ensures out { B.out bay.new + held session.old ≡ B.out bay.old + held session.new }
+    ensures sink_later { K.faults sink.old ≤ K.faults sink.new }
+    ensures bay_later { B.faults bay.old ≤ B.faults bay.new }
+{
+    let said = match answer(alloc, bay, session, step) {
+        Ok(said) => said,
+        Err(why) => return Err(Halt::Stop(why)),
+    };
+    write_answer(alloc, sink, &said)
+}
+
+/// The last line that a fault of the reader asks for.
+fn last_of(fault: LineFault) -> LastLine
+    ensures { result ≡ last_of fault }
+{
+    match fault {
+        LineFault::LineTooLong { line } => LastLine::LineTooLong { line },
+        LineFault::TooManyLines => LastLine::TooManyLines,
+        LineFault::ReadFault { .. } => LastLine::ReadFault,
+    }
+}
+
+/// How the run ends at this line.
+fn ending_of(line: u64, halt: Halt) -> Ending
+    ensures { result ≡ ending_of line halt }
+{
+    match halt {
+        Halt::Stop(Stop::NoCache) => Ending::Stopped(LastLine::NoCache { line }),
+        Halt::Stop(Stop::BadLine(fault)) => Ending::Stopped(LastLine::BadScript { line, fault }),
+        Halt::Stop(Stop::BayFault) => Ending::Stopped(LastLine::BayFault),
+        Halt::Stop(Stop::Memory) | Halt::Memory => Ending::OutOfMemory,
+        Halt::WriteFault => Ending::WriteFault,
+    }
+}
+
+/// Does what the next line asks for, or ends the run.
+fn line<S: Source, K: Sink, B: Bay>(
+    alloc: Global,
+    reader: &mut LineReader<'_, S>,
+    sink: &mut K,
+    bay: &mut B,
+    session: &mut Session<B::Dev>,
+) -> Result<(), Ending>
+    requires held { held session.old ≤ B.out bay.old }
+    requires tapes { AreTapes B.Dev.Disk ⟦<FullChronicle as Chronicle>⟧ session.old }
+    ensures goes { OnOk result ((first told : Option (List ℕ)) (back : List Return)
+        → GoesOn first told back (unread S.left reader.old) (lines_given reader.old) (K.taken sink.old) (B.returned bay.old)
+        (λ run. Plays B.Dev.Disk ⟦<FullChronicle as Chronicle>⟧ run session.old)
+        → GoesOn first told back (unread S.left reader.new) (lines_given reader.new) (K.taken sink.new) (B.returned bay.new)
+        (λ run. Plays B.Dev.Disk ⟦<FullChronicle as Chronicle>⟧ run session.new)) }
+    ensures ends { IfErr result (λ ending. (first told : Option (List ℕ)) (back : List Return)
+        → GoesOn first told back (unread S.left reader.old) (lines_given reader.old) (K.taken sink.old) (B.returned bay.old)
+        (λ run. Plays B.Dev.Disk ⟦<FullChronicle as Chronicle>⟧ run session.old)
+        → Ends first told (K.taken sink.new) (counts (S.faults (source_of reader.old).now) (S.faults (source_of reader.new).now))
+        (counts (K.faults sink.old) (K.faults sink.new)) (counts (B.faults bay.old) (B.faults bay.new))
+        (Owes back (B.returned bay.new) (λ run. Plays B.Dev.Disk ⟦<FullChronicle as Chronicle>⟧ run session.new)) ending) }
+    ensures nearer { OnOk result ((lines_given reader.old < MAX_LINES) × (lines_given reader.new ≡ lines_given reader.old + 1)) }
+    ensures source { (source_of reader.new).ghost_name ≡ (source_of reader.old).ghost_name }
+    ensures source_later { S.faults (source_of reader.old).now ≤ S.faults (source_of reader.new).now }
+    ensures tapes { AreTapes B.Dev.Disk ⟦<FullChronicle as Chronicle>⟧ session.new }
+    ensures out { B.out bay.new + held session.old ≡ B.out bay.old + held session.new }
+    ensures sink_later { K.faults sink.old ≤ K.faults sink.new }
+    ensures bay_later { B.faults bay.old ≤ B.faults bay.new }
+{
+    match next_reading(alloc, reader) {
+        Reading::End => Err(Ending::Done),
+        Reading::Fault(fault) => Err(Ending::Stopped(last_of(fault))),
+        Reading::Memory => Err(Ending::OutOfMemory),
+        Reading::Line(LineAnswer::Nothing) => Ok(()),
+        Reading::Line(LineAnswer::Bad(fault)) => Err(Ending::Stopped(LastLine::BadScript {
+            line: reader.lines_given(),
+            fault,
+        })),
+        Reading::Line(LineAnswer::Step(step)) => match take_step(alloc, sink, bay, session, &step) {
+            Ok(()) => Ok(()),
+            Err(halt) => Err(ending_of(reader.lines_given(), halt)),
+        },
+    }
+}
+
+/// Does what each line asks for, up to the end of the script or to what ends the run.
+pub(crate) fn run_lines<S: Source, K: Sink, B: Bay>(
+    alloc: Global,
+    reader: &mut LineReader<'_, S>,
+    sink: &mut K,
+    bay: &mut B,
+    session: &mut Session<B::Dev>,
+) -> Ending
+    requires given { lines_given reader.old ≡ 0 }
+    requires none { session.old ≡ None }
+    ensures ends { Ends (unread S.left reader.old) (K.taken sink.old) (K.taken sink.new)
+        (counts (S.faults (source_of reader.old).now) (S.faults (source_of reader.new).now))
+        (counts (K.faults sink.old) (K.faults sink.new)) (counts (B.faults bay.old) (B.faults bay.new))
+        (Owes (B.returned bay.old) (B.returned bay.new) (λ run. Plays B.Dev.Disk ⟦<FullChronicle as Chronicle>⟧ run session.new))
+        result }
+    ensures source { (source_of reader.new).ghost_name ≡ (source_of reader.old).ghost_name }
+    ensures out { B.out bay.new ≡ B.out bay.old + held session.new }
+    ensures source_later { S.faults (source_of reader.old).now ≤ S.faults (source_of reader.new).now }
+    ensures sink_later { K.faults sink.old ≤ K.faults sink.new }
+    ensures bay_later { B.faults bay.old ≤ B.faults bay.new }
+{
+    'lines: loop {
+        match line(alloc, reader, sink, bay, session) {
+            Ok(()) => {}
+            Err(ending) => return ending,
+        }
+    }
+}

@@ -1,0 +1,3 @@
+pub mod Classes
+pub mod RoundTrip
+pub mod Words

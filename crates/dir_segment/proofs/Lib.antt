@@ -1,0 +1,13 @@
+pub mod Accepting
+pub mod Bytes
+pub mod Chains
+pub mod Counts
+pub mod Frames
+pub mod Fresh
+pub mod Inserting
+pub mod Marking
+pub mod Moves
+pub mod Removing
+pub mod Searching
+pub mod Sweeping
+pub mod Walks

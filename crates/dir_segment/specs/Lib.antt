@@ -1,0 +1,5 @@
+pub mod Cleaning
+pub mod Image
+pub mod Links
+pub mod Lists
+pub use Rattle.dir_entry.specs.Layout

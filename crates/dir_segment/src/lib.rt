@@ -1,0 +1,14 @@
+//! A segment of the directory: chains of entries by bucket, and a list of the free slots.
+#![tactic(auto)]
+
+mod fault;
+mod image;
+mod reached;
+mod segment;
+mod slots;
+
+pub use fault::SegmentFault;
+pub use segment::{Inserted, Segment};
+
+#[cfg(test)]
+mod tests;

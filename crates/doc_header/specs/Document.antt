@@ -1,0 +1,61 @@
+-- What the bytes of a document are. Numbers are written low bytes first; SHA-256 is that of FIPS 180-4.
+use Rattle.std.specs.Prelude.{ℕ, ◌≡◌, ◌≤◌, ◌<◌, ◌^◌, ◌+◌, ◌-◌, ◌*◌, List, ◌++◌, length, replicate, take, codes}
+use Rattle.std.specs.Int.{to_le_bytes, w32, w64}
+use Rattle.sha2.specs.Sha256.{sha256}
+use Rattle.tape_base.specs.Key.{key_bytes, key_of_bytes}
+use Rattle.tape_base.specs.Blocks.{blocks_of}
+use Rattle.doc_header.specs.declared.documents.Doc.{Doc}
+
+-- bytes 0 to 47: what the document is, and of which piece
+unfoldable pub name_bytes : Doc → ℕ → List ℕ
+name_bytes doc length =
+    codes "TSCDOCM1" ++ to_le_bytes w32 1 ++ to_le_bytes w32 length ++ key_bytes doc.id.first
+    ++ to_le_bytes w64 doc.id.put ++ to_le_bytes w32 doc.id.index ++ to_le_bytes w32 (blocks_of length)
+
+-- bytes 0 to 111: all fields before the check of the header
+abbrev pub field_bytes : Doc → List ℕ → List ℕ
+field_bytes doc payload =
+    name_bytes doc (length payload) ++ to_le_bytes w64 doc.place ++ to_le_bytes w64 doc.generation
+    ++ to_le_bytes w64 doc.pin ++ to_le_bytes w64 doc.start ++ sha256 payload
+
+-- the check of a header whose fields are these bytes
+abbrev pub check_of : List ℕ → List ℕ
+check_of fields = take 16 (sha256 fields)
+
+-- bytes 0 to 127
+unfoldable pub header_bytes : Doc → List ℕ → List ℕ
+header_bytes doc payload = field_bytes doc payload ++ check_of (field_bytes doc payload)
+
+-- how many zeros fill the last block
+abbrev pub padding_of : ℕ → ℕ
+padding_of length = 512 * blocks_of length - (128 + length)
+
+-- the one document of these fields and this payload
+abbrev pub document_bytes : Doc → List ℕ → List ℕ
+document_bytes doc payload = header_bytes doc payload ++ payload ++ replicate (padding_of (length payload)) 0
+
+-- the numbers of a document are as wide as the fields that have them, and its key is a key
+pub record HasName (doc : Doc) : Type 0 where
+  pub is_key : key_of_bytes (key_bytes doc.id.first) ≡ doc.id.first
+  pub put_fits : doc.id.put < 2 ^ 64
+  pub index_fits : doc.id.index < 2 ^ 32
+
+pub record HasPlace (doc : Doc) : Type 0 where
+  pub place_fits : doc.place < 2 ^ 64
+  pub generation_fits : doc.generation < 2 ^ 64
+  pub pin_fits : doc.pin < 2 ^ 64
+  pub start_fits : doc.start < 2 ^ 64
+
+pub record Fits (doc : Doc) (payload : List ℕ) : Type 0 where
+  pub name : HasName doc
+  pub position : HasPlace doc
+  pub size_fits : length payload < 2 ^ 32
+
+-- the bytes are this document, of this generation and at this place, in as many blocks as it has;
+-- what stands behind the payload is free
+pub record IsDocument (bytes : List ℕ) (generation place : ℕ) (doc : Doc) (payload : List ℕ) : Type 0 where
+  pub fits : Fits doc payload
+  pub of_generation : doc.generation ≡ generation
+  pub at_place : doc.place ≡ place
+  pub is_whole : 512 * blocks_of (length payload) ≤ length bytes
+  pub is_spelled : take (length payload + 128) bytes ≡ header_bytes doc payload ++ payload

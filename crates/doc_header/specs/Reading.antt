@@ -1,0 +1,92 @@
+-- What bytes are read as a document, and the first fault of bytes that are none.
+use Rattle.std.specs.Prelude.{ℕ, ◌≡◌, ◌+◌, ◌*◌, ◌==◌, ◌&&◌, Bool, not, nat_lt, List, length, take, drop, codes, Option, Some, None, Result, Ok, Err, if◌then◌else◌}
+use Rattle.std.specs.Int.{Width, byte_len, from_le_bytes, w32, w64}
+use Rattle.std.specs.Option.{option_or}
+use Rattle.std.specs.Str.{bytes_eq}
+use Rattle.sha2.specs.Sha256.{sha256}
+use Rattle.tape_base.specs.declared.digests.Digest.{Digest}
+use Rattle.tape_base.specs.Digest.{digest_of}
+use Rattle.tape_base.specs.Key.{key_of_bytes}
+use Rattle.tape_base.specs.Blocks.{blocks_of}
+use Rattle.doc_header.specs.declared.documents.Doc.{Doc}
+use Rattle.doc_header.specs.declared.documents.DocRef.{DocRef}
+use Rattle.doc_header.specs.declared.documents.DocFault.{DocFault}
+use Rattle.doc_header.specs.declared.documents.DocFault.TheVariants as faults
+use Rattle.doc_header.specs.Document.{check_of}
+
+-- so many bytes from a place on
+unfoldable pub field_at : ℕ → ℕ → List ℕ → List ℕ
+field_at at count bytes = take count (drop at bytes)
+
+-- the number that stands at a place
+unfoldable pub number_at : Width → ℕ → List ℕ → ℕ
+number_at w at bytes = from_le_bytes w (field_at at (byte_len w) bytes)
+
+-- the length that bytes tell of their payload, and how many bytes are looked at
+abbrev pub length_of : List ℕ → ℕ
+length_of bytes = number_at w32 12 bytes
+
+abbrev pub extent_of : List ℕ → ℕ
+extent_of bytes = length_of bytes + 128
+
+-- the digest of what bytes spell as a document
+abbrev pub document_digest : List ℕ → Digest
+document_digest bytes = digest_of (take (extent_of bytes) bytes)
+
+-- the document and the payload that bytes tell
+abbrev pub doc_of : List ℕ → Doc
+doc_of bytes =
+    record {
+      id = record { first = key_of_bytes (field_at 16 16 bytes); put = number_at w64 32 bytes; index = number_at w32 40 bytes };
+      place = number_at w64 48 bytes;
+      generation = number_at w64 56 bytes;
+      pin = number_at w64 64 bytes;
+      start = number_at w64 72 bytes;
+    }
+
+abbrev pub payload_of : List ℕ → List ℕ
+payload_of bytes = field_at 128 (length_of bytes) bytes
+
+-- the digest of its payload that a header keeps
+abbrev pub kept_of : List ℕ → Digest
+kept_of bytes = record { 0 = field_at 80 32 bytes }
+
+-- the blocks are those of the length, and as many are given
+abbrev pub has_blocks : List ℕ → Bool
+has_blocks bytes =
+    number_at w32 44 bytes == blocks_of (length_of bytes)
+    && not (nat_lt (length bytes) (512 * blocks_of (length_of bytes)))
+
+-- the first fault of a header that is there
+unfoldable pub header_fault : List ℕ → Option DocFault
+header_fault bytes =
+    if not (bytes_eq (field_at 0 8 bytes) (codes "TSCDOCM1")) then Some faults.Magic
+    else if not (number_at w32 8 bytes == 1) then Some faults.Version
+    else if not (has_blocks bytes) then Some faults.Length
+    else if not (bytes_eq (field_at 112 16 bytes) (check_of (field_at 0 112 bytes))) then Some faults.HeaderCheck
+    else None
+
+-- the fault of a document of another generation or place than those that are asked for
+unfoldable pub address_fault : Doc → ℕ → ℕ → Option DocFault
+address_fault doc generation place =
+    if not (doc.generation == generation) then Some (faults.Generation doc.generation)
+    else if not (doc.place == place) then Some (faults.Place doc.place)
+    else None
+
+-- the fault of a payload that is not the one whose digest is kept
+unfoldable pub payload_fault : Digest → List ℕ → Option DocFault
+payload_fault kept payload =
+    if bytes_eq kept.0 (sha256 payload) then None
+    else Some (faults.Digest kept (digest_of payload))
+
+-- the first fault of given bytes
+abbrev pub first_fault : List ℕ → ℕ → ℕ → Option DocFault
+first_fault bytes generation place =
+    if nat_lt (length bytes) 128 then Some faults.Short
+    else option_or (header_fault bytes)
+    (option_or (address_fault (doc_of bytes) generation place) (payload_fault (kept_of bytes) (payload_of bytes)))
+
+-- the document and the payload were read, where there is no fault; else the fault was answered
+abbrev pub Answers : Result DocRef DocFault → Option DocFault → Doc → List ℕ → Type 0
+Answers (Ok read) fault doc payload = (fault ≡ None) × (read.doc ≡ doc) × (read.payload.now ≡ payload)
+Answers (Err found) fault doc payload = fault ≡ Some found

@@ -1,0 +1,17 @@
+//! The document that stands around each piece on the tape: a header of 128 bytes, and the payload.
+#![tactic(auto)]
+
+mod digests;
+mod documents;
+mod fields;
+mod layout;
+mod reading;
+mod writing;
+
+pub use digests::document_digest;
+pub use documents::{Doc, DocFault, DocRef};
+pub use reading::read_doc;
+pub use writing::write_doc;
+
+#[cfg(test)]
+mod tests;

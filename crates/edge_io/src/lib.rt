@@ -1,0 +1,18 @@
+//! Where bytes come from and go to, counts of the faults met there, and the lines of a source.
+#![tactic(auto)]
+
+mod buffer;
+mod memory;
+mod reader;
+mod sink;
+mod source;
+mod streams;
+#[cfg(test)]
+mod tests;
+
+pub use buffer::LineBuffer;
+pub use memory::{MemSink, MemSource};
+pub use reader::{LineFault, LineReader, MAX_LINE_BYTES, MAX_LINES};
+pub use sink::Sink;
+pub use source::{Failed, Source};
+pub use streams::{StdSink, StdSource};

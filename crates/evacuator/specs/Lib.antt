@@ -1,0 +1,2 @@
+pub mod Choice
+pub use Rattle.tape_base.specs.Piece

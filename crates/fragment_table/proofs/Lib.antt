@@ -1,0 +1,4 @@
+pub mod Ends
+pub mod Finding
+pub mod Rows
+pub mod Whole

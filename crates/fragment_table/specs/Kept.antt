@@ -1,0 +1,24 @@
+-- How a table is kept: each row with the end of its fragment.
+use Rattle.std.specs.Prelude.{◌≡◌, ℕ, ◌+◌, ◌-◌, List, [], ◌∷◌, map, vec_len, vec_capacity}
+use Rattle.std.specs.Global.{Vec}
+use Rattle.fragment_table.specs.declared.table.Row.{Row}
+use Rattle.fragment_table.specs.Table.{TableRow, Table, AreRows}
+
+-- a row without its end
+abbrev pub row_of : Row → TableRow
+row_of row = record { length = row.length; digest = row.digest }
+
+abbrev pub rows_of : List Row → List TableRow
+rows_of rows = map row_of rows
+
+abbrev pub kept_table : Vec Row → Table
+kept_table rows = record { rows = rows_of rows.items; room = vec_capacity rows - vec_len rows }
+
+-- each fragment ends so many bytes behind the one before
+abbrev pub EndsFrom : ℕ → List Row → Type 0
+EndsFrom start [] = Unit {0}
+EndsFrom start (row ∷ rows) = (row.end ≡ start + row.length) × EndsFrom row.end rows
+
+pub record AreKept (rows : List Row) : Type 0 where
+  pub valid : AreRows (rows_of rows)
+  pub ends : EndsFrom 0 rows

@@ -1,0 +1,3 @@
+mod DigestLaw
+mod LowBytes
+pub mod NameLaws

@@ -1,0 +1,34 @@
+-- Places on the endless tape: the content area is written in a circle, a lap at a time, as the
+-- Traffic Server guide describes.
+use Rattle.std.specs.Prelude.{ℕ, ◌+◌, ◌-◌, ◌*◌, ◌/◌, ◌%◌, ◌==◌, min, nat_lt, Bool, if◌then◌else◌}
+use Rattle.tape_base.specs.declared.geometries.Geometry.{Geometry}
+
+-- the lap of a place, its slot in the content area, and whether its lap is odd
+abbrev pub lap_of : Geometry → ℕ → ℕ
+lap_of g place = place / g.content
+
+abbrev pub slot_of : Geometry → ℕ → ℕ
+slot_of g place = place % g.content
+
+abbrev pub phase_of : Geometry → ℕ → Bool
+phase_of g place = lap_of g place % 2 == 1
+
+-- the place at which the next lap begins
+abbrev pub lap_end_of : Geometry → ℕ → ℕ
+lap_end_of g place = g.content * (lap_of g place + 1)
+
+-- the place up to which content may be written while the last sync is at this cursor
+abbrev pub reach_of : Geometry → ℕ → ℕ
+reach_of g cursor = min (cursor + g.reach) (lap_end_of g cursor)
+
+-- the least place that stays readable while a buffer that begins at this cursor is filled
+abbrev pub floor_of : Geometry → ℕ → ℕ
+floor_of g cursor = cursor + g.agg - g.content
+
+-- the cursor behind so many filled blocks: the next lap's start where this lap has no room for
+-- another buffer
+abbrev pub next_cursor_of : Geometry → ℕ → ℕ → ℕ
+next_cursor_of g cursor filled =
+    let end = lap_end_of g cursor in
+    let next = cursor + filled in
+    if nat_lt end (next + g.agg) then end else next

@@ -1,0 +1,23 @@
+//! What the other crates of the cache name: keys, pieces, digests, the geometry and its places.
+#![tactic(auto)]
+
+mod actors;
+mod blocks;
+mod digests;
+mod geometries;
+mod keys;
+mod pieces;
+mod places;
+mod probes;
+
+pub use actors::Actor;
+pub use blocks::blocks_of;
+pub use digests::{Digest, digests_tell};
+pub use geometries::{BadGeometry, Geometry};
+pub use keys::Key;
+pub use pieces::PieceId;
+pub use places::{floor_of, lap, lap_end, next_cursor, phase, slot};
+pub use probes::Steps;
+
+#[cfg(test)]
+mod tests;
