@@ -277,6 +277,8 @@ struct Faulty {
 }
 
 impl Disk for Faulty {
+    ghost use Rattle.std.proofs.Common.{arith};
+
     ghost state = { λ disk. record (⟦<MemDisk as Disk>⟧.state disk.memory) { trust = 0 } };
 
     fn blocks(&self) -> u64 {
@@ -303,7 +305,7 @@ impl Disk for Faulty {
         self.memory.write(block, bytes)
     }
 
-    ghost whole_blocks = { λ disk j told. absurd (Prim.omega arith) };
+    ghost whole_blocks = { λ disk j told. absurd (Prim.omega (arith, told)) };
 }
 
 /// A bay of such devices, whose call of this number fails, or none for 0.

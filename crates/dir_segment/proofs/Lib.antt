@@ -7,6 +7,7 @@ pub mod Fresh
 pub mod Inserting
 pub mod Marking
 pub mod Moves
+pub mod Purging
 pub mod Removing
 pub mod Searching
 pub mod Sweeping

@@ -21,7 +21,8 @@ pub record Moves (slots : List Entry) (head spare taken : ℕ) (buckets : ℕ) (
   pub used_count : taken + length (get_or lists.chains b []) ≡ old + length chain
 
 module _ (slots : List Entry) (head spare taken buckets : ℕ) (lists : Lists) (h : IsSegment slots head spare taken buckets lists) where
-  once_at : (x : ℕ) → x < 4 * buckets → occurrences x lists.free + occurrences x (lines 0 lists.chains) ≡ 1
+  -- each slot stands in one list
+  pub once_at : (x : ℕ) → x < 4 * buckets → occurrences x lists.free + occurrences x (lines 0 lists.chains) ≡ 1
   once_at x lt = sym (occurrences-append x lists.free (lines 0 lists.chains)) ∙ h.once x ∙ ap (λ t. cond t 1 0) (lt-ltb x (4 * buckets) lt)
 
   at_most : (x : ℕ) → occurrences x lists.free + occurrences x (lines 0 lists.chains) ≤ 1

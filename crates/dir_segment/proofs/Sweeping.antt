@@ -6,7 +6,8 @@ use Rattle.std.proofs.lemmas.List.{set-set, set-get_or}
 use Rattle.dir_entry.specs.declared.entry.Entry.{Entry}
 use Rattle.dir_entry.specs.Layout.{IsEntry}
 use Rattle.dir_segment.specs.Lists.{Row, Lists, row, unlinked, with_chain, entry_count, has_slot, behind_slot, without_next, with_first_free, take_root, take_next, passes}
-use Rattle.dir_segment.specs.Cleaning.{freed_by, clean_from, clean_chain, clean_bucket, clean_buckets, BeginsAt, FirstPasses}
+use Rattle.dir_segment.specs.Cleaning.{freed_by, clean_from, clean_chain, clean_bucket, each_bucket, BeginsAt, FirstPasses}
+use Rattle.dir_segment.specs.Purging.{thin_chain, thin_bucket}
 use Rattle.dir_segment.proofs.Counts.{entry_count-set}
 use Rattle.dir_segment.proofs.Searching.{upto, upto-behind, upto-next}
 
@@ -23,9 +24,9 @@ from_twice test lists b c f root [] free =
     elim (test root.entry) as (λ t. cond t (with_chain (with_chain lists b c f) b (root ∷ []) free) (with_chain (with_chain lists b c f) b [] free) ≡ cond t (with_chain lists b (root ∷ []) free) (with_chain lists b [] free))
     [ true ↦ set_twice lists b c (root ∷ []) f free | false ↦ set_twice lists b c [] f free ]
 from_twice test lists b c f root (r ∷ rows) free =
-    elim (test root.entry) as (λ t. cond t (with_chain (with_chain lists b c f) b (root ∷ filter (passes test) (r ∷ rows)) (freed_by test (r ∷ rows) free)) (clean_from test (with_chain lists b c f) b (row root.slot r.entry) rows (r.slot ∷ free))
-    ≡ cond t (with_chain lists b (root ∷ filter (passes test) (r ∷ rows)) (freed_by test (r ∷ rows) free)) (clean_from test lists b (row root.slot r.entry) rows (r.slot ∷ free)))
-    [ true ↦ set_twice lists b c (root ∷ filter (passes test) (r ∷ rows)) f (freed_by test (r ∷ rows) free) | false ↦ from_twice test lists b c f (row root.slot r.entry) rows (r.slot ∷ free) ]
+    elim (test root.entry) as (λ t. cond t (with_chain (with_chain lists b c f) b (root ∷ filter (passes test) (r ∷ rows)) (freed_by (passes test) (r ∷ rows) free)) (clean_from test (with_chain lists b c f) b (row root.slot r.entry) rows (r.slot ∷ free))
+    ≡ cond t (with_chain lists b (root ∷ filter (passes test) (r ∷ rows)) (freed_by (passes test) (r ∷ rows) free)) (clean_from test lists b (row root.slot r.entry) rows (r.slot ∷ free)))
+    [ true ↦ set_twice lists b c (root ∷ filter (passes test) (r ∷ rows)) f (freed_by (passes test) (r ∷ rows) free) | false ↦ from_twice test lists b c f (row root.slot r.entry) rows (r.slot ∷ free) ]
 
 root_step : (test : Entry → Bool) (lists : Lists) (b : ℕ) (c : List Row) → get_or lists.chains b [] ≡ c → b < length lists.chains → c ≢ [] → (n : ℕ) (e : Entry) → c ≡ row n e ∷ behind_slot n c → test (row n e).entry ≡ false
     → clean_bucket test (take_root lists b c) b ≡ clean_chain test lists b c
@@ -94,22 +95,22 @@ behind-less s [] = refl
 behind-less s (r ∷ rows) = elim (eqb r.slot s) as (λ t. cond t (cond t (drop 1 rows) (without_next s rows)) (behind_slot s (cond t (drop 1 rows) (without_next s rows))) ≡ drop 1 (cond t rows (behind_slot s rows))) [ true ↦ refl | false ↦ behind-less s rows ]
 
 -- the lists where what is behind a slot is cleaned
-abbrev pub swept : (Entry → Bool) → Lists → ℕ → ℕ → Lists
+abbrev pub swept : (Row → Bool) → Lists → ℕ → ℕ → Lists
 swept test lists b s =
-    with_chain lists b (upto s (get_or lists.chains b []) ++ filter (passes test) (behind_slot s (get_or lists.chains b [])))
+    with_chain lists b (upto s (get_or lists.chains b []) ++ filter test (behind_slot s (get_or lists.chains b [])))
     (freed_by test (behind_slot s (get_or lists.chains b [])) lists.free)
 
-pub swept_kept : (test : Entry → Bool) (lists : Lists) (b s n : ℕ) (e : Entry) → behind_slot s (get_or lists.chains b []) ≡ row n e ∷ behind_slot n (get_or lists.chains b []) → test (row n e).entry ≡ true
+pub swept_kept : (test : Row → Bool) (lists : Lists) (b s n : ℕ) (e : Entry) → behind_slot s (get_or lists.chains b []) ≡ row n e ∷ behind_slot n (get_or lists.chains b []) → test (row n e) ≡ true
     → swept test lists b n ≡ swept test lists b s
 swept_kept test lists b s n e next passed =
     let c : List Row = get_or lists.chains b [] in
-    let rows : upto n c ++ filter (passes test) (behind_slot n c) ≡ upto s c ++ filter (passes test) (behind_slot s c) =
-    ap (λ (q : List Row). q ++ filter (passes test) (behind_slot n c)) (upto-next s n e c next) ∙ append_assoc (upto s c) (row n e ∷ []) (filter (passes test) (behind_slot n c))
-    ∙ sym (ap (λ (q : List Row). upto s c ++ filter (passes test) q) next ∙ rw passed refl) in
+    let rows : upto n c ++ filter test (behind_slot n c) ≡ upto s c ++ filter test (behind_slot s c) =
+    ap (λ (q : List Row). q ++ filter test (behind_slot n c)) (upto-next s n e c next) ∙ append_assoc (upto s c) (row n e ∷ []) (filter test (behind_slot n c))
+    ∙ sym (ap (λ (q : List Row). upto s c ++ filter test q) next ∙ rw passed refl) in
     let free : freed_by test (behind_slot n c) lists.free ≡ freed_by test (behind_slot s c) lists.free = sym (ap (λ (q : List Row). freed_by test q lists.free) next ∙ ap (λ (t : Bool). freed_by test (behind_slot n c) (cond t lists.free (n ∷ lists.free))) passed) in
     λ i. with_chain lists b (rows i) (free i)
 
-pub swept_gone : (test : Entry → Bool) (lists : Lists) (b s n : ℕ) (e : Entry) → b < length lists.chains → behind_slot s (get_or lists.chains b []) ≡ row n e ∷ behind_slot n (get_or lists.chains b []) → test (row n e).entry ≡ false
+pub swept_gone : (test : Row → Bool) (lists : Lists) (b s n : ℕ) (e : Entry) → b < length lists.chains → behind_slot s (get_or lists.chains b []) ≡ row n e ∷ behind_slot n (get_or lists.chains b []) → test (row n e) ≡ false
     → swept test (take_next lists b s (get_or lists.chains b [])) b s ≡ swept test lists b s
 swept_gone test lists b s n e lt next failed =
     let c : List Row = get_or lists.chains b [] in
@@ -117,34 +118,34 @@ swept_gone test lists b s n e lt next failed =
     let f' : List ℕ = with_first_free (behind_slot s c) lists.free in
     let now : get_or (set lists.chains b c') b [] ≡ c' = get_or-set_same lists.chains b c' [] lt in
     let rest : behind_slot s c' ≡ behind_slot n c = behind-less s c ∙ ap (λ (q : List Row). drop 1 q) next in
-    let rows : upto s c' ++ filter (passes test) (behind_slot s c') ≡ upto s c ++ filter (passes test) (behind_slot s c) =
-    (λ i. upto-same s c i ++ filter (passes test) (rest i)) ∙ sym (ap (λ (q : List Row). upto s c ++ filter (passes test) q) next ∙ rw failed refl) in
+    let rows : upto s c' ++ filter test (behind_slot s c') ≡ upto s c ++ filter test (behind_slot s c) =
+    (λ i. upto-same s c i ++ filter test (rest i)) ∙ sym (ap (λ (q : List Row). upto s c ++ filter test q) next ∙ rw failed refl) in
     let free : freed_by test (behind_slot s c') f' ≡ freed_by test (behind_slot s c) lists.free =
     (λ i. freed_by test (rest i) (with_first_free (next i) lists.free)) ∙ sym (ap (λ (q : List Row). freed_by test q lists.free) next ∙ ap (λ (t : Bool). freed_by test (behind_slot n c) (cond t lists.free (n ∷ lists.free))) failed) in
-    let there : swept test (with_chain lists b c' f') b s ≡ with_chain (with_chain lists b c' f') b (upto s c' ++ filter (passes test) (behind_slot s c')) (freed_by test (behind_slot s c') f') =
-    λ i. with_chain (with_chain lists b c' f') b (upto s (now i) ++ filter (passes test) (behind_slot s (now i))) (freed_by test (behind_slot s (now i)) f') in
-    there ∙ set_twice lists b c' (upto s c' ++ filter (passes test) (behind_slot s c')) f' (freed_by test (behind_slot s c') f') ∙ (λ i. with_chain lists b (rows i) (free i))
+    let there : swept test (with_chain lists b c' f') b s ≡ with_chain (with_chain lists b c' f') b (upto s c' ++ filter test (behind_slot s c')) (freed_by test (behind_slot s c') f') =
+    λ i. with_chain (with_chain lists b c' f') b (upto s (now i) ++ filter test (behind_slot s (now i))) (freed_by test (behind_slot s (now i)) f') in
+    there ∙ set_twice lists b c' (upto s c' ++ filter test (behind_slot s c')) f' (freed_by test (behind_slot s c') f') ∙ (λ i. with_chain lists b (rows i) (free i))
 
-pub swept_end : (test : Entry → Bool) (lists : Lists) (b s : ℕ) → behind_slot s (get_or lists.chains b []) ≡ [] → swept test lists b s ≡ lists
+pub swept_end : (test : Row → Bool) (lists : Lists) (b s : ℕ) → behind_slot s (get_or lists.chains b []) ≡ [] → swept test lists b s ≡ lists
 swept_end test lists b s last =
     let c : List Row = get_or lists.chains b [] in
-    let rows : upto s c ++ filter (passes test) (behind_slot s c) ≡ c = ap (λ (q : List Row). upto s c ++ filter (passes test) q) last ∙ ap (λ (q : List Row). upto s c ++ q) (sym last) ∙ upto-behind s c in
+    let rows : upto s c ++ filter test (behind_slot s c) ≡ c = ap (λ (q : List Row). upto s c ++ filter test q) last ∙ ap (λ (q : List Row). upto s c ++ q) (sym last) ∙ upto-behind s c in
     let free : freed_by test (behind_slot s c) lists.free ≡ lists.free = ap (λ (q : List Row). freed_by test q lists.free) last in
     (λ i. with_chain lists b (rows i) (free i)) ∙ (λ i. record { chains = set-get_or lists.chains b [] i; free = lists.free })
 
-from_kept : (test : Entry → Bool) (lists : Lists) (b : ℕ) (root : Row) (rows : List Row) (free : List ℕ) → test root.entry ≡ true → clean_from test lists b root rows free ≡ with_chain lists b (root ∷ filter (passes test) rows) (freed_by test rows free)
+from_kept : (test : Entry → Bool) (lists : Lists) (b : ℕ) (root : Row) (rows : List Row) (free : List ℕ) → test root.entry ≡ true → clean_from test lists b root rows free ≡ with_chain lists b (root ∷ filter (passes test) rows) (freed_by (passes test) rows free)
 from_kept test lists b root [] free passed = rw passed refl
 from_kept test lists b root (r ∷ rows) free passed = rw passed refl
 
 swept_begin_at : (test : Entry → Bool) (lists : Lists) (b s : ℕ) (c : List Row) → BeginsAt s c → FirstPasses test c
-    → with_chain lists b (upto s c ++ filter (passes test) (behind_slot s c)) (freed_by test (behind_slot s c) lists.free) ≡ clean_chain test lists b c
+    → with_chain lists b (upto s c ++ filter (passes test) (behind_slot s c)) (freed_by (passes test) (behind_slot s c) lists.free) ≡ clean_chain test lists b c
 unfolding upto
 swept_begin_at test lists b s [] at first = absurd at
 swept_begin_at test lists b s (r ∷ rows) at first =
     let here : eqb r.slot s ≡ true = eq-eqb r.slot s at in
     rw here (sym (from_kept test lists b r rows lists.free first))
 
-pub swept_begin : (test : Entry → Bool) (lists : Lists) (b s : ℕ) → BeginsAt s (get_or lists.chains b []) → FirstPasses test (get_or lists.chains b []) → swept test lists b s ≡ clean_bucket test lists b
+pub swept_begin : (test : Entry → Bool) (lists : Lists) (b s : ℕ) → BeginsAt s (get_or lists.chains b []) → FirstPasses test (get_or lists.chains b []) → swept (passes test) lists b s ≡ clean_bucket test lists b
 unfolding clean_bucket
 swept_begin test lists b s at first = swept_begin_at test lists b s (get_or lists.chains b []) at first
 
@@ -193,9 +194,23 @@ unlinked_fits e h = record { offset = h.offset; big = h.big; size = h.size; tag 
 pub some_row : (c : List Row) (r : Row) (rest : List Row) → c ≡ r ∷ rest → c ≢ []
 some_row c r rest is none = let no : r ∷ rest ≡ [] = sym is ∙ none in cc no
 
-pub buckets_step : (test : Entry → Bool) (i n : ℕ) (lists next whole : Lists) → i < n → next ≡ clean_bucket test lists i → clean_buckets test i (n - i) lists ≡ whole → clean_buckets test (i + 1) (n - (i + 1)) next ≡ whole
-buckets_step test i n lists next whole lt step so_far =
+pub buckets_step : (step : Lists → ℕ → Lists) (i n : ℕ) (lists next whole : Lists) → i < n → next ≡ step lists i → each_bucket step i (n - i) lists ≡ whole → each_bucket step (i + 1) (n - (i + 1)) next ≡ whole
+buckets_step step i n lists next whole lt stepped so_far =
     let k : n - i ≡ suc (n - (i + 1)) = omega arith in
     let e : i + 1 ≡ suc i = omega arith in
-    let one : clean_buckets test i (n - i) lists ≡ clean_buckets test (suc i) (n - (i + 1)) (clean_bucket test lists i) = ap (λ m. clean_buckets test i m lists) k in
-    (λ j. clean_buckets test (e j) (n - (i + 1)) (step j)) ∙ sym one ∙ so_far
+    let one : each_bucket step i (n - i) lists ≡ each_bucket step (suc i) (n - (i + 1)) (step lists i) = ap (λ m. each_bucket step i m lists) k in
+    (λ j. each_bucket step (e j) (n - (i + 1)) (stepped j)) ∙ sym one ∙ so_far
+
+thin_begin_at : (test : Row → Bool) (lists : Lists) (b s : ℕ) (c : List Row) → BeginsAt s c
+    → with_chain lists b (upto s c ++ filter test (behind_slot s c)) (freed_by test (behind_slot s c) lists.free) ≡ thin_chain test lists b c
+unfolding upto
+thin_begin_at test lists b s [] at = absurd at
+thin_begin_at test lists b s (r ∷ rows) at = let here : eqb r.slot s ≡ true = eq-eqb r.slot s at in rw here refl
+
+pub thin_begin : (test : Row → Bool) (lists : Lists) (b s : ℕ) → BeginsAt s (get_or lists.chains b []) → swept test lists b s ≡ thin_bucket test lists b
+unfolding thin_bucket
+thin_begin test lists b s at = thin_begin_at test lists b s (get_or lists.chains b []) at
+
+pub thin_none : (test : Row → Bool) (lists : Lists) (b : ℕ) → get_or lists.chains b [] ≡ [] → thin_bucket test lists b ≡ lists
+unfolding thin_bucket
+thin_none test lists b none = rw none refl

@@ -9,16 +9,16 @@ abbrev pub Computes : (Entry → Bool → Type 0) → (Entry → Bool) → Type 
 Computes returns test = (e : Entry) (b : Bool) → IsEntry e → returns e b → b ≡ test e
 
 -- the slots of the rows that fail are free, each before the earlier ones
-abbrev pub freed_by : (Entry → Bool) → List Row → List ℕ → List ℕ
+abbrev pub freed_by : (Row → Bool) → List Row → List ℕ → List ℕ
 freed_by test [] free = free
-freed_by test (r ∷ rows) free = freed_by test rows (cond (test r.entry) free (r.slot ∷ free))
+freed_by test (r ∷ rows) free = freed_by test rows (cond (test r) free (r.slot ∷ free))
 
 -- a root that fails gives way to the next entry, whose slot is freed
 abbrev pub clean_from : (Entry → Bool) → Lists → ℕ → Row → List Row → List ℕ → Lists
 clean_from test lists bucket root [] free = cond (test root.entry) (with_chain lists bucket (root ∷ []) free) (with_chain lists bucket [] free)
 clean_from test lists bucket root (r ∷ rows) free =
     cond (test root.entry)
-    (with_chain lists bucket (root ∷ filter (passes test) (r ∷ rows)) (freed_by test (r ∷ rows) free))
+    (with_chain lists bucket (root ∷ filter (passes test) (r ∷ rows)) (freed_by (passes test) (r ∷ rows) free))
     (clean_from test lists bucket (row root.slot r.entry) rows (r.slot ∷ free))
 
 abbrev pub clean_chain : (Entry → Bool) → Lists → ℕ → List Row → Lists
@@ -28,10 +28,13 @@ clean_chain test lists bucket (root ∷ rows) = clean_from test lists bucket roo
 unfoldable pub clean_bucket : (Entry → Bool) → Lists → ℕ → Lists
 clean_bucket test lists bucket = clean_chain test lists bucket (chain_of lists bucket)
 
--- so many buckets from one on
+-- the same done to so many buckets from one on
+abbrev pub each_bucket : (Lists → ℕ → Lists) → ℕ → ℕ → Lists → Lists
+each_bucket step bucket zero lists = lists
+each_bucket step bucket (suc buckets) lists = each_bucket step (suc bucket) buckets (step lists bucket)
+
 abbrev pub clean_buckets : (Entry → Bool) → ℕ → ℕ → Lists → Lists
-clean_buckets test bucket zero lists = lists
-clean_buckets test bucket (suc buckets) lists = clean_buckets test (suc bucket) buckets (clean_bucket test lists bucket)
+clean_buckets test = each_bucket (clean_bucket test)
 
 -- a chain begins in a slot
 abbrev pub BeginsAt : ℕ → List Row → Type 0

@@ -2,4 +2,5 @@ pub mod Cleaning
 pub mod Image
 pub mod Links
 pub mod Lists
+pub mod Purging
 pub use Rattle.dir_entry.specs.Layout

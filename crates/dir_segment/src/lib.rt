@@ -3,11 +3,13 @@
 
 mod fault;
 mod image;
+mod purge;
 mod reached;
 mod segment;
 mod slots;
 
 pub use fault::SegmentFault;
+pub use purge::PurgeList;
 pub use segment::{Inserted, Segment};
 
 #[cfg(test)]

@@ -1,5 +1,5 @@
 // A segment: who stands in which chain, and which slots are free.
-ghost use Rattle.std.specs.Prelude.{◌≡◌, ◌≢◌, ◌+◌, ◌*◌, ◌<◌, ◌≤◌, ◌↔◌, [], true, false, Bool, length, MatchOption, OnSome, IfSome, IfNone, IfOk, IfErr, OnOk, option_map};
+ghost use Rattle.std.specs.Prelude.{◌≡◌, ◌≢◌, ◌+◌, ◌*◌, ◌%◌, ◌<◌, ◌≤◌, ◌↔◌, [], true, false, Bool, length, map, MatchOption, OnSome, IfSome, IfNone, IfOk, IfErr, OnOk, option_map};
 ghost use Rattle.std.specs.List.{list_any};
 ghost use Rattle.dir_entry.specs.Layout.{IsEntry};
 ghost use Rattle.std.specs.Fn.{FnReturnsAt};
@@ -7,11 +7,13 @@ ghost use Rattle.dir_entry.specs.declared.entry.Entry.{Entry as EntryValue};
 ghost use Rattle.dir_segment.specs.Cleaning.{Computes, BeginsAt, FirstPasses, clean_bucket, clean_buckets};
 ghost use Rattle.dir_segment.specs.Image.{image_lists, image_walk, IsFault, IsSound};
 ghost use Rattle.dir_segment.specs.Links.{fresh_link};
-ghost use Rattle.dir_segment.specs.Lists.{new_lists, inserted, IsFull, entry_count, row, has_slot, chain_of, behind, behind_slot, take_root, take_next, is_that, passes, deleted, IsRoot, IsBeforeFirst, GivesNext, first_of_tag, steps_to, ticked};
+ghost use Rattle.dir_segment.specs.Lists.{new_lists, inserted, IsFull, entry_count, row, has_slot, chain_of, behind, behind_slot, take_root, take_next, slots_behind_roots, is_that, passes, deleted, IsRoot, IsBeforeFirst, GivesNext, first_of_tag, steps_to, ticked};
+ghost use Rattle.dir_segment.specs.Purging.{purged, after_purge, behind_roots, find_slot, offer_found, offer_slots, thin_bucket, is_unmarked};
 ghost use Rattle.dir_segment.specs.declared.segment.Inserted.TheVariants as answers;
 
 use crate::fault::SegmentFault;
 use crate::image::{empty_roots, walk_all};
+use crate::purge::PurgeList;
 use crate::reached::Reached;
 use crate::slots::Slots;
 use dir_entry::Entry;
@@ -209,7 +211,8 @@ impl Segment {
     }
 
     fn bucket_count(&self) -> u32
-        ensures { result ≡ length self.now.chains }
+        ensures count { result ≡ length self.now.chains }
+        ensures full { self.now.free ≡ [] → has_slot 1 (behind_roots self.now.chains) ≡ true }
     {
         self.buckets
     }
@@ -262,6 +265,77 @@ impl Segment {
                 before = slot;
             } else {
                 self.take_next(bucket, before);
+            }
+        }
+    }
+
+    /// Takes out the first, the eleventh and so on of the entries behind the roots, in slot order.
+    pub fn purge_tenth(&mut self, out: &mut PurgeList)
+        requires made { out.old.buckets ≡ length self.old.chains }
+        ensures lists { self.new ≡ after_purge self.old }
+        ensures entries { out.new.entries ≡ map (λ r. r.entry) (purged self.old) }
+        ensures few { 10 * length out.new.entries ≤ 3 * length self.old.chains + 9 }
+        ensures room { self.old.free ≡ [] → self.new.free ≢ [] }
+        ensures buckets { out.new.buckets ≡ out.old.buckets }
+        ensures width { length self.new.chains ≡ length self.old.chains }
+    {
+        out.clear();
+        self.offer_all(out);
+        for bucket in 0..self.bucket_count() {
+            self.thin_bucket(bucket, out);
+        }
+    }
+
+    // Offers each entry behind a root, in slot order.
+    fn offer_all(&self, out: &mut PurgeList)
+        requires made { out.old.buckets ≡ length self.now.chains }
+        requires empty { out.old.entries ≡ [] }
+        requires first { out.old.skip ≡ 0 }
+        ensures offered { out.new ≡ offer_slots (slots_behind_roots 0 (length self.now.chains)) (behind_roots self.now.chains) out.old }
+        ensures few { 10 * length out.new.entries ≤ 3 * length self.now.chains + 9 }
+        ensures buckets { out.new.buckets ≡ out.old.buckets }
+    {
+        for bucket in 0..self.bucket_count() {
+            let root = self.root_of(bucket);
+            self.offer_slot(root + 1, out);
+            self.offer_slot(root + 2, out);
+            self.offer_slot(root + 3, out);
+        }
+    }
+
+    // Offers the entry of a slot behind a root, if there is one.
+    fn offer_slot(&self, slot: u16, out: &mut PurgeList)
+        requires made { out.old.buckets ≡ length self.now.chains }
+        requires slot { slot < 4 * length self.now.chains }
+        requires behind { slot % 4 ≢ 0 }
+        requires room { 10 * length out.old.entries < 3 * out.old.buckets + out.old.skip }
+        ensures offered { out.new ≡ offer_found (find_slot slot (behind_roots self.now.chains)) out.old }
+        ensures room { 10 * length out.new.entries + out.old.skip ≤ 10 * length out.old.entries + out.new.skip + 1 }
+        ensures skip { out.old.skip ≤ 9 → out.new.skip ≤ 9 }
+        ensures buckets { out.new.buckets ≡ out.old.buckets }
+    {
+        let entry = self.slots.get(slot);
+        if entry.offset == 0 {
+            return;
+        }
+        out.offer(slot, &entry);
+    }
+
+    // Takes out of a bucket, behind its root, each entry that was taken into a list.
+    fn thin_bucket(&mut self, bucket: u32, gone: &PurgeList)
+        requires bucket { bucket < length self.old.chains }
+        ensures lists { self.new ≡ thin_bucket (is_unmarked gone.now.marks) self.old bucket }
+        ensures width { length self.new.chains ≡ length self.old.chains }
+    {
+        let Some((root, _)) = self.chain(bucket, None) else {
+            return;
+        };
+        let mut before = root;
+        while let Some((slot, _)) = self.chain(bucket, Some(before)) {
+            if gone.has(slot) {
+                self.take_next(bucket, before);
+            } else {
+                before = slot;
             }
         }
     }

@@ -10,6 +10,26 @@ const NEW: [u8; 84] = [
     0, 0, 0, 0, 0, 0, 7, 0, 0, 0, 0, 0, 0, 0, 0, 0, 0, 0, 0, 0,
 ];
 
+// Every slot behind a root is used: slot s has offset s + 1, and the chain leads from slot 15 down.
+const USED: [u8; 164] = [
+    0, 0, 0, 0, 1, 0, 0, 0, 7, 0, 15, 0, 0, 0, 2, 0, 0, 0, 7, 0, 0, 0, 0, 0, 3, 0, 0, 0, 7, 0, 1,
+    0, 0, 0, 4, 0, 0, 0, 7, 0, 2, 0, 0, 0, 0, 0, 0, 0, 0, 0, 0, 0, 0, 0, 6, 0, 0, 0, 7, 0, 3, 0, 0,
+    0, 7, 0, 0, 0, 7, 0, 5, 0, 0, 0, 8, 0, 0, 0, 7, 0, 6, 0, 0, 0, 0, 0, 0, 0, 0, 0, 0, 0, 0, 0,
+    10, 0, 0, 0, 7, 0, 7, 0, 0, 0, 11, 0, 0, 0, 7, 0, 9, 0, 0, 0, 12, 0, 0, 0, 7, 0, 10, 0, 0, 0,
+    0, 0, 0, 0, 0, 0, 0, 0, 0, 0, 14, 0, 0, 0, 7, 0, 11, 0, 0, 0, 15, 0, 0, 0, 7, 0, 13, 0, 0, 0,
+    16, 0, 0, 0, 7, 0, 14, 0, 0, 0,
+];
+
+// The same without slots 1 and 14, which the free list leads through.
+const PURGED: [u8; 164] = [
+    1, 0, 2, 0, 1, 0, 0, 0, 7, 0, 15, 0, 0, 0, 0, 0, 0, 0, 0, 0, 14, 0, 0, 0, 3, 0, 0, 0, 7, 0, 0,
+    0, 0, 0, 4, 0, 0, 0, 7, 0, 2, 0, 0, 0, 0, 0, 0, 0, 0, 0, 0, 0, 0, 0, 6, 0, 0, 0, 7, 0, 3, 0, 0,
+    0, 7, 0, 0, 0, 7, 0, 5, 0, 0, 0, 8, 0, 0, 0, 7, 0, 6, 0, 0, 0, 0, 0, 0, 0, 0, 0, 0, 0, 0, 0,
+    10, 0, 0, 0, 7, 0, 7, 0, 0, 0, 11, 0, 0, 0, 7, 0, 9, 0, 0, 0, 12, 0, 0, 0, 7, 0, 10, 0, 0, 0,
+    0, 0, 0, 0, 0, 0, 0, 0, 0, 0, 14, 0, 0, 0, 7, 0, 11, 0, 0, 0, 0, 0, 0, 0, 0, 0, 0, 0, 0, 0, 16,
+    0, 0, 0, 7, 0, 13, 0, 0, 0,
+];
+
 const PLAIN: Entry = Entry {
     offset: 1,
     big: 0,
@@ -103,5 +123,35 @@ fn a_freed_slot_is_the_next_that_is_taken(rt: HostRuntime) -> Result<(), Fail> {
     assert_eq!(rt; segment.chain(0, None).map(|found| found.0), Some(0));
     assert_eq!(rt; segment.clean(|e| e.offset != 4), 1);
     assert_eq!(rt; segment.used(), 2);
+    Ok(())
+}
+
+#[test]
+fn a_purge_takes_every_tenth_entry_behind_the_roots_in_slot_order(
+    rt: HostRuntime,
+) -> Result<(), Fail> {
+    let mut out = PurgeList::new(rt.alloc(), 4)?;
+    match Segment::from_bytes(rt.alloc(), 4, &USED) {
+        Err(_) => assert!(rt; false),
+        Ok(mut segment) => {
+            segment.purge_tenth(&mut out);
+            assert_eq!(rt; out.len(), 2);
+            assert_eq!(rt; out.get(0), Entry { offset: 2, ..PLAIN });
+            assert_eq!(rt;
+                out.get(1),
+                Entry {
+                    offset: 15,
+                    ..PLAIN
+                }
+            );
+            let mut image = [255; 164];
+            segment.to_bytes(&mut image);
+            assert_eq!(rt; image, PURGED);
+            segment.purge_tenth(&mut out);
+            assert_eq!(rt; out.len(), 1);
+            assert_eq!(rt; out.get(0), Entry { offset: 3, ..PLAIN });
+            assert_eq!(rt; segment.used(), 10);
+        }
+    }
     Ok(())
 }

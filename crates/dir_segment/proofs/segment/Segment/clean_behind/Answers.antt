@@ -1,5 +1,5 @@
 use Rattle.std.proofs.Common.{◌≡◌, ◌≢◌, ◌<◌, [], length, get_or, sym, ap, ◌∙◌, arith}
-use Rattle.dir_segment.specs.Lists.{Lists, row, chain_of, entry_count, has_slot, behind_slot}
+use Rattle.dir_segment.specs.Lists.{Lists, row, chain_of, entry_count, has_slot, behind_slot, passes}
 use Rattle.dir_segment.proofs.Sweeping.{swept, swept_kept, swept_gone, swept_end, swept_begin, next_gone_from, fewer_next, unlinked_fits, some_row}
 use Rattle.dir_segment.proofs.segment.Segment.clean_behind.Goals as goal
 
@@ -8,7 +8,7 @@ loop-slot-preserved-then-is_kept g c = record {
   width = c.loop-slot.invariant.width;
   fewer = c.loop-slot.invariant.fewer;
   held = c.in-Some.ensures.next.1;
-  lists = λ test h. swept_kept test c.loop-slot.self c.args.bucket c.loop-slot.before c.in-Some.slot c.in-Some.entry c.in-Some.ensures.next.0
+  lists = λ test h. swept_kept (passes test) c.loop-slot.self c.args.bucket c.loop-slot.before c.in-Some.slot c.in-Some.entry c.in-Some.ensures.next.0
       (sym (h _ c.is_kept.result (unlinked_fits c.in-Some.entry c.in-Some.ensures.fits) c.is_kept.ensures) ∙ c.if-is_kept.true)
       ∙ c.loop-slot.invariant.lists test h;
 }
@@ -40,12 +40,12 @@ loop-slot-preserved g c =
       width = width;
       fewer = omega (arith, count, less.fewer, c.loop-slot.invariant.fewer);
       held = ap (λ (q : Lists). has_slot before (get_or q.chains b [])) c.take_next.ensures ∙ gone.held;
-      lists = λ test h. ap (λ (q : Lists). swept test q b before) c.take_next.ensures
-          ∙ swept_gone test old b before c.in-Some.slot c.in-Some.entry lt next (sym (h _ c.is_kept.result (unlinked_fits c.in-Some.entry c.in-Some.ensures.fits) c.is_kept.ensures) ∙ c.if-is_kept.false)
+      lists = λ test h. ap (λ (q : Lists). swept (passes test) q b before) c.take_next.ensures
+          ∙ swept_gone (passes test) old b before c.in-Some.slot c.in-Some.entry lt next (sym (h _ c.is_kept.result (unlinked_fits c.in-Some.entry c.in-Some.ensures.fits) c.is_kept.ensures) ∙ c.if-is_kept.false)
           ∙ c.loop-slot.invariant.lists test h;
     }
 
 pub returns-clause-lists : goal.returns-clause-lists
 returns-clause-lists g c = λ test h first.
-    sym (swept_end test c.loop-slot.self c.args.bucket c.loop-slot.before c.in_default.ensures.next)
+    sym (swept_end (passes test) c.loop-slot.self c.args.bucket c.loop-slot.before c.in_default.ensures.next)
     ∙ c.loop-slot.invariant.lists test h ∙ swept_begin test c.args.self.now c.args.bucket c.args.root c.requires.root first

@@ -1,0 +1,14 @@
+//! Who writes and who reads: the open writers, and the readers that follow them.
+#![tactic(auto)]
+
+mod directory;
+mod kept;
+mod puts;
+mod refusal;
+
+pub use directory::OpenDirectory;
+pub use kept::PutState;
+pub use refusal::OpenRefusal;
+
+#[cfg(test)]
+mod tests;

@@ -1,0 +1,37 @@
+// Why a call of the open directory is refused.
+
+ghost use Rattle.std.specs.Prelude.{◌≡◌};
+
+use std::alloc::{AllocError, AllocFailed};
+
+/// Why a call changed nothing.
+#[derive(Clone, Copy, Debug, PartialEq, Eq)]
+pub enum OpenRefusal {
+    /// As many writers are open as may be.
+    TooManyWriters,
+    /// No writer of that put is open.
+    NoSuchWriter,
+    /// Memory ran out.
+    Memory(AllocError),
+}
+
+impl From<AllocError> for OpenRefusal {
+    ghost use Rattle.open_directory.specs.declared.refusal.OpenRefusal.TheVariants.{Memory};
+
+    ghost from_gives = { λ e refusal. refusal ≡ Memory e };
+
+    fn from(e: AllocError) -> Self {
+        OpenRefusal::Memory(e)
+    }
+}
+
+impl<T: Drop> From<AllocFailed<T>> for OpenRefusal {
+    ghost use Rattle.std.specs.Prelude.{alloc_error};
+    ghost use Rattle.open_directory.specs.declared.refusal.OpenRefusal.TheVariants.{Memory};
+
+    ghost from_gives = { λ _ refusal. refusal ≡ Memory alloc_error };
+
+    fn from(_e: AllocFailed<T>) -> Self {
+        OpenRefusal::Memory(AllocError)
+    }
+}
