@@ -11,7 +11,7 @@ span c at zero = []
 span c at (suc n) = c at ++ span c (at + 1) n
 
 -- a device at one moment
-pub record State : Type 1 where
+pub record State : Type 0 where
   -- how many blocks it has
   pub size : ℕ
   -- how far it can be trusted, which can only fall: from 1 on, its content is told

@@ -7,8 +7,8 @@ use Rattle.tape_base.specs.Limits.{first_refusal}
 use Rattle.tape_base.specs.Place.{floor_of}
 use Rattle.ats_disk.specs.Bay.{Return}
 use Rattle.ats_disk.specs.declared.device.Disk.{Ghosts as DiskGhosts}
-use Rattle.cache_chronicle.specs.declared.chronicle.Chronicle.{Ghosts as ChronicleGhosts}
-use Rattle.cache_model.specs.declared.record.Rec.TheVariants as rec
+use Rattle.first_chronicle.specs.declared.chronicle.Chronicle.{Ghosts as ChronicleGhosts}
+use Rattle.first_model.specs.declared.record.Rec.TheVariants as rec
 use Rattle.script_lang.specs.declared.step.Step.TheVariants as step
 use Rattle.script_lang.specs.declared.answer.StepAnswer.TheVariants as answer
 use Rattle.script_lang.specs.declared.answer.Refused.TheVariants as refused

@@ -7,17 +7,17 @@ use Rattle.tape_base.specs.declared.digests.Digest.{Digest}
 use Rattle.tape_base.specs.Key.{same_key}
 use Rattle.tape_base.specs.Digest.{digest_of, DigestsTell}
 use Rattle.ats_disk.specs.declared.device.Disk.{Ghosts as DiskGhosts}
-use Rattle.cache_chronicle.specs.declared.chronicle.Chronicle.{Ghosts as ChronicleGhosts}
-use Rattle.cache_model.specs.declared.table.Stored.{Stored}
-use Rattle.cache_model.specs.declared.table.Commit.{Commit}
-use Rattle.cache_model.specs.State.{State, after_all}
-use Rattle.cache_model.specs.Kept.{state_of, with_records}
-use Rattle.cache_model.specs.declared.record.Rec.TheVariants as rec
-use Rattle.cache_model.specs.Permit.{Permit, Store, Look, End, Done, Fails}
-use Rattle.cache_model.specs.Legal.{Does, blocks_for, next_place, GivesFound, DamagesFound}
-use Rattle.cache_model.specs.Verdict.{Verdict, Hit, Miss, lookup_verdict, body_piece}
-use Rattle.cache_model.proofs.Verdicts.{state_of-with_records, verdict-stored, verdict-damaged, verdict-found_before}
-use Rattle.cache_model.proofs.Steps.{one_group, refused_by}
+use Rattle.first_chronicle.specs.declared.chronicle.Chronicle.{Ghosts as ChronicleGhosts}
+use Rattle.first_model.specs.declared.table.Stored.{Stored}
+use Rattle.first_model.specs.declared.table.Commit.{Commit}
+use Rattle.first_model.specs.State.{State, after_all}
+use Rattle.first_model.specs.Kept.{state_of, with_records}
+use Rattle.first_model.specs.declared.record.Rec.TheVariants as rec
+use Rattle.first_model.specs.Permit.{Permit, Store, Look, End, Done, Fails}
+use Rattle.first_model.specs.Legal.{Does, blocks_for, next_place, GivesFound, DamagesFound}
+use Rattle.first_model.specs.Verdict.{Verdict, Hit, Miss, lookup_verdict, body_piece}
+use Rattle.first_model.proofs.Verdicts.{state_of-with_records, verdict-stored, verdict-damaged, verdict-found_before}
+use Rattle.first_model.proofs.Steps.{one_group, refused_by}
 use Rattle.script_lang.specs.declared.step.Step.TheVariants as step
 use Rattle.cache_tool.specs.declared.tape.Tape.{Tape}
 use Rattle.cache_tool.specs.declared.tape.PutAnswer.{PutAnswer}

@@ -6,14 +6,14 @@ use Rattle.tape_base.specs.declared.geometries.Geometry.{Geometry}
 use Rattle.tape_base.specs.declared.digests.Digest.{Digest}
 use Rattle.tape_base.specs.Key.{same_key}
 use Rattle.tape_base.specs.Digest.{digest_of}
-use Rattle.cache_model.specs.declared.record.Rec.TheVariants as rec
-use Rattle.cache_model.specs.declared.table.Stored.{Stored}
-use Rattle.cache_model.specs.declared.table.Commit.{Commit}
-use Rattle.cache_model.specs.State.{State, after_all}
-use Rattle.cache_model.specs.Kept.{Kept, state_of, with_records}
-use Rattle.cache_model.specs.Legal.{blocks_for, next_place}
-use Rattle.cache_model.specs.Verdict.{Verdict, Hit, lookup_verdict, body_piece}
-use Rattle.cache_model.proofs.Verdicts.{state_of-with_records, verdict-stored, verdict-found_before}
+use Rattle.first_model.specs.declared.record.Rec.TheVariants as rec
+use Rattle.first_model.specs.declared.table.Stored.{Stored}
+use Rattle.first_model.specs.declared.table.Commit.{Commit}
+use Rattle.first_model.specs.State.{State, after_all}
+use Rattle.first_model.specs.Kept.{Kept, state_of, with_records}
+use Rattle.first_model.specs.Legal.{blocks_for, next_place}
+use Rattle.first_model.specs.Verdict.{Verdict, Hit, lookup_verdict, body_piece}
+use Rattle.first_model.proofs.Verdicts.{state_of-with_records, verdict-stored, verdict-found_before}
 use Rattle.cache_tool.specs.Tape.{Agrees, IsPlaced, stored_records}
 
 module _ (k k' : Kept) (g : Geometry) (filled taken size faults size' faults' : ℕ) (agrees : Agrees (state_of k) g filled taken size faults) (sized : size' ≡ size) where

@@ -1,9 +1,9 @@
 -- What a lookup of a tape finds.
 use Rattle.std.specs.Prelude.{◌≡◌}
 use Rattle.tape_base.specs.declared.keys.Key.{Key}
-use Rattle.cache_model.specs.State.{State}
-use Rattle.cache_model.specs.Legal.{blocks_for}
-use Rattle.cache_model.specs.Verdict.{lookup_verdict, Hit}
+use Rattle.first_model.specs.State.{State}
+use Rattle.first_model.specs.Legal.{blocks_for}
+use Rattle.first_model.specs.Verdict.{lookup_verdict, Hit}
 use Rattle.cache_tool.specs.declared.tape.Found.{Found}
 
 -- this is what the verdict of a lookup names

@@ -12,12 +12,12 @@ use Rattle.tape_base.specs.Limits.{first_refusal}
 use Rattle.tape_base.specs.Piece.{same_piece}
 use Rattle.tape_base.specs.Place.{floor_of}
 use Rattle.ats_disk.specs.Bay.{Return}
-use Rattle.cache_model.specs.declared.record.Rec.{Rec}
-use Rattle.cache_model.specs.declared.record.Rec.TheVariants as rec
-use Rattle.cache_model.specs.State.{State, nothing_yet, after_all}
-use Rattle.cache_model.specs.Permit.{Permit, Store, Look, Reason, TapeEnd, Faulted, End, Done, Fails}
-use Rattle.cache_model.specs.Legal.{IsStep}
-use Rattle.cache_model.specs.Verdict.{Verdict, Hit, lookup_verdict, body_piece}
+use Rattle.first_model.specs.declared.record.Rec.{Rec}
+use Rattle.first_model.specs.declared.record.Rec.TheVariants as rec
+use Rattle.first_model.specs.State.{State, nothing_yet, after_all}
+use Rattle.first_model.specs.Permit.{Permit, Store, Look, Reason, TapeEnd, Faulted, End, Done, Fails}
+use Rattle.first_model.specs.Legal.{IsStep}
+use Rattle.first_model.specs.Verdict.{Verdict, Hit, lookup_verdict, body_piece}
 use Rattle.script_lang.specs.declared.step.Step.{Step}
 use Rattle.script_lang.specs.declared.step.Step.TheVariants as step
 use Rattle.script_lang.specs.declared.line.LineAnswer.{LineAnswer}

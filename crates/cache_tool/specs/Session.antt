@@ -4,11 +4,11 @@ use Rattle.tape_base.specs.declared.keys.Key.{Key}
 use Rattle.tape_base.specs.Digest.{digest_of}
 use Rattle.ats_disk.specs.Bay.{Return}
 use Rattle.ats_disk.specs.declared.device.Disk.{Ghosts as DiskGhosts}
-use Rattle.cache_chronicle.specs.declared.chronicle.Chronicle.{Ghosts as ChronicleGhosts}
-use Rattle.cache_model.specs.declared.table.Stored.{Stored}
-use Rattle.cache_model.specs.declared.table.Commit.{Commit}
-use Rattle.cache_model.specs.State.{State}
-use Rattle.cache_model.specs.Verdict.{lookup_verdict, Hit, body_piece}
+use Rattle.first_chronicle.specs.declared.chronicle.Chronicle.{Ghosts as ChronicleGhosts}
+use Rattle.first_model.specs.declared.table.Stored.{Stored}
+use Rattle.first_model.specs.declared.table.Commit.{Commit}
+use Rattle.first_model.specs.State.{State}
+use Rattle.first_model.specs.Verdict.{lookup_verdict, Hit, body_piece}
 use Rattle.script_lang.specs.declared.step.Step.{Step}
 use Rattle.script_lang.specs.declared.answer.StepAnswer.{StepAnswer}
 use Rattle.cache_tool.specs.declared.tape.Tape.{Tape}

@@ -7,7 +7,7 @@ use Rattle.edge_io.specs.Causes.{Rose}
 use Rattle.script_lang.specs.declared.line.BadLine.{BadLine as BadAt}
 use Rattle.script_lang.specs.declared.step.Step.{Step}
 use Rattle.script_lang.specs.declared.step.Step.TheVariants as step
-use Rattle.cache_model.specs.State.{State}
+use Rattle.first_model.specs.State.{State}
 use Rattle.cache_tool.specs.Run.{Run}
 use Rattle.cache_tool.specs.declared.session.Stop.{Stop}
 use Rattle.cache_tool.specs.declared.session.Stop.TheVariants.{NoCache, BadLine, BayFault, Memory}

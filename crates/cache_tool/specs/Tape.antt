@@ -5,17 +5,17 @@ use Rattle.tape_base.specs.declared.geometries.Geometry.{Geometry}
 use Rattle.tape_base.specs.Digest.{digest_of}
 use Rattle.ats_disk.specs.Device.{State as DeviceState, IsTold, span}
 use Rattle.ats_disk.specs.declared.device.Disk.{Ghosts as DiskGhosts}
-use Rattle.cache_chronicle.specs.declared.chronicle.Chronicle.{Ghosts as ChronicleGhosts}
-use Rattle.cache_model.specs.declared.record.Rec.{Rec}
-use Rattle.cache_model.specs.declared.record.Rec.TheVariants as rec
-use Rattle.cache_model.specs.declared.table.Stored.{Stored}
-use Rattle.cache_model.specs.declared.table.Commit.{Commit}
-use Rattle.cache_model.specs.State.{State}
-use Rattle.cache_model.specs.Kept.{state_of}
-use Rattle.cache_model.specs.Permit.{Permit, End, Done, Fails, TapeEnd, Faulted}
-use Rattle.cache_model.specs.Legal.{blocks_for, next_place}
-use Rattle.cache_model.specs.declared.record.Cause.TheVariants as cause
-use Rattle.cache_model.specs.Verdict.{Verdict, lookup_verdict, Hit, Miss, body_piece}
+use Rattle.first_chronicle.specs.declared.chronicle.Chronicle.{Ghosts as ChronicleGhosts}
+use Rattle.first_model.specs.declared.record.Rec.{Rec}
+use Rattle.first_model.specs.declared.record.Rec.TheVariants as rec
+use Rattle.first_model.specs.declared.table.Stored.{Stored}
+use Rattle.first_model.specs.declared.table.Commit.{Commit}
+use Rattle.first_model.specs.State.{State}
+use Rattle.first_model.specs.Kept.{state_of}
+use Rattle.first_model.specs.Permit.{Permit, End, Done, Fails, TapeEnd, Faulted}
+use Rattle.first_model.specs.Legal.{blocks_for, next_place}
+use Rattle.first_model.specs.declared.record.Cause.TheVariants as cause
+use Rattle.first_model.specs.Verdict.{Verdict, lookup_verdict, Hit, Miss, body_piece}
 use Rattle.script_lang.specs.declared.answer.StepAnswer.{StepAnswer}
 use Rattle.script_lang.specs.declared.answer.StepAnswer.TheVariants as answer
 use Rattle.script_lang.specs.declared.answer.Refused.TheVariants as refused

@@ -1,5 +1,5 @@
 // The bay of the program.
-ghost use Rattle.std.specs.Prelude.{◌≡◌, ◌≤◌, []};
+ghost use Rattle.std.specs.Prelude.{◌≡◌, ◌+◌, ◌-◌, ◌^◌, ◌≤◌, min, []};
 ghost use Rattle.edge_io.specs.Causes.{Rose};
 
 use ats_disk::{Bay, BayFault, MemBay, MemDisk};
@@ -28,6 +28,7 @@ impl HostBay {
     fn count_fault(&mut self) -> u64
         ensures count { (result ≡ self.new.faults) × Rose self.old.faults self.new.faults }
         ensures later { self.old.faults ≤ self.new.faults }
+        ensures one { self.new.faults ≡ min (self.old.faults + 1) (2 ^ 64 - 1) }
         ensures same { self.new.memory ≡ self.old.memory }
     {
         self.faults = self.faults.saturating_add(1);

@@ -16,8 +16,8 @@ use crate::lines::{Reading, next_reading};
 use crate::session::Stop;
 use crate::steps::answer;
 use ats_disk::{Bay, Disk};
-use cache_chronicle::{Chronicle, FullChronicle};
 use edge_io::{LineFault, LineReader, MAX_LINES, Sink, Source};
+use first_chronicle::{Chronicle, FullChronicle};
 use script_lang::{LastLine, LineAnswer, Step, StepAnswer, answer_text};
 use std::alloc::Global;
 

@@ -8,7 +8,7 @@ ghost use Rattle.cache_tool.specs.Stop.{IsPutStop};
 
 use crate::tape::{GetAnswer, PutAnswer, Tape};
 use ats_disk::{BayFault, Disk};
-use cache_chronicle::{Cause, Chronicle};
+use first_chronicle::{Cause, Chronicle};
 use script_lang::{BadKind, BadLine, ByteList, Refused, StepAnswer};
 use std::alloc::{AllocError, Global};
 use tape_base::{Key, digests_tell};

@@ -8,7 +8,7 @@ ghost use Rattle.cache_tool.specs.Stop.{StopsStep};
 use crate::device::{Session, begin};
 use crate::session::{Stop, get, put};
 use ats_disk::{Bay, Disk};
-use cache_chronicle::{Chronicle, FullChronicle};
+use first_chronicle::{Chronicle, FullChronicle};
 use script_lang::{ByteList, Refused, Step, StepAnswer};
 use std::alloc::Global;
 use tape_base::{BadGeometry, Geometry, floor_of};

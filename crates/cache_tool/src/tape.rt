@@ -1,13 +1,13 @@
 // One lap of a device, which is written from its start, a body at a time.
 ghost use Rattle.std.specs.Prelude.{◌≡◌, ◌+◌, ◌*◌, ◌^◌, ◌<◌, ◌≤◌, [], length, take, IfOk, OnErr};
-ghost use Rattle.cache_model.specs.Kept.{state_of, with_records};
-ghost use Rattle.cache_model.specs.Permit.{Store, Look};
-ghost use Rattle.cache_model.specs.Legal.{Does, blocks_for};
-ghost use Rattle.cache_model.specs.Verdict.{body_piece};
+ghost use Rattle.first_model.specs.Kept.{state_of, with_records};
+ghost use Rattle.first_model.specs.Permit.{Store, Look};
+ghost use Rattle.first_model.specs.Legal.{Does, blocks_for};
+ghost use Rattle.first_model.specs.Verdict.{body_piece};
 
 use ats_disk::Disk;
-use cache_chronicle::Chronicle;
-use cache_model::{Cause, Rec};
+use first_chronicle::Chronicle;
+use first_model::{Cause, Rec};
 use std::alloc::{AllocError, Global};
 use tape_base::{Digest, Geometry, Key, PieceId};
 
@@ -126,9 +126,9 @@ impl<D: Disk, C: Chronicle> Tape<D, C> {
 impl<D: Disk, C: Chronicle> Tape<D, C> {
     ghost use Rattle.std.specs.Prelude.{◌≡◌, ◌+◌, ◌≤◌, ◌<◌, ◌^◌, ◌∷◌, [], length};
     ghost use Rattle.tape_base.specs.Digest.{digest_of};
-    ghost use Rattle.cache_model.specs.declared.record.Rec.TheVariants as rec;
-    ghost use Rattle.cache_model.specs.Kept.{with_records};
-    ghost use Rattle.cache_model.specs.Legal.{blocks_for};
+    ghost use Rattle.first_model.specs.declared.record.Rec.TheVariants as rec;
+    ghost use Rattle.first_model.specs.Kept.{with_records};
+    ghost use Rattle.first_model.specs.Legal.{blocks_for};
     ghost use Rattle.cache_tool.specs.Tape.{state_of_tape, stored_records};
 
     /// Records that the device refused a call, and answers its count.
@@ -191,11 +191,11 @@ struct Found {
 
 impl<D: Disk, C: Chronicle> Tape<D, C> {
     ghost use Rattle.std.specs.Prelude.{◌≡◌, ◌≤◌, [], IfOk, IfSome, IfNone, OnErr};
-    ghost use Rattle.cache_model.specs.declared.record.Cause.{Cause as CauseValue};
-    ghost use Rattle.cache_model.specs.Kept.{with_records};
-    ghost use Rattle.cache_model.specs.Permit.{Look};
-    ghost use Rattle.cache_model.specs.Legal.{Does};
-    ghost use Rattle.cache_model.specs.Verdict.{lookup_verdict, Miss};
+    ghost use Rattle.first_model.specs.declared.record.Cause.{Cause as CauseValue};
+    ghost use Rattle.first_model.specs.Kept.{with_records};
+    ghost use Rattle.first_model.specs.Permit.{Look};
+    ghost use Rattle.first_model.specs.Legal.{Does};
+    ghost use Rattle.first_model.specs.Verdict.{lookup_verdict, Miss};
     ghost use Rattle.cache_tool.specs.Tape.{IsTape, state_of_tape, get_adds, get_end, get_given, permit, look_answer, told_of};
     ghost use Rattle.cache_tool.specs.Found.{IsFoundIn};
 
@@ -220,11 +220,11 @@ impl<D: Disk, C: Chronicle> Tape<D, C> {
 
 impl<D: Disk, C: Chronicle> Tape<D, C> {
     ghost use Rattle.std.specs.Prelude.{◌≡◌, ◌≤◌, ◌∷◌, [], IfOk, OnErr};
-    ghost use Rattle.cache_model.specs.declared.record.Rec.TheVariants as rec;
-    ghost use Rattle.cache_model.specs.Kept.{with_records};
-    ghost use Rattle.cache_model.specs.Permit.{Look};
-    ghost use Rattle.cache_model.specs.Legal.{Does};
-    ghost use Rattle.cache_model.specs.Verdict.{lookup_verdict, body_piece};
+    ghost use Rattle.first_model.specs.declared.record.Rec.TheVariants as rec;
+    ghost use Rattle.first_model.specs.Kept.{with_records};
+    ghost use Rattle.first_model.specs.Permit.{Look};
+    ghost use Rattle.first_model.specs.Legal.{Does};
+    ghost use Rattle.first_model.specs.Verdict.{lookup_verdict, body_piece};
     ghost use Rattle.cache_tool.specs.Tape.{IsTape, state_of_tape, get_adds, get_end, get_given, permit, look_answer, told_of, IfGiven, AreSeen};
     ghost use Rattle.ats_disk.specs.Device.{SameSeen};
     ghost use Rattle.cache_tool.specs.Found.{IsFoundIn};

@@ -4,8 +4,8 @@ use Rattle.std.specs.Fmt.{decimal}
 use Rattle.sha2.specs.Sha256.{sha256}
 use Rattle.hex.specs.Hex.{encode_lower}
 use Rattle.tape_base.specs.declared.digests.Digest.{Digest}
-use Rattle.cache_model.specs.declared.record.Cause.{Cause}
-use Rattle.cache_model.specs.declared.record.Cause.TheVariants as cause
+use Rattle.first_model.specs.declared.record.Cause.{Cause}
+use Rattle.first_model.specs.declared.record.Cause.TheVariants as cause
 use Rattle.script_lang.specs.declared.line.BadKind.{BadKind}
 use Rattle.script_lang.specs.declared.line.BadKind.TheVariants as kind
 use Rattle.script_lang.specs.declared.answer.Refused.{Refused}

@@ -1,6 +1,6 @@
 // What the steps of a script answer, and how a run ends that does not answer them all.
 use crate::{BadLine, ByteList};
-use cache_model::Cause;
+use first_model::Cause;
 
 /// Why a step was not done.
 #[derive(Clone, Copy, Debug, PartialEq, Eq)]

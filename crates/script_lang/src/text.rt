@@ -4,7 +4,7 @@ ghost use Rattle.hex.specs.Hex.{encode_lower};
 ghost use Rattle.script_lang.specs.Texts.{shown, formatted_line, put_line, got_line, damaged_line, never_put_line, miss_line, tape_end_line, geometry_line, refused_line, fault_line, answer_line, kind_word, usage_line, bad_script_line, read_fault_line, bay_fault_line, too_long_line, too_many_line, no_cache_line, last_line};
 
 use crate::{BadKind, BadLine, LastLine, Refused, StepAnswer};
-use cache_model::Cause;
+use first_model::Cause;
 use hex::encode;
 use sha2::{Digest as _, Sha256};
 use std::alloc::{AllocError, Global};

@@ -4,7 +4,7 @@ use Rattle.edge_io.specs.declared.reader.TheConstants.{MAX_LINES}
 use Rattle.edge_io.specs.LineReader.{unread, lines_given, source_of}
 use Rattle.cache_tool.specs.Session.{Plays, AreTapes, held}
 use Rattle.cache_tool.specs.Story.{GoesOn}
-use Rattle.cache_chronicle.specs.contracts.full.FullChronicleChronicle.TheImpl.{ghosts}
+use Rattle.first_chronicle.specs.contracts.full.FullChronicleChronicle.TheImpl.{ghosts}
 use Rattle.cache_tool.proofs.run.run_lines.Given as goal
 
 abbrev pub invariant-lines : goal.invariant-lines

@@ -1,6 +1,6 @@
 use Rattle.std.proofs.Common.{Option, None, Some, sym}
 use Rattle.std.specs.Prelude.{IfNone}
-use Rattle.cache_model.proofs.Verdicts.{verdict-not_live}
+use Rattle.first_model.proofs.Verdicts.{verdict-not_live}
 use Rattle.cache_tool.specs.Tape.{state_of_tape}
 use Rattle.cache_tool.proofs.tape.Tape.find.Goals as goal
 

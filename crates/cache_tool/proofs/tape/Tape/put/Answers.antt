@@ -1,6 +1,6 @@
 use Rattle.std.proofs.Common.{◌≡◌, ◌+◌, ◌≤◌, length, arith, ◌∙◌}
-use Rattle.cache_model.specs.Kept.{with_records}
-use Rattle.cache_model.specs.Legal.{blocks_for}
+use Rattle.first_model.specs.Kept.{with_records}
+use Rattle.first_model.specs.Legal.{blocks_for}
 use Rattle.cache_tool.specs.Tape.{stored_records, state_of_tape}
 use Rattle.cache_tool.proofs.Tapes.{fault_agrees, stored_agrees}
 use Rattle.cache_tool.proofs.tape.Tape.put.Goals as goal
