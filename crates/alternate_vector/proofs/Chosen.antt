@@ -1,11 +1,11 @@
 -- The last match, and the longest end, as the code finds them.
-use Rattle.std.proofs.Common.{◌≡◌, ℕ, zero, suc, ◌+◌, ◌<◌, ◌≤◌, Bool, true, false, cond, leb, List, [], ◌∷◌, ◌++◌, length, take, get_or, Option, Some, None, refl, sym, ap, subst, ◌∙◌, add-one, arith, length-append}
-use Rattle.std.specs.Prelude.{◌&&◌, not, map, filter}
+use Rattle.std.proofs.Common.{◌≡◌, ℕ, zero, suc, ◌+◌, ◌<◌, ◌≤◌, Bool, true, false, cond, leb, List, [], ◌∷◌, ◌++◌, length, take, get_or, Option, Some, None, refl, sym, ap, subst, ◌∙◌, arith}
+use Rattle.std.specs.Prelude.{not, filter}
 use Rattle.std.specs.List.{AllByRecursion}
-use Rattle.std.proofs.lemmas.Bool.{leb-true}
+use Rattle.std.proofs.lemmas.Bool.{and_from, le-leb}
 use Rattle.alternate_vector.specs.declared.alternate.Alternate.{Alternate}
 use Rattle.alternate_vector.specs.Field.{Field}
-use Rattle.alternate_vector.specs.Alternates.{Stored, AreStored, IsStored, all_stored, chosen, is_match, is_within, longest_within, merged, or_first, stored_of, vector_size, with_new}
+use Rattle.alternate_vector.specs.Alternates.{Stored, IsStored, all_stored, chosen, is_match, is_within, longest_within, merged, or_first, stored_of, vector_size, with_new}
 
 one_more : (request : List Field) (alternates : List Alternate) (i : ℕ) (d : Alternate) → i < length alternates
     → chosen request (all_stored (take (suc i) alternates)) ≡ cond (is_match request (stored_of (get_or alternates i d))) (Some i) (chosen request (all_stored (take i alternates)))
@@ -56,3 +56,18 @@ each_longest most bytes (a ∷ alternates) each =
 pub each_merged : (most bytes : ℕ) (before : List Stored) (new : Stored) → AllByRecursion IsStored before → IsStored new → AllByRecursion IsStored (merged most bytes before new)
 each_merged most bytes before new each p =
     each_longest most bytes (with_new before new) (each_push (filter (λ a. not (is_match new.request a)) before) new (each_filter (λ a. not (is_match new.request a)) before each) p)
+
+-- ---- the new one stays
+
+some_longest : (most bytes : ℕ) (before : List Stored) (new : Stored) → 1 ≤ most → vector_size (new ∷ []) ≤ bytes → 0 < length (longest_within most bytes (before ++ new ∷ []))
+some_longest most bytes [] new some fits =
+    let alone : is_within most bytes (new ∷ []) ≡ true = and_from (leb 1 most) (leb (vector_size (new ∷ [])) bytes) (le-leb _ _ some) (le-leb _ _ fits) in
+    subst (λ (kept : List Stored). 0 < length kept) (sym (longest_is most bytes (new ∷ []) alone)) (omega arith)
+some_longest most bytes (a ∷ before) new some fits =
+    elim (is_within most bytes (a ∷ (before ++ new ∷ []))) as (λ b. 0 < length (cond b (a ∷ (before ++ new ∷ [])) (longest_within most bytes (before ++ new ∷ [])))) [
+      | true ↦ omega arith
+      | false ↦ some_longest most bytes before new some fits
+    ]
+
+pub some_merged : (most bytes : ℕ) (before : List Stored) (new : Stored) → 1 ≤ most → vector_size (new ∷ []) ≤ bytes → 0 < length (merged most bytes before new)
+some_merged most bytes before new some fits = some_longest most bytes (filter (λ a. not (is_match new.request a)) before) new some fits

@@ -1,11 +1,12 @@
 -- The size is the length of the spelling.
-use Rattle.std.proofs.Common.{◌≡◌, ℕ, zero, suc, ◌+◌, ◌*◌, List, [], ◌∷◌, ◌++◌, length, refl, sym, ap, ◌∙◌, arith, length-append}
+use Rattle.std.proofs.Common.{◌≡◌, ℕ, ◌+◌, List, [], ◌∷◌, ◌++◌, length, refl, ap, ◌∙◌, arith, length-append}
 use Rattle.std.specs.Prelude.{sum_by}
 use Rattle.std.specs.List.{flat_map, AllByRecursion}
 use Rattle.std.specs.Int.{w16, w32, w64, to_le_bytes}
 use Rattle.std.proofs.lemmas.List.Concat.{flat_map-cons}
 use Rattle.std.proofs.lemmas.List.Sums.{sum_by-append}
-use Rattle.fragment_table.specs.Table.{TableRow, IsRow, row_bytes, table_bytes}
+use Rattle.fragment_table.specs.Table.{table_bytes}
+use Rattle.fragment_table.proofs.Rows.{length-rows}
 use Rattle.alternate_vector.specs.Field.{Field}
 use Rattle.alternate_vector.specs.Alternates.{Stored, IsStored, alternate_size, fields_size, vector_size}
 use Rattle.alternate_vector.specs.Spelling.{alternate_bytes, field_bytes, fields_bytes, vector_bytes}
@@ -30,13 +31,6 @@ length-lines (field ∷ fields) =
 
 length-fields : (fields : List Field) → length (fields_bytes fields) ≡ fields_size fields
 length-fields fields = let e = length-lines fields in omega (arith, e)
-
-length-rows : (rows : List TableRow) → AllByRecursion IsRow rows → length (flat_map row_bytes rows) ≡ 36 * length rows
-length-rows [] each = refl
-length-rows (row ∷ rows) each =
-    let rest = length-rows rows each.1 in
-    let one : length (row_bytes row) ≡ 36 = omega (arith, each.0.digest) in
-    ap length (flat_map-cons row_bytes row rows) ∙ length-append (row_bytes row) (flat_map row_bytes rows) ∙ omega (arith, one, rest)
 
 length-alternate : (a : Stored) → IsStored a → length (alternate_bytes a) ≡ alternate_size a
 length-alternate a stored =

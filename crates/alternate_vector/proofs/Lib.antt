@@ -1,7 +1,9 @@
+pub mod Again
 pub mod Chosen
 pub mod Lengths
 pub mod Loops
 pub mod Order
 pub mod Parts
 pub mod Range
+pub mod Spelled
 pub mod Written

@@ -1,23 +1,23 @@
 -- Reading lines and alternates one after the other, as a loop does.
-use Rattle.std.proofs.Common.{◌≡◌, ℕ, zero, suc, ◌-◌, ◌+◌, ◌≤◌, ◌<◌, Bool, true, false, cond, ltb, List, [], ◌∷◌, ◌++◌, length, take, drop, get_or, Result, Ok, Err, refl, sym, ap, ◌∙◌, append_assoc, arith}
-use Rattle.std.specs.Prelude.{not, ◌&&◌, ◌||◌, bytes_eq}
+use Rattle.std.proofs.Common.{◌≡◌, ℕ, zero, suc, ◌-◌, ◌+◌, ◌≤◌, ◌<◌, Bool, true, false, cond, ltb, List, [], ◌∷◌, ◌++◌, length, get_or, Result, Ok, Err, refl, sym, ap, ◌∙◌, append_assoc, arith}
+use Rattle.std.specs.Prelude.{not, ◌||◌, bytes_eq}
 use Rattle.std.specs.List.{AllByRecursion}
 use Rattle.std.specs.Cmp.Lexicographic.{same_text}
-use Rattle.std.proofs.lemmas.Bool.{ltb-false}
+use Rattle.std.proofs.lemmas.Bool.{ltb-false, not-true}
 use Rattle.std.proofs.lemmas.List.{append-nil}
 use Rattle.http_header.specs.Token.{lowercase}
 use Rattle.fragment_table.specs.Table.{TableRow}
-use Rattle.fragment_table.specs.Reading.{has_sum, is_cut, read_table, told_count, told_length, told_rows}
+use Rattle.fragment_table.specs.Reading.{has_sum, read_table, told_count, told_length, told_rows}
 use Rattle.fragment_table.specs.declared.fault.TableFault.{TableFault}
 use Rattle.fragment_table.specs.declared.fault.TableFault.TheVariants as tables
 use Rattle.alternate_vector.specs.declared.fault.VectorFault.{VectorFault}
 use Rattle.alternate_vector.specs.declared.fault.VectorFault.TheVariants.{Short, Count, Name, Value, Table, Rest, Memory}
 use Rattle.alternate_vector.specs.declared.fields.Line.{Line}
 use Rattle.alternate_vector.specs.Field.{Field, IsRising, is_above, is_name}
-use Rattle.alternate_vector.specs.Lines.{field_of, fields_of}
+use Rattle.alternate_vector.specs.Lines.{fields_of}
 use Rattle.alternate_vector.specs.Alternates.{Stored}
 use Rattle.alternate_vector.specs.Reading.{◌>>=◌, Fails, alternate_at, alternates_at, field_at, fields_from, follows, last_name}
-use Rattle.alternate_vector.proofs.Order.{chain}
+use Rattle.alternate_vector.proofs.Order.{chain, three}
 
 -- what was read before, and what is still read
 abbrev pub with_front : {A : Type 0} → List A → Result (List A × List ℕ) VectorFault → Result (List A × List ℕ) VectorFault
@@ -98,15 +98,6 @@ alternates_done front count i bytes total le so_far =
 
 -- ---- names and tables
 
-not_true : (b : Bool) → not b ≡ true → b ≡ false
-not_true true h = absurd cc
-not_true false h = refl
-
-three : (a b c : Bool) → (a && b && c) ≡ true → (a ≡ true) × (b ≡ true) × (c ≡ true)
-three true true c h = (refl, refl, h)
-three true false c h = absurd cc
-three false b c h = absurd cc
-
 pub follows_name : (before name : List ℕ) → follows before name ≡ true → is_name name ≡ true
 follows_name before name h = (three (is_name name) (bytes_eq name (lowercase name)) (not (is_above before name)) h).0
 
@@ -114,7 +105,7 @@ pub follows_lower : (before name : List ℕ) → follows before name ≡ true �
 follows_lower before name h = sym (same_text name (lowercase name) (sym (three (is_name name) (bytes_eq name (lowercase name)) (not (is_above before name)) h).1))
 
 pub follows_order : (before name : List ℕ) → follows before name ≡ true → is_above before name ≡ false
-follows_order before name h = not_true (is_above before name) (three (is_name name) (bytes_eq name (lowercase name)) (not (is_above before name)) h).2
+follows_order before name h = not-true (is_above before name) (three (is_name name) (bytes_eq name (lowercase name)) (not (is_above before name)) h).2
 
 abbrev Found : Type 0
 Found = List TableRow × ℕ

@@ -1,12 +1,12 @@
 -- The elements of a value, part by part.
-use Rattle.std.proofs.Common.{◌≡◌, ℕ, zero, suc, ◌+◌, ◌<◌, ◌≤◌, Bool, true, false, cond, ltb, eqb, List, [], ◌∷◌, ◌++◌, length, take, drop, refl, sym, ap, ◌∙◌, arith}
-use Rattle.std.specs.Prelude.{not, ◌&&◌, ◌||◌, map, filter, Option, Some, None, IsTrue}
+use Rattle.std.proofs.Common.{◌≡◌, ℕ, suc, ◌+◌, ◌<◌, ◌≤◌, Bool, true, false, cond, ltb, eqb, List, [], ◌∷◌, length, take, drop, refl, sym, ap, ◌∙◌, arith}
+use Rattle.std.specs.Prelude.{not, ◌&&◌, ◌||◌, map, filter, Some, None}
 use Rattle.std.specs.List.{flat_map, list_all, position, position_or_len}
 use Rattle.std.proofs.lemmas.Bool.{ltb-true, ltb-false}
 use Rattle.std.proofs.lemmas.List.Concat.{flat_map-cons}
 use Rattle.std.proofs.lemmas.List.Folds.{list_all-append}
 use Rattle.alternate_vector.specs.declared.fields.Line.{Line}
-use Rattle.alternate_vector.specs.Lines.{field_of, fields_of}
+use Rattle.alternate_vector.specs.Lines.{fields_of}
 use Rattle.alternate_vector.specs.Vary.{IsCommaAt, comma_parts, elements_of, is_empty, onto_first, trimmed, values_of}
 
 abbrev pub is_comma : ℕ → Bool

@@ -1,6 +1,6 @@
 -- The lines of a name stand together.
-use Rattle.std.proofs.Common.{◌≡◌, ℕ, zero, suc, ◌+◌, ◌<◌, ◌≤◌, Bool, true, false, List, [], ◌∷◌, length, take, drop, get_or, refl, sym, ap, ◌∙◌, arith}
-use Rattle.std.specs.Prelude.{not, IsTrue, bytes_eq, cond}
+use Rattle.std.proofs.Common.{◌≡◌, ℕ, zero, suc, ◌<◌, ◌≤◌, true, false, List, [], ◌∷◌, length, take, drop, get_or, refl, sym, ap, ◌∙◌, arith}
+use Rattle.std.specs.Prelude.{bytes_eq}
 use Rattle.std.specs.List.Sorted.{IsPartitionedBy}
 use Rattle.std.specs.BTreeMap.Comparable.{le_lt_trans}
 use Rattle.std.specs.Ordering.{nat_cmp, is_le, is_lt, is_gt, is_eq}
@@ -9,7 +9,7 @@ use Rattle.std.specs.declared.cmp.Ordering.TheVariants.{Less, Equal, Greater}
 use Rattle.std.specs.Cmp.Lexicographic.{slice_cmp, nat_list_cmp_total}
 use Rattle.std.proofs.lemmas.Map.Text.{is_eq-slice_cmp}
 use Rattle.alternate_vector.specs.declared.fields.Line.{Line}
-use Rattle.alternate_vector.specs.Field.{Field, IsRising, is_above}
+use Rattle.alternate_vector.specs.Field.{Field, IsRising}
 use Rattle.alternate_vector.specs.Lines.{field_of, fields_of}
 use Rattle.alternate_vector.specs.Vary.{named}
 use Rattle.alternate_vector.proofs.Order.{chain, rising_at}

@@ -1,5 +1,5 @@
 -- The alternates of an object: which is chosen, and what a new one leaves of them.
-use Rattle.std.specs.Prelude.{◌≡◌, ℕ, ◌+◌, ◌*◌, ◌≤◌, nat_le, Bool, true, false, not, ◌&&◌, if◌then◌else◌, List, [], ◌∷◌, ◌++◌, length, map, filter, sum_by, Option, Some, None}
+use Rattle.std.specs.Prelude.{◌≡◌, ℕ, ◌+◌, ◌*◌, ◌^◌, ◌<◌, ◌≤◌, nat_le, Bool, true, false, not, ◌&&◌, if◌then◌else◌, List, [], ◌∷◌, ◌++◌, length, map, filter, sum_by, Option, Some, None}
 use Rattle.std.specs.List.{AllByRecursion}
 use Rattle.fragment_table.specs.Table.{TableRow, AreRows, total_length}
 use Rattle.alternate_vector.specs.declared.alternate.Alternate.{Alternate}
@@ -48,6 +48,8 @@ vector_size alternates = 4 + sum_by alternate_size alternates
 
 -- what may be kept
 pub record IsStored (a : Stored) : Type 0 where
+  pub put : a.put < 2 ^ 64
+  pub pin : a.pin < 2 ^ 64
   pub request : AreFields a.request
   pub response : AreFields a.response
   pub table : AreRows a.table

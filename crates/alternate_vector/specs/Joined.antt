@@ -1,5 +1,5 @@
 -- What is left of lines that are joined.
-use Rattle.std.specs.Prelude.{ℕ, Bool, true, false, List, [], ◌∷◌, ◌++◌}
+use Rattle.std.specs.Prelude.{ℕ, Bool, true, false, List, ◌∷◌, ◌++◌}
 use Rattle.std.specs.List.{flat_map}
 use Rattle.alternate_vector.specs.declared.fields.Line.{Line}
 use Rattle.alternate_vector.specs.Lines.{fields_of}

@@ -1,10 +1,10 @@
 -- The bytes that spell a vector; numbers have their low byte first.
-use Rattle.std.specs.Prelude.{List, ℕ, ◌++◌, length}
+use Rattle.std.specs.Prelude.{◌≡◌, ◌<◌, List, ℕ, ◌++◌, length}
 use Rattle.std.specs.List.{flat_map}
 use Rattle.std.specs.Int.{w16, w32, w64, to_le_bytes}
 use Rattle.fragment_table.specs.Table.{table_bytes}
 use Rattle.alternate_vector.specs.Field.{Field}
-use Rattle.alternate_vector.specs.Alternates.{Stored}
+use Rattle.alternate_vector.specs.Alternates.{Stored, AreStored}
 
 -- the lengths of the name and of the value, and both
 abbrev pub field_bytes : Field → List ℕ
@@ -22,3 +22,9 @@ alternate_bytes a =
 -- the number of alternates, and the alternates
 abbrev pub vector_bytes : List Stored → List ℕ
 vector_bytes alternates = to_le_bytes w32 (length alternates) ++ flat_map alternate_bytes alternates
+
+-- the bytes spell these alternates, of which there is one at least
+pub record IsSpelling (bytes : List ℕ) (alternates : List Stored) : Type 0 where
+  pub some : 0 < length alternates
+  pub stored : AreStored alternates
+  pub spelled : bytes ≡ vector_bytes alternates

@@ -14,6 +14,7 @@ pub use alternate::{Alternate, matches};
 pub use fault::{FieldFault, VectorFault};
 pub use fields::Fields;
 pub use matching::request_matches;
+pub use sizes::fields_size;
 pub use vector::Vector;
 
 #[cfg(test)]

@@ -29,7 +29,8 @@ pub(crate) fn alternate_size(alternate: &Alternate) -> usize
     24 + fields_size(&alternate.request) + fields_size(&alternate.response) + table
 }
 
-fn fields_size(fields: &Fields) -> usize
+/// How many bytes the spelling of some lines takes.
+pub fn fields_size(fields: &Fields) -> usize
     ensures size { result ≡ fields_size fields.now }
     ensures bound { result ≤ 2 ^ 20 + 2 ^ 17 }
 {

@@ -1,10 +1,10 @@
 // The alternates of an object, the newest last.
 
-ghost use Rattle.std.specs.Prelude.{◌≡◌, ◌<◌, ◌≤◌, ℕ, List, [], ◌∷◌, ◌++◌, length, slice_get, Some, IfOk, OnOk, OnErr, not, filter};
+ghost use Rattle.std.specs.Prelude.{◌≡◌, ◌<◌, ◌≤◌, ℕ, List, [], ◌∷◌, ◌++◌, length, slice_get, Some, Ok, IfOk, OnOk, OnErr, not, filter};
 ghost use Rattle.alternate_vector.specs.Reading.{Gives, read_vector};
-ghost use Rattle.alternate_vector.specs.Spelling.{vector_bytes};
+ghost use Rattle.alternate_vector.specs.Spelling.{IsSpelling, vector_bytes};
 ghost use Rattle.fragment_table.specs.Table.{AreRows, total_length};
-ghost use Rattle.alternate_vector.specs.Alternates.{AreStored, IsStored, all_stored, chosen, is_match, is_within, longest_within, merged, stored_of, vector_size, with_new};
+ghost use Rattle.alternate_vector.specs.Alternates.{AreStored, IsStored, Stored, all_stored, chosen, is_match, is_within, longest_within, merged, stored_of, vector_size, with_new};
 
 use crate::alternate::{Alternate, matches};
 use crate::fault::VectorFault;
@@ -83,7 +83,9 @@ impl Vector {
         requires fits { vector_size (stored_of new.now ∷ []) ≤ bytes }
         requires some { 1 ≤ most }
         requires few { most ≤ 16 }
-        ensures { IfOk result (λ vector. vector ≡ merged most bytes self.now (stored_of new.now)) }
+        ensures merged { IfOk result (λ vector. vector ≡ merged most bytes self.now (stored_of new.now)) }
+        // So the result can be encoded.
+        ensures some { IfOk result (λ vector. 0 < length vector) }
     {
         let all = with_new(self.alloc, &self.alternates, new)?;
         Ok(Vector {
@@ -97,6 +99,9 @@ impl Vector {
         requires { 0 < length self.now }
         ensures ok { OnOk result (into.new.items ≡ into.old.items ++ vector_bytes self.now) }
         ensures err { OnErr result (into.new.items ≡ into.old.items) }
+        ensures spelling { IsSpelling (vector_bytes self.now) self.now }
+        // What is written is read again.
+        ensures again { read_vector (vector_bytes self.now) ≡ Ok self.now }
     {
         let bytes = spelled(self.alloc, &self.alternates)?;
         into.extend_from_slice(&bytes)
@@ -104,7 +109,13 @@ impl Vector {
 
     /// Reads a vector, all of the bytes. An item is read whole before it is judged.
     pub fn decode(alloc: Global, bytes: &[u8]) -> Result<Vector, VectorFault>
+        // Which vector, or which fault.
         ensures exact { Gives (λ vector. vector) result (read_vector bytes.now) }
+        // What is read was spelled so.
+        ensures found { IfOk result (λ vector. IsSpelling bytes.now vector) }
+        // What is spelled so is read.
+        ensures only { (alternates : List Stored) → IsSpelling bytes.now alternates
+            → Gives (λ vector. vector) result (Ok alternates) }
     {
         Ok(Vector {
             alloc,
@@ -188,9 +199,12 @@ fn copy_alternate(alternate: &Alternate) -> Result<Alternate, AllocError>
     ensures copy { IfOk result (λ copy. stored_of copy ≡ stored_of alternate.now) }
     ensures stored { OnOk result (alternate.now.length ≡ total_length alternate.now.table.rows → IsStored (stored_of alternate.now)) }
 {
+    // The numbers are read first for what it tells of their widths.
+    let put = alternate.put;
+    let pin = alternate.pin;
     Ok(Alternate {
-        put: alternate.put,
-        pin: alternate.pin,
+        put,
+        pin,
         length: alternate.length,
         request: alternate.request.copy()?,
         response: alternate.response.copy()?,

@@ -1,4 +1,4 @@
-use Rattle.std.proofs.Common.{◌≡◌, sym, ◌∙◌}
+use Rattle.std.proofs.Common.{sym, ◌∙◌}
 use Rattle.alternate_vector.proofs.Order.{kept_made}
 use Rattle.alternate_vector.proofs.fields.read_line.Goals as goal
 

@@ -1,7 +1,7 @@
-use Rattle.std.proofs.Common.{◌≡◌, ◌+◌, ◌||◌, false, true, take, drop, sym, ap, ◌∙◌, arith}
+use Rattle.std.proofs.Common.{sym, ap, ◌∙◌}
 use Rattle.std.specs.List.{list_all}
 use Rattle.alternate_vector.specs.Lines.{fields_of}
-use Rattle.alternate_vector.specs.Vary.{agrees_on, elements_of, is_empty, trimmed}
+use Rattle.alternate_vector.specs.Vary.{agrees_on, elements_of}
 use Rattle.alternate_vector.proofs.Parts.{comma_some, comma_none, part_fails, part_passes, last_element}
 use Rattle.alternate_vector.proofs.matching.elements_agree.Goals as goal
 

@@ -1,5 +1,5 @@
-use Rattle.std.proofs.Common.{◌≡◌, ap, ◌∙◌}
-use Rattle.std.specs.Prelude.{codes, List}
+use Rattle.std.proofs.Common.{ap, ◌∙◌}
+use Rattle.std.specs.Prelude.{codes}
 use Rattle.std.specs.List.{list_all, flat_map}
 use Rattle.alternate_vector.specs.Vary.{agrees_on, elements_of, named, values_of}
 use Rattle.alternate_vector.proofs.Parts.{vary_lines}

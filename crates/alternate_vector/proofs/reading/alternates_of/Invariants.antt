@@ -1,4 +1,4 @@
-use Rattle.std.proofs.Common.{◌≡◌, ◌-◌, [], length}
+use Rattle.std.proofs.Common.{◌≡◌, ◌-◌, length}
 use Rattle.std.specs.List.{AllByRecursion}
 use Rattle.alternate_vector.specs.Alternates.{IsStored, all_stored}
 use Rattle.alternate_vector.specs.Reading.{alternates_at}

@@ -1,4 +1,4 @@
-use Rattle.std.proofs.Common.{◌≡◌, ◌+◌, ◌-◌, sym, ap, ◌∙◌, arith, length}
+use Rattle.std.proofs.Common.{◌-◌, ap, ◌∙◌, arith, length}
 use Rattle.alternate_vector.proofs.Loops.{last_at}
 use Rattle.alternate_vector.proofs.reading.last_name.Goals as goal
 

@@ -1,4 +1,4 @@
-use Rattle.std.proofs.Common.{◌≡◌, false, sym, ap, ◌∙◌}
+use Rattle.std.proofs.Common.{sym, ap, ◌∙◌}
 use Rattle.alternate_vector.specs.Field.{is_above}
 use Rattle.alternate_vector.proofs.Loops.{follows_order}
 use Rattle.alternate_vector.proofs.reading.line_of.Goals as goal

@@ -1,4 +1,3 @@
-use Rattle.std.proofs.Common.{◌≡◌, ◌≤◌}
 use Rattle.alternate_vector.proofs.Loops.{table_within}
 use Rattle.alternate_vector.proofs.reading.table_of.Goals as goal
 

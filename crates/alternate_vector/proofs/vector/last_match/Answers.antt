@@ -1,4 +1,4 @@
-use Rattle.std.proofs.Common.{◌≡◌, ◌+◌, Some, None, Option, ℕ, true, false, cond, take, sym, ap, subst, ◌∙◌}
+use Rattle.std.proofs.Common.{Some, cond, take, sym, ap, ◌∙◌}
 use Rattle.alternate_vector.specs.Alternates.{all_stored, chosen, is_match, stored_of}
 use Rattle.alternate_vector.proofs.Chosen.{chosen_more}
 use Rattle.alternate_vector.proofs.vector.last_match.Goals as goal

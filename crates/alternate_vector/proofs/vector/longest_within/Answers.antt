@@ -1,5 +1,5 @@
-use Rattle.std.proofs.Common.{◌≡◌, true, sym, ap, ◌∙◌}
-use Rattle.alternate_vector.specs.Alternates.{all_stored, is_within}
+use Rattle.std.proofs.Common.{sym, ◌∙◌}
+use Rattle.alternate_vector.specs.Alternates.{all_stored}
 use Rattle.alternate_vector.proofs.Chosen.{longest_is}
 use Rattle.alternate_vector.proofs.vector.longest_within.Goals as goal
 

@@ -1,4 +1,4 @@
-use Rattle.std.proofs.Common.{◌≡◌, ◌++◌, List, ℕ}
+use Rattle.std.proofs.Common.{◌++◌}
 use Rattle.std.specs.Int.{w64, to_le_bytes}
 use Rattle.fragment_table.specs.Table.{table_bytes}
 use Rattle.alternate_vector.specs.Spelling.{fields_bytes}

@@ -1,4 +1,4 @@
-use Rattle.std.proofs.Common.{◌≡◌, sym, subst}
+use Rattle.std.proofs.Common.{sym, subst}
 use Rattle.alternate_vector.specs.Field.{IsKept}
 use Rattle.alternate_vector.specs.Lines.{field_of}
 use Rattle.alternate_vector.proofs.Order.{kept_at}

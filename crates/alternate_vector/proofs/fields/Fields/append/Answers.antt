@@ -1,7 +1,7 @@
-use Rattle.std.proofs.Common.{◌≡◌, ◌<◌, ◌≤◌, ap, sym, subst, ◌∙◌, arith, length}
+use Rattle.std.proofs.Common.{◌≡◌, ◌<◌, ap, sym, subst, ◌∙◌, arith, length}
 use Rattle.std.proofs.lemmas.List.{length-map}
-use Rattle.alternate_vector.specs.Field.{Field, AreFields, made_field, with_field}
-use Rattle.alternate_vector.specs.Lines.{field_of, fields_of}
+use Rattle.alternate_vector.specs.Field.{AreFields, made_field, with_field}
+use Rattle.alternate_vector.specs.Lines.{fields_of}
 use Rattle.alternate_vector.proofs.Order.{placed, fields_with, some_line}
 use Rattle.alternate_vector.proofs.fields.Fields.append.Goals as goal
 

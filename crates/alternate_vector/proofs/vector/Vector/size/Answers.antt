@@ -1,4 +1,4 @@
-use Rattle.std.proofs.Common.{◌≡◌, sym, ap, ◌∙◌, length}
+use Rattle.std.proofs.Common.{sym, ap, ◌∙◌, length}
 use Rattle.alternate_vector.specs.Alternates.{all_stored, vector_size}
 use Rattle.alternate_vector.specs.Spelling.{vector_bytes}
 use Rattle.alternate_vector.proofs.Lengths.{length-vector}
