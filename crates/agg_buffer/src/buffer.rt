@@ -1,11 +1,15 @@
 // The buffer and its places.
 ghost use Rattle.std.specs.Prelude.{◌≡◌, ◌<◌, ◌≤◌, ◌+◌, ◌*◌, ◌^◌, length, IfOk};
-ghost use Rattle.agg_buffer.specs.Buffer.{Buffer, empty_buffer, filled_of, next_place_of, bytes_at, IsFilled, IsWhole, Adds, Refuses, IfPlaced, IfNoRoom, room_of};
+ghost use Rattle.tape_base.specs.Blocks.{blocks_of};
+ghost use Rattle.tape_base.specs.Digest.{digest_of};
+ghost use Rattle.doc_header.specs.Document.{IsDocument, document_bytes};
+ghost use Rattle.agg_buffer.specs.Buffer.{Buffer, empty_buffer, filled_of, next_place_of, bytes_at, IsFilled, IsWhole, Adds, Refuses, IfPlaced, IfNoRoom, room_of, blocks_in};
 
 use crate::answers::PutAnswer;
+use doc_header::{Doc, write_doc};
 use std::alloc::{AllocError, Global};
 use std::marker::Model;
-use tape_base::Geometry;
+use tape_base::{Digest, Geometry, blocks_of};
 
 const BLOCK: usize = 512;
 
@@ -50,6 +54,13 @@ impl AggBuffer {
         self.cursor = cursor;
     }
 
+    /// The place at which the buffer begins.
+    pub fn cursor(&self) -> u64
+        ensures { result ≡ self.now.cursor }
+    {
+        self.cursor
+    }
+
     /// The place of the next piece.
     pub fn next_place(&self) -> u64
         ensures place { result ≡ next_place_of self.now }
@@ -66,7 +77,7 @@ impl AggBuffer {
         ensures no_room { IfNoRoom result (λ left. left ≡ room_of self.old) }
         ensures refused { IfNoRoom result (λ _. Refuses self.old self.new piece.now) }
     {
-        let left = self.reserved - self.filled();
+        let left = self.room();
         if piece.len() / BLOCK > left as usize {
             return PutAnswer::NoRoom { left };
         }
@@ -74,6 +85,31 @@ impl AggBuffer {
         let put: Result<_, _> = self.bytes.extend_from_slice(piece);
         put.unwrap();
         PutAnswer::Placed(place)
+    }
+
+    /// Puts the document of a piece behind the others, and gives the digest of its payload. It is
+    /// spelled in its place, so the payload is copied once.
+    pub fn put_document(&mut self, doc: &Doc, payload: &[u8]) -> Digest
+        requires size { length payload.now ≤ 2 ^ 31 }
+        requires room { blocks_of (length payload.now) ≤ room_of self.old }
+        ensures added { Adds self.old self.new (document_bytes doc.now payload.now) }
+        ensures size { blocks_in (document_bytes doc.now payload.now) ≡ blocks_of (length payload.now) }
+        ensures document { let d = doc.now in
+            IsDocument (document_bytes d payload.now) d.generation d.place d payload.now }
+        ensures digest { result ≡ digest_of payload.now }
+    {
+        let start = self.bytes.len();
+        let end = start + blocks_of(payload.len() as u32) as usize * BLOCK;
+        let grown: Result<_, _> = self.bytes.resize(end, 0);
+        grown.unwrap();
+        write_doc(doc, payload, &mut self.bytes[start..])
+    }
+
+    /// How many blocks are left.
+    pub fn room(&self) -> u32
+        ensures { result ≡ room_of self.now }
+    {
+        self.reserved - self.filled()
     }
 
     /// The bytes of filled blocks.
@@ -90,11 +126,13 @@ impl AggBuffer {
     pub fn bytes(&self) -> &[u8]
         ensures bytes { result.now ≡ self.now.bytes }
         ensures whole { length result.now ≡ 512 * filled_of self.now }
+        ensures within { filled_of self.now ≤ self.now.reserved }
     {
         &self.bytes
     }
 
-    fn filled(&self) -> u32
+    /// How many blocks are filled.
+    pub fn filled(&self) -> u32
         ensures filled { result ≡ filled_of self.now }
         ensures within { result ≤ self.now.reserved }
     {

@@ -1,6 +1,7 @@
 use crate::{AggBuffer, PutAnswer};
+use doc_header::Doc;
 use std::test::Fail;
-use tape_base::Geometry;
+use tape_base::{Digest, Geometry, Key, PieceId};
 
 // A buffer of 8 blocks.
 fn small() -> Result<Geometry, &'static str> {
@@ -59,5 +60,35 @@ fn the_next_buffer_is_empty(rt: HostRuntime) -> Result<(), Fail> {
     assert_eq!(rt; buffer.next_place(), 128);
     assert_eq!(rt; buffer.bytes().len(), 0);
     assert_eq!(rt; buffer.put(&[0x62; 4096]), PutAnswer::Placed(128));
+    Ok(())
+}
+
+#[test]
+fn a_document_is_spelled_behind_the_others(rt: HostRuntime) -> Result<(), Fail> {
+    let mut buffer = AggBuffer::new(rt.alloc(), &small()?, 64)?;
+    assert_eq!(rt; buffer.put(&[0x61; 512]), PutAnswer::Placed(64));
+    if buffer.room() < 1 {
+        return Err("no room".into());
+    }
+    let doc = Doc {
+        id: PieceId {
+            first: Key::new([1; 16]),
+            put: 1,
+            index: 1,
+        },
+        place: 65,
+        generation: 7,
+        pin: 0,
+        start: 0,
+    };
+    assert_eq!(rt; buffer.put_document(&doc, b"abcd"), Digest::of(b"abcd"));
+    assert_eq!(rt;
+        (buffer.cursor(), buffer.filled(), buffer.room()),
+        (64, 2, 6)
+    );
+    let bytes = buffer.bytes();
+    assert_eq!(rt; bytes.len(), 1024);
+    assert_eq!(rt; &bytes[512..520], b"TSCDOCM1".as_slice());
+    assert_eq!(rt; &bytes[640..645], b"abcd\0".as_slice());
     Ok(())
 }

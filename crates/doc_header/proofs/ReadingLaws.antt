@@ -11,12 +11,13 @@ use Rattle.sha2.specs.Sha256.{sha256, digest_bytes}
 use Rattle.tape_base.specs.Key.{key_bytes, key_of_bytes}
 use Rattle.tape_base.specs.Blocks.{blocks_of}
 use Rattle.tape_base.specs.declared.digests.Digest.{Digest}
+use Rattle.tape_base.specs.Digest.{digest_of}
 use Rattle.tape_base.proofs.NameLaws.{length-key_bytes}
 use Rattle.doc_header.specs.declared.documents.Doc.{Doc}
 use Rattle.doc_header.specs.declared.documents.DocRef.{DocRef}
 use Rattle.doc_header.specs.declared.documents.DocFault.{DocFault}
-use Rattle.doc_header.specs.Document.{name_bytes, field_bytes, header_bytes, document_bytes, check_of, Fits, IsDocument}
-use Rattle.doc_header.specs.Reading.{field_at, number_at, length_of, extent_of, doc_of, payload_of, kept_of, has_blocks, header_fault, address_fault, payload_fault, first_fault, Answers}
+use Rattle.doc_header.specs.Document.{name_bytes, field_bytes, header_bytes, document_bytes, check_of, digest_of_document, Fits, IsDocument}
+use Rattle.doc_header.specs.Reading.{field_at, number_at, length_of, extent_of, doc_of, payload_of, kept_of, has_blocks, header_fault, address_fault, payload_fault, first_fault, document_digest, Answers}
 use Rattle.doc_header.proofs.Stands.{Stands, joined, AreWide, AreBytes, take-field, length-joined, joined_as_they_stand, stand_as_joined, field_behind, length-field, spelled_32, spelled_64, below_32, below_64, number_32_again, number_64_again, field_in_front, number_32_in_front, number_64_in_front}
 
 length-sha256 : (m : List ℕ) → length (sha256 m) ≡ 32
@@ -230,6 +231,7 @@ pub record IsRead (bytes : List ℕ) (generation place : ℕ) (doc : Doc) (paylo
   pub faultless : first_fault bytes generation place ≡ None
   pub doc_read : doc_of bytes ≡ doc
   pub payload_read : payload_of bytes ≡ payload
+  pub sized : length_of bytes ≡ length payload
 
 pub again : (bytes : List ℕ) (generation place : ℕ) (doc : Doc) (payload : List ℕ) → IsDocument bytes generation place doc payload → IsRead bytes generation place doc payload
 again bytes generation place doc payload d =
@@ -251,7 +253,14 @@ again bytes generation place doc payload d =
       faultless = rw (long, passes bytes p, addressed_so, kept) refl;
       doc_read = doc_is;
       payload_read = payload_is;
+      sized = size;
     }
+
+-- a document is recorded by the digest of its header and its payload
+pub recorded : (bytes : List ℕ) (generation place : ℕ) (doc : Doc) (payload : List ℕ) → IsDocument bytes generation place doc payload
+    → document_digest bytes ≡ digest_of_document doc payload
+recorded bytes generation place doc payload d =
+    ap digest_of (ap (λ n. take (n + 128) bytes) (again bytes generation place doc payload d).sized ∙ d.is_spelled)
 
 pub is_again : (bytes : List ℕ) (generation place : ℕ) (r : Result DocRef DocFault) → Answers r (first_fault bytes generation place) (doc_of bytes) (payload_of bytes)
     → (doc : Doc) (payload : List ℕ) → IsDocument bytes generation place doc payload → Answers r None doc payload

@@ -2,6 +2,8 @@
 use Rattle.std.specs.Prelude.{ℕ, ◌≡◌, ◌≤◌, ◌<◌, ◌^◌, ◌+◌, ◌-◌, ◌*◌, List, ◌++◌, length, replicate, take, codes}
 use Rattle.std.specs.Int.{to_le_bytes, w32, w64}
 use Rattle.sha2.specs.Sha256.{sha256}
+use Rattle.tape_base.specs.declared.digests.Digest.{Digest}
+use Rattle.tape_base.specs.Digest.{digest_of}
 use Rattle.tape_base.specs.Key.{key_bytes, key_of_bytes}
 use Rattle.tape_base.specs.Blocks.{blocks_of}
 use Rattle.doc_header.specs.declared.documents.Doc.{Doc}
@@ -33,6 +35,10 @@ padding_of length = 512 * blocks_of length - (128 + length)
 -- the one document of these fields and this payload
 abbrev pub document_bytes : Doc → List ℕ → List ℕ
 document_bytes doc payload = header_bytes doc payload ++ payload ++ replicate (padding_of (length payload)) 0
+
+-- the digest by which a document is recorded: of its header and its payload, without the zeros
+abbrev pub digest_of_document : Doc → List ℕ → Digest
+digest_of_document doc payload = digest_of (header_bytes doc payload ++ payload)
 
 -- the numbers of a document are as wide as the fields that have them, and its key is a key
 pub record HasName (doc : Doc) : Type 0 where

@@ -1,5 +1,7 @@
 // The digest by which a document is recorded.
-ghost use Rattle.std.specs.Prelude.{◌≡◌, ◌+◌, length, take};
+ghost use Rattle.std.specs.Prelude.{◌≡◌, ◌+◌, ℕ, List, length, take};
+ghost use Rattle.doc_header.specs.declared.documents.Doc.{Doc};
+ghost use Rattle.doc_header.specs.Document.{IsDocument, digest_of_document};
 ghost use Rattle.doc_header.specs.Reading.{field_at, extent_of, document_digest};
 
 use crate::fields::{field, number_32};
@@ -22,10 +24,18 @@ fn extent(bytes: &[u8]) -> &[u8]
     }
 }
 
+fn digest_in(bytes: &[u8]) -> Digest
+    ensures digest { result ≡ document_digest bytes.now }
+{
+    Digest::of(extent(bytes))
+}
+
 /// The SHA-256 of the header and the payload that the bytes tell, or of all bytes where they are
 /// fewer. It does not ask whether the bytes are a document.
 pub fn document_digest(bytes: &[u8]) -> Digest
-    ensures { result ≡ document_digest bytes.now }
+    ensures digest { result ≡ document_digest bytes.now }
+    ensures document { (generation place : ℕ) (doc : Doc) (payload : List ℕ)
+        → IsDocument bytes.now generation place doc payload → result ≡ digest_of_document doc payload }
 {
-    Digest::of(extent(bytes))
+    digest_in(bytes)
 }

@@ -2,11 +2,13 @@
 ghost use Rattle.std.specs.Prelude.{◌≡◌, ◌≤◌, ◌<◌, ◌^◌, ◌+◌, ◌*◌, ◌++◌, length, take, replicate};
 ghost use Rattle.std.specs.Int.{to_le_bytes, w64};
 ghost use Rattle.tape_base.specs.Blocks.{blocks_of};
+ghost use Rattle.tape_base.specs.Digest.{digest_of};
 ghost use Rattle.doc_header.specs.Document.{name_bytes, header_bytes, document_bytes, check_of, HasName, HasPlace, Fits, IsDocument};
 
 use crate::documents::Doc;
 use crate::layout::{BLOCK, MAGIC, VERSION};
-use sha2::{Digest, Sha256};
+use sha2::{Digest as _, Sha256};
+use tape_base::Digest;
 
 // Puts a field behind the first `at` bytes, and tells where it ends.
 fn put(into: &mut [u8], at: usize, field: &[u8]) -> usize
@@ -74,8 +76,9 @@ fn put_check(into: &mut [u8], at: usize) -> usize
 
 // Bytes 0 to 127.
 #[tactic(auto, unfolding(crate::specs::Document::header_bytes))]
-fn put_header(into: &mut [u8], doc: &Doc, payload: &[u8], blocks: u32) -> usize
+fn put_header(into: &mut [u8], doc: &Doc, payload: &[u8], digest: &Digest, blocks: u32) -> usize
     requires room { 128 ≤ length into.old }
+    requires digest { digest.now ≡ digest_of payload.now }
     requires size { length payload.now < 2 ^ 32 }
     requires blocks { blocks ≡ blocks_of (length payload.now) }
     ensures end { result ≡ 128 }
@@ -85,31 +88,36 @@ fn put_header(into: &mut [u8], doc: &Doc, payload: &[u8], blocks: u32) -> usize
 {
     let at = put_name(into, doc, payload.len() as u32, blocks);
     let at = put_place(into, at, doc);
-    let at = put(into, at, &Sha256::digest(payload));
+    let at = put(into, at, &digest.0);
     put_check(into, at)
 }
 
 // The header, the payload, and zeros up to the end.
-fn put_all(into: &mut [u8], doc: &Doc, payload: &[u8])
+fn put_all(into: &mut [u8], doc: &Doc, payload: &[u8]) -> Digest
     requires size { length payload.now < 2 ^ 32 }
     requires room { length into.old ≡ 512 * blocks_of (length payload.now) }
     ensures bytes { into.new ≡ document_bytes doc.now payload.now }
     ensures fits { Fits doc.now payload.now }
+    ensures digest { result ≡ digest_of payload.now }
     ensures len { length into.new ≡ length into.old }
 {
     let blocks = (into.len() / BLOCK) as u32;
-    let at = put_header(into, doc, payload, blocks);
+    let digest = Digest::of(payload);
+    let at = put_header(into, doc, payload, &digest, blocks);
     let at = put(into, at, payload);
     clear(&mut into[at..]);
+    digest
 }
 
-/// Writes the document of these fields and this payload over all of the given bytes.
-pub fn write_doc(doc: &Doc, payload: &[u8], into: &mut [u8])
+/// Writes the document of these fields and this payload over all of the given bytes, and gives the
+/// digest of the payload.
+pub fn write_doc(doc: &Doc, payload: &[u8], into: &mut [u8]) -> Digest
     requires size { length payload.now < 2 ^ 32 }
     requires room { length into.old ≡ 512 * blocks_of (length payload.now) }
     ensures bytes { into.new ≡ document_bytes doc.now payload.now }
+    ensures digest { result ≡ digest_of payload.now }
     // What is written is read at its place.
     ensures document { IsDocument into.new doc.now.generation doc.now.place doc.now payload.now }
 {
-    put_all(into, doc, payload);
+    put_all(into, doc, payload)
 }

@@ -1,5 +1,5 @@
 // Where the write cursor stands, and what a flush plans.
-ghost use Rattle.std.specs.Prelude.{◌≡◌, ◌≤◌, ◌↔◌, IsTrue};
+ghost use Rattle.std.specs.Prelude.{◌≡◌, ◌+◌, ◌≤◌, ◌↔◌, IsTrue};
 ghost use Rattle.tape_base.specs.Place.{floor_of, next_cursor_of};
 ghost use Rattle.write_cursor.specs.Plan.{IsPlace, IsInWindow, FitsInLap, is_wrapped, is_sync_due};
 
@@ -35,6 +35,7 @@ impl Cursor {
             ≡ is_sync_due g.now self.now.cursor self.now.synced filled }
         ensures floor { result.floor ≡ floor_of g.now result.cursor }
         ensures stays { FitsInLap g.now self.now.cursor → FitsInLap g.now result.cursor }
+        ensures behind { FitsInLap g.now self.now.cursor → self.now.cursor + filled ≤ result.cursor }
     {
         let cursor = next_cursor(g, self.cursor, filled);
         let wrapped = cursor == lap_end(g, self.cursor);
