@@ -1,9 +1,9 @@
 -- An entry that is written through, as the definitions change it.
-use Rattle.std.proofs.Common.{◌≡◌, ℕ, Bool, true, false, cond, List, [], ◌∷◌, ◌++◌, Option, Some, None, refl, sym, ap, subst, ◌∙◌, arith}
+use Rattle.std.proofs.Common.{◌≡◌, ℕ, true, false, cond, List, [], ◌∷◌, ◌++◌, Some, None, refl, sym, ap, ◌∙◌, arith}
 use Rattle.std.specs.Map.{lookup, set_value}
 use Rattle.fragment_table.specs.Table.{TableRow}
 use Rattle.open_directory.specs.declared.kept.KeptPut.{KeptPut}
-use Rattle.open_directory.specs.Directory.{changed, is_number, kept_put, room_kept, room_of, with_cut, with_cuts, with_room}
+use Rattle.open_directory.specs.Directory.{changed, is_number, room_kept, room_of, with_cut, with_cuts, with_room}
 
 some_is : {X : Type 0} (a b : X) → Some a ≡ Some b → a ≡ b
 some_is a b h = grind arith

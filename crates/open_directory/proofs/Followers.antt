@@ -1,15 +1,15 @@
 -- The readers of a put, counted as readers come and go.
-use Rattle.std.proofs.Common.{◌≡◌, ℕ, ◌+◌, ◌-◌, ◌<◌, ◌≤◌, Bool, true, false, cond, List, [], ◌∷◌, length, Option, Some, None, refl, sym, ap, subst, ◌∙◌, arith}
+use Rattle.std.proofs.Common.{◌≡◌, ℕ, ◌+◌, ◌≤◌, true, false, cond, List, [], ◌∷◌, length, Option, Some, None, refl, sym, ap, subst, ◌∙◌, arith}
 use Rattle.std.specs.declared.cmp.Ordering.{Ordering}
 use Rattle.std.specs.declared.cmp.Ordering.TheVariants.{Less, Equal, Greater}
 use Rattle.std.specs.Ordering.{nat_cmp, match_ordering, is_eq}
 use Rattle.std.specs.BTreeMap.{insert_entry}
-use Rattle.std.specs.Prelude.{◌&&◌, ◌==◌, not}
+use Rattle.std.specs.Prelude.{◌&&◌}
 use Rattle.std.specs.Map.{lookup, remove_entry}
 use Rattle.std.proofs.lemmas.Map.Lookups.{exact_unsigned}
 use Rattle.open_directory.specs.declared.kept.KeptPut.{KeptPut}
 use Rattle.open_directory.specs.declared.kept.Reader.{Reader}
-use Rattle.open_directory.specs.Directory.{changed, followers_kept, followers_of, is_done_put, is_follower, is_number, is_writing, kept_put}
+use Rattle.open_directory.specs.Directory.{changed, followers_kept, followers_of, is_done_put, is_follower, is_number, kept_put}
 
 abbrev one : ℕ → Reader → ℕ
 one put reader = cond (is_follower put reader) 1 0
@@ -54,7 +54,7 @@ followers_few put (e ∷ es) =
     let rest = followers_few put es in
     elim (is_follower put e.1) as (λ b. cond b 1 0 + followers_of put es ≤ length (e ∷ es)) [ true ↦ omega (arith, rest) | false ↦ omega (arith, rest) ]
 
-same_number : (a b : ℕ) → is_number a b ≡ true → a ≡ b
+pub same_number : (a b : ℕ) → is_number a b ≡ true → a ≡ b
 same_number a b h =
     exact_unsigned a b (elim (nat_cmp a b) as (λ (o : Ordering). is_eq o ≡ true → o ≡ Equal) [
       | Less ↦ λ e. absurd (cc)
@@ -72,7 +72,7 @@ followers_changed f keeps q n (e ∷ es) =
       | false ↦ elim (is_number q e.0) as (λ b. followers_kept (cond b (Some e.1) (kept_put q (changed f n es))) ≡ followers_kept (cond b (Some e.1) (kept_put q es))) [ true ↦ refl | false ↦ followers_changed f keeps q n es ]
     ]
 
-at_number : (n q : ℕ) (es : List (ℕ × KeptPut)) (found : Option KeptPut) → kept_put n es ≡ found → is_number n q ≡ true → kept_put q es ≡ found
+pub at_number : (n q : ℕ) (es : List (ℕ × KeptPut)) (found : Option KeptPut) → kept_put n es ≡ found → is_number n q ≡ true → kept_put q es ≡ found
 at_number n q es found is t = let P : ℕ → Type 0 = λ k. kept_put k es ≡ found in subst P (same_number n q t) is
 
 -- a done put has no followers, so without it the counts are the same
@@ -114,7 +114,7 @@ is_follower_so put reader h = ap (λ b. b && is_number reader.put put) h
 pub is_no_follower : (put : ℕ) (reader : Reader) → reader.follows ≡ false → is_follower put reader ≡ false
 is_no_follower put reader h = ap (λ b. b && is_number reader.put put) h
 
-is_number_self : (n : ℕ) → is_number n n ≡ true
+pub is_number_self : (n : ℕ) → is_number n n ≡ true
 is_number_self n = grind arith
 
 pub is_follower_self : (reader : Reader) → reader.follows ≡ true → is_follower reader.put reader ≡ true

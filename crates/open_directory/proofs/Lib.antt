@@ -1,2 +1,5 @@
 mod Entries
 mod Followers
+mod Indexed
+mod LeastNext
+mod Standing

@@ -1,12 +1,12 @@
 -- What a contract sees of an `OpenDirectory`: who writes, what was cut, and who reads.
-use Rattle.std.specs.Prelude.{◌≡◌, ℕ, ◌+◌, ◌-◌, ◌<◌, ◌≤◌, nat_le, min, Bool, true, false, not, ◌&&◌, ◌||◌, ◌==◌, if◌then◌else◌, List, [], ◌∷◌, ◌++◌, length, filter, Option, Some, None, option_map, slice_get, Result, Ok, Err, ⊤}
+use Rattle.std.specs.Prelude.{◌≡◌, ℕ, ◌+◌, ◌-◌, ◌≤◌, min, Bool, true, false, not, ◌&&◌, ◌==◌, if◌then◌else◌, List, [], ◌∷◌, ◌++◌, length, filter, Option, Some, None, option_map, slice_get}
 use Rattle.std.specs.List.{fold}
 use Rattle.std.specs.Ordering.{nat_cmp}
 use Rattle.std.specs.BTreeMap.{is_at, insert_entry}
 use Rattle.std.specs.Map.{lookup, remove_entry}
 use Rattle.alternate_vector.specs.Field.{Field}
 use Rattle.alternate_vector.specs.Vary.{request_matches}
-use Rattle.fragment_table.specs.Table.{Table, TableRow, made_row, total_length}
+use Rattle.fragment_table.specs.Table.{TableRow, total_length}
 use Rattle.tape_base.specs.declared.keys.Key.{Key}
 use Rattle.tape_base.specs.declared.digests.Digest.{Digest}
 use Rattle.tape_base.specs.Key.{same_key}
@@ -48,6 +48,19 @@ state_of kept = state_at kept.phase (length kept.cuts.rows) (total_length kept.c
 
 abbrev pub put_state : ℕ → List (ℕ × KeptPut) → Option PutState
 put_state put puts = option_map state_of (kept_put put puts)
+
+abbrev pub is_open_state : Option PutState → Bool
+is_open_state None = false
+is_open_state (Some (Open cut)) = true
+is_open_state (Some (Committed cut length)) = false
+is_open_state (Some (Aborted cut)) = false
+
+-- the put is kept, and ended
+abbrev pub is_ended_state : Option PutState → Bool
+is_ended_state None = false
+is_ended_state (Some (Open cut)) = false
+is_ended_state (Some (Committed cut length)) = true
+is_ended_state (Some (Aborted cut)) = true
 
 abbrev pub is_writing : Phase → Bool
 is_writing Writing = true
@@ -120,6 +133,10 @@ followers_kept (Some kept) = kept.followers
 abbrev pub KeepsFollowers : List (ℕ × KeptPut) → List (ℕ × KeptPut) → Type 0
 KeepsFollowers before after = (put : ℕ) → followers_kept (kept_put put after) ≡ followers_kept (kept_put put before)
 
+-- each put is open, and is done, as it was
+abbrev pub KeepsStanding : List (ℕ × KeptPut) → List (ℕ × KeptPut) → Type 0
+KeepsStanding before after = (put : ℕ) → (is_open put after ≡ is_open put before) × (is_done_put (kept_put put after) ≡ is_done_put (kept_put put before))
+
 -- one put has one follower more, and no other has more or fewer
 abbrev pub AddsFollower : ℕ → List (ℕ × KeptPut) → List (ℕ × KeptPut) → Type 0
 AddsFollower to before after = (put : ℕ) → followers_kept (kept_put put after) ≡ (if is_number to put then 1 else 0) + followers_kept (kept_put put before)
@@ -136,6 +153,13 @@ one_fewer put puts = changed (λ kept. with_followers (kept.followers - 1) kept)
 -- a put that ended and that no reader follows is forgotten
 abbrev pub without_done : ℕ → List (ℕ × KeptPut) → List (ℕ × KeptPut)
 without_done put puts = if is_done_put (kept_put put puts) then remove_entry (is_number put) puts else puts
+
+abbrev pub unless_done : Option KeptPut → Option KeptPut
+unless_done kept = if is_done_put kept then None else kept
+
+-- one put is forgotten where it is done, and no other
+abbrev pub Forgets : ℕ → List (ℕ × KeptPut) → List (ℕ × KeptPut) → Type 0
+Forgets put before after = (q : ℕ) → kept_put q after ≡ (if is_number put q then unless_done (kept_put q before) else kept_put q before)
 
 abbrev pub with_phase : Phase → KeptPut → KeptPut
 with_phase phase kept = record kept { phase = phase }
@@ -168,10 +192,17 @@ abbrev pub followers_of : ℕ → List (ℕ × Reader) → ℕ
 followers_of put [] = 0
 followers_of put (e ∷ es) = (if is_follower put e.1 then 1 else 0) + followers_of put es
 
--- what is kept agrees: at most 64 writers, and each put counts its followers
+-- how many open writers a put has
+abbrev pub writers_of : ℕ → List Writer → ℕ
+writers_of put [] = 0
+writers_of put (w ∷ ws) = (if w.put == put then 1 else 0) + writers_of put ws
+
+-- what is kept agrees: at most 64 writers, one of each put that is open and none of another; each put counts its followers, and one that ended has some
 pub record IsHeld (held : Held) : Type 0 where
   pub few : length held.writers ≤ 64
+  pub writing : (put : ℕ) → writers_of put held.writers ≡ (if is_open put held.puts then 1 else 0)
   pub followers : (put : ℕ) → followers_kept (kept_put put held.puts) ≡ followers_of put held.readers
+  pub followed : (put : ℕ) → is_done_put (kept_put put held.puts) ≡ false
 
 -- a reader of a put, which follows it where it is open
 abbrev pub new_reader : ℕ → ℕ → List (ℕ × KeptPut) → Reader

@@ -1,4 +1,5 @@
 pub mod Directory
+pub mod Nexts
 pub mod Refusal
 pub use Rattle.alternate_vector.specs.Field
 pub use Rattle.alternate_vector.specs.Vary

@@ -1,12 +1,13 @@
 // The open directory of a stripe.
 
-ghost use Rattle.std.specs.Prelude.{◌≡◌, ◌+◌, ◌<◌, ◌≤◌, length, [], None, OnOk, OnErr, IfOk, false, is_some, option_map};
+ghost use Rattle.std.specs.Prelude.{◌≡◌, ◌+◌, ◌<◌, ◌≤◌, length, [], None, OnOk, OnErr, IfOk, IfSome, false, if◌then◌else◌, is_some, option_map, true};
 ghost use Rattle.fragment_table.specs.Table.{CanGrow, made_row};
 ghost use Rattle.std.specs.Map.{lookup, values_of};
 ghost use Rattle.open_directory.specs.declared.kept.Writer.{Writer};
-ghost use Rattle.open_directory.specs.Directory.{changed, count_of, cuts_of, ended, followed, is_number, least_next, min_with, moved, opened, reader_at, put_state, room_of, row_of, with_cut, with_reader, with_room, without_reader, writers_but};
+ghost use Rattle.open_directory.specs.Directory.{IsHeld, changed, count_of, cuts_of, ended, followed, followers_of, is_ended_state, is_number, is_open, is_open_state, is_writing, least_next, moved, opened, reader_at, put_state, room_of, row_of, with_cut, with_reader, with_room, without_reader, writers_but, writers_of};
 ghost use Rattle.open_directory.specs.Refusal.{IsMemory, Refuses, RefusesOnly, opening_refusal, writing_refusal};
 
+use crate::index::{self, Index};
 use crate::kept::{KeptPut, Phase, PutState, Reader, Writer};
 use crate::puts::{self, Puts};
 use crate::refusal::OpenRefusal;
@@ -26,6 +27,7 @@ pub struct OpenDirectory {
     writers: Vec<Writer>,
     puts: Puts,
     readers: BTreeMap<u64, Reader>,
+    index: Index,
 }
 
 impl Model for OpenDirectory {
@@ -35,7 +37,9 @@ impl Model for OpenDirectory {
 
     ghost view = { λ d. record { writers = d.writers.items; puts = d.puts.entries; readers = d.readers.entries } };
 
-    ghost invariant = { λ d. IsHeld (record { writers = d.writers.items; puts = d.puts.entries; readers = d.readers.entries }) };
+    ghost use Rattle.open_directory.specs.Nexts.{IsKept};
+
+    ghost invariant = { λ d. IsKept (record { writers = d.writers.items; puts = d.puts.entries; readers = d.readers.entries }) d.index.entries };
 }
 
 impl OpenDirectory {
@@ -50,6 +54,7 @@ impl OpenDirectory {
             writers: Vec::new(alloc),
             puts: BTreeMap::new(alloc),
             readers: BTreeMap::new(alloc),
+            index: BTreeMap::new(alloc),
         }
     }
 
@@ -116,15 +121,10 @@ impl OpenDirectory {
 
     /// The put of the last open writer of a key whose request and response match a request.
     pub fn follow(&self, key: Key, request: &Fields) -> Option<u64>
-        ensures { result ≡ followed key request.now self.now.writers }
+        ensures last { result ≡ followed key request.now self.now.writers }
+        ensures open { IfSome result (λ put. is_open put self.now.puts ≡ true) }
     {
-        self.writers.iter().fold(None, |last, writer| {
-            if writer.is_match(key, request) {
-                Some(writer.put)
-            } else {
-                last
-            }
-        })
+        last_match(&self.writers, key, request)
     }
 
     /// Commits a put: what was cut is all of it.
@@ -153,7 +153,11 @@ impl OpenDirectory {
     {
         let follows = puts::is_open(&self.puts, put);
         let _readers = self.readers.len();
-        self.readers.insert(reader, Reader { put, next, follows })?;
+        index::add(&mut self.index, self.alloc, put, reader, next)?;
+        if let Err(failed) = self.readers.insert(reader, Reader { put, next, follows }) {
+            index::remove(&mut self.index, put, reader);
+            return Err(failed.into());
+        }
         if follows {
             puts::add_follower(&mut self.puts, put);
         }
@@ -166,7 +170,13 @@ impl OpenDirectory {
         ensures moved { self.new ≡ moved reader next self.old }
         ensures none { result ≡ false → self.new ≡ self.old }
     {
-        set_next(&mut self.readers, reader, next)
+        match set_next(&mut self.readers, reader, next) {
+            Some(put) => {
+                index::set(&mut self.index, put, reader, next);
+                true
+            }
+            None => false,
+        }
     }
 
     /// Takes a reader out, and says whether there was that reader.
@@ -177,6 +187,7 @@ impl OpenDirectory {
     {
         match self.readers.remove(&reader) {
             Some(gone) => {
+                index::remove(&mut self.index, gone.put, reader);
                 if gone.follows {
                     puts::remove_follower(&mut self.puts, gone.put);
                 }
@@ -190,18 +201,16 @@ impl OpenDirectory {
     pub fn readers_of(&self, put: u64) -> Option<u32>
         ensures { result ≡ least_next put (values_of self.now.readers) }
     {
-        self.readers.values().fold(None, |least, reader| {
-            if reader.put == put {
-                least_with(reader.next, least)
-            } else {
-                least
-            }
-        })
+        let _readers = self.readers.len();
+        index::least(&self.index, put)
     }
 
     /// How a put stands, while it is open or a reader follows it.
     pub fn put_state(&self, put: u64) -> Option<PutState>
-        ensures { result ≡ put_state put self.now.puts }
+        ensures state { result ≡ put_state put self.now.puts }
+        ensures open { is_open_state result ≡ is_open put self.now.puts }
+        ensures writer { writers_of put self.now.writers ≡ (if is_open_state result then 1 else 0) }
+        ensures followed { is_ended_state result ≡ true → 0 < followers_of put self.now.readers }
     {
         self.puts.get(&put).map(KeptPut::state)
     }
@@ -217,11 +226,13 @@ impl OpenDirectory {
     pub fn writers(&self) -> u32
         ensures count { result ≡ length self.now.writers }
         ensures few { result ≤ 64 }
+        ensures held { IsHeld self.now }
     {
         self.writers.len() as u32
     }
 
     fn end(&mut self, put: u64, phase: Phase) -> Result<(), OpenRefusal>
+        requires { is_writing phase ≡ false }
         ensures exact { RefusesOnly result (writing_refusal put self.old.puts) }
         ensures ok { OnOk result (self.new ≡ ended phase put self.old) }
         ensures err { OnErr result (self.new ≡ self.old) }
@@ -235,6 +246,18 @@ impl OpenDirectory {
     }
 }
 
+fn last_match(writers: &[Writer], key: Key, request: &Fields) -> Option<u64>
+    ensures { result ≡ followed key request.now writers.now }
+{
+    writers.iter().fold(None, |last, writer| {
+        if writer.is_match(key, request) {
+            Some(writer.put)
+        } else {
+            last
+        }
+    })
+}
+
 fn remove_writer(writers: &mut Vec<Writer>, put: u64)
     ensures but { writers.new.items ≡ writers_but put writers.old.items }
     ensures fewer { length writers.new.items ≤ length writers.old.items }
@@ -242,26 +265,14 @@ fn remove_writer(writers: &mut Vec<Writer>, put: u64)
     writers.retain(|writer| writer.put != put);
 }
 
+// Writes the next index of a reader, and gives its put.
 #[tactic(auto, using(crate::proofs::Entries::absent, crate::proofs::Entries::written_as))]
-fn set_next(readers: &mut BTreeMap<u64, Reader>, reader: u64, next: u32) -> bool
-    ensures found { result ≡ is_some (lookup (is_number reader) readers.old.entries) }
+fn set_next(readers: &mut BTreeMap<u64, Reader>, reader: u64, next: u32) -> Option<u64>
+    ensures put { result ≡ option_map (λ r. r.put) (lookup (is_number reader) readers.old.entries) }
     ensures moved { readers.new.entries ≡ changed (λ r. record r { next = next }) reader readers.old.entries }
-    ensures none { result ≡ false → readers.new.entries ≡ readers.old.entries }
+    ensures none { result ≡ None → readers.new.entries ≡ readers.old.entries }
 {
-    match readers.get_mut(&reader) {
-        Some(found) => {
-            found.next = next;
-            true
-        }
-        None => false,
-    }
-}
-
-fn least_with(next: u32, least: Option<u32>) -> Option<u32>
-    ensures { result ≡ min_with next least }
-{
-    match least {
-        Some(other) => Some(next.min(other)),
-        None => Some(next),
-    }
+    let found = readers.get_mut(&reader)?;
+    found.next = next;
+    Some(found.put)
 }

@@ -2,7 +2,9 @@
 #![tactic(auto)]
 
 mod directory;
+mod index;
 mod kept;
+mod nexts;
 mod puts;
 mod refusal;
 

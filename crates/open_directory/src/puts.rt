@@ -2,7 +2,7 @@
 
 ghost use Rattle.std.specs.Prelude.{◌≡◌, ◌<◌, ◌^◌, IsSome, OnOk, OnErr, IfOk};
 ghost use Rattle.fragment_table.specs.Table.{CanGrow, made_row};
-ghost use Rattle.open_directory.specs.Directory.{AddsFollower, KeepsFollowers, changed, count_of, cuts_of, followers_kept, is_done_put, is_open, kept_put, one_fewer, one_more, room_of, with_cut, with_phase, with_room, without_done};
+ghost use Rattle.open_directory.specs.Directory.{AddsFollower, Forgets, KeepsFollowers, KeepsStanding, changed, count_of, cuts_of, followers_kept, is_done_put, is_open, kept_put, one_fewer, one_more, room_of, with_cut, with_phase, with_room, without_done};
 ghost use Rattle.open_directory.specs.Refusal.{IsMemory, Refuses, writing_refusal};
 
 use crate::kept::{KeptPut, Phase};
@@ -36,6 +36,7 @@ pub(crate) fn push_row(
     ensures err { OnErr result (puts.new.entries ≡ with_room put (room_of put puts.new.entries) puts.old.entries) }
     ensures reserved { IsMemory result → room_of put puts.old.entries ≡ 0 }
     ensures followers { KeepsFollowers puts.old.entries puts.new.entries }
+    ensures standing { KeepsStanding puts.old.entries puts.new.entries }
 {
     match puts.get_mut(&put) {
         Some(kept) if kept.phase == Phase::Writing => {
@@ -52,6 +53,7 @@ pub(crate) fn reserve_row(puts: &mut Puts, put: u64) -> Result<(), OpenRefusal>
     ensures room { OnOk result (0 < room_of put puts.new.entries) }
     ensures rest { puts.new.entries ≡ with_room put (room_of put puts.new.entries) puts.old.entries }
     ensures followers { KeepsFollowers puts.old.entries puts.new.entries }
+    ensures standing { KeepsStanding puts.old.entries puts.new.entries }
 {
     match puts.get_mut(&put) {
         Some(kept) if kept.phase == Phase::Writing => {
@@ -65,6 +67,7 @@ pub(crate) fn reserve_row(puts: &mut Puts, put: u64) -> Result<(), OpenRefusal>
 // Ends a put, which is forgotten where no reader follows it.
 pub(crate) fn end(puts: &mut Puts, put: u64, phase: Phase)
     ensures ended { puts.new.entries ≡ without_done put (changed (with_phase phase) put puts.old.entries) }
+    ensures forgets { Forgets put (changed (with_phase phase) put puts.old.entries) puts.new.entries }
     ensures followers { KeepsFollowers puts.old.entries puts.new.entries }
 {
     set_phase(puts, put, phase);
@@ -83,6 +86,7 @@ fn set_phase(puts: &mut Puts, put: u64, phase: Phase)
 
 pub(crate) fn forget_done(puts: &mut Puts, put: u64)
     ensures forgotten { puts.new.entries ≡ without_done put puts.old.entries }
+    ensures forgets { Forgets put puts.old.entries puts.new.entries }
     ensures followers { KeepsFollowers puts.old.entries puts.new.entries }
 {
     if is_done(puts, put) {
@@ -116,6 +120,7 @@ pub(crate) fn add_follower(puts: &mut Puts, put: u64)
 pub(crate) fn remove_follower(puts: &mut Puts, put: u64)
     requires { 0 < followers_kept (kept_put put puts.old.entries) }
     ensures fewer { puts.new.entries ≡ without_done put (one_fewer put puts.old.entries) }
+    ensures forgets { Forgets put (one_fewer put puts.old.entries) puts.new.entries }
     ensures followers { AddsFollower put puts.new.entries puts.old.entries }
 {
     count_one_less(puts, put);

@@ -1,9 +1,7 @@
-use Rattle.std.proofs.Common.{◌≡◌, ℕ, ◌++◌, ◌+◌, ◌-◌, ◌<◌, [], ◌∷◌, true, false, cond, Some, IsSome, sym, ap, subst, ◌∙◌, refl, arith}
-use Rattle.fragment_table.specs.Table.{made_row}
+use Rattle.std.proofs.Common.{◌+◌, sym, refl}
 use Rattle.open_directory.specs.declared.kept.KeptPut.{KeptPut}
-use Rattle.open_directory.specs.Directory.{with_cuts, with_phase, with_followers}
-use Rattle.open_directory.proofs.Entries.{cut_written, room_written, written_as}
-use Rattle.open_directory.proofs.Followers.{followers_changed, followers_forgotten, followers_more, followers_fewer}
+use Rattle.open_directory.specs.Directory.{with_followers}
+use Rattle.open_directory.proofs.Entries.{written_as}
 use Rattle.open_directory.proofs.puts.add_follower.Goals as goal
 
 pub returns-in-Some-clause-more : goal.returns-in-Some-clause-more

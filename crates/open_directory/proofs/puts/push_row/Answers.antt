@@ -1,8 +1,8 @@
-use Rattle.std.proofs.Common.{◌≡◌, ◌++◌, [], ◌∷◌, sym, ap, ◌∙◌, refl, arith}
+use Rattle.std.proofs.Common.{◌≡◌, ◌++◌, [], ◌∷◌, sym, arith}
 use Rattle.fragment_table.specs.Table.{made_row}
 use Rattle.open_directory.specs.declared.kept.KeptPut.{KeptPut}
-use Rattle.open_directory.specs.Directory.{with_cuts, with_phase}
-use Rattle.open_directory.proofs.Entries.{cut_written, room_written, written_as}
+use Rattle.open_directory.specs.Directory.{with_cuts}
+use Rattle.open_directory.proofs.Entries.{cut_written, room_written}
 use Rattle.open_directory.proofs.puts.push_row.Goals as goal
 
 pub returns-in_err-push-in-Some-clause-err : goal.returns-in_err-push-in-Some-clause-err

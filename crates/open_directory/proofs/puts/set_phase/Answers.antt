@@ -1,8 +1,7 @@
-use Rattle.std.proofs.Common.{◌≡◌, ◌++◌, [], ◌∷◌, sym, ap, ◌∙◌, refl, arith}
-use Rattle.fragment_table.specs.Table.{made_row}
+use Rattle.std.proofs.Common.{sym, refl}
 use Rattle.open_directory.specs.declared.kept.KeptPut.{KeptPut}
-use Rattle.open_directory.specs.Directory.{with_cuts, with_phase}
-use Rattle.open_directory.proofs.Entries.{cut_written, room_written, written_as}
+use Rattle.open_directory.specs.Directory.{with_phase}
+use Rattle.open_directory.proofs.Entries.{written_as}
 use Rattle.open_directory.proofs.puts.set_phase.Goals as goal
 
 pub returns-in-Some-clause-phase : goal.returns-in-Some-clause-phase

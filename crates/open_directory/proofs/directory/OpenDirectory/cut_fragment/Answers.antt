@@ -1,7 +1,13 @@
-use Rattle.std.proofs.Common.{◌≡◌, ℕ, ◌+◌, ◌<◌, ◌≤◌, true, false, cond, Some, sym, ap, subst, ◌∙◌, refl, arith}
-use Rattle.open_directory.specs.Directory.{followers_of}
-use Rattle.open_directory.proofs.Followers.{followers_added, followers_few, followers_moved, followers_removed, is_follower_so, is_no_follower}
+use Rattle.std.proofs.Common.{cond, sym, ap, ◌∙◌}
 use Rattle.open_directory.proofs.directory.OpenDirectory.cut_fragment.Goals as goal
 
 pub invariant_of-self : goal.invariant_of-self
-invariant_of-self c = record { few = c.self.invariant.few; followers = λ p. c.push_row.ensures.followers p ∙ c.self.invariant.followers p }
+invariant_of-self c = record {
+  index = c.self.invariant.index;
+  held = record {
+    few = c.self.invariant.held.few;
+    writing = λ q. c.self.invariant.held.writing q ∙ sym (ap (λ b. cond b 1 0) (c.push_row.ensures.standing q).0);
+    followers = λ p. c.push_row.ensures.followers p ∙ c.self.invariant.held.followers p;
+    followed = λ q. (c.push_row.ensures.standing q).1 ∙ c.self.invariant.held.followed q;
+  };
+}
