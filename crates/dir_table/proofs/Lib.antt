@@ -1,0 +1,5 @@
+pub mod Numbers
+pub mod Linked
+pub mod Parts
+pub mod Trails
+pub mod RowLists

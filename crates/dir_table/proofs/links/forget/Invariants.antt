@@ -1,0 +1,18 @@
+-- Of the rows from the place on none is gone, and no number below is in use.
+use Rattle.std.proofs.Common.{◌≡◌, ◌≤◌, ◌-◌}
+use Rattle.dir_table.specs.Links.{IsLinked, AllFrom, entries_of, rows_in, room_of}
+use Rattle.dir_table.specs.Wrap.{rows_from}
+use Rattle.dir_table.proofs.links.forget.Given as goal
+
+abbrev pub invariant-loop-number : goal.invariant-loop-number
+invariant-loop-number l = record {
+  linked : IsLinked l.links;
+  above : AllFrom l.number (entries_of l.links);
+  within : l.number ≤ l.end;
+  next : l.links.next ≡ l.end;
+  rows : rows_from l.low (rows_in l.links) ≡ rows_from l.low (rows_in l.fn.links);
+  room : room_of l.fn.links ≤ room_of l.links;
+}
+
+abbrev pub decreases-loop-number : goal.decreases-loop-number
+decreases-loop-number l = l.end - l.number

@@ -1,0 +1,11 @@
+pub mod Rows
+pub mod Window
+pub mod Candidates
+pub mod Displacement
+pub mod Wrap
+pub mod Links
+pub mod Trail
+pub mod Listed
+pub mod Listing
+pub use Rattle.tape_base.specs.Key
+pub use Rattle.tape_base.specs.Place

@@ -1,0 +1,99 @@
+-- How rows are kept: each under a number, which no other ever has, linked to the next older row of
+-- its spot. A spot's newest row begins its chain.
+use Rattle.std.specs.Prelude.{ℕ, suc, zero, ◌≡◌, ◌-◌, ◌≤◌, ◌<◌, ◌^◌, ◌==◌, not, min, nat_eq, nat_le, Bool, true, false, if◌then◌else◌, List, [], ◌∷◌, map, filter, Option, Some, None, option_map}
+use Rattle.std.specs.List.{AllByRecursion}
+use Rattle.std.specs.HashMap.{get, spare}
+use Rattle.dir_table.specs.declared.rows.DirRow.{DirRow}
+use Rattle.dir_table.specs.declared.rows.Spot.{Spot}
+use Rattle.dir_table.specs.declared.links.Node.{Node}
+use Rattle.dir_table.specs.declared.links.Links.{Links}
+use Rattle.dir_table.specs.Rows.{spot_of, same_spot, is_at}
+
+-- what stands under a number, and what a spot's newest row is
+abbrev pub node_at : Links → ℕ → Option Node
+node_at links k = get nat_eq links.nodes k
+
+abbrev pub newest_at : Links → Spot → Option ℕ
+newest_at links spot = get same_spot links.newest spot
+
+abbrev pub row_of_node : Option Node → Option DirRow
+row_of_node node = option_map (λ n. n.row) node
+
+abbrev pub row_at : Links → ℕ → Option DirRow
+row_at links k = row_of_node (node_at links k)
+
+abbrev pub with_entry : ℕ → Option DirRow → List (ℕ × DirRow) → List (ℕ × DirRow)
+with_entry k None entries = entries
+with_entry k (Some row) entries = (k, row) ∷ entries
+
+-- the rows with their numbers that stand below a number, the newest first
+abbrev pub entries_below : (ℕ → Option DirRow) → ℕ → List (ℕ × DirRow)
+entries_below at zero = []
+entries_below at (suc k) = with_entry k (at k) (entries_below at k)
+
+abbrev pub entries_of : Links → List (ℕ × DirRow)
+entries_of links = entries_below (row_at links) links.next
+
+abbrev pub rows_of : List (ℕ × DirRow) → List DirRow
+rows_of entries = map (λ e. e.1) entries
+
+abbrev pub rows_in : Links → List DirRow
+rows_in links = rows_of (entries_of links)
+
+-- the number of the first row of a spot
+abbrev pub first_at : Spot → List (ℕ × DirRow) → Option ℕ
+first_at spot [] = None
+first_at spot (e ∷ es) = if is_at spot e.1 then Some e.0 else first_at spot es
+
+-- without the row of a number
+abbrev pub without : ℕ → List (ℕ × DirRow) → List (ℕ × DirRow)
+without number entries = filter (λ e. not (number == e.0)) entries
+
+-- each link leads to the next older row of the spot, and newer rows stand at higher places
+pub record IsLinkedBy (node : ℕ → Option Node) (head : Spot → Option ℕ) (next : ℕ) : Type 0 where
+  pub newest : (spot : Spot) → head spot ≡ first_at spot (entries_below (λ k. row_of_node (node k)) next)
+  pub older : (k : ℕ) (n : Node) → node k ≡ Some n → n.older ≡ first_at (spot_of n.row) (entries_below (λ j. row_of_node (node j)) k)
+  pub below : (k : ℕ) (n : Node) → node k ≡ Some n → k < next
+  pub rising : (j k : ℕ) (m n : Node) → j < k → node j ≡ Some m → node k ≡ Some n → m.row.place ≤ n.row.place
+
+abbrev pub IsLinked : Links → Type 0
+IsLinked links = IsLinkedBy (node_at links) (newest_at links) links.next
+
+-- the link that leads to a number: the spot's newest, or that of a newer row of the spot
+pub record LeadsOn (node : ℕ → Option Node) (spot : Spot) (from : ℕ) (to : Option ℕ) : Type 0 where
+  pub it : Node
+  pub stands : node from ≡ Some it
+  pub there : is_at spot it.row ≡ true
+  pub leads : it.older ≡ to
+
+abbrev pub PointsBy : (ℕ → Option Node) → (Spot → Option ℕ) → Spot → Option ℕ → Option ℕ → Type 0
+PointsBy node head spot None to = head spot ≡ to
+PointsBy node head spot (Some from) to = LeadsOn node spot from to
+
+abbrev pub PointsTo : Links → Spot → Option ℕ → Option ℕ → Type 0
+PointsTo links spot before to = PointsBy (node_at links) (newest_at links) spot before to
+
+-- what the change of that link makes of a node, and of a spot's newest
+abbrev pub with_older : Option ℕ → Node → Node
+with_older older n = record n { older = older }
+
+abbrev pub relinked : Option ℕ → Option ℕ → ℕ → Option Node → Option Node
+relinked None older k node = node
+relinked (Some from) older k node = if from == k then option_map (with_older older) node else node
+
+abbrev pub renewed : Option ℕ → Option ℕ → Spot → Spot → Option ℕ → Option ℕ
+renewed None older spot s newest = if same_spot spot s then older else newest
+renewed (Some from) older spot s newest = newest
+
+-- how many rows can be added without memory, and with numbers that are left
+abbrev pub room_of : Links → ℕ
+room_of links = min (min (spare links.nodes) (spare links.newest)) (2 ^ 64 - 1 - links.next)
+
+-- no row stands under a number below this one
+abbrev pub AllFrom : ℕ → List (ℕ × DirRow) → Type 0
+AllFrom first entries = AllByRecursion (λ e. first ≤ e.0) entries
+
+-- a row is there, at or above a place
+abbrev pub stands_from : ℕ → Option DirRow → Bool
+stands_from low None = false
+stands_from low (Some row) = nat_le low row.place

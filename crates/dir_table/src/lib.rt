@@ -1,0 +1,19 @@
+//! Which places of a stripe a key may have: a row for each piece that is entered.
+#![tactic(auto)]
+
+mod directory;
+mod displaced;
+mod links;
+mod list;
+mod rows;
+mod walks;
+mod window;
+
+pub use directory::Directory;
+pub use displaced::Displaced;
+pub use list::ListDirectory;
+pub use rows::{DirRow, Walk};
+pub use window::Window;
+
+#[cfg(test)]
+mod tests;
