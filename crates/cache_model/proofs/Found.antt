@@ -1,0 +1,26 @@
+-- What was found in a list.
+use Rattle.std.proofs.Common.{◌≡◌, ℕ, List, [], ◌∷◌, Bool, true, false, refl, sym, ◌∙◌, ap, subst, eqb-true}
+use Rattle.std.specs.Prelude.{Option, Some, None, unwrap_or, cond, find, ◌==◌}
+use Rattle.cache_model.specs.State.{State, PutRow, put_of}
+
+pub no_truth : {X : Type 0} → true ≡ false → X
+no_truth h = cc
+
+pub none_is : {X Y : Type 0} {x : X} → None ≡ Some x → Y
+none_is h = cc
+
+pub same_some : {X : Type 0} (x y : X) (o : Option X) → o ≡ Some x → o ≡ Some y → x ≡ y
+same_some x y o e f = ap (λ t. unwrap_or t x) (sym e ∙ f)
+
+found_case : (t : Bool) (test : PutRow → Bool) (y x : PutRow) (ys : List PutRow) → test y ≡ t → (find test ys ≡ Some x → test x ≡ true)
+    → cond t (Some y) (find test ys) ≡ Some x → test x ≡ true
+found_case true test y x ys is others found = subst (λ z. test z ≡ true) (same_some y x (Some y) refl found) is
+found_case false test y x ys is others found = others found
+
+found_passes : (test : PutRow → Bool) (ys : List PutRow) (x : PutRow) → find test ys ≡ Some x → test x ≡ true
+found_passes test [] x found = none_is found
+found_passes test (y ∷ ys) x found = found_case (test y) test y x ys refl (found_passes test ys x) found
+
+-- a put that was found has its number
+pub number_of : (s : State) (put : ℕ) (w : PutRow) → put_of s put ≡ Some w → w.put ≡ put
+number_of s put w found = eqb-true w.put put (found_passes (λ p. p.put == put) s.puts w found)

@@ -1,0 +1,135 @@
+-- Each group of records, each step and each legal chronicle is sound.
+use Rattle.std.proofs.Common.{◌≡◌, ℕ, ◌+◌, ◌≤◌, List, [], ◌∷◌, ◌++◌, sym, subst, arith, Bool}
+use Rattle.std.specs.Prelude.{Option, length}
+use Rattle.std.proofs.lemmas.Bool.{leb-true}
+use Rattle.tape_base.specs.declared.keys.Key.{Key}
+use Rattle.tape_base.specs.declared.geometries.Geometry.{Geometry}
+use Rattle.tape_base.specs.Blocks.{blocks_of}
+use Rattle.tape_base.specs.Digest.{digest_of}
+use Rattle.alternate_vector.specs.Field.{Field}
+use Rattle.fragment_table.specs.Table.{TableRow}
+use Rattle.cache_model.specs.declared.answer.NextAnswer.{NextAnswer}
+use Rattle.cache_model.specs.declared.answer.NextAnswer.TheVariants as next
+use Rattle.cache_model.specs.declared.answer.ReadAnswer.{ReadAnswer}
+use Rattle.cache_model.specs.declared.cause.Cause.{Cause}
+use Rattle.cache_model.specs.declared.record.Rec.{Rec}
+use Rattle.cache_model.specs.declared.record.Rec.TheVariants as rec
+use Rattle.cache_model.specs.State.{State, Row, ReaderRow, after_all, nothing_yet, floor_now}
+use Rattle.cache_model.specs.Permit.{Permit, Intent, Flush, Write, Fragment, Overflow, Weigh, Finish, Commit, GiveUp, Remove, Look, ReadOn, ReadAll, StopReading, End, Work, Reason}
+use Rattle.cache_model.specs.Legal
+use Rattle.cache_model.specs.Legal.{Does, Advances, MayGrow, nothing, more, IsStep, IsLegal, Course, answer_record, format_records}
+use Rattle.cache_model.specs.Tape.{IsSound}
+use Rattle.cache_model.proofs.Laps.{next_fits}
+use Rattle.cache_model.proofs.Steps.{after_all-append}
+use Rattle.cache_model.proofs.Sound.{LeavesTape, AllLeaveTape, IsLater, later_self, later_trans, later_leaves, later_began, later_insert, displaced_leave}
+
+leave_append : (a b : List Rec) → AllLeaveTape a → AllLeaveTape b → AllLeaveTape (a ++ b)
+leave_append [] b h k = k
+leave_append (r ∷ a) b h k = (h.0, leave_append a b h.1 k)
+
+leaving : (s : State) (added other : List Rec) → added ≡ other → AllLeaveTape other → IsSound s → IsLater s (after_all s added)
+leaving s added other is leave h = later_leaves s added (subst AllLeaveTape (sym is) leave) h
+
+flushed : (s : State) (added : List Rec) → Legal.MayFlush s added → IsSound s → IsLater s (after_all s added)
+flushed s added m h = subst (λ xs. IsLater s (after_all s xs)) (sym m.is) (later_began s h)
+
+roomed : (p : Permit) (s : State) (bytes : ℕ) (added : List Rec) (e : End) → Legal.MakesRoom p s bytes added e → IsSound s → IsLater s (after_all s added)
+roomed p s bytes added e (Legal.MakesRoom.flushes x m) h = flushed s added m h
+roomed p s bytes added e (Legal.MakesRoom.stops count x m) h = leaving s added _ m.is (tt, tt) h
+roomed p s bytes added e (Legal.MakesRoom.exhausted x q is) h = leaving s added [] is tt h
+
+trouble_leaves : (p : Permit) (s : State) (row : Row) (before : List Rec) (why : Cause) → Legal.Trouble p s row before why → AllLeaveTape before
+trouble_leaves p s row before why (Legal.Trouble.faulted count w m) = (tt, tt)
+trouble_leaves p s row before why (Legal.Trouble.damaged found d) = (tt, tt)
+
+lookup_leaves : (p : Permit) (s : State) (key : Key) (request : List Field) (before : List Rec) (answer : ReadAnswer) → Legal.IsLookup p s key request before answer → AllLeaveTape before
+lookup_leaves p s key request before answer (Legal.IsLookup.verdict r) = tt
+lookup_leaves p s key request before answer (Legal.IsLookup.trouble row b why live t) = trouble_leaves p s row before why t
+
+fragment_leaves : (p : Permit) (s : State) (r : ReaderRow) (row : Row) (entry : TableRow) (before : List Rec) (why : Cause) → Legal.ReadTrouble p s r row entry before why → AllLeaveTape before
+fragment_leaves p s r row entry before why (Legal.ReadTrouble.troubled b c t) = trouble_leaves p s row before why t
+fragment_leaves p s r row entry before why (Legal.ReadTrouble.mismatched found hit m) = (tt, tt)
+
+reading_leaves : (p : Permit) (s : State) (r : ReaderRow) (before : List Rec) (answer : NextAnswer) → Legal.IsReading p s r before answer → AllLeaveTape before
+reading_leaves p s r before answer (Legal.IsReading.verdict x) = tt
+reading_leaves p s r before answer (Legal.IsReading.trouble entry row b why n live t) = fragment_leaves p s r row entry before why t
+
+answer_leaves : (reader : ℕ) (answer : NextAnswer) → LeavesTape (answer_record reader answer)
+answer_leaves reader (next.Gave index length) = tt
+answer_leaves reader (next.Ended length) = tt
+answer_leaves reader (next.Waited cut) = tt
+answer_leaves reader (next.Broke why) = tt
+
+read_on : (p : Permit) (s : State) (reader : ℕ) (answer : NextAnswer) (added : List Rec) → Legal.MayReadOn p s reader answer added → IsSound s → IsLater s (after_all s added)
+read_on p s reader answer added m h = leaving s added _ m.is (leave_append m.before _ (reading_leaves p s m.r m.before answer m.right) (answer_leaves reader answer, tt)) h
+
+pub later_group : (p : Permit) (s : State) (i : Intent) (added : List Rec) (e : End) → Does p s i added e → IsSound s → IsLater s (after_all s added)
+later_group p s Flush added e (Legal.DoesFlush.empty q f is) h = leaving s added [] is tt h
+later_group p s Flush added e (Legal.DoesFlush.flushes m) h = flushed s added m h
+later_group p s Flush added e (Legal.DoesFlush.stops count m) h = leaving s added _ m.is (tt, tt) h
+later_group p s Flush added e (Legal.DoesFlush.exhausted q f b is) h = leaving s added [] is tt h
+later_group p s (Write actor key request response pin) added e (Legal.DoesWrite.opens m) h = leaving s added _ m.is (tt, tt) h
+later_group p s (Write actor key request response pin) added e (Legal.DoesWrite.many q m is) h = leaving s added [] is tt h
+later_group p s (Write actor key request response pin) added e (Legal.DoesWrite.exhausted q m l is) h = leaving s added [] is tt h
+later_group p s (Fragment put index payload) added e (Legal.DoesFragment.places d m) h =
+    let room : s.filled + blocks_of (length payload) ≤ s.geometry.agg = leb-true (s.filled + blocks_of (length payload)) s.geometry.agg m.place.room in
+    let leave : AllLeaveTape (rec.Cut put index (length payload) (digest_of payload) ∷ m.displaced) = (tt, displaced_leave p s _ m.displaced m.displaces) in
+    subst (λ xs. IsLater s (after_all s xs)) (sym m.is) (later_insert s (rec.Cut put index (length payload) (digest_of payload) ∷ m.displaced) _ (length payload) _ _ leave room h)
+later_group p s (Fragment put index payload) added e (Legal.DoesFragment.rooms w n m) h = roomed p s _ added e m h
+later_group p s (Fragment put index payload) added e (Legal.DoesFragment.exhausted w x n q) h = leaving s added [] q.is tt h
+later_group p s (Overflow put) added e (Legal.DoesOverflow.aborts w q l is) h = leaving s added _ is (tt, tt) h
+later_group p s (Weigh put rest) added e (Legal.DoesWeigh.weighs w q r f is) h = leaving s added [] is tt h
+later_group p s (Weigh put rest) added e (Legal.DoesWeigh.too_large w q r f is) h = leaving s added _ is (tt, tt) h
+later_group p s (Weigh put rest) added e (Legal.DoesWeigh.damaged w row found q live d is) h = leaving s added _ is (tt, tt) h
+later_group p s (Weigh put rest) added e (Legal.DoesWeigh.faulted w row count q live r m is) h = leaving s added _ is (tt, tt) h
+later_group p s (Finish put fragments) added e (Legal.DoesFinish.places d m) h =
+    let room : s.filled + blocks_of (Legal.vector_length s put) ≤ s.geometry.agg = leb-true (s.filled + blocks_of (Legal.vector_length s put)) s.geometry.agg m.place.room in
+    subst (λ xs. IsLater s (after_all s xs)) (sym m.is) (later_insert s m.displaced _ (Legal.vector_length s put) _ _ (displaced_leave p s _ m.displaced m.displaces) room h)
+later_group p s (Finish put fragments) added e (Legal.DoesFinish.rooms w c m) h = roomed p s _ added e m h
+later_group p s (Finish put fragments) added e (Legal.DoesFinish.exhausted w x c l q) h = leaving s added [] q.is tt h
+later_group p s (Finish put fragments) added e (Legal.DoesFinish.loses w index d m is) h = leaving s added _ is (tt, tt) h
+later_group p s (Commit put) added e (Legal.DoesCommit.commits w f o q is) h = leaving s added _ is (tt, tt) h
+later_group p s (GiveUp put) added e (Legal.DoesGiveUp.aborts w q is) h = leaving s added _ is (tt, tt) h
+later_group p s (GiveUp put) added e (Legal.DoesGiveUp.over q o is) h = leaving s added [] is tt h
+later_group p s (Remove key) added e (Legal.DoesRemove.removes row q l is) h = leaving s added _ is (tt, tt) h
+later_group p s (Remove key) added e (Legal.DoesRemove.absent q l is) h = leaving s added [] is tt h
+later_group p s (Look actor key request) added e (Legal.DoesLook.looks m) h = leaving s added _ m.is (leave_append m.before _ (lookup_leaves p s key request m.before m.answer m.right) (tt, tt)) h
+later_group p s (ReadOn reader) added e (Legal.DoesReadOn.reads_on answer m) h = read_on p s reader answer added m h
+later_group p s (ReadAll reader) added e (Legal.DoesReadAll.reads_on answer x m y) h = read_on p s reader answer added m h
+later_group p s (ReadAll reader) added e (Legal.DoesReadAll.has_none q x is y) h = leaving s added [] is tt h
+later_group p s (StopReading reader) added e (Legal.DoesStopReading.closes r q l is) h = leaving s added _ is (tt, tt) h
+later_group p s (StopReading reader) added e (Legal.DoesStopReading.closed q l is) h = leaving s added [] is tt h
+
+advanced : (p : Permit) (s : State) (is : List Intent) (why : Option Reason) (added : List Rec) (after : Work) → Advances p s is why added after → IsSound s → IsLater s (after_all s added)
+advanced p s [] why added after a h = absurd a
+advanced p s (i ∷ is) why added after a h = later_group p s i added a.0 a.1 h
+
+pub later_grown : {p : Permit} {s : State} {w after : Work} {recs : List Rec} → MayGrow p s w recs after → IsSound s → IsLater s (after_all s recs)
+later_grown {s = s} nothing h = later_self s h
+later_grown {p} {s} {w} (more {rest = tail} added between one others) h =
+    let first : IsLater s (after_all s added) = advanced p s w.intents w.refused added between one h in
+    subst (IsLater s) (sym (after_all-append s added tail)) (later_trans s (after_all s added) _ first (later_grown others first.sound))
+
+pub steps_are_sound : (p : Permit) (s : State) (intents : List Intent) (added : List Rec) (why : Option Reason)
+    → IsSound s → IsStep p s intents added why → IsSound (after_all s added) × (floor_now s ≤ floor_now (after_all s added))
+steps_are_sound p s intents added why h step = let l = later_grown step.grows h in (l.sound, l.floor)
+
+fresh : (geometry : Geometry) → IsSound (after_all nothing_yet (format_records geometry))
+fresh geometry = record {
+  from = omega arith;
+  lap = lap_fits geometry;
+  room = omega arith;
+  rising = omega arith;
+  apart = tt;
+  known = tt;
+}
+  where
+    lap_fits : (g : Geometry) → g.content + g.agg ≤ Rattle.tape_base.specs.Place.lap_end_of g g.content
+    lap_fits g =
+        let one : Rattle.tape_base.specs.Place.lap_of g g.content ≡ 1 = Rattle.cache_model.proofs.Laps.lap-is g.content 1 g.content (omega arith) (omega arith) in
+        rw one (omega arith)
+
+pub legal_is_sound : (packed : Bool) (courses : List Course) (recs : List Rec) → IsLegal packed courses recs → IsSound (after_all nothing_yet recs)
+legal_is_sound packed courses recs (Legal.IsLegal.begins geometry) = fresh geometry
+legal_is_sound packed courses recs (Legal.IsLegal.steps {before = before} {added = added} course e legal step) =
+    subst IsSound (sym (after_all-append nothing_yet before added)) (later_grown step.grows (legal_is_sound packed _ before legal)).sound

@@ -1,0 +1,107 @@
+-- How many groups of records fit what is asked: one at most where the device is faithful, and one at
+-- least wherever it may be asked; and what a group has read.
+use Rattle.std.specs.Prelude.{ℕ, ◌≡◌, ◌-◌, ◌^◌, ◌<◌, ◌≤◌, ◌⊎◌, false, List, length, Option, Some, None, option_and_then, if◌then◌else◌}
+use Rattle.tape_base.specs.declared.keys.Key.{Key}
+use Rattle.tape_base.specs.declared.pieces.PieceId.{PieceId}
+use Rattle.tape_base.specs.declared.actors.Actor.{Actor}
+use Rattle.tape_base.specs.Digest.{digest_of}
+use Rattle.doc_header.specs.Reading.{document_digest, payload_of}
+use Rattle.fragment_table.specs.Table.{TableRow}
+use Rattle.alternate_vector.specs.Field.{Field}
+use Rattle.cache_model.specs.declared.answer.ReadAnswer.TheVariants as read
+use Rattle.cache_model.specs.declared.answer.NextAnswer.TheVariants as next
+use Rattle.cache_model.specs.declared.record.Rec.{Rec}
+use Rattle.cache_model.specs.State.{State, Row, PutRow, ReaderRow, Open, live_row_of, put_of, reader_of, vector_piece}
+use Rattle.cache_model.specs.Verdict.{live_vector_of, next_piece, next_row}
+use Rattle.cache_model.specs.Permit.{Permit, Intent, Flush, Write, Fragment, Overflow, Weigh, Finish, Commit, GiveUp, Remove, Look, ReadOn, ReadAll, StopReading, End}
+use Rattle.cache_model.specs.Tape.{IsSound}
+use Rattle.cache_model.specs.Legal.{Does, IsCut, IsGiven, IsNext, IsLookup, IsQuiet, IsReading, IsWriting, IsWritten, MayCount, has_hit, live_next, most_fragments}
+
+-- ---- one at most
+
+-- the directory displaces nothing, the device refuses nothing in the step, and what it gives for a live
+-- piece is what was kept of it, and what the table of a reader that comes to it lists
+pub record IsFaithful (p : Permit) (s : State) : Type 0 where
+  pub displaces_nothing : p.packed ≡ false
+  pub counted : p.faults ≤ p.faults_before
+  pub countable : p.faults_before < 2 ^ 64 - 1
+  pub kept : (id : PieceId) (row : Row) (bytes : List ℕ) → live_row_of s id ≡ Some row → IsGiven p s row bytes → row.digest ≡ document_digest bytes
+  pub listed : (reader : ℕ) (r : ReaderRow) (entry : TableRow) (row : Row) (bytes : List ℕ) → reader_of s reader ≡ Some r → next_row s r ≡ Some entry
+      → live_row_of s (next_piece r) ≡ Some row → IsGiven p s row bytes → entry.digest ≡ (digest_of (payload_of bytes)).0
+
+-- there, what is asked fixes the records of a group, and how it ends
+abbrev pub GroupIsFixed : Type 0
+GroupIsFixed = (p : Permit) (s : State) (i : Intent) (one other : List Rec) (e f : End) → IsFaithful p s
+    → Does p s i one e → Does p s i other f → (one ≡ other) × (e ≡ f)
+
+-- ---- one at least
+
+-- a live piece is in the buffer, or the device gave bytes for it in this step, or refused to
+pub data IsTried (p : Permit) (s : State) (row : Row) : Type 0 where
+  buffered : s.cursor ≤ row.place → IsTried p s row
+  given : (bytes : List ℕ) → IsGiven p s row bytes → IsTried p s row
+  refused : (count : ℕ) → IsWritten s row → MayCount p s count → IsTried p s row
+
+-- what is asked for was tried, where it is live
+abbrev pub IsTriedWhereLive : Permit → State → Option Row → Type 0
+IsTriedWhereLive p s None = Unit {0}
+IsTriedWhereLive p s (Some row) = IsTried p s row
+
+-- the live piece that has to be read for what is asked: the key's vector, or the next fragment
+abbrev pub to_read : State → Intent → Option Row
+to_read s (Weigh put rest) = option_and_then (λ (w : PutRow). live_vector_of s w.key) (put_of s put)
+to_read s (Look actor key request) = live_vector_of s key
+to_read s (ReadOn reader) = option_and_then (live_next s) (reader_of s reader)
+to_read s (ReadAll reader) = if has_hit s reader then option_and_then (live_next s) (reader_of s reader) else None
+to_read s _ = None
+
+-- an actor has this number
+abbrev pub IsActor : ℕ → Type 0
+IsActor actor = (who : Actor) × (who.0 ≡ actor)
+
+-- the put is open, and its vector was placed last
+pub record IsPending (s : State) (put : ℕ) (w : PutRow) : Type 0 where
+  pub found : put_of s put ≡ Some w
+  pub is_open : w.writing ≡ Open
+  pub pending : s.pending ≡ Some (vector_piece w.key put)
+
+-- this may be asked here: no vector is pending but that of a commit, and what is spoken of is open
+abbrev pub MayAsk : State → Intent → Type 0
+MayAsk s Flush = IsQuiet s
+MayAsk s (Write actor key request response pin) = IsQuiet s × IsActor actor
+MayAsk s (Fragment put index payload) = (w : PutRow) × IsNext s put index payload w
+MayAsk s (Overflow put) = (w : PutRow) × IsWriting s put w × (length w.cuts ≡ most_fragments)
+MayAsk s (Weigh put rest) = (w : PutRow) × IsWriting s put w
+MayAsk s (Finish put fragments) = (w : PutRow) × IsCut s put fragments w
+MayAsk s (Commit put) = (w : PutRow) × IsPending s put w
+MayAsk s (GiveUp put) = IsQuiet s
+MayAsk s (Remove key) = IsQuiet s
+MayAsk s (Look actor key request) = IsQuiet s × IsActor actor
+MayAsk s (ReadOn reader) = IsQuiet s × ((r : ReaderRow) × (reader_of s reader ≡ Some r))
+MayAsk s (ReadAll reader) = IsQuiet s
+MayAsk s (StopReading reader) = IsQuiet s
+
+-- on a sound tape what may be asked can be done, or is refused, whatever the device gives
+abbrev pub AskedIsAnswered : Type 0
+AskedIsAnswered = (p : Permit) (s : State) (i : Intent) → IsSound s → MayAsk s i → IsTriedWhereLive p s (to_read s i)
+    → (added : List Rec) × (e : End) × Does p s i added e
+
+-- ---- what was read
+
+-- what has to be read for an answer was in the buffer, or was read or refused in the step
+abbrev pub AnsweredIsTried : Type 0
+AnsweredIsTried = (p : Permit) (s : State) (i : Intent) (added : List Rec) (e : End) → Does p s i added e → IsTriedWhereLive p s (to_read s i)
+
+-- a piece is in the buffer, or the device gave its blocks in this step, with the digest that was kept
+abbrev pub WasRead : Permit → State → Row → Type 0
+WasRead p s row = (s.cursor ≤ row.place) ⊎ ((bytes : List ℕ) × IsGiven p s row bytes × (row.digest ≡ document_digest bytes))
+
+-- a vector that is hit was read
+abbrev pub HitIsRead : Type 0
+HitIsRead = (p : Permit) (s : State) (key : Key) (request : List Field) (before : List Rec) (put : ℕ) (row : Row)
+    → live_vector_of s key ≡ Some row → IsLookup p s key request before (read.Hit put) → WasRead p s row
+
+-- a fragment that is given is live, and was read
+abbrev pub GivenIsRead : Type 0
+GivenIsRead = (p : Permit) (s : State) (r : ReaderRow) (before : List Rec) (index n : ℕ)
+    → IsReading p s r before (next.Gave index n) → (row : Row) × (live_row_of s (next_piece r) ≡ Some row) × WasRead p s row

@@ -1,0 +1,31 @@
+-- What a chronicle keeps: the values at its beginning, and the records since.
+use Rattle.std.specs.Prelude.{◌≡◌, List, [], ◌∷◌, ◌++◌}
+use Rattle.cache_model.specs.declared.record.Rec.{Rec}
+use Rattle.cache_model.specs.State.{State, nothing_yet, after_all}
+use Rattle.cache_model.specs.Permit.{Permit, Work}
+use Rattle.cache_model.specs.Legal.{MayGrow}
+
+pub record Kept : Type 0 where
+  pub base : State
+  pub since : List Rec
+
+-- what it stands for
+abbrev pub state_of : Kept → State
+state_of k = after_all k.base k.since
+
+-- all the records of a session
+abbrev pub all_of : List Rec → Kept
+all_of recs = record { base = nothing_yet; since = recs }
+
+-- with more records
+abbrev pub with_records : Kept → List Rec → Kept
+with_records k recs = record { base = k.base; since = k.since ++ recs }
+
+abbrev pub with_record : Kept → Rec → Kept
+with_record k rec = with_records k (rec ∷ [])
+
+-- a call adds records to a chronicle that bring a step from some work to what is left of it
+pub record AddsTo (p : Permit) (old : Kept) (before : Work) (new : Kept) (after : Work) : Type 0 where
+  pub added : List Rec
+  pub appends : new ≡ with_records old added
+  pub grows : MayGrow p (state_of old) before added after

@@ -1,0 +1,403 @@
+-- Which records a step adds: groups that stand together, each of which ends, leaves or refuses what
+-- was asked first.
+use Rattle.std.specs.Prelude.{ℕ, ◌≡◌, ◌≢◌, ◌+◌, ◌-◌, ◌*◌, ◌<◌, ◌≤◌, ◌==◌, Bool, true, false, if◌then◌else◌, List, [], ◌∷◌, ◌++◌, length, Option, Some, None, option_map, option_and_then, unwrap_or, is_some, cond, max}
+use Rattle.std.specs.List.{count_by}
+use Rattle.edge_io.specs.Causes.{Rose}
+use Rattle.tape_base.specs.declared.keys.Key.{Key}
+use Rattle.tape_base.specs.declared.pieces.PieceId.{PieceId}
+use Rattle.tape_base.specs.declared.digests.Digest.{Digest}
+use Rattle.tape_base.specs.declared.actors.Actor.{Actor}
+use Rattle.tape_base.specs.declared.geometries.Geometry.{Geometry}
+use Rattle.tape_base.specs.Blocks.{blocks_of}
+use Rattle.tape_base.specs.Digest.{digest_of}
+use Rattle.tape_base.specs.Geometry.{budget_of}
+use Rattle.tape_base.specs.Place.{floor_of}
+use Rattle.doc_header.specs.Reading.{document_digest, payload_of}
+use Rattle.fragment_table.specs.Table.{TableRow, made_row, total_length}
+use Rattle.alternate_vector.specs.Field.{Field}
+use Rattle.alternate_vector.specs.Alternates.{vector_size}
+use Rattle.alternate_vector.specs.Spelling.{vector_bytes}
+use Rattle.cache_model.specs.declared.cause.Cause.{Cause}
+use Rattle.cache_model.specs.declared.cause.Cause.TheVariants as cause
+use Rattle.cache_model.specs.declared.answer.ReadAnswer.{ReadAnswer}
+use Rattle.cache_model.specs.declared.answer.ReadAnswer.TheVariants as read
+use Rattle.cache_model.specs.declared.answer.NextAnswer.{NextAnswer}
+use Rattle.cache_model.specs.declared.answer.NextAnswer.TheVariants as next
+use Rattle.cache_model.specs.declared.record.Rec.{Rec}
+use Rattle.cache_model.specs.declared.record.Rec.TheVariants as rec
+use Rattle.cache_model.specs.State.{State, Row, PutRow, ReaderRow, Open, after_all, nothing_yet, alternate_of, cursor_next, floor_next, fragment_piece, place_now, list_of_put, live_row_of, put_of, reader_of, vector_piece, with_cut}
+use Rattle.cache_model.specs.Verdict.{is_open, live_vector_of, lookup_verdict, next_piece, next_row, reader_verdict}
+use Rattle.cache_model.specs.Permit.{Permit, IsAmong, Intent, Flush, Write, Fragment, Overflow, Weigh, Finish, Commit, GiveUp, Remove, Look, ReadOn, ReadAll, StopReading, Reason, ManyWriters, Exhausted, ManyFragments, TooLarge, Lost, Faulted, End, Stays, Done, Fails, Work, to_do, work_after}
+use Rattle.cache_model.specs.Room.{limit, placed_record, greatest_pin, has_room, is_flush_exhausted, HasPlace, MayDisplace}
+
+-- no vector was placed that is not committed yet
+abbrev pub IsQuiet : State → Type 0
+IsQuiet s = s.pending ≡ None
+
+-- how many writers may be open, and how many fragments a put may have
+abbrev pub most_writers : ℕ
+most_writers = 64
+
+abbrev pub most_fragments : ℕ
+most_fragments = 4096
+
+abbrev pub open_writers : State → ℕ
+open_writers s = count_by is_open s.puts
+
+-- the put is open, and this is its row
+pub record IsWriting (s : State) (put : ℕ) (w : PutRow) : Type 0 where
+  pub quiet : IsQuiet s
+  pub found : put_of s put ≡ Some w
+  pub is_open : w.writing ≡ Open
+
+abbrev pub is_writing : State → ℕ → Bool
+is_writing s put = unwrap_or (option_map is_open (put_of s put)) false
+
+-- ---- the device
+
+-- the count rose above that before the step and that of the last fault, and the device had counted as
+-- far at the step's end
+pub record MayCount (p : Permit) (s : State) (count : ℕ) : Type 0 where
+  pub rose : Rose (max p.faults_before s.fault) count
+  pub reached : count ≤ p.faults
+
+-- the piece is written out, and is not in the buffer any more
+abbrev pub IsWritten : State → Row → Type 0
+IsWritten s row = row.place < s.cursor
+
+-- the device gave these bytes for the piece in this step, in one read of its blocks
+pub record IsGiven (p : Permit) (s : State) (row : Row) (bytes : List ℕ) : Type 0 where
+  pub written : IsWritten s row
+  pub given : IsAmong (record { place = row.place; bytes = bytes }) p.reads
+  pub whole : length bytes ≡ 512 * row.blocks
+
+-- the piece is in the buffer, or the device gave its document in this step
+pub data IsRead (p : Permit) (s : State) (row : Row) : Type 0 where
+  buffered : s.cursor ≤ row.place → IsRead p s row
+  given : (bytes : List ℕ) → IsGiven p s row bytes → row.digest ≡ document_digest bytes → IsRead p s row
+
+-- what is asked for was read, where it is live
+abbrev pub IsReadWhereLive : Permit → State → Option Row → Type 0
+IsReadWhereLive p s None = Unit {0}
+IsReadWhereLive p s (Some row) = IsRead p s row
+
+-- the bytes that the device gave for the piece are not those of its digest
+pub record IsDamaged (p : Permit) (s : State) (row : Row) (found : Digest) : Type 0 where
+  pub bytes : List ℕ
+  pub given : IsGiven p s row bytes
+  pub digest : found ≡ document_digest bytes
+  pub differ : row.digest ≢ found
+
+abbrev pub damage_record : Row → Digest → Digest → Rec
+damage_record row kept found = rec.Damaged row.id row.place kept found
+
+abbrev pub damage_cause : Row → Digest → Digest → Cause
+damage_cause row kept found = cause.Damaged row.place kept found
+
+-- the piece that is asked for cannot be read: the record of that, and the cause
+pub data Trouble (p : Permit) (s : State) (row : Row) : List Rec → Cause → Type 0 where
+  faulted : (count : ℕ) → IsWritten s row → MayCount p s count
+      → Trouble p s row (rec.Fault count ∷ []) (cause.DeviceFault count)
+  damaged : (found : Digest) → IsDamaged p s row found
+      → Trouble p s row (damage_record row row.digest found ∷ []) (damage_cause row row.digest found)
+
+-- ---- a flush
+
+-- a flush may be tried: no vector is pending, the buffer is not empty, and the next one may begin
+pub record CanFlush (s : State) : Type 0 where
+  pub quiet : IsQuiet s
+  pub filled : 0 < s.filled
+  pub below : is_flush_exhausted s ≡ false
+
+-- the buffer is written out, and the next one begins
+pub record MayFlush (s : State) (added : List Rec) : Type 0 where
+  pub can : CanFlush s
+  pub is : added ≡ rec.Began (cursor_next s) (floor_next s) ∷ []
+
+-- the device refused to take the buffer
+pub record MayStop (p : Permit) (s : State) (count : ℕ) (added : List Rec) : Type 0 where
+  pub can : CanFlush s
+  pub counts : MayCount p s count
+  pub is : added ≡ rec.Fault count ∷ []
+
+pub data DoesFlush (p : Permit) (s : State) (added : List Rec) : End → Type 0 where
+  empty : IsQuiet s → s.filled ≡ 0 → added ≡ [] → DoesFlush p s added Done
+  flushes : MayFlush s added → DoesFlush p s added Done
+  stops : (count : ℕ) → MayStop p s count added → DoesFlush p s added (Fails (Faulted count))
+  exhausted : IsQuiet s → 0 < s.filled → is_flush_exhausted s ≡ true → added ≡ [] → DoesFlush p s added (Fails Exhausted)
+
+-- a piece of so many bytes that is about to be placed has no room: a flush is tried
+pub data MakesRoom (p : Permit) (s : State) (bytes : ℕ) (added : List Rec) : End → Type 0 where
+  flushes : has_room s bytes ≡ false → MayFlush s added → MakesRoom p s bytes added Stays
+  stops : (count : ℕ) → has_room s bytes ≡ false → MayStop p s count added → MakesRoom p s bytes added (Fails (Faulted count))
+  exhausted : has_room s bytes ≡ false → is_flush_exhausted s ≡ true → added ≡ [] → MakesRoom p s bytes added (Fails Exhausted)
+
+-- it has room, and would end at the limit or above
+pub record HasNoPlace (s : State) (bytes : ℕ) (added : List Rec) : Type 0 where
+  pub room : has_room s bytes ≡ true
+  pub above : limit ≤ place_now s + blocks_of bytes
+  pub is : added ≡ []
+
+-- ---- writers
+
+pub record MayOpenWrite (s : State) (actor : ℕ) (key : Key) (request response : List Field) (pin : ℕ) (added : List Rec) : Type 0 where
+  pub who : Actor
+  pub number : who.0 ≡ actor
+  pub quiet : IsQuiet s
+  pub few : open_writers s < most_writers
+  pub below : s.next_put + 1 < limit
+  pub is : added ≡ rec.WriteOpened who s.next_put key request response pin ∷ []
+
+pub data DoesWrite (s : State) (actor : ℕ) (key : Key) (request response : List Field) (pin : ℕ) (added : List Rec) : End → Type 0 where
+  opens : MayOpenWrite s actor key request response pin added → DoesWrite s actor key request response pin added Done
+  many : IsQuiet s → most_writers ≤ open_writers s → added ≡ [] → DoesWrite s actor key request response pin added (Fails ManyWriters)
+  exhausted : IsQuiet s → open_writers s < most_writers → limit ≤ s.next_put + 1 → added ≡ [] → DoesWrite s actor key request response pin added (Fails Exhausted)
+
+-- the fragment that a put cuts next
+abbrev pub next_fragment_of : PutRow → PieceId
+next_fragment_of w = fragment_piece w.key w.put (length w.cuts + 1)
+
+-- these bytes are the next fragment of the put: only the last one may be short
+pub record IsNext (s : State) (put index : ℕ) (payload : List ℕ) (w : PutRow) : Type 0 where
+  pub writing : IsWriting s put w
+  pub next : index ≡ length w.cuts + 1
+  pub few : length w.cuts < most_fragments
+  pub full : total_length w.cuts ≡ length w.cuts * s.geometry.fragment
+  pub some : 0 < length payload
+  pub small : length payload ≤ s.geometry.fragment
+
+pub record MayPlaceFragment (p : Permit) (s : State) (put index : ℕ) (payload : List ℕ) (added : List Rec) : Type 0 where
+  pub w : PutRow
+  pub displaced : List Rec
+  pub cut : IsNext s put index payload w
+  pub place : HasPlace s (length payload)
+  pub displaces : MayDisplace p s (next_fragment_of w) displaced
+  pub is : added ≡ rec.Cut put index (length payload) (digest_of payload)
+      ∷ (displaced ++ placed_record s (next_fragment_of w) w.pin (total_length w.cuts) (length payload) payload ∷ [])
+
+pub data DoesFragment (p : Permit) (s : State) (put index : ℕ) (payload : List ℕ) (added : List Rec) (e : End) : Type 0 where
+  places : e ≡ Done → MayPlaceFragment p s put index payload added → DoesFragment p s put index payload added e
+  rooms : (w : PutRow) → IsNext s put index payload w → MakesRoom p s (length payload) added e → DoesFragment p s put index payload added e
+  exhausted : (w : PutRow) → e ≡ Fails Exhausted → IsNext s put index payload w → HasNoPlace s (length payload) added → DoesFragment p s put index payload added e
+
+abbrev pub aborted_record : PutRow → Rec
+aborted_record w = rec.Aborted w.put w.key
+
+pub data DoesOverflow (s : State) (put : ℕ) (added : List Rec) : End → Type 0 where
+  aborts : (w : PutRow) → IsWriting s put w → length w.cuts ≡ most_fragments → added ≡ aborted_record w ∷ [] → DoesOverflow s put added (Fails (ManyFragments put))
+
+-- a put with a row for the rest that is not cut yet, for its size alone
+abbrev pub with_rest : PutRow → ℕ → PutRow
+with_rest w rest = if rest == 0 then w else with_cut (made_row rest []) w
+
+-- the bytes of the vector of the put's alternate alone, with that row
+abbrev pub size_alone : PutRow → ℕ → ℕ
+size_alone w rest = vector_size (alternate_of (with_rest w rest) ∷ [])
+
+abbrev pub FitsAlone : State → PutRow → ℕ → Type 0
+FitsAlone s w rest = blocks_of (size_alone w rest) ≤ budget_of s.geometry
+
+pub data DoesWeigh (p : Permit) (s : State) (put rest : ℕ) (added : List Rec) : End → Type 0 where
+  weighs : (w : PutRow) → IsWriting s put w → IsReadWhereLive p s (live_vector_of s w.key) → FitsAlone s w rest → added ≡ [] → DoesWeigh p s put rest added Done
+  too_large : (w : PutRow) → IsWriting s put w → IsReadWhereLive p s (live_vector_of s w.key) → budget_of s.geometry < blocks_of (size_alone w rest) → added ≡ aborted_record w ∷ []
+      → DoesWeigh p s put rest added (Fails (TooLarge put (size_alone w rest)))
+  -- the key's vector is read: a damaged one counts as none from here on
+  damaged : (w : PutRow) (row : Row) (found : Digest) → IsWriting s put w → live_vector_of s w.key ≡ Some row → IsDamaged p s row found
+      → added ≡ damage_record row row.digest found ∷ [] → DoesWeigh p s put rest added Stays
+  faulted : (w : PutRow) (row : Row) (count : ℕ) → IsWriting s put w → live_vector_of s w.key ≡ Some row → IsWritten s row → MayCount p s count
+      → added ≡ rec.Fault count ∷ [] → DoesWeigh p s put rest added (Fails (Faulted count))
+
+-- the fragment of a put is live
+abbrev pub IsFragmentLive : State → PutRow → ℕ → Type 0
+IsFragmentLive s w index = (row : Row) × (live_row_of s (fragment_piece w.key w.put index) ≡ Some row)
+
+-- the fragments up to an index are live
+abbrev pub AreLiveTo : State → PutRow → ℕ → Type 0
+AreLiveTo s w last = (index : ℕ) → 0 < index → index ≤ last → IsFragmentLive s w index
+
+-- all is cut, and the vector of the new alternate alone is a piece
+pub record IsCut (s : State) (put fragments : ℕ) (w : PutRow) : Type 0 where
+  pub writing : IsWriting s put w
+  pub count : length w.cuts ≡ fragments
+  pub alone : FitsAlone s w 0
+
+abbrev pub vector_payload : State → ℕ → List ℕ
+vector_payload s put = vector_bytes (list_of_put s put)
+
+-- the bytes of a put's vector
+abbrev pub vector_length : State → ℕ → ℕ
+vector_length s put = vector_size (list_of_put s put)
+
+pub record MayPlaceVector (p : Permit) (s : State) (put fragments : ℕ) (added : List Rec) : Type 0 where
+  pub w : PutRow
+  pub displaced : List Rec
+  pub cut : IsCut s put fragments w
+  pub whole : AreLiveTo s w fragments
+  pub place : HasPlace s (vector_length s put)
+  pub displaces : MayDisplace p s (vector_piece w.key put) displaced
+  pub is : added ≡ displaced ++ placed_record s (vector_piece w.key put) (greatest_pin (list_of_put s put)) 0 (vector_length s put) (vector_payload s put) ∷ []
+
+-- the least index that is not live; there is room for the vector
+pub record HasLost (s : State) (put fragments index : ℕ) (w : PutRow) : Type 0 where
+  pub cut : IsCut s put fragments w
+  pub room : has_room s (vector_length s put) ≡ true
+  pub some : 0 < index
+  pub within : index ≤ fragments
+  pub before : AreLiveTo s w (index - 1)
+  pub lost : live_row_of s (fragment_piece w.key put index) ≡ None
+
+-- a flush for room is tried first, then the fragments are looked at, then the place
+pub data DoesFinish (p : Permit) (s : State) (put fragments : ℕ) (added : List Rec) (e : End) : Type 0 where
+  places : e ≡ Done → MayPlaceVector p s put fragments added → DoesFinish p s put fragments added e
+  rooms : (w : PutRow) → IsCut s put fragments w → MakesRoom p s (vector_length s put) added e → DoesFinish p s put fragments added e
+  loses : (w : PutRow) (index : ℕ) → e ≡ Fails (Lost put index) → HasLost s put fragments index w → added ≡ aborted_record w ∷ [] → DoesFinish p s put fragments added e
+  exhausted : (w : PutRow) → e ≡ Fails Exhausted → IsCut s put fragments w → AreLiveTo s w fragments → HasNoPlace s (vector_length s put) added
+      → DoesFinish p s put fragments added e
+
+pub data DoesCommit (s : State) (put : ℕ) (added : List Rec) : End → Type 0 where
+  commits : (w : PutRow) → put_of s put ≡ Some w → w.writing ≡ Open → s.pending ≡ Some (vector_piece w.key put)
+      → added ≡ rec.Committed put w.key (total_length w.cuts) ∷ [] → DoesCommit s put added Done
+
+pub data DoesGiveUp (s : State) (put : ℕ) (added : List Rec) : End → Type 0 where
+  aborts : (w : PutRow) → IsWriting s put w → added ≡ aborted_record w ∷ [] → DoesGiveUp s put added Done
+  over : IsQuiet s → is_writing s put ≡ false → added ≡ [] → DoesGiveUp s put added Done
+
+pub data DoesRemove (s : State) (key : Key) (added : List Rec) : End → Type 0 where
+  removes : (row : Row) → IsQuiet s → live_vector_of s key ≡ Some row → added ≡ rec.Removed row.id.put key ∷ [] → DoesRemove s key added Done
+  absent : IsQuiet s → live_vector_of s key ≡ None → added ≡ [] → DoesRemove s key added Done
+
+-- ---- readers
+
+-- the verdict, or the trouble with the vector that was asked for
+pub data IsLookup (p : Permit) (s : State) (key : Key) (request : List Field) : List Rec → ReadAnswer → Type 0 where
+  verdict : IsReadWhereLive p s (live_vector_of s key) → IsLookup p s key request [] (lookup_verdict s key request)
+  trouble : (row : Row) (before : List Rec) (why : Cause) → live_vector_of s key ≡ Some row → Trouble p s row before why
+      → IsLookup p s key request before (read.Miss why)
+
+pub record MayLook (p : Permit) (s : State) (actor : ℕ) (key : Key) (request : List Field) (added : List Rec) : Type 0 where
+  pub who : Actor
+  pub before : List Rec
+  pub answer : ReadAnswer
+  pub number : who.0 ≡ actor
+  pub quiet : IsQuiet s
+  pub right : IsLookup p s key request before answer
+  pub is : added ≡ before ++ rec.ReadOpened s.next_reader who key request answer ∷ []
+
+pub data DoesLook (p : Permit) (s : State) (actor : ℕ) (key : Key) (request : List Field) (added : List Rec) : End → Type 0 where
+  looks : MayLook p s actor key request added → DoesLook p s actor key request added Done
+
+-- the device gave the document of the recorded digest, whose payload is not the one that the
+-- reader's table lists
+pub record IsMismatched (p : Permit) (s : State) (row : Row) (entry : TableRow) (found : Digest) : Type 0 where
+  pub bytes : List ℕ
+  pub given : IsGiven p s row bytes
+  pub whole : row.digest ≡ document_digest bytes
+  pub digest : found ≡ digest_of (payload_of bytes)
+  pub differ : entry.digest ≢ found.0
+
+abbrev pub digest_in : TableRow → Digest
+digest_in entry = record { 0 = entry.digest }
+
+-- the fragment that a reader takes next cannot be given
+pub data ReadTrouble (p : Permit) (s : State) (r : ReaderRow) (row : Row) (entry : TableRow) : List Rec → Cause → Type 0 where
+  troubled : (before : List Rec) (why : Cause) → Trouble p s row before why → ReadTrouble p s r row entry before why
+  mismatched : (found : Digest) → is_some r.table ≡ true → IsMismatched p s row entry found
+      → ReadTrouble p s r row entry (damage_record row (digest_in entry) found ∷ []) (damage_cause row (digest_in entry) found)
+
+-- the fragment that a reader takes next, where it is cut and live
+abbrev pub live_next : State → ReaderRow → Option Row
+live_next s r = option_and_then (λ (entry : TableRow). live_row_of s (next_piece r)) (next_row s r)
+
+-- the verdict, or the trouble with the next fragment, which has to be cut and live
+pub data IsReading (p : Permit) (s : State) (r : ReaderRow) : List Rec → NextAnswer → Type 0 where
+  verdict : IsReadWhereLive p s (live_next s r) → IsReading p s r [] (reader_verdict s r)
+  trouble : (entry : TableRow) (row : Row) (before : List Rec) (why : Cause) → next_row s r ≡ Some entry → live_row_of s (next_piece r) ≡ Some row
+      → ReadTrouble p s r row entry before why → IsReading p s r before (next.Broke why)
+
+abbrev pub answer_record : ℕ → NextAnswer → Rec
+answer_record reader (next.Gave index length) = rec.Gave reader index length
+answer_record reader (next.Ended length) = rec.Ended reader length
+answer_record reader (next.Waited cut) = rec.Waited reader cut
+answer_record reader (next.Broke why) = rec.Broke reader why
+
+pub record MayReadOn (p : Permit) (s : State) (reader : ℕ) (answer : NextAnswer) (added : List Rec) : Type 0 where
+  pub r : ReaderRow
+  pub before : List Rec
+  pub quiet : IsQuiet s
+  pub reading : reader_of s reader ≡ Some r
+  pub right : IsReading p s r before answer
+  pub is : added ≡ before ++ answer_record reader answer ∷ []
+
+pub data DoesReadOn (p : Permit) (s : State) (reader : ℕ) (added : List Rec) : End → Type 0 where
+  reads_on : (answer : NextAnswer) → MayReadOn p s reader answer added → DoesReadOn p s reader added Done
+
+abbrev pub is_given : NextAnswer → Bool
+is_given (next.Gave index length) = true
+is_given _ = false
+
+-- the reader is open and hit something
+abbrev pub has_hit : State → ℕ → Bool
+has_hit s reader = is_some (option_and_then (λ (r : ReaderRow). r.table) (reader_of s reader))
+
+pub data DoesReadAll (p : Permit) (s : State) (reader : ℕ) (added : List Rec) (e : End) : Type 0 where
+  reads_on : (answer : NextAnswer) → has_hit s reader ≡ true → MayReadOn p s reader answer added → e ≡ cond (is_given answer) Stays Done → DoesReadAll p s reader added e
+  has_none : IsQuiet s → has_hit s reader ≡ false → added ≡ [] → e ≡ Done → DoesReadAll p s reader added e
+
+pub data DoesStopReading (s : State) (reader : ℕ) (added : List Rec) : End → Type 0 where
+  closes : (r : ReaderRow) → IsQuiet s → reader_of s reader ≡ Some r → added ≡ rec.ReadClosed reader ∷ [] → DoesStopReading s reader added Done
+  closed : IsQuiet s → reader_of s reader ≡ None → added ≡ [] → DoesStopReading s reader added Done
+
+-- ---- a step
+
+-- these records come next, together, for what is asked
+abbrev pub Does : Permit → State → Intent → List Rec → End → Type 0
+Does p s Flush added e = DoesFlush p s added e
+Does p s (Write actor key request response pin) added e = DoesWrite s actor key request response pin added e
+Does p s (Fragment put index payload) added e = DoesFragment p s put index payload added e
+Does p s (Overflow put) added e = DoesOverflow s put added e
+Does p s (Weigh put rest) added e = DoesWeigh p s put rest added e
+Does p s (Finish put fragments) added e = DoesFinish p s put fragments added e
+Does p s (Commit put) added e = DoesCommit s put added e
+Does p s (GiveUp put) added e = DoesGiveUp s put added e
+Does p s (Remove key) added e = DoesRemove s key added e
+Does p s (Look actor key request) added e = DoesLook p s actor key request added e
+Does p s (ReadOn reader) added e = DoesReadOn p s reader added e
+Does p s (ReadAll reader) added e = DoesReadAll p s reader added e
+Does p s (StopReading reader) added e = DoesStopReading s reader added e
+
+-- one group: what is asked first comes to an end, or stays; where nothing is left, nothing comes
+abbrev pub Advances : Permit → State → List Intent → Option Reason → List Rec → Work → Type 0
+Advances p s [] why added after = ⊥
+Advances p s (i ∷ rest) why added after = (e : End) × Does p s i added e × (after ≡ work_after i rest why e)
+
+-- from some work to what is left of it, group after group
+pub data MayGrow (p : Permit) : State → Work → List Rec → Work → Type 0 where
+  nothing : {s : State} {w : Work} → MayGrow p s w [] w
+  more : {s : State} {w after : Work} {rest : List Rec} (added : List Rec) (between : Work)
+      → Advances p s w.intents w.refused added between
+      → MayGrow p (after_all s added) between rest after → MayGrow p s w (added ++ rest) after
+
+-- a whole step: nothing is left but what a refusal excused, and no vector is pending
+pub record IsStep (p : Permit) (s : State) (intents : List Intent) (added : List Rec) (refused : Option Reason) : Type 0 where
+  pub grows : MayGrow p s (to_do intents) added (record { intents = []; refused = refused })
+  pub quiet : IsQuiet (after_all s added)
+
+-- ---- a chronicle
+
+-- a session begins with a format, and its first buffer
+abbrev pub format_records : Geometry → List Rec
+format_records geometry = rec.Formatted geometry ∷ rec.Began geometry.content (floor_of geometry geometry.content) ∷ []
+
+-- a step as it went: what the device did in it, what it was asked, and why it did less
+pub record Course : Type 0 where
+  pub permit : Permit
+  pub intents : List Intent
+  pub refused : Option Reason
+
+-- the records of a session up to the end of a step, by its steps, with a directory that displaces or
+-- does not
+pub data IsLegal (packed : Bool) : List Course → List Rec → Type 0 where
+  begins : (geometry : Geometry) → IsLegal packed [] (format_records geometry)
+  steps : {courses : List Course} {before added : List Rec} (course : Course) → course.permit.packed ≡ packed
+      → IsLegal packed courses before → IsStep course.permit (after_all nothing_yet before) course.intents added course.refused
+      → IsLegal packed (courses ++ course ∷ []) (before ++ added)

@@ -1,0 +1,11 @@
+pub mod State
+pub mod Verdict
+pub mod Permit
+pub mod Room
+pub mod Legal
+pub mod Kept
+pub mod PlaceLaws
+pub mod StepLaws
+pub mod Choices
+pub mod VerdictLaws
+pub mod Tape

@@ -1,0 +1,96 @@
+-- Where a piece is placed: its document, the room of the buffer, and what its entry displaces.
+use Rattle.std.specs.Prelude.{ℕ, ◌≡◌, ◌≢◌, ◌+◌, ◌*◌, ◌/◌, ◌^◌, ◌<◌, ◌≤◌, ◌==◌, Bool, true, false, ◌&&◌, nat_le, List, [], length, filter, map, fold, max, All, AllPairs, Contains}
+use Rattle.std.specs.List.{list_any, count_by, range_with_len}
+use Rattle.tape_base.specs.declared.pieces.PieceId.{PieceId}
+use Rattle.tape_base.specs.Key.{segment_of, bucket_of}
+use Rattle.tape_base.specs.Piece.{key_of_piece}
+use Rattle.tape_base.specs.Blocks.{blocks_of}
+use Rattle.tape_base.specs.Geometry.{budget_of}
+use Rattle.doc_header.specs.declared.documents.Doc.{Doc}
+use Rattle.doc_header.specs.Document.{digest_of_document}
+use Rattle.alternate_vector.specs.Alternates.{Stored}
+use Rattle.cache_model.specs.declared.record.Rec.{Rec}
+use Rattle.cache_model.specs.declared.record.Rec.TheVariants as rec
+use Rattle.cache_model.specs.State.{State, Row, live_rows, place_now, cursor_next}
+use Rattle.cache_model.specs.Permit.{Permit}
+
+-- places and numbers stay below this
+abbrev pub limit : ℕ
+limit = 2 ^ 62
+
+-- ---- documents
+
+-- a piece as the document that it is placed as
+abbrev pub doc_at : State → PieceId → ℕ → ℕ → Doc
+doc_at s piece pin start = record { id = piece; place = place_now s; generation = s.geometry.generation; pin = pin; start = start }
+
+-- the piece, whose payload has so many bytes, is placed behind those of its buffer
+abbrev pub placed_record : State → PieceId → ℕ → ℕ → ℕ → List ℕ → Rec
+placed_record s piece pin start bytes payload =
+    rec.Placed piece (place_now s) (blocks_of bytes) (digest_of_document (doc_at s piece pin start) payload) pin
+
+-- the greatest pin of a list of alternates
+abbrev pub greatest_pin : List Stored → ℕ
+greatest_pin alternates = fold (λ pin (a : Stored). max pin a.pin) 0 alternates
+
+-- ---- the room of the buffer
+
+-- a document with so many bytes of payload has room in the buffer
+abbrev pub has_room : State → ℕ → Bool
+has_room s bytes = nat_le (s.filled + blocks_of bytes) s.geometry.agg
+
+-- the next buffer would begin at the limit or above
+abbrev pub is_flush_exhausted : State → Bool
+is_flush_exhausted s = nat_le limit (cursor_next s)
+
+-- a document with so many bytes of payload may be placed now
+pub record HasPlace (s : State) (bytes : ℕ) : Type 0 where
+  pub small : blocks_of bytes ≤ budget_of s.geometry
+  pub room : has_room s bytes ≡ true
+  pub below : place_now s + blocks_of bytes < limit
+
+-- ---- what an entry displaces (buckets of four slots, as the Traffic Server guide describes)
+
+abbrev pub segment_of_piece : State → PieceId → ℕ
+segment_of_piece s id = segment_of s.geometry (key_of_piece id)
+
+abbrev pub bucket_of_piece : State → PieceId → ℕ
+bucket_of_piece s id = bucket_of s.geometry (key_of_piece id)
+
+-- the live pieces of a segment
+abbrev pub rows_of_segment : State → ℕ → List Row
+rows_of_segment s segment = filter (λ row. segment_of_piece s row.id == segment) (live_rows s)
+
+abbrev pub is_bucket_used : State → List Row → ℕ → Bool
+is_bucket_used s rows bucket = list_any (λ row. bucket_of_piece s row.id == bucket) rows
+
+-- how many buckets have a piece
+abbrev pub used_buckets : State → List Row → ℕ
+used_buckets s rows = count_by (is_bucket_used s rows) (range_with_len 0 s.geometry.buckets)
+
+-- the root of the piece's bucket is used, and so are all slots of the segment that are no roots
+abbrev pub is_full_with : State → ℕ → List Row → Bool
+is_full_with s bucket rows =
+    is_bucket_used s rows bucket && length rows == 3 * s.geometry.buckets + used_buckets s rows
+
+abbrev pub is_full_for : State → PieceId → Bool
+is_full_for s piece = is_full_with s (bucket_of_piece s piece) (rows_of_segment s (segment_of_piece s piece))
+
+-- a tenth of the slots that are no roots, rounded up, each once
+pub record ArePurged (rows purged : List Row) (buckets : ℕ) : Type 0 where
+  pub each : All (Contains rows) purged
+  pub apart : AllPairs (λ (a b : Row). a.id ≢ b.id) purged
+  pub tenth : length purged ≡ (3 * buckets + 9) / 10
+
+abbrev pub displaced_record : ℕ → ℕ → Row → Rec
+displaced_record segment live row = rec.Displaced row.id segment live
+
+abbrev pub displaces : Permit → State → PieceId → Bool
+displaces p s piece = p.packed && is_full_for s piece
+
+-- the records of what the entry of a piece displaces: nothing where there is a slot for it
+pub record MayDisplace (p : Permit) (s : State) (piece : PieceId) (added : List Rec) : Type 0 where
+  pub purged : List Row
+  pub full : displaces p s piece ≡ true → ArePurged (rows_of_segment s (segment_of_piece s piece)) purged s.geometry.buckets
+  pub free : displaces p s piece ≡ false → purged ≡ []
+  pub is : added ≡ map (displaced_record (segment_of_piece s piece) (length (rows_of_segment s (segment_of_piece s piece)))) purged

@@ -1,0 +1,339 @@
+-- What the records of a session stand for: one record of values, and what each record makes of it.
+use Rattle.std.specs.Prelude.{ℕ, ◌+◌, ◌-◌, ◌*◌, ◌==◌, nat_le, Bool, not, if◌then◌else◌, List, [], ◌∷◌, ◌++◌, map, filter, find, fold, Option, Some, None, option_map, option_and_then, option_to_list, slice_get, unwrap_or}
+use Rattle.std.specs.Map.{lookup}
+use Rattle.std.proofs.Math.Dec.{lit≤, lit<}
+use Rattle.std.specs.Prelude.{refl}
+use Rattle.tape_base.specs.declared.keys.Key.{Key}
+use Rattle.tape_base.specs.declared.pieces.PieceId.{PieceId}
+use Rattle.tape_base.specs.declared.digests.Digest.{Digest}
+use Rattle.tape_base.specs.declared.geometries.Geometry.{Geometry}
+use Rattle.tape_base.specs.Key.{same_key}
+use Rattle.tape_base.specs.Piece.{is_vector, same_piece}
+use Rattle.tape_base.specs.Geometry.{budget_of}
+use Rattle.tape_base.specs.Place.{floor_of, next_cursor_of}
+use Rattle.fragment_table.specs.Table.{TableRow, made_row, total_length}
+use Rattle.alternate_vector.specs.Field.{Field}
+use Rattle.alternate_vector.specs.Alternates.{Stored, chosen, merged}
+use Rattle.cache_model.specs.declared.cause.Cause.{Cause}
+use Rattle.cache_model.specs.declared.cause.Cause.TheVariants as cause
+use Rattle.cache_model.specs.declared.answer.ReadAnswer.{ReadAnswer}
+use Rattle.cache_model.specs.declared.answer.ReadAnswer.TheVariants as read
+use Rattle.cache_model.specs.declared.record.Rec.{Rec}
+use Rattle.cache_model.specs.declared.record.Rec.TheVariants as rec
+
+-- a piece that was placed and not taken out; a vector has the alternates that it lists
+pub record Row : Type 0 where
+  pub id : PieceId
+  pub place : ℕ
+  pub blocks : ℕ
+  pub digest : Digest
+  pub pin : ℕ
+  pub alternates : Option (List Stored)
+
+-- the last of a key's commits and removals, by the put of its vector
+pub data LastVector : Type 0 where
+  Complete : (put : ℕ) → LastVector
+  TakenOut : (put : ℕ) → LastVector
+
+-- how far a put has come
+pub data Writing : Type 0 where
+  Open : Writing
+  Closed : Writing
+  GivenUp : Writing
+
+-- a put of this session, and the fragments that it has cut
+pub record PutRow : Type 0 where
+  pub actor : ℕ
+  pub put : ℕ
+  pub key : Key
+  pub request : List Field
+  pub response : List Field
+  pub pin : ℕ
+  pub cuts : List TableRow
+  pub writing : Writing
+
+-- an open reader: the fragments of the alternate that it hit, or none where it follows a writer,
+-- and the index that it takes next
+pub record ReaderRow : Type 0 where
+  pub actor : ℕ
+  pub reader : ℕ
+  pub key : Key
+  pub put : ℕ
+  pub table : Option (List TableRow)
+  pub next : ℕ
+
+pub record State : Type 0 where
+  pub geometry : Geometry
+  -- where the buffer begins, and how many blocks were placed from there
+  pub cursor : ℕ
+  pub filled : ℕ
+  -- the pieces that stand, in the order in which they were placed
+  pub rows : List Row
+  -- the piece that was placed last at each place, the last first
+  pub places : List (ℕ × PieceId)
+  -- what the insert that goes on has displaced so far
+  pub displaced : List Row
+  -- the pieces that were displaced or damaged, the last first
+  pub lost : List (PieceId × Cause)
+  -- the commits and removals of each key, the last first
+  pub vectors : List (Key × LastVector)
+  -- the puts, the last first
+  pub puts : List PutRow
+  -- a vector that was placed and is not committed yet
+  pub pending : Option PieceId
+  -- the number of the next put
+  pub next_put : ℕ
+  -- the puts of each key that were given up, the last first
+  pub aborts : List (Key × ℕ)
+  -- the open readers, the last first
+  pub readers : List ReaderRow
+  -- the number of the next reader
+  pub next_reader : ℕ
+  -- the device's count at its last fault
+  pub fault : ℕ
+
+-- a geometry that stands where no session began yet
+abbrev pub least_geometry : Geometry
+least_geometry = record {
+  segments = 1;
+  buckets = 1;
+  content = 32;
+  agg = 8;
+  reach = 8;
+  fragment = 1;
+  generation = 0;
+  accepted = record {
+    segments_fit = (lit≤ tt, lit≤ tt);
+    buckets_fit = (lit≤ tt, lit≤ tt);
+    agg_fits = (lit≤ tt, lit≤ tt, refl);
+    content_fits = (lit≤ tt, lit< tt);
+    reach_fits = (lit≤ tt, lit< tt);
+    fragment_fits = (lit≤ tt, lit≤ tt);
+  };
+}
+
+-- at the beginning of a session that a format began
+abbrev pub formatted : Geometry → State
+formatted geometry = record {
+  geometry = geometry;
+  cursor = geometry.content;
+  filled = 0;
+  rows = [];
+  places = [];
+  displaced = [];
+  lost = [];
+  vectors = [];
+  puts = [];
+  pending = None;
+  next_put = 1;
+  aborts = [];
+  readers = [];
+  next_reader = 1;
+  fault = 0;
+}
+
+-- before the first record
+abbrev pub nothing_yet : State
+nothing_yet = formatted least_geometry
+
+-- ---- places
+
+-- the least place that may be read
+abbrev pub floor_now : State → ℕ
+floor_now s = floor_of s.geometry s.cursor
+
+-- where the next piece is placed
+abbrev pub place_now : State → ℕ
+place_now s = s.cursor + s.filled
+
+-- where the next buffer begins, and its floor
+abbrev pub cursor_next : State → ℕ
+cursor_next s = next_cursor_of s.geometry s.cursor s.filled
+
+abbrev pub floor_next : State → ℕ
+floor_next s = floor_of s.geometry (cursor_next s)
+
+-- ---- pieces
+
+abbrev pub vector_piece : Key → ℕ → PieceId
+vector_piece key put = record { first = key; put = put; index = 0 }
+
+abbrev pub fragment_piece : Key → ℕ → ℕ → PieceId
+fragment_piece key put index = record { first = key; put = put; index = index }
+
+abbrev pub row_in : List Row → PieceId → Option Row
+row_in rows id = find (λ row. same_piece row.id id) rows
+
+abbrev pub row_of : State → PieceId → Option Row
+row_of s id = row_in s.rows id
+
+abbrev pub place_of : State → PieceId → Option ℕ
+place_of s id = option_map (λ row. row.place) (row_of s id)
+
+-- a piece is live where its place is not below the floor, also where it ends above it
+abbrev pub is_live : State → Row → Bool
+is_live s row = nat_le (floor_now s) row.place
+
+abbrev pub only_live : State → Row → Option Row
+only_live s row = if is_live s row then Some row else None
+
+abbrev pub live_row_of : State → PieceId → Option Row
+live_row_of s id = option_and_then (only_live s) (row_of s id)
+
+abbrev pub live_rows : State → List Row
+live_rows s = filter (is_live s) s.rows
+
+-- ---- puts and readers
+
+abbrev pub put_of : State → ℕ → Option PutRow
+put_of s put = find (λ p. p.put == put) s.puts
+
+abbrev pub reader_of : State → ℕ → Option ReaderRow
+reader_of s reader = find (λ r. r.reader == reader) s.readers
+
+abbrev pub last_vector : State → Key → Option LastVector
+last_vector s key = lookup (λ k. same_key k key) s.vectors
+
+abbrev pub last_abort : State → Key → Option ℕ
+last_abort s key = lookup (λ k. same_key k key) s.aborts
+
+-- ---- alternates (RFC 9111, section 4.1)
+
+-- the alternate that a put stands for
+abbrev pub alternate_of : PutRow → Stored
+alternate_of p = record { put = p.put; pin = p.pin; length = total_length p.cuts; request = p.request; response = p.response; table = p.cuts }
+
+-- the alternates of a vector that may be read
+abbrev pub list_of_row : State → Row → List Stored
+list_of_row s row = if is_live s row then unwrap_or row.alternates [] else []
+
+-- the alternates of a key's last vector, where that is live and among some rows
+abbrev pub list_of_last : State → List Row → Key → LastVector → List Stored
+list_of_last s rows key (Complete put) = unwrap_or (option_map (list_of_row s) (row_in rows (vector_piece key put))) []
+list_of_last s rows key (TakenOut put) = []
+
+abbrev pub list_among : State → List Row → Key → List Stored
+list_among s rows key = unwrap_or (option_map (list_of_last s rows key) (last_vector s key)) []
+
+-- the alternates of a key
+abbrev pub alternates_of : State → Key → List Stored
+alternates_of s key = list_among s s.rows key
+
+-- how many alternates a vector lists at most
+abbrev pub most_alternates : ℕ
+most_alternates = 5
+
+-- the most bytes of payload that one piece may have
+abbrev pub most_payload : Geometry → ℕ
+most_payload g = 512 * budget_of g - 128
+
+-- the alternates of a put's vector: those before that the new request does not match, and the put's
+-- own, as many from the end as there may be; what the insert displaces counts as still there
+abbrev pub merged_list : State → PutRow → List Stored
+merged_list s p = merged most_alternates (most_payload s.geometry) (list_among s (s.displaced ++ s.rows) p.key) (alternate_of p)
+
+abbrev pub list_of_put : State → ℕ → List Stored
+list_of_put s put = unwrap_or (option_map (merged_list s) (put_of s put)) []
+
+-- the last alternate of a list that matches a request
+abbrev pub last_match : List Field → List Stored → Option Stored
+last_match request alternates = option_and_then (slice_get alternates) (chosen request alternates)
+
+-- ---- what each record makes of the state
+
+abbrev pub without : PieceId → List Row → List Row
+without id rows = filter (λ row. not (same_piece row.id id)) rows
+
+abbrev pub listed : State → PieceId → Option (List Stored)
+listed s piece = if is_vector piece then Some (list_of_put s piece.put) else None
+
+abbrev pub placed_row : State → PieceId → ℕ → ℕ → Digest → ℕ → Row
+placed_row s piece place blocks digest pin =
+    record { id = piece; place = place; blocks = blocks; digest = digest; pin = pin; alternates = listed s piece }
+
+-- a key's last vector goes, where it is not that of the put
+abbrev pub without_earlier : Key → ℕ → Option LastVector → List Row → List Row
+without_earlier key put (Some (Complete old)) rows = if old == put then rows else without (vector_piece key old) rows
+without_earlier key put _ rows = rows
+
+abbrev pub change_put : ℕ → (PutRow → PutRow) → List PutRow → List PutRow
+change_put put f puts = map (λ p. if p.put == put then f p else p) puts
+
+abbrev pub with_cut : TableRow → PutRow → PutRow
+with_cut row p = record p { cuts = p.cuts ++ row ∷ [] }
+
+abbrev pub with_writing : Writing → PutRow → PutRow
+with_writing writing p = record p { writing = writing }
+
+abbrev pub change_reader : ℕ → ℕ → List ReaderRow → List ReaderRow
+change_reader reader next readers = map {A = ReaderRow} (λ r. if r.reader == reader then record r { next = next } else r) readers
+
+abbrev pub without_reader : ℕ → List ReaderRow → List ReaderRow
+without_reader reader readers = filter (λ r. not (r.reader == reader)) readers
+
+-- the fragments of the alternate that a lookup hits
+abbrev pub table_of_hit : State → Key → List Field → List TableRow
+table_of_hit s key request = unwrap_or (option_map (λ (a : Stored). a.table) (last_match request (alternates_of s key))) []
+
+abbrev pub opened_reader : State → ℕ → ℕ → Key → List Field → ReadAnswer → List ReaderRow
+opened_reader s reader actor key request (read.Hit put) =
+    record { actor = actor; reader = reader; key = key; put = put; table = Some (table_of_hit s key request); next = 1 } ∷ []
+opened_reader s reader actor key request (read.Follow put) =
+    record { actor = actor; reader = reader; key = key; put = put; table = None; next = 1 } ∷ []
+opened_reader s reader actor key request (read.Miss why) = []
+
+abbrev pub opened_put : ℕ → ℕ → Key → List Field → List Field → ℕ → PutRow
+opened_put actor put key request response pin =
+    record { actor = actor; put = put; key = key; request = request; response = response; pin = pin; cuts = []; writing = Open }
+
+abbrev pub state_after : State → Rec → State
+state_after s (rec.Formatted geometry) = formatted geometry
+state_after s (rec.Began cursor floor) = record s { cursor = cursor; filled = 0 }
+state_after s (rec.Placed piece place blocks digest pin) = record s {
+  filled = s.filled + blocks;
+  rows = without piece s.rows ++ placed_row s piece place blocks digest pin ∷ [];
+  places = (place, piece) ∷ s.places;
+  displaced = [];
+  pending = if is_vector piece then Some piece else s.pending;
+}
+state_after s (rec.Displaced piece segment live) = record s {
+  rows = without piece s.rows;
+  displaced = s.displaced ++ option_to_list (row_of s piece);
+  lost = (piece, cause.Displaced segment live) ∷ s.lost;
+}
+state_after s (rec.Damaged piece place kept found) = record s {
+  rows = without piece s.rows;
+  lost = (piece, cause.Damaged place kept found) ∷ s.lost;
+}
+state_after s (rec.WriteOpened actor put key request response pin) = record s {
+  puts = opened_put actor.0 put key request response pin ∷ s.puts;
+  next_put = put + 1;
+}
+state_after s (rec.Cut put index length digest) = record s { puts = change_put put (with_cut (made_row length digest.0)) s.puts }
+state_after s (rec.Committed put key length) = record s {
+  rows = without_earlier key put (last_vector s key) s.rows;
+  vectors = (key, Complete put) ∷ s.vectors;
+  puts = change_put put (with_writing Closed) s.puts;
+  pending = None;
+}
+state_after s (rec.Aborted put key) = record s {
+  puts = change_put put (with_writing GivenUp) s.puts;
+  aborts = (key, put) ∷ s.aborts;
+}
+state_after s (rec.Removed put key) = record s {
+  rows = without (vector_piece key put) s.rows;
+  vectors = (key, TakenOut put) ∷ s.vectors;
+}
+state_after s (rec.ReadOpened reader actor key request answer) = record s {
+  readers = opened_reader s reader actor.0 key request answer ++ s.readers;
+  next_reader = reader + 1;
+}
+state_after s (rec.Gave reader index length) = record s { readers = change_reader reader (index + 1) s.readers }
+state_after s (rec.Ended reader length) = s
+state_after s (rec.Waited reader cut) = s
+state_after s (rec.Broke reader why) = s
+state_after s (rec.ReadClosed reader) = record s { readers = without_reader reader s.readers }
+state_after s (rec.Fault count) = record s { fault = count }
+
+abbrev pub after_all : State → List Rec → State
+after_all s recs = fold state_after s recs

@@ -1,0 +1,156 @@
+-- What a lookup and a reader are answered, and the cause where there is nothing to give.
+use Rattle.std.specs.Prelude.{ℕ, ◌-◌, ◌==◌, Bool, true, false, ◌&&◌, if◌then◌else◌, List, [], length, find, Option, Some, None, option_and_then, option_map, unwrap_or, slice_get}
+use Rattle.std.specs.Map.{lookup}
+use Rattle.tape_base.specs.declared.keys.Key.{Key}
+use Rattle.tape_base.specs.declared.pieces.PieceId.{PieceId}
+use Rattle.tape_base.specs.declared.digests.Digest.{Digest}
+use Rattle.tape_base.specs.Key.{same_key}
+use Rattle.tape_base.specs.Piece.{same_piece}
+use Rattle.fragment_table.specs.Table.{TableRow, total_length}
+use Rattle.alternate_vector.specs.Field.{Field}
+use Rattle.alternate_vector.specs.Vary.{request_matches}
+use Rattle.alternate_vector.specs.Alternates.{Stored}
+use Rattle.cache_model.specs.declared.cause.Cause.{Cause}
+use Rattle.cache_model.specs.declared.cause.Cause.TheVariants as cause
+use Rattle.cache_model.specs.declared.answer.ReadAnswer.{ReadAnswer}
+use Rattle.cache_model.specs.declared.answer.ReadAnswer.TheVariants as read
+use Rattle.cache_model.specs.declared.answer.NextAnswer.{NextAnswer}
+use Rattle.cache_model.specs.declared.answer.NextAnswer.TheVariants as next
+use Rattle.cache_model.specs.State.{State, Row, PutRow, ReaderRow, LastVector, Complete, TakenOut, Writing, Open, Closed, GivenUp, alternates_of, floor_now, fragment_piece, last_abort, last_match, last_vector, live_row_of, put_of, row_of, vector_piece}
+
+-- ---- causes
+
+-- of what no record of the session speaks of
+abbrev pub no_record : State → Cause
+no_record s = cause.NeverPut
+
+abbrev pub cause_of_loss : State → PieceId → Option Cause
+cause_of_loss s id = lookup (λ lost. same_piece lost id) s.lost
+
+abbrev pub passed : State → Row → Cause
+passed s row = cause.Passed row.place (floor_now s)
+
+-- why a piece is not live: it was displaced or damaged, or it was passed; a vector that was taken out
+-- has no cause of its own
+abbrev pub cause_of_piece : State → PieceId → Cause
+cause_of_piece s id = unwrap_or (cause_of_loss s id) (unwrap_or (option_map (passed s) (row_of s id)) (no_record s))
+
+abbrev pub no_match : Row → Cause
+no_match row = cause.NoMatch (length (unwrap_or row.alternates []))
+
+abbrev pub cause_of_vector : State → PieceId → Cause
+cause_of_vector s id = unwrap_or (option_map no_match (live_row_of s id)) (cause_of_piece s id)
+
+abbrev pub cause_of_last : State → Key → LastVector → Cause
+cause_of_last s key (Complete put) = cause_of_vector s (vector_piece key put)
+cause_of_last s key (TakenOut put) = cause.Removed
+
+abbrev pub cause_without_vector : State → Key → Cause
+cause_without_vector s key = unwrap_or (option_map cause.Aborted (last_abort s key)) (no_record s)
+
+-- why a lookup of a key gives neither a stored alternate nor a writer to follow
+abbrev pub cause_of_miss : State → Key → Cause
+cause_of_miss s key = unwrap_or (option_map (cause_of_last s key) (last_vector s key)) (cause_without_vector s key)
+
+-- ---- lookups
+
+abbrev pub is_open : PutRow → Bool
+is_open p = elim p.writing [ Open ↦ true | Closed ↦ false | GivenUp ↦ false ]
+
+-- the stored alternate that answers a request
+abbrev pub hit : State → Key → List Field → Option Stored
+hit s key request = last_match request (alternates_of s key)
+
+abbrev pub may_follow : Key → List Field → PutRow → Bool
+may_follow key request p = is_open p && (same_key p.key key && request_matches request p.request p.response)
+
+-- the last open writer that answers a request
+abbrev pub followed : State → Key → List Field → Option PutRow
+followed s key request = find (may_follow key request) s.puts
+
+abbrev pub hit_answer : Stored → ReadAnswer
+hit_answer a = read.Hit a.put
+
+abbrev pub follow_answer : PutRow → ReadAnswer
+follow_answer p = read.Follow p.put
+
+-- a stored alternate, or else an open writer, or else the cause
+abbrev pub lookup_verdict : State → Key → List Field → ReadAnswer
+lookup_verdict s key request =
+    unwrap_or (option_map hit_answer (hit s key request))
+    (unwrap_or (option_map follow_answer (followed s key request))
+    (read.Miss (cause_of_miss s key)))
+
+-- ---- readers
+
+abbrev pub cuts_of : State → ℕ → List TableRow
+cuts_of s put = unwrap_or (option_map (λ (p : PutRow). p.cuts) (put_of s put)) []
+
+-- the fragments of what a reader hit, or those that its writer has cut
+abbrev pub table_of : State → ReaderRow → List TableRow
+table_of s r = unwrap_or r.table (cuts_of s r.put)
+
+abbrev pub next_piece : ReaderRow → PieceId
+next_piece r = fragment_piece r.key r.put r.next
+
+-- the fragment that a reader takes next, where it is cut
+abbrev pub next_row : State → ReaderRow → Option TableRow
+next_row s r = slice_get (table_of s r) (r.next - 1)
+
+abbrev pub verdict_of_fragment : State → ReaderRow → TableRow → NextAnswer
+verdict_of_fragment s r row =
+    unwrap_or (option_map (λ (live : Row). next.Gave r.next row.length) (live_row_of s (next_piece r)))
+    (next.Broke (cause_of_piece s (next_piece r)))
+
+abbrev pub verdict_of_writing : PutRow → Writing → NextAnswer
+verdict_of_writing p Open = next.Waited (length p.cuts)
+verdict_of_writing p Closed = next.Ended (total_length p.cuts)
+verdict_of_writing p GivenUp = next.Broke (cause.Aborted p.put)
+
+-- a put that is followed is known
+abbrev pub verdict_of_followed : Option PutRow → NextAnswer
+verdict_of_followed (Some p) = verdict_of_writing p p.writing
+verdict_of_followed None = next.Waited 0
+
+-- where all that is cut was given
+abbrev pub verdict_at_end : State → ReaderRow → Option (List TableRow) → NextAnswer
+verdict_at_end s r (Some table) = next.Ended (total_length table)
+verdict_at_end s r None = verdict_of_followed (put_of s r.put)
+
+-- the next fragment where it is cut and live, or why it is not; behind the last one how the put stands
+abbrev pub reader_verdict : State → ReaderRow → NextAnswer
+reader_verdict s r = unwrap_or (option_map (verdict_of_fragment s r) (next_row s r)) (verdict_at_end s r r.table)
+
+-- ---- what a chronicle is asked of pieces and keys
+
+-- the key's last vector, where it was not removed
+abbrev pub vector_of_last : Key → LastVector → Option PieceId
+vector_of_last key (Complete put) = Some (vector_piece key put)
+vector_of_last key (TakenOut put) = None
+
+abbrev pub vector_of : State → Key → Option PieceId
+vector_of s key = option_and_then (vector_of_last key) (last_vector s key)
+
+abbrev pub live_vector_of : State → Key → Option Row
+live_vector_of s key = option_and_then (live_row_of s) (vector_of s key)
+
+-- the piece stands at this place
+abbrev pub if_at : ℕ → PieceId → Row → Option PieceId
+if_at place id row = if row.place == place then Some id else None
+
+abbrev pub if_still_at : State → ℕ → PieceId → Option PieceId
+if_still_at s place id = option_and_then (if_at place id) (live_row_of s id)
+
+-- the live piece that begins at a place
+abbrev pub piece_at : State → ℕ → Option PieceId
+piece_at s place = option_and_then (if_still_at s place) (lookup (λ p. p == place) s.places)
+
+-- the recorded digest, the blocks and the pin of a live piece
+abbrev pub digest_of_piece : State → PieceId → Option Digest
+digest_of_piece s id = option_map (λ (row : Row). row.digest) (live_row_of s id)
+
+abbrev pub size_of : State → PieceId → Option ℕ
+size_of s id = option_map (λ (row : Row). row.blocks) (live_row_of s id)
+
+abbrev pub pin_of : State → PieceId → Option ℕ
+pin_of s id = option_map (λ (row : Row). row.pin) (live_row_of s id)

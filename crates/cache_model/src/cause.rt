@@ -1,0 +1,40 @@
+// Why a lookup or a reader is given nothing.
+
+use tape_base::Digest;
+
+/// Why there is nothing to give.
+#[derive(Clone, Copy, Debug, PartialEq, Eq)]
+pub enum Cause {
+    /// Nothing was put under the key in this session.
+    NeverPut,
+    /// The key's last vector was removed.
+    Removed,
+    /// The piece stands below the floor.
+    Passed {
+        place: u64,
+        floor: u64,
+    },
+    /// The key's vector is live, and none of so many alternates matches.
+    NoMatch {
+        count: u32,
+    },
+    /// The piece's entry was purged from a segment that had so many live pieces.
+    Displaced {
+        segment: u32,
+        live: u64,
+    },
+    /// The last writer of the key gave up.
+    Aborted {
+        writer: u64,
+    },
+    /// The device refused a call, and its count of faults then stood at `count`.
+    DeviceFault {
+        count: u64,
+    },
+    /// The bytes at the piece's place do not have the digest that was kept.
+    Damaged {
+        place: u64,
+        kept: Digest,
+        found: Digest,
+    },
+}

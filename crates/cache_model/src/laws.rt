@@ -1,0 +1,198 @@
+// Laws of the definitions over records, in the subject's sentences. These functions do nothing when
+// they run.
+ghost use Rattle.cache_model.specs.PlaceLaws.{PlaceFollows, PlaceIsLast, TakenIsNowhere, ReplacedIsNowhere, PassedIsNotLive, VectorIsLast, FloorIsLast};
+ghost use Rattle.cache_model.specs.Choices.{GroupIsFixed, AskedIsAnswered, AnsweredIsTried, HitIsRead, GivenIsRead};
+ghost use Rattle.cache_model.specs.StepLaws.{RefusalEnds, NumbersFollow, FaultsRise, OneGroup, NothingAsked, FragmentIsCut, LiveIsRemoved, EmptyFlush, LookupIsOne, TooLargeIsNotPlaced, AllIsCutFirst, ReaderIsClosed, WriterIsEnded, TroubleIsBacked};
+ghost use Rattle.cache_model.specs.VerdictLaws.{HitMatches, CompleteIsHit, RemovedIsMissed, PassedIsMissed, FormattedIsEmpty, GivenIsOwn, EndIsWhole, FollowedIsClosed, WaitsForOpen};
+ghost use Rattle.cache_model.specs.Tape.{StepsAreSound, LegalIsSound, LiveIsKnown};
+
+/// What each record makes of the place of each piece.
+pub fn place_follows()
+    ensures { PlaceFollows }
+{}
+
+/// A piece stands where it was placed last, unless something behind that took it away.
+pub fn place_is_last()
+    ensures { PlaceIsLast }
+{}
+
+/// A piece that was displaced, damaged or removed stands nowhere.
+pub fn taken_is_nowhere()
+    ensures { TakenIsNowhere }
+{}
+
+/// A key's vector stands nowhere once another put of the key was committed.
+pub fn replaced_is_nowhere()
+    ensures { ReplacedIsNowhere }
+{}
+
+/// A piece that begins below the floor is not live, wherever it ends.
+pub fn passed_is_not_live()
+    ensures { PassedIsNotLive }
+{}
+
+/// The vector of a key is the last of its commits and removals.
+pub fn vector_is_last()
+    ensures { VectorIsLast }
+{}
+
+/// The floor is that of the buffer that began last.
+pub fn floor_is_last()
+    ensures { FloorIsLast }
+{}
+
+/// A step that is asked one thing that cannot stay adds one group of records.
+pub fn one_group()
+    ensures { OneGroup }
+{}
+
+/// A step that is asked nothing adds nothing.
+pub fn nothing_asked()
+    ensures { NothingAsked }
+{}
+
+/// A fragment that has room is cut at once.
+pub fn fragment_is_cut()
+    ensures { FragmentIsCut }
+{}
+
+/// A live vector that is to be removed is removed.
+pub fn live_is_removed()
+    ensures { LiveIsRemoved }
+{}
+
+/// A flush of an empty buffer does nothing.
+pub fn empty_flush()
+    ensures { EmptyFlush }
+{}
+
+/// A lookup of a key without a live vector adds its answer alone.
+pub fn lookup_is_one()
+    ensures { LookupIsOne }
+{}
+
+/// A put whose vector alone is too large for a piece places none.
+pub fn too_large_is_not_placed()
+    ensures { TooLargeIsNotPlaced }
+{}
+
+/// A vector is placed once all of its put is cut.
+pub fn all_is_cut_first()
+    ensures { AllIsCutFirst }
+{}
+
+/// Behind a refusal a step cleans up alone.
+pub fn refusal_ends()
+    ensures { RefusalEnds }
+{}
+
+/// A step that ends by closing a reader leaves it closed.
+pub fn reader_is_closed()
+    ensures { ReaderIsClosed }
+{}
+
+/// A step that ends by giving a put up leaves it not open.
+pub fn writer_is_ended()
+    ensures { WriterIsEnded }
+{}
+
+/// Damage and faults are recorded only where the device did what they say.
+pub fn trouble_is_backed()
+    ensures { TroubleIsBacked }
+{}
+
+/// Puts and readers are numbered one after the other, and the number of a put stays below the limit.
+pub fn numbers_follow()
+    ensures { NumbersFollow }
+{}
+
+/// Each recorded fault is a new one of the device.
+pub fn faults_rise()
+    ensures { FaultsRise }
+{}
+
+/// On a faithful device, and with a directory that displaces nothing, what is asked fixes the records of
+/// a group and how it ends.
+pub fn group_is_fixed()
+    ensures { GroupIsFixed }
+{}
+
+/// On a sound tape what may be asked can be done, or is refused, whatever the device gives.
+pub fn asked_is_answered()
+    ensures { AskedIsAnswered }
+{}
+
+/// What has to be read for an answer was in the buffer, or was read or refused in the step.
+pub fn answered_is_tried()
+    ensures { AnsweredIsTried }
+{}
+
+/// A vector that is hit was in the buffer, or was read with the digest that was kept.
+pub fn hit_is_read()
+    ensures { HitIsRead }
+{}
+
+/// A fragment that is given was in the buffer, or was read with the digest that was kept.
+pub fn given_is_read()
+    ensures { GivenIsRead }
+{}
+
+/// Each step leaves places in order, and lowers no floor.
+pub fn steps_are_sound()
+    ensures { StepsAreSound }
+{}
+
+/// Each legal chronicle has its places in order.
+pub fn legal_is_sound()
+    ensures { LegalIsSound }
+{}
+
+/// A live piece is the one that is known at its place.
+pub fn live_is_known()
+    ensures { LiveIsKnown }
+{}
+
+/// What is hit is one of the key's alternates, and matches.
+pub fn hit_matches()
+    ensures { HitMatches }
+{}
+
+/// A put that is complete is what requests that match it hit.
+pub fn complete_is_hit()
+    ensures { CompleteIsHit }
+{}
+
+/// A removed object is missed.
+pub fn removed_is_missed()
+    ensures { RemovedIsMissed }
+{}
+
+/// An object whose vector the floor has passed is missed.
+pub fn passed_is_missed()
+    ensures { PassedIsMissed }
+{}
+
+/// Behind a format nothing was put.
+pub fn formatted_is_empty()
+    ensures { FormattedIsEmpty }
+{}
+
+/// A reader is given the next fragment of its own put.
+pub fn given_is_own()
+    ensures { GivenIsOwn }
+{}
+
+/// A reader comes to the end once all was given.
+pub fn end_is_whole()
+    ensures { EndIsWhole }
+{}
+
+/// A reader that follows a writer comes to the end once that is closed.
+pub fn followed_is_closed()
+    ensures { FollowedIsClosed }
+{}
+
+/// A reader waits for an open writer alone.
+pub fn waits_for_open()
+    ensures { WaitsForOpen }
+{}
