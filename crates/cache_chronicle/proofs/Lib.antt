@@ -1,0 +1,4 @@
+pub mod RowLemmas
+pub mod PutLemmas
+pub mod ListingLemmas
+pub mod ListLemmas

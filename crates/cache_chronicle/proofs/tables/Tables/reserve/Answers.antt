@@ -1,0 +1,45 @@
+-- What the tables have stays, however a map orders it.
+use Rattle.std.proofs.Common.{◌∙◌, ap}
+use Rattle.std.specs.Prelude.{option_map}
+use Rattle.cache_chronicle.specs.Tables.{told_vector}
+use Rattle.cache_chronicle.proofs.tables.Tables.reserve.Goals as goal
+
+pub returns-in_err-reserve-2-clause-has : goal.returns-in_err-reserve-2-clause-has
+returns-in_err-reserve-2-clause-has c = λ s has. record {
+  tape = has.tape;
+  pieces = λ id. c.reserve.ensures.entries.2 id ∙ has.pieces id;
+  losses = λ id. c.reserve-2.ensures.entries.2 id ∙ has.losses id;
+  places = has.places;
+  vectors = has.vectors;
+  aborts = has.aborts;
+}
+
+pub returns-in_err-reserve-3-clause-has : goal.returns-in_err-reserve-3-clause-has
+returns-in_err-reserve-3-clause-has c = λ s has. record {
+  tape = has.tape;
+  pieces = λ id. c.reserve.ensures.entries.2 id ∙ has.pieces id;
+  losses = λ id. c.reserve-2.ensures.entries.2 id ∙ has.losses id;
+  places = λ place. c.reserve-3.ensures.entries.2 place ∙ has.places place;
+  vectors = has.vectors;
+  aborts = has.aborts;
+}
+
+pub returns-in_err-reserve-4-clause-has : goal.returns-in_err-reserve-4-clause-has
+returns-in_err-reserve-4-clause-has c = λ s has. record {
+  tape = has.tape;
+  pieces = λ id. c.reserve.ensures.entries.2 id ∙ has.pieces id;
+  losses = λ id. c.reserve-2.ensures.entries.2 id ∙ has.losses id;
+  places = λ place. c.reserve-3.ensures.entries.2 place ∙ has.places place;
+  vectors = λ key. ap (option_map told_vector) (c.reserve-4.ensures.entries.2 key) ∙ has.vectors key;
+  aborts = has.aborts;
+}
+
+pub returns-clause-has : goal.returns-clause-has
+returns-clause-has c = λ s has. record {
+  tape = has.tape;
+  pieces = λ id. c.reserve.ensures.entries.2 id ∙ has.pieces id;
+  losses = λ id. c.reserve-2.ensures.entries.2 id ∙ has.losses id;
+  places = λ place. c.reserve-3.ensures.entries.2 place ∙ has.places place;
+  vectors = λ key. ap (option_map told_vector) (c.reserve-4.ensures.entries.2 key) ∙ has.vectors key;
+  aborts = λ key. c.reserve-5.ensures.entries.2 key ∙ has.aborts key;
+}

@@ -1,0 +1,55 @@
+-- What each table of a `FullChronicle` has: of each piece, place and key what a list of the state says.
+use Rattle.std.specs.Prelude.{ℕ, ◌≡◌, ◌==◌, nat_eq, List, Option, option_map}
+use Rattle.std.specs.HashMap.{HashMap, get}
+use Rattle.std.specs.Map.{lookup}
+use Rattle.tape_base.specs.declared.keys.Key.{Key}
+use Rattle.tape_base.specs.declared.pieces.PieceId.{PieceId}
+use Rattle.tape_base.specs.Key.{same_key}
+use Rattle.tape_base.specs.Piece.{same_piece}
+use Rattle.alternate_vector.specs.Alternates.{Stored}
+use Rattle.cache_model.specs.declared.cause.Cause.{Cause}
+use Rattle.cache_model.specs.State.{Row, row_in}
+use Rattle.cache_model.specs.State as state
+use Rattle.cache_chronicle.specs.declared.pieces.Standing.{Standing}
+use Rattle.cache_chronicle.specs.declared.vectors.LastVector.{LastVector}
+use Rattle.cache_chronicle.specs.declared.vectors.LastVector.TheVariants.{Complete, TakenOut}
+
+-- a row without the alternates that it lists
+abbrev pub standing_of : Row → Standing
+standing_of row = record { place = row.place; blocks = row.blocks; digest = row.digest; pin = row.pin }
+
+-- a row from what stands beside its name
+abbrev pub row_as : PieceId → Standing → Option (List Stored) → Row
+row_as piece standing alternates = record {
+  id = piece;
+  place = standing.place;
+  blocks = standing.blocks;
+  digest = standing.digest;
+  pin = standing.pin;
+  alternates = alternates;
+}
+
+-- the last vector as the state has it
+abbrev pub told_vector : LastVector → state.LastVector
+told_vector (Complete put) = state.Complete put
+told_vector (TakenOut put) = state.TakenOut put
+
+-- of each piece its row, where it has one
+abbrev pub HasRows : {S : Type 0} → HashMap PieceId Standing S → List Row → Type 0
+HasRows m rows = (id : PieceId) → get same_piece m id ≡ option_map standing_of (row_in rows id)
+
+-- of each piece why it was lost last
+abbrev pub HasLosses : {S : Type 0} → HashMap PieceId Cause S → List (PieceId × Cause) → Type 0
+HasLosses m lost = (id : PieceId) → get same_piece m id ≡ lookup (λ piece. same_piece piece id) lost
+
+-- of each place the piece that was placed there last
+abbrev pub HasPlaces : {S : Type 0} → HashMap ℕ PieceId S → List (ℕ × PieceId) → Type 0
+HasPlaces m places = (place : ℕ) → get nat_eq m place ≡ lookup (λ p. p == place) places
+
+-- of each key its last vector
+abbrev pub HasVectors : {S : Type 0} → HashMap Key LastVector S → List (Key × state.LastVector) → Type 0
+HasVectors m vectors = (key : Key) → option_map told_vector (get same_key m key) ≡ lookup (λ k. same_key k key) vectors
+
+-- of each key the put that was given up last
+abbrev pub HasAborts : {S : Type 0} → HashMap Key ℕ S → List (Key × ℕ) → Type 0
+HasAborts m aborts = (key : Key) → get same_key m key ≡ lookup (λ k. same_key k key) aborts

@@ -1,0 +1,65 @@
+// What a chronicle answers.
+ghost use Rattle.std.specs.Prelude.{◌≡◌, ◌+◌, ◌≤◌, ◌<◌, ℕ, None, length, OnOk};
+ghost use Rattle.cache_model.specs.Kept.{Kept, state_of, with_record};
+ghost use Rattle.cache_model.specs.State.{live_row_of};
+ghost use Rattle.cache_model.specs.Verdict.{cause_of_miss, cause_of_piece, vector_of, piece_at, digest_of_piece, size_of, pin_of};
+
+use cache_model::{Cause, Rec};
+use std::alloc::AllocError;
+use tape_base::{Digest, Key, PieceId};
+
+/// Keeps the records of a session. No call but `reserve` takes memory.
+pub trait Chronicle {
+    /// The values at its beginning, and the records since.
+    ghost kept: { Self → Kept };
+
+    /// How many records can be pushed without more memory.
+    ghost room: { Self → ℕ };
+
+    fn reserve(&mut self, more: usize) -> Result<(), AllocError>
+        ensures kept { kept self.new ≡ kept self.old }
+        ensures room { OnOk result (more ≤ room self.new) }
+        ensures same { room self.old ≤ room self.new };
+
+    fn push(&mut self, rec: Rec)
+        requires { 0 < room self.old }
+        ensures kept { kept self.new ≡ with_record (kept self.old) rec }
+        ensures room { room self.old ≤ room self.new + 1 };
+
+    /// How many records there are.
+    fn count(&self) -> u64
+        ensures { result ≡ length (kept self.now).since };
+
+    /// Why a lookup of the key gives neither a stored alternate nor a writer to follow.
+    fn why(&self, key: Key) -> Cause
+        ensures { result ≡ cause_of_miss (state_of (kept self.now)) key };
+
+    /// Why a piece is not live.
+    fn why_piece(&self, id: PieceId) -> Cause
+        requires { live_row_of (state_of (kept self.now)) id ≡ None }
+        ensures { result ≡ cause_of_piece (state_of (kept self.now)) id };
+
+    /// The key's last vector, where it was not removed.
+    fn vector_of(&self, key: Key) -> Option<PieceId>
+        ensures { result ≡ vector_of (state_of (kept self.now)) key };
+
+    /// The live piece that begins at a place.
+    fn piece_at(&self, place: u64) -> Option<PieceId>
+        ensures { result ≡ piece_at (state_of (kept self.now)) place };
+
+    /// The recorded digest of a live piece.
+    fn digest_of(&self, id: PieceId) -> Option<Digest>
+        ensures { result ≡ digest_of_piece (state_of (kept self.now)) id };
+
+    /// The blocks of a live piece.
+    fn size_of(&self, id: PieceId) -> Option<u32>
+        ensures { result ≡ size_of (state_of (kept self.now)) id };
+
+    /// The pin of a live piece.
+    fn pin_of(&self, id: PieceId) -> Option<u64>
+        ensures { result ≡ pin_of (state_of (kept self.now)) id };
+
+    /// How many records were dropped.
+    fn dropped(&self) -> u64
+        ensures { result ≡ 0 };
+}

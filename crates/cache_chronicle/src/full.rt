@@ -1,0 +1,196 @@
+// A chronicle that keeps every record.
+ghost use Rattle.std.specs.Prelude.{◌≡◌, ◌+◌, ◌-◌, ◌≤◌, ◌<◌, min, [], List, length, IfOk, OnOk, slice_get, Some, vec_len, vec_capacity, option_map, unwrap_or};
+ghost use Rattle.std.specs.HashMap.{spare, get};
+ghost use Rattle.cache_model.specs.State.{floor_now, live_row_of, row_of, vector_piece};
+ghost use Rattle.cache_model.specs.Verdict.{cause_of_piece, cause_of_vector, cause_without_vector};
+ghost use Rattle.cache_model.specs.Kept.{all_of};
+ghost use Rattle.cache_chronicle.specs.Full.{state_in, kept_of};
+ghost use Rattle.cache_chronicle.specs.Tables.{standing_of};
+
+use crate::Chronicle;
+use crate::lists::Lists;
+use crate::pieces::{Standing, vector_piece};
+use crate::tables::Tables;
+use crate::vectors::{LastVector, last_of};
+use cache_model::{Cause, Rec};
+use std::alloc::{AllocError, Global};
+use std::marker::Model;
+use tape_base::{Digest, Key, PieceId};
+
+/// Every record, and beside them tables of what they say last of each piece, place and key.
+#[derive(Drop)]
+pub struct FullChronicle {
+    records: Vec<Rec>,
+    tables: Tables,
+    lists: Lists,
+}
+
+impl Model for FullChronicle {
+    ghost use Rattle.cache_chronicle.specs.Full.{History};
+
+    ghost Value = { History };
+
+    ghost use Rattle.cache_chronicle.specs.Inside.{history_of, IsIndexed};
+
+    ghost view = { history_of };
+
+    ghost invariant = { IsIndexed };
+}
+
+impl FullChronicle {
+    pub fn new(alloc: Global) -> FullChronicle
+        ensures { kept_of result ≡ all_of [] }
+    {
+        FullChronicle {
+            records: Vec::new(alloc),
+            tables: Tables::new(alloc),
+            lists: Lists::new(alloc),
+        }
+    }
+
+    pub fn len(&self) -> usize
+        ensures { result ≡ length self.now.records }
+    {
+        self.records.len()
+    }
+
+    pub fn get(&self, i: usize) -> &Rec
+        requires { i < length self.now.records }
+        ensures { slice_get self.now.records i ≡ Some result.now }
+    {
+        &self.records[i]
+    }
+
+    fn floor(&self) -> u64
+        ensures { result ≡ floor_now (state_in self.now) }
+    {
+        self.tables.tape.floor()
+    }
+
+    // Where a piece stands, also below the floor.
+    fn standing_of(&self, id: PieceId) -> Option<Standing>
+        ensures { result ≡ option_map standing_of (row_of (state_in self.now) id) }
+    {
+        self.tables.pieces.get(&id).copied()
+    }
+
+    // What is recorded of a piece that may be read.
+    fn live_of(&self, id: PieceId) -> Option<Standing>
+        ensures { result ≡ option_map standing_of (live_row_of (state_in self.now) id) }
+    {
+        let standing = self.standing_of(id)?;
+        if self.floor() <= standing.place {
+            Some(standing)
+        } else {
+            None
+        }
+    }
+
+    fn cause_of_piece(&self, id: PieceId) -> Cause
+        ensures { result ≡ cause_of_piece (state_in self.now) id }
+    {
+        if let Some(cause) = self.tables.losses.get(&id).copied() {
+            return cause;
+        }
+        match self.standing_of(id) {
+            Some(standing) => Cause::Passed {
+                place: standing.place,
+                floor: self.floor(),
+            },
+            None => Cause::NeverPut,
+        }
+    }
+
+    fn cause_of_vector(&self, key: Key, put: u64) -> Cause
+        ensures { result ≡ cause_of_vector (state_in self.now) (vector_piece key put) }
+    {
+        let id = vector_piece(key, put);
+        match self.live_of(id) {
+            Some(_) => Cause::NoMatch {
+                count: self.lists.listing_of(id).len() as u32,
+            },
+            None => self.cause_of_piece(id),
+        }
+    }
+
+    fn cause_without_vector(&self, key: Key) -> Cause
+        ensures { result ≡ cause_without_vector (state_in self.now) key }
+    {
+        match self.tables.aborts.get(&key).copied() {
+            Some(writer) => Cause::Aborted { writer },
+            None => Cause::NeverPut,
+        }
+    }
+}
+
+impl Chronicle for FullChronicle {
+    ghost use Rattle.cache_chronicle.specs.Full.{kept_of};
+
+    ghost kept = { kept_of };
+
+    ghost room = { λ c. c.room };
+
+    fn reserve(&mut self, more: usize) -> Result<(), AllocError> {
+        self.records.reserve(more)?;
+        self.tables.reserve(more)?;
+        self.lists.reserve(more)
+    }
+
+    fn push(&mut self, rec: Rec) {
+        self.lists.note(&self.records, &self.tables, &rec);
+        self.tables.note(&rec);
+        self.records.push_reserved(rec);
+    }
+
+    fn count(&self) -> u64 {
+        self.records.len() as u64
+    }
+
+    fn why(&self, key: Key) -> Cause {
+        match last_of(&self.tables.vectors, key) {
+            Some(LastVector::Complete(put)) => self.cause_of_vector(key, put),
+            Some(LastVector::TakenOut(_)) => Cause::Removed,
+            None => self.cause_without_vector(key),
+        }
+    }
+
+    fn why_piece(&self, id: PieceId) -> Cause {
+        self.cause_of_piece(id)
+    }
+
+    fn vector_of(&self, key: Key) -> Option<PieceId> {
+        match last_of(&self.tables.vectors, key) {
+            Some(LastVector::Complete(put)) => Some(vector_piece(key, put)),
+            Some(LastVector::TakenOut(_)) | None => None,
+        }
+    }
+
+    fn piece_at(&self, place: u64) -> Option<PieceId> {
+        let id = self.tables.places.get(&place).copied()?;
+        let standing = self.live_of(id)?;
+        if standing.place == place {
+            Some(id)
+        } else {
+            None
+        }
+    }
+
+    fn digest_of(&self, id: PieceId) -> Option<Digest> {
+        let standing = self.live_of(id)?;
+        Some(standing.digest)
+    }
+
+    fn size_of(&self, id: PieceId) -> Option<u32> {
+        let standing = self.live_of(id)?;
+        Some(standing.blocks)
+    }
+
+    fn pin_of(&self, id: PieceId) -> Option<u64> {
+        let standing = self.live_of(id)?;
+        Some(standing.pin)
+    }
+
+    fn dropped(&self) -> u64 {
+        0
+    }
+}

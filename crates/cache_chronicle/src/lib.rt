@@ -1,0 +1,20 @@
+//! Keeps the records of a session, and answers questions about them from tables.
+#![tactic(auto)]
+
+mod chronicle;
+mod full;
+mod listing;
+mod lists;
+mod losses;
+mod pieces;
+mod puts;
+mod tables;
+mod tape;
+mod vectors;
+
+pub use cache_model::{Cause, NextAnswer, ReadAnswer, Rec};
+pub use chronicle::Chronicle;
+pub use full::FullChronicle;
+
+#[cfg(test)]
+mod tests;

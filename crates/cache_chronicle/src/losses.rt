@@ -1,0 +1,76 @@
+// Why pieces were lost, where pieces were placed, and which writers gave up.
+ghost use Rattle.std.specs.Prelude.{◌+◌, ◌≤◌, ◌<◌};
+ghost use Rattle.std.specs.HashMap.{spare};
+ghost use Rattle.cache_model.specs.State.{State, state_after};
+ghost use Rattle.cache_chronicle.specs.Tables.{HasAborts, HasLosses, HasPlaces};
+
+use cache_model::{Cause, Rec};
+use std::collections::HashMap;
+use tape_base::{Key, PieceId};
+
+pub(crate) type Losses = HashMap<PieceId, Cause>;
+
+pub(crate) type Places = HashMap<u64, PieceId>;
+
+pub(crate) type Aborts = HashMap<Key, u64>;
+
+/// Notes why a record takes a piece out.
+pub(crate) fn note_loss(losses: &mut Losses, rec: &Rec)
+    requires { 0 < spare losses.old }
+    ensures has { (s : State) → HasLosses losses.old s.lost → HasLosses losses.new (state_after s rec.now).lost }
+    ensures spare { spare losses.old ≤ spare losses.new + 1 }
+{
+    match *rec {
+        Rec::Formatted { .. } => losses.clear(),
+        Rec::Displaced {
+            piece,
+            segment,
+            live,
+        } => {
+            let noted: Result<_, _> = losses.insert(piece, Cause::Displaced { segment, live });
+            let _ = noted.unwrap();
+        }
+        Rec::Damaged {
+            piece,
+            place,
+            kept,
+            found,
+        } => {
+            let noted: Result<_, _> = losses.insert(piece, Cause::Damaged { place, kept, found });
+            let _ = noted.unwrap();
+        }
+        _ => {}
+    }
+}
+
+/// Notes which piece a record places where.
+pub(crate) fn note_place(places: &mut Places, rec: &Rec)
+    requires { 0 < spare places.old }
+    ensures has { (s : State) → HasPlaces places.old s.places → HasPlaces places.new (state_after s rec.now).places }
+    ensures spare { spare places.old ≤ spare places.new + 1 }
+{
+    match *rec {
+        Rec::Formatted { .. } => places.clear(),
+        Rec::Placed { piece, place, .. } => {
+            let noted: Result<_, _> = places.insert(place, piece);
+            let _ = noted.unwrap();
+        }
+        _ => {}
+    }
+}
+
+/// Notes which writer gave up.
+pub(crate) fn note_abort(aborts: &mut Aborts, rec: &Rec)
+    requires { 0 < spare aborts.old }
+    ensures has { (s : State) → HasAborts aborts.old s.aborts → HasAborts aborts.new (state_after s rec.now).aborts }
+    ensures spare { spare aborts.old ≤ spare aborts.new + 1 }
+{
+    match *rec {
+        Rec::Formatted { .. } => aborts.clear(),
+        Rec::Aborted { put, key } => {
+            let noted: Result<_, _> = aborts.insert(key, put);
+            let _ = noted.unwrap();
+        }
+        _ => {}
+    }
+}

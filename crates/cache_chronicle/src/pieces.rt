@@ -1,0 +1,93 @@
+// The pieces that stand, and what a record makes of them.
+ghost use Rattle.std.specs.Prelude.{◌≡◌, ◌+◌, ◌≤◌, ◌<◌, ◌∷◌, ◌++◌, [], List, Option as Option', option_map};
+ghost use Rattle.std.specs.HashMap.{spare};
+ghost use Rattle.alternate_vector.specs.Alternates.{Stored};
+ghost use Rattle.cache_model.specs.State.{State, Row, state_after, vector_piece, without, without_earlier};
+ghost use Rattle.cache_chronicle.specs.Tables.{HasRows, HasVectors, row_as, told_vector};
+
+use crate::vectors::{LastVector, Vectors, last_of};
+use cache_model::Rec;
+use std::collections::HashMap;
+use tape_base::{Digest, Key, PieceId};
+
+/// What is recorded of a piece that was placed and not taken out.
+#[derive(Clone, Copy)]
+pub(crate) struct Standing {
+    pub(crate) place: u64,
+    pub(crate) blocks: u32,
+    pub(crate) digest: Digest,
+    pub(crate) pin: u64,
+}
+
+pub(crate) type Pieces = HashMap<PieceId, Standing>;
+
+pub(crate) fn vector_piece(key: Key, put: u64) -> PieceId
+    ensures { result ≡ vector_piece key put }
+{
+    PieceId {
+        first: key,
+        put,
+        index: 0,
+    }
+}
+
+/// Notes what a record says of a piece.
+pub(crate) fn note_piece(pieces: &mut Pieces, vectors: &Vectors, rec: &Rec)
+    requires { 0 < spare pieces.old }
+    ensures has { (s : State) → HasVectors vectors.now s.vectors → HasRows pieces.old s.rows → HasRows pieces.new (state_after s rec.now).rows }
+    ensures spare { spare pieces.old ≤ spare pieces.new + 1 }
+{
+    match *rec {
+        Rec::Formatted { .. } => pieces.clear(),
+        Rec::Placed {
+            piece,
+            place,
+            blocks,
+            digest,
+            pin,
+        } => put(
+            pieces,
+            piece,
+            Standing {
+                place,
+                blocks,
+                digest,
+                pin,
+            },
+        ),
+        Rec::Displaced { piece, .. } | Rec::Damaged { piece, .. } => take_out(pieces, piece),
+        Rec::Committed { put, key, .. } => {
+            take_out_earlier(pieces, last_of(vectors, key), key, put);
+        }
+        Rec::Removed { put, key } => take_out(pieces, vector_piece(key, put)),
+        _ => {}
+    }
+}
+
+fn put(pieces: &mut Pieces, piece: PieceId, standing: Standing)
+    requires { 0 < spare pieces.old }
+    ensures has { (rows : List Row) (alternates : Option' (List Stored)) → HasRows pieces.old rows → HasRows pieces.new (without piece rows ++ row_as piece standing alternates ∷ []) }
+    ensures spare { spare pieces.old ≤ spare pieces.new + 1 }
+{
+    let noted: Result<_, _> = pieces.insert(piece, standing);
+    let _ = noted.unwrap();
+}
+
+fn take_out(pieces: &mut Pieces, piece: PieceId)
+    ensures has { (rows : List Row) → HasRows pieces.old rows → HasRows pieces.new (without piece rows) }
+    ensures spare { spare pieces.old ≤ spare pieces.new }
+{
+    let _ = pieces.remove(&piece);
+}
+
+// A key's earlier vector goes where another is committed.
+fn take_out_earlier(pieces: &mut Pieces, earlier: Option<LastVector>, key: Key, put: u64)
+    ensures has { (rows : List Row) → HasRows pieces.old rows → HasRows pieces.new (without_earlier key put (option_map told_vector earlier) rows) }
+    ensures spare { spare pieces.old ≤ spare pieces.new }
+{
+    if let Some(LastVector::Complete(old)) = earlier
+        && old != put
+    {
+        take_out(pieces, vector_piece(key, old));
+    }
+}

@@ -1,0 +1,71 @@
+// The tables of what the records say last of each piece, place and key.
+ghost use Rattle.std.specs.Prelude.{◌≡◌, ◌+◌, ◌≤◌, ◌<◌, OnOk};
+ghost use Rattle.cache_model.specs.State.{State, nothing_yet, place_of, state_after};
+ghost use Rattle.cache_chronicle.specs.Indexed.{HasTables, spare_of};
+
+use crate::losses::{Aborts, Losses, Places, note_abort, note_loss, note_place};
+use crate::pieces::{Pieces, note_piece};
+use crate::tape::Tape;
+use crate::vectors::{Vectors, note_vector};
+use cache_model::Rec;
+use std::alloc::{AllocError, Global};
+use std::collections::HashMap;
+use tape_base::PieceId;
+
+#[derive(Drop)]
+pub(crate) struct Tables {
+    pub(crate) tape: Tape,
+    pub(crate) pieces: Pieces,
+    pub(crate) losses: Losses,
+    pub(crate) places: Places,
+    pub(crate) vectors: Vectors,
+    pub(crate) aborts: Aborts,
+}
+
+impl Tables {
+    pub(crate) fn new(alloc: Global) -> Tables
+        ensures { HasTables result nothing_yet }
+    {
+        Tables {
+            tape: Tape::new(),
+            pieces: HashMap::new(alloc),
+            losses: HashMap::new(alloc),
+            places: HashMap::new(alloc),
+            vectors: HashMap::new(alloc),
+            aborts: HashMap::new(alloc),
+        }
+    }
+
+    pub(crate) fn reserve(&mut self, more: usize) -> Result<(), AllocError>
+        ensures has { (s : State) → HasTables self.old s → HasTables self.new s }
+        ensures room { OnOk result (more ≤ spare_of self.new) }
+        ensures same { spare_of self.old ≤ spare_of self.new }
+    {
+        self.pieces.reserve(more)?;
+        self.losses.reserve(more)?;
+        self.places.reserve(more)?;
+        self.vectors.reserve(more)?;
+        self.aborts.reserve(more)
+    }
+
+    pub(crate) fn place_of(&self, id: PieceId) -> Option<u64>
+        ensures { (s : State) → HasTables self.now s → result ≡ place_of s id }
+    {
+        let standing = self.pieces.get(&id)?;
+        Some(standing.place)
+    }
+
+    /// Notes what a record says.
+    pub(crate) fn note(&mut self, rec: &Rec)
+        requires { 0 < spare_of self.old }
+        ensures has { (s : State) → HasTables self.old s → HasTables self.new (state_after s rec.now) }
+        ensures spare { spare_of self.old ≤ spare_of self.new + 1 }
+    {
+        note_piece(&mut self.pieces, &self.vectors, rec);
+        note_loss(&mut self.losses, rec);
+        note_place(&mut self.places, rec);
+        note_vector(&mut self.vectors, rec);
+        note_abort(&mut self.aborts, rec);
+        self.tape = self.tape.after(rec);
+    }
+}
