@@ -1,0 +1,112 @@
+-- A piece that was put, and the places that stay below the next one.
+use Rattle.std.proofs.Common.{◌≡◌, ℕ, ◌+◌, ◌^◌, ◌<◌, ◌≤◌, List, ◌∷◌, length, suc, true, false, refl, sym, ◌∙◌, ap, subst, arith, Bool}
+use Rattle.std.specs.Prelude.{All, IsPermutation}
+use Rattle.std.specs.Bool.{OnTrue}
+use Rattle.std.specs.List.{filter}
+use Rattle.std.proofs.lemmas.List.Elements.{All-filter}
+use Rattle.std.proofs.lemmas.List.Sorted.{All-permutation}
+use Rattle.std.proofs.lemmas.List.Elements.{All-cons}
+use Rattle.doc_header.specs.declared.documents.Doc.{Doc}
+use Rattle.doc_header.specs.Document.{document_bytes}
+use Rattle.tape_base.specs.Blocks.{blocks_of}
+use Rattle.agg_buffer.specs.Buffer.{Buffer, empty_buffer, next_place_of, blocks_in}
+use Rattle.dir_table.specs.declared.window.Window.{Window}
+use Rattle.cyclone.specs.Cyclone.{Seen, IsTurning, IsPut, BeginsNext, SameButRows, cursor_next}
+use Rattle.dir_table.specs.Wrap.{Forgets, rows_from}
+use Rattle.write_cursor.specs.Plan.{FitsInLap}
+use Rattle.tape_base.specs.declared.geometries.Geometry.{Geometry}
+use Rattle.tape_base.specs.Place.{slot_of}
+use Rattle.dir_table.specs.declared.rows.DirRow.{DirRow}
+
+abbrev pub AllBelow : ℕ → List DirRow → Type 0
+AllBelow high rows = All (λ (r : DirRow). r.place < high) rows
+
+pub below_more : (low high : ℕ) (rows : List DirRow) → low ≤ high → AllBelow low rows → AllBelow high rows
+below_more low high rows h all = λ k d within. let there = all k d within in omega arith
+
+-- what stands behind an insert: the new row, and old ones that are left
+pub below_inserted : (low high : ℕ) (row : DirRow) (keeps : DirRow → Bool) (old new : List DirRow) → low ≤ high → row.place < high
+    → IsPermutation (row ∷ filter keeps old) new → AllBelow low old → AllBelow high new
+below_inserted low high row keeps old new h there p all =
+    All-permutation (λ (r : DirRow). r.place < high) (row ∷ filter keeps old) new p
+    (All-cons (λ (r : DirRow). r.place < high) row (filter keeps old) there
+    (All-filter keeps (λ (r : DirRow). r.place < high) old (below_more low high old h all)))
+
+-- a cyclone turns on behind a piece that was put
+pub put_turns : (purges : Bool) (old new : Seen) (doc : Doc) (payload : List ℕ) → IsTurning old → IsPut purges old new doc payload
+    → doc.place ≡ next_place_of old.buffer → blocks_in (document_bytes doc payload) ≡ blocks_of (length payload) → IsTurning new
+put_turns purges old new doc payload t p at size =
+    let cursor : new.buffer.cursor ≡ old.buffer.cursor = ap (λ (b : Buffer). b.cursor) p.buffer.behind in
+    let reserved : new.buffer.reserved ≡ old.buffer.reserved = ap (λ (b : Buffer). b.reserved) p.buffer.behind in
+    let further : next_place_of new.buffer ≡ next_place_of old.buffer + blocks_of (length payload) = p.buffer.next ∙ ap (λ n. next_place_of old.buffer + n) size in
+    let some : 0 < blocks_of (length payload) = omega arith in
+    record {
+      geometry = ap (λ (w : Window). w.geometry) p.window ∙ (t.geometry ∙ sym p.geometry);
+      cursor = ap (λ (w : Window). w.cursor) p.window ∙ (t.cursor ∙ sym cursor);
+      floor = rw (p.geometry, cursor) (ap (λ (w : Window). w.floor) p.window ∙ t.floor);
+      end = ap (λ (w : Window). w.end) p.window;
+      reserved = rw p.geometry (reserved ∙ t.reserved);
+      few = rw p.geometry (omega (arith, further, cursor, size, t.few, t.reserved, p.buffer.room));
+      from = rw (p.geometry, cursor) t.from;
+      below = rw cursor t.below;
+      lap = rw (p.geometry, cursor) t.lap;
+      sized = rw (p.geometry, p.device) t.sized;
+      entered = below_inserted (next_place_of old.buffer) (next_place_of new.buffer) _ _ old.rows new.rows (omega arith) (omega arith) p.rows t.entered;
+    }
+
+below_forgotten : (g : Geometry) (cursor floor low high : ℕ) (old new : List DirRow) → low ≤ high → Forgets g cursor floor old new → AllBelow low old → AllBelow high new
+below_forgotten g cursor floor low high old new h f all =
+    All-permutation (λ (r : DirRow). r.place < high) (rows_from f.low old) new f.kept
+    (All-filter _ (λ (r : DirRow). r.place < high) old (below_more low high old h all))
+
+begun : (cursor reserved : ℕ) → next_place_of (empty_buffer cursor reserved) ≡ cursor
+begun cursor reserved = omega arith
+
+-- and when the next buffer begins
+pub next_turns : (old new : Seen) → IsTurning old → BeginsNext old new → FitsInLap old.geometry (cursor_next old) → next_place_of old.buffer ≤ cursor_next old → cursor_next old < 2 ^ 62
+    → IsTurning new
+next_turns old new t b fits behind below =
+    let cursor : new.buffer.cursor ≡ cursor_next old = ap (λ (x : Buffer). x.cursor) b.buffer in
+    let reserved : new.buffer.reserved ≡ old.buffer.reserved = ap (λ (x : Buffer). x.reserved) b.buffer in
+    let empty : next_place_of new.buffer ≡ cursor_next old = ap next_place_of b.buffer ∙ begun (cursor_next old) old.buffer.reserved in
+    record {
+      geometry = ap (λ (w : Window). w.geometry) b.window ∙ (t.geometry ∙ sym b.geometry);
+      cursor = ap (λ (w : Window). w.cursor) b.window ∙ sym cursor;
+      floor = rw (b.geometry, cursor) (ap (λ (w : Window). w.floor) b.window);
+      end = ap (λ (w : Window). w.end) b.window ∙ sym empty;
+      reserved = rw b.geometry (reserved ∙ t.reserved);
+      few = rw b.buffer (omega arith);
+      from = rw (b.geometry, cursor) (let from : old.geometry.content ≤ old.buffer.cursor = t.from in omega arith);
+      below = rw cursor below;
+      lap = rw (b.geometry, cursor) fits;
+      sized = rw (b.geometry, b.device) t.sized;
+      entered = below_forgotten _ _ _ (next_place_of old.buffer) (next_place_of new.buffer) old.rows new.rows (omega arith) b.rows t.entered;
+    }
+
+-- the blocks of a buffer lie in the content area
+pub slot_fits : (g : Geometry) (cursor filled : ℕ) → FitsInLap g cursor → filled ≤ g.agg → slot_of g cursor + filled ≤ g.content
+slot_fits g cursor filled fits few = omega arith
+
+below_rest : (high : ℕ) (row : DirRow) (rows : List DirRow) → AllBelow high (row ∷ rows) → AllBelow high rows
+below_rest high row rows all = λ k d within. all (suc k) d (omega arith)
+
+-- where a row was taken out, or none
+below_removed : (high : ℕ) (row : DirRow) (old new : List DirRow) (b : Bool) → OnTrue b (IsPermutation old (row ∷ new)) → (b ≡ false → new ≡ old) → AllBelow high old → AllBelow high new
+below_removed high row old new true p same all = below_rest high row new (All-permutation (λ (r : DirRow). r.place < high) old (row ∷ new) p all)
+below_removed high row old new false p same all = subst (AllBelow high) (sym (same refl)) all
+
+-- and when a piece was taken out
+pub taken_turns : (old new : Seen) (row : DirRow) (b : Bool) → IsTurning old → SameButRows old new → OnTrue b (IsPermutation old.rows (row ∷ new.rows)) → (b ≡ false → new.rows ≡ old.rows) → IsTurning new
+taken_turns old new row b t s p same = rw s.same (record {
+  geometry = t.geometry;
+  cursor = t.cursor;
+  floor = t.floor;
+  end = t.end;
+  reserved = t.reserved;
+  few = t.few;
+  from = t.from;
+  below = t.below;
+  lap = t.lap;
+  sized = t.sized;
+  entered = below_removed (next_place_of old.buffer) row old.rows new.rows b p same t.entered;
+})

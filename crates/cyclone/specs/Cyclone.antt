@@ -1,0 +1,139 @@
+-- What contracts see of a cyclone: the content area that is written in a circle, the buffer of what
+-- is not written yet, and the directory of what stands on both.
+use Rattle.std.specs.Prelude.{ℕ, ◌≡◌, ◌+◌, ◌*◌, ◌<◌, ◌≤◌, ◌^◌, Bool, List, [], ◌∷◌, length, IsPermutation, All}
+use Rattle.tape_base.specs.declared.geometries.Geometry.{Geometry}
+use Rattle.tape_base.specs.declared.pieces.PieceId.{PieceId}
+use Rattle.tape_base.specs.Piece.{key_of_piece}
+use Rattle.tape_base.specs.Place.{slot_of, floor_of, next_cursor_of, lap_end_of}
+use Rattle.edge_io.specs.Causes.{HasCause}
+use Rattle.edge_io.specs.declared.source.Failed.{Failed}
+use Rattle.std.specs.Prelude.{Result, OnOk}
+use Rattle.ats_disk.specs.Device.{State, IsTold, Keeps, SameBut, SameSeen, span}
+use Rattle.ats_disk.specs.declared.device.Disk.{Ghosts as DiskGhosts}
+use Rattle.doc_header.specs.declared.documents.Doc.{Doc}
+use Rattle.doc_header.specs.Document.{document_bytes}
+use Rattle.agg_buffer.specs.Buffer.{Buffer, bytes_at, filled_of, next_place_of, empty_buffer, Adds}
+use Rattle.dir_table.specs.declared.rows.DirRow.{DirRow}
+use Rattle.dir_table.specs.declared.window.Window.{Window}
+use Rattle.dir_table.specs.declared.directory.Directory.{Ghosts as DirectoryGhosts}
+use Rattle.dir_table.specs.Rows.{row_of_key}
+use Rattle.dir_table.specs.Displacement.{Displacement, Displaces, rows_without}
+use Rattle.dir_table.specs.Wrap.{Forgets}
+use Rattle.write_cursor.specs.Plan.{FitsInLap}
+use Rattle.cyclone.specs.declared.cyclone.Cyclone.{Cyclone}
+
+-- a cyclone at one moment
+pub record Seen : Type 0 where
+  pub geometry : Geometry
+  pub buffer : Buffer
+  pub window : Window
+  -- what the directory stands for
+  pub rows : List DirRow
+  -- how many pieces can be put without more memory
+  pub spare : ℕ
+  -- what the piece that was put last displaced
+  pub displaced : Displacement
+  pub device : State
+
+abbrev pub seen : {D R : Type 0} → DiskGhosts D → DirectoryGhosts R → Cyclone D R → Seen
+seen disk directory c = record {
+  geometry = c.geometry;
+  buffer = c.buffer;
+  window = directory.window c.directory;
+  rows = directory.rows c.directory;
+  spare = directory.spare c.directory;
+  displaced = directory.displaced c.directory;
+  device = disk.state c.disk;
+}
+
+-- what holds of a cyclone between calls
+pub record IsTurning (c : Seen) : Type 0 where
+  pub geometry : c.window.geometry ≡ c.geometry
+  pub cursor : c.window.cursor ≡ c.buffer.cursor
+  pub floor : c.window.floor ≡ floor_of c.geometry c.buffer.cursor
+  pub end : c.window.end ≡ next_place_of c.buffer
+  pub reserved : c.buffer.reserved ≡ c.geometry.agg
+  pub few : filled_of c.buffer ≤ c.geometry.agg
+  pub from : c.geometry.content ≤ c.buffer.cursor
+  pub below : c.buffer.cursor < 2 ^ 62
+  pub lap : FitsInLap c.geometry c.buffer.cursor
+  pub sized : c.geometry.content ≤ c.device.size
+  -- all that was entered stands below the next piece
+  pub entered : All (λ r. r.place < next_place_of c.buffer) c.rows
+
+abbrev pub IsCyclone : {D R : Type 0} → DiskGhosts D → DirectoryGhosts R → Cyclone D R → Type 0
+IsCyclone disk directory c = IsTurning (seen disk directory c)
+
+-- nothing was put yet
+pub record IsFresh (c : Seen) (g : Geometry) (device : State) : Type 0 where
+  pub geometry : c.geometry ≡ g
+  pub buffer : c.buffer ≡ empty_buffer g.content g.agg
+  pub rows : c.rows ≡ []
+  pub device_is : c.device ≡ device
+
+-- a document is in the buffer, and its piece in the directory
+pub record IsPut (purges : Bool) (old new : Seen) (doc : Doc) (payload : List ℕ) : Type 0 where
+  pub geometry : new.geometry ≡ old.geometry
+  pub buffer : Adds old.buffer new.buffer (document_bytes doc payload)
+  pub rows : IsPermutation (row_of_key old.geometry (key_of_piece doc.id) doc.place ∷ rows_without new.displaced old.rows) new.rows
+  pub displaced : Displaces purges old.window (row_of_key old.geometry (key_of_piece doc.id) doc.place) old.rows new.displaced
+  pub window : new.window ≡ record old.window { end = next_place_of new.buffer }
+  pub spare : old.spare ≤ new.spare + 1
+  pub device : new.device ≡ old.device
+
+-- where the next buffer begins
+abbrev pub cursor_next : Seen → ℕ
+cursor_next c = next_cursor_of c.geometry c.buffer.cursor (filled_of c.buffer)
+
+-- the next buffer begins, and what it may overwrite is out of range
+pub record BeginsNext (old new : Seen) : Type 0 where
+  pub geometry : new.geometry ≡ old.geometry
+  pub buffer : new.buffer ≡ empty_buffer (cursor_next old) old.buffer.reserved
+  pub window : new.window ≡ record old.window { cursor = cursor_next old; floor = floor_of old.geometry (cursor_next old); end = cursor_next old }
+  pub rows : Forgets old.geometry (cursor_next old) (floor_of old.geometry (cursor_next old)) old.rows new.rows
+  pub spare : old.spare ≤ new.spare
+  pub device : new.device ≡ old.device
+
+-- the next buffer begins, and the device has the one before
+pub record IsFlushed (old new : Seen) : Type 0 where
+  pub begins : BeginsNext (record old { device = new.device }) new
+  pub written : IsTold new.device → span new.device.seen (slot_of old.geometry old.buffer.cursor) (filled_of old.buffer) ≡ old.buffer.bytes
+
+-- what a write of the buffer does to the device, also where it fails
+pub record WritesBuffer (old new : Seen) (result : Result (Unit {0}) Failed) : Type 0 where
+  pub keeps : Keeps 1 (filled_of old.buffer) old.device new.device
+  pub others : IsTold new.device → SameBut (slot_of old.geometry old.buffer.cursor) (filled_of old.buffer) old.device.seen new.device.seen
+  pub cause : HasCause old.device.faults new.device.faults result
+
+-- nothing changed but how much room there is
+pub record SameButRoom (old new : Seen) : Type 0 where
+  pub same : new ≡ record old { spare = new.spare; device = new.device }
+  pub spare : old.spare ≤ new.spare
+
+-- nothing changed but what the device is
+abbrev pub SameTape : Seen → Seen → Type 0
+SameTape old new = new ≡ record old { device = new.device }
+
+-- nothing changed but the rows, and the room for more
+pub record SameButRows (old new : Seen) : Type 0 where
+  pub same : new ≡ record old { rows = new.rows; spare = new.spare }
+  pub spare : old.spare ≤ new.spare
+
+-- the row of a piece that stands at a place
+abbrev pub row_of_piece : Seen → PieceId → ℕ → DirRow
+row_of_piece c id place = row_of_key c.geometry (key_of_piece id) place
+
+-- so many blocks from a place on stand in the buffer, or on the device within one lap
+pub record IsStored (c : Seen) (place blocks : ℕ) : Type 0 where
+  pub few : blocks ≤ c.geometry.agg
+  pub below : place + blocks ≤ next_place_of c.buffer
+  pub lap : place + blocks ≤ lap_end_of c.geometry place
+
+-- what a read of blocks from a place on gives
+pub record Reads (old new : Seen) (place blocks : ℕ) (result : Result (Unit {0}) Failed) (bytes : List ℕ) : Type 0 where
+  pub keeps : Keeps 0 0 old.device new.device
+  pub same : SameSeen old.device new.device
+  pub length : length bytes ≡ 512 * blocks
+  pub buffered : old.buffer.cursor ≤ place → bytes ≡ bytes_at old.buffer place blocks
+  pub given : OnOk result (place < old.buffer.cursor → IsTold new.device → bytes ≡ span old.device.seen (slot_of old.geometry place) blocks)
+  pub cause : HasCause old.device.faults new.device.faults result

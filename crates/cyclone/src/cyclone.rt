@@ -1,0 +1,252 @@
+// Pieces on the content area: gathered in a buffer, written out by one write, found by a directory.
+ghost use Rattle.std.specs.Prelude.{◌≡◌, ◌+◌, ◌-◌, ◌*◌, ◌/◌, ◌<◌, ◌≤◌, ◌^◌, length, IfOk, OnOk, OnErr, IfErr};
+ghost use Rattle.edge_io.specs.Causes.{HasCause};
+ghost use Rattle.tape_base.specs.Blocks.{blocks_of};
+ghost use Rattle.tape_base.specs.Digest.{digest_of};
+ghost use Rattle.tape_base.specs.Piece.{key_of_piece};
+ghost use Rattle.tape_base.specs.Place.{floor_of, next_cursor_of, slot_of};
+ghost use Rattle.ats_disk.specs.Device.{Grows, Keeps, IsTold, SameSeen, span};
+ghost use Rattle.doc_header.specs.Document.{digest_of_document, document_bytes};
+ghost use Rattle.doc_header.specs.Reading.{document_digest};
+ghost use Rattle.agg_buffer.specs.Buffer.{bytes_at, filled_of, empty_buffer, next_place_of, room_of};
+ghost use Rattle.std.specs.Prelude.{[], ◌∷◌, false, IsOk, IsPermutation};
+ghost use Rattle.std.specs.Bool.{OnTrue};
+ghost use Rattle.ats_disk.specs.Device.{IsWhole};
+ghost use Rattle.dir_table.specs.Window.{first_window};
+ghost use Rattle.dir_table.specs.Rows.{row_of_key, has_row};
+
+use agg_buffer::AggBuffer;
+use ats_disk::Disk;
+use dir_table::{Directory, Displaced};
+use doc_header::{Doc, document_digest};
+use edge_io::Failed;
+use std::alloc::{AllocError, Global};
+use tape_base::{Digest, Geometry, Key, PieceId, blocks_of, floor_of, next_cursor, slot};
+use write_cursor::Cursor;
+
+const BLOCK: usize = 512;
+
+/// The content area of a device, which is written in a circle.
+#[derive(Drop)]
+pub struct Cyclone<D: Disk, R: Directory + Drop> {
+    geometry: Geometry,
+    disk: D,
+    directory: R,
+    buffer: AggBuffer,
+}
+
+/// The digests of a piece that was put: of its payload, and of its document.
+#[derive(Clone, Copy, Debug, PartialEq, Eq)]
+pub struct Put {
+    pub payload: Digest,
+    pub document: Digest,
+}
+
+impl<D: Disk, R: Directory + Drop> Cyclone<D, R> {
+    ghost use Rattle.cyclone.specs.Cyclone.{IsCyclone, IsFlushed, IsFresh, IsPut, BeginsNext, IsStored, Reads, SameButRoom, SameButRows, SameTape, WritesBuffer, row_of_piece, cursor_next, seen};
+
+    /// An empty cyclone over a device, from the start of its second lap on. A refusal gives the
+    /// device back.
+    pub fn new(alloc: Global, disk: D, g: Geometry) -> Result<Cyclone<D, R>, (AllocError, D)>
+        requires { g.content ≤ (D.state disk).size }
+        ensures ok { IfOk result (λ c. IsCyclone D.Disk R.Directory c) }
+        ensures fresh { IfOk result (λ c. IsFresh (seen D.Disk R.Directory c) g (D.state disk)) }
+        ensures back { IfErr result (λ refused. refused.1 ≡ disk) }
+    {
+        match parts(alloc, &g) {
+            Ok((directory, buffer)) => Ok(Cyclone {
+                geometry: g,
+                disk,
+                directory,
+                buffer,
+            }),
+            Err(e) => Err((e, disk)),
+        }
+    }
+
+    /// Gives the device back.
+    pub fn into_disk(self) -> D
+        ensures { D.state result ≡ (seen D.Disk R.Directory self).device }
+    {
+        let Cyclone {
+            geometry: _,
+            disk,
+            directory: _directory,
+            buffer: _buffer,
+        } = self;
+        disk
+    }
+
+    pub fn disk(&self) -> &D
+        ensures { D.state result.now ≡ (seen D.Disk R.Directory self.now).device }
+    {
+        &self.disk
+    }
+
+    pub fn geometry(&self) -> &Geometry
+        ensures { result.now ≡ (seen D.Disk R.Directory self.now).geometry }
+    {
+        &self.geometry
+    }
+
+    /// Where the buffer begins.
+    pub fn cursor(&self) -> u64
+        ensures { result ≡ (seen D.Disk R.Directory self.now).buffer.cursor }
+    {
+        self.buffer.cursor()
+    }
+
+    /// The place of the next piece.
+    pub fn next_place(&self) -> u64
+        ensures { result ≡ next_place_of (seen D.Disk R.Directory self.now).buffer }
+    {
+        self.buffer.next_place()
+    }
+
+    /// How many blocks the buffer still takes.
+    pub fn room(&self) -> u32
+        ensures { result ≡ room_of (seen D.Disk R.Directory self.now).buffer }
+    {
+        self.buffer.room()
+    }
+
+    /// Where the next buffer begins, if this one is flushed now.
+    pub fn next_cursor(&self) -> u64
+        requires { IsCyclone D.Disk R.Directory self.now }
+        ensures { result ≡ cursor_next (seen D.Disk R.Directory self.now) }
+    {
+        next_cursor(&self.geometry, self.buffer.cursor(), self.buffer.filled())
+    }
+
+    /// The least place that may be read.
+    pub fn floor(&self) -> u64
+        requires { IsCyclone D.Disk R.Directory self.now }
+        ensures { result ≡ floor_of (seen D.Disk R.Directory self.now).geometry (seen D.Disk R.Directory self.now).buffer.cursor }
+    {
+        floor_of(&self.geometry, self.buffer.cursor())
+    }
+
+    /// Makes room for so many more pieces, and for as many flushes.
+    pub fn prepare(&mut self, units: u32) -> Result<(), AllocError>
+        requires turns { IsCyclone D.Disk R.Directory self.old }
+        ensures turns { IsCyclone D.Disk R.Directory self.new }
+        ensures same { SameButRoom (seen D.Disk R.Directory self.old) (seen D.Disk R.Directory self.new) }
+        ensures pieces { OnOk result (units ≤ (seen D.Disk R.Directory self.new).spare) }
+        ensures device { let old = (seen D.Disk R.Directory self.old).device in
+            OnOk result (Grows units (units * (seen D.Disk R.Directory self.old).geometry.agg) old (seen D.Disk R.Directory self.new).device) }
+        ensures none { OnErr result (Grows 0 0 (seen D.Disk R.Directory self.old).device (seen D.Disk R.Directory self.new).device) }
+    {
+        self.directory.reserve(units as usize)?;
+        self.disk
+            .make_room(units, units as u64 * self.geometry.agg as u64)
+    }
+
+    /// Puts a piece into the buffer as a document, and enters it. The document is spelled in its
+    /// place, and is not written before the next flush.
+    pub fn put(&mut self, doc: &Doc, payload: &[u8]) -> Put
+        requires turns { IsCyclone D.Disk R.Directory self.old }
+        requires spare { 1 ≤ (seen D.Disk R.Directory self.old).spare }
+        requires place { doc.now.place ≡ next_place_of (seen D.Disk R.Directory self.old).buffer }
+        requires size { length payload.now ≤ 2 ^ 31 }
+        requires room { blocks_of (length payload.now) ≤ room_of (seen D.Disk R.Directory self.old).buffer }
+        ensures turns { IsCyclone D.Disk R.Directory self.new }
+        ensures put { IsPut R.purges (seen D.Disk R.Directory self.old) (seen D.Disk R.Directory self.new) doc.now payload.now }
+        ensures payload { result.payload ≡ digest_of payload.now }
+        ensures document { result.document ≡ digest_of_document doc.now payload.now }
+    {
+        let blocks = blocks_of(payload.len() as u32);
+        let payload = self.buffer.put_document(doc, payload);
+        let document = document_digest(self.buffer.get(doc.place, blocks));
+        self.directory.insert(
+            Key::of_piece(doc.id),
+            doc.place,
+            blocks,
+            doc.id.index == 0,
+            doc.pin != 0,
+        );
+        Put { payload, document }
+    }
+
+    /// Writes the buffer out by one write, and begins the next one. The blocks that are written may
+    /// hold any bytes where the device refuses.
+    pub fn flush(&mut self) -> Result<(), Failed>
+        requires turns { IsCyclone D.Disk R.Directory self.old }
+        requires some { 0 < filled_of (seen D.Disk R.Directory self.old).buffer }
+        requires calls { 1 ≤ (seen D.Disk R.Directory self.old).device.calls }
+        requires blocks { filled_of (seen D.Disk R.Directory self.old).buffer ≤ (seen D.Disk R.Directory self.old).device.blocks }
+        requires below { cursor_next (seen D.Disk R.Directory self.old) < 2 ^ 62 }
+        ensures turns { IsCyclone D.Disk R.Directory self.new }
+        ensures ok { OnOk result (IsFlushed (seen D.Disk R.Directory self.old) (seen D.Disk R.Directory self.new)) }
+        ensures err { OnErr result (SameTape (seen D.Disk R.Directory self.old) (seen D.Disk R.Directory self.new)) }
+        ensures device { WritesBuffer (seen D.Disk R.Directory self.old) (seen D.Disk R.Directory self.new) result }
+    {
+        let first = slot(&self.geometry, self.buffer.cursor());
+        self.disk.write(first, self.buffer.bytes())?;
+        self.begin_next();
+        Ok(())
+    }
+
+    /// Reads the blocks from a place on, from the buffer where they stand there.
+    pub fn read(&mut self, place: u64, into: &mut [u8]) -> Result<(), Failed>
+        requires turns { IsCyclone D.Disk R.Directory self.old }
+        requires whole { IsWhole (length into.old) }
+        requires stored { IsStored (seen D.Disk R.Directory self.old) place (length into.old / 512) }
+        ensures turns { IsCyclone D.Disk R.Directory self.new }
+        ensures same { SameTape (seen D.Disk R.Directory self.old) (seen D.Disk R.Directory self.new) }
+        ensures reads { Reads (seen D.Disk R.Directory self.old) (seen D.Disk R.Directory self.new) place (length into.old / 512) result into.new }
+        ensures buffered { (seen D.Disk R.Directory self.old).buffer.cursor ≤ place → IsOk result }
+    {
+        if place < self.buffer.cursor() {
+            return self.disk.read(slot(&self.geometry, place), into);
+        }
+        let blocks = (into.len() / BLOCK) as u32;
+        into.copy_from_slice(self.buffer.get(place, blocks));
+        Ok(())
+    }
+
+    /// Takes a piece out of the directory, and says whether it stood there.
+    pub fn take_out(&mut self, id: PieceId, place: u64) -> bool
+        requires turns { IsCyclone D.Disk R.Directory self.old }
+        ensures turns { IsCyclone D.Disk R.Directory self.new }
+        ensures found { result ≡ has_row (row_of_piece (seen D.Disk R.Directory self.old) id place) (seen D.Disk R.Directory self.old).rows }
+        ensures same { SameButRows (seen D.Disk R.Directory self.old) (seen D.Disk R.Directory self.new) }
+        ensures gone { OnTrue result (IsPermutation (seen D.Disk R.Directory self.old).rows
+            (row_of_piece (seen D.Disk R.Directory self.old) id place ∷ (seen D.Disk R.Directory self.new).rows)) }
+        ensures none { result ≡ false → (seen D.Disk R.Directory self.new).rows ≡ (seen D.Disk R.Directory self.old).rows }
+    {
+        self.directory.delete(Key::of_piece(id), place)
+    }
+
+    /// The directory, for walks.
+    pub fn directory(&self) -> &R
+        ensures rows { R.rows result.now ≡ (seen D.Disk R.Directory self.now).rows }
+        ensures window { R.window result.now ≡ (seen D.Disk R.Directory self.now).window }
+    {
+        &self.directory
+    }
+
+    fn begin_next(&mut self)
+        requires turns { IsCyclone D.Disk R.Directory self.old }
+        requires below { cursor_next (seen D.Disk R.Directory self.old) < 2 ^ 62 }
+        ensures turns { IsCyclone D.Disk R.Directory self.new }
+        ensures begins { BeginsNext (seen D.Disk R.Directory self.old) (seen D.Disk R.Directory self.new) }
+    {
+        let cursor = self.buffer.cursor();
+        let here = Cursor {
+            cursor,
+            synced: cursor,
+        };
+        let next = here.plan(&self.geometry, self.buffer.filled());
+        self.buffer.begin(next.cursor);
+        self.directory.wrap(next.cursor, next.floor);
+    }
+}
+
+fn parts<R: Directory + Drop>(alloc: Global, g: &Geometry) -> Result<(R, AggBuffer), AllocError>
+    ensures directory { IfOk result (λ parts. (R.rows parts.0 ≡ []) × (R.window parts.0 ≡ first_window g.now)) }
+    ensures buffer { IfOk result (λ parts. parts.1 ≡ empty_buffer g.now.content g.now.agg) }
+{
+    let directory = R::new(alloc, g)?;
+    let buffer = AggBuffer::new(alloc, g, g.content)?;
+    Ok((directory, buffer))
+}

@@ -1,0 +1,9 @@
+//! The content area that is written in a circle, with the buffer and the directory of its pieces.
+#![tactic(auto)]
+
+mod cyclone;
+
+pub use cyclone::{Cyclone, Put};
+
+#[cfg(test)]
+mod tests;
