@@ -1,0 +1,87 @@
+-- Where the next buffer begins, what may still be read stays held.
+use Rattle.std.proofs.Common.{◌≡◌, ℕ, ◌+◌, ◌<◌, ◌≤◌, List, [], ◌∷◌, sym, ◌∙◌, ap, subst, arith}
+use Rattle.std.specs.Prelude.{map, nat_le}
+use Rattle.std.specs.List.{AllByRecursion}
+use Rattle.tape_base.specs.Place.{floor_of}
+use Rattle.ats_disk.specs.Device.{State as Device}
+use Rattle.dir_table.specs.declared.rows.DirRow.{DirRow}
+use Rattle.dir_table.specs.declared.window.Window.{Window}
+use Rattle.dir_table.specs.Wrap.{rows_from}
+use Rattle.agg_buffer.specs.Buffer.{Buffer, filled_of}
+use Rattle.cyclone.specs.Cyclone.{Seen, IsTurning, BeginsNext, cursor_next as cursor_behind}
+use Rattle.cache_model.specs.declared.record.Rec.TheVariants as rec
+use Rattle.cache_model.specs.State.{State, Row, cursor_next, floor_next, floor_now, place_now, state_after}
+use Rattle.cache_model.specs.Tape.{AreRising}
+use Rattle.cache_model.proofs.Laps.{next_above}
+use Rattle.cache_model.proofs.Rows.{rising_ends}
+use Rattle.cache_model.proofs.Sound.{later_began}
+use Rattle.stripe_core.specs.Held.{IsBufferedWhereNew, IsHeld, entry_of, times}
+use Rattle.stripe_core.proofs.Entries.{kept, times-filter, times-permutation}
+use Rattle.stripe_core.proofs.Counts.{is_between, later_between}
+use Rattle.stripe_core.proofs.Holding.{AreCounted, counted, end_is, entered, floor_is, next_is, none_behind}
+
+-- no piece stands at or behind the next buffer
+none_new : (b : Buffer) (low high : ℕ) (rows : List Row) → AreRising low rows high → high ≤ b.cursor → AllByRecursion (IsBufferedWhereNew b) rows
+none_new b low high [] r h = tt
+none_new b low high (row ∷ rows) r h =
+    let ends : row.place + row.blocks ≤ high = rising_ends (row.place + row.blocks) rows high r.2 in
+    let some : 0 < row.blocks = r.1 in
+    (λ above. absurd (omega (arith, ends, some, h, above)), none_new b (row.place + row.blocks) high rows r.2 h)
+
+module _ (s : State) (c new : Seen) (held : IsHeld s c) (begins : BeginsNext c new) (turning : IsTurning new) where
+  abbrev after : State
+  after = state_after s (rec.Began (cursor_next s) (floor_next s))
+
+  cursor_is : cursor_behind c ≡ cursor_next s
+  cursor_is = next_is s c held
+
+  behind : place_now s ≤ cursor_next s
+  behind = next_above s.geometry s.cursor s.filled held.sound.room held.sound.lap
+
+  new_cursor : new.buffer.cursor ≡ cursor_next s
+  new_cursor = ap (λ (b : Buffer). b.cursor) begins.buffer ∙ cursor_is
+
+  new_filled : filled_of new.buffer ≡ 0
+  new_filled = ap filled_of begins.buffer
+
+  new_floor : new.window.floor ≡ floor_next s
+  new_floor = ap (λ (w : Window). w.floor) begins.window ∙ (ap (λ g. floor_of g (cursor_behind c)) held.geometry ∙ ap (floor_of s.geometry) cursor_is)
+
+  new_end : new.window.end ≡ cursor_next s
+  new_end = ap (λ (w : Window). w.end) begins.window ∙ cursor_is
+
+  low_is : begins.rows.low ≤ floor_next s
+  low_is = subst (λ n. begins.rows.low ≤ n) (ap (λ g. floor_of g (cursor_behind c)) held.geometry ∙ ap (floor_of s.geometry) cursor_is) begins.rows.unreadable
+
+  entries_are : (x : DirRow) → times x new.rows ≡ kept (nat_le begins.rows.low x.place) (times x c.rows)
+  entries_are x = times-permutation x (rows_from begins.rows.low c.rows) new.rows begins.rows.kept ∙ times-filter (nat_le begins.rows.low) x c.rows
+
+  count_at : (x : DirRow) → kept (is_between new.window.floor new.window.end x.place) (times x new.rows) ≡ kept (nat_le (floor_now after) x.place) (times x (map (entry_of s.geometry) s.rows))
+  count_at x =
+      let pieces : ℕ = times x (map (entry_of s.geometry) s.rows) in
+      let start : c.window.floor ≡ floor_now s = floor_is s c held in
+      let old : kept (is_between c.window.floor c.window.end x.place) (times x c.rows) ≡ kept (nat_le c.window.floor x.place) pieces =
+      (counted s c held.entered).each x ∙ ap (λ f. kept (nat_le f x.place) pieces) (sym start) in
+      let up : c.window.floor ≤ floor_next s = omega (arith, start, behind) in
+      let on : c.window.end ≤ cursor_next s = omega (arith, end_is s c held, behind) in
+      rw (new_floor, new_end, entries_are x)
+      (later_between c.window.floor (floor_next s) c.window.end (cursor_next s) begins.rows.low x.place (times x c.rows) pieces up low_is on (none_behind c x held.turning) old)
+
+  counts : AreCounted after new
+  counts = record { each = count_at }
+
+  begun_is_held_here : IsHeld after new
+  begun_is_held_here = record {
+    turning = turning;
+    sound = (later_began s held.sound).sound;
+    geometry = begins.geometry ∙ held.geometry;
+    cursor = new_cursor;
+    filled = new_filled;
+    entered = entered after new counts;
+    buffered = none_new new.buffer s.geometry.content (place_now s) s.rows held.sound.rising (omega (arith, new_cursor, behind));
+    faults = subst (λ n. s.fault ≤ n) (sym (ap (λ (d : Device). d.faults) begins.device)) held.faults;
+  }
+
+pub begun_is_held : (s : State) (c new : Seen) → IsHeld s c → BeginsNext c new → IsTurning new
+    → IsHeld (state_after s (rec.Began (cursor_next s) (floor_next s))) new
+begun_is_held s c new held begins turning = begun_is_held_here s c new held begins turning

@@ -1,0 +1,9 @@
+mod Entries
+mod Counts
+mod Holding
+mod Placing
+mod Beginning
+mod Taking
+mod Starting
+mod Finding
+mod Flushing

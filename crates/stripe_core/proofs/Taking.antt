@@ -1,0 +1,197 @@
+-- Pieces that go, and records that leave the pieces.
+use Rattle.std.proofs.Common.{◌≡◌, ℕ, ◌+◌, ◌<◌, ◌≤◌, List, [], ◌∷◌, refl, sym, ◌∙◌, ap, subst, arith, Bool, true, false, cond}
+use Rattle.std.specs.Prelude.{map, not, IsPermutation, nat_le, Option, Some, None, option_and_then, if◌then◌else◌}
+use Rattle.std.specs.List.{AllByRecursion}
+use Rattle.std.proofs.lemmas.Bool.{leb-true, leb-false, lt-leb}
+use Rattle.tape_base.specs.declared.pieces.PieceId.{PieceId}
+use Rattle.tape_base.specs.Piece.{key_of_piece, same_piece}
+use Rattle.tape_base.proofs.NameLaws.{same_piece-true}
+use Rattle.std.specs.Prelude.{Result, Ok, Err, OnOk, OnErr}
+use Rattle.ats_disk.specs.Device.{State as Device, Grows}
+use Rattle.dir_table.specs.declared.rows.DirRow.{DirRow}
+use Rattle.dir_table.specs.Rows.{row_of_key}
+use Rattle.agg_buffer.specs.Buffer.{filled_of}
+use Rattle.cyclone.specs.Cyclone.{Seen, IsTurning, SameButRoom, SameButRows, SameTape, row_of_piece}
+use Rattle.cache_model.specs.State.{State, Row, floor_now, is_live, live_row_of, only_live, place_now, row_in, without}
+use Rattle.cache_model.specs.Tape.{AreApart, AreRising}
+use Rattle.stripe_core.specs.Held.{IsBufferedWhereNew, IsHeld, entry_of, rows_in_range, same_entry, times}
+use Rattle.stripe_core.specs.Records.{IsAlike, IsWithout}
+use Rattle.stripe_core.proofs.Entries.{kept, one_more, times-permutation, times-without, same_entry-true}
+use Rattle.stripe_core.proofs.Counts.{is_between, fewer_between}
+use Rattle.stripe_core.proofs.Holding.{counted, end_is, entered, floor_is}
+use Rattle.stripe_core.proofs.Placing.{without-none}
+
+-- ---- what a live row is
+
+stood_by : (s : State) (other row : Row) (b : Bool) → is_live s other ≡ b → (if b then Some other else None) ≡ Some row → (other ≡ row) × (floor_now s ≤ other.place)
+stood_by s other row true e h = (cc, leb-true (floor_now s) other.place e)
+stood_by s other row false e h = cc
+
+stood : (s : State) (o : Option Row) (row : Row) → option_and_then (only_live s) o ≡ Some row → (o ≡ Some row) × (floor_now s ≤ row.place)
+stood s None row h = cc
+stood s (Some other) row h =
+    let r : (other ≡ row) × (floor_now s ≤ other.place) = stood_by s other row (is_live s other) refl h in
+    (ap Some r.0, subst (λ (x : Row). floor_now s ≤ x.place) r.0 r.1)
+
+own_by : (id : PieceId) (first row : Row) (other : Option Row) (b : Bool) → same_piece first.id id ≡ b → (other ≡ Some row → row.id ≡ id) → (if b then Some first else other) ≡ Some row → row.id ≡ id
+own_by id first row other true e rest h = let same : first ≡ row = cc in ap (λ (r : Row). r.id) (sym same) ∙ same_piece-true first.id id e
+own_by id first row other false e rest h = rest h
+
+-- a row that is found is that of the piece
+pub own : (id : PieceId) (rows : List Row) (row : Row) → row_in rows id ≡ Some row → row.id ≡ id
+own id [] row h = cc
+own id (first ∷ rows) row h = own_by id first row (row_in rows id) (same_piece first.id id) refl (own id rows row) h
+
+below_by : (id : PieceId) (first row : Row) (rows : List Row) (high : ℕ) (b : Bool) → same_piece first.id id ≡ b → first.place < high → (row_in rows id ≡ Some row → row.place < high)
+    → (if b then Some first else row_in rows id) ≡ Some row → row.place < high
+below_by id first row rows high true e at rest h = let same : first ≡ row = cc in subst (λ (r : Row). r.place < high) same at
+below_by id first row rows high false e at rest h = rest h
+
+-- it stands below the end
+below : (id : PieceId) (low high : ℕ) (rows : List Row) (row : Row) → AreRising low rows high → row_in rows id ≡ Some row → row.place < high
+below id low high [] row r h = cc
+below id low high (first ∷ rows) row r h =
+    let ends : first.place + first.blocks ≤ high = Rattle.cache_model.proofs.Rows.rising_ends (first.place + first.blocks) rows high r.2 in
+    let some : 0 < first.blocks = r.1 in
+    below_by id first row rows high (same_piece first.id id) refl (omega arith) (below id (first.place + first.blocks) high rows row r.2) h
+
+-- ---- what is left of what is buffered
+
+left_by : (P : Row → Type 0) (row : Row) (left : List Row) (b : Bool) → P row → AllByRecursion P left → AllByRecursion P (cond b (row ∷ left) left)
+left_by P row left true h all = (h, all)
+left_by P row left false h all = all
+
+all_left : (P : Row → Type 0) (id : PieceId) (rows : List Row) → AllByRecursion P rows → AllByRecursion P (without id rows)
+all_left P id [] all = tt
+all_left P id (row ∷ rows) all = left_by P row (without id rows) (not (same_piece row.id id)) all.0 (all_left P id rows all.1)
+
+-- ---- a live piece goes
+
+module _ (s t : State) (c new : Seen) (id : PieceId) (row : Row) (held : IsHeld s c) (live : live_row_of s id ≡ Some row) (gone : IsWithout s t id)
+    (rest : SameButRows c new) (took : IsPermutation c.rows (row_of_piece c id row.place ∷ new.rows)) (turning : IsTurning new) where
+  found : (row_in s.rows id ≡ Some row) × (floor_now s ≤ row.place)
+  found = stood s (row_in s.rows id) row live
+
+  entry_is : row_of_piece c id row.place ≡ entry_of s.geometry row
+  entry_is = ap (λ g. row_of_key g (key_of_piece id) row.place) held.geometry ∙ ap (λ i. row_of_key s.geometry (key_of_piece i) row.place) (sym (own id s.rows row found.0))
+
+  entries_are : (x : DirRow) → times x c.rows ≡ one_more (same_entry (entry_of s.geometry row) x) (times x new.rows)
+  entries_are x = sym (times-permutation x c.rows (row_of_piece c id row.place ∷ new.rows) took) ∙ ap (λ e. times x (e ∷ new.rows)) entry_is
+
+  same_window : new.window ≡ c.window
+  same_window = ap (λ (y : Seen). y.window) rest.same
+
+  in_range : (x : DirRow) → same_entry (entry_of s.geometry row) x ≡ true → (c.window.floor ≤ x.place) × (x.place < c.window.end)
+  in_range x e =
+      let at : row.place ≡ x.place = ap (λ (r : DirRow). r.place) (same_entry-true (entry_of s.geometry row) x e) in
+      let high : row.place < place_now s = below id s.geometry.content (place_now s) s.rows row held.sound.rising found.0 in
+      (omega (arith, at, found.1, floor_is s c held), omega (arith, at, high, end_is s c held))
+
+  count_at : (x : DirRow) → kept (is_between new.window.floor new.window.end x.place) (times x new.rows) ≡ kept (nat_le (floor_now t) x.place) (times x (map (entry_of t.geometry) t.rows))
+  count_at x =
+      let start : c.window.floor ≡ floor_now s = floor_is s c held in
+      let it : Bool = same_entry (entry_of s.geometry row) x in
+      let left : ℕ = times x (map (entry_of s.geometry) (without id s.rows)) in
+      let pieces : times x (map (entry_of s.geometry) s.rows) ≡ one_more it left = times-without s.geometry id x row s.rows held.sound.apart found.0 in
+      let old : kept (is_between c.window.floor c.window.end x.place) (one_more it (times x new.rows)) ≡ kept (nat_le c.window.floor x.place) (one_more it left) =
+      ap (kept (is_between c.window.floor c.window.end x.place)) (sym (entries_are x))
+      ∙ ((counted s c held.entered).each x ∙ (ap (λ f. kept (nat_le f x.place) (times x (map (entry_of s.geometry) s.rows))) (sym start) ∙ ap (kept (nat_le c.window.floor x.place)) pieces)) in
+      rw (same_window, gone.geometry, gone.cursor, gone.rows, sym start) (fewer_between c.window.floor c.window.end x.place (times x new.rows) left it (in_range x) old)
+
+  taken_is_held_here : IsHeld t new
+  taken_is_held_here = record {
+    turning = turning;
+    sound = gone.sound;
+    geometry = ap (λ (y : Seen). y.geometry) rest.same ∙ (held.geometry ∙ sym gone.geometry);
+    cursor = ap (λ (y : Seen). y.buffer.cursor) rest.same ∙ (held.cursor ∙ sym gone.cursor);
+    filled = ap (λ (y : Seen). filled_of y.buffer) rest.same ∙ (held.filled ∙ sym gone.filled);
+    entered = entered t new (record { each = count_at });
+    buffered = rw (gone.rows, ap (λ (y : Seen). y.buffer) rest.same) (all_left (IsBufferedWhereNew c.buffer) id s.rows held.buffered);
+    faults = rw (gone.fault, ap (λ (y : Seen). y.device) rest.same) held.faults;
+  }
+
+pub taken_is_held : (s t : State) (c new : Seen) (id : PieceId) (row : Row) → IsHeld s c → live_row_of s id ≡ Some row → IsWithout s t id
+    → SameButRows c new → IsPermutation c.rows (row_of_piece c id row.place ∷ new.rows) → IsTurning new → IsHeld t new
+taken_is_held s t c new id row held live gone rest took turning = taken_is_held_here s t c new id row held live gone rest took turning
+
+-- ---- a piece that is not live goes
+
+not_stood : (s : State) (row : Row) (b : Bool) → is_live s row ≡ b → (if b then Some row else None) ≡ None → row.place < floor_now s
+not_stood s row true e h = cc
+not_stood s row false e h = leb-false (floor_now s) row.place e
+
+unseen_by : (b it : Bool) (n : ℕ) → (it ≡ true → b ≡ false) → kept b (one_more it n) ≡ kept b n
+unseen_by false it n h = refl
+unseen_by true false n h = refl
+unseen_by true true n h = let f : true ≡ false = h refl in cc
+
+-- the pieces that may be read are the same
+same_live : (s : State) (id : PieceId) (x : DirRow) (o : Option Row) → row_in s.rows id ≡ o → AreApart s.rows → option_and_then (only_live s) o ≡ None
+    → kept (nat_le (floor_now s) x.place) (times x (map (entry_of s.geometry) (without id s.rows))) ≡ kept (nat_le (floor_now s) x.place) (times x (map (entry_of s.geometry) s.rows))
+same_live s id x None e apart h = ap (λ rs. kept (nat_le (floor_now s) x.place) (times x (map (entry_of s.geometry) rs))) (without-none id s.rows e)
+same_live s id x (Some row) e apart h =
+    let low : row.place < floor_now s = not_stood s row (is_live s row) refl h in
+    let pieces : times x (map (entry_of s.geometry) s.rows) ≡ one_more (same_entry (entry_of s.geometry row) x) (times x (map (entry_of s.geometry) (without id s.rows))) =
+    times-without s.geometry id x row s.rows apart e in
+    let under : same_entry (entry_of s.geometry row) x ≡ true → nat_le (floor_now s) x.place ≡ false =
+    λ f. let at : row.place ≡ x.place = ap (λ (r : DirRow). r.place) (same_entry-true (entry_of s.geometry row) x f) in lt-leb (floor_now s) x.place (omega (arith, at, low)) in
+    sym (ap (kept (nat_le (floor_now s) x.place)) pieces
+    ∙ unseen_by (nat_le (floor_now s) x.place) (same_entry (entry_of s.geometry row) x) (times x (map (entry_of s.geometry) (without id s.rows))) under)
+
+pub passed_is_held : (s t : State) (c : Seen) (id : PieceId) → IsHeld s c → live_row_of s id ≡ None → IsWithout s t id → IsHeld t c
+passed_is_held s t c id held none gone = record {
+  turning = held.turning;
+  sound = gone.sound;
+  geometry = held.geometry ∙ sym gone.geometry;
+  cursor = held.cursor ∙ sym gone.cursor;
+  filled = held.filled ∙ sym gone.filled;
+  entered = entered t c (record {
+    each = λ x.
+        rw (gone.geometry, gone.cursor, gone.rows) ((counted s c held.entered).each x ∙ sym (same_live s id x (row_in s.rows id) refl held.sound.apart none));
+  });
+  buffered = rw gone.rows (all_left (IsBufferedWhereNew c.buffer) id s.rows held.buffered);
+  faults = rw gone.fault held.faults;
+}
+
+-- ---- records that speak of no piece, and a device that changes
+
+pub alike_is_held : (s t : State) (c : Seen) → IsHeld s c → IsAlike s t → t.fault ≤ c.device.faults → IsHeld t c
+alike_is_held s t c held alike faults = record {
+  turning = held.turning;
+  sound = alike.sound;
+  geometry = held.geometry ∙ sym alike.geometry;
+  cursor = held.cursor ∙ sym alike.cursor;
+  filled = held.filled ∙ sym alike.filled;
+  entered = entered t c (record { each = λ x. rw (alike.geometry, alike.cursor, alike.rows) ((counted s c held.entered).each x) });
+  buffered = rw alike.rows held.buffered;
+  faults = faults;
+}
+
+pub device_may_change : (s : State) (c new : Seen) → IsHeld s c → SameTape c new → IsTurning new → c.device.faults ≤ new.device.faults → IsHeld s new
+device_may_change s c new held same turning more = record {
+  turning = turning;
+  sound = held.sound;
+  geometry = ap (λ (y : Seen). y.geometry) same ∙ held.geometry;
+  cursor = ap (λ (y : Seen). y.buffer.cursor) same ∙ held.cursor;
+  filled = ap (λ (y : Seen). filled_of y.buffer) same ∙ held.filled;
+  entered = λ x. ap (λ (y : Seen). times x (rows_in_range y)) same ∙ held.entered x;
+  buffered = rw (ap (λ (y : Seen). y.buffer) same) held.buffered;
+  faults = let low : s.fault ≤ c.device.faults = held.faults in omega arith;
+}
+
+pub room_may_grow : (s : State) (c new : Seen) → IsHeld s c → SameButRoom c new → IsTurning new → c.device.faults ≤ new.device.faults → IsHeld s new
+room_may_grow s c new held same turning more = record {
+  turning = turning;
+  sound = held.sound;
+  geometry = ap (λ (y : Seen). y.geometry) same.same ∙ held.geometry;
+  cursor = ap (λ (y : Seen). y.buffer.cursor) same.same ∙ held.cursor;
+  filled = ap (λ (y : Seen). filled_of y.buffer) same.same ∙ held.filled;
+  entered = λ x. ap (λ (y : Seen). times x (rows_in_range y)) same.same ∙ held.entered x;
+  buffered = rw (ap (λ (y : Seen). y.buffer) same.same) held.buffered;
+  faults = let low : s.fault ≤ c.device.faults = held.faults in omega arith;
+}
+
+-- making room leaves the count of faults, whether it is found or not
+pub steady : {X E : Type 0} (r : Result X E) (calls blocks : ℕ) (old new : Device) → OnOk r (Grows calls blocks old new) → OnErr r (Grows 0 0 old new) → old.faults ≤ new.faults
+steady (Ok x) calls blocks old new ok err = let same : new.faults ≡ old.faults = ok.faults in omega arith
+steady (Err e) calls blocks old new ok err = let same : new.faults ≡ old.faults = err.faults in omega arith

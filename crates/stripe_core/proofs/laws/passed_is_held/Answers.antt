@@ -1,0 +1,5 @@
+use Rattle.stripe_core.proofs.Taking.{passed_is_held}
+use Rattle.stripe_core.proofs.laws.passed_is_held.Goals as goal
+
+pub returns : goal.returns
+returns c = passed_is_held

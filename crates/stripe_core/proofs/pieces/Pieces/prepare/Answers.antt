@@ -1,0 +1,14 @@
+use Rattle.std.proofs.Common.{sym, subst}
+use Rattle.cache_model.specs.Kept.{state_of}
+use Rattle.cyclone.specs.Cyclone.{seen}
+use Rattle.stripe_core.specs.Held.{IsHeld}
+use Rattle.stripe_core.specs.Pieces.{seen_of, state_now}
+use Rattle.stripe_core.proofs.Taking.{room_may_grow, steady}
+use Rattle.stripe_core.proofs.pieces.Pieces.prepare.Goals as goal
+
+pub returns-clause-pieces : goal.returns-clause-pieces
+returns-clause-pieces g c =
+    let new = seen g.D.Disk g.R.Directory c.prepare.new.self in
+    subst (λ k. IsHeld (state_of k) new) (sym c.reserve.ensures.kept)
+    (room_may_grow (state_now g.C.Chronicle c.args.self.now) (seen_of g.D.Disk g.R.Directory c.args.self.now) new c.requires c.prepare.ensures.same c.prepare.ensures.turns
+    (steady c.prepare.result _ _ _ _ c.prepare.ensures.device c.prepare.ensures.none))

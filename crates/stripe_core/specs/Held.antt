@@ -1,0 +1,53 @@
+-- What a cyclone holds of the pieces that the records tell of.
+use Rattle.std.specs.Prelude.{ℕ, ◌≡◌, ◌+◌, ◌≤◌, ◌==◌, ◌&&◌, Bool, if◌then◌else◌, List, [], ◌∷◌, map, filter}
+use Rattle.std.specs.List.{AllByRecursion}
+use Rattle.tape_base.specs.declared.geometries.Geometry.{Geometry}
+use Rattle.tape_base.specs.Piece.{key_of_piece}
+use Rattle.doc_header.specs.Reading.{document_digest}
+use Rattle.agg_buffer.specs.Buffer.{Buffer, bytes_at, filled_of, IsFilled}
+use Rattle.dir_table.specs.declared.rows.DirRow.{DirRow}
+use Rattle.dir_table.specs.Rows.{row_of_key}
+use Rattle.dir_table.specs.Window.{is_in_range}
+use Rattle.cyclone.specs.Cyclone.{Seen, IsTurning}
+use Rattle.cache_model.specs.State.{State, Row, live_rows}
+use Rattle.cache_model.specs.Tape.{IsSound}
+
+-- the row under which a directory has a piece
+abbrev pub entry_of : Geometry → Row → DirRow
+entry_of g row = row_of_key g (key_of_piece row.id) row.place
+
+abbrev pub same_entry : DirRow → DirRow → Bool
+same_entry a b = (a.segment == b.segment && a.bucket == b.bucket) && (a.tag == b.tag && a.place == b.place)
+
+-- how often a row stands in a list
+abbrev pub times : DirRow → List DirRow → ℕ
+times x [] = 0
+times x (row ∷ rows) = if same_entry row x then times x rows + 1 else times x rows
+
+-- two lists have the same rows, each as often
+abbrev pub SameRows : List DirRow → List DirRow → Type 0
+SameRows a b = (x : DirRow) → times x a ≡ times x b
+
+-- the rows of a directory that are in range
+abbrev pub rows_in_range : Seen → List DirRow
+rows_in_range c = filter (λ r. is_in_range c.window r.place) c.rows
+
+-- a piece whose place is in the buffer stands there with its recorded digest
+pub record IsBuffered (b : Buffer) (row : Row) : Type 0 where
+  pub filled : IsFilled b row.place row.blocks
+  pub digest : document_digest (bytes_at b row.place row.blocks) ≡ row.digest
+
+abbrev pub IsBufferedWhereNew : Buffer → Row → Type 0
+IsBufferedWhereNew b row = b.cursor ≤ row.place → IsBuffered b row
+
+-- a cyclone that holds what the records say
+pub record IsHeld (s : State) (c : Seen) : Type 0 where
+  pub turning : IsTurning c
+  pub sound : IsSound s
+  pub geometry : c.geometry ≡ s.geometry
+  pub cursor : c.buffer.cursor ≡ s.cursor
+  pub filled : filled_of c.buffer ≡ s.filled
+  -- the entries in range are those of the live pieces, one each
+  pub entered : SameRows (rows_in_range c) (map (entry_of s.geometry) (live_rows s))
+  pub buffered : AllByRecursion (IsBufferedWhereNew c.buffer) s.rows
+  pub faults : s.fault ≤ c.device.faults

@@ -1,0 +1,34 @@
+-- What contracts see of the pieces of a stripe: the records, and what a cyclone holds of them.
+use Rattle.std.specs.Prelude.{ℕ, ◌≡◌, Option, Some, option_map, Contains}
+use Rattle.tape_base.specs.declared.pieces.PieceId.{PieceId}
+use Rattle.ats_disk.specs.declared.device.Disk.{Ghosts as DiskGhosts}
+use Rattle.dir_table.specs.declared.directory.Directory.{Ghosts as DirectoryGhosts}
+use Rattle.dir_table.specs.declared.rows.Walk.{Walk}
+use Rattle.cyclone.specs.Cyclone.{Seen, seen}
+use Rattle.cache_model.specs.State.{State, Row, live_row_of}
+use Rattle.cache_model.specs.Kept.{Kept, state_of}
+use Rattle.cache_chronicle.specs.declared.chronicle.Chronicle.{Ghosts as ChronicleGhosts}
+use Rattle.stripe_core.specs.Held.{IsHeld}
+use Rattle.stripe_core.specs.declared.pieces.Pieces.{Pieces}
+
+abbrev pub kept_of : {D R C : Type 0} → ChronicleGhosts C → Pieces D R C → Kept
+kept_of chronicle p = chronicle.kept p.chronicle
+
+abbrev pub state_now : {D R C : Type 0} → ChronicleGhosts C → Pieces D R C → State
+state_now chronicle p = state_of (kept_of chronicle p)
+
+abbrev pub seen_of : {D R C : Type 0} → DiskGhosts D → DirectoryGhosts R → Pieces D R C → Seen
+seen_of disk directory p = seen disk directory p.cyclone
+
+-- what holds of the pieces between calls
+abbrev pub ArePieces : {D R C : Type 0} → DiskGhosts D → DirectoryGhosts R → ChronicleGhosts C → Pieces D R C → Type 0
+ArePieces disk directory chronicle p = IsHeld (state_now chronicle p) (seen_of disk directory p)
+
+-- the place of a live piece
+abbrev pub live_place_of : State → PieceId → Option ℕ
+live_place_of s id = option_map (λ (row : Row). row.place) (live_row_of s id)
+
+-- a walk over the places that a piece may have comes to it, where it is live
+pub record ComesTo {R : Type 0} (directory : DirectoryGhosts R) (s : State) (id : PieceId) (d : R) (walk : Walk) : Type 0 where
+  pub walks : directory.walks d walk
+  pub ahead : (row : Row) → live_row_of s id ≡ Some row → Contains (directory.rest d walk) row.place

@@ -1,0 +1,78 @@
+-- How what a cyclone holds follows the records: the laws of the two together.
+use Rattle.std.specs.Prelude.{ℕ, ◌≡◌, ◌+◌, ◌≤◌, false, List, ◌∷◌, length, IsPermutation, Some, None}
+use Rattle.tape_base.specs.declared.geometries.Geometry.{Geometry}
+use Rattle.tape_base.specs.declared.pieces.PieceId.{PieceId}
+use Rattle.tape_base.specs.declared.digests.Digest.{Digest}
+use Rattle.tape_base.specs.Blocks.{blocks_of}
+use Rattle.doc_header.specs.declared.documents.Doc.{Doc}
+use Rattle.doc_header.specs.Document.{document_bytes}
+use Rattle.doc_header.specs.Reading.{document_digest}
+use Rattle.agg_buffer.specs.Buffer.{blocks_in}
+use Rattle.cyclone.specs.Cyclone.{Seen, IsFresh, IsTurning, IsPut, BeginsNext, SameButRoom, SameButRows, SameTape, row_of_piece}
+use Rattle.cache_model.specs.declared.record.Rec.TheVariants as rec
+use Rattle.cache_model.specs.State.{State, Row, cursor_next, floor_next, live_row_of, nothing_yet, place_now, row_of, after_all, state_after, without}
+use Rattle.cache_model.specs.Legal.{format_records}
+use Rattle.ats_disk.specs.Device.{State as Device}
+use Rattle.cache_model.specs.Tape.{IsSound}
+use Rattle.stripe_core.specs.Held.{IsHeld}
+
+-- the document of a piece as it is placed now
+pub record IsPlacedAs (s : State) (doc : Doc) (payload : List ℕ) (digest : Digest) : Type 0 where
+  pub new : row_of s doc.id ≡ None
+  pub place : doc.place ≡ place_now s
+  pub room : s.filled + blocks_of (length payload) ≤ s.geometry.agg
+  pub sized : blocks_in (document_bytes doc payload) ≡ blocks_of (length payload)
+  pub recorded : document_digest (document_bytes doc payload) ≡ digest
+
+-- a piece that is put where nothing is displaced, and recorded as placed, is held
+abbrev pub PlacedIsHeld : Type 0
+PlacedIsHeld = (s : State) (c new : Seen) (doc : Doc) (payload : List ℕ) (digest : Digest) (pin : ℕ) → IsHeld s c → IsPlacedAs s doc payload digest
+    → IsPut false c new doc payload → IsTurning new
+    → IsHeld (state_after s (rec.Placed doc.id (place_now s) (blocks_of (length payload)) digest pin)) new
+
+-- where the next buffer begins, and is recorded, what may still be read is held
+abbrev pub BegunIsHeld : Type 0
+BegunIsHeld = (s : State) (c new : Seen) → IsHeld s c → BeginsNext c new → IsTurning new
+    → IsHeld (state_after s (rec.Began (cursor_next s) (floor_next s))) new
+
+-- a later state whose pieces are those before without one, with the same buffer
+pub record IsWithout (s t : State) (id : PieceId) : Type 0 where
+  pub geometry : t.geometry ≡ s.geometry
+  pub cursor : t.cursor ≡ s.cursor
+  pub filled : t.filled ≡ s.filled
+  pub rows : t.rows ≡ without id s.rows
+  pub fault : t.fault ≡ s.fault
+  pub sound : IsSound t
+
+-- a later state with the same pieces and the same buffer
+pub record IsAlike (s t : State) : Type 0 where
+  pub geometry : t.geometry ≡ s.geometry
+  pub cursor : t.cursor ≡ s.cursor
+  pub filled : t.filled ≡ s.filled
+  pub rows : t.rows ≡ s.rows
+  pub sound : IsSound t
+
+-- a live piece that is taken out of the directory and of the records is held no more, and the others are
+abbrev pub TakenIsHeld : Type 0
+TakenIsHeld = (s t : State) (c new : Seen) (id : PieceId) (row : Row) → IsHeld s c → live_row_of s id ≡ Some row → IsWithout s t id
+    → SameButRows c new → IsPermutation c.rows (row_of_piece c id row.place ∷ new.rows) → IsTurning new → IsHeld t new
+
+-- a piece that is not live leaves the records, and the directory stays
+abbrev pub PassedIsHeld : Type 0
+PassedIsHeld = (s t : State) (c : Seen) (id : PieceId) → IsHeld s c → live_row_of s id ≡ None → IsWithout s t id → IsHeld t c
+
+-- records that speak of no piece leave what is held, on a device whose count of faults covers them
+abbrev pub AlikeIsHeld : Type 0
+AlikeIsHeld = (s t : State) (c : Seen) → IsHeld s c → IsAlike s t → t.fault ≤ c.device.faults → IsHeld t c
+
+-- and so does a device that changes, where its count of faults does not fall
+abbrev pub DeviceMayChange : Type 0
+DeviceMayChange = (s : State) (c new : Seen) → IsHeld s c → SameTape c new → IsTurning new → c.device.faults ≤ new.device.faults → IsHeld s new
+
+-- a cyclone that is fresh holds what a format begins with
+abbrev pub FreshIsHeld : Type 0
+FreshIsHeld = (g : Geometry) (c : Seen) (device : Device) → IsFresh c g device → IsTurning c → IsHeld (after_all nothing_yet (format_records g)) c
+
+-- more room changes nothing of what is held
+abbrev pub RoomMayGrow : Type 0
+RoomMayGrow = (s : State) (c new : Seen) → IsHeld s c → SameButRoom c new → IsTurning new → c.device.faults ≤ new.device.faults → IsHeld s new

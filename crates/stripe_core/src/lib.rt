@@ -1,0 +1,16 @@
+//! The stripe: records, the pieces that they tell of, and who writes and reads.
+#![tactic(auto)]
+
+mod laws;
+mod pieces;
+mod refusal;
+
+pub use laws::{
+    alike_is_held, begun_is_held, device_may_change, fresh_is_held, passed_is_held, placed_is_held,
+    room_may_grow, taken_is_held,
+};
+pub use pieces::Pieces;
+pub use refusal::{Flushed, Refusal};
+
+#[cfg(test)]
+mod tests;

@@ -1,0 +1,175 @@
+// The pieces of a stripe: on the cyclone, and in the records.
+ghost use Rattle.std.specs.Prelude.{◌≡◌, ◌*◌, ◌≤◌, [], IfOk, IfErr, OnOk};
+ghost use Rattle.cache_model.specs.State.{floor_now};
+ghost use Rattle.cache_model.specs.Kept.{all_of, with_records};
+ghost use Rattle.cache_model.specs.Legal.{IsQuiet, format_records};
+ghost use Rattle.cyclone.specs.Cyclone.{IsCyclone, SameButRoom, seen};
+ghost use Rattle.ats_disk.specs.Device.{Grows};
+ghost use Rattle.stripe_core.specs.Flush.{DoesAsAsked, RefusesWith, Tells, flush_adds};
+ghost use Rattle.stripe_core.specs.This.{is_this};
+
+use crate::refusal::{Flushed, Refusal};
+use ats_disk::Disk;
+use cache_chronicle::Chronicle;
+use cache_model::Rec;
+use cyclone::Cyclone;
+use dir_table::Directory;
+use std::alloc::{AllocError, Global};
+use tape_base::{Geometry, Key, PieceId, Steps, floor_of};
+
+// A piece that is placed adds the record of its cut, of its place, and of the flush before it.
+const RECORDS: usize = 3;
+
+// Places stay below this.
+const LIMIT: u64 = 1 << 62;
+
+/// The pieces on a device, and the chronicle that tells of them.
+#[derive(Drop)]
+pub struct Pieces<D: Disk, R: Directory + Drop, C: Chronicle> {
+    cyclone: Cyclone<D, R>,
+    chronicle: C,
+}
+
+impl<D: Disk, R: Directory + Drop, C: Chronicle> Pieces<D, R, C> {
+    ghost use Rattle.stripe_core.specs.Pieces.{ArePieces, kept_of, live_place_of, seen_of, state_now};
+
+    /// Begins a session on an empty content area. A refusal gives back the device and the chronicle.
+    pub fn format(
+        alloc: Global,
+        disk: D,
+        chronicle: C,
+        g: Geometry,
+    ) -> Result<Pieces<D, R, C>, (AllocError, D, C)>
+        requires sized { g.content ≤ (D.state disk).size }
+        requires empty { C.kept chronicle ≡ all_of [] }
+        ensures pieces { IfOk result (ArePieces D.Disk R.Directory C.Chronicle) }
+        ensures records { IfOk result (λ p. kept_of C.Chronicle p ≡ all_of (format_records g)) }
+        ensures device { IfOk result (λ p. (seen_of D.Disk R.Directory p).device ≡ D.state disk) }
+        ensures back { IfErr result (λ r. (r.1 ≡ disk) × (C.kept r.2 ≡ all_of [])) }
+    {
+        let mut chronicle = chronicle;
+        if let Err(e) = chronicle.reserve(2) {
+            return Err((e, disk, chronicle));
+        }
+        match Cyclone::new(alloc, disk, g) {
+            Ok(cyclone) => Ok(Pieces::begun(cyclone, chronicle)),
+            Err((e, disk)) => Err((e, disk, chronicle)),
+        }
+    }
+
+    fn begun(cyclone: Cyclone<D, R>, chronicle: C) -> Pieces<D, R, C>
+        requires turns { IsCyclone D.Disk R.Directory cyclone }
+        requires room { 2 ≤ C.room chronicle }
+        requires empty { C.kept chronicle ≡ all_of [] }
+        ensures same { result.cyclone ≡ cyclone }
+        ensures records { C.kept result.chronicle ≡ all_of (format_records (seen D.Disk R.Directory cyclone).geometry) }
+    {
+        let mut chronicle = chronicle;
+        let geometry = *cyclone.geometry();
+        chronicle.push(Rec::Formatted { geometry });
+        chronicle.push(Rec::Began {
+            cursor: geometry.content,
+            floor: floor_of(&geometry, geometry.content),
+        });
+        Pieces { cyclone, chronicle }
+    }
+
+    /// Makes room for so many more pieces, each with the flush that it may need.
+    pub fn prepare(&mut self, units: u32) -> Result<(), AllocError>
+        requires { ArePieces D.Disk R.Directory C.Chronicle self.old }
+        ensures pieces { ArePieces D.Disk R.Directory C.Chronicle self.new }
+        ensures records { kept_of C.Chronicle self.new ≡ kept_of C.Chronicle self.old }
+        ensures same { SameButRoom (seen_of D.Disk R.Directory self.old) (seen_of D.Disk R.Directory self.new) }
+        ensures record { OnOk result (units ≤ C.room self.new.chronicle) }
+        ensures spare { OnOk result (units ≤ (seen_of D.Disk R.Directory self.new).spare) }
+        ensures device { let old = (seen_of D.Disk R.Directory self.old).device in
+            OnOk result (Grows units (units * (seen_of D.Disk R.Directory self.old).geometry.agg) old (seen_of D.Disk R.Directory self.new).device) }
+    {
+        self.chronicle.reserve(units as usize * RECORDS)?;
+        self.cyclone.prepare(units)
+    }
+
+    pub fn chronicle(&self) -> &C
+        ensures { C.kept result.now ≡ kept_of C.Chronicle self.now }
+    {
+        &self.chronicle
+    }
+
+    /// The place of a live piece, by a walk over the places that its key may have. It reads no
+    /// device.
+    pub fn whereabouts(&self, id: PieceId) -> Option<u64>
+        requires { ArePieces D.Disk R.Directory C.Chronicle self.now }
+        ensures { result ≡ live_place_of (state_now C.Chronicle self.now) id }
+    {
+        let directory = self.cyclone.directory();
+        let mut walk = directory.candidates(Key::of_piece(id));
+        let mut steps = Steps::new();
+        'walks: while let Some(place) = directory.step(&mut walk, &mut steps) {
+            if is_this(self.chronicle.piece_at(place), id) {
+                return Some(place);
+            }
+        }
+        None
+    }
+
+    /// Writes the buffer out where it is not empty, and begins the next one.
+    pub fn flush(&mut self) -> Result<Flushed, Refusal>
+        requires pieces { ArePieces D.Disk R.Directory C.Chronicle self.old }
+        requires quiet { IsQuiet (state_now C.Chronicle self.old) }
+        requires record { 1 ≤ C.room self.old.chronicle }
+        requires calls { 1 ≤ (seen_of D.Disk R.Directory self.old).device.calls }
+        requires blocks { (seen_of D.Disk R.Directory self.old).geometry.agg ≤ (seen_of D.Disk R.Directory self.old).device.blocks }
+        ensures pieces { ArePieces D.Disk R.Directory C.Chronicle self.new }
+        ensures adds { kept_of C.Chronicle self.new
+            ≡ with_records (kept_of C.Chronicle self.old) (flush_adds (state_now C.Chronicle self.old) result) }
+        ensures does { DoesAsAsked (state_now C.Chronicle self.old) (seen_of D.Disk R.Directory self.old).device.faults
+            (seen_of D.Disk R.Directory self.new).device.faults result }
+        ensures tells { IfOk result (Tells (state_now C.Chronicle self.old) (state_now C.Chronicle self.new)) }
+        ensures refuses { IfErr result (RefusesWith (state_now C.Chronicle self.old) (seen_of D.Disk R.Directory self.new).device.faults) }
+    {
+        let blocks = (self.cyclone.next_place() - self.cyclone.cursor()) as u32;
+        if blocks == 0 {
+            return Ok(self.flushed(blocks));
+        }
+        let next = self.cyclone.next_cursor();
+        if next >= LIMIT {
+            return Err(Refusal::Exhausted { number: next });
+        }
+        match self.cyclone.flush() {
+            Ok(()) => {
+                self.chronicle.push(Rec::Began {
+                    cursor: next,
+                    floor: self.cyclone.floor(),
+                });
+                Ok(self.flushed(blocks))
+            }
+            Err(_) => {
+                let count = self.cyclone.disk().faults();
+                self.chronicle.push(Rec::Fault { count });
+                Err(Refusal::DeviceFault { count })
+            }
+        }
+    }
+
+    fn flushed(&self, blocks: u32) -> Flushed
+        requires { ArePieces D.Disk R.Directory C.Chronicle self.now }
+        ensures blocks { result.blocks ≡ blocks }
+        ensures cursor { result.cursor ≡ (state_now C.Chronicle self.now).cursor }
+        ensures floor { result.floor ≡ floor_now (state_now C.Chronicle self.now) }
+    {
+        Flushed {
+            blocks,
+            cursor: self.cyclone.cursor(),
+            floor: self.cyclone.floor(),
+        }
+    }
+}
+
+fn is_this(found: Option<PieceId>, id: PieceId) -> bool
+    ensures { result ≡ is_this found id }
+{
+    match found {
+        Some(other) => other == id,
+        None => false,
+    }
+}
