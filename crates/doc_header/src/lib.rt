@@ -10,7 +10,7 @@ mod writing;
 
 pub use digests::document_digest;
 pub use documents::{Doc, DocFault, DocRef};
-pub use reading::read_doc;
+pub use reading::{payload, read_doc};
 pub use writing::write_doc;
 
 #[cfg(test)]

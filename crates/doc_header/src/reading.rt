@@ -149,3 +149,19 @@ pub fn read_doc<'a>(bytes: &'a [u8], generation: u64, place: u64) -> Result<DocR
 {
     read(bytes, generation, place)
 }
+
+/// The payload that bytes tell, as much of it as they have. It does not ask whether they are a
+/// document.
+#[tactic(auto, using(crate::proofs::Stands::few_bytes), unfolding(crate::specs::Reading::field_at))]
+pub fn payload(bytes: &[u8]) -> &[u8]
+    requires { 128 ≤ length bytes.now }
+    ensures { result.now ≡ payload_of bytes.now }
+{
+    let told = number_32(bytes, LENGTH_AT) as usize;
+    let (_, behind) = bytes.split_at(HEADER);
+    if behind.len() < told {
+        behind
+    } else {
+        field(behind, 0, told)
+    }
+}
