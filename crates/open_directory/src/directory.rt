@@ -1,7 +1,7 @@
 // The open directory of a stripe.
 
 ghost use Rattle.std.specs.Prelude.{◌≡◌, ◌+◌, ◌<◌, ◌≤◌, length, [], None, OnOk, OnErr, IfOk, IfSome, false, if◌then◌else◌, is_some, option_map, true};
-ghost use Rattle.fragment_table.specs.Table.{CanGrow, made_row};
+ghost use Rattle.fragment_table.specs.Table.{CanGrow, made_row, total_length};
 ghost use Rattle.std.specs.Map.{lookup, values_of};
 ghost use Rattle.open_directory.specs.declared.kept.Writer.{Writer};
 ghost use Rattle.open_directory.specs.Directory.{IsHeld, changed, count_of, cuts_of, ended, followed, followers_of, is_ended_state, is_number, is_open, is_open_state, is_writing, least_next, moved, opened, reader_at, put_state, room_of, row_of, with_cut, with_reader, with_room, without_reader, writers_but, writers_of};
@@ -220,6 +220,16 @@ impl OpenDirectory {
         ensures { result ≡ row_of index (cuts_of put self.now.puts) }
     {
         self.puts.get(&put)?.row(index)
+    }
+
+    /// How many bytes were cut of a put.
+    pub fn length(&self, put: u64) -> u64
+        ensures { result ≡ total_length (cuts_of put self.now.puts) }
+    {
+        match self.puts.get(&put) {
+            Some(kept) => kept.cuts.total(),
+            None => 0,
+        }
     }
 
     /// How many writers are open.
