@@ -8,7 +8,7 @@ ghost use Rattle.tape_base.specs.Place.{floor_of, next_cursor_of, slot_of};
 ghost use Rattle.ats_disk.specs.Device.{Grows, Keeps, IsTold, SameSeen, span};
 ghost use Rattle.doc_header.specs.Document.{digest_of_document, document_bytes};
 ghost use Rattle.doc_header.specs.Reading.{document_digest};
-ghost use Rattle.agg_buffer.specs.Buffer.{bytes_at, filled_of, empty_buffer, next_place_of, room_of};
+ghost use Rattle.agg_buffer.specs.Buffer.{blocks_in, bytes_at, filled_of, empty_buffer, next_place_of, room_of};
 ghost use Rattle.std.specs.Prelude.{[], ◌∷◌, false, IsOk, IsPermutation};
 ghost use Rattle.std.specs.Bool.{OnTrue};
 ghost use Rattle.ats_disk.specs.Device.{IsWhole};
@@ -153,6 +153,9 @@ impl<D: Disk, R: Directory + Drop> Cyclone<D, R> {
         ensures put { IsPut R.purges (seen D.Disk R.Directory self.old) (seen D.Disk R.Directory self.new) doc.now payload.now }
         ensures payload { result.payload ≡ digest_of payload.now }
         ensures document { result.document ≡ digest_of_document doc.now payload.now }
+        // Who reads it back finds this digest.
+        ensures again { document_digest (document_bytes doc.now payload.now) ≡ result.document }
+        ensures size { blocks_in (document_bytes doc.now payload.now) ≡ blocks_of (length payload.now) }
     {
         let blocks = blocks_of(payload.len() as u32);
         let payload = self.buffer.put_document(doc, payload);

@@ -1,5 +1,6 @@
 use Rattle.std.proofs.Common.{◌≡◌, ◌+◌, refl, sym, ◌∙◌, ap, subst, arith}
 use Rattle.doc_header.specs.Document.{document_bytes, IsDocument}
+use Rattle.doc_header.specs.Reading.{document_digest}
 use Rattle.agg_buffer.specs.Buffer.{bytes_at, next_place_of}
 use Rattle.dir_table.specs.declared.window.Window.{Window}
 use Rattle.cyclone.proofs.Turning.{put_turns}
@@ -15,6 +16,14 @@ returns-clause-document g c =
     ∙ (ap (λ n. bytes_at c.put_document-payload.new.self (next_place_of c.args.self.now.buffer) n) (c.blocks_of-blocks.ensures ∙ sym c.put_document-payload.ensures.size) ∙ there)) in
     c.document_digest-document.ensures.document d.generation d.place d c.args.payload.now
     (subst (λ b. IsDocument b d.generation d.place d c.args.payload.now) (sym given) c.put_document-payload.ensures.document)
+
+pub returns-clause-again : goal.returns-clause-again
+returns-clause-again g c =
+    let there = c.put_document-payload.ensures.added.readable in
+    let given : c.get.result.now ≡ document_bytes c.args.doc.now c.args.payload.now =
+    c.get.ensures.bytes ∙ (ap (λ p. bytes_at c.put_document-payload.new.self p c.blocks_of-blocks.result) c.requires.place
+    ∙ (ap (λ n. bytes_at c.put_document-payload.new.self (next_place_of c.args.self.now.buffer) n) (c.blocks_of-blocks.ensures ∙ sym c.put_document-payload.ensures.size) ∙ there)) in
+    ap document_digest (sym given) ∙ sym c.document_digest-document.ensures.digest
 
 pub returns-clause-put : goal.returns-clause-put
 returns-clause-put g c =
