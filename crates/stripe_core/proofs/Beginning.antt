@@ -79,6 +79,7 @@ module _ (s : State) (c new : Seen) (held : IsHeld s c) (begins : BeginsNext c n
     filled = new_filled;
     entered = entered after new counts;
     buffered = none_new new.buffer s.geometry.content (place_now s) s.rows held.sound.rising (omega (arith, new_cursor, behind));
+    laps = held.laps;
     faults = subst (λ n. s.fault ≤ n) (sym (ap (λ (d : Device). d.faults) begins.device)) held.faults;
   }
 

@@ -7,21 +7,26 @@ use Rattle.cache_model.specs.Permit.{Permit, End, Done, Fails, Exhausted, Faulte
 use Rattle.cache_model.specs.Room.{limit}
 use Rattle.cache_model.specs.Legal.{Does}
 use Rattle.stripe_core.specs.declared.refusal.Flushed.{Flushed}
-use Rattle.stripe_core.specs.declared.refusal.Refusal.{Refusal}
-use Rattle.stripe_core.specs.declared.refusal.Refusal.TheVariants as refusal
+use Rattle.stripe_core.specs.declared.refusal.Stop.{Stop}
+use Rattle.stripe_core.specs.declared.refusal.Stop.TheVariants as stop
+use Rattle.stripe_core.specs.Covers.{Covers}
 
-abbrev pub flush_adds : State → Result Flushed Refusal → List Rec
+-- what is recorded where a call stops
+abbrev pub stop_records : Stop → List Rec
+stop_records (stop.DeviceFault count) = rec.Fault count ∷ []
+stop_records (stop.Exhausted number) = []
+
+abbrev pub stop_end : Stop → End
+stop_end (stop.DeviceFault count) = Fails (Faulted count)
+stop_end (stop.Exhausted number) = Fails Exhausted
+
+abbrev pub flush_adds : State → Result Flushed Stop → List Rec
 flush_adds s (Ok flushed) = if s.filled == 0 then [] else rec.Began (cursor_next s) (floor_next s) ∷ []
-flush_adds s (Err (refusal.DeviceFault count)) = rec.Fault count ∷ []
-flush_adds s (Err (refusal.Exhausted number)) = []
+flush_adds s (Err why) = stop_records why
 
-abbrev pub refusal_end : Refusal → End
-refusal_end (refusal.DeviceFault count) = Fails (Faulted count)
-refusal_end (refusal.Exhausted number) = Fails Exhausted
-
-abbrev pub flush_end : Result Flushed Refusal → End
+abbrev pub flush_end : Result Flushed Stop → End
 flush_end (Ok flushed) = Done
-flush_end (Err why) = refusal_end why
+flush_end (Err why) = stop_end why
 
 -- what a finished flush tells: the blocks, and the buffer that stands then
 pub record Tells (s t : State) (flushed : Flushed) : Type 0 where
@@ -29,11 +34,11 @@ pub record Tells (s t : State) (flushed : Flushed) : Type 0 where
   pub cursor : flushed.cursor ≡ t.cursor
   pub floor : flushed.floor ≡ floor_now t
 
--- which refusal, with its number
-abbrev pub RefusesWith : State → ℕ → Refusal → Type 0
-RefusesWith s faults (refusal.DeviceFault count) = count ≡ faults
-RefusesWith s faults (refusal.Exhausted number) = (number ≡ cursor_next s) × (limit ≤ number)
+-- why it stops, with its number
+abbrev pub StopsWith : State → ℕ → Stop → Type 0
+StopsWith s faults (stop.DeviceFault count) = count ≡ faults
+StopsWith s faults (stop.Exhausted number) = (number ≡ cursor_next s) × (limit ≤ number)
 
 -- a flush over a device whose count stood here before and there after, in any step that covers both
-abbrev pub DoesAsAsked : State → ℕ → ℕ → Result Flushed Refusal → Type 0
-DoesAsAsked s before after result = (p : Permit) → p.faults_before ≤ before → after ≤ p.faults → Does p s Flush (flush_adds s result) (flush_end result)
+abbrev pub DoesAsAsked : State → ℕ → ℕ → Result Flushed Stop → Type 0
+DoesAsAsked s before after result = (p : Permit) → Covers p before after [] → Does p s Flush (flush_adds s result) (flush_end result)

@@ -2,7 +2,9 @@
 use Rattle.std.specs.Prelude.{ℕ, ◌≡◌, ◌+◌, ◌≤◌, ◌==◌, ◌&&◌, Bool, if◌then◌else◌, List, [], ◌∷◌, map, filter}
 use Rattle.std.specs.List.{AllByRecursion}
 use Rattle.tape_base.specs.declared.geometries.Geometry.{Geometry}
+use Rattle.tape_base.specs.Geometry.{budget_of}
 use Rattle.tape_base.specs.Piece.{key_of_piece}
+use Rattle.tape_base.specs.Place.{lap_end_of}
 use Rattle.doc_header.specs.Reading.{document_digest}
 use Rattle.agg_buffer.specs.Buffer.{Buffer, bytes_at, filled_of, IsFilled}
 use Rattle.dir_table.specs.declared.rows.DirRow.{DirRow}
@@ -40,6 +42,11 @@ pub record IsBuffered (b : Buffer) (row : Row) : Type 0 where
 abbrev pub IsBufferedWhereNew : Buffer → Row → Type 0
 IsBufferedWhereNew b row = b.cursor ≤ row.place → IsBuffered b row
 
+-- a piece takes at most half a buffer, and stands in one lap
+pub record IsInLap (g : Geometry) (row : Row) : Type 0 where
+  pub small : row.blocks ≤ budget_of g
+  pub within : row.place + row.blocks ≤ lap_end_of g row.place
+
 -- a cyclone that holds what the records say
 pub record IsHeld (s : State) (c : Seen) : Type 0 where
   pub turning : IsTurning c
@@ -50,4 +57,5 @@ pub record IsHeld (s : State) (c : Seen) : Type 0 where
   -- the entries in range are those of the live pieces, one each
   pub entered : SameRows (rows_in_range c) (map (entry_of s.geometry) (live_rows s))
   pub buffered : AllByRecursion (IsBufferedWhereNew c.buffer) s.rows
+  pub laps : AllByRecursion (IsInLap s.geometry) s.rows
   pub faults : s.fault ≤ c.device.faults

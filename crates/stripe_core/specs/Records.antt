@@ -4,6 +4,7 @@ use Rattle.tape_base.specs.declared.geometries.Geometry.{Geometry}
 use Rattle.tape_base.specs.declared.pieces.PieceId.{PieceId}
 use Rattle.tape_base.specs.declared.digests.Digest.{Digest}
 use Rattle.tape_base.specs.Blocks.{blocks_of}
+use Rattle.tape_base.specs.Geometry.{budget_of}
 use Rattle.doc_header.specs.declared.documents.Doc.{Doc}
 use Rattle.doc_header.specs.Document.{document_bytes}
 use Rattle.doc_header.specs.Reading.{document_digest}
@@ -20,6 +21,7 @@ use Rattle.stripe_core.specs.Held.{IsHeld}
 pub record IsPlacedAs (s : State) (doc : Doc) (payload : List ℕ) (digest : Digest) : Type 0 where
   pub new : row_of s doc.id ≡ None
   pub place : doc.place ≡ place_now s
+  pub small : blocks_of (length payload) ≤ budget_of s.geometry
   pub room : s.filled + blocks_of (length payload) ≤ s.geometry.agg
   pub sized : blocks_in (document_bytes doc payload) ≡ blocks_of (length payload)
   pub recorded : document_digest (document_bytes doc payload) ≡ digest

@@ -1,33 +1,27 @@
 // The pieces of a stripe: on the cyclone, and in the records.
 ghost use Rattle.std.specs.Prelude.{◌≡◌, ◌*◌, ◌≤◌, [], IfOk, IfErr, OnOk};
-ghost use Rattle.cache_model.specs.State.{floor_now};
-ghost use Rattle.cache_model.specs.Kept.{all_of, with_records};
-ghost use Rattle.cache_model.specs.Legal.{IsQuiet, format_records};
+ghost use Rattle.cache_model.specs.Kept.{all_of};
+ghost use Rattle.cache_model.specs.Legal.{format_records};
 ghost use Rattle.cyclone.specs.Cyclone.{IsCyclone, SameButRoom, seen};
 ghost use Rattle.ats_disk.specs.Device.{Grows};
-ghost use Rattle.stripe_core.specs.Flush.{DoesAsAsked, RefusesWith, Tells, flush_adds};
 ghost use Rattle.stripe_core.specs.This.{is_this};
 
-use crate::refusal::{Flushed, Refusal};
+use crate::records;
 use ats_disk::Disk;
 use cache_chronicle::Chronicle;
-use cache_model::Rec;
 use cyclone::Cyclone;
 use dir_table::Directory;
 use std::alloc::{AllocError, Global};
-use tape_base::{Geometry, Key, PieceId, Steps, floor_of};
+use tape_base::{Geometry, Key, PieceId, Steps};
 
 // A piece that is placed adds the record of its cut, of its place, and of the flush before it.
 const RECORDS: usize = 3;
 
-// Places stay below this.
-const LIMIT: u64 = 1 << 62;
-
 /// The pieces on a device, and the chronicle that tells of them.
 #[derive(Drop)]
 pub struct Pieces<D: Disk, R: Directory + Drop, C: Chronicle> {
-    cyclone: Cyclone<D, R>,
-    chronicle: C,
+    pub(crate) cyclone: Cyclone<D, R>,
+    pub(crate) chronicle: C,
 }
 
 impl<D: Disk, R: Directory + Drop, C: Chronicle> Pieces<D, R, C> {
@@ -65,12 +59,7 @@ impl<D: Disk, R: Directory + Drop, C: Chronicle> Pieces<D, R, C> {
         ensures records { C.kept result.chronicle ≡ all_of (format_records (seen D.Disk R.Directory cyclone).geometry) }
     {
         let mut chronicle = chronicle;
-        let geometry = *cyclone.geometry();
-        chronicle.push(Rec::Formatted { geometry });
-        chronicle.push(Rec::Began {
-            cursor: geometry.content,
-            floor: floor_of(&geometry, geometry.content),
-        });
+        records::formatted(&mut chronicle, cyclone.geometry());
         Pieces { cyclone, chronicle }
     }
 
@@ -110,58 +99,6 @@ impl<D: Disk, R: Directory + Drop, C: Chronicle> Pieces<D, R, C> {
             }
         }
         None
-    }
-
-    /// Writes the buffer out where it is not empty, and begins the next one.
-    pub fn flush(&mut self) -> Result<Flushed, Refusal>
-        requires pieces { ArePieces D.Disk R.Directory C.Chronicle self.old }
-        requires quiet { IsQuiet (state_now C.Chronicle self.old) }
-        requires record { 1 ≤ C.room self.old.chronicle }
-        requires calls { 1 ≤ (seen_of D.Disk R.Directory self.old).device.calls }
-        requires blocks { (seen_of D.Disk R.Directory self.old).geometry.agg ≤ (seen_of D.Disk R.Directory self.old).device.blocks }
-        ensures pieces { ArePieces D.Disk R.Directory C.Chronicle self.new }
-        ensures adds { kept_of C.Chronicle self.new
-            ≡ with_records (kept_of C.Chronicle self.old) (flush_adds (state_now C.Chronicle self.old) result) }
-        ensures does { DoesAsAsked (state_now C.Chronicle self.old) (seen_of D.Disk R.Directory self.old).device.faults
-            (seen_of D.Disk R.Directory self.new).device.faults result }
-        ensures tells { IfOk result (Tells (state_now C.Chronicle self.old) (state_now C.Chronicle self.new)) }
-        ensures refuses { IfErr result (RefusesWith (state_now C.Chronicle self.old) (seen_of D.Disk R.Directory self.new).device.faults) }
-    {
-        let blocks = (self.cyclone.next_place() - self.cyclone.cursor()) as u32;
-        if blocks == 0 {
-            return Ok(self.flushed(blocks));
-        }
-        let next = self.cyclone.next_cursor();
-        if next >= LIMIT {
-            return Err(Refusal::Exhausted { number: next });
-        }
-        match self.cyclone.flush() {
-            Ok(()) => {
-                self.chronicle.push(Rec::Began {
-                    cursor: next,
-                    floor: self.cyclone.floor(),
-                });
-                Ok(self.flushed(blocks))
-            }
-            Err(_) => {
-                let count = self.cyclone.disk().faults();
-                self.chronicle.push(Rec::Fault { count });
-                Err(Refusal::DeviceFault { count })
-            }
-        }
-    }
-
-    fn flushed(&self, blocks: u32) -> Flushed
-        requires { ArePieces D.Disk R.Directory C.Chronicle self.now }
-        ensures blocks { result.blocks ≡ blocks }
-        ensures cursor { result.cursor ≡ (state_now C.Chronicle self.now).cursor }
-        ensures floor { result.floor ≡ floor_now (state_now C.Chronicle self.now) }
-    {
-        Flushed {
-            blocks,
-            cursor: self.cyclone.cursor(),
-            floor: self.cyclone.floor(),
-        }
     }
 }
 

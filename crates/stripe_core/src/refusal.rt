@@ -1,4 +1,7 @@
-// What a flush answers, and why it does less.
+// What the calls of a stripe answer, and why they do less.
+
+use cache_model::Cause;
+use tape_base::Digest;
 
 /// The buffer that was written out, and the one that began.
 #[derive(Clone, Copy, Debug, PartialEq, Eq)]
@@ -11,9 +14,25 @@ pub struct Flushed {
     pub floor: u64,
 }
 
-/// Why a call did less than it was asked.
+/// A piece that was placed.
 #[derive(Clone, Copy, Debug, PartialEq, Eq)]
-pub enum Refusal {
+pub struct Placed {
+    pub place: u64,
+    /// The digest of its payload.
+    pub payload: Digest,
+}
+
+/// What was found of a piece.
+#[derive(Clone, Copy, Debug, PartialEq, Eq)]
+pub enum Found {
+    /// Its payload, of so many bytes.
+    Found { length: u32 },
+    Missing(Cause),
+}
+
+/// Why the tape was not written on.
+#[derive(Clone, Copy, Debug, PartialEq, Eq)]
+pub enum Stop {
     /// The device refused a call, and its count of faults then stood at `count`.
     DeviceFault { count: u64 },
     /// This place would reach the end of the tape.

@@ -1,4 +1,4 @@
-use Rattle.stripe_core.proofs.Taking.{alike_is_held}
+use Rattle.stripe_core.proofs.Going.{alike_is_held}
 use Rattle.stripe_core.proofs.laws.alike_is_held.Goals as goal
 
 pub returns : goal.returns

@@ -1,4 +1,4 @@
-use Rattle.stripe_core.proofs.Taking.{device_may_change}
+use Rattle.stripe_core.proofs.Going.{device_may_change}
 use Rattle.stripe_core.proofs.laws.device_may_change.Goals as goal
 
 pub returns : goal.returns

@@ -1,4 +1,4 @@
-use Rattle.stripe_core.proofs.Taking.{passed_is_held}
+use Rattle.stripe_core.proofs.Going.{passed_is_held}
 use Rattle.stripe_core.proofs.laws.passed_is_held.Goals as goal
 
 pub returns : goal.returns

@@ -1,4 +1,4 @@
-use Rattle.stripe_core.proofs.Taking.{room_may_grow}
+use Rattle.stripe_core.proofs.Going.{room_may_grow}
 use Rattle.stripe_core.proofs.laws.room_may_grow.Goals as goal
 
 pub returns : goal.returns

@@ -1,4 +1,4 @@
-use Rattle.stripe_core.proofs.Taking.{taken_is_held}
+use Rattle.stripe_core.proofs.Going.{taken_is_held}
 use Rattle.stripe_core.proofs.laws.taken_is_held.Goals as goal
 
 pub returns : goal.returns

@@ -3,7 +3,7 @@ use Rattle.cache_model.specs.Kept.{state_of}
 use Rattle.cyclone.specs.Cyclone.{seen}
 use Rattle.stripe_core.specs.Held.{IsHeld}
 use Rattle.stripe_core.specs.Pieces.{seen_of, state_now}
-use Rattle.stripe_core.proofs.Taking.{room_may_grow, steady}
+use Rattle.stripe_core.proofs.Going.{room_may_grow, steady}
 use Rattle.stripe_core.proofs.pieces.Pieces.prepare.Goals as goal
 
 pub returns-clause-pieces : goal.returns-clause-pieces

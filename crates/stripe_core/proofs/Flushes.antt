@@ -1,5 +1,5 @@
 -- A flush, by its records and by what the cyclone did.
-use Rattle.std.proofs.Common.{◌≡◌, ℕ, ◌-◌, ◌<◌, ◌≤◌, [], ◌∷◌, refl, arith, Bool, true, false, zero, suc, Result, Ok}
+use Rattle.std.proofs.Common.{◌≡◌, ℕ, ◌-◌, ◌<◌, ◌≤◌, List, [], ◌∷◌, refl, arith, Bool, true, false, zero, suc, Result, Ok}
 use Rattle.std.specs.Prelude.{◌==◌, max}
 use Rattle.std.proofs.lemmas.Bool.{le-leb, lt-leb, eq-eqb}
 use Rattle.edge_io.specs.Causes.{Rose}
@@ -8,8 +8,8 @@ use Rattle.agg_buffer.specs.Buffer.{next_place_of}
 use Rattle.cyclone.specs.Cyclone.{Seen, IsTurning, IsFlushed, SameTape, WritesBuffer}
 use Rattle.cache_model.specs.declared.record.Rec.{Rec}
 use Rattle.cache_model.specs.declared.record.Rec.TheVariants as rec
-use Rattle.cache_model.specs.State.{State, cursor_next, floor_next, state_after}
-use Rattle.cache_model.specs.Kept.{Kept, state_of, with_record}
+use Rattle.cache_model.specs.State.{State, after_all, cursor_next, floor_next, state_after}
+use Rattle.cache_model.specs.Kept.{Kept, state_of, with_record, with_records}
 use Rattle.cache_model.specs.Permit.{Permit, Flush, Done, Fails, Exhausted, Faulted}
 use Rattle.cache_model.specs.Room.{limit}
 use Rattle.cache_model.specs.Legal
@@ -20,18 +20,22 @@ use Rattle.stripe_core.specs.declared.refusal.Flushed.{Flushed}
 use Rattle.stripe_core.specs.Flush.{flush_adds}
 use Rattle.stripe_core.specs.Held.{IsHeld}
 use Rattle.stripe_core.proofs.Beginning.{begun_is_held}
-use Rattle.stripe_core.proofs.Taking.{alike_is_held, device_may_change}
+use Rattle.stripe_core.proofs.Going.{alike_is_held, device_may_change}
 
 -- one record more
 pub state_of-with_record : (k : Kept) (r : Rec) → state_of (with_record k r) ≡ state_after (state_of k) r
 state_of-with_record k r = after_all-append k.base k.since (r ∷ [])
+
+-- and more than one
+pub state_of-with_records : (k : Kept) (recs : List Rec) → state_of (with_records k recs) ≡ after_all (state_of k) recs
+state_of-with_records k recs = after_all-append k.base k.since recs
 
 -- ---- what it may add
 
 pub empty_does : (p : Permit) (s : State) (flushed : Flushed) → IsQuiet s → s.filled ≡ 0 → Does p s Flush (flush_adds s (Ok flushed)) Done
 empty_does p s flushed quiet h = Legal.DoesFlush.empty quiet h (rw h refl)
 
-some_is : (n : ℕ) → 0 < n → (n == 0) ≡ false
+pub some_is : (n : ℕ) → 0 < n → (n == 0) ≡ false
 some_is n h = by (n == 0) refl
   where
     by : (b : Bool) → (n == 0) ≡ b → b ≡ false

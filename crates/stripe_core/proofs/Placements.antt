@@ -1,5 +1,5 @@
 -- A piece that is placed stays held.
-use Rattle.std.proofs.Common.{◌≡◌, ℕ, ◌+◌, ◌<◌, ◌≤◌, List, [], ◌∷◌, ◌++◌, refl, sym, ◌∙◌, ap, subst, arith, Bool, true, false, cond, length}
+use Rattle.std.proofs.Common.{◌≡◌, ℕ, ◌+◌, ◌*◌, ◌/◌, ◌<◌, ◌≤◌, List, [], ◌∷◌, ◌++◌, refl, sym, ◌∙◌, ap, subst, arith, Bool, true, false, cond, length}
 use Rattle.std.specs.Prelude.{◌&&◌, ◌==◌, not, if◌then◌else◌, map, Some, None, nat_le}
 use Rattle.std.specs.List.{AllByRecursion}
 use Rattle.std.proofs.lemmas.Bool.{le-leb}
@@ -8,6 +8,7 @@ use Rattle.tape_base.specs.declared.pieces.PieceId.{PieceId}
 use Rattle.tape_base.specs.declared.digests.Digest.{Digest}
 use Rattle.tape_base.specs.Piece.{key_of_piece, same_piece}
 use Rattle.tape_base.specs.Blocks.{blocks_of}
+use Rattle.tape_base.specs.Place.{lap_end_of}
 use Rattle.doc_header.specs.declared.documents.Doc.{Doc}
 use Rattle.doc_header.specs.Document.{document_bytes}
 use Rattle.doc_header.specs.Reading.{document_digest}
@@ -21,9 +22,10 @@ use Rattle.cyclone.specs.Cyclone.{Seen, IsTurning, IsPut}
 use Rattle.cache_model.specs.declared.record.Rec.TheVariants as rec
 use Rattle.cache_model.specs.State.{State, Row, floor_now, place_now, placed_row, row_in, state_after, without}
 use Rattle.cache_model.specs.Tape.{IsSound}
+use Rattle.cache_model.proofs.Laps.{lap-is}
 use Rattle.cache_model.proofs.Sound.{later_placed}
 use Rattle.stripe_core.specs.Records.{IsPlacedAs}
-use Rattle.stripe_core.specs.Held.{IsBuffered, IsBufferedWhereNew, IsHeld, entry_of, same_entry, times}
+use Rattle.stripe_core.specs.Held.{IsBuffered, IsBufferedWhereNew, IsHeld, IsInLap, entry_of, same_entry, times}
 use Rattle.stripe_core.proofs.Entries.{kept, one_more, times-append, times-permutation, same_entry-true}
 use Rattle.stripe_core.proofs.Counts.{is_between, more_between}
 use Rattle.stripe_core.proofs.Holding.{AreCounted, counted, end_is, entered, floor_is, none_behind}
@@ -176,6 +178,16 @@ module _ (s : State) (c new : Seen) (doc : Doc) (payload : List ℕ) (digest : D
   sound_after : IsSound after
   sound_after = (later_placed s doc.id size digest pin (omega arith) placed.room held.sound).sound
 
+  -- the piece stands in the lap of its buffer
+  same_lap : lap_end_of s.geometry (place_now s) ≡ lap_end_of s.geometry s.cursor
+  same_lap =
+      let q : ℕ = s.cursor / s.geometry.content in
+      let some : 0 < size = omega arith in
+      ap (λ n. s.geometry.content * (n + 1)) (lap-is s.geometry.content q (place_now s) (omega arith) (omega (arith, some, placed.room, held.sound.lap)))
+
+  in_lap : IsInLap s.geometry row
+  in_lap = record { small = placed.small; within = omega (arith, same_lap, placed.room, held.sound.lap) }
+
   pub placed_is_held_here : IsHeld after new
   placed_is_held_here = record {
     turning = turning;
@@ -186,6 +198,7 @@ module _ (s : State) (c new : Seen) (doc : Doc) (payload : List ℕ) (digest : D
     entered = entered after new counts;
     buffered = subst (AllByRecursion (IsBufferedWhereNew new.buffer)) (sym rows_are)
         (all_append (IsBufferedWhereNew new.buffer) s.rows row (still_buffered c.buffer new.buffer (document_bytes doc payload) s.rows put.buffer same_cursor held.buffered) own_buffered);
+    laps = subst (AllByRecursion (IsInLap s.geometry)) (sym rows_are) (all_append (IsInLap s.geometry) s.rows row held.laps in_lap);
     faults = subst (λ n. s.fault ≤ n) (sym (ap (λ (d : Device). d.faults) put.device)) held.faults;
   }
 

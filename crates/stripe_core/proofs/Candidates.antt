@@ -21,7 +21,7 @@ use Rattle.stripe_core.specs.Pieces.{live_place_of}
 use Rattle.stripe_core.specs.This.{is_this}
 use Rattle.tape_base.proofs.NameLaws.{same_piece-same, same_piece-true}
 use Rattle.stripe_core.proofs.Entries.{one_more, same_entry-true}
-use Rattle.stripe_core.proofs.Taking.{own}
+use Rattle.stripe_core.proofs.Going.{own}
 
 -- an entry is the same as itself
 same_entry-same : (a : DirRow) → same_entry a a ≡ true
@@ -83,7 +83,7 @@ counts_by s g id first row rows true false e f live rest h =
 counts_by s g id first row rows false true e f live rest h = more_than (same_entry (entry_of g first) (entry_of g row)) _ (rest h)
 counts_by s g id first row rows false false e f live rest h = rest h
 
-counts : (s : State) (g : Geometry) (id : PieceId) (row : Row) (rows : List Row) → is_live s row ≡ true → row_in rows id ≡ Some row
+pub counts : (s : State) (g : Geometry) (id : PieceId) (row : Row) (rows : List Row) → is_live s row ≡ true → row_in rows id ≡ Some row
     → 0 < times (entry_of g row) (map (entry_of g) (filter (is_live s) rows))
 counts s g id row [] live h = cc
 counts s g id row (first ∷ rows) live h = counts_by s g id first row rows (same_piece first.id id) (is_live s first) refl refl live (counts s g id row rows live) h
@@ -92,7 +92,7 @@ live_by : (s : State) (other row : Row) (b : Bool) → is_live s other ≡ b →
 live_by s other row true e h = let same : other ≡ row = cc in (same, ap (is_live s) (sym same) ∙ e)
 live_by s other row false e h = cc
 
-live_is : (s : State) (o : Option Row) (row : Row) → option_and_then (only_live s) o ≡ Some row → (o ≡ Some row) × (is_live s row ≡ true)
+pub live_is : (s : State) (o : Option Row) (row : Row) → option_and_then (only_live s) o ≡ Some row → (o ≡ Some row) × (is_live s row ≡ true)
 live_is s None row h = cc
 live_is s (Some other) row h = let r : (other ≡ row) × (is_live s row ≡ true) = live_by s other row (is_live s other) refl h in (ap Some r.0, r.1)
 

@@ -14,12 +14,12 @@ use Rattle.agg_buffer.specs.Buffer.{filled_of}
 use Rattle.cyclone.specs.Cyclone.{Seen, IsTurning, SameButRoom, SameButRows, SameTape, row_of_piece}
 use Rattle.cache_model.specs.State.{State, Row, floor_now, is_live, live_row_of, only_live, place_now, row_in, without}
 use Rattle.cache_model.specs.Tape.{AreApart, AreRising}
-use Rattle.stripe_core.specs.Held.{IsBufferedWhereNew, IsHeld, entry_of, rows_in_range, same_entry, times}
+use Rattle.stripe_core.specs.Held.{IsBufferedWhereNew, IsHeld, IsInLap, entry_of, rows_in_range, same_entry, times}
 use Rattle.stripe_core.specs.Records.{IsAlike, IsWithout}
 use Rattle.stripe_core.proofs.Entries.{kept, one_more, times-permutation, times-without, same_entry-true}
 use Rattle.stripe_core.proofs.Counts.{is_between, fewer_between}
 use Rattle.stripe_core.proofs.Holding.{counted, end_is, entered, floor_is}
-use Rattle.stripe_core.proofs.Placing.{without-none}
+use Rattle.stripe_core.proofs.Placements.{without-none}
 
 -- ---- what a live row is
 
@@ -107,6 +107,7 @@ module _ (s t : State) (c new : Seen) (id : PieceId) (row : Row) (held : IsHeld 
     filled = ap (λ (y : Seen). filled_of y.buffer) rest.same ∙ (held.filled ∙ sym gone.filled);
     entered = entered t new (record { each = count_at });
     buffered = rw (gone.rows, ap (λ (y : Seen). y.buffer) rest.same) (all_left (IsBufferedWhereNew c.buffer) id s.rows held.buffered);
+    laps = rw (gone.geometry, gone.rows) (all_left (IsInLap s.geometry) id s.rows held.laps);
     faults = rw (gone.fault, ap (λ (y : Seen). y.device) rest.same) held.faults;
   }
 
@@ -150,6 +151,7 @@ passed_is_held s t c id held none gone = record {
         rw (gone.geometry, gone.cursor, gone.rows) ((counted s c held.entered).each x ∙ sym (same_live s id x (row_in s.rows id) refl held.sound.apart none));
   });
   buffered = rw gone.rows (all_left (IsBufferedWhereNew c.buffer) id s.rows held.buffered);
+  laps = rw (gone.geometry, gone.rows) (all_left (IsInLap s.geometry) id s.rows held.laps);
   faults = rw gone.fault held.faults;
 }
 
@@ -164,6 +166,7 @@ alike_is_held s t c held alike faults = record {
   filled = held.filled ∙ sym alike.filled;
   entered = entered t c (record { each = λ x. rw (alike.geometry, alike.cursor, alike.rows) ((counted s c held.entered).each x) });
   buffered = rw alike.rows held.buffered;
+  laps = rw (alike.geometry, alike.rows) held.laps;
   faults = faults;
 }
 
@@ -176,6 +179,7 @@ device_may_change s c new held same turning more = record {
   filled = ap (λ (y : Seen). filled_of y.buffer) same ∙ held.filled;
   entered = λ x. ap (λ (y : Seen). times x (rows_in_range y)) same ∙ held.entered x;
   buffered = rw (ap (λ (y : Seen). y.buffer) same) held.buffered;
+  laps = held.laps;
   faults = let low : s.fault ≤ c.device.faults = held.faults in omega arith;
 }
 
@@ -188,6 +192,7 @@ room_may_grow s c new held same turning more = record {
   filled = ap (λ (y : Seen). filled_of y.buffer) same.same ∙ held.filled;
   entered = λ x. ap (λ (y : Seen). times x (rows_in_range y)) same.same ∙ held.entered x;
   buffered = rw (ap (λ (y : Seen). y.buffer) same.same) held.buffered;
+  laps = held.laps;
   faults = let low : s.fault ≤ c.device.faults = held.faults in omega arith;
 }
 

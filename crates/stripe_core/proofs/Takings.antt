@@ -1,0 +1,113 @@
+-- Live pieces that go.
+use Rattle.std.proofs.Common.{◌≡◌, ℕ, List, [], ◌∷◌, refl, sym, ◌∙◌, ap, subst, Bool, true, false}
+use Rattle.std.specs.Prelude.{IsPermutation, Option, Some, None, option_and_then, option_map, ◌==◌}
+use Rattle.std.specs.Bool.{OnTrue}
+use Rattle.std.proofs.lemmas.Bool.{eqb-true}
+use Rattle.tape_base.specs.declared.keys.Key.{Key}
+use Rattle.tape_base.specs.declared.pieces.PieceId.{PieceId}
+use Rattle.tape_base.specs.declared.digests.Digest.{Digest}
+use Rattle.dir_table.specs.Rows.{has_row}
+use Rattle.cyclone.specs.Cyclone.{IsTurning, SameButRows, Seen, row_of_piece}
+use Rattle.cache_model.specs.declared.record.Rec.TheVariants as rec
+use Rattle.cache_model.specs.State.{Complete, LastVector, Row, State, TakenOut, last_vector, live_row_of, state_after, vector_piece, without, without_earlier}
+use Rattle.cache_model.specs.Verdict.{vector_of, vector_of_last}
+use Rattle.cache_model.specs.Tape.{IsSound}
+use Rattle.cache_model.proofs.Sound.{later_leaves}
+use Rattle.stripe_core.specs.Held.{IsHeld}
+use Rattle.stripe_core.specs.Pieces.{live_place_of}
+use Rattle.stripe_core.specs.Records.{IsWithout}
+use Rattle.stripe_core.proofs.Going.{passed_is_held, taken_is_held}
+use Rattle.stripe_core.proofs.Lives.{IsLiveAt, live_at, live_has_row}
+
+-- how an entry was taken out
+pub record IsTakenOut (c new : Seen) (id : PieceId) (place : ℕ) (found : Bool) : Type 0 where
+  pub turning : IsTurning new
+  pub found_is : found ≡ has_row (row_of_piece c id place) c.rows
+  pub same : SameButRows c new
+  pub gone : OnTrue found (IsPermutation c.rows (row_of_piece c id place ∷ new.rows))
+
+if_true : (b : Bool) (P : Type 0) → b ≡ true → OnTrue b P → P
+if_true true P h x = x
+if_true false P h x = cc
+
+pub entry_goes : (s : State) (c new : Seen) (id : PieceId) (place : ℕ) (found : Bool) (live : IsLiveAt s id place) → IsHeld s c → IsTakenOut c new id place found
+    → IsPermutation c.rows (row_of_piece c id live.row.place ∷ new.rows)
+entry_goes s c new id place found live held out =
+    let there : has_row (row_of_piece c id place) c.rows ≡ true = subst (λ p. has_row (row_of_piece c id p) c.rows ≡ true) live.at (live_has_row s c id live.row held live.live) in
+    subst (λ p. IsPermutation c.rows (row_of_piece c id p ∷ new.rows)) (sym live.at) (if_true found _ (out.found_is ∙ there) out.gone)
+
+pub damaged_is_held : (s : State) (c new : Seen) (id : PieceId) (place : ℕ) (kept other : Digest) (found : Bool) → IsHeld s c → live_place_of s id ≡ Some place
+    → IsTakenOut c new id place found → IsHeld (state_after s (rec.Damaged id place kept other)) new
+damaged_is_held s c new id place kept other found held h out =
+    let live : IsLiveAt s id place = live_at s id place h in
+    let t : State = state_after s (rec.Damaged id place kept other) in
+    let sound : IsSound t = (later_leaves s (rec.Damaged id place kept other ∷ []) (tt, tt) held.sound).sound in
+    taken_is_held s t c new id live.row held live.live (record { geometry = refl; cursor = refl; filled = refl; rows = refl; fault = refl; sound = sound })
+    out.same (entry_goes s c new id place found live held out) out.turning
+
+-- ---- whatever state has the pieces without one
+
+pub live_entry_goes : (s t : State) (c new : Seen) (id : PieceId) (place : ℕ) (found : Bool) → IsHeld s c → live_place_of s id ≡ Some place → IsTakenOut c new id place found
+    → IsWithout s t id → IsHeld t new
+live_entry_goes s t c new id place found held h out gone =
+    let live : IsLiveAt s id place = live_at s id place h in
+    taken_is_held s t c new id live.row held live.live gone out.same (entry_goes s c new id place found live held out) out.turning
+
+no_row : (o : Option Row) → option_map (λ (row : Row). row.place) o ≡ None → o ≡ None
+no_row None h = refl
+no_row (Some row) h = cc
+
+pub no_entry_goes : (s t : State) (c : Seen) (id : PieceId) → IsHeld s c → live_place_of s id ≡ None → IsWithout s t id → IsHeld t c
+no_entry_goes s t c id held h gone = passed_is_held s t c id held (no_row (live_row_of s id) h) gone
+
+-- ---- a put that is complete
+
+earlier_is : (key : Key) (put : ℕ) (last : Option LastVector) (rows : List Row) (id : PieceId) → option_and_then (vector_of_last key) last ≡ Some id → (id.put == put) ≡ false
+    → without_earlier key put last rows ≡ without id rows
+earlier_is key put None rows id h other = cc
+earlier_is key put (Some (TakenOut old)) rows id h other = cc
+earlier_is key put (Some (Complete old)) rows id h other =
+    let same : vector_piece key old ≡ id = cc in
+    let differs : (old == put) ≡ false = ap (λ (i : PieceId). i.put == put) same ∙ other in
+    rw differs (ap (λ i. without i rows) same)
+
+committed_sound : (s : State) (put length : ℕ) (key : Key) → IsSound s → IsSound (state_after s (rec.Committed put key length))
+committed_sound s put length key sound = (later_leaves s (rec.Committed put key length ∷ []) (tt, tt) sound).sound
+
+pub committed_without : (s : State) (put length : ℕ) (key : Key) (id : PieceId) → IsSound s → vector_of s key ≡ Some id → (id.put == put) ≡ false
+    → IsWithout s (state_after s (rec.Committed put key length)) id
+committed_without s put length key id sound h other = record {
+  geometry = refl;
+  cursor = refl;
+  filled = refl;
+  rows = earlier_is key put (last_vector s key) s.rows id h other;
+  fault = refl;
+  sound = committed_sound s put length key sound;
+}
+
+pub other_put : (a b : ℕ) → (a ≡ b → ⊥) → (a == b) ≡ false
+other_put a b h = by (a == b) refl
+  where
+    by : (x : Bool) → (a == b) ≡ x → x ≡ false
+    by false e = refl
+    by true e = absurd (h (eqb-true a b e))
+
+-- ---- an object that is removed
+
+vector_is : (key : Key) (last : Option LastVector) (id : PieceId) → option_and_then (vector_of_last key) last ≡ Some id → id ≡ vector_piece key id.put
+vector_is key None id h = cc
+vector_is key (Some (TakenOut old)) id h = cc
+vector_is key (Some (Complete old)) id h = let is : vector_piece key old ≡ id = cc in sym is ∙ ap (λ (i : PieceId). vector_piece key i.put) is
+
+pub vector_named : (s : State) (key : Key) (id : PieceId) → vector_of s key ≡ Some id → id ≡ vector_piece key id.put
+vector_named s key id h = vector_is key (last_vector s key) id h
+
+pub removed_without : (s : State) (key : Key) (id : PieceId) → IsSound s → vector_of s key ≡ Some id → IsWithout s (state_after s (rec.Removed id.put key)) id
+removed_without s key id sound h = record {
+  geometry = refl;
+  cursor = refl;
+  filled = refl;
+  rows = ap (λ i. without i s.rows) (sym (vector_named s key id h));
+  fault = refl;
+  sound = (later_leaves s (rec.Removed id.put key ∷ []) (tt, tt) sound).sound;
+}

@@ -1,0 +1,72 @@
+-- What is found of a piece, and what is recorded where it is not.
+use Rattle.std.specs.Prelude.{ℕ, ◌≡◌, ◌≢◌, ◌*◌, List, [], ◌∷◌, length, take, Option, Some, None}
+use Rattle.tape_base.specs.declared.pieces.PieceId.{PieceId}
+use Rattle.tape_base.specs.declared.digests.Digest.{Digest}
+use Rattle.ats_disk.specs.Device.{State as Device}
+use Rattle.doc_header.specs.Reading.{document_digest, payload_of}
+use Rattle.cache_model.specs.declared.cause.Cause.{Cause}
+use Rattle.cache_model.specs.declared.cause.Cause.TheVariants as cause
+use Rattle.cache_model.specs.declared.record.Rec.{Rec}
+use Rattle.cache_model.specs.declared.record.Rec.TheVariants as rec
+use Rattle.cache_model.specs.State.{Row, State, live_row_of}
+use Rattle.cache_model.specs.Verdict.{cause_of_piece}
+use Rattle.cache_model.specs.Permit.{DeviceRead, Permit}
+use Rattle.cache_model.specs.Legal.{IsGiven, IsWritten, Trouble}
+use Rattle.stripe_core.specs.declared.refusal.Found.{Found}
+use Rattle.stripe_core.specs.declared.refusal.Found.TheVariants as found
+use Rattle.stripe_core.specs.Covers.{AreSeen, Covers}
+
+-- the record of what kept a live piece from being read
+abbrev pub cause_records : Row → Cause → List Rec
+cause_records row (cause.DeviceFault count) = rec.Fault count ∷ []
+cause_records row (cause.Damaged place kept found) = rec.Damaged row.id row.place kept found ∷ []
+cause_records row _ = []
+
+abbrev pub found_records : Option Row → Found → List Rec
+found_records None answer = []
+found_records (Some row) (found.Found length) = []
+found_records (Some row) (found.Missing why) = cause_records row why
+
+abbrev pub find_adds : State → PieceId → Found → List Rec
+find_adds s id answer = found_records (live_row_of s id) answer
+
+-- the blocks and the digest of a live piece
+pub record IsRecorded (s : State) (id : PieceId) (place blocks : ℕ) (digest : Digest) : Type 0 where
+  pub row : Row
+  pub live : live_row_of s id ≡ Some row
+  pub place_is : row.place ≡ place
+  pub blocks_is : row.blocks ≡ blocks
+  pub digest_is : row.digest ≡ digest
+
+-- what a judgement of bytes that were read records
+abbrev pub judged_records : PieceId → ℕ → Found → List Rec
+judged_records id place (found.Found length) = []
+judged_records id place (found.Missing (cause.Damaged at kept other)) = rec.Damaged id place kept other ∷ []
+judged_records id place (found.Missing _) = []
+
+-- the bytes have the digest that was kept, and this is their payload; or they are damaged
+abbrev pub IsJudged : ℕ → Digest → List ℕ → Found → List ℕ → Type 0
+IsJudged place kept bytes (found.Found size) into =
+    (kept ≡ document_digest bytes) × (size ≡ length (payload_of bytes)) × (take size into ≡ payload_of bytes)
+IsJudged place kept bytes (found.Missing why) into = (why ≡ cause.Damaged place kept (document_digest bytes)) × (kept ≢ document_digest bytes)
+
+-- the document of a live piece was read, and this is its payload
+pub record IsDocumentOf (p : Permit) (s : State) (row : Row) (size : ℕ) (into : List ℕ) : Type 0 where
+  pub bytes : List ℕ
+  pub whole : length bytes ≡ 512 * row.blocks
+  pub digest : row.digest ≡ document_digest bytes
+  pub given : IsWritten s row → IsGiven p s row bytes
+  pub size_is : size ≡ length (payload_of bytes)
+  pub payload : take size into ≡ payload_of bytes
+
+-- of a piece that is not live the cause; of a live one its payload, or the trouble that it had
+abbrev pub IsFoundAs : Permit → State → PieceId → Option Row → Found → List ℕ → Type 0
+IsFoundAs p s id None answer into = answer ≡ found.Missing (cause_of_piece s id)
+IsFoundAs p s id (Some row) (found.Found size) into = IsDocumentOf p s row size into
+IsFoundAs p s id (Some row) (found.Missing why) into = Trouble p s row (cause_records row why) why
+
+-- what the device gave, and what came of it in any step that covers the call
+pub record Finds (s : State) (old new : Device) (id : PieceId) (answer : Found) (into : List ℕ) : Type 0 where
+  pub reads : List DeviceRead
+  pub seen : AreSeen s.geometry old new reads
+  pub answers : (p : Permit) → Covers p old.faults new.faults reads → IsFoundAs p s id (live_row_of s id) answer into

@@ -1,0 +1,152 @@
+// How a piece is read by its name.
+ghost use Rattle.std.specs.Prelude.{◌≡◌, ◌*◌, ◌<◌, ◌≤◌, ◌^◌, Some, IsOk, length, take};
+ghost use Rattle.tape_base.specs.Geometry.{budget_of};
+ghost use Rattle.doc_header.specs.Reading.{payload_of};
+ghost use Rattle.cyclone.specs.Cyclone.{IsCyclone, IsStored, Reads, SameTape, seen};
+ghost use Rattle.cache_model.specs.Kept.{with_records};
+ghost use Rattle.stripe_core.specs.Covers.{Uses};
+ghost use Rattle.stripe_core.specs.Find.{Finds, IsJudged, IsRecorded, find_adds, judged_records};
+
+use crate::refusal::Found;
+use crate::{Pieces, records};
+use ats_disk::Disk;
+use cache_chronicle::Chronicle;
+use cache_model::Cause;
+use cyclone::Cyclone;
+use dir_table::Directory;
+use doc_header::{document_digest, payload};
+use edge_io::Failed;
+use tape_base::{Digest, PieceId};
+
+const BLOCK: usize = 512;
+
+const HEADER: usize = 128;
+
+impl<D: Disk, R: Directory + Drop, C: Chronicle> Pieces<D, R, C> {
+    ghost use Rattle.stripe_core.specs.Pieces.{ArePieces, kept_of, live_place_of, seen_of, state_now};
+
+    /// Reads a live piece and brings its payload to the front of `into`, or tells why there is none.
+    /// Bytes that are not its own are recorded, and its entry goes.
+    pub fn find(&mut self, id: PieceId, into: &mut [u8]) -> Found
+        requires pieces { ArePieces D.Disk R.Directory C.Chronicle self.old }
+        requires record { 1 ≤ C.room self.old.chronicle }
+        requires into { length into.old ≡ 512 * budget_of (state_now C.Chronicle self.old).geometry }
+        ensures pieces { ArePieces D.Disk R.Directory C.Chronicle self.new }
+        ensures adds { kept_of C.Chronicle self.new
+            ≡ with_records (kept_of C.Chronicle self.old) (find_adds (state_now C.Chronicle self.old) id result) }
+        ensures finds { Finds (state_now C.Chronicle self.old) (seen_of D.Disk R.Directory self.old).device
+            (seen_of D.Disk R.Directory self.new).device id result into.new }
+        ensures uses { Uses 1 0 0 0 (C.room self.old.chronicle) (C.room self.new.chronicle)
+            (seen_of D.Disk R.Directory self.old) (seen_of D.Disk R.Directory self.new) }
+    {
+        match self.whereabouts(id) {
+            Some(place) => self.read(id, place, into),
+            None => Found::Missing(self.chronicle.why_piece(id)),
+        }
+    }
+
+    fn read(&mut self, id: PieceId, place: u64, into: &mut [u8]) -> Found
+        requires pieces { ArePieces D.Disk R.Directory C.Chronicle self.old }
+        requires record { 1 ≤ C.room self.old.chronicle }
+        requires into { length into.old ≡ 512 * budget_of (state_now C.Chronicle self.old).geometry }
+        requires live { live_place_of (state_now C.Chronicle self.old) id ≡ Some place }
+        ensures pieces { ArePieces D.Disk R.Directory C.Chronicle self.new }
+        ensures adds { kept_of C.Chronicle self.new
+            ≡ with_records (kept_of C.Chronicle self.old) (find_adds (state_now C.Chronicle self.old) id result) }
+        ensures finds { Finds (state_now C.Chronicle self.old) (seen_of D.Disk R.Directory self.old).device
+            (seen_of D.Disk R.Directory self.new).device id result into.new }
+        ensures uses { Uses 1 0 0 0 (C.room self.old.chronicle) (C.room self.new.chronicle)
+            (seen_of D.Disk R.Directory self.old) (seen_of D.Disk R.Directory self.new) }
+    {
+        let (blocks, kept) = self.recorded(id, place);
+        match load(&mut self.cyclone, place, blocks, into) {
+            Ok(()) => self.judge(id, place, kept, blocks, into),
+            Err(_) => {
+                let count = self.cyclone.disk().faults();
+                records::fault(&mut self.chronicle, count);
+                Found::Missing(Cause::DeviceFault { count })
+            }
+        }
+    }
+
+    // The blocks and the digest of a live piece.
+    fn recorded(&self, id: PieceId, place: u64) -> (u32, Digest)
+        requires pieces { ArePieces D.Disk R.Directory C.Chronicle self.now }
+        requires live { live_place_of (state_now C.Chronicle self.now) id ≡ Some place }
+        ensures recorded { IsRecorded (state_now C.Chronicle self.now) id place result.0 result.1 }
+        ensures some { 0 < result.0 }
+        ensures few { result.0 ≤ budget_of (state_now C.Chronicle self.now).geometry }
+        ensures stored { IsStored (seen_of D.Disk R.Directory self.now) place result.0 }
+    {
+        let blocks = self.chronicle.size_of(id).unwrap();
+        let digest = self.chronicle.digest_of(id).unwrap();
+        (blocks, digest)
+    }
+
+    // What was read in front of `into` is the piece, or is damaged.
+    fn judge(
+        &mut self,
+        id: PieceId,
+        place: u64,
+        kept: Digest,
+        blocks: u32,
+        into: &mut [u8],
+    ) -> Found
+        requires pieces { ArePieces D.Disk R.Directory C.Chronicle self.old }
+        requires record { 1 ≤ C.room self.old.chronicle }
+        requires live { live_place_of (state_now C.Chronicle self.old) id ≡ Some place }
+        requires some { 0 < blocks }
+        requires within { 512 * blocks ≤ length into.old }
+        requires few { length into.old ≤ 2 ^ 31 }
+        ensures pieces { ArePieces D.Disk R.Directory C.Chronicle self.new }
+        ensures adds { kept_of C.Chronicle self.new ≡ with_records (kept_of C.Chronicle self.old) (judged_records id place result) }
+        ensures judges { IsJudged place kept (take (512 * blocks) into.old) result into.new }
+        ensures still { (seen_of D.Disk R.Directory self.new).device ≡ (seen_of D.Disk R.Directory self.old).device }
+        ensures uses { Uses 1 0 0 0 (C.room self.old.chronicle) (C.room self.new.chronicle)
+            (seen_of D.Disk R.Directory self.old) (seen_of D.Disk R.Directory self.new) }
+    {
+        let size = blocks as usize * BLOCK;
+        let found = document_digest(&into[..size]);
+        if found == kept {
+            Found::Found {
+                length: bring_payload(into, size),
+            }
+        } else {
+            self.damage(id, place, kept, found);
+            Found::Missing(Cause::Damaged { place, kept, found })
+        }
+    }
+}
+
+// Reads blocks to the front of the bytes.
+fn load<D: Disk, R: Directory + Drop>(
+    cyclone: &mut Cyclone<D, R>,
+    place: u64,
+    blocks: u32,
+    into: &mut [u8],
+) -> Result<(), Failed>
+    requires turns { IsCyclone D.Disk R.Directory cyclone.old }
+    requires some { 0 < blocks }
+    requires within { 512 * blocks ≤ length into.old }
+    requires stored { IsStored (seen D.Disk R.Directory cyclone.old) place blocks }
+    ensures turns { IsCyclone D.Disk R.Directory cyclone.new }
+    ensures same { SameTape (seen D.Disk R.Directory cyclone.old) (seen D.Disk R.Directory cyclone.new) }
+    ensures reads { Reads (seen D.Disk R.Directory cyclone.old) (seen D.Disk R.Directory cyclone.new) place blocks result (take (512 * blocks) into.new) }
+    ensures buffered { (seen D.Disk R.Directory cyclone.old).buffer.cursor ≤ place → IsOk result }
+    ensures length { length into.new ≡ length into.old }
+{
+    cyclone.read(place, &mut into[..blocks as usize * BLOCK])
+}
+
+// Brings the payload of the document in front of the bytes to their front, and gives its length.
+fn bring_payload(bytes: &mut [u8], size: usize) -> u32
+    requires header { 128 ≤ size }
+    requires within { size ≤ length bytes.old }
+    requires few { length bytes.old ≤ 2 ^ 31 }
+    ensures length { result ≡ length (payload_of (take size bytes.old)) }
+    ensures front { take result bytes.new ≡ payload_of (take size bytes.old) }
+{
+    let length = payload(&bytes[..size]).len();
+    bytes.copy_within(HEADER..HEADER + length, 0);
+    length as u32
+}

@@ -1,0 +1,117 @@
+// How a piece is placed behind those of the buffer.
+ghost use Rattle.std.specs.Prelude.{◌≡◌, ◌+◌, ◌≤◌, ◌^◌, true, false, length};
+ghost use Rattle.tape_base.specs.Digest.{digest_of};
+ghost use Rattle.cache_model.specs.Kept.{with_records};
+ghost use Rattle.cache_model.specs.Legal.{IsQuiet};
+ghost use Rattle.cache_model.specs.Room.{doc_at, has_room};
+ghost use Rattle.stripe_core.specs.Covers.{Uses};
+ghost use Rattle.stripe_core.specs.Place.{CutsAsAsked, FinishesAsAsked, FragmentAt, IsFragmentOf, IsNew, IsVectorOf, PlacesAt, fragment_adds, piece_records, place_adds};
+
+use crate::flushing::LIMIT;
+use crate::refusal::{Placed, Stop};
+use crate::{Pieces, records};
+use ats_disk::Disk;
+use cache_chronicle::Chronicle;
+use dir_table::Directory;
+use doc_header::Doc;
+use tape_base::{Digest, PieceId, blocks_of};
+
+impl<D: Disk, R: Directory + Drop, C: Chronicle> Pieces<D, R, C> {
+    ghost use Rattle.stripe_core.specs.Pieces.{ArePieces, kept_of, seen_of, state_now};
+
+    /// Cuts the next fragment of a put and places it, behind a flush where it has no room.
+    pub fn place_fragment(
+        &mut self,
+        id: PieceId,
+        pin: u64,
+        start: u64,
+        payload: &[u8],
+    ) -> Result<Placed, Stop>
+        requires pieces { ArePieces D.Disk R.Directory C.Chronicle self.old }
+        requires plain { R.purges ≡ false }
+        requires new { IsNew (state_now C.Chronicle self.old) id payload.now }
+        requires size { length payload.now ≤ 2 ^ 31 }
+        requires fragment { IsFragmentOf (state_now C.Chronicle self.old) id pin start payload.now }
+        requires records { 3 ≤ C.room self.old.chronicle }
+        requires entry { 1 ≤ (seen_of D.Disk R.Directory self.old).spare }
+        requires calls { 1 ≤ (seen_of D.Disk R.Directory self.old).device.calls }
+        requires blocks { (seen_of D.Disk R.Directory self.old).geometry.agg ≤ (seen_of D.Disk R.Directory self.old).device.blocks }
+        ensures pieces { ArePieces D.Disk R.Directory C.Chronicle self.new }
+        ensures adds { kept_of C.Chronicle self.new
+            ≡ with_records (kept_of C.Chronicle self.old) (fragment_adds (state_now C.Chronicle self.old) id pin start payload.now result) }
+        ensures does { CutsAsAsked (state_now C.Chronicle self.old) (seen_of D.Disk R.Directory self.old).device.faults
+            (seen_of D.Disk R.Directory self.new).device.faults id pin start payload.now result }
+        ensures at { FragmentAt (state_now C.Chronicle self.old) (seen_of D.Disk R.Directory self.new).device.faults payload.now result }
+        ensures still { has_room (state_now C.Chronicle self.old) (length payload.now) ≡ true
+            → (seen_of D.Disk R.Directory self.new).device ≡ (seen_of D.Disk R.Directory self.old).device }
+        ensures uses { Uses 3 1 1 (seen_of D.Disk R.Directory self.old).geometry.agg (C.room self.old.chronicle) (C.room self.new.chronicle)
+            (seen_of D.Disk R.Directory self.old) (seen_of D.Disk R.Directory self.new) }
+    {
+        match self.make_room(payload.len() as u32) {
+            Ok(()) => self.place(id, pin, start, payload),
+            Err(why) => Err(why),
+        }
+    }
+
+    /// Places a piece that has room, unless it would end at the limit.
+    pub fn place(
+        &mut self,
+        id: PieceId,
+        pin: u64,
+        start: u64,
+        payload: &[u8],
+    ) -> Result<Placed, Stop>
+        requires pieces { ArePieces D.Disk R.Directory C.Chronicle self.old }
+        requires plain { R.purges ≡ false }
+        requires new { IsNew (state_now C.Chronicle self.old) id payload.now }
+        requires size { length payload.now ≤ 2 ^ 31 }
+        requires room { has_room (state_now C.Chronicle self.old) (length payload.now) ≡ true }
+        requires records { 2 ≤ C.room self.old.chronicle }
+        requires entry { 1 ≤ (seen_of D.Disk R.Directory self.old).spare }
+        ensures pieces { ArePieces D.Disk R.Directory C.Chronicle self.new }
+        ensures adds { kept_of C.Chronicle self.new
+            ≡ with_records (kept_of C.Chronicle self.old) (place_adds (state_now C.Chronicle self.old) id pin start payload.now result) }
+        ensures at { PlacesAt (state_now C.Chronicle self.old) payload.now result }
+        ensures still { (seen_of D.Disk R.Directory self.new).device ≡ (seen_of D.Disk R.Directory self.old).device }
+        ensures uses { Uses 2 1 0 0 (C.room self.old.chronicle) (C.room self.new.chronicle)
+            (seen_of D.Disk R.Directory self.old) (seen_of D.Disk R.Directory self.new) }
+    {
+        let place = self.cyclone.next_place();
+        let end = place + blocks_of(payload.len() as u32) as u64;
+        if end >= LIMIT {
+            return Err(Stop::Exhausted { number: end });
+        }
+        let doc = Doc {
+            id,
+            place,
+            generation: self.cyclone.geometry().generation,
+            pin,
+            start,
+        };
+        let payload = self.put(&doc, payload);
+        Ok(Placed { place, payload })
+    }
+
+    fn put(&mut self, doc: &Doc, payload: &[u8]) -> Digest
+        requires pieces { ArePieces D.Disk R.Directory C.Chronicle self.old }
+        requires plain { R.purges ≡ false }
+        requires new { IsNew (state_now C.Chronicle self.old) doc.now.id payload.now }
+        requires doc { let d = doc.now in d ≡ doc_at (state_now C.Chronicle self.old) d.id d.pin d.start }
+        requires size { length payload.now ≤ 2 ^ 31 }
+        requires room { has_room (state_now C.Chronicle self.old) (length payload.now) ≡ true }
+        requires records { 2 ≤ C.room self.old.chronicle }
+        requires entry { 1 ≤ (seen_of D.Disk R.Directory self.old).spare }
+        ensures pieces { ArePieces D.Disk R.Directory C.Chronicle self.new }
+        ensures adds { let d = doc.now in kept_of C.Chronicle self.new
+            ≡ with_records (kept_of C.Chronicle self.old) (piece_records (state_now C.Chronicle self.old) d.id d.pin d.start payload.now) }
+        ensures digest { result ≡ digest_of payload.now }
+        ensures still { (seen_of D.Disk R.Directory self.new).device ≡ (seen_of D.Disk R.Directory self.old).device }
+        ensures uses { Uses 2 1 0 0 (C.room self.old.chronicle) (C.room self.new.chronicle)
+            (seen_of D.Disk R.Directory self.old) (seen_of D.Disk R.Directory self.new) }
+    {
+        let length = payload.len() as u32;
+        let put = self.cyclone.put(doc, payload);
+        records::placed(&mut self.chronicle, doc, length, put);
+        put.payload
+    }
+}

@@ -1,0 +1,120 @@
+// The records that the calls of a stripe push: one function for each kind, or for kinds that stand
+// together.
+ghost use Rattle.std.specs.Prelude.{◌≡◌, ◌+◌, ◌≤◌, ◌^◌, [], ◌∷◌, ◌++◌};
+ghost use Rattle.tape_base.specs.Blocks.{blocks_of};
+ghost use Rattle.cache_model.specs.Kept.{with_record, with_records};
+ghost use Rattle.cache_model.specs.Legal.{format_records};
+ghost use Rattle.cache_model.specs.declared.record.Rec.TheVariants.{Began, Committed, Damaged, Fault, Placed, Removed};
+ghost use Rattle.stripe_core.specs.Place.{cut_record_of};
+
+use cache_chronicle::Chronicle;
+use cache_model::Rec;
+use cyclone::Put;
+use doc_header::Doc;
+use tape_base::{Digest, Geometry, Key, PieceId, blocks_of, floor_of};
+
+/// A session begins, and its first buffer.
+pub fn formatted<C: Chronicle>(chronicle: &mut C, g: &Geometry)
+    requires { 2 ≤ C.room chronicle.old }
+    ensures { C.kept chronicle.new ≡ with_records (C.kept chronicle.old) (format_records g.now) }
+{
+    let geometry = *g;
+    chronicle.push(Rec::Formatted { geometry });
+    chronicle.push(Rec::Began {
+        cursor: geometry.content,
+        floor: floor_of(&geometry, geometry.content),
+    });
+}
+
+/// A buffer begins.
+pub fn began<C: Chronicle>(chronicle: &mut C, cursor: u64, floor: u64)
+    requires { 1 ≤ C.room chronicle.old }
+    ensures kept { C.kept chronicle.new ≡ with_records (C.kept chronicle.old) (Began cursor floor ∷ []) }
+    ensures room { C.room chronicle.old ≤ C.room chronicle.new + 1 }
+{
+    chronicle.push(Rec::Began { cursor, floor });
+}
+
+/// The device refused a call.
+pub fn fault<C: Chronicle>(chronicle: &mut C, count: u64)
+    requires { 1 ≤ C.room chronicle.old }
+    ensures kept { C.kept chronicle.new ≡ with_records (C.kept chronicle.old) (Fault count ∷ []) }
+    ensures room { C.room chronicle.old ≤ C.room chronicle.new + 1 }
+{
+    chronicle.push(Rec::Fault { count });
+}
+
+/// A piece is placed; of a fragment, with the length and the digest of its payload, also that it was
+/// cut.
+pub fn placed<C: Chronicle>(chronicle: &mut C, doc: &Doc, length: u32, put: Put)
+    requires size { length ≤ 2 ^ 31 }
+    requires room { 2 ≤ C.room chronicle.old }
+    ensures kept { let d = doc.now in C.kept chronicle.new ≡ with_records (C.kept chronicle.old)
+        (cut_record_of d.id length put.payload ++ Placed d.id d.place (blocks_of length) put.document d.pin ∷ []) }
+    ensures room { C.room chronicle.old ≤ C.room chronicle.new + 2 }
+{
+    if doc.id.index == 0 {
+        vector(chronicle, doc, blocks_of(length), put.document);
+    } else {
+        chronicle.push(Rec::Cut {
+            put: doc.id.put,
+            index: doc.id.index,
+            length,
+            digest: put.payload,
+        });
+        vector(chronicle, doc, blocks_of(length), put.document);
+    }
+}
+
+fn vector<C: Chronicle>(chronicle: &mut C, doc: &Doc, blocks: u32, digest: Digest)
+    requires { 1 ≤ C.room chronicle.old }
+    ensures kept { let d = doc.now in
+        C.kept chronicle.new ≡ with_record (C.kept chronicle.old) (Placed d.id d.place blocks digest d.pin) }
+    ensures room { C.room chronicle.old ≤ C.room chronicle.new + 1 }
+{
+    chronicle.push(Rec::Placed {
+        piece: doc.id,
+        place: doc.place,
+        blocks,
+        digest,
+        pin: doc.pin,
+    });
+}
+
+/// Bytes that were read for a piece are not its own.
+pub fn damaged<C: Chronicle>(
+    chronicle: &mut C,
+    piece: PieceId,
+    place: u64,
+    kept: Digest,
+    found: Digest,
+)
+    requires { 1 ≤ C.room chronicle.old }
+    ensures kept { C.kept chronicle.new ≡ with_records (C.kept chronicle.old) (Damaged piece place kept found ∷ []) }
+    ensures room { C.room chronicle.old ≤ C.room chronicle.new + 1 }
+{
+    chronicle.push(Rec::Damaged {
+        piece,
+        place,
+        kept,
+        found,
+    });
+}
+
+/// A put is complete.
+pub fn committed<C: Chronicle>(chronicle: &mut C, put: u64, key: Key, length: u64)
+    requires { 1 ≤ C.room chronicle.old }
+    ensures kept { C.kept chronicle.new ≡ with_records (C.kept chronicle.old) (Committed put key length ∷ []) }
+    ensures room { C.room chronicle.old ≤ C.room chronicle.new + 1 }
+{
+    chronicle.push(Rec::Committed { put, key, length });
+}
+
+/// An object was removed.
+pub fn removed<C: Chronicle>(chronicle: &mut C, put: u64, key: Key)
+    requires { 1 ≤ C.room chronicle.old }
+    ensures kept { C.kept chronicle.new ≡ with_records (C.kept chronicle.old) (Removed put key ∷ []) }
+    ensures room { C.room chronicle.old ≤ C.room chronicle.new + 1 }
+{
+    chronicle.push(Rec::Removed { put, key });
+}

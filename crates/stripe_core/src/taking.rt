@@ -1,0 +1,93 @@
+// How pieces go before they are passed.
+ghost use Rattle.std.specs.Prelude.{◌≡◌, ◌≤◌, ℕ, [], ◌∷◌, Some, IsSome};
+ghost use Rattle.cyclone.specs.Cyclone.{SameButRows};
+ghost use Rattle.cache_model.specs.Kept.{with_records};
+ghost use Rattle.cache_model.specs.State.{State, state_after, vector_piece};
+ghost use Rattle.cache_model.specs.Verdict.{live_vector_of, vector_of};
+ghost use Rattle.cache_model.specs.declared.record.Rec.TheVariants.{Committed, Damaged, Removed};
+ghost use Rattle.stripe_core.specs.Held.{IsHeld};
+ghost use Rattle.stripe_core.specs.Records.{IsWithout};
+ghost use Rattle.stripe_core.specs.Covers.{Uses};
+
+use crate::{Pieces, records};
+use ats_disk::Disk;
+use cache_chronicle::Chronicle;
+use dir_table::Directory;
+use tape_base::{Digest, Key, PieceId};
+
+impl<D: Disk, R: Directory + Drop, C: Chronicle> Pieces<D, R, C> {
+    ghost use Rattle.stripe_core.specs.Pieces.{ArePieces, kept_of, live_place_of, seen_of, state_now};
+
+    /// Records that the bytes of a live piece are not its own, and takes its entry out.
+    pub fn damage(&mut self, id: PieceId, place: u64, kept: Digest, found: Digest)
+        requires pieces { ArePieces D.Disk R.Directory C.Chronicle self.old }
+        requires record { 1 ≤ C.room self.old.chronicle }
+        requires live { live_place_of (state_now C.Chronicle self.old) id ≡ Some place }
+        ensures pieces { ArePieces D.Disk R.Directory C.Chronicle self.new }
+        ensures adds { kept_of C.Chronicle self.new ≡ with_records (kept_of C.Chronicle self.old) (Damaged id place kept found ∷ []) }
+        ensures still { (seen_of D.Disk R.Directory self.new).device ≡ (seen_of D.Disk R.Directory self.old).device }
+        ensures uses { Uses 1 0 0 0 (C.room self.old.chronicle) (C.room self.new.chronicle)
+            (seen_of D.Disk R.Directory self.old) (seen_of D.Disk R.Directory self.new) }
+    {
+        self.cyclone.take_out(id, place);
+        records::damaged(&mut self.chronicle, id, place, kept, found);
+    }
+
+    /// Takes the entry of a piece out, where it is live. What is held then is what any state says
+    /// that has the pieces without this one.
+    fn take_entry(&mut self, id: PieceId)
+        requires pieces { ArePieces D.Disk R.Directory C.Chronicle self.old }
+        ensures gone { (t : State) → IsWithout (state_now C.Chronicle self.old) t id → IsHeld t (seen_of D.Disk R.Directory self.new) }
+        ensures chronicle { self.new.chronicle ≡ self.old.chronicle }
+        ensures rest { SameButRows (seen_of D.Disk R.Directory self.old) (seen_of D.Disk R.Directory self.new) }
+    {
+        if let Some(place) = self.whereabouts(id) {
+            self.cyclone.take_out(id, place);
+        }
+    }
+
+    /// Takes the vector of a key out, where that is not the put's own.
+    fn take_earlier(&mut self, put: u64, key: Key)
+        requires pieces { ArePieces D.Disk R.Directory C.Chronicle self.old }
+        ensures held { (length : ℕ) → IsHeld (state_after (state_now C.Chronicle self.old) (Committed put key length)) (seen_of D.Disk R.Directory self.new) }
+        ensures chronicle { self.new.chronicle ≡ self.old.chronicle }
+        ensures rest { SameButRows (seen_of D.Disk R.Directory self.old) (seen_of D.Disk R.Directory self.new) }
+    {
+        match self.chronicle.vector_of(key) {
+            Some(earlier) if earlier.put != put => self.take_entry(earlier),
+            _ => {}
+        }
+    }
+
+    /// Records that a put of so many bytes is complete. The key's vector before it goes.
+    pub fn commit(&mut self, put: u64, key: Key, length: u64)
+        requires pieces { ArePieces D.Disk R.Directory C.Chronicle self.old }
+        requires record { 1 ≤ C.room self.old.chronicle }
+        ensures pieces { ArePieces D.Disk R.Directory C.Chronicle self.new }
+        ensures adds { kept_of C.Chronicle self.new ≡ with_records (kept_of C.Chronicle self.old) (Committed put key length ∷ []) }
+        ensures still { (seen_of D.Disk R.Directory self.new).device ≡ (seen_of D.Disk R.Directory self.old).device }
+        ensures uses { Uses 1 0 0 0 (C.room self.old.chronicle) (C.room self.new.chronicle)
+            (seen_of D.Disk R.Directory self.old) (seen_of D.Disk R.Directory self.new) }
+    {
+        self.take_earlier(put, key);
+        records::committed(&mut self.chronicle, put, key, length);
+    }
+
+    /// Records that a key's live vector was removed, takes it out, and gives its put.
+    pub fn remove(&mut self, key: Key) -> u64
+        requires pieces { ArePieces D.Disk R.Directory C.Chronicle self.old }
+        requires record { 1 ≤ C.room self.old.chronicle }
+        requires live { IsSome (live_vector_of (state_now C.Chronicle self.old) key) }
+        ensures pieces { ArePieces D.Disk R.Directory C.Chronicle self.new }
+        ensures adds { kept_of C.Chronicle self.new ≡ with_records (kept_of C.Chronicle self.old) (Removed result key ∷ []) }
+        ensures put { vector_of (state_now C.Chronicle self.old) key ≡ Some (vector_piece key result) }
+        ensures still { (seen_of D.Disk R.Directory self.new).device ≡ (seen_of D.Disk R.Directory self.old).device }
+        ensures uses { Uses 1 0 0 0 (C.room self.old.chronicle) (C.room self.new.chronicle)
+            (seen_of D.Disk R.Directory self.old) (seen_of D.Disk R.Directory self.new) }
+    {
+        let vector = self.chronicle.vector_of(key).unwrap();
+        self.take_entry(vector);
+        records::removed(&mut self.chronicle, vector.put, key);
+        vector.put
+    }
+}
