@@ -1,0 +1,163 @@
+-- The rows of the records, as they change and go: what is found by a number, who writes, and that numbers fall.
+use Rattle.std.proofs.Common.{◌≡◌, ℕ, ◌+◌, ◌<◌, ◌≤◌, true, false, cond, List, [], ◌∷◌, ◌++◌, length, Option, Some, None, refl, sym, ap, ◌∙◌, fold, arith, length-append}
+use Rattle.std.specs.Prelude.{Bool, not, ◌==◌, ◌&&◌, if◌then◌else◌, option_map, map, filter, find}
+use Rattle.std.specs.List.{count_by}
+use Rattle.std.proofs.lemmas.Bool.{eqb-true, eq-eqb}
+use Rattle.std.proofs.lemmas.List.Elements.{filter-append}
+use Rattle.std.proofs.lemmas.List.Sums.{fold-append}
+use Rattle.std.proofs.lemmas.List.Recursion.{is_count_by}
+use Rattle.tape_base.specs.declared.keys.Key.{Key}
+use Rattle.tape_base.specs.Key.{same_key}
+use Rattle.alternate_vector.specs.Field.{Field}
+use Rattle.alternate_vector.specs.Vary.{request_matches}
+use Rattle.fragment_table.specs.Table.{TableRow}
+use Rattle.open_directory.specs.declared.kept.Writer.{Writer}
+use Rattle.open_directory.specs.Directory.{followed, is_follow, writers_but}
+use Rattle.cache_model.specs.State.{PutRow, Writing, change_put, with_cut, with_writing}
+use Rattle.cache_model.specs.Verdict.{is_open, may_follow}
+use Rattle.stripe_actors.specs.Actors.{FallBelow, writer_of, writer_where_open, writers_in}
+
+-- ---- what is found
+
+differ : (b : Bool) → b ≡ true → b ≡ false → ⊥
+differ b t f = let e : true ≡ false = sym t ∙ f in cc
+
+-- a number is not that of another row
+apart : (x n q : ℕ) → (x == n) ≡ false → (x == q) ≡ true → (n == q) ≡ false
+apart x n q t u = by_test (n == q) refl
+  where
+    by_test : (b : Bool) → (n == q) ≡ b → (n == q) ≡ false
+    by_test true v = absurd (differ (x == n) (eq-eqb x n (eqb-true x q u ∙ sym (eqb-true n q v))) t)
+    by_test false v = v
+
+module _ {X : Type 0} (number : X → ℕ) where
+  abbrev has : ℕ → X → Bool
+  has n x = number x == n
+
+  -- the rows of a number, changed
+  abbrev change : ℕ → (X → X) → List X → List X
+  change n f xs = map (λ x. if has n x then f x else x) xs
+
+  -- the rows of other numbers
+  abbrev but : ℕ → List X → List X
+  but n xs = filter (λ x. not (has n x)) xs
+
+  changed_here : (f : X → X) (n q k m : ℕ) (x : X) (rest before : Option X) → k ≡ n → m ≡ n → rest ≡ cond (n == q) (option_map f before) before
+      → cond (k == q) (Some (f x)) rest ≡ cond (n == q) (option_map f (cond (m == q) (Some x) before)) (cond (m == q) (Some x) before)
+  changed_here f n q k m x rest before e d known =
+      ap (λ (i : ℕ). cond (i == q) (Some (f x)) rest) e
+      ∙ by_test (n == q) known
+      ∙ sym (ap (λ (i : ℕ). cond (n == q) (option_map f (cond (i == q) (Some x) before)) (cond (i == q) (Some x) before)) d)
+    where
+      by_test : (b : Bool) → rest ≡ cond b (option_map f before) before → cond b (Some (f x)) rest ≡ cond b (option_map f (cond b (Some x) before)) (cond b (Some x) before)
+      by_test true known = refl
+      by_test false known = known
+
+  pub find-changed : (f : X → X) → ((x : X) → number (f x) ≡ number x) → (n q : ℕ) (xs : List X)
+      → find (has q) (change n f xs) ≡ cond (n == q) (option_map f (find (has q) xs)) (find (has q) xs)
+  find-changed f keeps n q [] = let none : Option X = None in elim (n == q) as (λ b. none ≡ cond b none none) [ true ↦ refl | false ↦ refl ]
+  find-changed f keeps n q (x ∷ xs) = by_test (find-changed f keeps n q xs) (number x == n) refl (number x == q) refl
+    where
+      by_test : find (has q) (change n f xs) ≡ cond (n == q) (option_map f (find (has q) xs)) (find (has q) xs)
+          → (b : Bool) → (number x == n) ≡ b → (w : Bool) → (number x == q) ≡ w
+          → find (has q) (cond b (f x) x ∷ change n f xs) ≡ cond (n == q) (option_map f (find (has q) (x ∷ xs))) (find (has q) (x ∷ xs))
+      by_test rest true b w u = changed_here f n q (number (f x)) (number x) x (find (has q) (change n f xs)) (find (has q) xs) (keeps x ∙ eqb-true (number x) n b) (eqb-true (number x) n b) rest
+      by_test rest false b true u = let other : (n == q) ≡ false = apart (number x) n q b u in rw (other, u) refl
+      by_test rest false b false u = rw u rest
+
+  pub find-without : (n q : ℕ) (xs : List X) → find (has q) (but n xs) ≡ cond (n == q) None (find (has q) xs)
+  find-without n q [] = let none : Option X = None in elim (n == q) as (λ b. none ≡ cond b none none) [ true ↦ refl | false ↦ refl ]
+  find-without n q (x ∷ xs) = by_test (find-without n q xs) (number x == n) refl (number x == q) refl
+    where
+      gone : (b : Bool) → find (has q) (but n xs) ≡ cond b None (find (has q) xs) → find (has q) (but n xs) ≡ cond b None (cond b (Some x) (find (has q) xs))
+      gone true known = known
+      gone false known = known
+
+      by_test : find (has q) (but n xs) ≡ cond (n == q) None (find (has q) xs)
+          → (b : Bool) → (number x == n) ≡ b → (w : Bool) → (number x == q) ≡ w
+          → find (has q) (cond (not b) (x ∷ but n xs) (but n xs)) ≡ cond (n == q) None (find (has q) (x ∷ xs))
+      by_test rest true b w u = gone (n == q) rest ∙ sym (ap (λ (i : ℕ). cond (n == q) None (cond (i == q) (Some x) (find (has q) xs))) (eqb-true (number x) n b))
+      by_test rest false b true u = let other : (n == q) ≡ false = apart (number x) n q b u in rw (other, u) refl
+      by_test rest false b false u = rw u rest
+
+  -- ---- numbers
+
+  pub numbers-changed : (f : X → X) → ((x : X) → number (f x) ≡ number x) → (n : ℕ) (xs : List X) → map number (change n f xs) ≡ map number xs
+  numbers-changed f keeps n [] = refl
+  numbers-changed f keeps n (x ∷ xs) =
+      elim (has n x) as (λ b. number (cond b (f x) x) ∷ map number (change n f xs) ≡ number x ∷ map number xs) [
+        | true ↦ ap (λ (i : ℕ). i ∷ map number (change n f xs)) (keeps x) ∙ ap (λ (ns : List ℕ). number x ∷ ns) (numbers-changed f keeps n xs)
+        | false ↦ ap (λ (ns : List ℕ). number x ∷ ns) (numbers-changed f keeps n xs)
+      ]
+
+-- numbers that fall from lower down
+pub fall_from : (low high : ℕ) (ns : List ℕ) → low ≤ high → FallBelow low ns → FallBelow high ns
+fall_from low high [] le h = let k : 1 ≤ low = h in omega arith
+fall_from low high (n ∷ ns) le h = let k : n < low = h.0 in (omega arith, h.1)
+
+pub fall_without : {X : Type 0} (number : X → ℕ) (p : X → Bool) (high : ℕ) (xs : List X) → FallBelow high (map number xs) → FallBelow high (map number (filter p xs))
+fall_without number p high [] h = h
+fall_without number p high (x ∷ xs) h =
+    let k : number x < high = h.0 in
+    elim (p x) as (λ b. FallBelow high (map number (cond b (x ∷ filter p xs) (filter p xs)))) [
+      | true ↦ (h.0, fall_without number p (number x) xs h.1)
+      | false ↦ fall_from (number x) high (map number (filter p xs)) (omega arith) (fall_without number p (number x) xs h.1)
+    ]
+
+-- ---- who writes
+
+pub writers-cut : (put : ℕ) (row : TableRow) (puts : List PutRow) → writers_in (change_put put (with_cut row) puts) ≡ writers_in puts
+writers-cut put row [] = refl
+writers-cut put row (p ∷ ps) =
+    elim (p.put == put) as (λ b. writers_in (change_put put (with_cut row) ps) ++ writer_where_open (cond b (with_cut row p) p) ≡ writers_in ps ++ writer_where_open p) [
+      | true ↦ ap (λ (ws : List Writer). ws ++ writer_where_open p) (writers-cut put row ps)
+      | false ↦ ap (λ (ws : List Writer). ws ++ writer_where_open p) (writers-cut put row ps)
+    ]
+
+-- the writer of a put that ends goes
+writer_ended : (writing : Writing) → ((p : PutRow) → is_open (with_writing writing p) ≡ false) → (put : ℕ) (p : PutRow) (here opens : Bool) → (p.put == put) ≡ here → is_open p ≡ opens
+    → writer_where_open (cond here (with_writing writing p) p) ≡ writers_but put (writer_where_open p)
+writer_ended writing ends put p true true h o = let e : is_open (with_writing writing p) ≡ false = ends p in rw (e, o, h) refl
+writer_ended writing ends put p true false h o = let e : is_open (with_writing writing p) ≡ false = ends p in rw (e, o) refl
+writer_ended writing ends put p false true h o = rw (o, h) refl
+writer_ended writing ends put p false false h o = rw o refl
+
+pub writers-ended : (writing : Writing) → ((p : PutRow) → is_open (with_writing writing p) ≡ false) → (put : ℕ) (puts : List PutRow)
+    → writers_in (change_put put (with_writing writing) puts) ≡ writers_but put (writers_in puts)
+writers-ended writing ends put [] = refl
+writers-ended writing ends put (p ∷ ps) =
+    ap (λ (ws : List Writer). ws ++ writer_where_open (cond (p.put == put) (with_writing writing p) p)) (writers-ended writing ends put ps)
+    ∙ ap (λ (ws : List Writer). writers_but put (writers_in ps) ++ ws) (writer_ended writing ends put p (p.put == put) (is_open p) refl refl)
+    ∙ sym (filter-append (λ (w : Writer). not (w.put == put)) (writers_in ps) (writer_where_open p))
+
+length-one_more : (p : PutRow) (ps : List PutRow) → length (writers_in (p ∷ ps)) ≡ cond (is_open p) (1 + length (writers_in ps)) (length (writers_in ps))
+length-one_more p ps = length-append (writers_in ps) (writer_where_open p) ∙ by_test (is_open p)
+  where
+    by_test : (b : Bool) → length (writers_in ps) + length (cond b (writer_of p ∷ []) []) ≡ cond b (1 + length (writers_in ps)) (length (writers_in ps))
+    by_test true = omega arith
+    by_test false = omega arith
+
+pub length-writers : (puts : List PutRow) → length (writers_in puts) ≡ count_by is_open puts
+length-writers puts = is_count_by (λ ps. length (writers_in ps)) is_open refl length-one_more puts
+
+followed_one_more : (key : Key) (request : List Field) (p : PutRow) (ps : List PutRow)
+    → followed key request (writers_in ps) ≡ option_map (λ (p : PutRow). p.put) (find (may_follow key request) ps)
+    → followed key request (writers_in (p ∷ ps)) ≡ option_map (λ (p : PutRow). p.put) (find (may_follow key request) (p ∷ ps))
+followed_one_more key request p ps rest =
+    fold-append (λ (last : Option ℕ) (w : Writer). if is_follow key request w then Some w.put else last) None (writers_in ps) (writer_where_open p)
+    ∙ by_open (is_open p)
+  where
+    by_match : (b : Bool) → cond b (Some p.put) (followed key request (writers_in ps)) ≡ option_map (λ (p : PutRow). p.put) (cond b (Some p) (find (may_follow key request) ps))
+    by_match true = refl
+    by_match false = rest
+
+    by_open : (b : Bool) → fold (λ (last : Option ℕ) (w : Writer). if is_follow key request w then Some w.put else last) (followed key request (writers_in ps)) (cond b (writer_of p ∷ []) [])
+        ≡ option_map (λ (p : PutRow). p.put) (cond (b && (same_key p.key key && request_matches request p.request p.response)) (Some p) (find (may_follow key request) ps))
+    by_open true = by_match (same_key p.key key && request_matches request p.request p.response)
+    by_open false = rest
+
+-- the last writer that can be followed is that of the put that is found first
+pub followed-writers : (key : Key) (request : List Field) (puts : List PutRow)
+    → followed key request (writers_in puts) ≡ option_map (λ (p : PutRow). p.put) (find (may_follow key request) puts)
+followed-writers key request [] = refl
+followed-writers key request (p ∷ ps) = followed_one_more key request p ps (followed-writers key request ps)

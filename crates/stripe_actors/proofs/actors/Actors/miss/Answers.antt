@@ -1,0 +1,15 @@
+use Rattle.std.proofs.Common.{ap, sym, subst}
+use Rattle.stripe_actors.specs.Actors.{AreActors, Seen}
+use Rattle.stripe_actors.proofs.Closing.{missed_numbered}
+use Rattle.stripe_actors.proofs.InStep.{missed_in_step}
+use Rattle.stripe_actors.proofs.actors.Actors.miss.Goals as goal
+
+pub invariant_of-self : goal.invariant_of-self
+invariant_of-self c = missed_numbered c.self.inside.open c.self.inside.next_put c.self.inside.next_reader c.self.invariant
+
+pub returns : goal.returns
+returns c = record {
+  number = ap (λ (a : Seen). a.next_reader) c.self.view_is;
+  missed = λ who key request why s h.
+      missed_in_step s c.self.inside.open c.self.inside.next_put c.self.inside.next_reader who key request why (subst (λ (a : Seen). AreActors s a) (sym c.self.view_is) h);
+}

@@ -1,0 +1,98 @@
+-- What actors that are in step with a state tell of it: laws.
+use Rattle.std.specs.Prelude.{ℕ, ◌≡◌, ◌<◌, ◌≤◌, Bool, true, false, List, length, Some, None, option_map, IsSome}
+use Rattle.tape_base.specs.declared.keys.Key.{Key}
+use Rattle.alternate_vector.specs.Field.{Field}
+use Rattle.fragment_table.specs.Table.{total_length}
+use Rattle.open_directory.specs.declared.kept.PutState.{PutState}
+use Rattle.open_directory.specs.Directory.{IsHeld, cuts_of, followed, is_open, put_state, row_of, state_at, table_row}
+use Rattle.cache_model.specs.declared.record.Rec.{Rec}
+use Rattle.cache_model.specs.declared.record.Rec.TheVariants as rec
+use Rattle.cache_model.specs.State.{State, PutRow, ReaderRow, put_of, reader_of, state_after}
+use Rattle.cache_model.specs.Verdict.{followed as followed_row, next_row}
+use Rattle.cache_model.specs.Legal.{is_writing, open_writers}
+use Rattle.stripe_actors.specs.Actors.{AreActors, Seen, phase_of}
+
+-- ---- states that the actors cannot tell apart
+
+-- the puts and the readers of two states are the same
+pub record IsAlikeForActors (s t : State) : Type 0 where
+  pub puts : t.puts ≡ s.puts
+  pub readers : t.readers ≡ s.readers
+  pub next_put : t.next_put ≡ s.next_put
+  pub next_reader : t.next_reader ≡ s.next_reader
+
+abbrev pub AlikeStayInStep : Type 0
+AlikeStayInStep = (s t : State) (a : Seen) → IsAlikeForActors s t → AreActors s a → AreActors t a
+
+-- a record that changes a put or a reader, or begins a session
+abbrev pub speaks_of_actors : Rec → Bool
+speaks_of_actors (rec.Formatted geometry) = true
+speaks_of_actors (rec.Began cursor floor) = false
+speaks_of_actors (rec.Placed piece place blocks digest pin) = false
+speaks_of_actors (rec.Displaced piece segment live) = false
+speaks_of_actors (rec.Damaged piece place kept found) = false
+speaks_of_actors (rec.WriteOpened actor put key request response pin) = true
+speaks_of_actors (rec.Cut put index length digest) = true
+speaks_of_actors (rec.Committed put key length) = true
+speaks_of_actors (rec.Aborted put key) = true
+speaks_of_actors (rec.Removed put key) = false
+speaks_of_actors (rec.ReadOpened reader actor key request answer) = true
+speaks_of_actors (rec.Gave reader index length) = true
+speaks_of_actors (rec.Ended reader length) = false
+speaks_of_actors (rec.Waited reader cut) = false
+speaks_of_actors (rec.Broke reader why) = false
+speaks_of_actors (rec.ReadClosed reader) = true
+speaks_of_actors (rec.Fault count) = false
+
+abbrev pub OthersStayInStep : Type 0
+OthersStayInStep = (s : State) (a : Seen) (r : Rec) → speaks_of_actors r ≡ false → AreActors s a → AreActors (state_after s r) a
+
+-- ---- writers
+
+abbrev pub OpenIsWriting : Type 0
+OpenIsWriting = (s : State) (a : Seen) → AreActors s a → (put : ℕ) → is_open put a.held.puts ≡ is_writing s put
+
+abbrev pub WritersAreCounted : Type 0
+WritersAreCounted = (s : State) (a : Seen) → AreActors s a → length a.held.writers ≡ open_writers s
+
+abbrev pub number_in : PutRow → ℕ
+number_in p = p.put
+
+abbrev pub FollowedIsFound : Type 0
+FollowedIsFound = (s : State) (a : Seen) → AreActors s a → (key : Key) (request : List Field)
+    → followed key request a.held.writers ≡ option_map number_in (followed_row s key request)
+
+-- ---- what is told of a put
+
+-- how a put stands, with its fragments counted and summed up
+abbrev pub state_in : PutRow → PutState
+state_in p = state_at (phase_of p.writing) (length p.cuts) (total_length p.cuts)
+
+-- how a put stands is at hand, and so are its fragments
+pub record IsTold (s : State) (a : Seen) (put : ℕ) : Type 0 where
+  pub row : PutRow
+  pub found : put_of s put ≡ Some row
+  pub state : put_state put a.held.puts ≡ Some (state_in row)
+  pub cuts : cuts_of put a.held.puts ≡ row.cuts
+
+abbrev pub KeptIsTold : Type 0
+KeptIsTold = (s : State) (a : Seen) → AreActors s a → (put : ℕ) → IsSome (put_state put a.held.puts) → IsTold s a put
+
+abbrev pub WritingIsTold : Type 0
+WritingIsTold = (s : State) (a : Seen) → AreActors s a → (put : ℕ) → is_writing s put ≡ true → IsTold s a put
+
+abbrev pub FollowedIsTold : Type 0
+FollowedIsTold = (s : State) (a : Seen) → AreActors s a → IsHeld a.held → (reader : ℕ) (r : ReaderRow) → reader_of s reader ≡ Some r → r.table ≡ None → IsTold s a r.put
+
+-- the fragment that a reader of a writer takes next
+abbrev pub NextIsTold : Type 0
+NextIsTold = (s : State) (a : Seen) → AreActors s a → IsHeld a.held → (reader : ℕ) (r : ReaderRow) → reader_of s reader ≡ Some r → r.table ≡ None
+    → row_of r.next (cuts_of r.put a.held.puts) ≡ option_map table_row (next_row s r)
+
+-- ---- numbers
+
+abbrev pub PutWasGiven : Type 0
+PutWasGiven = (s : State) (a : Seen) → AreActors s a → (put : ℕ) → IsSome (put_of s put) → (1 ≤ put) × (put < s.next_put)
+
+abbrev pub ReaderWasGiven : Type 0
+ReaderWasGiven = (s : State) (a : Seen) → AreActors s a → (reader : ℕ) → IsSome (reader_of s reader) → (1 ≤ reader) × (reader < s.next_reader)
