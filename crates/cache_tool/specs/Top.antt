@@ -28,6 +28,19 @@ status_of (last.LineTooLong line) = status.LineTooLong
 status_of last.TooManyLines = status.TooManyLines
 status_of (last.NoCache line) = status.NoCache
 
+-- the number with which the program exits
+abbrev pub exit_code : Status → ℕ
+exit_code status.Done = 0
+exit_code status.Usage = 2
+exit_code status.BadScript = 3
+exit_code status.ReadFault = 4
+exit_code status.WriteFault = 5
+exit_code status.BayFault = 6
+exit_code status.LineTooLong = 7
+exit_code status.NoCache = 8
+exit_code status.OutOfMemory = 9
+exit_code status.TooManyLines = 10
+
 -- The last line went out behind these bytes, or the sink's count rose and a front of that line did.
 pub record CutOff (old new : Option (List ℕ)) (sink : Counts) (before text : List ℕ) : Type 0 where
   pub rose : Rose sink.before sink.now

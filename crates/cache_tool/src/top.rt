@@ -6,7 +6,7 @@ ghost use Rattle.cache_tool.specs.Run.{counts_of};
 ghost use Rattle.cache_tool.specs.Session.{ComeBack};
 ghost use Rattle.cache_tool.specs.Story.{counts};
 ghost use Rattle.cache_tool.specs.Ending.{Ends};
-ghost use Rattle.cache_tool.specs.Top.{IsReplay, WentOut, DevicesBack, status_of, Concludes};
+ghost use Rattle.cache_tool.specs.Top.{IsReplay, WentOut, DevicesBack, status_of, exit_code, Concludes};
 
 use crate::device::close;
 use crate::run::{Ending, run_lines};
@@ -32,7 +32,9 @@ pub enum Status {
 
 impl Status {
     /// The exit status of the program.
-    pub fn code(self) -> u8 {
+    pub fn code(self) -> u8
+        ensures { result ≡ exit_code self }
+    {
         match self {
             Status::Done => 0,
             Status::Usage => 2,
