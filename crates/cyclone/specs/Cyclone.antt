@@ -17,7 +17,7 @@ use Rattle.dir_table.specs.declared.rows.DirRow.{DirRow}
 use Rattle.dir_table.specs.declared.window.Window.{Window}
 use Rattle.dir_table.specs.declared.directory.Directory.{Ghosts as DirectoryGhosts}
 use Rattle.dir_table.specs.Rows.{row_of_key}
-use Rattle.dir_table.specs.Displacement.{Displacement, Displaces, rows_without}
+use Rattle.dir_table.specs.Displacement.{Displacement, Displaces, none_displaced, rows_without}
 use Rattle.dir_table.specs.Wrap.{Forgets}
 use Rattle.write_cursor.specs.Plan.{FitsInLap}
 use Rattle.cyclone.specs.declared.cyclone.Cyclone.{Cyclone}
@@ -69,6 +69,7 @@ pub record IsFresh (c : Seen) (g : Geometry) (device : State) : Type 0 where
   pub geometry : c.geometry ≡ g
   pub buffer : c.buffer ≡ empty_buffer g.content g.agg
   pub rows : c.rows ≡ []
+  pub displaced : c.displaced ≡ none_displaced
   pub device_is : c.device ≡ device
 
 -- a document is in the buffer, and its piece in the directory
@@ -91,6 +92,7 @@ pub record BeginsNext (old new : Seen) : Type 0 where
   pub buffer : new.buffer ≡ empty_buffer (cursor_next old) old.buffer.reserved
   pub window : new.window ≡ record old.window { cursor = cursor_next old; floor = floor_of old.geometry (cursor_next old); end = cursor_next old }
   pub rows : Forgets old.geometry (cursor_next old) (floor_of old.geometry (cursor_next old)) old.rows new.rows
+  pub displaced : new.displaced ≡ old.displaced
   pub spare : old.spare ≤ new.spare
   pub device : new.device ≡ old.device
 

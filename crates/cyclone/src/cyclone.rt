@@ -14,6 +14,7 @@ ghost use Rattle.std.specs.Bool.{OnTrue};
 ghost use Rattle.ats_disk.specs.Device.{IsWhole};
 ghost use Rattle.dir_table.specs.Window.{first_window};
 ghost use Rattle.dir_table.specs.Rows.{row_of_key, has_row};
+ghost use Rattle.dir_table.specs.Displacement.{none_displaced};
 
 use agg_buffer::AggBuffer;
 use ats_disk::Disk;
@@ -198,6 +199,9 @@ impl<D: Disk, R: Directory + Drop> Cyclone<D, R> {
         ensures same { SameTape (seen D.Disk R.Directory self.old) (seen D.Disk R.Directory self.new) }
         ensures reads { Reads (seen D.Disk R.Directory self.old) (seen D.Disk R.Directory self.new) place (length into.old / 512) result into.new }
         ensures buffered { (seen D.Disk R.Directory self.old).buffer.cursor ≤ place → IsOk result }
+        // What stands in the buffer is read without the device.
+        ensures quiet { (seen D.Disk R.Directory self.old).buffer.cursor ≤ place
+            → seen D.Disk R.Directory self.new ≡ seen D.Disk R.Directory self.old }
     {
         if place < self.buffer.cursor() {
             return self.disk.read(slot(&self.geometry, place), into);
@@ -224,6 +228,7 @@ impl<D: Disk, R: Directory + Drop> Cyclone<D, R> {
     pub fn directory(&self) -> &R
         ensures rows { R.rows result.now ≡ (seen D.Disk R.Directory self.now).rows }
         ensures window { R.window result.now ≡ (seen D.Disk R.Directory self.now).window }
+        ensures displaced { R.displaced result.now ≡ (seen D.Disk R.Directory self.now).displaced }
     {
         &self.directory
     }
@@ -247,6 +252,7 @@ impl<D: Disk, R: Directory + Drop> Cyclone<D, R> {
 
 fn parts<R: Directory + Drop>(alloc: Global, g: &Geometry) -> Result<(R, AggBuffer), AllocError>
     ensures directory { IfOk result (λ parts. (R.rows parts.0 ≡ []) × (R.window parts.0 ≡ first_window g.now)) }
+    ensures displaced { IfOk result (λ parts. R.displaced parts.0 ≡ none_displaced) }
     ensures buffer { IfOk result (λ parts. parts.1 ≡ empty_buffer g.now.content g.now.agg) }
 {
     let directory = R::new(alloc, g)?;
