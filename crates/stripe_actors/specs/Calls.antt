@@ -1,5 +1,5 @@
 -- What each call makes of the actors, as the records say it.
-use Rattle.std.specs.Prelude.{ℕ, ◌≡◌, ◌+◌, nat_le, true, if◌then◌else◌, List, Option, Some, None, Result, Ok, Err}
+use Rattle.std.specs.Prelude.{ℕ, ◌≡◌, ◌+◌, ◌<◌, ◌≤◌, true, List, Result, Ok, Err}
 use Rattle.tape_base.specs.declared.keys.Key.{Key}
 use Rattle.tape_base.specs.declared.actors.Actor.{Actor}
 use Rattle.tape_base.specs.declared.digests.Digest.{Digest}
@@ -38,21 +38,27 @@ pub record OpensPut (key : Key) (request response : List Field) (old new : Seen)
   pub number : put ≡ old.next_put
   pub opened : (who : Actor) (pin : ℕ) → KeepUpWith (rec.WriteOpened who put key request response pin) old new
 
--- why no put can be opened: as many writers are open as may be, or else the put behind the next one would reach the limit
-abbrev pub put_refusal : ℕ → ℕ → Option OpenPutRefusal
-put_refusal writers next_put =
-    if nat_le most_writers writers then Some TooManyWriters
-    else (if nat_le limit (next_put + 1) then Some (Exhausted (next_put + 1)) else None)
+-- fewer writers are open than may be, and the number behind the next is one that a put may have
+pub record HasNumber (s : State) : Type 0 where
+  pub few : open_writers s < most_writers
+  pub below : s.next_put + 1 < limit
 
--- a call is refused as the reason says; where there is none, only memory can be wanting
-abbrev pub Refuses : {X : Type 0} → Result X OpenPutRefusal → Option OpenPutRefusal → Type 0
-Refuses (Ok x) refusal = refusal ≡ None
-Refuses (Err (Memory e)) refusal = refusal ≡ None
-Refuses (Err fault) refusal = refusal ≡ Some fault
+-- fewer writers are open than may be, and the number behind the next is this one, which no put may have
+pub record IsExhausted (s : State) (number : ℕ) : Type 0 where
+  pub few : open_writers s < most_writers
+  pub above : limit ≤ number
+  pub next : number ≡ s.next_put + 1
 
--- no put is opened where the records say why, or memory is wanting
-abbrev pub RefusesPut : {X : Type 0} → Result X OpenPutRefusal → Seen → Type 0
-RefusesPut result old = (s : State) → AreActors s old → Refuses result (put_refusal (open_writers s) s.next_put)
+-- when each answer comes
+abbrev pub OpensWhere : State → Result ℕ OpenPutRefusal → Type 0
+OpensWhere s (Ok put) = HasNumber s
+OpensWhere s (Err TooManyWriters) = most_writers ≤ open_writers s
+OpensWhere s (Err (Exhausted number)) = IsExhausted s number
+OpensWhere s (Err (Memory e)) = HasNumber s
+
+-- the answer is that of each state that the actors are in step with
+abbrev pub AnswersPut : Seen → Result ℕ OpenPutRefusal → Type 0
+AnswersPut old answer = (s : State) → AreActors s old → OpensWhere s answer
 
 -- the next fragment of the put is cut
 abbrev pub CutsNext : ℕ → ℕ → Digest → Seen → Seen → Type 0

@@ -4,5 +4,7 @@ pub mod ActorLaws
 pub use Rattle.cache_model.specs.State
 pub use Rattle.cache_model.specs.Verdict
 pub use Rattle.cache_model.specs.Legal
+pub use Rattle.cache_model.specs.Room
+pub use Rattle.alternate_vector.specs.Field
 pub use Rattle.open_directory.specs.Directory
 pub use Rattle.fragment_table.specs.Table

@@ -4,7 +4,7 @@ ghost use Rattle.std.specs.Prelude.{◌≡◌, ◌+◌, ◌<◌, ◌^◌, OnOk, 
 ghost use Rattle.fragment_table.specs.Table.{CanGrow};
 ghost use Rattle.open_directory.specs.Directory.{IsHeld, cuts_of, is_open, room_of};
 ghost use Rattle.cache_model.specs.declared.record.Rec.TheVariants as rec;
-ghost use Rattle.stripe_actors.specs.Calls.{BeginInStep, Commits, CutsNext, GaveFragment, GivesUp, KeepUpWith, Misses, OpensPut, OpensReader, RefusesPut, StayInStep, with_room_of};
+ghost use Rattle.stripe_actors.specs.Calls.{AnswersPut, BeginInStep, Commits, CutsNext, GaveFragment, GivesUp, KeepUpWith, Misses, OpensPut, OpensReader, StayInStep, with_room_of};
 
 use crate::refusal::OpenPutRefusal;
 use alternate_vector::Fields;
@@ -84,7 +84,7 @@ impl Actors {
         request: Fields,
         response: Fields,
     ) -> Result<u64, OpenPutRefusal>
-        ensures exact { RefusesPut result self.old }
+        ensures exact { AnswersPut self.old result }
         ensures ok { IfOk result (OpensPut key request response self.old self.new) }
         ensures err { OnErr result (self.new ≡ self.old) }
     {

@@ -1,24 +1,23 @@
-use Rattle.std.proofs.Common.{◌≡◌, ◌<◌, length, ap, sym, subst, arith}
+use Rattle.std.proofs.Common.{◌≡◌, ◌<◌, length, refl, ap, sym, subst, arith}
 use Rattle.std.specs.Prelude.{option_map}
 use Rattle.open_directory.specs.Directory.{room_of, state_of}
 use Rattle.stripe_actors.specs.Actors.{AreActors, Seen}
 use Rattle.stripe_actors.proofs.Closing.{opened_numbered}
 use Rattle.stripe_actors.proofs.InStep.{new_writer, opened_in_step}
 use Rattle.stripe_actors.proofs.Numbered.{absent_above}
-use Rattle.stripe_actors.proofs.Refusing.{exhausted, many_writers, no_refusal, refusal_here}
+use Rattle.stripe_actors.proofs.Refusing.{has_number, is_exhausted, many_writers}
 use Rattle.stripe_actors.proofs.actors.Actors.open_put.Goals as goal
-use Rattle.std.proofs.Common.{refl}
 
 pub returns-then-writers-eq-MAX_WRITERS-clause-exact :
     goal.returns-then-writers-eq-MAX_WRITERS-clause-exact
 returns-then-writers-eq-MAX_WRITERS-clause-exact c s h =
     let all : length c.self.inside.open.writers ≡ 64 = omega (arith, c.writers.ensures.count, c.if-writers-eq-MAX_WRITERS.true) in
-    refusal_here s _ _ c.self.view_is h _ (many_writers (length c.self.inside.open.writers) c.self.inside.next_put all)
+    many_writers s _ _ c.self.view_is h all
 
 pub returns-then-put-ge-LIMIT-clause-exact : goal.returns-then-put-ge-LIMIT-clause-exact
 returns-then-put-ge-LIMIT-clause-exact c s h =
     let few : length c.self.inside.open.writers < 64 = omega (arith, c.writers.ensures.count, c.writers.ensures.few, c.if-writers-eq-MAX_WRITERS.false) in
-    refusal_here s _ _ c.self.view_is h _ (exhausted (length c.self.inside.open.writers) c.self.inside.next_put few c.if-put-ge-LIMIT.true)
+    is_exhausted s _ _ c.self.view_is h few c.if-put-ge-LIMIT.true
 
 pub open_writer-requires : goal.open_writer-requires
 open_writer-requires c =
@@ -33,7 +32,7 @@ invariant_of-self c =
 pub returns-in-Ok-clause-exact : goal.returns-in-Ok-clause-exact
 returns-in-Ok-clause-exact c s h =
     let few : length c.self.inside.open.writers < 64 = omega (arith, c.writers.ensures.count, c.writers.ensures.few, c.if-writers-eq-MAX_WRITERS.false) in
-    refusal_here s _ _ c.self.view_is h _ (no_refusal (length c.self.inside.open.writers) c.self.inside.next_put few c.if-put-ge-LIMIT.false)
+    has_number s _ _ c.self.view_is h few c.if-put-ge-LIMIT.false
 
 pub returns-in-Ok-clause-ok : goal.returns-in-Ok-clause-ok
 returns-in-Ok-clause-ok c =
@@ -49,4 +48,4 @@ returns-in-Ok-clause-ok c =
 pub returns-in-Err-Memory-clause-exact : goal.returns-in-Err-Memory-clause-exact
 returns-in-Err-Memory-clause-exact c s h =
     let few : length c.self.inside.open.writers < 64 = omega (arith, c.writers.ensures.count, c.writers.ensures.few, c.if-writers-eq-MAX_WRITERS.false) in
-    refusal_here s _ _ c.self.view_is h _ (no_refusal (length c.self.inside.open.writers) c.self.inside.next_put few c.if-put-ge-LIMIT.false)
+    has_number s _ _ c.self.view_is h few c.if-put-ge-LIMIT.false
