@@ -65,7 +65,8 @@ impl Actors {
 
     /// The number of the next put.
     pub fn next_put(&self) -> u64
-        ensures { result ≡ self.now.next_put }
+        ensures number { result ≡ self.now.next_put }
+        ensures below { result < 2 ^ 62 }
     {
         self.next_put
     }
