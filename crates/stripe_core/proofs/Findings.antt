@@ -1,5 +1,6 @@
 -- What was read of a live piece, and what it tells.
 use Rattle.std.proofs.Common.{◌≡◌, ℕ, ◌*◌, ◌/◌, ◌<◌, ◌≤◌, List, [], ◌∷◌, refl, sym, ◌∙◌, ap, subst, arith, length, inl, inr, Result, Ok, Err, ◌⊎◌}
+use Rattle.ats_disk.proofs.Spans.{span_same}
 use Rattle.std.specs.Prelude.{Some, IsOk, max}
 use Rattle.edge_io.specs.Causes.{Rose}
 use Rattle.edge_io.specs.declared.source.Failed.{Failed}
@@ -54,11 +55,12 @@ module _ (s : State) (c new : Seen) (id : PieceId) (row : Row) (bytes into : Lis
   abbrev given : DeviceRead
   given = record { place = row.place; bytes = bytes }
 
-  shown : row.place < s.cursor → IsTold new.device → bytes ≡ span c.device.seen (slot_of s.geometry row.place) (length bytes / 512)
+  shown : row.place < s.cursor → IsTold new.device → bytes ≡ span new.device.seen (slot_of s.geometry row.place) (length bytes / 512)
   shown below told =
       let count : row.blocks ≡ length bytes / 512 = omega (arith, whole) in
       read.given (omega (arith, below, held.cursor)) told
-      ∙ (ap (λ g. span c.device.seen (slot_of g row.place) row.blocks) held.geometry ∙ ap (span c.device.seen (slot_of s.geometry row.place)) count)
+      ∙ (span_same c.device.seen new.device.seen (slot_of c.geometry row.place) row.blocks (λ j low high. sym (read.same told j))
+      ∙ (ap (λ g. span new.device.seen (slot_of g row.place) row.blocks) held.geometry ∙ ap (span new.device.seen (slot_of s.geometry row.place)) count))
 
   is_given : (p : Permit) → row.place < s.cursor → IsAmong given p.reads → IsGiven p s row bytes
   is_given p below among = record { written = below; given = among; whole = whole }

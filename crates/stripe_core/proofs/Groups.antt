@@ -1,25 +1,27 @@
 -- A fragment that is placed, by its groups of records.
-use Rattle.std.proofs.Common.{◌≡◌, ℕ, ◌+◌, ◌≤◌, List, [], ◌∷◌, ◌++◌, refl, sym, ◌∙◌, ap, subst, arith, Bool, true, false, Result, Ok, Err, length}
-use Rattle.std.specs.Prelude.{if◌then◌else◌, ◌==◌, ◌&&◌}
+use Rattle.std.proofs.Common.{◌≡◌, ℕ, ◌+◌, ◌<◌, ◌≤◌, List, [], ◌∷◌, ◌++◌, refl, sym, ◌∙◌, ap, subst, arith, Bool, true, false, Result, Ok, Err, length}
+use Rattle.std.specs.Prelude.{if◌then◌else◌, ◌==◌, ◌&&◌, Option, Some, option_map, unwrap_or}
 use Rattle.std.proofs.lemmas.Bool.{eqb-true}
 use Rattle.std.proofs.lemmas.List.{append-nil}
 use Rattle.tape_base.specs.declared.pieces.PieceId.{PieceId}
 use Rattle.tape_base.specs.Blocks.{blocks_of}
 use Rattle.tape_base.specs.Digest.{digest_of}
 use Rattle.tape_base.specs.Geometry.{budget_of}
+use Rattle.tape_base.specs.Piece.{is_vector}
 use Rattle.fragment_table.specs.Table.{total_length}
 use Rattle.cache_model.specs.declared.record.Rec.{Rec}
 use Rattle.cache_model.specs.declared.record.Rec.TheVariants as rec
-use Rattle.cache_model.specs.State.{State, after_all, cursor_next, floor_next, state_after}
-use Rattle.cache_model.specs.Permit.{End, Fragment, Intent, Permit, Stays, work_after}
-use Rattle.cache_model.specs.Room.{HasPlace, MayDisplace, displaces, has_room, is_flush_exhausted, limit, placed_record}
-use Rattle.cache_model.specs.Legal.{Does, DoesFragment, MakesRoom, MayGrow, next_fragment_of}
+use Rattle.cache_model.specs.Verdict.{cuts_of}
+use Rattle.cache_model.specs.State.{PutRow, State, list_of_put, put_of, vector_piece, after_all, cursor_next, floor_next, place_now, state_after}
+use Rattle.cache_model.specs.Permit.{End, Finish, Fragment, Intent, Permit, Stays, work_after}
+use Rattle.cache_model.specs.Room.{greatest_pin, HasPlace, MayDisplace, displaces, has_room, is_flush_exhausted, limit, placed_record}
+use Rattle.cache_model.specs.Legal.{AreLiveTo, Does, DoesFinish, DoesFragment, vector_length, vector_payload, MakesRoom, MayGrow, next_fragment_of}
 use Rattle.stripe_core.specs.declared.refusal.Placed.{Placed}
 use Rattle.stripe_core.specs.declared.refusal.Stop.{Stop}
 use Rattle.stripe_core.specs.declared.refusal.Stop.TheVariants as stop
 use Rattle.stripe_core.specs.Covers.{Spends}
 use Rattle.stripe_core.specs.Flush.{stop_end, stop_records}
-use Rattle.stripe_core.specs.Place.{IsFragmentOf, PlacesAt, fragment_adds, piece_records, place_adds, place_end, room_records, with_room}
+use Rattle.stripe_core.specs.Place.{IsFragmentOf, IsVectorOf, PlacesAt, fragment_adds, piece_records, place_adds, place_end, room_records, with_room}
 
 -- ---- groups one behind the other
 
@@ -45,7 +47,7 @@ displaces_nothing p s piece plain = record {
 
 -- ---- a fragment that has room
 
-no_vector : (n index : ℕ) → index ≡ n + 1 → (index == 0) ≡ false
+pub no_vector : (n index : ℕ) → index ≡ n + 1 → (index == 0) ≡ false
 no_vector n index h = by (index == 0) refl
   where
     by : (b : Bool) → (index == 0) ≡ b → b ≡ false
@@ -162,3 +164,43 @@ pub fragment_stops : (p : Permit) (s : State) (id : PieceId) (pin start : ℕ) (
 fragment_stops p s id pin start payload why f m =
     subst (λ added. Spends p s (Fragment id.put id.index payload) added (stop_end why)) (no_room_adds p s id pin start payload why m)
     (one_group p s _ _ _ (DoesFragment.rooms f.w f.next m))
+
+-- ---- a vector
+
+vector_cuts : (s : State) (put : ℕ) (w : PutRow) → put_of s put ≡ Some w → length (cuts_of s put) ≡ length w.cuts
+vector_cuts s put w h = ap (λ (o : Option PutRow). length (unwrap_or (option_map (λ (p : PutRow). p.cuts) o) [])) h
+
+vector_is : (s : State) (id : PieceId) (pin start : ℕ) (payload : List ℕ) (v : IsVectorOf s id pin start payload) → is_vector id ≡ true
+    → piece_records s id pin start payload
+    ≡ [] ++ placed_record s (vector_piece v.w.key id.put) (greatest_pin (list_of_put s id.put)) 0 (vector_length s id.put) (vector_payload s id.put) ∷ []
+vector_is s id pin start payload v kind =
+    rw kind
+    (ap (λ (i : PieceId). placed_record s i pin start (length payload) payload ∷ []) v.id_is
+    ∙ (ap (λ n. placed_record s (vector_piece v.w.key id.put) n start (length payload) payload ∷ []) v.pin_is
+    ∙ (ap (λ n. placed_record s (vector_piece v.w.key id.put) (greatest_pin (list_of_put s id.put)) n (length payload) payload ∷ []) v.start_is
+    ∙ (ap (λ n. placed_record s (vector_piece v.w.key id.put) (greatest_pin (list_of_put s id.put)) 0 n payload ∷ []) v.length_is
+    ∙ ap (λ p. placed_record s (vector_piece v.w.key id.put) (greatest_pin (list_of_put s id.put)) 0 (vector_length s id.put) p ∷ []) v.payload_is))))
+
+pub vector_group : (p : Permit) (s : State) (id : PieceId) (pin start : ℕ) (payload : List ℕ) (result : Result Placed Stop) → p.packed ≡ false
+    → IsVectorOf s id pin start payload → is_vector id ≡ true → blocks_of (length payload) ≤ budget_of s.geometry → PlacesAt s payload result
+    → Does p s (Finish id.put (length (cuts_of s id.put))) (place_adds s id pin start payload result) (place_end result)
+vector_group p s id pin start payload (Ok placed) plain v kind small at =
+    let count : length (cuts_of s id.put) ≡ length v.w.cuts = vector_cuts s id.put v.w v.cut.writing.found in
+    DoesFinish.places refl (record {
+      w = v.w;
+      displaced = [];
+      cut = record { writing = v.cut.writing; count = sym count; alone = v.cut.alone };
+      whole = subst (AreLiveTo s v.w) (sym count) v.whole;
+      place = record {
+        small = subst (λ n. blocks_of n ≤ budget_of s.geometry) v.length_is small;
+        room = subst (λ n. has_room s n ≡ true) v.length_is v.room;
+        below = subst (λ n. place_now s + blocks_of n < limit) v.length_is at.2;
+      };
+      displaces = displaces_nothing p s (vector_piece v.w.key id.put) plain;
+      is = vector_is s id pin start payload v kind;
+    })
+vector_group p s id pin start payload (Err (stop.Exhausted number)) plain v kind small at =
+    let count : length (cuts_of s id.put) ≡ length v.w.cuts = vector_cuts s id.put v.w v.cut.writing.found in
+    DoesFinish.exhausted v.w refl (record { writing = v.cut.writing; count = sym count; alone = v.cut.alone }) (subst (AreLiveTo s v.w) (sym count) v.whole)
+    (record { room = subst (λ n. has_room s n ≡ true) v.length_is v.room; above = subst (λ n. limit ≤ place_now s + blocks_of n) v.length_is (omega (arith, at.0, at.1)); is = refl })
+vector_group p s id pin start payload (Err (stop.DeviceFault count)) plain v kind small at = absurd at

@@ -14,3 +14,5 @@ mod Fronts
 mod Lives
 mod Takings
 mod Findings
+mod Sparing
+mod Doings

@@ -18,10 +18,10 @@ pub record Covers (p : Permit) (before after : ℕ) (reads : List DeviceRead) : 
   pub upto : after ≤ p.faults
   pub knows : AllByRecursion (λ r. IsAmong r p.reads) reads
 
--- what was read is what the device showed there, where it tells that
-abbrev pub AreSeen : Geometry → Device → Device → List DeviceRead → Type 0
-AreSeen g old new reads =
-    AllByRecursion (λ (r : DeviceRead). IsTold new → r.bytes ≡ span old.seen (slot_of g r.place) (length r.bytes / 512)) reads
+-- what was read is what the device shows there, where it tells that
+abbrev pub AreSeen : Geometry → Device → List DeviceRead → Type 0
+AreSeen g device reads =
+    AllByRecursion (λ (r : DeviceRead). IsTold device → r.bytes ≡ span device.seen (slot_of g r.place) (length r.bytes / 512)) reads
 
 -- what is asked first comes to this end, by one group of records or more
 abbrev pub Spends : Permit → State → Intent → List Rec → End → Type 0
@@ -29,6 +29,7 @@ Spends p s i added e = (rest : List Intent) (why : Option Reason) → MayGrow p 
 
 -- what a call uses up at most: records, entries, and calls of the device with their blocks
 pub record Uses (records entries calls blocks : ℕ) (room left : ℕ) (old new : Seen) : Type 0 where
+  pub same : new.geometry ≡ old.geometry
   pub of_records : room ≤ left + records
   pub of_entries : old.spare ≤ new.spare + entries
   pub device : Keeps calls blocks old.device new.device

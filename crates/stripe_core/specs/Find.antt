@@ -68,5 +68,5 @@ IsFoundAs p s id (Some row) (found.Missing why) into = Trouble p s row (cause_re
 -- what the device gave, and what came of it in any step that covers the call
 pub record Finds (s : State) (old new : Device) (id : PieceId) (answer : Found) (into : List ℕ) : Type 0 where
   pub reads : List DeviceRead
-  pub seen : AreSeen s.geometry old new reads
+  pub seen : AreSeen s.geometry new reads
   pub answers : (p : Permit) → Covers p old.faults new.faults reads → IsFoundAs p s id (live_row_of s id) answer into

@@ -6,3 +6,5 @@ pub mod Covers
 pub mod Flush
 pub mod Place
 pub mod Find
+pub mod Stripe
+pub mod Acts

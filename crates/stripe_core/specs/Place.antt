@@ -1,5 +1,5 @@
 -- Where a piece goes: the flush that it needs before it, and the records of its place.
-use Rattle.std.specs.Prelude.{ℕ, ◌≡◌, ◌+◌, ◌<◌, ◌≤◌, false, true, if◌then◌else◌, List, [], ◌∷◌, ◌++◌, length, None, Result, Ok, Err}
+use Rattle.std.specs.Prelude.{ℕ, ◌≡◌, ◌+◌, ◌<◌, ◌≤◌, false, true, if◌then◌else◌, List, [], ◌∷◌, ◌++◌, length, None, Result, Ok, Err, MatchBool}
 use Rattle.tape_base.specs.declared.pieces.PieceId.{PieceId}
 use Rattle.tape_base.specs.declared.digests.Digest.{Digest}
 use Rattle.tape_base.specs.Blocks.{blocks_of}
@@ -10,6 +10,7 @@ use Rattle.fragment_table.specs.Table.{total_length}
 use Rattle.cache_model.specs.declared.record.Rec.{Rec}
 use Rattle.cache_model.specs.declared.record.Rec.TheVariants as rec
 use Rattle.cache_model.specs.State.{PutRow, State, after_all, cursor_next, floor_next, list_of_put, place_now, row_of, vector_piece}
+use Rattle.cache_model.specs.Verdict.{cuts_of}
 use Rattle.cache_model.specs.Permit.{Done, End, Finish, Fragment, Permit, Stays}
 use Rattle.cache_model.specs.Room.{greatest_pin, has_room, is_flush_exhausted, limit, placed_record}
 use Rattle.cache_model.specs.Legal.{AreLiveTo, Does, IsCut, IsNext, MakesRoom, next_fragment_of, vector_length, vector_payload}
@@ -126,3 +127,19 @@ pub record IsVectorOf (s : State) (id : PieceId) (pin start : ℕ) (payload : Li
 abbrev pub FinishesAsAsked : State → ℕ → ℕ → PieceId → ℕ → ℕ → List ℕ → ℕ → Result Placed Stop → Type 0
 FinishesAsAsked s before after id pin start payload fragments result =
     (p : Permit) → Covers p before after [] → Does p s (Finish id.put fragments) (place_adds s id pin start payload result) (place_end result)
+
+-- ---- a piece of either kind
+
+abbrev pub IsPlacing : State → PieceId → ℕ → ℕ → List ℕ → Type 0
+IsPlacing s id pin start payload = MatchBool (is_vector id) (IsVectorOf s id pin start payload) (IsFragmentOf s id pin start payload)
+
+abbrev pub placing_adds : State → PieceId → ℕ → ℕ → List ℕ → Result Placed Stop → List Rec
+placing_adds s id pin start payload result =
+    if is_vector id then place_adds s id pin start payload result else fragment_adds s id pin start payload result
+
+abbrev pub PlacesAsAsked : State → ℕ → ℕ → PieceId → ℕ → ℕ → List ℕ → Result Placed Stop → Type 0
+PlacesAsAsked s before after id pin start payload result = MatchBool (is_vector id)
+    (FinishesAsAsked s before after id pin start payload (length (cuts_of s id.put)) result) (CutsAsAsked s before after id pin start payload result)
+
+abbrev pub IsPlacedAt : State → ℕ → PieceId → List ℕ → Result Placed Stop → Type 0
+IsPlacedAt s faults id payload result = MatchBool (is_vector id) (PlacesAt s payload result) (FragmentAt s faults payload result)

@@ -1,6 +1,7 @@
 //! The stripe: records, the pieces that they tell of, and who writes and reads.
 #![tactic(auto)]
 
+mod acting;
 mod finding;
 mod flushing;
 mod laws;
@@ -8,14 +9,16 @@ mod pieces;
 mod placing;
 mod records;
 mod refusal;
+mod stripe;
 mod taking;
 
 pub use laws::{
     alike_is_held, begun_is_held, device_may_change, fresh_is_held, passed_is_held, placed_is_held,
     room_may_grow, taken_is_held,
 };
-pub use pieces::Pieces;
-pub use refusal::{Flushed, Found, Placed, Stop};
+pub(crate) use pieces::Pieces;
+pub use refusal::{Flushed, Found, Placed, Refusal, Stop};
+pub use stripe::Stripe;
 
 #[cfg(test)]
 mod tests;

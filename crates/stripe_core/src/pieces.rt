@@ -1,5 +1,5 @@
 // The pieces of a stripe: on the cyclone, and in the records.
-ghost use Rattle.std.specs.Prelude.{◌≡◌, ◌*◌, ◌≤◌, [], IfOk, IfErr, OnOk};
+ghost use Rattle.std.specs.Prelude.{◌≡◌, ◌*◌, ◌≤◌, [], IfOk, IfErr, OnOk, OnErr};
 ghost use Rattle.cache_model.specs.Kept.{all_of};
 ghost use Rattle.cache_model.specs.Legal.{format_records};
 ghost use Rattle.cyclone.specs.Cyclone.{IsCyclone, SameButRoom, seen};
@@ -69,13 +69,24 @@ impl<D: Disk, R: Directory + Drop, C: Chronicle> Pieces<D, R, C> {
         ensures pieces { ArePieces D.Disk R.Directory C.Chronicle self.new }
         ensures records { kept_of C.Chronicle self.new ≡ kept_of C.Chronicle self.old }
         ensures same { SameButRoom (seen_of D.Disk R.Directory self.old) (seen_of D.Disk R.Directory self.new) }
-        ensures record { OnOk result (units ≤ C.room self.new.chronicle) }
+        ensures record { OnOk result (3 * units ≤ C.room self.new.chronicle) }
+        ensures room { C.room self.old.chronicle ≤ C.room self.new.chronicle }
         ensures spare { OnOk result (units ≤ (seen_of D.Disk R.Directory self.new).spare) }
         ensures device { let old = (seen_of D.Disk R.Directory self.old).device in
             OnOk result (Grows units (units * (seen_of D.Disk R.Directory self.old).geometry.agg) old (seen_of D.Disk R.Directory self.new).device) }
+        ensures none { OnErr result (Grows 0 0 (seen_of D.Disk R.Directory self.old).device (seen_of D.Disk R.Directory self.new).device) }
     {
         self.chronicle.reserve(units as usize * RECORDS)?;
         self.cyclone.prepare(units)
+    }
+
+    /// Gives the device and the chronicle back.
+    pub fn into_parts(self) -> (D, C)
+        ensures device { D.state result.0 ≡ (seen_of D.Disk R.Directory self).device }
+        ensures records { C.kept result.1 ≡ kept_of C.Chronicle self }
+    {
+        let Pieces { cyclone, chronicle } = self;
+        (cyclone.into_disk(), chronicle)
     }
 
     pub fn chronicle(&self) -> &C

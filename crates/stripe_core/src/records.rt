@@ -3,15 +3,16 @@
 ghost use Rattle.std.specs.Prelude.{◌≡◌, ◌+◌, ◌≤◌, ◌^◌, [], ◌∷◌, ◌++◌};
 ghost use Rattle.tape_base.specs.Blocks.{blocks_of};
 ghost use Rattle.cache_model.specs.Kept.{with_record, with_records};
-ghost use Rattle.cache_model.specs.Legal.{format_records};
-ghost use Rattle.cache_model.specs.declared.record.Rec.TheVariants.{Began, Committed, Damaged, Fault, Placed, Removed};
+ghost use Rattle.cache_model.specs.Legal.{answer_record, format_records};
+ghost use Rattle.cache_model.specs.declared.record.Rec.TheVariants.{Aborted, Began, Committed, Damaged, Fault, Placed, ReadClosed, ReadOpened, Removed, WriteOpened};
 ghost use Rattle.stripe_core.specs.Place.{cut_record_of};
 
+use alternate_vector::Fields;
 use cache_chronicle::Chronicle;
-use cache_model::Rec;
+use cache_model::{NextAnswer, ReadAnswer, Rec};
 use cyclone::Put;
 use doc_header::Doc;
-use tape_base::{Digest, Geometry, Key, PieceId, blocks_of, floor_of};
+use tape_base::{Actor, Digest, Geometry, Key, PieceId, blocks_of, floor_of};
 
 /// A session begins, and its first buffer.
 pub fn formatted<C: Chronicle>(chronicle: &mut C, g: &Geometry)
@@ -117,4 +118,92 @@ pub fn removed<C: Chronicle>(chronicle: &mut C, put: u64, key: Key)
     ensures room { C.room chronicle.old ≤ C.room chronicle.new + 1 }
 {
     chronicle.push(Rec::Removed { put, key });
+}
+
+/// A writer opens.
+pub fn write_opened<C: Chronicle>(
+    chronicle: &mut C,
+    actor: Actor,
+    put: u64,
+    key: Key,
+    request: Fields,
+    response: Fields,
+    pin: u64,
+)
+    requires { 1 ≤ C.room chronicle.old }
+    ensures kept { C.kept chronicle.new ≡ with_records (C.kept chronicle.old) (WriteOpened actor put key request response pin ∷ []) }
+    ensures room { C.room chronicle.old ≤ C.room chronicle.new + 1 }
+{
+    chronicle.push(Rec::WriteOpened {
+        actor,
+        put,
+        key,
+        request,
+        response,
+        pin,
+    });
+}
+
+/// A writer gives up.
+pub fn aborted<C: Chronicle>(chronicle: &mut C, put: u64, key: Key)
+    requires { 1 ≤ C.room chronicle.old }
+    ensures kept { C.kept chronicle.new ≡ with_records (C.kept chronicle.old) (Aborted put key ∷ []) }
+    ensures room { C.room chronicle.old ≤ C.room chronicle.new + 1 }
+{
+    chronicle.push(Rec::Aborted { put, key });
+}
+
+/// A lookup was answered.
+pub fn read_opened<C: Chronicle>(
+    chronicle: &mut C,
+    reader: u64,
+    actor: Actor,
+    key: Key,
+    request: Fields,
+    answer: ReadAnswer,
+)
+    requires { 1 ≤ C.room chronicle.old }
+    ensures kept { C.kept chronicle.new ≡ with_records (C.kept chronicle.old) (ReadOpened reader actor key request answer ∷ []) }
+    ensures room { C.room chronicle.old ≤ C.room chronicle.new + 1 }
+{
+    chronicle.push(Rec::ReadOpened {
+        reader,
+        actor,
+        key,
+        request,
+        answer,
+    });
+}
+
+/// A reader was answered.
+pub fn answered<C: Chronicle>(chronicle: &mut C, reader: u64, answer: NextAnswer)
+    requires { 1 ≤ C.room chronicle.old }
+    ensures kept { C.kept chronicle.new ≡ with_records (C.kept chronicle.old) (answer_record reader answer ∷ []) }
+    ensures room { C.room chronicle.old ≤ C.room chronicle.new + 1 }
+{
+    chronicle.push(answer_record(reader, answer));
+}
+
+fn answer_record(reader: u64, answer: NextAnswer) -> Rec
+    ensures { result ≡ answer_record reader answer }
+{
+    match answer {
+        NextAnswer::Gave { index, length } => Rec::Gave {
+            reader,
+            index,
+            length,
+        },
+        NextAnswer::Ended { length } => Rec::Ended { reader, length },
+        NextAnswer::Waited { cut } => Rec::Waited { reader, cut },
+        NextAnswer::Broke(cause) => Rec::Broke { reader, cause },
+    }
+}
+
+/// A reader was closed.
+pub fn read_closed<C: Chronicle>(chronicle: &mut C, reader: u64)
+    requires { 1 ≤ C.room chronicle.old }
+    ensures kept { C.kept chronicle.new ≡ with_records (C.kept chronicle.old) (ReadClosed reader ∷ []) }
+    ensures room { C.room chronicle.old ≤ C.room chronicle.new + 1 }
+{
+    chronicle.push(Rec::ReadClosed { reader });
 }

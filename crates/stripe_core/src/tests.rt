@@ -1,54 +1,99 @@
-ghost use Rattle.std.specs.Prelude.{◌≡◌, ◌≤◌, None, IfOk};
-ghost use Rattle.stripe_core.specs.Pieces.{ArePieces, state_now};
+ghost use Rattle.std.specs.Prelude.{◌≡◌, ◌*◌, ◌≤◌, None, IfOk};
+ghost use Rattle.stripe_core.specs.Stripe.{IsStripe, state_in};
 
-use crate::{Flushed, Pieces};
+use crate::{Flushed, Found, Stripe};
+use alternate_vector::Fields;
 use ats_disk::{Disk, MemDisk};
 use cache_chronicle::{Chronicle, FullChronicle};
+use cache_model::{Cause, NextAnswer, ReadAnswer};
 use dir_table::{Directory, ListDirectory};
 use std::test::Fail;
-use tape_base::{Geometry, Key, PieceId};
+use tape_base::{Actor, Geometry, Key, PieceId};
 
 // A lap of 64 blocks, a buffer of 8.
-fn empty(rt: &impl AllocGlobal) -> Result<Pieces<MemDisk, ListDirectory, FullChronicle>, Fail>
-    ensures pieces { IfOk result (λ p. ArePieces ⟦<MemDisk as Disk>⟧ ⟦<ListDirectory as Directory>⟧ ⟦<FullChronicle as Chronicle>⟧ p) }
-    ensures quiet { IfOk result (λ p. (state_now ⟦<FullChronicle as Chronicle>⟧ p).pending ≡ None) }
+fn empty(rt: &impl AllocGlobal) -> Result<Stripe<MemDisk, ListDirectory, FullChronicle>, Fail>
+    ensures stripe { IfOk result (λ t. IsStripe ⟦<MemDisk as Disk>⟧ ⟦<ListDirectory as Directory>⟧ ⟦<FullChronicle as Chronicle>⟧ t) }
+    ensures quiet { IfOk result (λ t. (state_in ⟦<FullChronicle as Chronicle>⟧ t).pending ≡ None) }
 {
     let g = Geometry::check(1, 64, 64, 8, 16, 4, 7).map_err(|_| "refused")?;
     let disk = MemDisk::new(rt.alloc(), 64)?;
     if disk.blocks() < g.content {
         return Err("a short device".into());
     }
-    match Pieces::format(rt.alloc(), disk, FullChronicle::new(rt.alloc()), g) {
-        Ok(pieces) => Ok(pieces),
-        Err((e, _disk, _chronicle)) => Err(e.into()),
+    match Stripe::format(rt.alloc(), disk, FullChronicle::new(rt.alloc()), g) {
+        Ok(stripe) => Ok(stripe),
+        Err((_, _disk, _chronicle)) => Err("refused".into()),
+    }
+}
+
+fn vector() -> PieceId {
+    PieceId {
+        first: Key::new([1; 16]),
+        put: 1,
+        index: 0,
     }
 }
 
 #[test]
-fn a_fresh_stripe_has_no_piece(rt: HostRuntime) -> Result<(), Fail> {
-    let pieces = empty(&rt)?;
-    let vector = PieceId {
-        first: Key::new([1; 16]),
-        put: 1,
-        index: 0,
-    };
-    assert_eq!(rt; pieces.whereabouts(vector), None);
-    assert_eq!(rt; pieces.chronicle().count(), 2);
+fn a_fresh_stripe_is_empty(rt: HostRuntime) -> Result<(), Fail> {
+    let stripe = empty(&rt)?;
+    assert_eq!(rt; stripe.whereabouts(vector()), None);
+    assert_eq!(rt; stripe.chronicle().count(), 2);
+    assert_eq!(rt; (stripe.cursor(), stripe.floor(), stripe.room()), (64, 8, 8));
+    assert_eq!(rt; stripe.geometry().content, 64);
+    assert_eq!(rt; stripe.disk().faults(), 0);
+    assert_eq!(rt; stripe.open_directory().writers(), 0);
+    let (disk, chronicle) = stripe.into_parts();
+    assert_eq!(rt; disk.blocks(), 64);
+    assert_eq!(rt; chronicle.count(), 2);
     Ok(())
 }
 
 #[test]
 fn a_flush_of_an_empty_buffer_does_nothing(rt: HostRuntime) -> Result<(), Fail> {
-    let mut pieces = empty(&rt)?;
-    pieces.prepare(1)?;
+    let mut stripe = empty(&rt)?;
     assert_eq!(rt;
-        pieces.flush(),
+        stripe.flush(),
         Ok(Flushed {
             blocks: 0,
             cursor: 64,
             floor: 8
         })
     );
-    assert_eq!(rt; pieces.chronicle().count(), 2);
+    assert_eq!(rt; stripe.chronicle().count(), 2);
+    Ok(())
+}
+
+#[test]
+fn a_writer_and_a_reader_come_and_a_reader_goes(rt: HostRuntime) -> Result<(), Fail> {
+    let mut stripe = empty(&rt)?;
+    let alloc = stripe.alloc();
+    let key = Key::new([1; 16]);
+    let put = stripe.start_put(Actor(1), key, Fields::new(alloc), Fields::new(alloc), 0);
+    assert_eq!(rt; put, Ok(1));
+    stripe.prepare(None, 3)?;
+    let miss = ReadAnswer::Miss(Cause::NeverPut);
+    assert_eq!(rt;
+        stripe.start_read(Actor(2), key, Fields::new(alloc), miss)?,
+        1
+    );
+    stripe.note(1, NextAnswer::Broke(Cause::NeverPut));
+    stripe.end_read(1);
+    assert_eq!(rt; stripe.open_directory().writers(), 1);
+    assert_eq!(rt; stripe.chronicle().count(), 6);
+    Ok(())
+}
+
+#[test]
+fn a_piece_that_was_never_put_is_missing(rt: HostRuntime) -> Result<(), Fail> {
+    let mut stripe = empty(&rt)?;
+    let mut into = [0; 2048];
+    if stripe.geometry().agg != 8 {
+        return Err("another buffer".into());
+    }
+    assert_eq!(rt;
+        stripe.find_piece(vector(), &mut into)?,
+        Found::Missing(Cause::NeverPut)
+    );
     Ok(())
 }

@@ -1,0 +1,158 @@
+-- Writers and readers that come and go leave the pieces held.
+use Rattle.std.proofs.Common.{◌≡◌, ℕ, ◌+◌, ◌-◌, ◌<◌, ◌≤◌, List, [], ◌∷◌, refl, sym, ◌∙◌, ap, subst, arith, Bool, true, false, Result, Ok, Err, length}
+use Rattle.std.specs.Prelude.{Option, Some, None, IfOk, IsSome, find, option_map, option_and_then, unwrap_or, if◌then◌else◌, ◌==◌}
+use Rattle.std.proofs.lemmas.Bool.{eqb-true}
+use Rattle.tape_base.specs.declared.actors.Actor.{Actor}
+use Rattle.tape_base.specs.declared.keys.Key.{Key}
+use Rattle.tape_base.specs.declared.pieces.PieceId.{PieceId}
+use Rattle.fragment_table.specs.Table.{total_length}
+use Rattle.alternate_vector.specs.Field.{Field}
+use Rattle.cyclone.specs.Cyclone.{Seen}
+use Rattle.cache_model.specs.declared.answer.NextAnswer.{NextAnswer}
+use Rattle.cache_model.specs.declared.answer.NextAnswer.TheVariants as next
+use Rattle.cache_model.specs.declared.record.Rec.{Rec}
+use Rattle.cache_model.specs.declared.record.Rec.TheVariants as rec
+use Rattle.cache_model.specs.State.{PutRow, Row, State, live_row_of, put_of, row_in, state_after, vector_piece}
+use Rattle.cache_model.specs.Verdict.{cuts_of, live_vector_of, vector_of}
+use Rattle.cache_model.specs.Kept.{Kept, state_of, with_records}
+use Rattle.cache_model.specs.Permit.{Commit, Done, Exhausted, Fails, GiveUp, ManyWriters, Permit, Remove, Write}
+use Rattle.cache_model.specs.Legal.{Does, DoesCommit, DoesGiveUp, DoesRemove, DoesWrite, IsQuiet, answer_record, most_writers, open_writers}
+use Rattle.cache_model.specs.Room.{limit}
+use Rattle.cache_model.proofs.Sound.{LeavesTape, later_leaves}
+use Rattle.stripe_core.specs.declared.refusal.Refusal.{Refusal}
+use Rattle.stripe_core.specs.declared.refusal.Refusal.TheVariants as refusal
+use Rattle.stripe_core.specs.Acts.{IsCommitting, IsGivingUp, IsRefusedPut, OpensAsAsked, committed_record, opened_record}
+use Rattle.stripe_core.specs.Covers.{Uses}
+use Rattle.stripe_core.specs.Held.{IsHeld}
+use Rattle.stripe_core.specs.Stripe.{IsSpared}
+use Rattle.stripe_core.proofs.Candidates.{live_is}
+use Rattle.stripe_core.proofs.Flushes.{state_of-with_records}
+use Rattle.stripe_core.proofs.Going.{alike_is_held, own}
+use Rattle.stripe_core.proofs.Sparing.{spent}
+
+-- ---- records that leave the pieces
+
+-- the record changes neither a piece nor the buffer
+pub record LeavesPieces (s t : State) : Type 0 where
+  pub geometry : t.geometry ≡ s.geometry
+  pub cursor : t.cursor ≡ s.cursor
+  pub filled : t.filled ≡ s.filled
+  pub rows : t.rows ≡ s.rows
+  pub fault : t.fault ≡ s.fault
+
+pub telling_is_held : (s : State) (c : Seen) (r : Rec) → LeavesTape r → LeavesPieces s (state_after s r) → IsHeld s c → IsHeld (state_after s r) c
+telling_is_held s c r tape leaves held =
+    alike_is_held s (state_after s r) c held (record {
+      geometry = leaves.geometry;
+      cursor = leaves.cursor;
+      filled = leaves.filled;
+      rows = leaves.rows;
+      sound = (later_leaves s (r ∷ []) (tape, tt) held.sound).sound;
+    }) (rw leaves.fault held.faults)
+
+pub held_behind : (k new : Kept) (c : Seen) (r : Rec) → new ≡ with_records k (r ∷ []) → LeavesTape r → LeavesPieces (state_of k) (state_after (state_of k) r) → IsHeld (state_of k) c → IsHeld (state_of new) c
+held_behind k new c r is tape leaves held =
+    subst (λ t. IsHeld t c) (sym (ap state_of is ∙ state_of-with_records k (r ∷ []))) (telling_is_held (state_of k) c r tape leaves held)
+
+pub reader_behind : (k new : Kept) (r : Rec) → new ≡ with_records k (r ∷ []) → (state_of new).next_reader ≡ (state_after (state_of k) r).next_reader
+reader_behind k new r is = ap (λ (t : State). t.next_reader) (ap state_of is ∙ state_of-with_records k (r ∷ []))
+
+-- what a reader was answered
+pub answer_leaves : (s : State) (reader : ℕ) (answer : NextAnswer) → LeavesPieces s (state_after s (answer_record reader answer))
+answer_leaves s reader (next.Gave index length) = record { geometry = refl; cursor = refl; filled = refl; rows = refl; fault = refl }
+answer_leaves s reader (next.Ended length) = record { geometry = refl; cursor = refl; filled = refl; rows = refl; fault = refl }
+answer_leaves s reader (next.Waited cut) = record { geometry = refl; cursor = refl; filled = refl; rows = refl; fault = refl }
+answer_leaves s reader (next.Broke why) = record { geometry = refl; cursor = refl; filled = refl; rows = refl; fault = refl }
+
+pub answer_leaves_tape : (reader : ℕ) (answer : NextAnswer) → LeavesTape (answer_record reader answer)
+answer_leaves_tape reader (next.Gave index length) = tt
+answer_leaves_tape reader (next.Ended length) = tt
+answer_leaves_tape reader (next.Waited cut) = tt
+answer_leaves_tape reader (next.Broke why) = tt
+
+pub answer_keeps_readers : (s : State) (reader : ℕ) (answer : NextAnswer) → (state_after s (answer_record reader answer)).next_reader ≡ s.next_reader
+answer_keeps_readers s reader (next.Gave index length) = refl
+answer_keeps_readers s reader (next.Ended length) = refl
+answer_keeps_readers s reader (next.Waited cut) = refl
+answer_keeps_readers s reader (next.Broke why) = refl
+
+-- ---- memory
+
+before_last : (u : ℕ) → 1 ≤ u → u ≡ u - 1 + 1
+before_last u h = omega arith
+
+-- one unit less, for one record
+pub one_less : (u room left : ℕ) (c new : Seen) → 1 ≤ u → IsSpared u room c → Uses 1 0 0 0 room left c new → IsSpared (u - 1) left new
+one_less u room left c new some h uses =
+    spent (u - 1) room left 1 0 0 0 c new (subst (λ n. IsSpared n room c) (before_last u some) h) uses (omega arith) (omega arith) (omega arith) (omega arith)
+
+pub one_record : (u room left : ℕ) (c : Seen) → 1 ≤ u → IsSpared u room c → room ≤ left + 1 → IsSpared (u - 1) left c
+one_record u room left c some h more = one_less u room left c c some h (record {
+  same = refl;
+  of_records = more;
+  of_entries = omega arith;
+  device = record { size = refl; trust = omega arith; calls = omega arith; blocks = omega arith };
+})
+
+-- ---- what is asked
+
+own_number_by : (put : ℕ) (first w : PutRow) (rest : Option PutRow) (b : Bool) → (first.put == put) ≡ b → (rest ≡ Some w → w.put ≡ put) → (if b then Some first else rest) ≡ Some w → w.put ≡ put
+own_number_by put first w rest true e later h = let same : first ≡ w = cc in ap (λ (p : PutRow). p.put) (sym same) ∙ eqb-true first.put put e
+own_number_by put first w rest false e later h = later h
+
+own_number : (put : ℕ) (puts : List PutRow) (w : PutRow) → find (λ p. p.put == put) puts ≡ Some w → w.put ≡ put
+own_number put [] w h = cc
+own_number put (first ∷ puts) w h = own_number_by put first w (find (λ p. p.put == put) puts) (first.put == put) refl (own_number put puts w) h
+
+pub gives_up : (p : Permit) (s : State) (put : ℕ) (key : Key) → IsGivingUp s put key → Does p s (GiveUp put) (rec.Aborted put key ∷ []) Done
+gives_up p s put key g =
+    DoesGiveUp.aborts g.w g.writing
+    (ap (λ n. rec.Aborted n key ∷ []) (sym (own_number put s.puts g.w g.writing.found)) ∙ ap (λ k. rec.Aborted g.w.put k ∷ []) (sym g.key_is))
+
+cuts_found : (s : State) (put : ℕ) (w : PutRow) → put_of s put ≡ Some w → cuts_of s put ≡ w.cuts
+cuts_found s put w h = ap (λ (o : Option PutRow). unwrap_or (option_map (λ (p : PutRow). p.cuts) o) []) h
+
+pub commits : (p : Permit) (s : State) (put : ℕ) (key : Key) → IsCommitting s put key → Does p s (Commit put) (committed_record s put key ∷ []) Done
+commits p s put key g =
+    DoesCommit.commits g.w g.found g.is_open g.pending
+    (ap (λ k. rec.Committed put k (total_length (cuts_of s put)) ∷ []) (sym g.key_is) ∙ ap (λ cuts. rec.Committed put g.w.key (total_length cuts) ∷ []) (cuts_found s put g.w g.found))
+
+some_row : (o : Option Row) → IsSome o → (row : Row) × (o ≡ Some row)
+some_row (Some row) h = (row, refl)
+some_row None h = cc
+
+pub removes : (p : Permit) (s : State) (key : Key) (put : ℕ) → IsQuiet s → IsSome (live_vector_of s key) → vector_of s key ≡ Some (vector_piece key put) → Does p s (Remove key) (rec.Removed put key ∷ []) Done
+removes p s key put quiet live is =
+    let found = some_row (live_vector_of s key) live in
+    let row : Row = found.0 in
+    let there : live_row_of s (vector_piece key put) ≡ Some row = ap (option_and_then (live_row_of s)) (sym is) ∙ found.1 in
+    let name : row.id ≡ vector_piece key put = own (vector_piece key put) s.rows row (live_is s (row_in s.rows (vector_piece key put)) row there).0 in
+    DoesRemove.removes row quiet found.1 (ap (λ (i : PieceId). rec.Removed i.put key ∷ []) (sym name))
+
+pub opens : (p : Permit) (s : State) (who : Actor) (key : Key) (request response : List Field) (pin : ℕ) → IsQuiet s → open_writers s < most_writers → s.next_put + 1 < limit
+    → Does p s (Write who.0 key request response pin) (opened_record s who key request response pin ∷ []) Done
+opens p s who key request response pin quiet few below = DoesWrite.opens (record { who = who; number = refl; quiet = quiet; few = few; below = below; is = refl })
+
+pub too_many : (p : Permit) (s : State) (who : Actor) (key : Key) (request response : List Field) (pin : ℕ) → IsQuiet s → most_writers ≤ open_writers s
+    → Does p s (Write who.0 key request response pin) [] (Fails ManyWriters)
+too_many p s who key request response pin quiet many = DoesWrite.many quiet many refl
+
+pub no_number : (p : Permit) (s : State) (who : Actor) (key : Key) (request response : List Field) (pin : ℕ) → IsQuiet s → open_writers s < most_writers → limit ≤ s.next_put + 1
+    → Does p s (Write who.0 key request response pin) [] (Fails Exhausted)
+no_number p s who key request response pin quiet few above = DoesWrite.exhausted quiet few above refl
+
+pub if_ok_map : {X E : Type 0} (r : Result X E) (P Q : X → Type 0) → ((x : X) → P x → Q x) → IfOk r P → IfOk r Q
+if_ok_map (Ok x) P Q f h = f x h
+if_ok_map (Err e) P Q f h = tt
+
+pub refused_opens : (s : State) (who : Actor) (key : Key) (request response : List Field) (pin : ℕ) (why : Refusal) → IsQuiet s → IsRefusedPut s (Some why)
+    → OpensAsAsked s who key request response pin (Err why)
+refused_opens s who key request response pin refusal.TooManyWriters quiet h = (h, λ p. too_many p s who key request response pin quiet h)
+refused_opens s who key request response pin (refusal.Exhausted number) quiet h = (h.2, λ p. no_number p s who key request response pin quiet h.0 h.1)
+refused_opens s who key request response pin refusal.TooManyFragments quiet h = absurd h
+refused_opens s who key request response pin (refusal.VectorTooLarge bytes) quiet h = absurd h
+refused_opens s who key request response pin (refusal.Lost index why) quiet h = absurd h
+refused_opens s who key request response pin (refusal.DeviceFault count) quiet h = absurd h
+refused_opens s who key request response pin refusal.Sealed quiet h = absurd h
+refused_opens s who key request response pin refusal.NoSuchWriter quiet h = absurd h
+refused_opens s who key request response pin (refusal.Memory e) quiet h = absurd h

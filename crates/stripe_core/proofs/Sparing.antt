@@ -1,0 +1,225 @@
+-- What is left of the memory that was made, and records that leave the actors as they are.
+use Rattle.std.proofs.Common.{◌≡◌, ℕ, ◌+◌, ◌*◌, ◌<◌, ◌≤◌, List, [], ◌∷◌, ◌++◌, refl, sym, ◌∙◌, ap, subst, arith, Bool, true, false, length, Result, Ok, Err}
+use Rattle.std.specs.Prelude.{Option, Some, None, if◌then◌else◌}
+use Rattle.std.specs.List.{AllByRecursion}
+use Rattle.std.proofs.lemmas.List.{length-append}
+use Rattle.tape_base.specs.declared.geometries.Geometry.{Geometry}
+use Rattle.tape_base.specs.declared.digests.Digest.{Digest}
+use Rattle.tape_base.specs.declared.pieces.PieceId.{PieceId}
+use Rattle.tape_base.specs.Digest.{digest_of}
+use Rattle.tape_base.specs.Piece.{is_vector}
+use Rattle.ats_disk.specs.Device.{Grows}
+use Rattle.cyclone.specs.Cyclone.{SameButRoom, Seen}
+use Rattle.cache_model.specs.declared.cause.Cause.TheVariants as cause
+use Rattle.cache_model.specs.declared.record.Rec.{Rec}
+use Rattle.cache_model.specs.declared.record.Rec.TheVariants as rec
+use Rattle.cache_model.specs.State.{Row, State, after_all, live_row_of, state_after}
+use Rattle.cache_model.specs.Kept.{Kept, state_of, with_records}
+use Rattle.cache_model.specs.Room.{has_room, is_flush_exhausted, placed_record}
+use Rattle.cache_model.proofs.Steps.{after_all-append}
+use Rattle.stripe_actors.specs.Calls.{CutsNext}
+use Rattle.stripe_actors.specs.Actors.{AreActors, Seen as Actors}
+use Rattle.stripe_actors.specs.ActorLaws.{speaks_of_actors}
+use Rattle.stripe_actors.proofs.Telling.{others}
+use Rattle.stripe_core.specs.declared.refusal.Found.{Found}
+use Rattle.stripe_core.specs.declared.refusal.Found.TheVariants as found
+use Rattle.stripe_core.specs.declared.refusal.Placed.{Placed}
+use Rattle.stripe_core.specs.declared.refusal.Refusal.{Refusal}
+use Rattle.stripe_core.specs.declared.refusal.Refusal.TheVariants as refusal
+use Rattle.stripe_core.specs.declared.refusal.Stop.{Stop}
+use Rattle.stripe_core.specs.declared.refusal.Stop.TheVariants as stop
+use Rattle.stripe_core.specs.Covers.{Uses}
+use Rattle.stripe_core.specs.Find.{cause_records, find_adds, found_records}
+use Rattle.stripe_core.specs.Flush.{stop_records}
+use Rattle.stripe_core.specs.Place.{IsFragmentOf, fragment_adds, piece_records, place_adds, room_records, with_room}
+use Rattle.stripe_core.specs.Stripe.{Answers, IsSpared, refusal_of}
+use Rattle.stripe_core.proofs.Flushes.{state_of-with_records}
+use Rattle.stripe_core.proofs.Groups.{no_vector}
+
+-- ---- records that speak of no actor
+
+abbrev pub AllOthers : List Rec → Type 0
+AllOthers recs = AllByRecursion (λ r. speaks_of_actors r ≡ false) recs
+
+pub others_keep : (s : State) (a : Actors) (recs : List Rec) → AllOthers recs → AreActors s a → AreActors (after_all s recs) a
+others_keep s a [] all h = h
+others_keep s a (r ∷ recs) all h = others_keep (state_after s r) a recs all.1 (others s a r all.0 h)
+
+reader_stays : (s : State) (r : Rec) → speaks_of_actors r ≡ false → (state_after s r).next_reader ≡ s.next_reader
+reader_stays s (rec.Formatted geometry) h = cc
+reader_stays s (rec.Began cursor floor) h = refl
+reader_stays s (rec.Placed piece place blocks digest pin) h = refl
+reader_stays s (rec.Displaced piece segment live) h = refl
+reader_stays s (rec.Damaged piece place kept other) h = refl
+reader_stays s (rec.WriteOpened actor put key request response pin) h = cc
+reader_stays s (rec.Cut put index length digest) h = cc
+reader_stays s (rec.Committed put key length) h = cc
+reader_stays s (rec.Aborted put key) h = cc
+reader_stays s (rec.Removed put key) h = refl
+reader_stays s (rec.ReadOpened reader actor key request answer) h = cc
+reader_stays s (rec.Gave reader index length) h = cc
+reader_stays s (rec.Ended reader length) h = refl
+reader_stays s (rec.Waited reader cut) h = refl
+reader_stays s (rec.Broke reader why) h = refl
+reader_stays s (rec.ReadClosed reader) h = cc
+reader_stays s (rec.Fault count) h = refl
+
+pub readers_stay : (s : State) (recs : List Rec) → AllOthers recs → (after_all s recs).next_reader ≡ s.next_reader
+readers_stay s [] all = refl
+readers_stay s (r ∷ recs) all = readers_stay (state_after s r) recs all.1 ∙ reader_stays s r all.0
+
+-- each reader has a record, behind more of them
+pub numbered_by : (k new : Kept) (recs : List Rec) (more : ℕ) → new ≡ with_records k recs → (state_of new).next_reader ≡ (state_of k).next_reader + more → more ≤ length recs
+    → (state_of k).next_reader < length k.since → (state_of new).next_reader < length new.since
+numbered_by k new recs more is reader few h =
+    let count : length new.since ≡ length k.since + length recs = ap (λ (x : Kept). length x.since) is ∙ length-append k.since recs in
+    omega (arith, count, reader, few, h)
+
+pub numbered_others : (k new : Kept) (recs : List Rec) → new ≡ with_records k recs → AllOthers recs → (state_of k).next_reader < length k.since → (state_of new).next_reader < length new.since
+numbered_others k new recs is all h =
+    let same : (state_of new).next_reader ≡ (state_of k).next_reader = ap (λ x. (state_of x).next_reader) is ∙ (ap (λ (t : State). t.next_reader) (state_of-with_records k recs) ∙ readers_stay (state_of k) recs all) in
+    numbered_by k new recs 0 is (omega (arith, same)) (omega arith) h
+
+pub actors_with : (k new : Kept) (a : Actors) (recs : List Rec) → new ≡ with_records k recs → AllOthers recs → AreActors (state_of k) a → AreActors (state_of new) a
+actors_with k new a recs is all h =
+    subst (λ s. AreActors s a) (sym (ap state_of is ∙ state_of-with_records k recs)) (others_keep (state_of k) a recs all h)
+
+-- ---- which these are
+
+causes_are_others : (row : Row) (why : Rattle.cache_model.specs.declared.cause.Cause.Cause) → AllOthers (cause_records row why)
+causes_are_others row cause.NeverPut = tt
+causes_are_others row cause.Removed = tt
+causes_are_others row (cause.Passed place floor) = tt
+causes_are_others row (cause.NoMatch count) = tt
+causes_are_others row (cause.Displaced segment live) = tt
+causes_are_others row (cause.Aborted writer) = tt
+causes_are_others row (cause.DeviceFault count) = (refl, tt)
+causes_are_others row (cause.Damaged place kept other) = (refl, tt)
+
+found_are_others : (o : Option Row) (answer : Found) → AllOthers (found_records o answer)
+found_are_others None answer = tt
+found_are_others (Some row) (found.Found size) = tt
+found_are_others (Some row) (found.Missing why) = causes_are_others row why
+
+pub find_are_others : (s : State) (id : PieceId) (answer : Found) → AllOthers (find_adds s id answer)
+find_are_others s id answer = found_are_others (live_row_of s id) answer
+
+pub stops_are_others : (why : Stop) → AllOthers (stop_records why)
+stops_are_others (stop.DeviceFault count) = (refl, tt)
+stops_are_others (stop.Exhausted number) = tt
+
+pub room_is_others : (s : State) (bytes : ℕ) → AllOthers (room_records s bytes)
+room_is_others s bytes = by (has_room s bytes)
+  where
+    by : (b : Bool) → AllOthers (if b then [] else rec.Began (Rattle.cache_model.specs.State.cursor_next s) (Rattle.cache_model.specs.State.floor_next s) ∷ [])
+    by true = tt
+    by false = (refl, tt)
+
+-- ---- memory
+
+units_more : (units agg : ℕ) → (units + 1) * agg ≡ units * agg + agg
+units_more units agg = omega arith
+
+pub spent : (units room left records entries calls blocks : ℕ) (c new : Seen) → IsSpared (units + 1) room c → Uses records entries calls blocks room left c new
+    → records ≤ 3 → entries ≤ 1 → calls ≤ 1 → blocks ≤ c.geometry.agg → IsSpared units left new
+spent units room left records entries calls blocks c new h u r e k b =
+    let agg : new.geometry.agg ≡ c.geometry.agg = ap (λ (g : Geometry). g.agg) u.same in
+    let more : (units + 1) * c.geometry.agg ≡ units * c.geometry.agg + c.geometry.agg = units_more units c.geometry.agg in
+    let of_calls : c.device.calls ≤ new.device.calls + calls = u.device.calls in
+    let of_blocks : c.device.blocks ≤ new.device.blocks + blocks = u.device.blocks in
+    let before : (units + 1) * c.geometry.agg ≤ c.device.blocks = h.blocks in
+    record {
+      for_records = omega (arith, h.for_records, u.of_records, r);
+      entries = omega (arith, h.entries, u.of_entries, e);
+      calls = omega (arith, h.calls, of_calls, k);
+      blocks = subst (λ a. units * a ≤ new.device.blocks) (sym agg) (omega (arith, more, before, of_blocks, b));
+    }
+
+-- more room is as good
+pub spared_more : (units room left calls blocks : ℕ) (c new : Seen) → IsSpared units room c → room ≤ left → SameButRoom c new → Grows calls blocks c.device new.device → IsSpared units left new
+spared_more units room left calls blocks c new h more same grows =
+    let geometry : new.geometry ≡ c.geometry = ap (λ (y : Seen). y.geometry) same.same in
+    let spare : c.spare ≤ new.spare = same.spare in
+    let more_calls : new.device.calls ≡ c.device.calls + calls = grows.calls in
+    let more_blocks : new.device.blocks ≡ c.device.blocks + blocks = grows.blocks in
+    let before : units * c.geometry.agg ≤ c.device.blocks = h.blocks in
+    record {
+      for_records = omega (arith, h.for_records, more);
+      entries = omega (arith, h.entries, spare);
+      calls = omega (arith, h.calls, more_calls);
+      blocks = subst (λ (g : Geometry). units * g.agg ≤ new.device.blocks) (sym geometry) (omega (arith, before, more_blocks));
+    }
+
+-- memory for so many calls was made
+pub spared_anew : (units left : ℕ) (c new : Seen) → 3 * units ≤ left → units ≤ new.spare → SameButRoom c new → Grows units (units * c.geometry.agg) c.device new.device → IsSpared units left new
+spared_anew units left c new records entries same grows =
+    let geometry : new.geometry ≡ c.geometry = ap (λ (y : Seen). y.geometry) same.same in
+    let more_calls : new.device.calls ≡ c.device.calls + units = grows.calls in
+    let more_blocks : new.device.blocks ≡ c.device.blocks + units * c.geometry.agg = grows.blocks in
+    record {
+      for_records = records;
+      entries = entries;
+      calls = omega (arith, more_calls);
+      blocks = subst (λ (g : Geometry). units * g.agg ≤ new.device.blocks) (sym geometry) (omega (arith, more_blocks));
+    }
+
+-- ---- answers
+
+pub answers_stop : {X : Type 0} (why : Stop) (P : Result X Stop → Type 0) (wanting : Type 0) → P (Err why) → Answers {X = X} (Err (refusal_of why)) P wanting
+answers_stop (stop.DeviceFault count) P wanting h = h
+answers_stop (stop.Exhausted number) P wanting h = h
+
+pub answers_map : {X : Type 0} (result : Result X Refusal) (P Q : Result X Stop → Type 0) (v w : Type 0) → ((r : Result X Stop) → P r → Q r) → (v → w) → Answers result P v → Answers result Q w
+answers_map (Ok x) P Q v w f g h = f (Ok x) h
+answers_map (Err (refusal.DeviceFault count)) P Q v w f g h = f (Err (stop.DeviceFault count)) h
+answers_map (Err (refusal.Exhausted number)) P Q v w f g h = f (Err (stop.Exhausted number)) h
+answers_map (Err (refusal.Memory e)) P Q v w f g h = g h
+answers_map (Err refusal.TooManyWriters) P Q v w f g h = absurd h
+answers_map (Err refusal.TooManyFragments) P Q v w f g h = absurd h
+answers_map (Err (refusal.VectorTooLarge bytes)) P Q v w f g h = absurd h
+answers_map (Err (refusal.Lost index why)) P Q v w f g h = absurd h
+answers_map (Err refusal.Sealed) P Q v w f g h = absurd h
+answers_map (Err refusal.NoSuchWriter) P Q v w f g h = absurd h
+
+-- ---- a fragment that was placed
+
+-- it is cut and then placed
+fragment_two : (s : State) (id : PieceId) (pin start : ℕ) (payload : List ℕ) → is_vector id ≡ false
+    → piece_records s id pin start payload ≡ rec.Cut id.put id.index (length payload) (digest_of payload) ∷ placed_record s id pin start (length payload) payload ∷ []
+fragment_two s id pin start payload kind = rw kind refl
+
+module _ (s : State) (id : PieceId) (pin start : ℕ) (payload : List ℕ) (kind : is_vector id ≡ false) where
+  abbrev t : State
+  t = with_room s (length payload)
+
+  abbrev cut : State
+  cut = state_after t (rec.Cut id.put id.index (length payload) (digest_of payload))
+
+  placed_state : after_all s (room_records s (length payload) ++ piece_records t id pin start payload) ≡ state_after cut (placed_record t id pin start (length payload) payload)
+  placed_state = after_all-append s (room_records s (length payload)) (piece_records t id pin start payload) ∙ ap (after_all t) (fragment_two t id pin start payload kind)
+
+  pub fragment_actors : (a b : Actors) (digest : Digest) → digest ≡ digest_of payload → CutsNext id.put (length payload) digest a b → AreActors s a
+      → AreActors (after_all s (room_records s (length payload) ++ piece_records t id pin start payload)) b
+  fragment_actors a b digest is cuts h =
+      let here : AreActors t a = others_keep s a (room_records s (length payload)) (room_is_others s (length payload)) h in
+      let behind : AreActors cut b = subst (λ d. AreActors (state_after t (rec.Cut id.put id.index (length payload) d)) b) is (cuts id.index t here) in
+      subst (λ x. AreActors x b) (sym placed_state) (others cut b (placed_record t id pin start (length payload) payload) refl behind)
+
+  pub fragment_readers : (after_all s (room_records s (length payload) ++ piece_records t id pin start payload)).next_reader ≡ s.next_reader
+  fragment_readers = ap (λ (x : State). x.next_reader) placed_state ∙ readers_stay s (room_records s (length payload)) (room_is_others s (length payload))
+
+pub vector_others : (s : State) (id : PieceId) (pin start : ℕ) (payload : List ℕ) (result : Result Placed Stop) → is_vector id ≡ true → AllOthers (place_adds s id pin start payload result)
+vector_others s id pin start payload (Ok placed) kind = rw kind (refl, tt)
+vector_others s id pin start payload (Err why) kind = tt
+
+nothing_or_room : (s : State) (bytes : ℕ) (b : Bool) → AllOthers (if b then [] else room_records s bytes)
+nothing_or_room s bytes true = tt
+nothing_or_room s bytes false = room_is_others s bytes
+
+pub stopped_others : (s : State) (id : PieceId) (pin start : ℕ) (payload : List ℕ) (why : Stop) → AllOthers (fragment_adds s id pin start payload (Err why))
+stopped_others s id pin start payload (stop.DeviceFault count) = (refl, tt)
+stopped_others s id pin start payload (stop.Exhausted number) = nothing_or_room s (length payload) (is_flush_exhausted s)
+
+-- a fragment is no vector
+pub no_vector_id : (s : State) (id : PieceId) (pin start : ℕ) (payload : List ℕ) → IsFragmentOf s id pin start payload → is_vector id ≡ false
+no_vector_id s id pin start payload f = no_vector (length f.w.cuts) id.index f.next.next

@@ -1,0 +1,28 @@
+use Rattle.std.proofs.Common.{sym, ◌∙◌, ap, subst, arith, [], ◌∷◌}
+use Rattle.cache_model.specs.declared.record.Rec.TheVariants as rec
+use Rattle.cache_model.specs.Kept.{state_of}
+use Rattle.stripe_actors.specs.Actors.{AreActors}
+use Rattle.stripe_core.specs.Pieces.{seen_of}
+use Rattle.stripe_core.specs.Stripe.{kept_in, seen_in, state_in}
+use Rattle.stripe_core.proofs.Flushes.{state_of-with_records}
+use Rattle.stripe_core.proofs.Doings.{commits, one_less, reader_behind}
+use Rattle.stripe_core.proofs.Sparing.{numbered_by}
+use Rattle.stripe_core.proofs.stripe.Stripe.commit.Goals as goal
+
+pub returns-clause-stripe : goal.returns-clause-stripe
+returns-clause-stripe g c =
+    let s = state_in g.C.Chronicle c.args.self.now in
+    let kept = kept_in g.C.Chronicle c.args.self.now in
+    let told = rec.Committed c.args.put c.args.key c.length-length.result in
+    let after = g.C.Chronicle.kept c.commit.new.self.chronicle in
+    let reader = reader_behind kept after told c.commit.ensures.adds in
+    record {
+      pieces = c.commit.ensures.pieces;
+      actors = subst (λ t. AreActors t c.close.new.self) (sym (ap state_of c.commit.ensures.adds ∙ state_of-with_records kept (told ∷ []))) (c.close.ensures c.args.key c.length-length.result s c.requires.stripe.actors);
+      plain = c.requires.stripe.plain;
+      spared = one_less c.args.self.now.units _ _ (seen_in g.D.Disk g.R.Directory c.args.self.now) (seen_of g.D.Disk g.R.Directory c.commit.new.self) c.requires.unit c.requires.stripe.spared c.commit.ensures.uses;
+      numbered = numbered_by kept after (told ∷ []) 0 c.commit.ensures.adds (omega (arith, reader)) (omega arith) c.requires.stripe.numbered;
+    }
+
+pub returns-clause-does : goal.returns-clause-does
+returns-clause-does g c = λ p. commits p (state_in g.C.Chronicle c.args.self.now) c.args.put c.args.key c.requires.committing

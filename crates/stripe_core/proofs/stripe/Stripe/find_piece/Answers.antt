@@ -1,0 +1,34 @@
+use Rattle.std.proofs.Common.{ap, subst, arith}
+use Rattle.cache_model.specs.Kept.{state_of}
+use Rattle.stripe_core.specs.Find.{Finds, find_adds}
+use Rattle.stripe_core.specs.Pieces.{seen_of}
+use Rattle.stripe_core.specs.Stripe.{kept_in, seen_in, state_in, units_in}
+use Rattle.stripe_core.proofs.Sparing.{actors_with, find_are_others, numbered_others, spent}
+use Rattle.stripe_core.proofs.stripe.Stripe.find_piece.Goals as goal
+
+pub returns-clause-stripe : goal.returns-clause-stripe
+returns-clause-stripe g c =
+    let taken = state_in g.C.Chronicle c.take_unit.new.self in
+    let kept = kept_in g.C.Chronicle c.take_unit.new.self in
+    let adds = find_adds taken c.args.id c.find.result in
+    record {
+      pieces = c.find.ensures.pieces;
+      actors = actors_with kept _ c.take_unit.new.self.actors adds c.find.ensures.adds (find_are_others taken c.args.id c.find.result) c.take_unit.ensures.stripe.actors;
+      plain = c.requires.stripe.plain;
+      spared = spent (units_in c.take_unit.new.self) _ _ 1 0 0 0 (seen_in g.D.Disk g.R.Directory c.take_unit.new.self) (seen_of g.D.Disk g.R.Directory c.find.new.self)
+          c.in_ok-take_unit.ensures.spared c.find.ensures.uses (omega arith) (omega arith) (omega arith) (omega arith);
+      numbered = numbered_others kept _ adds c.find.ensures.adds (find_are_others taken c.args.id c.find.result) c.take_unit.ensures.stripe.numbered;
+    }
+
+pub returns-clause-finds : goal.returns-clause-finds
+returns-clause-finds g c =
+    let s = state_in g.C.Chronicle c.args.self.now in
+    let finds = c.find.ensures.finds in
+    let moved : Finds s (seen_in g.D.Disk g.R.Directory c.take_unit.new.self).device (seen_of g.D.Disk g.R.Directory c.find.new.self).device c.args.id c.find.result c.find.new.into =
+    subst (λ t. Finds t (seen_in g.D.Disk g.R.Directory c.take_unit.new.self).device (seen_of g.D.Disk g.R.Directory c.find.new.self).device c.args.id c.find.result c.find.new.into) (ap state_of c.take_unit.ensures.records) finds in
+    record {
+      reads = moved.reads;
+      seen = moved.seen;
+      answers = λ p covers.
+          moved.answers p (record { plain = covers.plain; from = rw c.take_unit.ensures.still.faults covers.from; upto = covers.upto; knows = covers.knows });
+    }

@@ -1,0 +1,13 @@
+use Rattle.std.proofs.Common.{sym, subst, arith}
+use Rattle.cache_model.specs.Kept.{state_of}
+use Rattle.stripe_actors.specs.Actors.{AreActors}
+use Rattle.stripe_core.proofs.stripe.Stripe.format.Goals as goal
+
+pub returns-in-Ok-clause-stripe : goal.returns-in-Ok-clause-stripe
+returns-in-Ok-clause-stripe g c = record {
+  pieces = c.in-Ok.ensures.pieces;
+  actors = subst (λ k. AreActors (state_of k) c.new.result) (sym c.in-Ok.ensures.records) (c.new.ensures c.args.g);
+  plain = c.requires.plain;
+  spared = record { for_records = omega arith; entries = omega arith; calls = omega arith; blocks = omega arith };
+  numbered = rw c.in-Ok.ensures.records (omega arith);
+}

@@ -1,0 +1,27 @@
+use Rattle.std.proofs.Common.{sym, ◌∙◌, ap, subst, refl, arith, [], ◌∷◌}
+use Rattle.cache_model.specs.declared.record.Rec.TheVariants as rec
+use Rattle.cache_model.specs.Kept.{state_of}
+use Rattle.stripe_actors.specs.Actors.{AreActors}
+use Rattle.stripe_core.specs.Stripe.{kept_in, seen_in, state_in}
+use Rattle.stripe_core.proofs.Flushes.{state_of-with_records}
+use Rattle.stripe_core.proofs.Doings.{held_behind, one_record, reader_behind}
+use Rattle.stripe_core.proofs.Sparing.{numbered_by}
+use Rattle.stripe_core.proofs.Doings.{gives_up}
+use Rattle.stripe_core.proofs.stripe.Stripe.give_up.Goals as goal
+
+pub returns-clause-stripe : goal.returns-clause-stripe
+returns-clause-stripe g c =
+    let s = state_in g.C.Chronicle c.args.self.now in
+    let kept = kept_in g.C.Chronicle c.args.self.now in
+    let before = seen_in g.D.Disk g.R.Directory c.args.self.now in
+    let reader = reader_behind kept (g.C.Chronicle.kept c.aborted.new.chronicle) (rec.Aborted c.args.put c.args.key) c.aborted.ensures.kept in
+    record {
+      pieces = held_behind kept (g.C.Chronicle.kept c.aborted.new.chronicle) before (rec.Aborted c.args.put c.args.key) c.aborted.ensures.kept tt (record { geometry = refl; cursor = refl; filled = refl; rows = refl; fault = refl }) c.requires.stripe.pieces;
+      actors = subst (λ t. AreActors t c.abort.new.self) (sym (ap state_of c.aborted.ensures.kept ∙ state_of-with_records kept (rec.Aborted c.args.put c.args.key ∷ []))) (c.abort.ensures c.args.key s c.requires.stripe.actors);
+      plain = c.requires.stripe.plain;
+      spared = one_record c.args.self.now.units _ _ before c.requires.unit c.requires.stripe.spared c.aborted.ensures.room;
+      numbered = numbered_by kept (g.C.Chronicle.kept c.aborted.new.chronicle) (rec.Aborted c.args.put c.args.key ∷ []) 0 c.aborted.ensures.kept (omega (arith, reader)) (omega arith) c.requires.stripe.numbered;
+    }
+
+pub returns-clause-does : goal.returns-clause-does
+returns-clause-does g c = λ p. gives_up p (state_in g.C.Chronicle c.args.self.now) c.args.put c.args.key c.requires.writing

@@ -1,0 +1,42 @@
+use Rattle.std.proofs.Common.{◌≡◌, sym, ◌∙◌, ap, subst, refl, arith, [], ◌∷◌}
+use Rattle.cache_model.specs.declared.record.Rec.TheVariants as rec
+use Rattle.cache_model.specs.Kept.{state_of, with_records}
+use Rattle.stripe_actors.specs.Actors.{AreActors}
+use Rattle.stripe_core.specs.Stripe.{kept_in, seen_in, state_in}
+use Rattle.stripe_core.proofs.Flushes.{state_of-with_records}
+use Rattle.stripe_core.proofs.Doings.{held_behind, opens, reader_behind}
+use Rattle.stripe_core.proofs.Sparing.{numbered_by}
+use Rattle.stripe_core.proofs.stripe.Stripe.open_put.Goals as goal
+
+pub returns-in-Ok-clause-stripe : goal.returns-in-Ok-clause-stripe
+returns-in-Ok-clause-stripe g c =
+    let s = state_in g.C.Chronicle c.args.self.now in
+    let kept = kept_in g.C.Chronicle c.args.self.now in
+    let before = seen_in g.D.Disk g.R.Directory c.args.self.now in
+    let told = rec.WriteOpened c.args.actor c.in-Ok.put c.args.key c.args.request c.args.response c.args.pin in
+    let after = g.C.Chronicle.kept c.write_opened.new.chronicle in
+    let is : after ≡ with_records kept (told ∷ []) =
+    c.write_opened.ensures.kept
+    ∙ (ap (λ k. with_records k (rec.WriteOpened c.args.actor c.in-Ok.put c.args.key c.in_ok-kept_request.kept_request c.in_ok-kept_response.kept_response c.args.pin ∷ [])) c.reserve.ensures.kept
+    ∙ (ap (λ q. with_records kept (rec.WriteOpened c.args.actor c.in-Ok.put c.args.key q c.in_ok-kept_response.kept_response c.args.pin ∷ [])) c.in_ok-kept_request.ensures.copy
+    ∙ ap (λ q. with_records kept (rec.WriteOpened c.args.actor c.in-Ok.put c.args.key c.args.request q c.args.pin ∷ [])) c.in_ok-kept_response.ensures.copy)) in
+    let reader = reader_behind kept after told is in
+    record {
+      pieces = held_behind kept after before told is tt (record { geometry = refl; cursor = refl; filled = refl; rows = refl; fault = refl }) c.requires.stripe.pieces;
+      actors = subst (λ t. AreActors t c.open_put.new.self) (sym (ap state_of is ∙ state_of-with_records kept (told ∷ []))) (c.in-Ok.ensures.ok.opened c.args.actor c.args.pin s c.requires.stripe.actors);
+      plain = c.requires.stripe.plain;
+      spared = record {
+        for_records = omega (arith, c.in_ok-reserve.ensures.room, c.write_opened.ensures.room);
+        entries = c.requires.stripe.spared.entries;
+        calls = c.requires.stripe.spared.calls;
+        blocks = c.requires.stripe.spared.blocks;
+      };
+      numbered = numbered_by kept after (told ∷ []) 0 is (omega (arith, reader)) (omega arith) c.requires.stripe.numbered;
+    }
+
+pub returns-in-Ok-clause-does : goal.returns-in-Ok-clause-does
+returns-in-Ok-clause-does g c =
+    let s = state_in g.C.Chronicle c.args.self.now in (
+      c.in-Ok.ensures.ok.number ∙ c.requires.stripe.actors.next_put,
+      λ p. opens p s c.args.actor c.args.key c.args.request c.args.response c.args.pin c.requires.quiet c.requires.number.few c.requires.number.below,
+    )

@@ -1,0 +1,42 @@
+use Rattle.std.proofs.Common.{◌≡◌, Ok, Err, sym, subst, arith, length, true}
+use Rattle.std.proofs.lemmas.Bool.{eq-eqb}
+use Rattle.cache_model.specs.Verdict.{cuts_of}
+use Rattle.tape_base.specs.Piece.{is_vector}
+use Rattle.stripe_core.specs.Place.{FinishesAsAsked, place_adds}
+use Rattle.stripe_core.specs.Pieces.{seen_of}
+use Rattle.stripe_core.specs.Stripe.{Answers, kept_in, seen_in, state_in, units_in}
+use Rattle.stripe_core.proofs.Groups.{vector_group}
+use Rattle.stripe_core.proofs.Sparing.{actors_with, answers_stop, numbered_others, spent, vector_others}
+use Rattle.stripe_core.proofs.stripe.Stripe.place_vector.Goals as goal
+
+pub returns-in-Ok-clause-stripe : goal.returns-in-Ok-clause-stripe
+returns-in-Ok-clause-stripe g c =
+    let s = state_in g.C.Chronicle c.args.self.now in
+    let kept = kept_in g.C.Chronicle c.args.self.now in
+    let kind : is_vector c.args.id ≡ true = eq-eqb c.args.id.index 0 c.requires.kind in
+    let adds = place_adds s c.args.id c.args.pin c.args.start c.args.payload.now (Ok c.in-Ok.placed) in
+    let others = vector_others s c.args.id c.args.pin c.args.start c.args.payload.now (Ok c.in-Ok.placed) kind in
+    record {
+      pieces = c.place.ensures.pieces;
+      actors = actors_with kept _ c.args.self.now.actors adds c.in-Ok.ensures.adds others c.requires.stripe.actors;
+      plain = c.requires.stripe.plain;
+      spared = spent (units_in c.args.self.now) _ _ 2 1 0 0 (seen_in g.D.Disk g.R.Directory c.args.self.now) (seen_of g.D.Disk g.R.Directory c.place.new.self)
+          c.requires.spared c.place.ensures.uses (omega arith) (omega arith) (omega arith) (omega arith);
+      numbered = numbered_others kept _ adds c.in-Ok.ensures.adds others c.requires.stripe.numbered;
+    }
+
+pub returns-in-Ok-clause-does : goal.returns-in-Ok-clause-does
+returns-in-Ok-clause-does g c = λ p covers.
+    vector_group p (state_in g.C.Chronicle c.args.self.now) c.args.id c.args.pin c.args.start c.args.payload.now (Ok c.in-Ok.placed) covers.plain c.requires.vector
+    (eq-eqb c.args.id.index 0 c.requires.kind) c.requires.new.small c.in-Ok.ensures.at
+
+pub returns-in-Err-clause-does : goal.returns-in-Err-clause-does
+returns-in-Err-clause-does g c =
+    let s = state_in g.C.Chronicle c.args.self.now in
+    let before = (seen_in g.D.Disk g.R.Directory c.args.self.now).device.faults in
+    let after = (seen_of g.D.Disk g.R.Directory c.place.new.self).device.faults in
+    let does = FinishesAsAsked s before after c.args.id c.args.pin c.args.start c.args.payload.now (length (cuts_of s c.args.id.put)) in
+    subst (λ r. Answers (Err r) does ⊥) (sym c.from.ensures)
+    (answers_stop c.in-Err.stop does ⊥
+    (λ p covers.
+    vector_group p s c.args.id c.args.pin c.args.start c.args.payload.now (Err c.in-Err.stop) covers.plain c.requires.vector (eq-eqb c.args.id.index 0 c.requires.kind) c.requires.new.small c.in-Err.ensures.at))

@@ -1,0 +1,94 @@
+-- What writers and readers do, and when they may.
+use Rattle.std.specs.Prelude.{ℕ, ◌≡◌, ◌+◌, ◌<◌, ◌≤◌, true, List, [], ◌∷◌, length, Option, Some, None, Result, Ok, Err}
+use Rattle.tape_base.specs.declared.actors.Actor.{Actor}
+use Rattle.tape_base.specs.declared.keys.Key.{Key}
+use Rattle.fragment_table.specs.Table.{total_length}
+use Rattle.alternate_vector.specs.Field.{Field}
+use Rattle.cache_model.specs.declared.answer.NextAnswer.{NextAnswer}
+use Rattle.cache_model.specs.declared.answer.NextAnswer.TheVariants as next
+use Rattle.cache_model.specs.declared.answer.ReadAnswer.{ReadAnswer}
+use Rattle.cache_model.specs.declared.answer.ReadAnswer.TheVariants as read
+use Rattle.cache_model.specs.declared.record.Rec.{Rec}
+use Rattle.cache_model.specs.declared.record.Rec.TheVariants as rec
+use Rattle.cache_model.specs.State.{Open, PutRow, State, put_of, state_after, vector_piece}
+use Rattle.stripe_actors.specs.Actors.{AreActors, Seen}
+use Rattle.cache_model.specs.Verdict.{cuts_of}
+use Rattle.cache_model.specs.Permit.{Commit, Done, Exhausted, Fails, GiveUp, ManyWriters, Permit, Remove, Write}
+use Rattle.cache_model.specs.Room.{limit}
+use Rattle.cache_model.specs.Legal.{Does, IsWriting, is_writing, most_fragments, most_writers, open_writers}
+use Rattle.stripe_actors.specs.Calls.{HasNumber}
+use Rattle.stripe_core.specs.declared.refusal.Refusal.{Refusal}
+use Rattle.stripe_core.specs.declared.refusal.Refusal.TheVariants as refusal
+
+-- ---- a writer opens
+
+abbrev pub opened_record : State → Actor → Key → List Field → List Field → ℕ → Rec
+opened_record s who key request response pin = rec.WriteOpened who s.next_put key request response pin
+
+-- it has the next number; or as many are open as may be, or else the numbers have an end
+abbrev pub OpensAsAsked : State → Actor → Key → List Field → List Field → ℕ → Result ℕ Refusal → Type 0
+OpensAsAsked s who key request response pin (Ok put) =
+    (put ≡ s.next_put) × ((p : Permit) → Does p s (Write who.0 key request response pin) (opened_record s who key request response pin ∷ []) Done)
+OpensAsAsked s who key request response pin (Err refusal.TooManyWriters) =
+    (most_writers ≤ open_writers s) × ((p : Permit) → Does p s (Write who.0 key request response pin) [] (Fails ManyWriters))
+OpensAsAsked s who key request response pin (Err (refusal.Exhausted number)) =
+    (number ≡ s.next_put + 1) × ((p : Permit) → Does p s (Write who.0 key request response pin) [] (Fails Exhausted))
+OpensAsAsked s who key request response pin (Err (refusal.Memory e)) = HasNumber s
+OpensAsAsked s who key request response pin (Err _) = ⊥
+
+-- why no put can be opened; there is no other reason but want of memory
+abbrev pub IsRefusedPut : State → Option Refusal → Type 0
+IsRefusedPut s None = HasNumber s
+IsRefusedPut s (Some refusal.TooManyWriters) = most_writers ≤ open_writers s
+IsRefusedPut s (Some (refusal.Exhausted number)) = (open_writers s < most_writers) × (limit ≤ s.next_put + 1) × (number ≡ s.next_put + 1)
+IsRefusedPut s (Some _) = ⊥
+
+-- ---- it ends
+
+-- the put of that key is open, and its vector is the piece that was placed last
+pub record IsCommitting (s : State) (put : ℕ) (key : Key) : Type 0 where
+  pub w : PutRow
+  pub found : put_of s put ≡ Some w
+  pub is_open : w.writing ≡ Open
+  pub key_is : w.key ≡ key
+  pub pending : s.pending ≡ Some (vector_piece w.key put)
+
+abbrev pub committed_record : State → ℕ → Key → Rec
+committed_record s put key = rec.Committed put key (total_length (cuts_of s put))
+
+abbrev pub CommitsAsAsked : State → ℕ → Key → Type 0
+CommitsAsAsked s put key = (p : Permit) → Does p s (Commit put) (committed_record s put key ∷ []) Done
+
+-- the put of that key is open, and none of its pieces is a vector
+pub record IsGivingUp (s : State) (put : ℕ) (key : Key) : Type 0 where
+  pub w : PutRow
+  pub writing : IsWriting s put w
+  pub key_is : w.key ≡ key
+
+abbrev pub GivesUpAsAsked : State → ℕ → Key → Type 0
+GivesUpAsAsked s put key = (p : Permit) → Does p s (GiveUp put) (rec.Aborted put key ∷ []) Done
+
+-- ---- an object is removed
+
+abbrev pub RemovesAsAsked : State → Key → ℕ → Type 0
+RemovesAsAsked s key put = (p : Permit) → Does p s (Remove key) (rec.Removed put key ∷ []) Done
+
+-- ---- readers
+
+-- a writer that is followed is open
+abbrev pub IsFollowable : State → ReadAnswer → Type 0
+IsFollowable s (read.Follow put) = is_writing s put ≡ true
+IsFollowable s (read.Hit put) = Unit {0}
+IsFollowable s (read.Miss why) = Unit {0}
+
+-- a fragment that is given is one that a put may have
+abbrev pub IsGivable : NextAnswer → Type 0
+IsGivable (next.Gave index length) = index ≤ most_fragments
+IsGivable (next.Ended length) = Unit {0}
+IsGivable (next.Waited cut) = Unit {0}
+IsGivable (next.Broke why) = Unit {0}
+
+-- actors that were in step with a state in which a followed writer is open are in step behind the answer
+abbrev pub AnswersLookup : ℕ → ReadAnswer → Seen → Seen → Type 0
+AnswersLookup reader answer old new = (s : State) (who : Actor) (key : Key) (request : List Field) → IsFollowable s answer → AreActors s old
+    → AreActors (state_after s (rec.ReadOpened reader who key request answer)) new

@@ -1,0 +1,78 @@
+-- What contracts see of a stripe: its pieces and its actors, in step with the records, and the memory
+-- that is made for calls to come.
+use Rattle.std.specs.Prelude.{ℕ, ◌≡◌, ◌*◌, ◌<◌, ◌≤◌, false, length, Result, Ok, Err}
+use Rattle.ats_disk.specs.Device.{SameSeen, State as Device}
+use Rattle.ats_disk.specs.declared.device.Disk.{Ghosts as DiskGhosts}
+use Rattle.dir_table.specs.declared.directory.Directory.{Ghosts as DirectoryGhosts}
+use Rattle.cyclone.specs.Cyclone.{Seen}
+use Rattle.cache_model.specs.State.{State}
+use Rattle.cache_model.specs.Kept.{Kept}
+use Rattle.cache_chronicle.specs.declared.chronicle.Chronicle.{Ghosts as ChronicleGhosts}
+use Rattle.open_directory.specs.Directory.{room_of}
+use Rattle.stripe_actors.specs.Actors.{AreActors, Seen as Actors}
+use Rattle.stripe_core.specs.declared.refusal.Refusal.{Refusal}
+use Rattle.stripe_core.specs.declared.refusal.Refusal.TheVariants as refusal
+use Rattle.stripe_core.specs.declared.refusal.Stop.{Stop}
+use Rattle.stripe_core.specs.declared.refusal.Stop.TheVariants as stop
+use Rattle.stripe_core.specs.declared.stripe.Stripe.{Stripe}
+use Rattle.stripe_core.specs.Pieces.{ArePieces, kept_of, seen_of, state_now}
+
+abbrev pub kept_in : {D R C : Type 0} → ChronicleGhosts C → Stripe D R C → Kept
+kept_in chronicle t = kept_of chronicle t.pieces
+
+abbrev pub state_in : {D R C : Type 0} → ChronicleGhosts C → Stripe D R C → State
+state_in chronicle t = state_now chronicle t.pieces
+
+abbrev pub seen_in : {D R C : Type 0} → DiskGhosts D → DirectoryGhosts R → Stripe D R C → Seen
+seen_in disk directory t = seen_of disk directory t.pieces
+
+-- for how many calls memory is made
+abbrev pub units_in : {D R C : Type 0} → Stripe D R C → ℕ
+units_in t = t.units
+
+-- memory is made for so many calls: of each a flush, a piece, and their records
+pub record IsSpared (units room : ℕ) (c : Seen) : Type 0 where
+  pub for_records : 3 * units ≤ room
+  pub entries : units ≤ c.spare
+  pub calls : units ≤ c.device.calls
+  pub blocks : units * c.geometry.agg ≤ c.device.blocks
+
+-- the device shows what it showed, and counts no fault more
+pub record IsStill (old new : Device) : Type 0 where
+  pub size : new.size ≡ old.size
+  pub trust : new.trust ≤ old.trust
+  pub seen : SameSeen old new
+  pub faults : new.faults ≡ old.faults
+
+-- how many fragments of a put can be cut without more memory
+abbrev pub room_for : ℕ → Actors → ℕ
+room_for put a = room_of put a.held.puts
+
+-- what holds of a stripe between calls
+pub record IsStripe {D R C : Type 0} (disk : DiskGhosts D) (directory : DirectoryGhosts R) (chronicle : ChronicleGhosts C) (t : Stripe D R C) : Type 0 where
+  pub pieces : ArePieces disk directory chronicle t.pieces
+  pub actors : AreActors (state_in chronicle t) t.actors
+  -- its directory displaces nothing
+  pub plain : directory.purges ≡ false
+  pub spared : IsSpared t.units (chronicle.room t.pieces.chronicle) (seen_in disk directory t)
+  -- each reader has a record
+  pub numbered : (state_in chronicle t).next_reader < length (kept_in chronicle t).since
+
+-- what a call answers that the tape may stop: what holds of the answer, and what holds where memory is
+-- wanting
+abbrev pub Answers : {X : Type 0} → Result X Refusal → (Result X Stop → Type 0) → Type 0 → Type 0
+Answers (Ok x) answers wanting = answers (Ok x)
+Answers (Err (refusal.DeviceFault count)) answers wanting = answers (Err (stop.DeviceFault count))
+Answers (Err (refusal.Exhausted number)) answers wanting = answers (Err (stop.Exhausted number))
+Answers (Err (refusal.Memory e)) answers wanting = wanting
+Answers (Err _) answers wanting = ⊥
+
+-- memory is not wanting
+abbrev pub HasMemory : {X : Type 0} → Result X Refusal → Type 0
+HasMemory (Err (refusal.Memory e)) = ⊥
+HasMemory _ = Unit {0}
+
+-- the refusal of a call that the tape stopped
+abbrev pub refusal_of : Stop → Refusal
+refusal_of (stop.DeviceFault count) = refusal.DeviceFault count
+refusal_of (stop.Exhausted number) = refusal.Exhausted number

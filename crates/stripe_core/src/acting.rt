@@ -1,0 +1,265 @@
+// How writers and readers come and go.
+ghost use Rattle.std.specs.Prelude.{◌≡◌, ◌+◌, ◌≤◌, ◌<◌, ◌^◌, ℕ, [], ◌∷◌, Some, IsSome, IfOk, OnOk, OnErr};
+ghost use Rattle.cache_model.specs.declared.record.Rec.TheVariants as rec;
+ghost use Rattle.cache_model.specs.Kept.{with_records};
+ghost use Rattle.cache_model.specs.Legal.{IsQuiet, answer_record};
+ghost use Rattle.cache_model.specs.Verdict.{live_vector_of};
+ghost use Rattle.cache_model.specs.State.{State};
+ghost use Rattle.stripe_actors.specs.Actors.{AreActors};
+ghost use Rattle.stripe_actors.specs.Calls.{HasNumber, KeepUpWith};
+ghost use Rattle.stripe_core.specs.Acts.{AnswersLookup, CommitsAsAsked, GivesUpAsAsked, IsCommitting, IsFollowable, IsGivable, IsGivingUp, IsRefusedPut, OpensAsAsked, RemovesAsAsked, committed_record, opened_record};
+
+use crate::flushing::LIMIT;
+use crate::refusal::Refusal;
+use crate::{Stripe, records};
+use alternate_vector::Fields;
+use ats_disk::Disk;
+use cache_chronicle::Chronicle;
+use cache_model::{NextAnswer, ReadAnswer};
+use dir_table::Directory;
+use std::alloc::AllocError;
+use stripe_actors::{Actors, OpenPutRefusal};
+use tape_base::{Actor, Digest, Key, PieceId};
+
+// How many writers may be open.
+const MAX_WRITERS: u32 = 64;
+
+impl<D: Disk, R: Directory + Drop, C: Chronicle> Stripe<D, R, C> {
+    ghost use Rattle.stripe_core.specs.Pieces.{live_place_of};
+    ghost use Rattle.stripe_core.specs.Stripe.{IsStripe, kept_in, seen_in, state_in, units_in};
+
+    /// Commits a put, whose vector is the piece that was placed last. The key's vector before it
+    /// goes.
+    pub fn commit(&mut self, put: u64, key: Key)
+        requires stripe { IsStripe D.Disk R.Directory C.Chronicle self.old }
+        requires unit { 1 ≤ units_in self.old }
+        requires committing { IsCommitting (state_in C.Chronicle self.old) put key }
+        ensures stripe { IsStripe D.Disk R.Directory C.Chronicle self.new }
+        ensures adds { kept_in C.Chronicle self.new
+            ≡ with_records (kept_in C.Chronicle self.old) (committed_record (state_in C.Chronicle self.old) put key ∷ []) }
+        ensures does { CommitsAsAsked (state_in C.Chronicle self.old) put key }
+        ensures still { (seen_in D.Disk R.Directory self.new).device ≡ (seen_in D.Disk R.Directory self.old).device }
+        ensures unit { units_in self.new + 1 ≡ units_in self.old }
+    {
+        let length = self.actors.open_directory().length(put);
+        self.pieces.commit(put, key, length);
+        self.actors.close(put);
+        self.units -= 1;
+    }
+
+    /// Gives a put up that is open.
+    pub fn give_up(&mut self, put: u64, key: Key)
+        requires stripe { IsStripe D.Disk R.Directory C.Chronicle self.old }
+        requires unit { 1 ≤ units_in self.old }
+        requires writing { IsGivingUp (state_in C.Chronicle self.old) put key }
+        ensures stripe { IsStripe D.Disk R.Directory C.Chronicle self.new }
+        ensures adds { kept_in C.Chronicle self.new ≡ with_records (kept_in C.Chronicle self.old) (rec.Aborted put key ∷ []) }
+        ensures does { GivesUpAsAsked (state_in C.Chronicle self.old) put key }
+        ensures still { (seen_in D.Disk R.Directory self.new).device ≡ (seen_in D.Disk R.Directory self.old).device }
+        ensures unit { units_in self.new + 1 ≡ units_in self.old }
+    {
+        records::aborted(&mut self.pieces.chronicle, put, key);
+        self.actors.abort(put);
+        self.units -= 1;
+    }
+
+    /// Takes a key's live vector out, and gives its put.
+    pub fn take_out(&mut self, key: Key) -> u64
+        requires stripe { IsStripe D.Disk R.Directory C.Chronicle self.old }
+        requires unit { 1 ≤ units_in self.old }
+        requires quiet { IsQuiet (state_in C.Chronicle self.old) }
+        requires live { IsSome (live_vector_of (state_in C.Chronicle self.old) key) }
+        ensures stripe { IsStripe D.Disk R.Directory C.Chronicle self.new }
+        ensures adds { kept_in C.Chronicle self.new ≡ with_records (kept_in C.Chronicle self.old) (rec.Removed result key ∷ []) }
+        ensures does { RemovesAsAsked (state_in C.Chronicle self.old) key result }
+        ensures still { (seen_in D.Disk R.Directory self.new).device ≡ (seen_in D.Disk R.Directory self.old).device }
+        ensures unit { units_in self.new + 1 ≡ units_in self.old }
+    {
+        let put = self.pieces.remove(key);
+        self.units -= 1;
+        put
+    }
+
+    /// Records that the payload of a live piece, which was found in this step, is not its own, and
+    /// takes its entry out.
+    pub fn mark_damaged(&mut self, id: PieceId, kept: Digest, found: Digest)
+        requires stripe { IsStripe D.Disk R.Directory C.Chronicle self.old }
+        requires unit { 1 ≤ units_in self.old }
+        requires live { IsSome (live_place_of (state_in C.Chronicle self.old) id) }
+        ensures stripe { IsStripe D.Disk R.Directory C.Chronicle self.new }
+        ensures adds { (place : ℕ) → live_place_of (state_in C.Chronicle self.old) id ≡ Some place
+            → kept_in C.Chronicle self.new ≡ with_records (kept_in C.Chronicle self.old) (rec.Damaged id place kept found ∷ []) }
+        ensures still { (seen_in D.Disk R.Directory self.new).device ≡ (seen_in D.Disk R.Directory self.old).device }
+        ensures unit { units_in self.new + 1 ≡ units_in self.old }
+    {
+        let place = self.pieces.whereabouts(id).unwrap();
+        self.pieces.damage(id, place, kept, found);
+        self.units -= 1;
+    }
+
+    /// Records what a reader was answered, which goes on behind a fragment that it was given.
+    pub fn note(&mut self, reader: u64, answer: NextAnswer)
+        requires stripe { IsStripe D.Disk R.Directory C.Chronicle self.old }
+        requires unit { 1 ≤ units_in self.old }
+        requires few { IsGivable answer }
+        ensures stripe { IsStripe D.Disk R.Directory C.Chronicle self.new }
+        ensures adds { kept_in C.Chronicle self.new ≡ with_records (kept_in C.Chronicle self.old) (answer_record reader answer ∷ []) }
+        ensures still { (seen_in D.Disk R.Directory self.new).device ≡ (seen_in D.Disk R.Directory self.old).device }
+        ensures unit { units_in self.new + 1 ≡ units_in self.old }
+    {
+        records::answered(&mut self.pieces.chronicle, reader, answer);
+        go_on(&mut self.actors, reader, answer);
+        self.units -= 1;
+    }
+
+    /// Closes a reader.
+    pub fn end_read(&mut self, reader: u64)
+        requires stripe { IsStripe D.Disk R.Directory C.Chronicle self.old }
+        requires unit { 1 ≤ units_in self.old }
+        ensures stripe { IsStripe D.Disk R.Directory C.Chronicle self.new }
+        ensures adds { kept_in C.Chronicle self.new ≡ with_records (kept_in C.Chronicle self.old) (rec.ReadClosed reader ∷ []) }
+        ensures still { (seen_in D.Disk R.Directory self.new).device ≡ (seen_in D.Disk R.Directory self.old).device }
+        ensures unit { units_in self.new + 1 ≡ units_in self.old }
+    {
+        records::read_closed(&mut self.pieces.chronicle, reader);
+        self.actors.close_reader(reader);
+        self.units -= 1;
+    }
+
+    /// Records the answer of a lookup, and opens the reader that it gives.
+    pub fn start_read(
+        &mut self,
+        actor: Actor,
+        key: Key,
+        request: Fields,
+        answer: ReadAnswer,
+    ) -> Result<u64, AllocError>
+        requires stripe { IsStripe D.Disk R.Directory C.Chronicle self.old }
+        requires follows { IsFollowable (state_in C.Chronicle self.old) answer }
+        ensures stripe { IsStripe D.Disk R.Directory C.Chronicle self.new }
+        ensures adds { IfOk result (λ reader. kept_in C.Chronicle self.new
+            ≡ with_records (kept_in C.Chronicle self.old) (rec.ReadOpened reader actor key request answer ∷ [])) }
+        ensures reader { IfOk result (λ reader. reader ≡ (state_in C.Chronicle self.old).next_reader) }
+        ensures err { OnErr result (kept_in C.Chronicle self.new ≡ kept_in C.Chronicle self.old) }
+        ensures unit { units_in self.old ≤ units_in self.new + 1 }
+    {
+        self.take_unit()?;
+        // The count is read for what it tells of the numbers.
+        let _count = self.pieces.chronicle.count();
+        let reader = answer_lookup(&mut self.actors, answer)?;
+        records::read_opened(
+            &mut self.pieces.chronicle,
+            reader,
+            actor,
+            key,
+            request,
+            answer,
+        );
+        Ok(reader)
+    }
+
+    /// Takes the next put's number, and opens its writer.
+    pub fn start_put(
+        &mut self,
+        actor: Actor,
+        key: Key,
+        request: Fields,
+        response: Fields,
+        pin: u64,
+    ) -> Result<u64, Refusal>
+        requires stripe { IsStripe D.Disk R.Directory C.Chronicle self.old }
+        requires quiet { IsQuiet (state_in C.Chronicle self.old) }
+        ensures stripe { IsStripe D.Disk R.Directory C.Chronicle self.new }
+        ensures adds { OnOk result (kept_in C.Chronicle self.new
+            ≡ with_records (kept_in C.Chronicle self.old) (opened_record (state_in C.Chronicle self.old) actor key request response pin ∷ [])) }
+        ensures err { OnErr result (kept_in C.Chronicle self.new ≡ kept_in C.Chronicle self.old) }
+        ensures does { OpensAsAsked (state_in C.Chronicle self.old) actor key request response pin result }
+        ensures still { (seen_in D.Disk R.Directory self.new).device ≡ (seen_in D.Disk R.Directory self.old).device }
+        ensures unit { units_in self.new ≡ units_in self.old }
+    {
+        match put_refusal(&self.actors) {
+            Some(refusal) => Err(refusal),
+            None => self.open_put(actor, key, request, response, pin),
+        }
+    }
+
+    fn open_put(
+        &mut self,
+        actor: Actor,
+        key: Key,
+        request: Fields,
+        response: Fields,
+        pin: u64,
+    ) -> Result<u64, Refusal>
+        requires stripe { IsStripe D.Disk R.Directory C.Chronicle self.old }
+        requires quiet { IsQuiet (state_in C.Chronicle self.old) }
+        requires number { HasNumber (state_in C.Chronicle self.old) }
+        ensures stripe { IsStripe D.Disk R.Directory C.Chronicle self.new }
+        ensures adds { OnOk result (kept_in C.Chronicle self.new
+            ≡ with_records (kept_in C.Chronicle self.old) (opened_record (state_in C.Chronicle self.old) actor key request response pin ∷ [])) }
+        ensures err { OnErr result (kept_in C.Chronicle self.new ≡ kept_in C.Chronicle self.old) }
+        ensures does { OpensAsAsked (state_in C.Chronicle self.old) actor key request response pin result }
+        ensures still { (seen_in D.Disk R.Directory self.new).device ≡ (seen_in D.Disk R.Directory self.old).device }
+        ensures unit { units_in self.new ≡ units_in self.old }
+    {
+        let kept_request = request.copy()?;
+        let kept_response = response.copy()?;
+        self.pieces.chronicle.reserve(self.units as usize * 3 + 1)?;
+        match self.actors.open_put(key, request, response) {
+            Ok(put) => {
+                records::write_opened(
+                    &mut self.pieces.chronicle,
+                    actor,
+                    put,
+                    key,
+                    kept_request,
+                    kept_response,
+                    pin,
+                );
+                Ok(put)
+            }
+            Err(OpenPutRefusal::TooManyWriters) => Err(Refusal::TooManyWriters),
+            Err(OpenPutRefusal::Exhausted { number }) => Err(Refusal::Exhausted { number }),
+            Err(OpenPutRefusal::Memory(e)) => Err(Refusal::Memory(e)),
+        }
+    }
+}
+
+// Why no put can be opened.
+fn put_refusal(actors: &Actors) -> Option<Refusal>
+    ensures { (s : State) → AreActors s actors.now → IsRefusedPut s result }
+{
+    if actors.writers() >= MAX_WRITERS {
+        return Some(Refusal::TooManyWriters);
+    }
+    let number = actors.next_put() + 1;
+    if number >= LIMIT {
+        return Some(Refusal::Exhausted { number });
+    }
+    None
+}
+
+// A reader that was given a fragment goes on behind it.
+fn go_on(actors: &mut Actors, reader: u64, answer: NextAnswer)
+    requires { IsGivable answer }
+    ensures { KeepUpWith (answer_record reader answer) actors.old actors.new }
+{
+    match answer {
+        NextAnswer::Gave { index, .. } => actors.gave(reader, index),
+        NextAnswer::Ended { .. } | NextAnswer::Waited { .. } | NextAnswer::Broke(_) => {}
+    }
+}
+
+// Opens the reader that the answer of a lookup gives, and takes its number.
+fn answer_lookup(actors: &mut Actors, answer: ReadAnswer) -> Result<u64, AllocError>
+    requires { actors.old.next_reader + 1 < 2 ^ 64 }
+    ensures number { IfOk result (λ reader. reader ≡ actors.old.next_reader) }
+    ensures keeps { IfOk result (λ reader. AnswersLookup reader answer actors.old actors.new) }
+    ensures err { OnErr result (actors.new ≡ actors.old) }
+{
+    match answer {
+        ReadAnswer::Hit { put } => actors.open_reader(put),
+        ReadAnswer::Follow { put } => actors.open_reader(put),
+        ReadAnswer::Miss(_) => Ok(actors.miss()),
+    }
+}

@@ -1,0 +1,318 @@
+// The stripe: its pieces, and who writes and reads them.
+ghost use Rattle.std.specs.Prelude.{◌≡◌, ◌+◌, ◌*◌, ◌<◌, ◌≤◌, ◌^◌, true, false, [], IfOk, IfErr, IfSome, OnOk, OnErr, IsOk, length};
+ghost use Rattle.tape_base.specs.Geometry.{budget_of};
+ghost use Rattle.agg_buffer.specs.Buffer.{room_of};
+ghost use Rattle.cache_model.specs.State.{floor_now};
+ghost use Rattle.cache_model.specs.Kept.{all_of, with_records};
+ghost use Rattle.cache_model.specs.Legal.{IsQuiet, format_records};
+ghost use Rattle.cache_model.specs.Room.{has_room};
+ghost use Rattle.stripe_core.specs.Flush.{DoesAsAsked, StopsWith, Tells, flush_adds};
+ghost use Rattle.cache_model.specs.Legal.{is_writing};
+ghost use Rattle.cache_model.specs.Verdict.{cuts_of};
+ghost use Rattle.stripe_core.specs.Find.{Finds, find_adds};
+ghost use Rattle.stripe_core.specs.Place.{CutsAsAsked, FinishesAsAsked, FragmentAt, IsFragmentOf, IsNew, IsPlacedAt, IsPlacing, IsVectorOf, PlacesAsAsked, PlacesAt, fragment_adds, place_adds, placing_adds};
+
+use crate::Pieces;
+use crate::refusal::{Flushed, Found, Placed, Refusal};
+use ats_disk::Disk;
+use cache_chronicle::Chronicle;
+use dir_table::Directory;
+use open_directory::OpenDirectory;
+use std::alloc::{AllocError, Global};
+use stripe_actors::Actors;
+use tape_base::{Geometry, PieceId};
+
+/// The pieces on a device, the chronicle that tells of them, and the open writers and readers.
+#[derive(Drop)]
+pub struct Stripe<D: Disk, R: Directory + Drop, C: Chronicle> {
+    alloc: Global,
+    pub(crate) pieces: Pieces<D, R, C>,
+    pub(crate) actors: Actors,
+    pub(crate) units: u32,
+}
+
+impl<D: Disk, R: Directory + Drop, C: Chronicle> Stripe<D, R, C> {
+    ghost use Rattle.stripe_core.specs.Pieces.{live_place_of};
+    ghost use Rattle.stripe_core.specs.Stripe.{Answers, HasMemory, IsSpared, IsStill, IsStripe, kept_in, room_for, seen_in, state_in, units_in};
+
+    /// Begins a session on an empty content area. A refusal gives back the device and the chronicle.
+    pub fn format(
+        alloc: Global,
+        disk: D,
+        chronicle: C,
+        g: Geometry,
+    ) -> Result<Stripe<D, R, C>, (Refusal, D, C)>
+        requires sized { g.content ≤ (D.state disk).size }
+        requires empty { C.kept chronicle ≡ all_of [] }
+        requires plain { R.purges ≡ false }
+        ensures stripe { IfOk result (IsStripe D.Disk R.Directory C.Chronicle) }
+        ensures records { IfOk result (λ t. kept_in C.Chronicle t ≡ all_of (format_records g)) }
+        ensures device { IfOk result (λ t. (seen_in D.Disk R.Directory t).device ≡ D.state disk) }
+        ensures back { IfErr result (λ r. (r.1 ≡ disk) × (C.kept r.2 ≡ all_of [])) }
+    {
+        match Pieces::format(alloc, disk, chronicle, g) {
+            Ok(pieces) => Ok(Stripe {
+                alloc,
+                pieces,
+                actors: Actors::new(alloc),
+                units: 0,
+            }),
+            Err((e, disk, chronicle)) => Err((Refusal::Memory(e), disk, chronicle)),
+        }
+    }
+
+    /// Gives the device and the chronicle back.
+    pub fn into_parts(self) -> (D, C)
+        ensures device { D.state result.0 ≡ (seen_in D.Disk R.Directory self).device }
+        ensures records { C.kept result.1 ≡ kept_in C.Chronicle self }
+    {
+        let Stripe { pieces, .. } = self;
+        pieces.into_parts()
+    }
+
+    /// The allocator that the stripe was made with.
+    pub fn alloc(&self) -> Global {
+        self.alloc
+    }
+
+    pub fn chronicle(&self) -> &C
+        ensures { C.kept result.now ≡ kept_in C.Chronicle self.now }
+    {
+        self.pieces.chronicle()
+    }
+
+    pub fn disk(&self) -> &D
+        ensures { D.state result.now ≡ (seen_in D.Disk R.Directory self.now).device }
+    {
+        self.pieces.cyclone.disk()
+    }
+
+    pub fn geometry(&self) -> &Geometry
+        requires { IsStripe D.Disk R.Directory C.Chronicle self.now }
+        ensures { result.now ≡ (state_in C.Chronicle self.now).geometry }
+    {
+        self.pieces.cyclone.geometry()
+    }
+
+    /// Where the buffer begins.
+    pub fn cursor(&self) -> u64
+        requires { IsStripe D.Disk R.Directory C.Chronicle self.now }
+        ensures { result ≡ (state_in C.Chronicle self.now).cursor }
+    {
+        self.pieces.cyclone.cursor()
+    }
+
+    /// The least place that may be read.
+    pub fn floor(&self) -> u64
+        requires { IsStripe D.Disk R.Directory C.Chronicle self.now }
+        ensures { result ≡ floor_now (state_in C.Chronicle self.now) }
+    {
+        self.pieces.cyclone.floor()
+    }
+
+    /// How many blocks the buffer still takes.
+    pub fn room(&self) -> u32
+        requires { IsStripe D.Disk R.Directory C.Chronicle self.now }
+        ensures { let s = state_in C.Chronicle self.now in result + s.filled ≡ s.geometry.agg }
+    {
+        self.pieces.cyclone.room()
+    }
+
+    pub fn open_directory(&self) -> &OpenDirectory
+        ensures { result.now ≡ self.now.actors.held }
+    {
+        self.actors.open_directory()
+    }
+
+    /// The place of a live piece. It reads no device and takes no memory.
+    pub fn whereabouts(&self, id: PieceId) -> Option<u64>
+        requires { IsStripe D.Disk R.Directory C.Chronicle self.now }
+        ensures { result ≡ live_place_of (state_in C.Chronicle self.now) id }
+    {
+        self.pieces.whereabouts(id)
+    }
+
+    /// Writes the buffer out where it is not empty, and begins the next one.
+    pub fn flush(&mut self) -> Result<Flushed, Refusal>
+        requires stripe { IsStripe D.Disk R.Directory C.Chronicle self.old }
+        requires quiet { IsQuiet (state_in C.Chronicle self.old) }
+        ensures stripe { IsStripe D.Disk R.Directory C.Chronicle self.new }
+        ensures adds { Answers result (λ r. kept_in C.Chronicle self.new
+            ≡ with_records (kept_in C.Chronicle self.old) (flush_adds (state_in C.Chronicle self.old) r)) (kept_in C.Chronicle self.new ≡ kept_in C.Chronicle self.old) }
+        ensures does { Answers result (DoesAsAsked (state_in C.Chronicle self.old) (seen_in D.Disk R.Directory self.old).device.faults
+            (seen_in D.Disk R.Directory self.new).device.faults) (Unit {0}) }
+        ensures tells { IfOk result (Tells (state_in C.Chronicle self.old) (state_in C.Chronicle self.new)) }
+        ensures stops { Answers result (λ r. IfErr r (StopsWith (state_in C.Chronicle self.old) (seen_in D.Disk R.Directory self.new).device.faults)) (Unit {0}) }
+        ensures memory { 0 < units_in self.old → HasMemory result }
+        ensures unit { units_in self.old ≤ units_in self.new + 1 }
+    {
+        self.take_unit()?;
+        match self.pieces.flush() {
+            Ok(flushed) => Ok(flushed),
+            Err(stop) => Err(Refusal::from(stop)),
+        }
+    }
+
+    /// Reads a live piece and brings its payload to the front of `into`, or tells why there is none.
+    /// Bytes that are not its own are recorded, and its entry goes.
+    pub fn find_piece(&mut self, id: PieceId, into: &mut [u8]) -> Result<Found, AllocError>
+        requires stripe { IsStripe D.Disk R.Directory C.Chronicle self.old }
+        requires into { length into.old ≡ 512 * budget_of (state_in C.Chronicle self.old).geometry }
+        ensures stripe { IsStripe D.Disk R.Directory C.Chronicle self.new }
+        ensures adds { IfOk result (λ found. kept_in C.Chronicle self.new
+            ≡ with_records (kept_in C.Chronicle self.old) (find_adds (state_in C.Chronicle self.old) id found)) }
+        ensures finds { IfOk result (λ found. Finds (state_in C.Chronicle self.old) (seen_in D.Disk R.Directory self.old).device
+            (seen_in D.Disk R.Directory self.new).device id found into.new) }
+        ensures err { OnErr result (kept_in C.Chronicle self.new ≡ kept_in C.Chronicle self.old) }
+        ensures memory { 0 < units_in self.old → IsOk result }
+        ensures unit { units_in self.old ≤ units_in self.new + 1 }
+    {
+        self.take_unit()?;
+        Ok(self.pieces.find(id, into))
+    }
+
+    /// Makes memory for so many calls, and for the next fragment of a put.
+    pub fn prepare(&mut self, put: Option<u64>, units: u32) -> Result<(), AllocError>
+        requires stripe { IsStripe D.Disk R.Directory C.Chronicle self.old }
+        requires open { IfSome put (λ n. is_writing (state_in C.Chronicle self.old) n ≡ true) }
+        ensures stripe { IsStripe D.Disk R.Directory C.Chronicle self.new }
+        ensures records { kept_in C.Chronicle self.new ≡ kept_in C.Chronicle self.old }
+        ensures units { OnOk result (units ≤ units_in self.new) }
+        ensures row { OnOk result (IfSome put (λ n. 0 < room_for n self.new.actors)) }
+        ensures more { units_in self.old ≤ units_in self.new }
+    {
+        if let Some(put) = put {
+            self.actors.reserve_cut(put)?;
+        }
+        self.make_units(units)
+    }
+
+    /// Places a piece: the next fragment of an open put, behind a flush where it has no room, or a
+    /// put's vector, for which there is room.
+    pub fn place_piece(
+        &mut self,
+        id: PieceId,
+        pin: u64,
+        start: u64,
+        payload: &[u8],
+    ) -> Result<Placed, Refusal>
+        requires stripe { IsStripe D.Disk R.Directory C.Chronicle self.old }
+        requires new { IsNew (state_in C.Chronicle self.old) id payload.now }
+        requires size { length payload.now ≤ 2 ^ 31 }
+        requires placing { IsPlacing (state_in C.Chronicle self.old) id pin start payload.now }
+        ensures stripe { IsStripe D.Disk R.Directory C.Chronicle self.new }
+        ensures adds { Answers result (λ r. kept_in C.Chronicle self.new
+            ≡ with_records (kept_in C.Chronicle self.old) (placing_adds (state_in C.Chronicle self.old) id pin start payload.now r))
+            (kept_in C.Chronicle self.new ≡ kept_in C.Chronicle self.old) }
+        ensures does { Answers result (PlacesAsAsked (state_in C.Chronicle self.old) (seen_in D.Disk R.Directory self.old).device.faults
+            (seen_in D.Disk R.Directory self.new).device.faults id pin start payload.now) (Unit {0}) }
+        ensures at { Answers result (IsPlacedAt (state_in C.Chronicle self.old) (seen_in D.Disk R.Directory self.new).device.faults id payload.now) (Unit {0}) }
+        // Without a flush the device stays as it is, but for the memory of its calls.
+        ensures still { has_room (state_in C.Chronicle self.old) (length payload.now) ≡ true
+            → IsStill (seen_in D.Disk R.Directory self.old).device (seen_in D.Disk R.Directory self.new).device }
+        ensures unit { units_in self.old ≤ units_in self.new + 1 }
+    {
+        self.take_unit()?;
+        if id.index == 0 {
+            self.place_vector(id, pin, start, payload)
+        } else {
+            self.place_fragment(id, pin, start, payload)
+        }
+    }
+
+    fn place_vector(
+        &mut self,
+        id: PieceId,
+        pin: u64,
+        start: u64,
+        payload: &[u8],
+    ) -> Result<Placed, Refusal>
+        requires stripe { IsStripe D.Disk R.Directory C.Chronicle self.old }
+        requires spared { IsSpared (units_in self.old + 1) (C.room self.old.pieces.chronicle) (seen_in D.Disk R.Directory self.old) }
+        requires new { IsNew (state_in C.Chronicle self.old) id payload.now }
+        requires size { length payload.now ≤ 2 ^ 31 }
+        requires kind { id.index ≡ 0 }
+        requires vector { IsVectorOf (state_in C.Chronicle self.old) id pin start payload.now }
+        ensures stripe { IsStripe D.Disk R.Directory C.Chronicle self.new }
+        ensures adds { Answers result (λ r. kept_in C.Chronicle self.new
+            ≡ with_records (kept_in C.Chronicle self.old) (place_adds (state_in C.Chronicle self.old) id pin start payload.now r)) ⊥ }
+        ensures does { Answers result (FinishesAsAsked (state_in C.Chronicle self.old) (seen_in D.Disk R.Directory self.old).device.faults
+            (seen_in D.Disk R.Directory self.new).device.faults id pin start payload.now (length (cuts_of (state_in C.Chronicle self.old) id.put))) ⊥ }
+        ensures at { Answers result (PlacesAt (state_in C.Chronicle self.old) payload.now) ⊥ }
+        ensures still { (seen_in D.Disk R.Directory self.new).device ≡ (seen_in D.Disk R.Directory self.old).device }
+        ensures unit { units_in self.new ≡ units_in self.old }
+    {
+        match self.pieces.place(id, pin, start, payload) {
+            Ok(placed) => Ok(placed),
+            Err(stop) => Err(Refusal::from(stop)),
+        }
+    }
+
+    fn place_fragment(
+        &mut self,
+        id: PieceId,
+        pin: u64,
+        start: u64,
+        payload: &[u8],
+    ) -> Result<Placed, Refusal>
+        requires stripe { IsStripe D.Disk R.Directory C.Chronicle self.old }
+        requires spared { IsSpared (units_in self.old + 1) (C.room self.old.pieces.chronicle) (seen_in D.Disk R.Directory self.old) }
+        requires new { IsNew (state_in C.Chronicle self.old) id payload.now }
+        requires size { length payload.now ≤ 2 ^ 31 }
+        requires fragment { IsFragmentOf (state_in C.Chronicle self.old) id pin start payload.now }
+        ensures stripe { IsStripe D.Disk R.Directory C.Chronicle self.new }
+        ensures adds { Answers result (λ r. kept_in C.Chronicle self.new
+            ≡ with_records (kept_in C.Chronicle self.old) (fragment_adds (state_in C.Chronicle self.old) id pin start payload.now r))
+            (kept_in C.Chronicle self.new ≡ kept_in C.Chronicle self.old) }
+        ensures does { Answers result (CutsAsAsked (state_in C.Chronicle self.old) (seen_in D.Disk R.Directory self.old).device.faults
+            (seen_in D.Disk R.Directory self.new).device.faults id pin start payload.now) (Unit {0}) }
+        ensures at { Answers result (FragmentAt (state_in C.Chronicle self.old) (seen_in D.Disk R.Directory self.new).device.faults payload.now) (Unit {0}) }
+        ensures still { has_room (state_in C.Chronicle self.old) (length payload.now) ≡ true
+            → (seen_in D.Disk R.Directory self.new).device ≡ (seen_in D.Disk R.Directory self.old).device }
+        ensures unit { units_in self.new ≡ units_in self.old }
+    {
+        self.actors.reserve_cut(id.put)?;
+        match self.pieces.place_fragment(id, pin, start, payload) {
+            Ok(placed) => {
+                self.actors
+                    .cut(id.put, payload.len() as u32, placed.payload);
+                Ok(placed)
+            }
+            Err(stop) => Err(Refusal::from(stop)),
+        }
+    }
+
+    // Uses up a unit of memory, and makes one where there is none.
+    pub(crate) fn take_unit(&mut self) -> Result<(), AllocError>
+        requires { IsStripe D.Disk R.Directory C.Chronicle self.old }
+        ensures stripe { IsStripe D.Disk R.Directory C.Chronicle self.new }
+        ensures records { kept_in C.Chronicle self.new ≡ kept_in C.Chronicle self.old }
+        ensures spared { OnOk result (IsSpared (units_in self.new + 1) (C.room self.new.pieces.chronicle) (seen_in D.Disk R.Directory self.new)) }
+        ensures actors { self.new.actors ≡ self.old.actors }
+        ensures memory { 0 < units_in self.old → IsOk result }
+        ensures unit { units_in self.old ≤ units_in self.new + 1 }
+        ensures still { IsStill (seen_in D.Disk R.Directory self.old).device (seen_in D.Disk R.Directory self.new).device }
+    {
+        self.make_units(1)?;
+        self.units -= 1;
+        Ok(())
+    }
+
+    // Makes memory for so many calls.
+    fn make_units(&mut self, units: u32) -> Result<(), AllocError>
+        requires { IsStripe D.Disk R.Directory C.Chronicle self.old }
+        ensures stripe { IsStripe D.Disk R.Directory C.Chronicle self.new }
+        ensures records { kept_in C.Chronicle self.new ≡ kept_in C.Chronicle self.old }
+        ensures units { OnOk result (units ≤ units_in self.new) }
+        ensures actors { self.new.actors ≡ self.old.actors }
+        ensures memory { units ≤ units_in self.old → IsOk result }
+        ensures more { units_in self.old ≤ units_in self.new }
+        ensures still { IsStill (seen_in D.Disk R.Directory self.old).device (seen_in D.Disk R.Directory self.new).device }
+    {
+        if units > self.units {
+            self.pieces.prepare(units)?;
+            self.units = units;
+        }
+        Ok(())
+    }
+}
