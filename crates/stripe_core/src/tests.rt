@@ -39,7 +39,10 @@ fn a_fresh_stripe_is_empty(rt: HostRuntime) -> Result<(), Fail> {
     let stripe = empty(&rt)?;
     assert_eq!(rt; stripe.whereabouts(vector()), None);
     assert_eq!(rt; stripe.chronicle().count(), 2);
-    assert_eq!(rt; (stripe.cursor(), stripe.floor(), stripe.room()), (64, 8, 8));
+    assert_eq!(rt;
+        (stripe.cursor(), stripe.floor(), stripe.room()),
+        (64, 8, 8)
+    );
     assert_eq!(rt; stripe.geometry().content, 64);
     assert_eq!(rt; stripe.disk().faults(), 0);
     assert_eq!(rt; stripe.open_directory().writers(), 0);
