@@ -61,7 +61,7 @@ left_by : (P : Row → Type 0) (row : Row) (left : List Row) (b : Bool) → P ro
 left_by P row left true h all = (h, all)
 left_by P row left false h all = all
 
-all_left : (P : Row → Type 0) (id : PieceId) (rows : List Row) → AllByRecursion P rows → AllByRecursion P (without id rows)
+pub all_left : (P : Row → Type 0) (id : PieceId) (rows : List Row) → AllByRecursion P rows → AllByRecursion P (without id rows)
 all_left P id [] all = tt
 all_left P id (row ∷ rows) all = left_by P row (without id rows) (not (same_piece row.id id)) all.0 (all_left P id rows all.1)
 

@@ -16,3 +16,4 @@ mod Takings
 mod Findings
 mod Sparing
 mod Doings
+mod Naming

@@ -63,7 +63,7 @@ kept_more false true n h = let f : false ≡ true = h refl in cc
 
 -- ---- what is buffered
 
-all_append : (P : Row → Type 0) (rows : List Row) (row : Row) → AllByRecursion P rows → P row → AllByRecursion P (rows ++ row ∷ [])
+pub all_append : (P : Row → Type 0) (rows : List Row) (row : Row) → AllByRecursion P rows → P row → AllByRecursion P (rows ++ row ∷ [])
 all_append P [] row all h = (h, all)
 all_append P (first ∷ rows) row all h = (all.0, all_append P rows row all.1 h)
 

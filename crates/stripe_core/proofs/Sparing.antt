@@ -1,6 +1,6 @@
 -- What is left of the memory that was made, and records that leave the actors as they are.
 use Rattle.std.proofs.Common.{◌≡◌, ℕ, ◌+◌, ◌*◌, ◌<◌, ◌≤◌, List, [], ◌∷◌, ◌++◌, refl, sym, ◌∙◌, ap, subst, arith, Bool, true, false, length, Result, Ok, Err}
-use Rattle.std.specs.Prelude.{Option, Some, None, if◌then◌else◌}
+use Rattle.std.specs.Prelude.{Option, Some, None, if◌then◌else◌, ◌==◌}
 use Rattle.std.specs.List.{AllByRecursion}
 use Rattle.std.proofs.lemmas.List.{length-append}
 use Rattle.tape_base.specs.declared.geometries.Geometry.{Geometry}
@@ -8,12 +8,11 @@ use Rattle.tape_base.specs.declared.digests.Digest.{Digest}
 use Rattle.tape_base.specs.declared.pieces.PieceId.{PieceId}
 use Rattle.tape_base.specs.Digest.{digest_of}
 use Rattle.tape_base.specs.Piece.{is_vector}
-use Rattle.ats_disk.specs.Device.{Grows}
-use Rattle.cyclone.specs.Cyclone.{SameButRoom, Seen}
+use Rattle.cyclone.specs.Cyclone.{Seen}
 use Rattle.cache_model.specs.declared.cause.Cause.TheVariants as cause
 use Rattle.cache_model.specs.declared.record.Rec.{Rec}
 use Rattle.cache_model.specs.declared.record.Rec.TheVariants as rec
-use Rattle.cache_model.specs.State.{Row, State, after_all, live_row_of, state_after}
+use Rattle.cache_model.specs.State.{Row, State, after_all, cursor_next, floor_next, live_row_of, state_after}
 use Rattle.cache_model.specs.Kept.{Kept, state_of, with_records}
 use Rattle.cache_model.specs.Room.{has_room, is_flush_exhausted, placed_record}
 use Rattle.cache_model.proofs.Steps.{after_all-append}
@@ -21,6 +20,7 @@ use Rattle.stripe_actors.specs.Calls.{CutsNext}
 use Rattle.stripe_actors.specs.Actors.{AreActors, Seen as Actors}
 use Rattle.stripe_actors.specs.ActorLaws.{speaks_of_actors}
 use Rattle.stripe_actors.proofs.Telling.{others}
+use Rattle.stripe_core.specs.declared.refusal.Flushed.{Flushed}
 use Rattle.stripe_core.specs.declared.refusal.Found.{Found}
 use Rattle.stripe_core.specs.declared.refusal.Found.TheVariants as found
 use Rattle.stripe_core.specs.declared.refusal.Placed.{Placed}
@@ -30,7 +30,7 @@ use Rattle.stripe_core.specs.declared.refusal.Stop.{Stop}
 use Rattle.stripe_core.specs.declared.refusal.Stop.TheVariants as stop
 use Rattle.stripe_core.specs.Covers.{Uses}
 use Rattle.stripe_core.specs.Find.{cause_records, find_adds, found_records}
-use Rattle.stripe_core.specs.Flush.{stop_records}
+use Rattle.stripe_core.specs.Flush.{flush_adds, stop_records}
 use Rattle.stripe_core.specs.Place.{IsFragmentOf, fragment_adds, piece_records, place_adds, room_records, with_room}
 use Rattle.stripe_core.specs.Stripe.{Answers, IsSpared, refusal_of}
 use Rattle.stripe_core.proofs.Flushes.{state_of-with_records}
@@ -108,12 +108,16 @@ pub stops_are_others : (why : Stop) → AllOthers (stop_records why)
 stops_are_others (stop.DeviceFault count) = (refl, tt)
 stops_are_others (stop.Exhausted number) = tt
 
+began_or_not : (s : State) (b : Bool) → AllOthers (if b then [] else rec.Began (cursor_next s) (floor_next s) ∷ [])
+began_or_not s true = tt
+began_or_not s false = (refl, tt)
+
+pub flush_is_others : (s : State) (result : Result Flushed Stop) → AllOthers (flush_adds s result)
+flush_is_others s (Ok flushed) = began_or_not s (s.filled == 0)
+flush_is_others s (Err why) = stops_are_others why
+
 pub room_is_others : (s : State) (bytes : ℕ) → AllOthers (room_records s bytes)
-room_is_others s bytes = by (has_room s bytes)
-  where
-    by : (b : Bool) → AllOthers (if b then [] else rec.Began (Rattle.cache_model.specs.State.cursor_next s) (Rattle.cache_model.specs.State.floor_next s) ∷ [])
-    by true = tt
-    by false = (refl, tt)
+room_is_others s bytes = began_or_not s (has_room s bytes)
 
 -- ---- memory
 
@@ -135,33 +139,14 @@ spent units room left records entries calls blocks c new h u r e k b =
       blocks = subst (λ a. units * a ≤ new.device.blocks) (sym agg) (omega (arith, more, before, of_blocks, b));
     }
 
--- more room is as good
-pub spared_more : (units room left calls blocks : ℕ) (c new : Seen) → IsSpared units room c → room ≤ left → SameButRoom c new → Grows calls blocks c.device new.device → IsSpared units left new
-spared_more units room left calls blocks c new h more same grows =
-    let geometry : new.geometry ≡ c.geometry = ap (λ (y : Seen). y.geometry) same.same in
-    let spare : c.spare ≤ new.spare = same.spare in
-    let more_calls : new.device.calls ≡ c.device.calls + calls = grows.calls in
-    let more_blocks : new.device.blocks ≡ c.device.blocks + blocks = grows.blocks in
-    let before : units * c.geometry.agg ≤ c.device.blocks = h.blocks in
-    record {
-      for_records = omega (arith, h.for_records, more);
-      entries = omega (arith, h.entries, spare);
-      calls = omega (arith, h.calls, more_calls);
-      blocks = subst (λ (g : Geometry). units * g.agg ≤ new.device.blocks) (sym geometry) (omega (arith, before, more_blocks));
-    }
-
--- memory for so many calls was made
-pub spared_anew : (units left : ℕ) (c new : Seen) → 3 * units ≤ left → units ≤ new.spare → SameButRoom c new → Grows units (units * c.geometry.agg) c.device new.device → IsSpared units left new
-spared_anew units left c new records entries same grows =
-    let geometry : new.geometry ≡ c.geometry = ap (λ (y : Seen). y.geometry) same.same in
-    let more_calls : new.device.calls ≡ c.device.calls + units = grows.calls in
-    let more_blocks : new.device.blocks ≡ c.device.blocks + units * c.geometry.agg = grows.blocks in
-    record {
-      for_records = records;
-      entries = entries;
-      calls = omega (arith, more_calls);
-      blocks = subst (λ (g : Geometry). units * g.agg ≤ new.device.blocks) (sym geometry) (omega (arith, more_blocks));
-    }
+-- one record
+pub one_told : (u room left : ℕ) (c : Seen) → IsSpared (u + 1) room c → room ≤ left + 1 → IsSpared u left c
+one_told u room left c h more = spent u room left 1 0 0 0 c c h (record {
+  same = refl;
+  of_records = more;
+  of_entries = omega arith;
+  device = record { size = refl; trust = omega arith; calls = omega arith; blocks = omega arith };
+}) (omega arith) (omega arith) (omega arith) (omega arith)
 
 -- ---- answers
 
@@ -195,7 +180,7 @@ module _ (s : State) (id : PieceId) (pin start : ℕ) (payload : List ℕ) (kind
   abbrev cut : State
   cut = state_after t (rec.Cut id.put id.index (length payload) (digest_of payload))
 
-  placed_state : after_all s (room_records s (length payload) ++ piece_records t id pin start payload) ≡ state_after cut (placed_record t id pin start (length payload) payload)
+  pub placed_state : after_all s (room_records s (length payload) ++ piece_records t id pin start payload) ≡ state_after cut (placed_record t id pin start (length payload) payload)
   placed_state = after_all-append s (room_records s (length payload)) (piece_records t id pin start payload) ∙ ap (after_all t) (fragment_two t id pin start payload kind)
 
   pub fragment_actors : (a b : Actors) (digest : Digest) → digest ≡ digest_of payload → CutsNext id.put (length payload) digest a b → AreActors s a
@@ -207,6 +192,9 @@ module _ (s : State) (id : PieceId) (pin start : ℕ) (payload : List ℕ) (kind
 
   pub fragment_readers : (after_all s (room_records s (length payload) ++ piece_records t id pin start payload)).next_reader ≡ s.next_reader
   fragment_readers = ap (λ (x : State). x.next_reader) placed_state ∙ readers_stay s (room_records s (length payload)) (room_is_others s (length payload))
+
+pub vector_alone : (s : State) (id : PieceId) (pin start : ℕ) (payload : List ℕ) → is_vector id ≡ true → piece_records s id pin start payload ≡ placed_record s id pin start (length payload) payload ∷ []
+vector_alone s id pin start payload kind = rw kind refl
 
 pub vector_others : (s : State) (id : PieceId) (pin start : ℕ) (payload : List ℕ) (result : Result Placed Stop) → is_vector id ≡ true → AllOthers (place_adds s id pin start payload result)
 vector_others s id pin start payload (Ok placed) kind = rw kind (refl, tt)

@@ -6,5 +6,6 @@ pub mod Covers
 pub mod Flush
 pub mod Place
 pub mod Find
+pub mod Named
 pub mod Stripe
 pub mod Acts

@@ -122,6 +122,7 @@ pub record IsVectorOf (s : State) (id : PieceId) (pin start : ℕ) (payload : Li
   pub start_is : start ≡ 0
   pub payload_is : payload ≡ vector_payload s id.put
   pub length_is : length payload ≡ vector_length s id.put
+  pub small : blocks_of (length payload) ≤ budget_of s.geometry
   pub room : has_room s (length payload) ≡ true
 
 abbrev pub FinishesAsAsked : State → ℕ → ℕ → PieceId → ℕ → ℕ → List ℕ → ℕ → Result Placed Stop → Type 0

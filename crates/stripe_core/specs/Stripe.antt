@@ -15,6 +15,7 @@ use Rattle.stripe_core.specs.declared.refusal.Refusal.TheVariants as refusal
 use Rattle.stripe_core.specs.declared.refusal.Stop.{Stop}
 use Rattle.stripe_core.specs.declared.refusal.Stop.TheVariants as stop
 use Rattle.stripe_core.specs.declared.stripe.Stripe.{Stripe}
+use Rattle.stripe_core.specs.Named.{IsNamed}
 use Rattle.stripe_core.specs.Pieces.{ArePieces, kept_of, seen_of, state_now}
 
 abbrev pub kept_in : {D R C : Type 0} → ChronicleGhosts C → Stripe D R C → Kept
@@ -55,6 +56,8 @@ pub record IsStripe {D R C : Type 0} (disk : DiskGhosts D) (directory : Director
   -- its directory displaces nothing
   pub plain : directory.purges ≡ false
   pub spared : IsSpared t.units (chronicle.room t.pieces.chronicle) (seen_in disk directory t)
+  -- each piece is one of a put that has begun, and of an open put one that it has cut
+  pub named : IsNamed (state_in chronicle t)
   -- each reader has a record
   pub numbered : (state_in chronicle t).next_reader < length (kept_in chronicle t).since
 

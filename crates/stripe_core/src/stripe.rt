@@ -10,7 +10,7 @@ ghost use Rattle.stripe_core.specs.Flush.{DoesAsAsked, StopsWith, Tells, flush_a
 ghost use Rattle.cache_model.specs.Legal.{is_writing};
 ghost use Rattle.cache_model.specs.Verdict.{cuts_of};
 ghost use Rattle.stripe_core.specs.Find.{Finds, find_adds};
-ghost use Rattle.stripe_core.specs.Place.{CutsAsAsked, FinishesAsAsked, FragmentAt, IsFragmentOf, IsNew, IsPlacedAt, IsPlacing, IsVectorOf, PlacesAsAsked, PlacesAt, fragment_adds, place_adds, placing_adds};
+ghost use Rattle.stripe_core.specs.Place.{CutsAsAsked, FinishesAsAsked, FragmentAt, IsFragmentOf, IsPlacedAt, IsPlacing, IsVectorOf, PlacesAsAsked, PlacesAt, fragment_adds, place_adds, placing_adds};
 
 use crate::Pieces;
 use crate::refusal::{Flushed, Found, Placed, Refusal};
@@ -197,8 +197,6 @@ impl<D: Disk, R: Directory + Drop, C: Chronicle> Stripe<D, R, C> {
         payload: &[u8],
     ) -> Result<Placed, Refusal>
         requires stripe { IsStripe D.Disk R.Directory C.Chronicle self.old }
-        requires new { IsNew (state_in C.Chronicle self.old) id payload.now }
-        requires size { length payload.now ≤ 2 ^ 31 }
         requires placing { IsPlacing (state_in C.Chronicle self.old) id pin start payload.now }
         ensures stripe { IsStripe D.Disk R.Directory C.Chronicle self.new }
         ensures adds { Answers result (λ r. kept_in C.Chronicle self.new
@@ -229,8 +227,6 @@ impl<D: Disk, R: Directory + Drop, C: Chronicle> Stripe<D, R, C> {
     ) -> Result<Placed, Refusal>
         requires stripe { IsStripe D.Disk R.Directory C.Chronicle self.old }
         requires spared { IsSpared (units_in self.old + 1) (C.room self.old.pieces.chronicle) (seen_in D.Disk R.Directory self.old) }
-        requires new { IsNew (state_in C.Chronicle self.old) id payload.now }
-        requires size { length payload.now ≤ 2 ^ 31 }
         requires kind { id.index ≡ 0 }
         requires vector { IsVectorOf (state_in C.Chronicle self.old) id pin start payload.now }
         ensures stripe { IsStripe D.Disk R.Directory C.Chronicle self.new }
@@ -257,8 +253,6 @@ impl<D: Disk, R: Directory + Drop, C: Chronicle> Stripe<D, R, C> {
     ) -> Result<Placed, Refusal>
         requires stripe { IsStripe D.Disk R.Directory C.Chronicle self.old }
         requires spared { IsSpared (units_in self.old + 1) (C.room self.old.pieces.chronicle) (seen_in D.Disk R.Directory self.old) }
-        requires new { IsNew (state_in C.Chronicle self.old) id payload.now }
-        requires size { length payload.now ≤ 2 ^ 31 }
         requires fragment { IsFragmentOf (state_in C.Chronicle self.old) id pin start payload.now }
         ensures stripe { IsStripe D.Disk R.Directory C.Chronicle self.new }
         ensures adds { Answers result (λ r. kept_in C.Chronicle self.new

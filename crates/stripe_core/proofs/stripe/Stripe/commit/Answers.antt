@@ -1,5 +1,6 @@
-use Rattle.std.proofs.Common.{sym, ◌∙◌, ap, subst, arith, [], ◌∷◌}
+use Rattle.std.proofs.Common.{Some, sym, ◌∙◌, ap, subst, arith, [], ◌∷◌}
 use Rattle.cache_model.specs.declared.record.Rec.TheVariants as rec
+use Rattle.cache_model.specs.State.{vector_piece}
 use Rattle.cache_model.specs.Kept.{state_of}
 use Rattle.stripe_actors.specs.Actors.{AreActors}
 use Rattle.stripe_core.specs.Pieces.{seen_of}
@@ -7,6 +8,7 @@ use Rattle.stripe_core.specs.Stripe.{kept_in, seen_in, state_in}
 use Rattle.stripe_core.proofs.Flushes.{state_of-with_records}
 use Rattle.stripe_core.proofs.Doings.{commits, one_less, reader_behind}
 use Rattle.stripe_core.proofs.Sparing.{numbered_by}
+use Rattle.stripe_core.proofs.Naming.{named_behind, named_committed}
 use Rattle.stripe_core.proofs.stripe.Stripe.commit.Goals as goal
 
 pub returns-clause-stripe : goal.returns-clause-stripe
@@ -21,6 +23,8 @@ returns-clause-stripe g c =
       actors = subst (λ t. AreActors t c.close.new.self) (sym (ap state_of c.commit.ensures.adds ∙ state_of-with_records kept (told ∷ []))) (c.close.ensures c.args.key c.length-length.result s c.requires.stripe.actors);
       plain = c.requires.stripe.plain;
       spared = one_less c.args.self.now.units _ _ (seen_in g.D.Disk g.R.Directory c.args.self.now) (seen_of g.D.Disk g.R.Directory c.commit.new.self) c.requires.unit c.requires.stripe.spared c.commit.ensures.uses;
+      named = named_behind kept _ told c.commit.ensures.adds
+          (named_committed s c.args.put c.length-length.result c.args.key (c.requires.committing.pending ∙ ap (λ k. Some (vector_piece k c.args.put)) c.requires.committing.key_is) c.requires.stripe.named);
       numbered = numbered_by kept after (told ∷ []) 0 c.commit.ensures.adds (omega (arith, reader)) (omega arith) c.requires.stripe.numbered;
     }
 

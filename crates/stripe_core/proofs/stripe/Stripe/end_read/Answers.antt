@@ -6,6 +6,7 @@ use Rattle.stripe_core.specs.Stripe.{kept_in, seen_in, state_in}
 use Rattle.stripe_core.proofs.Flushes.{state_of-with_records}
 use Rattle.stripe_core.proofs.Doings.{held_behind, one_record, reader_behind}
 use Rattle.stripe_core.proofs.Sparing.{numbered_by}
+use Rattle.stripe_core.proofs.Naming.{name_left, named_behind}
 use Rattle.stripe_core.proofs.stripe.Stripe.end_read.Goals as goal
 
 pub returns-clause-stripe : goal.returns-clause-stripe
@@ -19,5 +20,6 @@ returns-clause-stripe g c =
       actors = subst (λ t. AreActors t c.close_reader.new.self) (sym (ap state_of c.read_closed.ensures.kept ∙ state_of-with_records kept (rec.ReadClosed c.args.reader ∷ []))) (c.close_reader.ensures s c.requires.stripe.actors);
       plain = c.requires.stripe.plain;
       spared = one_record c.args.self.now.units _ _ before c.requires.unit c.requires.stripe.spared c.read_closed.ensures.room;
+      named = named_behind kept _ (rec.ReadClosed c.args.reader) c.read_closed.ensures.kept (name_left s (rec.ReadClosed c.args.reader) refl c.requires.stripe.named);
       numbered = numbered_by kept (g.C.Chronicle.kept c.read_closed.new.chronicle) (rec.ReadClosed c.args.reader ∷ []) 0 c.read_closed.ensures.kept (omega (arith, reader)) (omega arith) c.requires.stripe.numbered;
     }

@@ -1,9 +1,11 @@
-use Rattle.std.proofs.Common.{Err, ap, subst, sym}
+use Rattle.std.proofs.Common.{Ok, Err, ap, subst, sym, arith}
 use Rattle.cache_model.specs.Kept.{state_of}
 use Rattle.cyclone.specs.Cyclone.{seen}
-use Rattle.stripe_core.specs.Flush.{DoesAsAsked}
-use Rattle.stripe_core.specs.Stripe.{Answers, seen_in, state_in}
-use Rattle.stripe_core.proofs.Sparing.{answers_stop}
+use Rattle.stripe_core.specs.Flush.{DoesAsAsked, flush_adds}
+use Rattle.stripe_core.specs.Pieces.{seen_of}
+use Rattle.stripe_core.specs.Stripe.{Answers, kept_in, seen_in, state_in, units_in}
+use Rattle.stripe_core.proofs.Naming.{flush_leaves, named_with}
+use Rattle.stripe_core.proofs.Sparing.{actors_with, answers_stop, flush_is_others, numbered_others, spent}
 use Rattle.stripe_core.proofs.stripe.Stripe.flush.Goals as goal
 
 pub returns-in-Err-clause-does : goal.returns-in-Err-clause-does
@@ -17,3 +19,33 @@ returns-in-Err-clause-does g c =
     (subst (λ n. DoesAsAsked taken n after (Err c.in-Err.stop)) c.take_unit.ensures.still.faults c.in-Err.ensures.does) in
     subst (λ r. Answers (Err r) (DoesAsAsked s before after) (Unit {0})) (sym c.from.ensures)
     (answers_stop c.in-Err.stop (DoesAsAsked s before after) (Unit {0}) does)
+
+pub returns-in-Ok-clause-stripe : goal.returns-in-Ok-clause-stripe
+returns-in-Ok-clause-stripe g c =
+    let taken = state_in g.C.Chronicle c.take_unit.new.self in
+    let kept = kept_in g.C.Chronicle c.take_unit.new.self in
+    let adds = flush_adds taken (Ok c.in-Ok.flushed) in
+    record {
+      pieces = c.flush.ensures.pieces;
+      actors = actors_with kept _ c.take_unit.new.self.actors adds c.in-Ok.ensures.adds (flush_is_others taken (Ok c.in-Ok.flushed)) c.take_unit.ensures.stripe.actors;
+      plain = c.requires.stripe.plain;
+      spared = spent (units_in c.take_unit.new.self) _ _ 1 0 1 _ (seen_in g.D.Disk g.R.Directory c.take_unit.new.self) (seen_of g.D.Disk g.R.Directory c.flush.new.self)
+          c.in_ok-take_unit.ensures.spared c.flush.ensures.uses (omega arith) (omega arith) (omega arith) (omega arith);
+      named = named_with kept _ adds c.in-Ok.ensures.adds (flush_leaves taken (Ok c.in-Ok.flushed)) c.take_unit.ensures.stripe.named;
+      numbered = numbered_others kept _ adds c.in-Ok.ensures.adds (flush_is_others taken (Ok c.in-Ok.flushed)) c.take_unit.ensures.stripe.numbered;
+    }
+
+pub returns-in-Err-clause-stripe : goal.returns-in-Err-clause-stripe
+returns-in-Err-clause-stripe g c =
+    let taken = state_in g.C.Chronicle c.take_unit.new.self in
+    let kept = kept_in g.C.Chronicle c.take_unit.new.self in
+    let adds = flush_adds taken (Err c.in-Err.stop) in
+    record {
+      pieces = c.flush.ensures.pieces;
+      actors = actors_with kept _ c.take_unit.new.self.actors adds c.in-Err.ensures.adds (flush_is_others taken (Err c.in-Err.stop)) c.take_unit.ensures.stripe.actors;
+      plain = c.requires.stripe.plain;
+      spared = spent (units_in c.take_unit.new.self) _ _ 1 0 1 _ (seen_in g.D.Disk g.R.Directory c.take_unit.new.self) (seen_of g.D.Disk g.R.Directory c.flush.new.self)
+          c.in_ok-take_unit.ensures.spared c.flush.ensures.uses (omega arith) (omega arith) (omega arith) (omega arith);
+      named = named_with kept _ adds c.in-Err.ensures.adds (flush_leaves taken (Err c.in-Err.stop)) c.take_unit.ensures.stripe.named;
+      numbered = numbered_others kept _ adds c.in-Err.ensures.adds (flush_is_others taken (Err c.in-Err.stop)) c.take_unit.ensures.stripe.numbered;
+    }

@@ -9,5 +9,6 @@ returns-in-Ok-clause-stripe g c = record {
   actors = subst (λ k. AreActors (state_of k) c.new.result) (sym c.in-Ok.ensures.records) (c.new.ensures c.args.g);
   plain = c.requires.plain;
   spared = record { for_records = omega arith; entries = omega arith; calls = omega arith; blocks = omega arith };
+  named = rw c.in-Ok.ensures.records tt;
   numbered = rw c.in-Ok.ensures.records (omega arith);
 }

@@ -7,6 +7,7 @@ use Rattle.stripe_core.proofs.Flushes.{state_of-with_records}
 use Rattle.stripe_core.proofs.Doings.{held_behind, one_record, reader_behind}
 use Rattle.stripe_core.proofs.Sparing.{numbered_by}
 use Rattle.stripe_core.proofs.Doings.{gives_up}
+use Rattle.stripe_core.proofs.Naming.{named_aborted, named_behind}
 use Rattle.stripe_core.proofs.stripe.Stripe.give_up.Goals as goal
 
 pub returns-clause-stripe : goal.returns-clause-stripe
@@ -20,6 +21,7 @@ returns-clause-stripe g c =
       actors = subst (λ t. AreActors t c.abort.new.self) (sym (ap state_of c.aborted.ensures.kept ∙ state_of-with_records kept (rec.Aborted c.args.put c.args.key ∷ []))) (c.abort.ensures c.args.key s c.requires.stripe.actors);
       plain = c.requires.stripe.plain;
       spared = one_record c.args.self.now.units _ _ before c.requires.unit c.requires.stripe.spared c.aborted.ensures.room;
+      named = named_behind kept _ (rec.Aborted c.args.put c.args.key) c.aborted.ensures.kept (named_aborted s c.args.put c.args.key c.requires.stripe.named);
       numbered = numbered_by kept (g.C.Chronicle.kept c.aborted.new.chronicle) (rec.Aborted c.args.put c.args.key ∷ []) 0 c.aborted.ensures.kept (omega (arith, reader)) (omega arith) c.requires.stripe.numbered;
     }
 

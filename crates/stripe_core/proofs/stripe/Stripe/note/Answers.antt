@@ -6,6 +6,7 @@ use Rattle.stripe_core.specs.Stripe.{kept_in, seen_in, state_in}
 use Rattle.stripe_core.proofs.Flushes.{state_of-with_records}
 use Rattle.stripe_core.proofs.Doings.{answer_keeps_readers, answer_leaves, answer_leaves_tape, held_behind, one_record, reader_behind}
 use Rattle.stripe_core.proofs.Sparing.{numbered_by}
+use Rattle.stripe_core.proofs.Naming.{answer_leaves_names, named_behind}
 use Rattle.stripe_core.proofs.stripe.Stripe.note.Goals as goal
 
 pub returns-clause-stripe : goal.returns-clause-stripe
@@ -20,5 +21,6 @@ returns-clause-stripe g c =
       actors = subst (λ t. AreActors t c.go_on.new.actors) (sym (ap state_of c.answered.ensures.kept ∙ state_of-with_records kept (told ∷ []))) (c.go_on.ensures s c.requires.stripe.actors);
       plain = c.requires.stripe.plain;
       spared = one_record c.args.self.now.units _ _ before c.requires.unit c.requires.stripe.spared c.answered.ensures.room;
+      named = named_behind kept _ told c.answered.ensures.kept (answer_leaves_names s c.args.reader c.args.answer c.requires.stripe.named);
       numbered = numbered_by kept (g.C.Chronicle.kept c.answered.new.chronicle) (told ∷ []) 0 c.answered.ensures.kept (omega (arith, reader)) (omega arith) c.requires.stripe.numbered;
     }

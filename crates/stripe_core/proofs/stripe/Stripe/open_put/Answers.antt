@@ -1,11 +1,14 @@
 use Rattle.std.proofs.Common.{◌≡◌, sym, ◌∙◌, ap, subst, refl, arith, [], ◌∷◌}
 use Rattle.cache_model.specs.declared.record.Rec.TheVariants as rec
+use Rattle.cache_model.specs.State.{state_after}
 use Rattle.cache_model.specs.Kept.{state_of, with_records}
+use Rattle.stripe_core.specs.Named.{IsNamed}
 use Rattle.stripe_actors.specs.Actors.{AreActors}
 use Rattle.stripe_core.specs.Stripe.{kept_in, seen_in, state_in}
 use Rattle.stripe_core.proofs.Flushes.{state_of-with_records}
 use Rattle.stripe_core.proofs.Doings.{held_behind, opens, reader_behind}
 use Rattle.stripe_core.proofs.Sparing.{numbered_by}
+use Rattle.stripe_core.proofs.Naming.{named_behind, named_opened}
 use Rattle.stripe_core.proofs.stripe.Stripe.open_put.Goals as goal
 
 pub returns-in-Ok-clause-stripe : goal.returns-in-Ok-clause-stripe
@@ -29,8 +32,11 @@ returns-in-Ok-clause-stripe g c =
         for_records = omega (arith, c.in_ok-reserve.ensures.room, c.write_opened.ensures.room);
         entries = c.requires.stripe.spared.entries;
         calls = c.requires.stripe.spared.calls;
-        blocks = c.requires.stripe.spared.blocks;
+        blocks = omega (arith, c.requires.stripe.spared);
       };
+      named = named_behind kept after told is
+          (subst (λ n. IsNamed (state_after s (rec.WriteOpened c.args.actor n c.args.key c.args.request c.args.response c.args.pin))) (sym (c.in-Ok.ensures.ok.number ∙ c.requires.stripe.actors.next_put))
+          (named_opened s c.args.actor c.args.key c.args.request c.args.response c.args.pin c.requires.stripe.named));
       numbered = numbered_by kept after (told ∷ []) 0 is (omega (arith, reader)) (omega arith) c.requires.stripe.numbered;
     }
 

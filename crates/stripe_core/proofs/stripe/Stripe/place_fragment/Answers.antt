@@ -1,11 +1,12 @@
-use Rattle.std.proofs.Common.{◌≡◌, Ok, Err, sym, ◌∙◌, ap, subst, arith}
+use Rattle.std.proofs.Common.{length, ◌≡◌, Ok, Err, sym, ◌∙◌, ap, subst, arith}
 use Rattle.cache_model.specs.Kept.{state_of}
 use Rattle.stripe_actors.specs.Actors.{AreActors}
 use Rattle.stripe_core.specs.Place.{CutsAsAsked, fragment_adds}
 use Rattle.stripe_core.specs.Pieces.{kept_of, seen_of}
 use Rattle.stripe_core.specs.Stripe.{Answers, kept_in, seen_in, state_in, units_in}
 use Rattle.stripe_core.proofs.Flushes.{state_of-with_records}
-use Rattle.stripe_core.proofs.Sparing.{actors_with, answers_stop, fragment_actors, fragment_readers, no_vector_id, numbered_by, numbered_others, spent, stopped_others}
+use Rattle.stripe_core.proofs.Sparing.{actors_with, answers_stop, fragment_actors, fragment_readers, no_vector_id, numbered_by, numbered_others, placed_state, spent, stopped_others}
+use Rattle.stripe_core.proofs.Naming.{begun_put, fragment_named, fragment_new, named_with, small_size, stopped_leaves}
 use Rattle.stripe_core.proofs.stripe.Stripe.place_fragment.Goals as goal
 
 pub returns-in-Ok-clause-stripe : goal.returns-in-Ok-clause-stripe
@@ -24,6 +25,10 @@ returns-in-Ok-clause-stripe g c =
       plain = c.requires.stripe.plain;
       spared = spent (units_in c.args.self.now) _ _ 3 1 1 _ (seen_in g.D.Disk g.R.Directory c.args.self.now) (seen_of g.D.Disk g.R.Directory c.place_fragment.new.self)
           c.requires.spared c.place_fragment.ensures.uses (omega arith) (omega arith) (omega arith) (omega arith);
+      named =
+          fragment_named s _ c.args.id _ _ c.args.pin c.args.start _ payload _ _ c.requires.fragment c.requires.stripe.named
+          (begun_put s c.args.self.now.actors c.args.id.put c.requires.fragment.w c.requires.stripe.actors c.requires.fragment.next.writing.found)
+          (after ∙ placed_state s c.args.id c.args.pin c.args.start payload kind);
       numbered =
           let same : (state_of (kept_of g.C.Chronicle c.place_fragment.new.self)).next_reader ≡ s.next_reader =
           ap (λ (t : Rattle.cache_model.specs.State.State). t.next_reader) after ∙ fragment_readers s c.args.id c.args.pin c.args.start payload kind in
@@ -42,6 +47,7 @@ returns-in-Err-clause-stripe g c =
       plain = c.requires.stripe.plain;
       spared = spent (units_in c.args.self.now) _ _ 3 1 1 _ (seen_in g.D.Disk g.R.Directory c.args.self.now) (seen_of g.D.Disk g.R.Directory c.place_fragment.new.self)
           c.requires.spared c.place_fragment.ensures.uses (omega arith) (omega arith) (omega arith) (omega arith);
+      named = named_with kept _ adds c.in-Err.ensures.adds (stopped_leaves s c.args.id c.args.pin c.args.start c.args.payload.now c.in-Err.stop) c.requires.stripe.named;
       numbered = numbered_others kept _ adds c.in-Err.ensures.adds others c.requires.stripe.numbered;
     }
 
@@ -52,3 +58,12 @@ returns-in-Err-clause-does g c =
     let after = (seen_of g.D.Disk g.R.Directory c.place_fragment.new.self).device.faults in
     let does = CutsAsAsked s before after c.args.id c.args.pin c.args.start c.args.payload.now in
     subst (λ r. Answers (Err r) does (Unit {0})) (sym c.from.ensures) (answers_stop c.in-Err.stop does (Unit {0}) c.in-Err.ensures.does)
+
+pub place_fragment-requires-clause-new : goal.place_fragment-requires-clause-new
+place_fragment-requires-clause-new g c =
+    fragment_new (state_in g.C.Chronicle c.args.self.now) c.args.id c.args.pin c.args.start c.args.payload.now c.requires.fragment c.requires.stripe.named
+
+pub place_fragment-requires-clause-size : goal.place_fragment-requires-clause-size
+place_fragment-requires-clause-size g c =
+    let s = state_in g.C.Chronicle c.args.self.now in
+    small_size s (length c.args.payload.now) (fragment_new s c.args.id c.args.pin c.args.start c.args.payload.now c.requires.fragment c.requires.stripe.named).small

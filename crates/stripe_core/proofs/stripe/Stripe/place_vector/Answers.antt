@@ -1,12 +1,15 @@
-use Rattle.std.proofs.Common.{◌≡◌, Ok, Err, sym, subst, arith, length, true}
+use Rattle.std.proofs.Common.{◌∙◌, ap, ◌≡◌, Ok, Err, sym, subst, arith, length, true}
 use Rattle.std.proofs.lemmas.Bool.{eq-eqb}
+use Rattle.cache_model.specs.Kept.{with_records}
+use Rattle.cache_model.specs.Room.{placed_record}
 use Rattle.cache_model.specs.Verdict.{cuts_of}
 use Rattle.tape_base.specs.Piece.{is_vector}
 use Rattle.stripe_core.specs.Place.{FinishesAsAsked, place_adds}
 use Rattle.stripe_core.specs.Pieces.{seen_of}
 use Rattle.stripe_core.specs.Stripe.{Answers, kept_in, seen_in, state_in, units_in}
 use Rattle.stripe_core.proofs.Groups.{vector_group}
-use Rattle.stripe_core.proofs.Sparing.{actors_with, answers_stop, numbered_others, spent, vector_others}
+use Rattle.stripe_core.proofs.Sparing.{actors_with, answers_stop, numbered_others, spent, vector_alone, vector_others}
+use Rattle.stripe_core.proofs.Naming.{begun_put, named_behind, named_placed, small_size, vector_new}
 use Rattle.stripe_core.proofs.stripe.Stripe.place_vector.Goals as goal
 
 pub returns-in-Ok-clause-stripe : goal.returns-in-Ok-clause-stripe
@@ -22,13 +25,16 @@ returns-in-Ok-clause-stripe g c =
       plain = c.requires.stripe.plain;
       spared = spent (units_in c.args.self.now) _ _ 2 1 0 0 (seen_in g.D.Disk g.R.Directory c.args.self.now) (seen_of g.D.Disk g.R.Directory c.place.new.self)
           c.requires.spared c.place.ensures.uses (omega arith) (omega arith) (omega arith) (omega arith);
+      named = named_behind kept _ (placed_record s c.args.id c.args.pin c.args.start (length c.args.payload.now) c.args.payload.now) (c.in-Ok.ensures.adds ∙ ap (with_records kept) (vector_alone s c.args.id c.args.pin c.args.start c.args.payload.now kind))
+          (named_placed s c.args.id _ _ c.args.pin _ c.requires.vector.w c.requires.stripe.named c.requires.vector.cut.writing.quiet
+          (begun_put s c.args.self.now.actors c.args.id.put c.requires.vector.w c.requires.stripe.actors c.requires.vector.cut.writing.found) c.requires.vector.cut.writing.found (rw c.requires.kind (omega arith)));
       numbered = numbered_others kept _ adds c.in-Ok.ensures.adds others c.requires.stripe.numbered;
     }
 
 pub returns-in-Ok-clause-does : goal.returns-in-Ok-clause-does
 returns-in-Ok-clause-does g c = λ p covers.
     vector_group p (state_in g.C.Chronicle c.args.self.now) c.args.id c.args.pin c.args.start c.args.payload.now (Ok c.in-Ok.placed) covers.plain c.requires.vector
-    (eq-eqb c.args.id.index 0 c.requires.kind) c.requires.new.small c.in-Ok.ensures.at
+    (eq-eqb c.args.id.index 0 c.requires.kind) c.requires.vector.small c.in-Ok.ensures.at
 
 pub returns-in-Err-clause-does : goal.returns-in-Err-clause-does
 returns-in-Err-clause-does g c =
@@ -39,4 +45,11 @@ returns-in-Err-clause-does g c =
     subst (λ r. Answers (Err r) does ⊥) (sym c.from.ensures)
     (answers_stop c.in-Err.stop does ⊥
     (λ p covers.
-    vector_group p s c.args.id c.args.pin c.args.start c.args.payload.now (Err c.in-Err.stop) covers.plain c.requires.vector (eq-eqb c.args.id.index 0 c.requires.kind) c.requires.new.small c.in-Err.ensures.at))
+    vector_group p s c.args.id c.args.pin c.args.start c.args.payload.now (Err c.in-Err.stop) covers.plain c.requires.vector (eq-eqb c.args.id.index 0 c.requires.kind) c.requires.vector.small c.in-Err.ensures.at))
+
+pub place-requires-clause-new : goal.place-requires-clause-new
+place-requires-clause-new g c =
+    vector_new (state_in g.C.Chronicle c.args.self.now) c.args.id c.args.pin c.args.start c.args.payload.now c.requires.vector (eq-eqb c.args.id.index 0 c.requires.kind) c.requires.stripe.named
+
+pub place-requires-clause-size : goal.place-requires-clause-size
+place-requires-clause-size g c = small_size (state_in g.C.Chronicle c.args.self.now) (length c.args.payload.now) c.requires.vector.small

@@ -1,6 +1,25 @@
-use Rattle.stripe_core.specs.Stripe.{state_in}
-use Rattle.stripe_core.proofs.Doings.{removes}
+use Rattle.std.proofs.Common.{refl, [], ◌∷◌}
+use Rattle.cache_model.specs.declared.record.Rec.TheVariants as rec
+use Rattle.stripe_core.specs.Pieces.{seen_of}
+use Rattle.stripe_core.specs.Stripe.{kept_in, seen_in, state_in}
+use Rattle.stripe_core.proofs.Doings.{one_less, removes}
+use Rattle.stripe_core.proofs.Naming.{name_left, named_behind}
+use Rattle.stripe_core.proofs.Sparing.{actors_with, numbered_others}
 use Rattle.stripe_core.proofs.stripe.Stripe.take_out.Goals as goal
+
+pub returns-clause-stripe : goal.returns-clause-stripe
+returns-clause-stripe g c =
+    let s = state_in g.C.Chronicle c.args.self.now in
+    let kept = kept_in g.C.Chronicle c.args.self.now in
+    let told = rec.Removed c.remove-put.result c.args.key in
+    record {
+      pieces = c.remove-put.ensures.pieces;
+      actors = actors_with kept _ c.args.self.now.actors (told ∷ []) c.remove-put.ensures.adds (refl, tt) c.requires.stripe.actors;
+      plain = c.requires.stripe.plain;
+      spared = one_less c.args.self.now.units _ _ (seen_in g.D.Disk g.R.Directory c.args.self.now) (seen_of g.D.Disk g.R.Directory c.remove-put.new.self) c.requires.unit c.requires.stripe.spared c.remove-put.ensures.uses;
+      named = named_behind kept _ told c.remove-put.ensures.adds (name_left s told refl c.requires.stripe.named);
+      numbered = numbered_others kept _ (told ∷ []) c.remove-put.ensures.adds (refl, tt) c.requires.stripe.numbered;
+    }
 
 pub returns-clause-does : goal.returns-clause-does
 returns-clause-does g c = λ p. removes p (state_in g.C.Chronicle c.args.self.now) c.args.key c.remove-put.result c.requires.quiet c.requires.live c.remove-put.ensures.put
