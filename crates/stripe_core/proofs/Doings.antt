@@ -1,6 +1,6 @@
 -- Writers and readers that come and go leave the pieces held.
 use Rattle.std.proofs.Common.{◌≡◌, ℕ, ◌+◌, ◌-◌, ◌<◌, ◌≤◌, List, [], ◌∷◌, refl, sym, ◌∙◌, ap, subst, arith, Bool, true, false, Result, Ok, Err, length}
-use Rattle.std.specs.Prelude.{Option, Some, None, IfOk, IsSome, find, option_map, option_and_then, unwrap_or, if◌then◌else◌, ◌==◌}
+use Rattle.std.specs.Prelude.{Option, Some, None, IfOk, IsSome, find, option_map, option_and_then, unwrap_or, if◌then◌else◌, ◌==◌, IfSome}
 use Rattle.std.proofs.lemmas.Bool.{eqb-true}
 use Rattle.tape_base.specs.declared.actors.Actor.{Actor}
 use Rattle.tape_base.specs.declared.keys.Key.{Key}
@@ -21,7 +21,7 @@ use Rattle.cache_model.specs.Room.{limit}
 use Rattle.cache_model.proofs.Sound.{LeavesTape, later_leaves}
 use Rattle.stripe_core.specs.declared.refusal.Refusal.{Refusal}
 use Rattle.stripe_core.specs.declared.refusal.Refusal.TheVariants as refusal
-use Rattle.stripe_core.specs.Acts.{IsCommitting, IsGivingUp, IsRefusedPut, OpensAsAsked, committed_record, opened_record}
+use Rattle.stripe_core.specs.Acts.{IsCommitting, IsGivingUp, IsRefusedPut, OpensAsAsked, RefusesAsAsked, committed_record, opened_record}
 use Rattle.stripe_core.specs.Covers.{Uses}
 use Rattle.stripe_core.specs.Held.{IsHeld}
 use Rattle.stripe_core.specs.Stripe.{IsSpared}
@@ -156,3 +156,7 @@ refused_opens s who key request response pin (refusal.DeviceFault count) quiet h
 refused_opens s who key request response pin refusal.Sealed quiet h = absurd h
 refused_opens s who key request response pin refusal.NoSuchWriter quiet h = absurd h
 refused_opens s who key request response pin (refusal.Memory e) quiet h = absurd h
+
+pub refusals_open : (s : State) (why : Option Refusal) → IsQuiet s → IsRefusedPut s why → IfSome why (RefusesAsAsked s)
+refusals_open s (Some why) quiet h = λ who key request response pin. refused_opens s who key request response pin why quiet h
+refusals_open s None quiet h = tt

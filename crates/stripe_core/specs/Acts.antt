@@ -43,6 +43,10 @@ IsRefusedPut s (Some refusal.TooManyWriters) = most_writers ≤ open_writers s
 IsRefusedPut s (Some (refusal.Exhausted number)) = (open_writers s < most_writers) × (limit ≤ s.next_put + 1) × (number ≡ s.next_put + 1)
 IsRefusedPut s (Some _) = ⊥
 
+-- whoever asks for a put is refused so
+abbrev pub RefusesAsAsked : State → Refusal → Type 0
+RefusesAsAsked s why = (who : Actor) (key : Key) (request response : List Field) (pin : ℕ) → OpensAsAsked s who key request response pin (Err why)
+
 -- ---- it ends
 
 -- the put of that key is open, and its vector is the piece that was placed last

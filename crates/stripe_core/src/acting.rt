@@ -1,5 +1,5 @@
 // How writers and readers come and go.
-ghost use Rattle.std.specs.Prelude.{◌≡◌, ◌+◌, ◌≤◌, ◌<◌, ◌^◌, ℕ, [], ◌∷◌, Some, IsSome, IfOk, OnOk, OnErr};
+ghost use Rattle.std.specs.Prelude.{◌≡◌, ◌+◌, ◌≤◌, ◌<◌, ◌^◌, ℕ, [], ◌∷◌, Some, IsSome, IfOk, IfSome, OnOk, OnErr};
 ghost use Rattle.cache_model.specs.declared.record.Rec.TheVariants as rec;
 ghost use Rattle.cache_model.specs.Kept.{with_records};
 ghost use Rattle.cache_model.specs.Legal.{IsQuiet, answer_record};
@@ -7,7 +7,7 @@ ghost use Rattle.cache_model.specs.Verdict.{live_vector_of};
 ghost use Rattle.cache_model.specs.State.{State};
 ghost use Rattle.stripe_actors.specs.Actors.{AreActors};
 ghost use Rattle.stripe_actors.specs.Calls.{HasNumber, KeepUpWith};
-ghost use Rattle.stripe_core.specs.Acts.{AnswersLookup, CommitsAsAsked, GivesUpAsAsked, IsCommitting, IsFollowable, IsGivable, IsGivingUp, IsRefusedPut, OpensAsAsked, RemovesAsAsked, committed_record, opened_record};
+ghost use Rattle.stripe_core.specs.Acts.{AnswersLookup, CommitsAsAsked, GivesUpAsAsked, IsCommitting, IsFollowable, IsGivable, IsGivingUp, IsRefusedPut, OpensAsAsked, RefusesAsAsked, RemovesAsAsked, committed_record, opened_record};
 
 use crate::flushing::LIMIT;
 use crate::refusal::Refusal;
@@ -156,6 +156,15 @@ impl<D: Disk, R: Directory + Drop, C: Chronicle> Stripe<D, R, C> {
             answer,
         );
         Ok(reader)
+    }
+
+    /// Why no put can be opened now; there is no other reason but want of memory.
+    pub fn put_refusal(&self) -> Option<Refusal>
+        requires { IsStripe D.Disk R.Directory C.Chronicle self.now }
+        ensures why { IsRefusedPut (state_in C.Chronicle self.now) result }
+        ensures does { IsQuiet (state_in C.Chronicle self.now) → IfSome result (RefusesAsAsked (state_in C.Chronicle self.now)) }
+    {
+        put_refusal(&self.actors)
     }
 
     /// Takes the next put's number, and opens its writer.

@@ -1,0 +1,9 @@
+use Rattle.std.specs.Prelude.{Option, Some, None, IfSome}
+use Rattle.cache_model.specs.Legal.{IsQuiet}
+use Rattle.cache_model.specs.State.{State}
+use Rattle.stripe_core.specs.Stripe.{state_in}
+use Rattle.stripe_core.proofs.Doings.{refusals_open}
+use Rattle.stripe_core.proofs.stripe.Stripe.put_refusal.Goals as goal
+
+pub returns-clause-does : goal.returns-clause-does
+returns-clause-does g c = λ quiet. refusals_open (state_in g.C.Chronicle c.args.self.now) c.put_refusal.result quiet (c.put_refusal.ensures (state_in g.C.Chronicle c.args.self.now) c.requires.actors)
