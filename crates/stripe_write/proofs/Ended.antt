@@ -1,0 +1,51 @@
+-- Puts that are open or given up, and objects that are not there.
+use Rattle.std.proofs.Common.{◌≡◌, ℕ, [], refl, sym, ◌∙◌, ap, true, false, cond}
+use Rattle.std.specs.Prelude.{Option, Some, None, is_some, option_map, unwrap_or}
+use Rattle.std.proofs.lemmas.Bool.{eq-eqb}
+use Rattle.tape_base.specs.declared.keys.Key.{Key}
+use Rattle.cache_model.specs.declared.record.Rec.TheVariants as rec
+use Rattle.cache_model.specs.State.{Closed, GivenUp, Open, PutRow, Row, State, put_of, state_after, with_writing}
+use Rattle.cache_model.specs.Verdict.{is_open, live_vector_of}
+use Rattle.cache_model.specs.Permit.{Done, Permit, GiveUp, Remove}
+use Rattle.cache_model.specs.Legal.{Does, DoesGiveUp, DoesRemove, IsQuiet, is_writing}
+use Rattle.stripe_actors.proofs.Rows.{find-changed}
+use Rattle.stripe_core.specs.Acts.{IsGivingUp}
+use Rattle.stripe_write.specs.declared.writer.Writer.{Writer}
+use Rattle.stripe_write.specs.Writers.{IsWriterOf}
+
+open_row : (p : PutRow) → is_open p ≡ true → p.writing ≡ Open
+open_row p h = by p.writing refl
+  where
+    by : (w : Rattle.cache_model.specs.State.Writing) → p.writing ≡ w → p.writing ≡ Open
+    by Open e = e
+    by Closed e = let clash : true ≡ false = sym h ∙ ap (λ (x : Rattle.cache_model.specs.State.Writing). elim x [ Open ↦ true | Closed ↦ false | GivenUp ↦ false ]) e in cc
+    by GivenUp e = let clash : true ≡ false = sym h ∙ ap (λ (x : Rattle.cache_model.specs.State.Writing). elim x [ Open ↦ true | Closed ↦ false | GivenUp ↦ false ]) e in cc
+
+open_put : (o : Option PutRow) → unwrap_or (option_map is_open o) false ≡ true → (row : PutRow) × (o ≡ Some row) × (row.writing ≡ Open)
+open_put None h = cc
+open_put (Some row) h = (row, refl, open_row row h)
+
+pub giving_up : (s : State) (w : Writer) → IsQuiet s → is_writing s w.put ≡ true → IsWriterOf s w → IsGivingUp s w.put w.key
+giving_up s w quiet writing own =
+    let o = open_put (put_of s w.put) writing in
+    record { w = o.0; writing = record { quiet = quiet; found = o.1; is_open = o.2 }; key_is = (own o.0 o.1 o.2).key_is }
+
+pub over : (p : Permit) (s : State) (put : ℕ) → IsQuiet s → is_writing s put ≡ false → Does p s (GiveUp put) [] Done
+over p s put quiet none = DoesGiveUp.over quiet none refl
+
+given_up : (o : Option PutRow) (row : PutRow) → option_map (with_writing GivenUp) o ≡ Some row → row.writing ≡ Open → ⊥
+given_up None row h o = cc
+given_up (Some first) row h o = let same : with_writing GivenUp first ≡ row = cc in let clash : GivenUp ≡ Open = ap (λ (p : PutRow). p.writing) same ∙ o in cc
+
+-- a put that was given up is not open
+pub no_writer : (s : State) (w : Writer) (key : Key) → IsWriterOf (state_after s (rec.Aborted w.put key)) w
+no_writer s w key = λ row found o.
+    absurd (given_up (put_of s w.put) row
+    (sym (find-changed (λ (p : PutRow). p.put) (with_writing GivenUp) (λ p. refl) w.put w.put s.puts ∙ ap (λ b. cond b (option_map (with_writing GivenUp) (put_of s w.put)) (put_of s w.put)) (eq-eqb w.put w.put refl)) ∙ found) o)
+
+none_of : (o : Option Row) → is_some o ≡ false → o ≡ None
+none_of None h = refl
+none_of (Some row) h = cc
+
+pub absent : (p : Permit) (s : State) (key : Key) → IsQuiet s → is_some (live_vector_of s key) ≡ false → Does p s (Remove key) [] Done
+absent p s key quiet none = DoesRemove.absent quiet (none_of (live_vector_of s key) none) refl

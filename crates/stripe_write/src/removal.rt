@@ -1,0 +1,57 @@
+// Objects are removed.
+ghost use Rattle.std.specs.Prelude.{◌≡◌, IfOk, OnErr, is_some};
+ghost use Rattle.cache_model.specs.Kept.{with_records};
+ghost use Rattle.cache_model.specs.Legal.{IsQuiet};
+ghost use Rattle.cache_model.specs.Verdict.{live_vector_of};
+ghost use Rattle.stripe_core.specs.Stripe.{IsStripe, kept_in, state_in};
+ghost use Rattle.stripe_write.specs.Removals.{RemovesAsIsAsked, RemovesWhere, removal_adds};
+
+use ats_disk::Disk;
+use cache_chronicle::Chronicle;
+use cache_model::Cause;
+use dir_table::Directory;
+use std::alloc::AllocError;
+use stripe_core::Stripe;
+use tape_base::Key;
+
+/// What came of a removal.
+#[derive(Clone, Copy, Debug, PartialEq, Eq)]
+pub enum Removal {
+    /// The object of this put was removed.
+    Removed { put: u64 },
+    /// There was none, for this cause.
+    Absent(Cause),
+}
+
+/// Removes an object, where its vector is live.
+pub fn remove<D: Disk, R: Directory + Drop, C: Chronicle>(
+    stripe: &mut Stripe<D, R, C>,
+    key: Key,
+) -> Result<Removal, AllocError>
+    requires stripe { IsStripe D.Disk R.Directory C.Chronicle stripe.old }
+    requires quiet { IsQuiet (state_in C.Chronicle stripe.old) }
+    ensures stripe { IsStripe D.Disk R.Directory C.Chronicle stripe.new }
+    ensures quiet { IsQuiet (state_in C.Chronicle stripe.new) }
+    ensures adds { IfOk result (λ answer. kept_in C.Chronicle stripe.new ≡ with_records (kept_in C.Chronicle stripe.old) (removal_adds key answer)) }
+    ensures removes { IfOk result (RemovesWhere (state_in C.Chronicle stripe.old) key) }
+    ensures does { IfOk result (RemovesAsIsAsked (state_in C.Chronicle stripe.old) key) }
+    ensures err { OnErr result (kept_in C.Chronicle stripe.new ≡ kept_in C.Chronicle stripe.old) }
+{
+    stripe.prepare(None, 1)?;
+    if is_live(stripe, key) {
+        let put = stripe.take_out(key);
+        Ok(Removal::Removed { put })
+    } else {
+        Ok(Removal::Absent(stripe.chronicle().why(key)))
+    }
+}
+
+fn is_live<D: Disk, R: Directory + Drop, C: Chronicle>(stripe: &Stripe<D, R, C>, key: Key) -> bool
+    requires { IsStripe D.Disk R.Directory C.Chronicle stripe.now }
+    ensures { result ≡ is_some (live_vector_of (state_in C.Chronicle stripe.now) key) }
+{
+    match stripe.chronicle().vector_of(key) {
+        Some(vector) => stripe.whereabouts(vector).is_some(),
+        None => false,
+    }
+}

@@ -1,0 +1,16 @@
+// What is at hand of a put while it is written.
+use alternate_vector::Fields;
+use fragment_table::FragTable;
+use tape_base::Key;
+
+/// Writes a put: the bytes that are in no fragment yet, and the fragments that were cut.
+#[derive(Debug, Drop)]
+pub struct Writer {
+    pub(crate) put: u64,
+    pub(crate) key: Key,
+    pub(crate) request: Fields,
+    pub(crate) response: Fields,
+    pub(crate) pin: u64,
+    pub(crate) gathered: Vec<u8>,
+    pub(crate) table: FragTable,
+}
