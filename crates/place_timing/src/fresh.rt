@@ -1,0 +1,38 @@
+// The stripe that is timed.
+ghost use Rattle.std.specs.Prelude.{IfOk};
+ghost use Rattle.stripe_core.specs.Stripe.{IsStripe, state_in};
+ghost use Rattle.place_timing.specs.Ready.{IsReady};
+
+use crate::device::FlatDisk;
+use crate::placing::place_many;
+use ats_disk::Disk;
+use cache_chronicle::{Chronicle, FullChronicle};
+use dir_table::{Directory, ListDirectory};
+use std::alloc::Global;
+use stripe_core::{Refusal, Stripe};
+use tape_base::Geometry;
+
+/// How many blocks the content area has.
+const CONTENT: u32 = 65_536;
+
+/// A stripe over a device in memory.
+type Tape = Stripe<FlatDisk, ListDirectory, FullChronicle>;
+
+/// Places so many pieces one behind the other, and gives the place where the buffer begins then.
+pub fn place_all(alloc: Global, count: u32) -> Result<u64, Refusal> {
+    let mut tape = fresh_tape(alloc)?;
+    place_many(&mut tape, count)?;
+    Ok(tape.cursor())
+}
+
+fn fresh_tape(alloc: Global) -> Result<Tape, Refusal>
+    ensures stripe { IfOk result (IsStripe ⟦<FlatDisk as Disk>⟧ ⟦<ListDirectory as Directory>⟧ ⟦<FullChronicle as Chronicle>⟧) }
+    ensures ready { IfOk result (λ tape. IsReady (state_in ⟦<FullChronicle as Chronicle>⟧ tape)) }
+{
+    let geometry = Geometry::check(64, 1024, u64::from(CONTENT), 1024, 1024, 1000, 7).unwrap();
+    let disk = FlatDisk::new(alloc, CONTENT)?;
+    match Stripe::format(alloc, disk, FullChronicle::new(alloc), geometry) {
+        Ok(tape) => Ok(tape),
+        Err((refusal, _disk, _chronicle)) => Err(refusal),
+    }
+}
