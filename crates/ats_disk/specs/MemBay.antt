@@ -6,6 +6,9 @@ use Rattle.ats_disk.specs.Bay.{Return, return_with}
 use Rattle.ats_disk.specs.declared.mem_bay.MemBay.{MemBay}
 use Rattle.ats_disk.specs.declared.mem_bay.TheConstants.{OWN_BLOCKS}
 
+abbrev pub names_of : MemBay → List (List ℕ)
+names_of bay = map (λ name. name.items) bay.names.items
+
 -- each device that it ever gave was blank
 abbrev pub told_by : MemBay → List (Option Image)
 told_by bay = replicate (length bay.returned.items + bay.out) (Some blank)
@@ -27,6 +30,7 @@ size_for blocks = if blocks == 0 then OWN_BLOCKS else blocks
 
 -- a new bay: nothing was attached yet
 pub record IsNew (fail_at : List ℕ) (bay : MemBay) : Type 0 where
+  pub names : names_of bay ≡ []
   pub told : told_by bay ≡ []
   pub returned : returned_to bay ≡ []
   pub out : bay.out ≡ 0

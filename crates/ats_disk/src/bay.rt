@@ -27,6 +27,9 @@ impl From<AllocError> for BayFault {
 pub trait Bay {
     type Dev: Disk;
 
+    /// The names of the devices that were attached, in order.
+    ghost names: { Self → List (List ℕ) };
+
     /// What each device that was attached told then of its content, in order.
     ghost told: { Self → List (Option Image) };
 
@@ -42,9 +45,10 @@ pub trait Bay {
     /// Attaches the device of that name, of at least so many blocks, or of its own size for 0.
     fn attach(&mut self, alloc: Global, name: &[u8], blocks: u64) -> Result<Self::Dev, BayFault>
         ensures device { IfOk result (λ device. IsAttached blocks (Self.Dev.state device)) }
+        ensures names { OnOk result (names self.new ≡ names self.old ++ name.now ∷ []) }
         ensures told { IfOk result (λ device. told self.new ≡ told self.old ++ told_of (Self.Dev.state device) ∷ []) }
         ensures out { OnOk result (out self.new ≡ out self.old + 1) }
-        ensures refused { OnErr result ((told self.new ≡ told self.old) × (out self.new ≡ out self.old)) }
+        ensures refused { OnErr result ((names self.new ≡ names self.old) × (told self.new ≡ told self.old) × (out self.new ≡ out self.old)) }
         ensures returned { returned self.new ≡ returned self.old }
         ensures later { faults self.old ≤ faults self.new }
         ensures failed { (count : ℕ) → IsErrOf result (BayFault.Failed count)
@@ -54,6 +58,7 @@ pub trait Bay {
     fn give_back(&mut self, device: Self::Dev)
         requires { 0 < out self.old }
         ensures returned { returned self.new ≡ returned self.old ++ return_with (Self.Dev.state device).faults ∷ [] }
+        ensures names { names self.new ≡ names self.old }
         ensures told { told self.new ≡ told self.old }
         ensures out { out self.new + 1 ≡ out self.old }
         ensures faults { faults self.new ≡ faults self.old };

@@ -13,6 +13,8 @@ pub struct MemBay {
     attached: u64,
     fail_at: Vec<u64>,
     faults: u64,
+    /// The names of the devices that were attached.
+    names: Vec<Vec<u8>>,
     /// The counts of faults of the devices that were given back.
     returned: Vec<u64>,
     out: usize,
@@ -20,7 +22,8 @@ pub struct MemBay {
 }
 
 impl MemBay {
-    ghost use Rattle.ats_disk.specs.MemBay.{told_by, returned_to, IsNew};
+    ghost use Rattle.std.specs.Prelude.{◌≡◌, ◌≤◌};
+    ghost use Rattle.ats_disk.specs.MemBay.{told_by, returned_to, size_for, IsNew};
 
     /// The attach calls whose numbers are listed fail; the first has the number 1.
     pub fn new(alloc: Global, fail_at: Vec<u64>) -> MemBay
@@ -30,9 +33,18 @@ impl MemBay {
             attached: 0,
             fail_at,
             faults: 0,
+            names: Vec::new(alloc),
             returned: Vec::new(alloc),
             out: 0,
         }
+    }
+
+    /// The size of a device for which so many blocks are asked.
+    fn size_for(blocks: u64) -> u64
+        ensures size { result ≡ size_for blocks }
+        ensures enough { blocks ≤ result }
+    {
+        if blocks == 0 { OWN_BLOCKS } else { blocks }
     }
 }
 
@@ -41,10 +53,12 @@ impl Bay for MemBay {
     ghost use Rattle.edge_io.specs.Causes.{Rose, one_more};
     ghost use Rattle.ats_disk.specs.Device.{told_of};
     ghost use Rattle.ats_disk.specs.Bay.{IsAttached, return_with};
-    ghost use Rattle.ats_disk.specs.MemBay.{told_by, returned_to, attach_calls, fail_numbers, size_for};
+    ghost use Rattle.ats_disk.specs.MemBay.{names_of, told_by, returned_to, attach_calls, fail_numbers, size_for};
     ghost use Rattle.ats_disk.specs.MemDisk.{disk_state, IsFresh};
 
     type Dev = MemDisk;
+
+    ghost names = { names_of };
 
     ghost told = { told_by };
 
@@ -54,12 +68,13 @@ impl Bay for MemBay {
 
     ghost faults = { λ bay. bay.faults };
 
-    fn attach(&mut self, alloc: Global, _name: &[u8], blocks: u64) -> Result<MemDisk, BayFault>
+    fn attach(&mut self, alloc: Global, name: &[u8], blocks: u64) -> Result<MemDisk, BayFault>
         ensures device { IfOk result (λ device. IsAttached blocks (disk_state device)) }
         ensures fresh { IfOk result (λ device. IsFresh (size_for blocks) device) }
+        ensures names { OnOk result (names_of self.new ≡ names_of self.old ++ name.now ∷ []) }
         ensures told { IfOk result (λ device. told_by self.new ≡ told_by self.old ++ told_of (disk_state device) ∷ []) }
         ensures out { OnOk result (self.new.out ≡ self.old.out + 1) }
-        ensures refused { OnErr result ((told_by self.new ≡ told_by self.old) × (self.new.out ≡ self.old.out)) }
+        ensures refused { OnErr result ((names_of self.new ≡ names_of self.old) × (told_by self.new ≡ told_by self.old) × (self.new.out ≡ self.old.out)) }
         ensures returned { returned_to self.new ≡ returned_to self.old }
         ensures later { self.old.faults ≤ self.new.faults }
         ensures failed { (count : ℕ) → IsErrOf result (BayFault.Failed count)
@@ -74,8 +89,12 @@ impl Bay for MemBay {
             self.faults = self.faults.saturating_add(1);
             return Err(BayFault::Failed { count: self.faults });
         }
+        let name = name.to_vec(alloc)?;
+        self.names.reserve(1)?;
         self.returned.reserve(self.out + 1)?;
-        let device = MemDisk::new(alloc, if blocks == 0 { OWN_BLOCKS } else { blocks })?;
+        let device = MemDisk::new(alloc, MemBay::size_for(blocks))?;
+        let kept: Result<_, _> = self.names.push(name);
+        kept.unwrap();
         self.out += 1;
         Ok(device)
     }
@@ -84,6 +103,7 @@ impl Bay for MemBay {
         requires { 0 < self.old.out }
         ensures returned { returned_to self.new ≡ returned_to self.old
             ++ return_with (disk_state device).faults ∷ [] }
+        ensures names { names_of self.new ≡ names_of self.old }
         ensures told { told_by self.new ≡ told_by self.old }
         ensures out { self.new.out + 1 ≡ self.old.out }
         ensures faults { self.new.faults ≡ self.old.faults }

@@ -6,7 +6,6 @@ use Rattle.edge_io.specs.Causes.{Rose}
 use Rattle.edge_io.specs.LineReader.{AnswersKnown, FaultIs}
 use Rattle.edge_io.specs.declared.reader.LineFault.{LineFault}
 use Rattle.edge_io.specs.declared.reader.LineFault.TheVariants as fault
-use Rattle.ats_disk.specs.Bay.{Return}
 use Rattle.ats_disk.specs.declared.device.Disk.{Ghosts as DiskGhosts}
 use Rattle.first_chronicle.specs.declared.chronicle.Chronicle.{Ghosts as ChronicleGhosts}
 use Rattle.script_lang.specs.declared.line.BadLine.{BadLine}
@@ -23,11 +22,11 @@ use Rattle.cache_tool.specs.declared.run.Ending.TheVariants as ending
 use Rattle.cache_tool.specs.declared.run.Halt.{Halt}
 use Rattle.cache_tool.specs.declared.run.Halt.TheVariants.{Stop, WriteFault, Memory}
 use Rattle.cache_tool.specs.Run.{Run, fresh, run_after, output_of}
-use Rattle.cache_tool.specs.Session.{Plays}
+use Rattle.cache_tool.specs.Session.{Plays, Ledger}
 use Rattle.cache_tool.specs.Story.{Story, IsBehind, GoesOn, Owes, SendsFront, SendsAnswers, Counts, Because, IsTooLongAt, IsTooManyAt}
 use Rattle.cache_tool.specs.Ending.{Ends}
 use Rattle.cache_tool.specs.Halt.{Written, Halts, ending_of, last_of}
-use Rattle.cache_tool.proofs.Stories.{step_more, step_owes, IsNext-known, ComeBack-nothing}
+use Rattle.cache_tool.proofs.Stories.{step_more, step_owes, IsNext-known, Deals-nothing}
 use Rattle.cache_tool.proofs.Halts.{Appends-kept, front_more, answers_of_all, answers_before}
 
 at_end : (given : ℕ) (unread unread' : Option (List ℕ)) → AnswersKnown given unread unread' (Ok None) → IsAtEnd unread
@@ -45,8 +44,8 @@ too_many given None unread' known = tt
 too_many given (Some u) None known = absurd known
 too_many given (Some u) (Some u') known = known.0
 
-module _ (first taken_first taken : Option (List ℕ)) (returned_first returned : List Return) (unread : Option (List ℕ)) (given : ℕ) (Plays' : Run → Type 0)
-    (story : GoesOn first taken_first returned_first unread given taken returned Plays') where
+module _ (first taken_first taken : Option (List ℕ)) (ledger_first ledger : Ledger) (unread : Option (List ℕ)) (given : ℕ) (Plays' : Run → Type 0)
+    (story : GoesOn first taken_first ledger_first unread given taken ledger Plays') where
   abbrev here : Run
   here = run_after fresh story.lines story.turns
 
@@ -63,22 +62,22 @@ module _ (first taken_first taken : Option (List ℕ)) (returned_first returned 
     behind = behind;
   }
 
-  owes : Owes returned_first returned Plays' here
-  owes = record { back = story.devices; plays = story.behind }
+  owes : Owes ledger_first ledger Plays' here
+  owes = record { deals = story.devices; plays = story.behind }
 
   -- the script was read to its end
-  pub done_ends : (unread' : Option (List ℕ)) (source sink bay : Counts) → AnswersKnown given unread unread' (Ok None) → Ends first taken_first taken source sink bay (Owes returned_first returned Plays') ending.Done
+  pub done_ends : (unread' : Option (List ℕ)) (source sink bay : Counts) → AnswersKnown given unread unread' (Ok None) → Ends first taken_first taken source sink bay (Owes ledger_first ledger Plays') ending.Done
   done_ends unread' source sink bay known = record { unread = unread; given = given; story = still (Appends taken_first taken) _ _ story.text owes (at_end given unread unread' known) }
 
-  pub memory_ends : (source sink bay : Counts) → Ends first taken_first taken source sink bay (Owes returned_first returned Plays') ending.OutOfMemory
+  pub memory_ends : (source sink bay : Counts) → Ends first taken_first taken source sink bay (Owes ledger_first ledger Plays') ending.OutOfMemory
   memory_ends source sink bay = record { unread = unread; given = given; story = still (SendsAnswers taken_first taken) _ _ (answers_of_all taken_first taken _ story.text) owes tt }
 
-  stopped : (source sink bay : Counts) (why : LastLine) → Because source bay unread given here why → Ends first taken_first taken source sink bay (Owes returned_first returned Plays') (ending.Stopped why)
+  stopped : (source sink bay : Counts) (why : LastLine) → Because source bay unread given here why → Ends first taken_first taken source sink bay (Owes ledger_first ledger Plays') (ending.Stopped why)
   stopped source sink bay why because = record { unread = unread; given = given; story = still (Appends taken_first taken) _ _ story.text owes because }
 
   -- the reader met a fault
   pub fault_ends : (unread' : Option (List ℕ)) (held : List ℕ) (source sink bay : Counts) (f : LineFault) → AnswersKnown given unread unread' (Err f) → FaultIs given held source.before source.now f
-      → Ends first taken_first taken source sink bay (Owes returned_first returned Plays') (ending.Stopped (last_of f))
+      → Ends first taken_first taken source sink bay (Owes ledger_first ledger Plays') (ending.Stopped (last_of f))
   fault_ends unread' held source sink bay (fault.LineTooLong number) known is = stopped source sink bay (last.LineTooLong number) (is.0, too_long given number unread unread' known)
   fault_ends unread' held source sink bay fault.TooManyLines known is = stopped source sink bay last.TooManyLines (too_many given unread unread' known)
   fault_ends unread' held source sink bay (fault.ReadFault count) known is = stopped source sink bay last.ReadFault is.1
@@ -86,38 +85,38 @@ module _ (first taken_first taken : Option (List ℕ)) (returned_first returned 
   -- the next line
   module _ (bytes : List ℕ) (unread' : Option (List ℕ)) (given' : ℕ) (known : AnswersKnown given unread unread' (Ok (Some bytes))) (counted : given' ≡ given + 1) where
     pub bad_ends : (source sink bay : Counts) (bad : BadLine) → reading_of bytes ≡ line.Bad bad
-        → Ends first taken_first taken source sink bay (Owes returned_first returned Plays') (ending.Stopped (last.BadScript given' bad))
+        → Ends first taken_first taken source sink bay (Owes ledger_first ledger Plays') (ending.Stopped (last.BadScript given' bad))
     bad_ends source sink bay bad e =
         stopped source sink bay (last.BadScript given' bad) (counted, record { bytes = bytes; next = IsNext-known given unread unread' bytes known; bad = inl e })
 
     -- a step ends the run
     module _ {D C : Type 0} (disk : DiskGhosts D) (chronicle : ChronicleGhosts C) (step : Step) (asks : reading_of bytes ≡ line.Step step) (session : Option (Tape D C))
-        (returned' : List Return) (taken' : Option (List ℕ)) (source sink bay : Counts) where
+        (ledger' : Ledger) (taken' : Option (List ℕ)) (source sink bay : Counts) where
       abbrev Now : Run → Type 0
       Now = λ run. Plays disk chronicle run session
 
-      pub step_goes : Written disk chronicle here step session returned returned' (Appends taken taken') → GoesOn first taken_first returned_first unread' given' taken' returned' Now
+      pub step_goes : Written disk chronicle here step session ledger ledger' (Appends taken taken') → GoesOn first taken_first ledger_first unread' given' taken' ledger' Now
       step_goes w =
-          step_more first taken_first taken returned_first returned unread unread' given given' Plays' story bytes known counted step asks w.done.moves.turn w.said w.done.moves.takes w.done.moves.says
-          w.done.counts w.done.ended returned' w.done.back (Appends taken_first taken') Now (λ out appends. Appends-trans taken_first taken taken' out _ appends w.text) w.done.moves.plays
+          step_more first taken_first taken ledger_first ledger unread unread' given given' Plays' story bytes known counted step asks w.done.moves.turn w.said w.done.moves.takes w.done.moves.says
+          w.done.counts w.done.ended w.done.names w.done.named ledger' w.done.deals (Appends taken_first taken') Now (λ out appends. Appends-trans taken_first taken taken' out _ appends w.text) w.done.moves.plays
 
-      written_ends : (Text Sent : List ℕ → Type 0) (Behind : Run → Type 0) (w : Written disk chronicle here step session returned returned' Text)
+      written_ends : (Text Sent : List ℕ → Type 0) (Behind : Run → Type 0) (w : Written disk chronicle here step session ledger ledger' Text)
           → ((out : List ℕ) → Appends taken_first taken out → Sent (out ++ answer_line w.said)) → ((run : Run) → Behind run)
-          → Story first unread' given' Sent (Owes returned_first returned' Now) Behind
+          → Story first unread' given' Sent (Owes ledger_first ledger' Now) Behind
       written_ends Text Sent Behind w sent behind =
-          step_owes first taken_first taken returned_first returned unread unread' given given' Plays' story bytes known counted step asks w.done.moves.turn w.said w.done.moves.takes w.done.moves.says
-          w.done.counts w.done.ended returned' w.done.back Sent Now Behind sent w.done.moves.plays (behind _)
+          step_owes first taken_first taken ledger_first ledger unread unread' given given' Plays' story bytes known counted step asks w.done.moves.turn w.said w.done.moves.takes w.done.moves.says
+          w.done.counts w.done.ended w.done.names w.done.named ledger' w.done.deals Sent Now Behind sent w.done.moves.plays (behind _)
 
-      halted : (why : LastLine) → Plays disk chronicle here session → returned' ≡ returned → Keeps taken taken' → Because source bay unread given here why
-          → Ends first taken_first taken' source sink bay (Owes returned_first returned' Now) (ending.Stopped why)
+      halted : (why : LastLine) → Plays disk chronicle here session → ledger' ≡ ledger → Keeps taken taken' → Because source bay unread given here why
+          → Ends first taken_first taken' source sink bay (Owes ledger_first ledger' Now) (ending.Stopped why)
       halted why plays same keeps because = record {
         unread = unread;
         given = given;
-        story = still (Appends taken_first taken') _ _ (Appends-kept taken_first taken taken' _ story.text keeps) (record { back = rw same story.devices; plays = plays }) because;
+        story = still (Appends taken_first taken') _ _ (Appends-kept taken_first taken taken' _ story.text keeps) (record { deals = rw same story.devices; plays = plays }) because;
       }
 
-      pub step_ends : (halt : Halt) → Halts disk chronicle here step session returned returned' taken taken' sink bay halt
-          → Ends first taken_first taken' source sink bay (Owes returned_first returned' Now) (ending_of given' halt)
+      pub step_ends : (halt : Halt) → Halts disk chronicle here step session ledger ledger' taken taken' sink bay halt
+          → Ends first taken_first taken' source sink bay (Owes ledger_first ledger' Now) (ending_of given' halt)
       step_ends (Stop stop.NoCache) h =
           halted (last.NoCache given') h.0 h.1 h.2 (counted, record { bytes = bytes; next = IsNext-known given unread unread' bytes known; step = step; asks = asks; needs = h.3.0; none = h.3.1 })
       step_ends (Stop (stop.BadLine bad)) h =
@@ -127,7 +126,7 @@ module _ (first taken_first taken : Option (List ℕ)) (returned_first returned 
       step_ends (Stop stop.Memory) h = record {
         unread = unread;
         given = given;
-        story = still (SendsAnswers taken_first taken') _ _ (answers_of_all taken_first taken' _ (Appends-kept taken_first taken taken' _ story.text h.2)) (record { back = rw h.1 story.devices; plays = h.0 }) tt;
+        story = still (SendsAnswers taken_first taken') _ _ (answers_of_all taken_first taken' _ (Appends-kept taken_first taken taken' _ story.text h.2)) (record { deals = rw h.1 story.devices; plays = h.0 }) tt;
       }
       step_ends WriteFault h = record {
         unread = unread';
@@ -183,15 +182,15 @@ nothing_behind : (unread : Option (List ℕ)) → IsBehind unread [] unread
 nothing_behind None = tt
 nothing_behind (Some u) = record { all = refl; short = tt; within = lit≤ tt }
 
-pub begins : (unread taken : Option (List ℕ)) (returned : List Return) (given : ℕ) (Plays' : Run → Type 0) → given ≡ 0 → Plays' fresh → GoesOn unread taken returned unread given taken returned Plays'
-begins unread taken returned given Plays' none plays = record {
+pub begins : (unread taken : Option (List ℕ)) (ledger : Ledger) (given : ℕ) (Plays' : Run → Type 0) → given ≡ 0 → Plays' fresh → GoesOn unread taken ledger unread given taken ledger Plays'
+begins unread taken ledger given Plays' none plays = record {
   lines = [];
   turns = [];
   taken = nothing_behind unread;
   counted = none;
   legal = tt;
   text = Appends-nil taken;
-  devices = ComeBack-nothing returned;
+  devices = Deals-nothing ledger;
   behind = plays;
 }
 
@@ -217,9 +216,9 @@ module _ (source sink bay : Counts) (first old new : Option (List ℕ)) (Devices
   Ends-settled ending.OutOfMemory h = record { unread = h.unread; given = h.given; story = settled h.unread h.given (SendsAnswers old new) _ h.story }
 
 -- nothing was read for want of memory
-pub nothing_ends : (unread taken : Option (List ℕ)) (returned : List Return) (Devices : Run → Type 0) → Devices fresh → (source sink bay : Counts)
+pub nothing_ends : (unread taken : Option (List ℕ)) (ledger : Ledger) (Devices : Run → Type 0) → Devices fresh → (source sink bay : Counts)
     → Ends unread taken taken source sink bay Devices ending.OutOfMemory
-nothing_ends unread taken returned Devices back source sink bay = record {
+nothing_ends unread taken ledger Devices back source sink bay = record {
   unread = unread;
   given = 0;
   story = record {

@@ -1,9 +1,8 @@
 -- How a step that is not answered ends a run.
 use Rattle.std.proofs.Common.{ℕ, List, ◌++◌, Option, Some, None, Result, Ok, Err, refl, sym, ◌∙◌, ap, append-nil, append_assoc}
-use Rattle.std.specs.Prelude.{OnOk, IfErr}
+use Rattle.std.specs.Prelude.{OnOk, IfOk, IfErr}
 use Rattle.std.specs.Io.KnownBytes.{Appends, Keeps}
 use Rattle.std.proofs.KnownBytes.{Appends-trans}
-use Rattle.ats_disk.specs.Bay.{Return}
 use Rattle.ats_disk.specs.declared.device.Disk.{Ghosts as DiskGhosts}
 use Rattle.first_chronicle.specs.declared.chronicle.Chronicle.{Ghosts as ChronicleGhosts}
 use Rattle.script_lang.specs.declared.step.Step.{Step}
@@ -13,7 +12,7 @@ use Rattle.cache_tool.specs.declared.tape.Tape.{Tape}
 use Rattle.cache_tool.specs.declared.run.Halt.{Halt}
 use Rattle.cache_tool.specs.declared.run.Halt.TheVariants.{Stop, WriteFault, Memory}
 use Rattle.cache_tool.specs.Run.{Run}
-use Rattle.cache_tool.specs.Session.{DeviceMoves}
+use Rattle.cache_tool.specs.Session.{Ledger, DeviceMoves}
 use Rattle.cache_tool.specs.Story.{SendsFront, SendsAnswers, Counts}
 use Rattle.cache_tool.specs.Halt.{Halts, IsUnwritten}
 
@@ -21,12 +20,16 @@ pub OnOk-map : {T E : Type 0} (r : Result T E) (P Q : Type 0) → (P → Q) → 
 OnOk-map (Ok x) P Q f h = f h
 OnOk-map (Err e) P Q f h = tt
 
+pub IfOk-map : {T E : Type 0} (r : Result T E) (P Q : T → Type 0) → ((x : T) → P x → Q x) → IfOk r P → IfOk r Q
+IfOk-map (Ok x) P Q f h = f x h
+IfOk-map (Err e) P Q f h = tt
+
 pub IfErr-map : {T E : Type 0} (r : Result T E) (P Q : E → Type 0) → ((e : E) → P e → Q e) → IfErr r P → IfErr r Q
 IfErr-map (Ok x) P Q f h = tt
 IfErr-map (Err e) P Q f h = f e h
 
 module _ {D C : Type 0} (disk : DiskGhosts D) (chronicle : ChronicleGhosts C) where
-  pub unwritten_halts : (run : Run) (step : Step) (session : Option (Tape D C)) (said : StepAnswer) (before now : List Return) (old new : Option (List ℕ)) (sink bay : Counts)
+  pub unwritten_halts : (run : Run) (step : Step) (session : Option (Tape D C)) (said : StepAnswer) (before now : Ledger) (old new : Option (List ℕ)) (sink bay : Counts)
       → DeviceMoves disk chronicle run step session said before now → (halt : Halt) → IsUnwritten old new sink.before sink.now (answer_line said) halt
       → Halts disk chronicle run step session before now old new sink bay halt
   unwritten_halts run step session said before now old new sink bay moves WriteFault h = (record { said = said; done = moves; text = h.0 }, h.1)

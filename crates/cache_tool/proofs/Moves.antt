@@ -29,8 +29,8 @@ use Rattle.cache_tool.specs.Run.{Bodies, body_of, Run, stores, put_answer, end_o
 use Rattle.cache_tool.specs.Session.{Knows, PlaysOn, StepMoves}
 
 -- a run with a session
-abbrev playing : State → Bodies → List ℕ → Run
-playing s bodies ended = record { state = Some s; bodies = bodies; ended = ended }
+abbrev playing : State → Bodies → List ℕ → List (List ℕ) → Run
+playing s bodies ended names = record { state = Some s; bodies = bodies; ended = ended; names = names }
 
 same_number : (n : ℕ) → nat_eq n n ≡ true
 same_number n = search rules
@@ -127,8 +127,8 @@ module _ {D C : Type 0} (disk : DiskGhosts D) (chronicle : ChronicleGhosts C) (o
   abbrev before : State
   before = state_of_tape chronicle old
 
-  run_is : (run : Run) → PlaysOn disk chronicle run old → run ≡ playing before run.bodies run.ended
-  run_is run plays = ap (λ o. record { state = o; bodies = run.bodies; ended = run.ended }) plays.state
+  run_is : (run : Run) → PlaysOn disk chronicle run old → run ≡ playing before run.bodies run.ended run.names
+  run_is run plays = ap (λ o. record { state = o; bodies = run.bodies; ended = run.ended; names = run.names }) plays.state
 
   module _ (key : Key) (body : List ℕ) (column : ℕ) (a : PutAnswer) (faults : ℕ) (some : 0 < length body) (short : length body ≤ old.geometry.fragment)
       (adds : chronicle.kept new.chronicle ≡ with_records (chronicle.kept old.chronicle) (put_adds before key body a))
@@ -136,9 +136,9 @@ module _ {D C : Type 0} (disk : DiskGhosts D) (chronicle : ChronicleGhosts C) (o
     state_is : after_all before (put_adds before key body a) ≡ state_of_tape chronicle new
     state_is = sym (ap state_of adds ∙ state_of-with_records (chronicle.kept old.chronicle) _)
 
-    put_moves_at : (bodies : Bodies) (ended : List ℕ) → Knows bodies before
-        → StepMoves disk chronicle (playing before bodies ended) (step.Put key body column) (Some new) (put_said (length body) a)
-    put_moves_at bodies ended knows = record {
+    put_moves_at : (bodies : Bodies) (ended : List ℕ) (names : List (List ℕ)) → Knows bodies before
+        → StepMoves disk chronicle (playing before bodies ended names) (step.Put key body column) (Some new) (put_said (length body) a)
+    put_moves_at bodies ended names knows = record {
       turn = record { added = put_adds before key body a; refused = refused_by (put_end a); device = permit faults [] };
       takes = (
         record { geometry = old.geometry; of_session = old_holds.geometry; some = some; short = short },
@@ -154,7 +154,7 @@ module _ {D C : Type 0} (disk : DiskGhosts D) (chronicle : ChronicleGhosts C) (o
 
     pub put_moves : (run : Run) → PlaysOn disk chronicle run old → StepMoves disk chronicle run (step.Put key body column) (Some new) (put_said (length body) a)
     put_moves run plays =
-        subst (λ (r : Run). StepMoves disk chronicle r (step.Put key body column) (Some new) (put_said (length body) a)) (sym (run_is run plays)) (put_moves_at run.bodies run.ended plays.knows)
+        subst (λ (r : Run). StepMoves disk chronicle r (step.Put key body column) (Some new) (put_said (length body) a)) (sym (run_is run plays)) (put_moves_at run.bodies run.ended run.names plays.knows)
 
   -- ---- a get
 
@@ -165,9 +165,9 @@ module _ {D C : Type 0} (disk : DiskGhosts D) (chronicle : ChronicleGhosts C) (o
     seen_after : after_all before (get_adds a) ≡ state_of_tape chronicle new
     seen_after = sym (ap state_of adds ∙ state_of-with_records (chronicle.kept old.chronicle) _)
 
-    get_moves_at : (bodies : Bodies) (ended : List ℕ) → Knows bodies before
-        → StepMoves disk chronicle (playing before bodies ended) (step.Get key) (Some new) (told_of a)
-    get_moves_at bodies ended knows = record {
+    get_moves_at : (bodies : Bodies) (ended : List ℕ) (names : List (List ℕ)) → Knows bodies before
+        → StepMoves disk chronicle (playing before bodies ended names) (step.Get key) (Some new) (told_of a)
+    get_moves_at bodies ended names knows = record {
       turn = record { added = get_adds a; refused = refused_by (get_end a); device = permit faults (get_given a) };
       takes = (
         one_group (permit faults (get_given a)) before (Look key) (get_adds a) (get_end a) does,
@@ -183,4 +183,4 @@ module _ {D C : Type 0} (disk : DiskGhosts D) (chronicle : ChronicleGhosts C) (o
 
     pub get_moves : (run : Run) → PlaysOn disk chronicle run old → StepMoves disk chronicle run (step.Get key) (Some new) (told_of a)
     get_moves run plays =
-        subst (λ (r : Run). StepMoves disk chronicle r (step.Get key) (Some new) (told_of a)) (sym (run_is run plays)) (get_moves_at run.bodies run.ended plays.knows)
+        subst (λ (r : Run). StepMoves disk chronicle r (step.Get key) (Some new) (told_of a)) (sym (run_is run plays)) (get_moves_at run.bodies run.ended run.names plays.knows)

@@ -11,7 +11,7 @@ use Rattle.script_lang.specs.declared.answer.StepAnswer.{StepAnswer}
 use Rattle.script_lang.specs.Grammar.{reading_of}
 use Rattle.script_lang.specs.Texts.{answer_line}
 use Rattle.cache_tool.specs.Run.{Run, Turn, no_turn, fresh, LineTakes, StepTakes, after_line, after_step, step_answer, line_text, run_after}
-use Rattle.cache_tool.specs.Session.{ComeBack}
+use Rattle.cache_tool.specs.Session.{ComeBack, Ledger, Deals}
 use Rattle.cache_tool.specs.Story.{Story, AreShort, IsBehind, IsNext, GoesOn, Owes}
 use Rattle.cache_tool.proofs.Runs.{IsRun-more, run_after-more, output_of-more, AreReached-append}
 
@@ -49,10 +49,23 @@ ComeBack-trans a b c counts more first second = record {
   reached = AreReached-append counts more first.devices second.devices first.reached second.reached;
 }
 
+pub Deals-nothing : (a : Ledger) → Deals a a [] []
+Deals-nothing a = record { back = ComeBack-nothing a.returned; attached = sym (append-nil a.names) }
+
+pub Deals-trans : (a b c : Ledger) (counts more : List ℕ) (names others : List (List ℕ)) → Deals a b counts names → Deals b c more others → Deals a c (counts ++ more) (names ++ others)
+Deals-trans a b c counts more names others first second = record {
+  back = ComeBack-trans a.returned b.returned c.returned counts more first.back second.back;
+  attached = second.attached ∙ ap (λ l. l ++ others) first.attached ∙ append_assoc a.names names others;
+}
+
+-- the last device came back, and none was attached
+pub Deals-settled : (a b c : Ledger) (counts more : List ℕ) (names : List (List ℕ)) → Deals a b counts names → ComeBack b.returned c.returned more → c.names ≡ b.names → Deals a c (counts ++ more) names
+Deals-settled a b c counts more names first back same = record { back = ComeBack-trans a.returned b.returned c.returned counts more first.back back; attached = same ∙ first.attached }
+
 -- ---- a line more
 
-module _ (first taken_first taken : Option (List ℕ)) (returned_first returned : List Return) (unread unread' : Option (List ℕ)) (given given' : ℕ) (Plays : Run → Type 0)
-    (story : GoesOn first taken_first returned_first unread given taken returned Plays) (bytes : List ℕ) (known : AnswersKnown given unread unread' (Ok (Some bytes))) (counted : given' ≡ given + 1) where
+module _ (first taken_first taken : Option (List ℕ)) (ledger_first ledger : Ledger) (unread unread' : Option (List ℕ)) (given given' : ℕ) (Plays : Run → Type 0)
+    (story : GoesOn first taken_first ledger_first unread given taken ledger Plays) (bytes : List ℕ) (known : AnswersKnown given unread unread' (Ok (Some bytes))) (counted : given' ≡ given + 1) where
   abbrev here : Run
   here = run_after fresh story.lines story.turns
 
@@ -71,25 +84,26 @@ module _ (first taken_first taken : Option (List ℕ)) (returned_first returned 
   }
 
   -- an empty line or a comment
-  pub passed_more : reading_of bytes ≡ line.Nothing → GoesOn first taken_first returned_first unread' given' taken returned Plays
+  pub passed_more : reading_of bytes ≡ line.Nothing → GoesOn first taken_first ledger_first unread' given' taken ledger Plays
   passed_more e =
-      line_more no_turn (Appends taken_first taken) (λ run. ComeBack returned_first returned run.ended) Plays
+      line_more no_turn (Appends taken_first taken) (λ run. Deals ledger_first ledger run.ended run.names) Plays
       (rw e refl) (λ out appends. rw e (rw append-nil appends)) (rw e story.devices) (rw e story.behind)
 
   -- a step, whose answer was written as far as this
   module _ (step : Step) (asks : reading_of bytes ≡ line.Step step) (turn : Turn) (said : StepAnswer) (takes : StepTakes here turn step) (says : step_answer here turn step ≡ said)
-      (counts : List ℕ) (ended : (after_step here turn step).ended ≡ here.ended ++ counts) (returned' : List Return) (back : ComeBack returned returned' counts) where
-    back_all : ComeBack returned_first returned' (after_step here turn step).ended
-    back_all = rw ended (ComeBack-trans returned_first returned returned' here.ended counts story.devices back)
+      (counts : List ℕ) (ended : (after_step here turn step).ended ≡ here.ended ++ counts) (names : List (List ℕ)) (named : (after_step here turn step).names ≡ here.names ++ names)
+      (ledger' : Ledger) (deals : Deals ledger ledger' counts names) where
+    deals_all : Deals ledger_first ledger' (after_step here turn step).ended (after_step here turn step).names
+    deals_all = rw (ended, named) (Deals-trans ledger_first ledger ledger' here.ended counts here.names names story.devices deals)
 
     pub step_more : (Text : List ℕ → Type 0) (Plays' : Run → Type 0) → ((out : List ℕ) → Appends taken_first taken out → Text (out ++ answer_line said))
-        → Plays' (after_step here turn step) → Story first unread' given' Text (λ run. ComeBack returned_first returned' run.ended) Plays'
+        → Plays' (after_step here turn step) → Story first unread' given' Text (λ run. Deals ledger_first ledger' run.ended run.names) Plays'
     step_more Text Plays' text plays =
-        line_more turn Text (λ run. ComeBack returned_first returned' run.ended) Plays' (rw asks takes)
-        (λ out appends. rw (asks, says) (text out appends)) (rw asks back_all) (rw asks plays)
+        line_more turn Text (λ run. Deals ledger_first ledger' run.ended run.names) Plays' (rw asks takes)
+        (λ out appends. rw (asks, says) (text out appends)) (rw asks deals_all) (rw asks plays)
 
     pub step_owes : (Text : List ℕ → Type 0) (Plays' Behind : Run → Type 0) → ((out : List ℕ) → Appends taken_first taken out → Text (out ++ answer_line said))
-        → Plays' (after_step here turn step) → Behind (after_step here turn step) → Story first unread' given' Text (Owes returned_first returned' Plays') Behind
+        → Plays' (after_step here turn step) → Behind (after_step here turn step) → Story first unread' given' Text (Owes ledger_first ledger' Plays') Behind
     step_owes Text Plays' Behind text plays behind =
-        line_more turn Text (Owes returned_first returned' Plays') Behind (rw asks takes)
-        (λ out appends. rw (asks, says) (text out appends)) (rw asks (record { back = back_all; plays = plays })) (rw asks behind)
+        line_more turn Text (Owes ledger_first ledger' Plays') Behind (rw asks takes)
+        (λ out appends. rw (asks, says) (text out appends)) (rw asks (record { deals = deals_all; plays = plays })) (rw asks behind)

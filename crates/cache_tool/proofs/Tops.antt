@@ -2,20 +2,20 @@
 use Rattle.std.proofs.Common.{◌≡◌, ℕ, ◌≤◌, List, [], Option, refl, sym, subst, inl, inr, ◌⊎◌}
 use Rattle.std.specs.Io.KnownBytes.{Appends, Keeps}
 use Rattle.std.proofs.KnownBytes.{Appends-trans}
-use Rattle.ats_disk.specs.Bay.{Return}
 use Rattle.script_lang.specs.declared.answer.LastLine.{LastLine}
 use Rattle.script_lang.specs.declared.answer.LastLine.TheVariants as last
 use Rattle.script_lang.specs.Texts.{last_line}
 use Rattle.cache_tool.specs.declared.top.Status.{Status}
 use Rattle.cache_tool.specs.declared.top.Status.TheVariants as status
 use Rattle.cache_tool.specs.Run.{Run}
+use Rattle.cache_tool.specs.Session.{Ledger}
 use Rattle.cache_tool.specs.Story.{Story, Because, Counts}
 use Rattle.cache_tool.specs.Ending.{StoryUpTo}
 use Rattle.cache_tool.specs.Top.{WentOut, DevicesBack, status_of, EndsEarly, Concludes}
 use Rattle.cache_tool.proofs.Halts.{Appends-kept, answers_of_all}
 use Rattle.cache_tool.proofs.Ends.{Rose-earlier}
 
-module _ (first old mid new : Option (List ℕ)) (source sink sink_last bay : Counts) (before now : List Return) (earlier : sink.before ≤ sink_last.before) (same : sink_last.now ≡ sink.now) where
+module _ (first old mid new : Option (List ℕ)) (source sink sink_last bay : Counts) (before now : Ledger) (earlier : sink.before ≤ sink_last.before) (same : sink_last.now ≡ sink.now) where
   went_out : (out text : List ℕ) → Appends old mid out → WentOut mid new sink_last [] text → WentOut old new sink out text
   went_out out text appends (inl all) = inl (Appends-trans old mid new out text appends all)
   went_out out text appends (inr cut) = inr (record {

@@ -4,7 +4,6 @@ use Rattle.std.specs.Io.KnownBytes.{Keeps}
 use Rattle.edge_io.specs.Causes.{Rose}
 use Rattle.edge_io.specs.declared.reader.LineFault.{LineFault}
 use Rattle.edge_io.specs.declared.reader.LineFault.TheVariants as fault
-use Rattle.ats_disk.specs.Bay.{Return}
 use Rattle.ats_disk.specs.declared.device.Disk.{Ghosts as DiskGhosts}
 use Rattle.first_chronicle.specs.declared.chronicle.Chronicle.{Ghosts as ChronicleGhosts}
 use Rattle.script_lang.specs.declared.step.Step.{Step}
@@ -19,18 +18,18 @@ use Rattle.cache_tool.specs.declared.run.Ending.TheVariants as ending
 use Rattle.cache_tool.specs.declared.run.Halt.{Halt}
 use Rattle.cache_tool.specs.declared.run.Halt.TheVariants.{Stop, WriteFault, Memory}
 use Rattle.cache_tool.specs.Run.{Run}
-use Rattle.cache_tool.specs.Session.{Plays, DeviceMoves}
+use Rattle.cache_tool.specs.Session.{Plays, Ledger, DeviceMoves}
 use Rattle.cache_tool.specs.Story.{Counts, SendsFront}
 use Rattle.cache_tool.specs.Stop.{StopsStep}
 
 -- A step was done, and this became of the text of its answer.
-pub record Written {D C : Type 0} (disk : DiskGhosts D) (chronicle : ChronicleGhosts C) (run : Run) (step : Step) (session : Option (Tape D C)) (before now : List Return) (Text : List ℕ → Type 0) : Type 0 where
+pub record Written {D C : Type 0} (disk : DiskGhosts D) (chronicle : ChronicleGhosts C) (run : Run) (step : Step) (session : Option (Tape D C)) (before now : Ledger) (Text : List ℕ → Type 0) : Type 0 where
   pub said : StepAnswer
   pub done : DeviceMoves disk chronicle run step session said before now
   pub text : Text (answer_line said)
 
 -- what a step that ends the run leaves
-abbrev pub Halts : {D C : Type 0} → DiskGhosts D → ChronicleGhosts C → Run → Step → Option (Tape D C) → (before now : List Return) → (old new : Option (List ℕ)) → (sink bay : Counts) → Halt → Type 0
+abbrev pub Halts : {D C : Type 0} → DiskGhosts D → ChronicleGhosts C → Run → Step → Option (Tape D C) → (before now : Ledger) → (old new : Option (List ℕ)) → (sink bay : Counts) → Halt → Type 0
 Halts disk chronicle run step session before now old new sink bay (Stop why) =
     Plays disk chronicle run session × (now ≡ before) × Keeps old new × StopsStep run step bay.before bay.now why
 Halts disk chronicle run step session before now old new sink bay WriteFault =

@@ -43,9 +43,11 @@ pub record Run : Type 0 where
   pub bodies : Bodies
   -- of each device that was given back, its count at the last fault that was told
   pub ended : List ℕ
+  -- the name of each device that was attached
+  pub names : List (List ℕ)
 
 abbrev pub fresh : Run
-fresh = record { state = None; bodies = []; ended = [] }
+fresh = record { state = None; bodies = []; ended = []; names = [] }
 
 -- what a line did: the records that it added, why it did less than was asked, and what the device did
 pub record Turn : Type 0 where
@@ -66,28 +68,28 @@ fault_of (Some s) = s.fault ∷ []
 abbrev pub counts_of : Run → List ℕ
 counts_of run = run.ended ++ fault_of run.state
 
--- a format ends the session before it
-abbrev pub formatted : Run → List Rec → Run
-formatted run added = record { state = Some (after_all nothing_yet added); bodies = []; ended = counts_of run }
+-- a format ends the session before it, and attaches the device of its name
+abbrev pub formatted : Run → List ℕ → List Rec → Run
+formatted run name added = record { state = Some (after_all nothing_yet added); bodies = []; ended = counts_of run; names = run.names ++ name ∷ [] }
 
-abbrev pub after_format : Run → List Rec → Option BadGeometry → Run
-after_format run added (Some bad) = run
-after_format run added None = formatted run added
+abbrev pub after_format : Run → List ℕ → List Rec → Option BadGeometry → Run
+after_format run name added (Some bad) = run
+after_format run name added None = formatted run name added
 
 abbrev pub after_look : Run → List Rec → Run
-after_look run added = record { state = option_map (λ s. after_all s added) run.state; bodies = run.bodies; ended = run.ended }
+after_look run added = record { state = option_map (λ s. after_all s added) run.state; bodies = run.bodies; ended = run.ended; names = run.names }
 
 abbrev pub stores : State → Key → List ℕ → Option Reason → Bodies → Bodies
 stores s key body None bodies = (body_piece key (s.taken + 1), body) ∷ bodies
 stores s key body (Some why) bodies = bodies
 
 abbrev pub after_put : Run → Key → List ℕ → Turn → Option State → Run
-after_put run key body turn (Some s) = record { state = Some (after_all s turn.added); bodies = stores s key body turn.refused run.bodies; ended = run.ended }
+after_put run key body turn (Some s) = record { state = Some (after_all s turn.added); bodies = stores s key body turn.refused run.bodies; ended = run.ended; names = run.names }
 after_put run key body turn None = run
 
 abbrev pub after_step : Run → Turn → Step → Run
 after_step run turn (step.Format name segments buckets content agg reach fragment generation) =
-    after_format run turn.added (first_refusal segments buckets content agg reach fragment)
+    after_format run name turn.added (first_refusal segments buckets content agg reach fragment)
 after_step run turn (step.Put key body column) = after_put run key body turn run.state
 after_step run turn (step.Get key) = after_look run turn.added
 

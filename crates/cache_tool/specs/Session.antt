@@ -3,6 +3,7 @@ use Rattle.std.specs.Prelude.{◌≡◌, ℕ, List, ◌++◌, Option, Some, None
 use Rattle.tape_base.specs.declared.keys.Key.{Key}
 use Rattle.tape_base.specs.Digest.{digest_of}
 use Rattle.ats_disk.specs.Bay.{Return}
+use Rattle.ats_disk.specs.declared.bay.Bay.{Ghosts as BayGhosts}
 use Rattle.ats_disk.specs.declared.device.Disk.{Ghosts as DiskGhosts}
 use Rattle.first_chronicle.specs.declared.chronicle.Chronicle.{Ghosts as ChronicleGhosts}
 use Rattle.first_model.specs.declared.table.Stored.{Stored}
@@ -55,9 +56,24 @@ pub record ComeBack (old new : List Return) (counts : List ℕ) : Type 0 where
   pub returned : new ≡ old ++ devices
   pub reached : AreReached counts devices
 
--- A step did what it must, this is its answer, and the devices of what it ended came back.
-pub record DeviceMoves {D C : Type 0} (disk : DiskGhosts D) (chronicle : ChronicleGhosts C) (run : Run) (step : Step) (new : Option (Tape D C)) (said : StepAnswer) (before now : List Return) : Type 0 where
+-- what a bay tells: the names of the devices that were attached, and the devices that came back
+pub record Ledger : Type 0 where
+  pub names : List (List ℕ)
+  pub returned : List Return
+
+abbrev pub ledger_of : {B D : Type 0} → BayGhosts B D → B → Ledger
+ledger_of bay b = record { names = bay.names b; returned = bay.returned b }
+
+-- devices came back, with counts that none of these exceeds, and these are the names of those that were attached
+pub record Deals (old new : Ledger) (counts : List ℕ) (names : List (List ℕ)) : Type 0 where
+  pub back : ComeBack old.returned new.returned counts
+  pub attached : new.names ≡ old.names ++ names
+
+-- A step did what it must, this is its answer, the devices of what it ended came back, and its own was attached.
+pub record DeviceMoves {D C : Type 0} (disk : DiskGhosts D) (chronicle : ChronicleGhosts C) (run : Run) (step : Step) (new : Option (Tape D C)) (said : StepAnswer) (before now : Ledger) : Type 0 where
   pub moves : StepMoves disk chronicle run step new said
   pub counts : List ℕ
   pub ended : (after_step run moves.turn step).ended ≡ run.ended ++ counts
-  pub back : ComeBack before now counts
+  pub names : List (List ℕ)
+  pub named : (after_step run moves.turn step).names ≡ run.names ++ names
+  pub deals : Deals before now counts names

@@ -4,7 +4,6 @@ use Rattle.std.specs.Io.KnownBytes.{Appends}
 use Rattle.edge_io.specs.Causes.{Rose}
 use Rattle.edge_io.specs.declared.reader.TheConstants.{MAX_LINE_BYTES, MAX_LINES}
 use Rattle.edge_io.specs.Lines.{lines_of, IsTooLong, IsTooMany, GivesLine}
-use Rattle.ats_disk.specs.Bay.{Return}
 use Rattle.script_lang.specs.declared.line.BadLine.{BadLine}
 use Rattle.script_lang.specs.declared.line.LineAnswer.TheVariants as line
 use Rattle.script_lang.specs.declared.step.Step.{Step}
@@ -14,7 +13,7 @@ use Rattle.script_lang.specs.declared.answer.StepAnswer.{StepAnswer}
 use Rattle.script_lang.specs.Texts.{answer_line}
 use Rattle.script_lang.specs.Grammar.{reading_of}
 use Rattle.cache_tool.specs.Run.{Run, Turn, fresh, IsRun, run_after, output_of}
-use Rattle.cache_tool.specs.Session.{ComeBack}
+use Rattle.cache_tool.specs.Session.{Ledger, Deals}
 use Rattle.cache_tool.specs.Stop.{IsUnfitPut, NeedsSession, Attaches}
 
 -- no line is longer than a line may be
@@ -120,12 +119,12 @@ pub record SendsFront (old new : Option (List ℕ)) (text : List ℕ) : Type 0 w
   pub split : text ≡ front ++ rest
   pub appends : Appends old new front
 
--- the run goes on: the devices that it ended came back, and the session plays the run
-abbrev pub GoesOn : (first taken_first : Option (List ℕ)) → List Return → (unread : Option (List ℕ)) → ℕ → (taken : Option (List ℕ)) → List Return → (Run → Type 0) → Type 0
-GoesOn first taken_first returned_first unread given taken returned Plays =
-    Story first unread given (Appends taken_first taken) (λ run. ComeBack returned_first returned run.ended) Plays
+-- the run goes on: it attached the devices of its lines, those that it ended came back, and the session plays the run
+abbrev pub GoesOn : (first taken_first : Option (List ℕ)) → Ledger → (unread : Option (List ℕ)) → ℕ → (taken : Option (List ℕ)) → Ledger → (Run → Type 0) → Type 0
+GoesOn first taken_first ledger_first unread given taken ledger Plays =
+    Story first unread given (Appends taken_first taken) (λ run. Deals ledger_first ledger run.ended run.names) Plays
 
--- what a session owes once the run has ended: the devices that it ended came back, and it plays the run
-pub record Owes (returned_first returned : List Return) (Plays : Run → Type 0) (run : Run) : Type 0 where
-  pub back : ComeBack returned_first returned run.ended
+-- what a session owes once the run has ended: its devices were attached, those that it ended came back, and it plays the run
+pub record Owes (ledger_first ledger : Ledger) (Plays : Run → Type 0) (run : Run) : Type 0 where
+  pub deals : Deals ledger_first ledger run.ended run.names
   pub plays : Plays run

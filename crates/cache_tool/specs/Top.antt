@@ -3,14 +3,13 @@ use Rattle.std.specs.Prelude.{◌≡◌, ℕ, ◌⊎◌, List, [], ◌∷◌, �
 use Rattle.std.specs.declared.string.String.{String}
 use Rattle.std.specs.Io.KnownBytes.{Appends, IsAtEnd}
 use Rattle.edge_io.specs.Causes.{Rose}
-use Rattle.ats_disk.specs.Bay.{Return}
 use Rattle.script_lang.specs.declared.answer.LastLine.{LastLine}
 use Rattle.script_lang.specs.declared.answer.LastLine.TheVariants as last
 use Rattle.script_lang.specs.Texts.{last_line}
 use Rattle.cache_tool.specs.declared.top.Status.{Status}
 use Rattle.cache_tool.specs.declared.top.Status.TheVariants as status
 use Rattle.cache_tool.specs.Run.{Run, counts_of}
-use Rattle.cache_tool.specs.Session.{ComeBack}
+use Rattle.cache_tool.specs.Session.{Ledger, Deals}
 use Rattle.cache_tool.specs.Story.{Because, Counts, SendsFront, SendsAnswers}
 use Rattle.cache_tool.specs.Ending.{StoryUpTo}
 
@@ -52,12 +51,13 @@ pub record CutOff (old new : Option (List ℕ)) (sink : Counts) (before text : L
 abbrev pub WentOut : Option (List ℕ) → Option (List ℕ) → Counts → (before text : List ℕ) → Type 0
 WentOut old new sink before text = Appends old new (before ++ text) ⊎ CutOff old new sink before text
 
--- every device came back, in the order in which they were attached, with counts that none told exceeds
-abbrev pub DevicesBack : List Return → List Return → Run → Type 0
-DevicesBack before now run = ComeBack before now (counts_of run)
+-- the devices that were attached have the names of the lines that asked for them, in order, and each came back, in that
+-- order, with a count that none told exceeds
+abbrev pub DevicesBack : Ledger → Ledger → Run → Type 0
+DevicesBack before now run = Deals before now (counts_of run) run.names
 
 -- a run that ended early: the answers of the lines before went out, and behind them the last line or a front of it
-pub record EndsEarly (first old new : Option (List ℕ)) (source sink bay : Counts) (before now : List Return) (s : Status) : Type 0 where
+pub record EndsEarly (first old new : Option (List ℕ)) (source sink bay : Counts) (before now : Ledger) (s : Status) : Type 0 where
   pub why : LastLine
   pub said : s ≡ status_of why
   pub upto : StoryUpTo first (λ out. WentOut old new sink out (last_line why)) (DevicesBack before now) (λ unread given run. Because source bay unread given run why)
@@ -65,7 +65,7 @@ pub record EndsEarly (first old new : Option (List ℕ)) (source sink bay : Coun
 -- What each status says. Done: the script was read to its end, and the output is the answers of all its lines. Usage: the
 -- last line alone went out. WriteFault: the sink's count rose, and a front of the answers went out. OutOfMemory: whole
 -- answers went out, of all lines that were taken or of all but the last. The others name the cause that ended the run.
-abbrev pub Concludes : (first old new : Option (List ℕ)) → (source sink bay : Counts) → (before now : List Return) → Status → Type 0
+abbrev pub Concludes : (first old new : Option (List ℕ)) → (source sink bay : Counts) → (before now : Ledger) → Status → Type 0
 Concludes first old new source sink bay before now status.Done = StoryUpTo first (Appends old new) (DevicesBack before now) (λ unread given run. IsAtEnd unread)
 Concludes first old new source sink bay before now status.Usage = WentOut old new sink [] (last_line last.Usage) × (now ≡ before)
 Concludes first old new source sink bay before now status.WriteFault = StoryUpTo first (SendsFront old new) (DevicesBack before now) (λ unread given run. Rose sink.before sink.now)

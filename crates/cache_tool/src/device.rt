@@ -1,5 +1,5 @@
 // Sessions on the devices of a bay.
-ghost use Rattle.std.specs.Prelude.{◌≡◌, ◌+◌, ◌≤◌, ◌∷◌, [], Some, IfOk, IfErr, OnOk, OnErr};
+ghost use Rattle.std.specs.Prelude.{◌≡◌, ◌+◌, ◌≤◌, ◌++◌, ◌∷◌, [], Some, IfOk, IfErr, OnOk, OnErr};
 ghost use Rattle.edge_io.specs.Causes.{Rose};
 ghost use Rattle.tape_base.specs.Place.{floor_of};
 ghost use Rattle.ats_disk.specs.Bay.{IsAttached};
@@ -7,7 +7,7 @@ ghost use Rattle.first_model.specs.State.{nothing_yet, after_all};
 ghost use Rattle.cache_tool.specs.Tape.{IsTape, state_of_tape};
 ghost use Rattle.first_model.specs.declared.record.Rec.TheVariants as rec;
 ghost use Rattle.cache_tool.specs.Run.{Run, formatted, fault_of};
-ghost use Rattle.cache_tool.specs.Session.{Plays, AreTapes, ComeBack, held};
+ghost use Rattle.cache_tool.specs.Session.{Plays, AreTapes, ComeBack, ledger_of, held};
 ghost use Rattle.cache_tool.specs.Stop.{IsFormatStop};
 
 use crate::session::Stop;
@@ -27,6 +27,7 @@ pub(crate) fn close<B: Bay>(bay: &mut B, session: Session<B::Dev>)
     ensures back { (run : Run) → Plays B.Dev.Disk ⟦<FullChronicle as Chronicle>⟧ run session
         → ComeBack (B.returned bay.old) (B.returned bay.new) (fault_of run.state) }
     ensures out { B.out bay.new + held session ≡ B.out bay.old }
+    ensures names { B.names bay.new ≡ B.names bay.old }
     ensures faults { B.faults bay.new ≡ B.faults bay.old }
 {
     match session {
@@ -46,8 +47,9 @@ pub(crate) fn close<B: Bay>(bay: &mut B, session: Session<B::Dev>)
 /// Attaches a device.
 fn attach<B: Bay>(alloc: Global, bay: &mut B, name: &[u8], blocks: u64) -> Result<B::Dev, Stop>
     ensures device { IfOk result (λ device. IsAttached blocks (B.Dev.state device)) }
+    ensures names { OnOk result (B.names bay.new ≡ B.names bay.old ++ name.now ∷ []) }
     ensures out { OnOk result (B.out bay.new ≡ B.out bay.old + 1) }
-    ensures refused { OnErr result (B.out bay.new ≡ B.out bay.old) }
+    ensures refused { OnErr result ((B.names bay.new ≡ B.names bay.old) × (B.out bay.new ≡ B.out bay.old)) }
     ensures returned { B.returned bay.new ≡ B.returned bay.old }
     ensures stop { IfErr result (IsFormatStop (B.faults bay.old) (B.faults bay.new)) }
     ensures later { B.faults bay.old ≤ B.faults bay.new }
@@ -88,10 +90,11 @@ pub(crate) fn begin<B: Bay>(
 ) -> Result<(), Stop>
     requires held { held session.old ≤ B.out bay.old }
     ensures plays { OnOk result ((run : Run) → Plays B.Dev.Disk ⟦<FullChronicle as Chronicle>⟧
-        (formatted run (rec.Formatted geometry ∷ [])) session.new) }
+        (formatted run name.now (rec.Formatted geometry ∷ [])) session.new) }
     ensures back { OnOk result ((run : Run) → Plays B.Dev.Disk ⟦<FullChronicle as Chronicle>⟧ run session.old
         → ComeBack (B.returned bay.old) (B.returned bay.new) (fault_of run.state)) }
-    ensures stays { OnErr result ((session.new ≡ session.old) × (B.returned bay.new ≡ B.returned bay.old)) }
+    ensures names { OnOk result (B.names bay.new ≡ B.names bay.old ++ name.now ∷ []) }
+    ensures stays { OnErr result ((session.new ≡ session.old) × (ledger_of B.Bay bay.new ≡ ledger_of B.Bay bay.old)) }
     ensures out { B.out bay.new + held session.old ≡ B.out bay.old + held session.new }
     ensures stop { IfErr result (IsFormatStop (B.faults bay.old) (B.faults bay.new)) }
     ensures later { B.faults bay.old ≤ B.faults bay.new }

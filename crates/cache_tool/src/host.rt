@@ -14,6 +14,7 @@ pub struct HostBay {
 
 impl HostBay {
     pub fn new(alloc: Global) -> HostBay
+        ensures names { ⟦<HostBay as Bay>⟧.names result ≡ [] }
         ensures returned { ⟦<HostBay as Bay>⟧.returned result ≡ [] }
         ensures out { ⟦<HostBay as Bay>⟧.out result ≡ 0 }
         ensures faults { ⟦<HostBay as Bay>⟧.faults result ≡ 0 }
@@ -38,6 +39,8 @@ impl HostBay {
 
 impl Bay for HostBay {
     type Dev = MemDisk;
+
+    ghost names = { λ bay. ⟦<MemBay as Bay>⟧.names bay.memory };
 
     ghost told = { λ bay. ⟦<MemBay as Bay>⟧.told bay.memory };
 

@@ -3,10 +3,9 @@ ghost use Rattle.std.specs.Prelude.{◌≡◌, ◌+◌, ◌<◌, ◌≤◌, ℕ,
 ghost use Rattle.std.specs.Io.KnownBytes.{Appends, Keeps};
 ghost use Rattle.edge_io.specs.Causes.{Rose};
 ghost use Rattle.edge_io.specs.LineReader.{unread, lines_given, source_of};
-ghost use Rattle.ats_disk.specs.Bay.{Return};
 ghost use Rattle.script_lang.specs.Texts.{answer_line};
 ghost use Rattle.cache_tool.specs.Run.{Run};
-ghost use Rattle.cache_tool.specs.Session.{Plays, AreTapes, held};
+ghost use Rattle.cache_tool.specs.Session.{Plays, AreTapes, Ledger, ledger_of, held};
 ghost use Rattle.cache_tool.specs.Story.{GoesOn, Owes, SendsFront, counts};
 ghost use Rattle.cache_tool.specs.Halt.{IsUnwritten, Written, Halts, last_of, ending_of};
 ghost use Rattle.cache_tool.specs.Ending.{Ends};
@@ -66,10 +65,10 @@ fn take_step<K: Sink, B: Bay>(
     requires held { held session.old ≤ B.out bay.old }
     requires tapes { AreTapes B.Dev.Disk ⟦<FullChronicle as Chronicle>⟧ session.old }
     ensures done { OnOk result ((run : Run) → Plays B.Dev.Disk ⟦<FullChronicle as Chronicle>⟧ run session.old
-        → Written B.Dev.Disk ⟦<FullChronicle as Chronicle>⟧ run step.now session.new (B.returned bay.old) (B.returned bay.new)
+        → Written B.Dev.Disk ⟦<FullChronicle as Chronicle>⟧ run step.now session.new (ledger_of B.Bay bay.old) (ledger_of B.Bay bay.new)
         (Appends (K.taken sink.old) (K.taken sink.new))) }
     ensures halted { IfErr result (λ halt. (run : Run) → Plays B.Dev.Disk ⟦<FullChronicle as Chronicle>⟧ run session.old
-        → Halts B.Dev.Disk ⟦<FullChronicle as Chronicle>⟧ run step.now session.new (B.returned bay.old) (B.returned bay.new)
+        → Halts B.Dev.Disk ⟦<FullChronicle as Chronicle>⟧ run step.now session.new (ledger_of B.Bay bay.old) (ledger_of B.Bay bay.new)
         (K.taken sink.old) (K.taken sink.new) (counts (K.faults sink.old) (K.faults sink.new))
         (counts (B.faults bay.old) (B.faults bay.new)) halt) }
     ensures tapes { AreTapes B.Dev.Disk ⟦<FullChronicle as Chronicle>⟧ session.new }
@@ -118,17 +117,17 @@ fn line<S: Source, K: Sink, B: Bay>(
 ) -> Result<(), Ending>
     requires held { held session.old ≤ B.out bay.old }
     requires tapes { AreTapes B.Dev.Disk ⟦<FullChronicle as Chronicle>⟧ session.old }
-    ensures goes { OnOk result ((first told : Option (List ℕ)) (back : List Return)
-        → GoesOn first told back (unread S.left reader.old) (lines_given reader.old) (K.taken sink.old) (B.returned bay.old)
+    ensures goes { OnOk result ((first told : Option (List ℕ)) (back : Ledger)
+        → GoesOn first told back (unread S.left reader.old) (lines_given reader.old) (K.taken sink.old) (ledger_of B.Bay bay.old)
         (λ run. Plays B.Dev.Disk ⟦<FullChronicle as Chronicle>⟧ run session.old)
-        → GoesOn first told back (unread S.left reader.new) (lines_given reader.new) (K.taken sink.new) (B.returned bay.new)
+        → GoesOn first told back (unread S.left reader.new) (lines_given reader.new) (K.taken sink.new) (ledger_of B.Bay bay.new)
         (λ run. Plays B.Dev.Disk ⟦<FullChronicle as Chronicle>⟧ run session.new)) }
-    ensures ends { IfErr result (λ ending. (first told : Option (List ℕ)) (back : List Return)
-        → GoesOn first told back (unread S.left reader.old) (lines_given reader.old) (K.taken sink.old) (B.returned bay.old)
+    ensures ends { IfErr result (λ ending. (first told : Option (List ℕ)) (back : Ledger)
+        → GoesOn first told back (unread S.left reader.old) (lines_given reader.old) (K.taken sink.old) (ledger_of B.Bay bay.old)
         (λ run. Plays B.Dev.Disk ⟦<FullChronicle as Chronicle>⟧ run session.old)
         → Ends first told (K.taken sink.new) (counts (S.faults (source_of reader.old).now) (S.faults (source_of reader.new).now))
         (counts (K.faults sink.old) (K.faults sink.new)) (counts (B.faults bay.old) (B.faults bay.new))
-        (Owes back (B.returned bay.new) (λ run. Plays B.Dev.Disk ⟦<FullChronicle as Chronicle>⟧ run session.new)) ending) }
+        (Owes back (ledger_of B.Bay bay.new) (λ run. Plays B.Dev.Disk ⟦<FullChronicle as Chronicle>⟧ run session.new)) ending) }
     ensures nearer { OnOk result ((lines_given reader.old < MAX_LINES) × (lines_given reader.new ≡ lines_given reader.old + 1)) }
     ensures source { (source_of reader.new).ghost_name ≡ (source_of reader.old).ghost_name }
     ensures source_later { S.faults (source_of reader.old).now ≤ S.faults (source_of reader.new).now }
@@ -166,7 +165,7 @@ pub(crate) fn run_lines<S: Source, K: Sink, B: Bay>(
     ensures ends { Ends (unread S.left reader.old) (K.taken sink.old) (K.taken sink.new)
         (counts (S.faults (source_of reader.old).now) (S.faults (source_of reader.new).now))
         (counts (K.faults sink.old) (K.faults sink.new)) (counts (B.faults bay.old) (B.faults bay.new))
-        (Owes (B.returned bay.old) (B.returned bay.new) (λ run. Plays B.Dev.Disk ⟦<FullChronicle as Chronicle>⟧ run session.new))
+        (Owes (ledger_of B.Bay bay.old) (ledger_of B.Bay bay.new) (λ run. Plays B.Dev.Disk ⟦<FullChronicle as Chronicle>⟧ run session.new))
         result }
     ensures source { (source_of reader.new).ghost_name ≡ (source_of reader.old).ghost_name }
     ensures out { B.out bay.new ≡ B.out bay.old + held session.new }

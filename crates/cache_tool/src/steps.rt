@@ -2,7 +2,7 @@
 ghost use Rattle.std.specs.Prelude.{◌≡◌, ◌+◌, ◌≤◌, IfOk, IfErr, OnErr};
 ghost use Rattle.script_lang.specs.declared.step.Step.TheVariants as step;
 ghost use Rattle.cache_tool.specs.Run.{Run, number_of};
-ghost use Rattle.cache_tool.specs.Session.{Plays, AreTapes, DeviceMoves, held};
+ghost use Rattle.cache_tool.specs.Session.{Plays, AreTapes, DeviceMoves, ledger_of, held};
 ghost use Rattle.cache_tool.specs.Stop.{StopsStep};
 
 use crate::device::{Session, begin};
@@ -44,10 +44,10 @@ fn format<B: Bay>(
     requires tapes { AreTapes B.Dev.Disk ⟦<FullChronicle as Chronicle>⟧ session.old }
     ensures moves { IfOk result (λ said. (run : Run) → Plays B.Dev.Disk ⟦<FullChronicle as Chronicle>⟧ run session.old
         → DeviceMoves B.Dev.Disk ⟦<FullChronicle as Chronicle>⟧ run (step.Format name.now segments buckets content agg reach fragment generation) session.new said
-        (B.returned bay.old) (B.returned bay.new)) }
+        (ledger_of B.Bay bay.old) (ledger_of B.Bay bay.new)) }
     ensures stays { OnErr result ((run : Run) → Plays B.Dev.Disk ⟦<FullChronicle as Chronicle>⟧ run session.old
         → Plays B.Dev.Disk ⟦<FullChronicle as Chronicle>⟧ run session.new) }
-    ensures kept { OnErr result (B.returned bay.new ≡ B.returned bay.old) }
+    ensures kept { OnErr result (ledger_of B.Bay bay.new ≡ ledger_of B.Bay bay.old) }
     ensures tapes { AreTapes B.Dev.Disk ⟦<FullChronicle as Chronicle>⟧ session.new }
     ensures out { B.out bay.new + held session.old ≡ B.out bay.old + held session.new }
     ensures stop { IfErr result (λ stop. (run : Run) → Plays B.Dev.Disk ⟦<FullChronicle as Chronicle>⟧ run session.old
@@ -82,10 +82,10 @@ pub(crate) fn answer<B: Bay>(
     requires tapes { AreTapes B.Dev.Disk ⟦<FullChronicle as Chronicle>⟧ session.old }
     ensures moves { IfOk result (λ said. (run : Run) → Plays B.Dev.Disk ⟦<FullChronicle as Chronicle>⟧ run session.old
         → DeviceMoves B.Dev.Disk ⟦<FullChronicle as Chronicle>⟧ run step.now session.new said
-        (B.returned bay.old) (B.returned bay.new)) }
+        (ledger_of B.Bay bay.old) (ledger_of B.Bay bay.new)) }
     ensures stays { OnErr result ((run : Run) → Plays B.Dev.Disk ⟦<FullChronicle as Chronicle>⟧ run session.old
         → Plays B.Dev.Disk ⟦<FullChronicle as Chronicle>⟧ run session.new) }
-    ensures kept { OnErr result (B.returned bay.new ≡ B.returned bay.old) }
+    ensures kept { OnErr result (ledger_of B.Bay bay.new ≡ ledger_of B.Bay bay.old) }
     ensures tapes { AreTapes B.Dev.Disk ⟦<FullChronicle as Chronicle>⟧ session.new }
     ensures out { B.out bay.new + held session.old ≡ B.out bay.old + held session.new }
     ensures stop { IfErr result (λ stop. (run : Run) → Plays B.Dev.Disk ⟦<FullChronicle as Chronicle>⟧ run session.old

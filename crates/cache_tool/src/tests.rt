@@ -334,6 +334,8 @@ impl Bay for FaultyBay {
 
     type Dev = Faulty;
 
+    ghost names = { λ bay. ⟦<MemBay as Bay>⟧.names bay.memory };
+
     ghost told = { λ bay. map (λ _. None) (⟦<MemBay as Bay>⟧.told bay.memory) };
 
     ghost returned = { λ bay. ⟦<MemBay as Bay>⟧.returned bay.memory };

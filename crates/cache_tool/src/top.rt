@@ -3,7 +3,7 @@ ghost use Rattle.std.specs.Prelude.{◌≡◌, ◌≤◌, ◌↔◌, ◌⊎◌, 
 ghost use Rattle.std.specs.Io.KnownBytes.{Keeps};
 ghost use Rattle.script_lang.specs.Texts.{last_line, usage_line};
 ghost use Rattle.cache_tool.specs.Run.{counts_of};
-ghost use Rattle.cache_tool.specs.Session.{ComeBack};
+ghost use Rattle.cache_tool.specs.Session.{ledger_of};
 ghost use Rattle.cache_tool.specs.Story.{counts};
 ghost use Rattle.cache_tool.specs.Ending.{Ends};
 ghost use Rattle.cache_tool.specs.Top.{IsReplay, WentOut, DevicesBack, status_of, exit_code, Concludes};
@@ -105,7 +105,7 @@ fn replay<S: Source, K: Sink, B: Bay>(
 ) -> Ending
     ensures ends { Ends (S.left source.old) (K.taken sink.old) (K.taken sink.new) (counts (S.faults source.old) (S.faults source.new))
         (counts (K.faults sink.old) (K.faults sink.new)) (counts (B.faults bay.old) (B.faults bay.new))
-        (DevicesBack (B.returned bay.old) (B.returned bay.new)) result }
+        (DevicesBack (ledger_of B.Bay bay.old) (ledger_of B.Bay bay.new)) result }
     ensures out { B.out bay.new ≡ B.out bay.old }
     ensures source_later { S.faults source.old ≤ S.faults source.new }
     ensures sink_later { K.faults sink.old ≤ K.faults sink.new }
@@ -132,7 +132,7 @@ pub fn cache_main<S: Source, K: Sink, B: Bay>(
 ) -> Status
     ensures concludes { Concludes (S.left source.old) (K.taken sink.old) (K.taken sink.new) (counts (S.faults source.old) (S.faults source.new))
         (counts (K.faults sink.old) (K.faults sink.new)) (counts (B.faults bay.old) (B.faults bay.new))
-        (B.returned bay.old) (B.returned bay.new) result }
+        (ledger_of B.Bay bay.old) (ledger_of B.Bay bay.new) result }
     ensures usage { (result ≡ Status.Usage) ↔ (IsReplay words.now → ⊥) }
 
     // Every device was given back.

@@ -1,12 +1,13 @@
 use Rattle.std.proofs.Common.{refl, ◌∙◌, arith}
 use Rattle.edge_io.specs.LineReader.{unread, source_of}
+use Rattle.cache_tool.specs.Session.{ledger_of}
 use Rattle.cache_tool.specs.Story.{counts}
 use Rattle.cache_tool.proofs.Ends.{begins, Ends-earlier}
 use Rattle.cache_tool.proofs.run.run_lines.Goals as goal
 
 pub lines-init : goal.lines-init
 lines-init g c = record {
-  goes = begins (unread g.S.Source.left c.args.reader.now) (g.K.Sink.taken c.args.sink.now) (g.B.Bay.returned c.args.bay.now) _ _ c.requires.given (rw c.requires.none refl);
+  goes = begins (unread g.S.Source.left c.args.reader.now) (g.K.Sink.taken c.args.sink.now) (ledger_of g.B.Bay c.args.bay.now) _ _ c.requires.given (rw c.requires.none refl);
   tapes = rw c.requires.none tt;
   out = rw c.requires.none (omega arith);
   source = refl;

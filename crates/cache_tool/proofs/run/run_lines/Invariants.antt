@@ -2,14 +2,14 @@
 use Rattle.std.proofs.Common.{◌≡◌, ◌+◌, ◌-◌, ◌≤◌}
 use Rattle.edge_io.specs.declared.reader.TheConstants.{MAX_LINES}
 use Rattle.edge_io.specs.LineReader.{unread, lines_given, source_of}
-use Rattle.cache_tool.specs.Session.{Plays, AreTapes, held}
+use Rattle.cache_tool.specs.Session.{Plays, AreTapes, ledger_of, held}
 use Rattle.cache_tool.specs.Story.{GoesOn}
 use Rattle.first_chronicle.specs.contracts.full.FullChronicleChronicle.TheImpl.{ghosts}
 use Rattle.cache_tool.proofs.run.run_lines.Given as goal
 
 abbrev pub invariant-lines : goal.invariant-lines
 invariant-lines g l = record {
-  goes : GoesOn (unread g.S.Source.left l.initial.reader) (g.K.Sink.taken l.initial.sink) (g.B.Bay.returned l.initial.bay) (unread g.S.Source.left l.reader) (lines_given l.reader) (g.K.Sink.taken l.sink) (g.B.Bay.returned l.bay)
+  goes : GoesOn (unread g.S.Source.left l.initial.reader) (g.K.Sink.taken l.initial.sink) (ledger_of g.B.Bay l.initial.bay) (unread g.S.Source.left l.reader) (lines_given l.reader) (g.K.Sink.taken l.sink) (ledger_of g.B.Bay l.bay)
       (λ run. Plays g.B.Dev.Disk ghosts run l.session);
   tapes : AreTapes g.B.Dev.Disk ghosts l.session;
   out : g.B.Bay.out l.bay ≡ g.B.Bay.out l.initial.bay + held l.session;

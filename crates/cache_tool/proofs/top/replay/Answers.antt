@@ -1,15 +1,16 @@
 use Rattle.std.proofs.Common.{◌≡◌, List, ℕ, Option, sym, ◌∙◌, subst}
 use Rattle.edge_io.specs.LineReader.{unread, held, source_of}
+use Rattle.cache_tool.specs.Session.{ledger_of}
 use Rattle.cache_tool.specs.Story.{counts}
 use Rattle.cache_tool.specs.Ending.{Ends}
 use Rattle.cache_tool.specs.Top.{DevicesBack}
-use Rattle.cache_tool.proofs.Stories.{ComeBack-nothing, ComeBack-trans}
+use Rattle.cache_tool.proofs.Stories.{Deals-nothing, Deals-settled}
 use Rattle.cache_tool.proofs.Ends.{nothing_ends, prepend-nothing, Ends-settled}
 use Rattle.cache_tool.proofs.top.replay.Goals as goal
 
 pub returns-in_default-clause-ends : goal.returns-in_default-clause-ends
 returns-in_default-clause-ends g c =
-    nothing_ends (g.S.Source.left c.args.source.now) (g.K.Sink.taken c.args.sink.now) (g.B.Bay.returned c.args.bay.now) _ (ComeBack-nothing (g.B.Bay.returned c.args.bay.now)) (counts 0 0) (counts 0 0) (counts 0 0)
+    nothing_ends (g.S.Source.left c.args.source.now) (g.K.Sink.taken c.args.sink.now) (ledger_of g.B.Bay c.args.bay.now) _ (Deals-nothing (ledger_of g.B.Bay c.args.bay.now)) (counts 0 0) (counts 0 0) (counts 0 0)
 
 pub returns-clause-ends : goal.returns-clause-ends
 returns-clause-ends g c =
@@ -20,8 +21,8 @@ returns-clause-ends g c =
     let source = counts (g.S.Source.faults (source_of reader).now) (g.S.Source.faults (source_of after).now) in
     let sink = counts (g.K.Sink.faults c.args.sink.now) (g.K.Sink.faults c.run_lines-ending.new.sink) in
     let bay = counts (g.B.Bay.faults c.args.bay.now) (g.B.Bay.faults c.run_lines-ending.new.bay) in
-    let ends = Ends-settled source sink bay (unread g.S.Source.left reader) (g.K.Sink.taken c.args.sink.now) (g.K.Sink.taken c.run_lines-ending.new.sink) _ (DevicesBack (g.B.Bay.returned c.args.bay.now) (g.B.Bay.returned c.close.new.bay))
-    (λ run owes. ComeBack-trans _ _ _ run.ended _ owes.back (c.close.ensures.back run owes.plays)) c.run_lines-ending.result c.run_lines-ending.ensures.ends in
+    let ends = Ends-settled source sink bay (unread g.S.Source.left reader) (g.K.Sink.taken c.args.sink.now) (g.K.Sink.taken c.run_lines-ending.new.sink) _ (DevicesBack (ledger_of g.B.Bay c.args.bay.now) (ledger_of g.B.Bay c.close.new.bay))
+    (λ run owes. Deals-settled _ _ _ run.ended _ run.names owes.deals (c.close.ensures.back run owes.plays) c.close.ensures.names) c.run_lines-ending.result c.run_lines-ending.ensures.ends in
     rw (back, c.close.ensures.faults, ← c.with_buffer-reader.ensures.now)
-    (subst (λ (first : Option (List ℕ)). Ends first (g.K.Sink.taken c.args.sink.now) (g.K.Sink.taken c.run_lines-ending.new.sink) source sink bay (DevicesBack (g.B.Bay.returned c.args.bay.now) (g.B.Bay.returned c.close.new.bay)) c.run_lines-ending.result)
+    (subst (λ (first : Option (List ℕ)). Ends first (g.K.Sink.taken c.args.sink.now) (g.K.Sink.taken c.run_lines-ending.new.sink) source sink bay (DevicesBack (ledger_of g.B.Bay c.args.bay.now) (ledger_of g.B.Bay c.close.new.bay)) c.run_lines-ending.result)
     (prepend-nothing (held reader) _ (c.with_buffer-reader.ensures.held ∙ c.in-Ok.ensures)) ends)

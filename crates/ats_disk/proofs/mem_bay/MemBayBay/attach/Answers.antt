@@ -8,7 +8,7 @@ pub returns-clause-told : goal.returns-clause-told
 returns-clause-told c =
     let old = c.args.self.now in
     let given = length old.returned.items + old.out in
-    let more : length c.reserve.new.self.items + (old.out + 1) ≡ given + 1 = omega (arith, ap length c.reserve.ensures.items) in
+    let more : length c.reserve-2.new.self.items + (old.out + 1) ≡ given + 1 = omega (arith, ap length c.reserve-2.ensures.items) in
     ap (λ n. replicate n (Some blank)) more
     ∙ (sym (replicate-append-replicate given 1 (Some blank))
     ∙ ap (λ (image : Image). replicate given (Some blank) ++ Some image ∷ []) (sym c.in_ok-device.ensures.content))
