@@ -1,12 +1,10 @@
 -- A piece that is placed as the first fragment of a put that was just opened.
-use Rattle.std.proofs.Common.{◌≡◌, ℕ, ◌+◌, ◌<◌, ◌≤◌, List, [], ◌∷◌, ◌++◌, refl, sym, ◌∙◌, ap, subst, arith, Bool, true, false, Result, Ok, Err, length, eq-eqb}
-use Rattle.std.specs.Prelude.{Some, None, IfOk, OnOk, find, if◌then◌else◌, ◌==◌, ◌&&◌, not, cond}
+use Rattle.std.proofs.Common.{◌≡◌, ℕ, ◌<◌, ◌≤◌, List, [], ◌∷◌, ◌++◌, refl, sym, ◌∙◌, ap, subst, arith, Bool, true, false, Ok, length, eq-eqb}
+use Rattle.std.specs.Prelude.{Some, None, find, if◌then◌else◌, ◌==◌, ◌&&◌, not, cond}
 use Rattle.std.specs.List.{AllByRecursion}
 use Rattle.std.proofs.lemmas.Bool.{ne_eqb}
 use Rattle.std.proofs.lemmas.List.Sums.{fold-append}
-use Rattle.tape_base.specs.declared.actors.Actor.{Actor}
 use Rattle.tape_base.specs.declared.digests.Digest.{Digest}
-use Rattle.tape_base.specs.declared.geometries.Geometry.{Geometry}
 use Rattle.tape_base.specs.declared.keys.Key.{Key}
 use Rattle.tape_base.specs.declared.pieces.PieceId.{PieceId}
 use Rattle.tape_base.specs.Blocks.{blocks_of}
@@ -15,18 +13,14 @@ use Rattle.tape_base.specs.Key.{same_key}
 use Rattle.tape_base.specs.Piece.{same_piece}
 use Rattle.doc_header.specs.Document.{digest_of_document}
 use Rattle.fragment_table.specs.Table.{made_row}
-use Rattle.alternate_vector.specs.Field.{Field}
 use Rattle.cache_model.specs.declared.record.Rec.{Rec}
 use Rattle.cache_model.specs.declared.record.Rec.TheVariants as rec
-use Rattle.cache_model.specs.State.{PutRow, Row, State, after_all, change_put, cursor_next, floor_next, opened_put, place_now, placed_row, row_in, state_after, with_cut, without}
-use Rattle.cache_model.specs.Kept.{Kept, all_of, state_of, with_records}
-use Rattle.cache_model.specs.Legal.{format_records}
+use Rattle.cache_model.specs.State.{PutRow, Row, State, after_all, change_put, cursor_next, floor_next, opened_put, place_now, row_in, state_after, with_cut, without}
+use Rattle.cache_model.specs.Kept.{Kept, state_of, with_records}
 use Rattle.cache_model.specs.Room.{doc_at, has_room}
 use Rattle.stripe_core.specs.declared.refusal.Placed.{Placed}
-use Rattle.stripe_core.specs.declared.refusal.Refusal.{Refusal}
-use Rattle.stripe_core.specs.Acts.{IsGivingUp, OpensAsAsked, opened_record}
 use Rattle.stripe_core.specs.Place.{IsFragmentOf, IsNew, fragment_adds, piece_records, room_records, with_room}
-use Rattle.place_timing.specs.Ready.{IsBelow, IsCut, IsOpened, IsReady, TakesPieces, first_piece, placed_in}
+use Rattle.place_timing.specs.Ready.{IsBelow, IsCut, IsOpened, first_piece}
 
 state_behind : (k new : Kept) (recs : List Rec) → new ≡ with_records k recs → state_of new ≡ after_all (state_of k) recs
 state_behind k new recs is = ap state_of is ∙ fold-append state_after k.base k.since recs

@@ -6,7 +6,7 @@ mod fresh;
 mod placing;
 mod words;
 
-use crate::fresh::place_all;
+use crate::fresh::filled_tape;
 use crate::words::count_of;
 use std::process::ExitCode;
 use std::{env, io};
@@ -18,8 +18,9 @@ fn main(rt: HostRuntime) -> io::Result<ExitCode> {
         eprintln!(rt; "usage: place_timing N, with N from 1 to 1000000")?;
         return Ok(ExitCode::from(2));
     };
-    match place_all(alloc, count) {
-        Ok(cursor) => {
+    match filled_tape(alloc, count) {
+        Ok(tape) => {
+            let cursor = tape.cursor();
             println!(rt; "placed {count} pieces, cursor {cursor}")?;
             Ok(ExitCode::from(0))
         }

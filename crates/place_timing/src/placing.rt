@@ -10,7 +10,7 @@ use dir_table::Directory;
 use stripe_core::{Refusal, Stripe};
 use tape_base::{Actor, Key, PieceId};
 
-/// How many bytes of payload each piece has.
+// How many bytes of payload each piece has.
 const BYTES: usize = 1000;
 
 /// Places so many pieces one behind the other.
@@ -36,6 +36,7 @@ fn key_of(number: u32) -> Key {
     Key::new([a, b, c, d, 0, 0, 0, 0, 0, 0, 0, 0, 0, 0, 0, 0])
 }
 
+// Places a piece. Its put is given up, so that few writers are open.
 fn place_one<D: Disk, R: Directory + Drop, C: Chronicle>(
     stripe: &mut Stripe<D, R, C>,
     key: Key,
