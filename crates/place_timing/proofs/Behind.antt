@@ -1,25 +1,23 @@
 -- A piece that is placed as the first fragment of a put that was just opened.
 use Rattle.std.proofs.Common.{◌≡◌, ℕ, ◌<◌, ◌≤◌, List, [], ◌∷◌, ◌++◌, refl, sym, ◌∙◌, ap, subst, arith, Bool, true, false, Ok, length, eq-eqb}
-use Rattle.std.specs.Prelude.{Some, None, find, if◌then◌else◌, ◌==◌, ◌&&◌, not, cond}
+use Rattle.std.specs.Prelude.{Some, find, if◌then◌else◌, ◌==◌, not, cond}
 use Rattle.std.specs.List.{AllByRecursion}
-use Rattle.std.proofs.lemmas.Bool.{ne_eqb}
 use Rattle.std.proofs.lemmas.List.Sums.{fold-append}
 use Rattle.tape_base.specs.declared.digests.Digest.{Digest}
 use Rattle.tape_base.specs.declared.keys.Key.{Key}
 use Rattle.tape_base.specs.declared.pieces.PieceId.{PieceId}
 use Rattle.tape_base.specs.Blocks.{blocks_of}
 use Rattle.tape_base.specs.Digest.{digest_of}
-use Rattle.tape_base.specs.Key.{same_key}
 use Rattle.tape_base.specs.Piece.{same_piece}
 use Rattle.doc_header.specs.Document.{digest_of_document}
 use Rattle.fragment_table.specs.Table.{made_row}
 use Rattle.cache_model.specs.declared.record.Rec.{Rec}
 use Rattle.cache_model.specs.declared.record.Rec.TheVariants as rec
-use Rattle.cache_model.specs.State.{PutRow, Row, State, after_all, change_put, cursor_next, floor_next, opened_put, place_now, row_in, state_after, with_cut, without}
+use Rattle.cache_model.specs.State.{PutRow, Row, State, after_all, change_put, cursor_next, floor_next, opened_put, place_now, state_after, with_cut, without}
 use Rattle.cache_model.specs.Kept.{Kept, state_of, with_records}
 use Rattle.cache_model.specs.Room.{doc_at, has_room}
 use Rattle.stripe_core.specs.declared.refusal.Placed.{Placed}
-use Rattle.stripe_core.specs.Place.{IsFragmentOf, IsNew, fragment_adds, piece_records, room_records, with_room}
+use Rattle.stripe_core.specs.Place.{IsFragmentOf, fragment_adds, piece_records, room_records, with_room}
 use Rattle.place_timing.specs.Ready.{IsBelow, IsCut, IsOpened, first_piece}
 
 state_behind : (k new : Kept) (recs : List Rec) → new ≡ with_records k recs → state_of new ≡ after_all (state_of k) recs
@@ -43,17 +41,6 @@ all_more : (P : Row → Type 0) (row : Row) (rows : List Row) → AllByRecursion
 all_more P row [] all h = (h, tt)
 all_more P row (x ∷ rows) all h = (all.0, all_more P row rows all.1 h)
 
-and_false : (b : Bool) → (b && false) ≡ false
-and_false true = refl
-and_false false = refl
-
-other_put : (a b : PieceId) → a.put < b.put → same_piece a b ≡ false
-other_put a b h = let e : (a.put == b.put) ≡ false = ne_eqb a.put b.put (λ same. omega (arith, same, h)) in rw e (and_false (same_key a.first b.first))
-
-nowhere_among : (id : PieceId) (rows : List Row) → AllByRecursion (IsBelow id.put) rows → row_in rows id ≡ None
-nowhere_among id [] all = refl
-nowhere_among id (row ∷ rows) all = let e : same_piece row.id id ≡ false = other_put row.id id all.0 in rw e (nowhere_among id rows all.1)
-
 -- ---- puts
 
 find_first : (w : PutRow) (others : List PutRow) (put : ℕ) → w.put ≡ put → find (λ (p : PutRow). p.put == put) (w ∷ others) ≡ Some w
@@ -63,13 +50,6 @@ changed_first : (w : PutRow) (others : List PutRow) (put : ℕ) (f : PutRow → 
 changed_first w others put f is = let e : (w.put == put) ≡ true = eq-eqb w.put put is in rw e refl
 
 -- ---- its fragment is placed
-
-pub is_new : (s : State) (put : ℕ) (key : Key) (payload : List ℕ) → IsOpened s put key → length payload ≡ 1000 → IsNew s (first_piece key put) payload
-is_new s put key payload opened size =
-    let e : blocks_of (length payload) ≡ 3 = ap blocks_of size in record {
-      nowhere = nowhere_among (first_piece key put) s.rows opened.below;
-      small = rw e opened.takes.budget;
-    }
 
 pub is_fragment : (s : State) (put : ℕ) (key : Key) (payload : List ℕ) → IsOpened s put key → length payload ≡ 1000
     → IsFragmentOf s (first_piece key put) 0 0 payload

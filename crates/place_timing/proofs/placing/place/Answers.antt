@@ -1,10 +1,6 @@
 use Rattle.stripe_core.specs.Stripe.{kept_in, state_in}
-use Rattle.place_timing.proofs.Behind.{is_fragment, is_new, places}
+use Rattle.place_timing.proofs.Behind.{is_fragment, places}
 use Rattle.place_timing.proofs.placing.place.Goals as goal
-
-pub place_piece-requires-clause-new : goal.place_piece-requires-clause-new
-place_piece-requires-clause-new g c =
-    is_new (state_in g.C.Chronicle c.args.stripe.now) c.args.put c.args.key c.args.payload.now c.requires.opened c.requires.payload
 
 pub place_piece-requires-clause-placing : goal.place_piece-requires-clause-placing
 place_piece-requires-clause-placing g c =
