@@ -127,19 +127,19 @@ impl<D: Disk, R: Directory + Drop> Cyclone<D, R> {
         floor_of(&self.geometry, self.buffer.cursor())
     }
 
-    /// Makes room for so many more pieces, and for as many flushes.
-    pub fn prepare(&mut self, units: u32) -> Result<(), AllocError>
+    /// Makes room for so many pieces, and on the device for so many more flushes.
+    pub fn prepare(&mut self, pieces: u32, flushes: u32) -> Result<(), AllocError>
         requires turns { IsCyclone D.Disk R.Directory self.old }
         ensures turns { IsCyclone D.Disk R.Directory self.new }
         ensures same { SameButRoom (seen D.Disk R.Directory self.old) (seen D.Disk R.Directory self.new) }
-        ensures pieces { OnOk result (units ≤ (seen D.Disk R.Directory self.new).spare) }
+        ensures pieces { OnOk result (pieces ≤ (seen D.Disk R.Directory self.new).spare) }
         ensures device { let old = (seen D.Disk R.Directory self.old).device in
-            OnOk result (Grows units (units * (seen D.Disk R.Directory self.old).geometry.agg) old (seen D.Disk R.Directory self.new).device) }
+            OnOk result (Grows flushes (flushes * (seen D.Disk R.Directory self.old).geometry.agg) old (seen D.Disk R.Directory self.new).device) }
         ensures none { OnErr result (Grows 0 0 (seen D.Disk R.Directory self.old).device (seen D.Disk R.Directory self.new).device) }
     {
-        self.directory.reserve(units as usize)?;
+        self.directory.reserve(pieces as usize)?;
         self.disk
-            .make_room(units, units as u64 * self.geometry.agg as u64)
+            .make_room(flushes, flushes as u64 * self.geometry.agg as u64)
     }
 
     /// Puts a piece into the buffer as a document, and enters it. The document is spelled in its

@@ -43,7 +43,7 @@ fn put_fragment<D: Disk, R: Directory + Drop>(
     requires short { length payload.now ≤ 2048 }
     ensures turns { IsCyclone D.Disk R.Directory cyclone.new }
 {
-    cyclone.prepare(1)?;
+    cyclone.prepare(1, 1)?;
     let place = cyclone.next_place();
     if blocks_of(payload.len() as u32) > cyclone.room() {
         return Err("no room".into());
@@ -63,7 +63,7 @@ fn flush<D: Disk, R: Directory + Drop>(cyclone: &mut Cyclone<D, R>) -> Result<()
     requires turns { IsCyclone D.Disk R.Directory cyclone.old }
     ensures turns { IsCyclone D.Disk R.Directory cyclone.new }
 {
-    cyclone.prepare(1)?;
+    cyclone.prepare(1, 1)?;
     if cyclone.next_place() == cyclone.cursor() || cyclone.next_cursor() >= 1 << 62 {
         return Err("nothing to flush".into());
     }

@@ -28,7 +28,7 @@ use Rattle.stripe_core.specs.Stripe.{IsSpared}
 use Rattle.stripe_core.proofs.Candidates.{live_is}
 use Rattle.stripe_core.proofs.Flushes.{state_of-with_records}
 use Rattle.stripe_core.proofs.Going.{alike_is_held, own}
-use Rattle.stripe_core.proofs.Sparing.{spent}
+use Rattle.stripe_core.proofs.Sparing.{one_told, spent_calm}
 
 -- ---- records that leave the pieces
 
@@ -82,17 +82,12 @@ before_last : (u : ℕ) → 1 ≤ u → u ≡ u - 1 + 1
 before_last u h = omega arith
 
 -- one unit less, for one record
-pub one_less : (u room left : ℕ) (c new : Seen) → 1 ≤ u → IsSpared u room c → Uses 1 0 0 0 room left c new → IsSpared (u - 1) left new
-one_less u room left c new some h uses =
-    spent (u - 1) room left 1 0 0 0 c new (subst (λ n. IsSpared n room c) (before_last u some) h) uses (omega arith) (omega arith) (omega arith) (omega arith)
+pub one_less : (u f room left : ℕ) (c new : Seen) → 1 ≤ u → IsSpared u f room c → Uses 1 0 0 0 room left c new → IsSpared (u - 1) f left new
+one_less u f room left c new some h uses =
+    spent_calm (u - 1) f room left 1 0 c new (subst (λ n. IsSpared n f room c) (before_last u some) h) uses (omega arith) (omega arith)
 
-pub one_record : (u room left : ℕ) (c : Seen) → 1 ≤ u → IsSpared u room c → room ≤ left + 1 → IsSpared (u - 1) left c
-one_record u room left c some h more = one_less u room left c c some h (record {
-  same = refl;
-  of_records = more;
-  of_entries = omega arith;
-  device = record { size = refl; trust = omega arith; calls = omega arith; blocks = omega arith };
-})
+pub one_record : (u f room left : ℕ) (c : Seen) → 1 ≤ u → IsSpared u f room c → room ≤ left + 1 → IsSpared (u - 1) f left c
+one_record u f room left c some h more = one_told (u - 1) f room left c (subst (λ n. IsSpared n f room c) (before_last u some) h) more
 
 -- ---- what is asked
 

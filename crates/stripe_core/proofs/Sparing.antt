@@ -1,6 +1,10 @@
 -- What is left of the memory that was made, and records that leave the actors as they are.
-use Rattle.std.proofs.Common.{◌≡◌, ℕ, ◌+◌, ◌*◌, ◌<◌, ◌≤◌, List, [], ◌∷◌, ◌++◌, refl, sym, ◌∙◌, ap, subst, arith, Bool, true, false, length, Result, Ok, Err}
-use Rattle.std.specs.Prelude.{Option, Some, None, if◌then◌else◌, ◌==◌}
+use Rattle.std.proofs.Common.{◌≡◌, ℕ, ◌+◌, ◌-◌, ◌*◌, ◌<◌, ◌≤◌, List, [], ◌∷◌, ◌++◌, refl, sym, ◌∙◌, ap, subst, arith, Bool, true, false, length, Result, Ok, Err}
+use Rattle.std.specs.Prelude.{Option, Some, None, if◌then◌else◌, ◌==◌, nat_lt}
+use Rattle.std.proofs.lemmas.Bool.{le-leb, ltb-false}
+use Rattle.agg_buffer.specs.Buffer.{filled_of, next_place_of, room_of}
+use Rattle.tape_base.specs.Blocks.{blocks_of}
+use Rattle.stripe_core.specs.Held.{IsHeld}
 use Rattle.std.specs.List.{AllByRecursion}
 use Rattle.std.proofs.lemmas.List.{length-append}
 use Rattle.tape_base.specs.declared.geometries.Geometry.{Geometry}
@@ -8,6 +12,7 @@ use Rattle.tape_base.specs.declared.digests.Digest.{Digest}
 use Rattle.tape_base.specs.declared.pieces.PieceId.{PieceId}
 use Rattle.tape_base.specs.Digest.{digest_of}
 use Rattle.tape_base.specs.Piece.{is_vector}
+use Rattle.ats_disk.specs.Device.{Keeps}
 use Rattle.cyclone.specs.Cyclone.{Seen}
 use Rattle.cache_model.specs.declared.cause.Cause.TheVariants as cause
 use Rattle.cache_model.specs.declared.record.Rec.{Rec}
@@ -121,32 +126,87 @@ room_is_others s bytes = began_or_not s (has_room s bytes)
 
 -- ---- memory
 
-units_more : (units agg : ℕ) → (units + 1) * agg ≡ units * agg + agg
-units_more units agg = omega arith
+products : (a b agg : ℕ) → (a + b) * agg ≡ a * agg + b * agg
+products a b agg = omega arith
 
-pub spent : (units room left records entries calls blocks : ℕ) (c new : Seen) → IsSpared (units + 1) room c → Uses records entries calls blocks room left c new
-    → records ≤ 3 → entries ≤ 1 → calls ≤ 1 → blocks ≤ c.geometry.agg → IsSpared units left new
-spent units room left records entries calls blocks c new h u r e k b =
+-- a call that used up so many flushes of the device
+spent : (units flushes room left records entries calls : ℕ) (c new : Seen) → IsSpared (units + 1) flushes room c → Uses records entries calls (calls * c.geometry.agg) room left c new
+    → records ≤ 3 → entries ≤ 1 → calls ≤ 1 → IsSpared units (flushes - calls) left new
+spent units flushes room left records entries calls c new h u r e k =
     let agg : new.geometry.agg ≡ c.geometry.agg = ap (λ (g : Geometry). g.agg) u.same in
-    let more : (units + 1) * c.geometry.agg ≡ units * c.geometry.agg + c.geometry.agg = units_more units c.geometry.agg in
     let of_calls : c.device.calls ≤ new.device.calls + calls = u.device.calls in
-    let of_blocks : c.device.blocks ≤ new.device.blocks + blocks = u.device.blocks in
-    let before : (units + 1) * c.geometry.agg ≤ c.device.blocks = h.blocks in
+    let of_blocks : c.device.blocks ≤ new.device.blocks + calls * c.geometry.agg = u.device.blocks in
+    let before : flushes * c.geometry.agg ≤ c.device.blocks = h.blocks in
+    let some : calls ≤ flushes = omega (arith, h.one_each, k) in
+    let split : flushes ≡ flushes - calls + calls = omega (arith, some) in
+    let product : flushes * c.geometry.agg ≡ (flushes - calls) * c.geometry.agg + calls * c.geometry.agg =
+    ap (λ n. n * c.geometry.agg) split ∙ products (flushes - calls) calls c.geometry.agg in
     record {
       for_records = omega (arith, h.for_records, u.of_records, r);
       entries = omega (arith, h.entries, u.of_entries, e);
-      calls = omega (arith, h.calls, of_calls, k);
-      blocks = subst (λ a. units * a ≤ new.device.blocks) (sym agg) (omega (arith, more, before, of_blocks, b));
+      one_each = omega (arith, h.one_each, k);
+      calls = omega (arith, h.calls, of_calls);
+      blocks = subst (λ a. (flushes - calls) * a ≤ new.device.blocks) (sym agg) (omega (arith, product, before, of_blocks));
+    }
+
+-- a call that asked nothing of the device
+pub spent_calm : (u f room left records entries : ℕ) (c new : Seen) → IsSpared (u + 1) f room c → Uses records entries 0 0 room left c new → records ≤ 3 → entries ≤ 1 → IsSpared u f left new
+spent_calm u f room left records entries c new h uses r e =
+    let agg : new.geometry.agg ≡ c.geometry.agg = ap (λ (g : Geometry). g.agg) uses.same in
+    let of_calls : c.device.calls ≤ new.device.calls + 0 = uses.device.calls in
+    let of_blocks : c.device.blocks ≤ new.device.blocks + 0 = uses.device.blocks in
+    let before : f * c.geometry.agg ≤ c.device.blocks = h.blocks in
+    record {
+      for_records = omega (arith, h.for_records, uses.of_records, r);
+      entries = omega (arith, h.entries, uses.of_entries, e);
+      one_each = omega (arith, h.one_each);
+      calls = omega (arith, h.calls, of_calls);
+      blocks = subst (λ a. f * a ≤ new.device.blocks) (sym agg) (omega (arith, before, of_blocks));
     }
 
 -- one record
-pub one_told : (u room left : ℕ) (c : Seen) → IsSpared (u + 1) room c → room ≤ left + 1 → IsSpared u left c
-one_told u room left c h more = spent u room left 1 0 0 0 c c h (record {
-  same = refl;
-  of_records = more;
-  of_entries = omega arith;
-  device = record { size = refl; trust = omega arith; calls = omega arith; blocks = omega arith };
-}) (omega arith) (omega arith) (omega arith) (omega arith)
+pub one_told : (u f room left : ℕ) (c : Seen) → IsSpared (u + 1) f room c → room ≤ left + 1 → IsSpared u f left c
+one_told u f room left c h more = record {
+  for_records = omega (arith, h.for_records, more);
+  entries = omega (arith, h.entries);
+  one_each = omega (arith, h.one_each);
+  calls = h.calls;
+  blocks = h.blocks;
+}
+
+none_less : (f n : ℕ) → n ≡ 0 → f ≡ f - n
+none_less f n is = omega (arith, is)
+
+-- a call that may have flushed, and did where it was told so
+pub spent_by : (b : Bool) (u f n room left records entries : ℕ) (c new : Seen) → n ≡ (if b then 1 else 0) → IsSpared (u + 1) f room c → Uses records entries 1 c.geometry.agg room left c new → records ≤ 3 → entries ≤ 1
+    → (b ≡ false → new.device ≡ c.device) → IsSpared u (f - n) left new
+spent_by true u f n room left records entries c new is h uses r e still = subst (λ k. IsSpared u (f - k) left new) (sym is) (spent u f room left records entries 1 c new h (record {
+  same = uses.same;
+  of_records = uses.of_records;
+  of_entries = uses.of_entries;
+  device = subst (λ k. Keeps 1 k c.device new.device) (one_of c.geometry.agg) uses.device;
+}) r e (omega arith))
+  where
+    one_of : (k : ℕ) → k ≡ 1 * k
+    one_of k = omega arith
+spent_by false u f n room left records entries c new is h uses r e still = subst (λ k. IsSpared u k left new) (none_less f n is) (spent_calm u f room left records entries c new h (record {
+  same = uses.same;
+  of_records = uses.of_records;
+  of_entries = uses.of_entries;
+  device = subst (λ d. Keeps 0 0 c.device d) (sym (still refl)) (record { size = refl; trust = omega arith; calls = omega arith; blocks = omega arith });
+}) r e)
+
+-- an empty buffer, and a piece that has room
+pub nothing_in_buffer : (s : State) (c : Seen) (cursor next : ℕ) → IsHeld s c → cursor ≡ c.buffer.cursor → next ≡ next_place_of c.buffer → nat_lt cursor next ≡ false → s.filled ≡ 0
+nothing_in_buffer s c cursor next held at from none = let low : next ≤ cursor = ltb-false cursor next none in omega (arith, at, from, low, held.filled)
+
+pub room_for_it : (s : State) (c : Seen) (bytes blocks room : ℕ) → IsHeld s c → blocks ≡ blocks_of bytes → room ≡ room_of c.buffer → nat_lt room blocks ≡ false → has_room s bytes ≡ true
+room_for_it s c bytes blocks room held b r none =
+    let low : blocks ≤ room = ltb-false room blocks none in
+    let reserved : c.buffer.reserved ≡ s.geometry.agg = held.turning.reserved ∙ ap (λ (g : Geometry). g.agg) held.geometry in
+    let few : filled_of c.buffer ≤ c.geometry.agg = held.turning.few in
+    let agg : c.geometry.agg ≡ s.geometry.agg = ap (λ (g : Geometry). g.agg) held.geometry in
+    le-leb (s.filled + blocks_of bytes) s.geometry.agg (omega (arith, b, r, low, held.filled, reserved, few, agg))
 
 -- ---- answers
 

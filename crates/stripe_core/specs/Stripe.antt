@@ -31,12 +31,17 @@ seen_in disk directory t = seen_of disk directory t.pieces
 abbrev pub units_in : {D R C : Type 0} → Stripe D R C → ℕ
 units_in t = t.units
 
+-- for how many flushes the device has room
+abbrev pub flushes_in : {D R C : Type 0} → Stripe D R C → ℕ
+flushes_in t = t.flushes
+
 -- memory is made for so many calls: of each a flush, a piece, and their records
-pub record IsSpared (units room : ℕ) (c : Seen) : Type 0 where
+pub record IsSpared (units flushes room : ℕ) (c : Seen) : Type 0 where
   pub for_records : 3 * units ≤ room
   pub entries : units ≤ c.spare
-  pub calls : units ≤ c.device.calls
-  pub blocks : units * c.geometry.agg ≤ c.device.blocks
+  pub one_each : units ≤ flushes
+  pub calls : flushes ≤ c.device.calls
+  pub blocks : flushes * c.geometry.agg ≤ c.device.blocks
 
 -- the device shows what it showed, and counts no fault more
 pub record IsStill (old new : Device) : Type 0 where
@@ -55,7 +60,7 @@ pub record IsStripe {D R C : Type 0} (disk : DiskGhosts D) (directory : Director
   pub actors : AreActors (state_in chronicle t) t.actors
   -- its directory displaces nothing
   pub plain : directory.purges ≡ false
-  pub spared : IsSpared t.units (chronicle.room t.pieces.chronicle) (seen_in disk directory t)
+  pub spared : IsSpared t.units t.flushes (chronicle.room t.pieces.chronicle) (seen_in disk directory t)
   -- each piece is one of a put that has begun, and of an open put one that it has cut
   pub named : IsNamed (state_in chronicle t)
   -- each reader has a record

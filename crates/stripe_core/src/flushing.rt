@@ -39,6 +39,9 @@ impl<D: Disk, R: Directory + Drop, C: Chronicle> Pieces<D, R, C> {
         ensures stops { IfErr result (StopsWith (state_now C.Chronicle self.old) (seen_of D.Disk R.Directory self.new).device.faults) }
         ensures uses { Uses 1 0 1 (seen_of D.Disk R.Directory self.old).geometry.agg (C.room self.old.chronicle) (C.room self.new.chronicle)
             (seen_of D.Disk R.Directory self.old) (seen_of D.Disk R.Directory self.new) }
+        // An empty buffer asks no device.
+        ensures still { (state_now C.Chronicle self.old).filled ≡ 0
+            → (seen_of D.Disk R.Directory self.new).device ≡ (seen_of D.Disk R.Directory self.old).device }
     {
         let blocks = (self.cyclone.next_place() - self.cyclone.cursor()) as u32;
         if blocks == 0 {

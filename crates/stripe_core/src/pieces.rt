@@ -63,8 +63,9 @@ impl<D: Disk, R: Directory + Drop, C: Chronicle> Pieces<D, R, C> {
         Pieces { cyclone, chronicle }
     }
 
-    /// Makes room for so many more pieces, each with the flush that it may need.
-    pub fn prepare(&mut self, units: u32) -> Result<(), AllocError>
+    /// Makes room for so many calls, each with its piece and records, and on the device for so many
+    /// more flushes.
+    pub fn prepare(&mut self, units: u32, flushes: u32) -> Result<(), AllocError>
         requires { ArePieces D.Disk R.Directory C.Chronicle self.old }
         ensures pieces { ArePieces D.Disk R.Directory C.Chronicle self.new }
         ensures records { kept_of C.Chronicle self.new ≡ kept_of C.Chronicle self.old }
@@ -73,11 +74,11 @@ impl<D: Disk, R: Directory + Drop, C: Chronicle> Pieces<D, R, C> {
         ensures room { C.room self.old.chronicle ≤ C.room self.new.chronicle }
         ensures spare { OnOk result (units ≤ (seen_of D.Disk R.Directory self.new).spare) }
         ensures device { let old = (seen_of D.Disk R.Directory self.old).device in
-            OnOk result (Grows units (units * (seen_of D.Disk R.Directory self.old).geometry.agg) old (seen_of D.Disk R.Directory self.new).device) }
+            OnOk result (Grows flushes (flushes * (seen_of D.Disk R.Directory self.old).geometry.agg) old (seen_of D.Disk R.Directory self.new).device) }
         ensures none { OnErr result (Grows 0 0 (seen_of D.Disk R.Directory self.old).device (seen_of D.Disk R.Directory self.new).device) }
     {
         self.chronicle.reserve(units as usize * RECORDS)?;
-        self.cyclone.prepare(units)
+        self.cyclone.prepare(units, flushes)
     }
 
     /// Gives the device and the chronicle back.

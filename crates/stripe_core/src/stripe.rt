@@ -1,5 +1,5 @@
 // The stripe: its pieces, and who writes and reads them.
-ghost use Rattle.std.specs.Prelude.{◌≡◌, ◌+◌, ◌*◌, ◌<◌, ◌≤◌, ◌^◌, true, false, [], IfOk, IfErr, IfSome, OnOk, OnErr, IsOk, length};
+ghost use Rattle.std.specs.Prelude.{◌≡◌, ◌+◌, ◌*◌, ◌<◌, ◌≤◌, ◌^◌, true, false, [], IfOk, IfErr, IfSome, OnOk, OnErr, IsOk, length, if◌then◌else◌};
 ghost use Rattle.tape_base.specs.Geometry.{budget_of};
 ghost use Rattle.agg_buffer.specs.Buffer.{room_of};
 ghost use Rattle.cache_model.specs.State.{floor_now};
@@ -20,7 +20,7 @@ use dir_table::Directory;
 use open_directory::OpenDirectory;
 use std::alloc::{AllocError, Global};
 use stripe_actors::Actors;
-use tape_base::{Geometry, PieceId};
+use tape_base::{Geometry, PieceId, blocks_of};
 
 /// The pieces on a device, the chronicle that tells of them, and the open writers and readers.
 #[derive(Drop)]
@@ -29,11 +29,12 @@ pub struct Stripe<D: Disk, R: Directory + Drop, C: Chronicle> {
     pub(crate) pieces: Pieces<D, R, C>,
     pub(crate) actors: Actors,
     pub(crate) units: u32,
+    pub(crate) flushes: u32,
 }
 
 impl<D: Disk, R: Directory + Drop, C: Chronicle> Stripe<D, R, C> {
     ghost use Rattle.stripe_core.specs.Pieces.{live_place_of};
-    ghost use Rattle.stripe_core.specs.Stripe.{Answers, HasMemory, IsSpared, IsStill, IsStripe, kept_in, room_for, seen_in, state_in, units_in};
+    ghost use Rattle.stripe_core.specs.Stripe.{Answers, HasMemory, IsSpared, IsStill, IsStripe, flushes_in, kept_in, room_for, seen_in, state_in, units_in};
 
     /// Begins a session on an empty content area. A refusal gives back the device and the chronicle.
     pub fn format(
@@ -56,6 +57,7 @@ impl<D: Disk, R: Directory + Drop, C: Chronicle> Stripe<D, R, C> {
                 pieces,
                 actors: Actors::new(alloc),
                 units: 0,
+                flushes: 0,
             }),
             Err((e, disk, chronicle)) => Err((Refusal::Memory(e), disk, chronicle)),
         }
@@ -147,6 +149,9 @@ impl<D: Disk, R: Directory + Drop, C: Chronicle> Stripe<D, R, C> {
         ensures unit { units_in self.old ≤ units_in self.new + 1 }
     {
         self.take_unit()?;
+        let cyclone = &self.pieces.cyclone;
+        let writes = cyclone.next_place() > cyclone.cursor();
+        self.flushes -= one_where(writes);
         match self.pieces.flush() {
             Ok(flushed) => Ok(flushed),
             Err(stop) => Err(Refusal::from(stop)),
@@ -226,7 +231,7 @@ impl<D: Disk, R: Directory + Drop, C: Chronicle> Stripe<D, R, C> {
         payload: &[u8],
     ) -> Result<Placed, Refusal>
         requires stripe { IsStripe D.Disk R.Directory C.Chronicle self.old }
-        requires spared { IsSpared (units_in self.old + 1) (C.room self.old.pieces.chronicle) (seen_in D.Disk R.Directory self.old) }
+        requires spared { IsSpared (units_in self.old + 1) (flushes_in self.old) (C.room self.old.pieces.chronicle) (seen_in D.Disk R.Directory self.old) }
         requires kind { id.index ≡ 0 }
         requires vector { IsVectorOf (state_in C.Chronicle self.old) id pin start payload.now }
         ensures stripe { IsStripe D.Disk R.Directory C.Chronicle self.new }
@@ -252,7 +257,7 @@ impl<D: Disk, R: Directory + Drop, C: Chronicle> Stripe<D, R, C> {
         payload: &[u8],
     ) -> Result<Placed, Refusal>
         requires stripe { IsStripe D.Disk R.Directory C.Chronicle self.old }
-        requires spared { IsSpared (units_in self.old + 1) (C.room self.old.pieces.chronicle) (seen_in D.Disk R.Directory self.old) }
+        requires spared { IsSpared (units_in self.old + 1) (flushes_in self.old) (C.room self.old.pieces.chronicle) (seen_in D.Disk R.Directory self.old) }
         requires fragment { IsFragmentOf (state_in C.Chronicle self.old) id pin start payload.now }
         ensures stripe { IsStripe D.Disk R.Directory C.Chronicle self.new }
         ensures adds { Answers result (λ r. kept_in C.Chronicle self.new
@@ -266,6 +271,8 @@ impl<D: Disk, R: Directory + Drop, C: Chronicle> Stripe<D, R, C> {
         ensures unit { units_in self.new ≡ units_in self.old }
     {
         self.actors.reserve_cut(id.put)?;
+        let writes = blocks_of(payload.len() as u32) > self.pieces.cyclone.room();
+        self.flushes -= one_where(writes);
         match self.pieces.place_fragment(id, pin, start, payload) {
             Ok(placed) => {
                 self.actors
@@ -281,7 +288,7 @@ impl<D: Disk, R: Directory + Drop, C: Chronicle> Stripe<D, R, C> {
         requires { IsStripe D.Disk R.Directory C.Chronicle self.old }
         ensures stripe { IsStripe D.Disk R.Directory C.Chronicle self.new }
         ensures records { kept_in C.Chronicle self.new ≡ kept_in C.Chronicle self.old }
-        ensures spared { OnOk result (IsSpared (units_in self.new + 1) (C.room self.new.pieces.chronicle) (seen_in D.Disk R.Directory self.new)) }
+        ensures spared { OnOk result (IsSpared (units_in self.new + 1) (flushes_in self.new) (C.room self.new.pieces.chronicle) (seen_in D.Disk R.Directory self.new)) }
         ensures actors { self.new.actors ≡ self.old.actors }
         ensures memory { 0 < units_in self.old → IsOk result }
         ensures unit { units_in self.old ≤ units_in self.new + 1 }
@@ -304,9 +311,18 @@ impl<D: Disk, R: Directory + Drop, C: Chronicle> Stripe<D, R, C> {
         ensures still { IsStill (seen_in D.Disk R.Directory self.old).device (seen_in D.Disk R.Directory self.new).device }
     {
         if units > self.units {
-            self.pieces.prepare(units)?;
+            let more = units.saturating_sub(self.flushes);
+            self.pieces.prepare(units, more)?;
             self.units = units;
+            self.flushes += more;
         }
         Ok(())
     }
+}
+
+// One where something is so, and else none.
+fn one_where(is_so: bool) -> u32
+    ensures { result ≡ (if is_so then 1 else 0) }
+{
+    if is_so { 1 } else { 0 }
 }

@@ -2,8 +2,8 @@ use Rattle.std.proofs.Common.{ap, subst, arith}
 use Rattle.cache_model.specs.Kept.{state_of}
 use Rattle.stripe_core.specs.Find.{Finds, find_adds}
 use Rattle.stripe_core.specs.Pieces.{seen_of}
-use Rattle.stripe_core.specs.Stripe.{kept_in, seen_in, state_in, units_in}
-use Rattle.stripe_core.proofs.Sparing.{actors_with, find_are_others, numbered_others, spent}
+use Rattle.stripe_core.specs.Stripe.{flushes_in, kept_in, seen_in, state_in, units_in}
+use Rattle.stripe_core.proofs.Sparing.{actors_with, find_are_others, numbered_others, spent_calm}
 use Rattle.stripe_core.proofs.Naming.{find_leaves, named_with}
 use Rattle.stripe_core.proofs.stripe.Stripe.find_piece.Goals as goal
 
@@ -16,8 +16,8 @@ returns-clause-stripe g c =
       pieces = c.find.ensures.pieces;
       actors = actors_with kept _ c.take_unit.new.self.actors adds c.find.ensures.adds (find_are_others taken c.args.id c.find.result) c.take_unit.ensures.stripe.actors;
       plain = c.requires.stripe.plain;
-      spared = spent (units_in c.take_unit.new.self) _ _ 1 0 0 0 (seen_in g.D.Disk g.R.Directory c.take_unit.new.self) (seen_of g.D.Disk g.R.Directory c.find.new.self)
-          c.in_ok-take_unit.ensures.spared c.find.ensures.uses (omega arith) (omega arith) (omega arith) (omega arith);
+      spared = spent_calm (units_in c.take_unit.new.self) (flushes_in c.take_unit.new.self) _ _ 1 0 (seen_in g.D.Disk g.R.Directory c.take_unit.new.self) (seen_of g.D.Disk g.R.Directory c.find.new.self)
+          c.in_ok-take_unit.ensures.spared c.find.ensures.uses (omega arith) (omega arith);
       named = named_with kept _ adds c.find.ensures.adds (find_leaves taken c.args.id c.find.result) c.take_unit.ensures.stripe.named;
       numbered = numbered_others kept _ adds c.find.ensures.adds (find_are_others taken c.args.id c.find.result) c.take_unit.ensures.stripe.numbered;
     }

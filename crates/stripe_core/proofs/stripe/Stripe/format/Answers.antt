@@ -8,7 +8,7 @@ returns-in-Ok-clause-stripe g c = record {
   pieces = c.in-Ok.ensures.pieces;
   actors = subst (λ k. AreActors (state_of k) c.new.result) (sym c.in-Ok.ensures.records) (c.new.ensures c.args.g);
   plain = c.requires.plain;
-  spared = record { for_records = omega arith; entries = omega arith; calls = omega arith; blocks = omega arith };
+  spared = record { for_records = omega arith; entries = omega arith; one_each = omega arith; calls = omega arith; blocks = omega arith };
   named = rw c.in-Ok.ensures.records tt;
   numbered = rw c.in-Ok.ensures.records (omega arith);
 }

@@ -16,7 +16,7 @@ returns-clause-stripe g c =
       pieces = c.damage.ensures.pieces;
       actors = actors_with kept _ c.args.self.now.actors (told ∷ []) c.damage.ensures.adds (refl, tt) c.requires.stripe.actors;
       plain = c.requires.stripe.plain;
-      spared = one_less c.args.self.now.units _ _ (seen_in g.D.Disk g.R.Directory c.args.self.now) (seen_of g.D.Disk g.R.Directory c.damage.new.self) c.requires.unit c.requires.stripe.spared c.damage.ensures.uses;
+      spared = one_less c.args.self.now.units c.args.self.now.flushes _ _ (seen_in g.D.Disk g.R.Directory c.args.self.now) (seen_of g.D.Disk g.R.Directory c.damage.new.self) c.requires.unit c.requires.stripe.spared c.damage.ensures.uses;
       named = named_behind kept _ told c.damage.ensures.adds (name_left s told refl c.requires.stripe.named);
       numbered = numbered_others kept _ (told ∷ []) c.damage.ensures.adds (refl, tt) c.requires.stripe.numbered;
     }

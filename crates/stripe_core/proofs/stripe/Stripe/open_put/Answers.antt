@@ -31,6 +31,7 @@ returns-in-Ok-clause-stripe g c =
       spared = record {
         for_records = omega (arith, c.in_ok-reserve.ensures.room, c.write_opened.ensures.room);
         entries = c.requires.stripe.spared.entries;
+        one_each = c.requires.stripe.spared.one_each;
         calls = c.requires.stripe.spared.calls;
         blocks = omega (arith, c.requires.stripe.spared);
       };

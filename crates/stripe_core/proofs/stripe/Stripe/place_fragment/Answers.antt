@@ -1,11 +1,12 @@
+use Rattle.std.specs.Prelude.{nat_lt}
 use Rattle.std.proofs.Common.{length, ◌≡◌, Ok, Err, sym, ◌∙◌, ap, subst, arith}
 use Rattle.cache_model.specs.Kept.{state_of}
 use Rattle.stripe_actors.specs.Actors.{AreActors}
 use Rattle.stripe_core.specs.Place.{CutsAsAsked, fragment_adds}
 use Rattle.stripe_core.specs.Pieces.{kept_of, seen_of}
-use Rattle.stripe_core.specs.Stripe.{Answers, kept_in, seen_in, state_in, units_in}
+use Rattle.stripe_core.specs.Stripe.{Answers, flushes_in, kept_in, seen_in, state_in, units_in}
 use Rattle.stripe_core.proofs.Flushes.{state_of-with_records}
-use Rattle.stripe_core.proofs.Sparing.{actors_with, answers_stop, fragment_actors, fragment_readers, no_vector_id, numbered_by, numbered_others, placed_state, spent, stopped_others}
+use Rattle.stripe_core.proofs.Sparing.{actors_with, answers_stop, fragment_actors, fragment_readers, no_vector_id, numbered_by, numbered_others, placed_state, room_for_it, spent_by, stopped_others}
 use Rattle.stripe_core.proofs.Naming.{begun_put, fragment_named, fragment_new, named_with, small_size, stopped_leaves}
 use Rattle.stripe_core.proofs.stripe.Stripe.place_fragment.Goals as goal
 
@@ -23,8 +24,9 @@ returns-in-Ok-clause-stripe g c =
           (fragment_actors s c.args.id c.args.pin c.args.start payload kind c.reserve_cut.new.self c.cut.new.self c.in-Ok.placed.payload c.in-Ok.ensures.at.1 c.cut.ensures
           (c.reserve_cut.ensures.step s c.requires.stripe.actors));
       plain = c.requires.stripe.plain;
-      spared = spent (units_in c.args.self.now) _ _ 3 1 1 _ (seen_in g.D.Disk g.R.Directory c.args.self.now) (seen_of g.D.Disk g.R.Directory c.place_fragment.new.self)
-          c.requires.spared c.place_fragment.ensures.uses (omega arith) (omega arith) (omega arith) (omega arith);
+      spared = spent_by (nat_lt c.room.result c.blocks_of.result) (units_in c.args.self.now) (flushes_in c.args.self.now) c.one_where.result _ _ 3 1 (seen_in g.D.Disk g.R.Directory c.args.self.now)
+          (seen_of g.D.Disk g.R.Directory c.place_fragment.new.self) c.one_where.ensures c.requires.spared c.place_fragment.ensures.uses (omega arith) (omega arith)
+          (λ none. c.place_fragment.ensures.still (room_for_it s (seen_in g.D.Disk g.R.Directory c.args.self.now) (length c.args.payload.now) c.blocks_of.result c.room.result c.requires.stripe.pieces c.blocks_of.ensures c.room.ensures none));
       named =
           fragment_named s _ c.args.id _ _ c.args.pin c.args.start _ payload _ _ c.requires.fragment c.requires.stripe.named
           (begun_put s c.args.self.now.actors c.args.id.put c.requires.fragment.w c.requires.stripe.actors c.requires.fragment.next.writing.found)
@@ -45,8 +47,9 @@ returns-in-Err-clause-stripe g c =
       pieces = c.place_fragment.ensures.pieces;
       actors = actors_with kept _ c.reserve_cut.new.self adds c.in-Err.ensures.adds others (c.reserve_cut.ensures.step s c.requires.stripe.actors);
       plain = c.requires.stripe.plain;
-      spared = spent (units_in c.args.self.now) _ _ 3 1 1 _ (seen_in g.D.Disk g.R.Directory c.args.self.now) (seen_of g.D.Disk g.R.Directory c.place_fragment.new.self)
-          c.requires.spared c.place_fragment.ensures.uses (omega arith) (omega arith) (omega arith) (omega arith);
+      spared = spent_by (nat_lt c.room.result c.blocks_of.result) (units_in c.args.self.now) (flushes_in c.args.self.now) c.one_where.result _ _ 3 1 (seen_in g.D.Disk g.R.Directory c.args.self.now)
+          (seen_of g.D.Disk g.R.Directory c.place_fragment.new.self) c.one_where.ensures c.requires.spared c.place_fragment.ensures.uses (omega arith) (omega arith)
+          (λ none. c.place_fragment.ensures.still (room_for_it s (seen_in g.D.Disk g.R.Directory c.args.self.now) (length c.args.payload.now) c.blocks_of.result c.room.result c.requires.stripe.pieces c.blocks_of.ensures c.room.ensures none));
       named = named_with kept _ adds c.in-Err.ensures.adds (stopped_leaves s c.args.id c.args.pin c.args.start c.args.payload.now c.in-Err.stop) c.requires.stripe.named;
       numbered = numbered_others kept _ adds c.in-Err.ensures.adds others c.requires.stripe.numbered;
     }

@@ -6,9 +6,9 @@ use Rattle.cache_model.specs.Verdict.{cuts_of}
 use Rattle.tape_base.specs.Piece.{is_vector}
 use Rattle.stripe_core.specs.Place.{FinishesAsAsked, place_adds}
 use Rattle.stripe_core.specs.Pieces.{seen_of}
-use Rattle.stripe_core.specs.Stripe.{Answers, kept_in, seen_in, state_in, units_in}
+use Rattle.stripe_core.specs.Stripe.{Answers, flushes_in, kept_in, seen_in, state_in, units_in}
 use Rattle.stripe_core.proofs.Groups.{vector_group}
-use Rattle.stripe_core.proofs.Sparing.{actors_with, answers_stop, numbered_others, spent, vector_alone, vector_others}
+use Rattle.stripe_core.proofs.Sparing.{actors_with, answers_stop, numbered_others, spent_calm, vector_alone, vector_others}
 use Rattle.stripe_core.proofs.Naming.{begun_put, named_behind, named_placed, small_size, vector_new}
 use Rattle.stripe_core.proofs.stripe.Stripe.place_vector.Goals as goal
 
@@ -23,8 +23,8 @@ returns-in-Ok-clause-stripe g c =
       pieces = c.place.ensures.pieces;
       actors = actors_with kept _ c.args.self.now.actors adds c.in-Ok.ensures.adds others c.requires.stripe.actors;
       plain = c.requires.stripe.plain;
-      spared = spent (units_in c.args.self.now) _ _ 2 1 0 0 (seen_in g.D.Disk g.R.Directory c.args.self.now) (seen_of g.D.Disk g.R.Directory c.place.new.self)
-          c.requires.spared c.place.ensures.uses (omega arith) (omega arith) (omega arith) (omega arith);
+      spared = spent_calm (units_in c.args.self.now) (flushes_in c.args.self.now) _ _ 2 1 (seen_in g.D.Disk g.R.Directory c.args.self.now) (seen_of g.D.Disk g.R.Directory c.place.new.self)
+          c.requires.spared c.place.ensures.uses (omega arith) (omega arith);
       named = named_behind kept _ (placed_record s c.args.id c.args.pin c.args.start (length c.args.payload.now) c.args.payload.now) (c.in-Ok.ensures.adds ∙ ap (with_records kept) (vector_alone s c.args.id c.args.pin c.args.start c.args.payload.now kind))
           (named_placed s c.args.id _ _ c.args.pin _ c.requires.vector.w c.requires.stripe.named c.requires.vector.cut.writing.quiet
           (begun_put s c.args.self.now.actors c.args.id.put c.requires.vector.w c.requires.stripe.actors c.requires.vector.cut.writing.found) c.requires.vector.cut.writing.found (rw c.requires.kind (omega arith)));

@@ -3,7 +3,7 @@ use Rattle.cache_model.specs.declared.record.Rec.TheVariants as rec
 use Rattle.cache_model.specs.Kept.{state_of}
 use Rattle.stripe_actors.specs.Actors.{AreActors}
 use Rattle.stripe_core.specs.Acts.{IsFollowable}
-use Rattle.stripe_core.specs.Stripe.{kept_in, seen_in, state_in, units_in}
+use Rattle.stripe_core.specs.Stripe.{flushes_in, kept_in, seen_in, state_in, units_in}
 use Rattle.stripe_core.proofs.Flushes.{state_of-with_records}
 use Rattle.stripe_core.proofs.Doings.{held_behind, reader_behind}
 use Rattle.stripe_core.proofs.Naming.{name_left, named_behind}
@@ -24,7 +24,7 @@ returns-clause-stripe g c =
       actors = subst (λ t. AreActors t c.answer_lookup.new.actors) (sym (ap state_of c.read_opened.ensures.kept ∙ state_of-with_records kept (told ∷ [])))
           (c.in_ok-reader.ensures.keeps taken c.args.actor c.args.key c.args.request follows c.take_unit.ensures.stripe.actors);
       plain = c.requires.stripe.plain;
-      spared = one_told (units_in c.take_unit.new.self) _ _ (seen_in g.D.Disk g.R.Directory c.take_unit.new.self) c.in_ok-take_unit.ensures.spared c.read_opened.ensures.room;
+      spared = one_told (units_in c.take_unit.new.self) (flushes_in c.take_unit.new.self) _ _ (seen_in g.D.Disk g.R.Directory c.take_unit.new.self) c.in_ok-take_unit.ensures.spared c.read_opened.ensures.room;
       named = named_behind kept after told c.read_opened.ensures.kept (name_left taken told refl c.take_unit.ensures.stripe.named);
       numbered = numbered_by kept after (told ∷ []) 1 c.read_opened.ensures.kept (omega (arith, reader, number)) (omega arith) c.take_unit.ensures.stripe.numbered;
     }
