@@ -26,7 +26,7 @@ const MAX_WRITERS: u32 = 64;
 
 impl<D: Disk, R: Directory + Drop, C: Chronicle> Stripe<D, R, C> {
     ghost use Rattle.stripe_core.specs.Pieces.{live_place_of};
-    ghost use Rattle.stripe_core.specs.Stripe.{IsStripe, kept_in, seen_in, state_in, units_in};
+    ghost use Rattle.stripe_core.specs.Stripe.{IsStill, IsStripe, kept_in, seen_in, state_in, units_in};
 
     /// Commits a put, whose vector is the piece that was placed last. The key's vector before it
     /// goes.
@@ -141,6 +141,7 @@ impl<D: Disk, R: Directory + Drop, C: Chronicle> Stripe<D, R, C> {
             ≡ with_records (kept_in C.Chronicle self.old) (rec.ReadOpened reader actor key request answer ∷ [])) }
         ensures reader { IfOk result (λ reader. reader ≡ (state_in C.Chronicle self.old).next_reader) }
         ensures err { OnErr result (kept_in C.Chronicle self.new ≡ kept_in C.Chronicle self.old) }
+        ensures still { IsStill (seen_in D.Disk R.Directory self.old).device (seen_in D.Disk R.Directory self.new).device }
         ensures unit { units_in self.old ≤ units_in self.new + 1 }
     {
         self.take_unit()?;

@@ -49,6 +49,7 @@ impl<D: Disk, R: Directory + Drop, C: Chronicle> Stripe<D, R, C> {
         ensures stripe { IfOk result (IsStripe D.Disk R.Directory C.Chronicle) }
         ensures records { IfOk result (λ t. kept_in C.Chronicle t ≡ all_of (format_records g)) }
         ensures device { IfOk result (λ t. (seen_in D.Disk R.Directory t).device ≡ D.state disk) }
+        ensures alloc { IfOk result (λ t. t.alloc ≡ alloc) }
         ensures back { IfErr result (λ r. (r.1 ≡ disk) × (C.kept r.2 ≡ all_of [])) }
     {
         match Pieces::format(alloc, disk, chronicle, g) {
@@ -73,7 +74,9 @@ impl<D: Disk, R: Directory + Drop, C: Chronicle> Stripe<D, R, C> {
     }
 
     /// The allocator that the stripe was made with.
-    pub fn alloc(&self) -> Global {
+    pub fn alloc(&self) -> Global
+        ensures { result ≡ self.now.alloc }
+    {
         self.alloc
     }
 
@@ -185,6 +188,7 @@ impl<D: Disk, R: Directory + Drop, C: Chronicle> Stripe<D, R, C> {
         ensures units { OnOk result (units ≤ units_in self.new) }
         ensures row { OnOk result (IfSome put (λ n. 0 < room_for n self.new.actors)) }
         ensures more { units_in self.old ≤ units_in self.new }
+        ensures still { IsStill (seen_in D.Disk R.Directory self.old).device (seen_in D.Disk R.Directory self.new).device }
     {
         if let Some(put) = put {
             self.actors.reserve_cut(put)?;
