@@ -15,6 +15,7 @@ use Rattle.stripe_core.specs.declared.refusal.Refusal.TheVariants as refusal
 use Rattle.stripe_core.specs.declared.refusal.Stop.{Stop}
 use Rattle.stripe_core.specs.declared.refusal.Stop.TheVariants as stop
 use Rattle.stripe_core.specs.declared.stripe.Stripe.{Stripe}
+use Rattle.std.specs.declared.alloc.Global.{Global}
 use Rattle.stripe_core.specs.Named.{IsNamed}
 use Rattle.stripe_core.specs.Pieces.{ArePieces, kept_of, seen_of, state_now}
 
@@ -26,6 +27,10 @@ state_in chronicle t = state_now chronicle t.pieces
 
 abbrev pub seen_in : {D R C : Type 0} → DiskGhosts D → DirectoryGhosts R → Stripe D R C → Seen
 seen_in disk directory t = seen_of disk directory t.pieces
+
+-- where its memory comes from
+abbrev pub alloc_in : {D R C : Type 0} → Stripe D R C → Global
+alloc_in t = t.alloc
 
 -- for how many calls memory is made
 abbrev pub units_in : {D R C : Type 0} → Stripe D R C → ℕ

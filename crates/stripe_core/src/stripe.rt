@@ -34,7 +34,7 @@ pub struct Stripe<D: Disk, R: Directory + Drop, C: Chronicle> {
 
 impl<D: Disk, R: Directory + Drop, C: Chronicle> Stripe<D, R, C> {
     ghost use Rattle.stripe_core.specs.Pieces.{live_place_of};
-    ghost use Rattle.stripe_core.specs.Stripe.{Answers, HasMemory, IsSpared, IsStill, IsStripe, flushes_in, kept_in, room_for, seen_in, state_in, units_in};
+    ghost use Rattle.stripe_core.specs.Stripe.{Answers, HasMemory, IsSpared, IsStill, IsStripe, alloc_in, flushes_in, kept_in, room_for, seen_in, state_in, units_in};
 
     /// Begins a session on an empty content area. A refusal gives back the device and the chronicle.
     pub fn format(
@@ -49,7 +49,7 @@ impl<D: Disk, R: Directory + Drop, C: Chronicle> Stripe<D, R, C> {
         ensures stripe { IfOk result (IsStripe D.Disk R.Directory C.Chronicle) }
         ensures records { IfOk result (λ t. kept_in C.Chronicle t ≡ all_of (format_records g)) }
         ensures device { IfOk result (λ t. (seen_in D.Disk R.Directory t).device ≡ D.state disk) }
-        ensures alloc { IfOk result (λ t. t.alloc ≡ alloc) }
+        ensures alloc { IfOk result (λ t. alloc_in t ≡ alloc) }
         ensures back { IfErr result (λ r. (r.1 ≡ disk) × (C.kept r.2 ≡ all_of [])) }
     {
         match Pieces::format(alloc, disk, chronicle, g) {
@@ -75,7 +75,7 @@ impl<D: Disk, R: Directory + Drop, C: Chronicle> Stripe<D, R, C> {
 
     /// The allocator that the stripe was made with.
     pub fn alloc(&self) -> Global
-        ensures { result ≡ self.now.alloc }
+        ensures { result ≡ alloc_in self.now }
     {
         self.alloc
     }

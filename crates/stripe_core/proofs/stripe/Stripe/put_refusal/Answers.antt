@@ -1,6 +1,3 @@
-use Rattle.std.specs.Prelude.{Option, Some, None, IfSome}
-use Rattle.cache_model.specs.Legal.{IsQuiet}
-use Rattle.cache_model.specs.State.{State}
 use Rattle.stripe_core.specs.Stripe.{state_in}
 use Rattle.stripe_core.proofs.Doings.{refusals_open}
 use Rattle.stripe_core.proofs.stripe.Stripe.put_refusal.Goals as goal
