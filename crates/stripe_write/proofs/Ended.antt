@@ -1,17 +1,17 @@
 -- Puts that are open or given up, and objects that are not there.
-use Rattle.std.proofs.Common.{◌≡◌, ℕ, [], refl, sym, ◌∙◌, ap, true, false, cond}
-use Rattle.std.specs.Prelude.{Option, Some, None, is_some, option_map, unwrap_or}
-use Rattle.std.proofs.lemmas.Bool.{eq-eqb}
+use Rattle.std.proofs.Common.{◌≡◌, ℕ, [], refl, sym, ◌∙◌, ap, true, false, cond, Bool, List, length, ◌∷◌}
+use Rattle.std.specs.Prelude.{Option, Some, None, is_some, option_map, unwrap_or, find, ◌==◌}
+use Rattle.std.proofs.lemmas.Bool.{eq-eqb, eqb-true}
 use Rattle.tape_base.specs.declared.keys.Key.{Key}
 use Rattle.cache_model.specs.declared.record.Rec.TheVariants as rec
 use Rattle.cache_model.specs.State.{Closed, GivenUp, Open, PutRow, Row, State, put_of, state_after, with_writing}
 use Rattle.cache_model.specs.Verdict.{is_open, live_vector_of}
-use Rattle.cache_model.specs.Permit.{Done, Permit, GiveUp, Remove}
-use Rattle.cache_model.specs.Legal.{Does, DoesGiveUp, DoesRemove, IsQuiet, is_writing}
+use Rattle.cache_model.specs.Permit.{Done, Fails, GiveUp, ManyFragments, Overflow, Permit, Remove}
+use Rattle.cache_model.specs.Legal.{Does, DoesGiveUp, DoesOverflow, DoesRemove, IsQuiet, is_writing, most_fragments}
 use Rattle.stripe_actors.proofs.Rows.{find-changed}
 use Rattle.stripe_core.specs.Acts.{IsGivingUp}
 use Rattle.stripe_write.specs.declared.writer.Writer.{Writer}
-use Rattle.stripe_write.specs.Writers.{IsWriterOf}
+use Rattle.stripe_write.specs.Writers.{IsAtHand, IsWriterOf}
 
 open_row : (p : PutRow) → is_open p ≡ true → p.writing ≡ Open
 open_row p h = by p.writing refl
@@ -21,7 +21,7 @@ open_row p h = by p.writing refl
     by Closed e = let clash : true ≡ false = sym h ∙ ap (λ (x : Rattle.cache_model.specs.State.Writing). elim x [ Open ↦ true | Closed ↦ false | GivenUp ↦ false ]) e in cc
     by GivenUp e = let clash : true ≡ false = sym h ∙ ap (λ (x : Rattle.cache_model.specs.State.Writing). elim x [ Open ↦ true | Closed ↦ false | GivenUp ↦ false ]) e in cc
 
-open_put : (o : Option PutRow) → unwrap_or (option_map is_open o) false ≡ true → (row : PutRow) × (o ≡ Some row) × (row.writing ≡ Open)
+pub open_put : (o : Option PutRow) → unwrap_or (option_map is_open o) false ≡ true → (row : PutRow) × (o ≡ Some row) × (row.writing ≡ Open)
 open_put None h = cc
 open_put (Some row) h = (row, refl, open_row row h)
 
@@ -49,3 +49,20 @@ none_of (Some row) h = cc
 
 pub absent : (p : Permit) (s : State) (key : Key) → IsQuiet s → is_some (live_vector_of s key) ≡ false → Does p s (Remove key) [] Done
 absent p s key quiet none = DoesRemove.absent quiet (none_of (live_vector_of s key) none) refl
+
+own_number_by : (put : ℕ) (first w : PutRow) (rest : Option PutRow) (b : Bool) → (first.put == put) ≡ b → (rest ≡ Some w → w.put ≡ put) → cond b (Some first) rest ≡ Some w → w.put ≡ put
+own_number_by put first w rest true e later h = let same : first ≡ w = cc in ap (λ (p : PutRow). p.put) (sym same) ∙ eqb-true first.put put e
+own_number_by put first w rest false e later h = later h
+
+-- a row that is found is that of the put
+pub own_number : (put : ℕ) (puts : List PutRow) (w : PutRow) → find (λ p. p.put == put) puts ≡ Some w → w.put ≡ put
+own_number put [] w h = cc
+own_number put (first ∷ puts) w h = own_number_by put first w (find (λ p. p.put == put) puts) (first.put == put) refl (own_number put puts w) h
+
+pub overflows : (p : Permit) (s : State) (w : Writer) → IsQuiet s → is_writing s w.put ≡ true → IsWriterOf s w → length w.table.rows ≡ most_fragments
+    → Does p s (Overflow w.put) (rec.Aborted w.put w.key ∷ []) (Fails (ManyFragments w.put))
+overflows p s w quiet writing own full =
+    let o = open_put (put_of s w.put) writing in
+    let here : IsAtHand s.geometry o.0 w = own o.0 o.1 o.2 in
+    DoesOverflow.aborts o.0 (record { quiet = quiet; found = o.1; is_open = o.2 }) (ap length here.cuts_are ∙ full)
+    (ap (λ n. rec.Aborted n w.key ∷ []) (sym (own_number w.put s.puts o.0 o.1)) ∙ ap (λ k. rec.Aborted o.0.put k ∷ []) (sym here.key_is))

@@ -1,1 +1,3 @@
 mod Ended
+mod Cutting
+mod Gathering

@@ -1,13 +1,19 @@
 -- What writers are answered, and what is recorded.
-use Rattle.std.specs.Prelude.{ℕ, ◌≡◌, true, false, List, [], ◌∷◌, Result, Ok, Err}
+use Rattle.std.specs.Prelude.{ℕ, ◌≡◌, ◌+◌, ◌-◌, ◌*◌, ◌==◌, ◌<◌, min, Bool, true, false, if◌then◌else◌, List, [], ◌∷◌, ◌++◌, length, take, Some, Result, Ok, Err}
+use Rattle.tape_base.specs.declared.geometries.Geometry.{Geometry}
 use Rattle.tape_base.specs.declared.keys.Key.{Key}
+use Rattle.tape_base.specs.declared.pieces.PieceId.{PieceId}
+use Rattle.fragment_table.specs.Table.{total_length}
 use Rattle.cache_model.specs.declared.record.Rec.{Rec}
 use Rattle.cache_model.specs.declared.record.Rec.TheVariants as rec
-use Rattle.cache_model.specs.State.{State}
-use Rattle.cache_model.specs.Permit.{Done, GiveUp, Permit}
-use Rattle.cache_model.specs.Legal.{Does, is_writing}
+use Rattle.cache_model.specs.State.{Open, PutRow, State, fragment_piece, put_of}
+use Rattle.cache_model.specs.Permit.{Done, Exhausted, Fails, Faulted, Fragment, GiveUp, Intent, ManyFragments, Overflow, Permit}
+use Rattle.cache_model.specs.Legal.{Does, is_writing, most_fragments}
 use Rattle.stripe_core.specs.declared.refusal.Refusal.{Refusal}
 use Rattle.stripe_core.specs.declared.refusal.Refusal.TheVariants as refusal
+use Rattle.stripe_core.specs.declared.refusal.Stop.TheVariants as stop
+use Rattle.stripe_core.specs.Covers.{Covers, Spends}
+use Rattle.stripe_core.specs.Place.{fragment_adds, piece_records, room_records, with_room}
 use Rattle.stripe_write.specs.declared.writer.Writer.{Writer}
 
 -- ---- a writer opens
@@ -33,3 +39,108 @@ AbortsWhere s put (Err _) = ⊥
 abbrev pub AbortsAsAsked : State → ℕ → Key → Result ℕ Refusal → Type 0
 AbortsAsAsked s put key (Err (refusal.Memory e)) = Unit {0}
 AbortsAsAsked s put key answer = (p : Permit) → Does p s (GiveUp put) (abort_adds key answer) Done
+
+-- ---- a writer takes bytes
+
+-- how many bytes are taken: up to the next cut
+abbrev pub taken_of : Geometry → Writer → List ℕ → ℕ
+taken_of g w bytes = min (length bytes) (g.fragment - length w.gathered.items)
+
+-- the bytes that are gathered then
+abbrev pub gathered_with : Writer → List ℕ → ℕ → List ℕ
+gathered_with w bytes n = w.gathered.items ++ take n bytes
+
+-- as many are gathered as a fragment has
+abbrev pub is_cut : Geometry → Writer → ℕ → Bool
+is_cut g w n = length w.gathered.items + n == g.fragment
+
+-- the fragment that is cut next, and where it begins
+abbrev pub next_id : Writer → PieceId
+next_id w = fragment_piece w.key w.put (length w.table.rows + 1)
+
+abbrev pub next_start : Writer → ℕ
+next_start w = total_length w.table.rows
+
+-- the records of a cut: the flush that it may need, the cut, and the place
+abbrev pub cut_adds : State → Writer → List ℕ → List Rec
+cut_adds s w payload = room_records s (length payload) ++ piece_records (with_room s (length payload)) (next_id w) w.pin (next_start w) payload
+
+abbrev pub write_adds : State → Writer → List ℕ → Result ℕ Refusal → List Rec
+write_adds s w bytes (Ok n) = if is_cut s.geometry w n then cut_adds s w (gathered_with w bytes n) else []
+write_adds s w bytes (Err (refusal.DeviceFault count)) = rec.Fault count ∷ []
+write_adds s w bytes (Err (refusal.Exhausted number)) =
+    fragment_adds s (next_id w) w.pin (next_start w) (gathered_with w bytes (taken_of s.geometry w bytes)) (Err (stop.Exhausted number))
+write_adds s w bytes (Err refusal.TooManyFragments) = rec.Aborted w.put w.key ∷ []
+write_adds s w bytes (Err _) = []
+
+-- the bytes that stay gathered: none behind a cut
+abbrev pub left_of : Geometry → Writer → List ℕ → ℕ → List ℕ
+left_of g w bytes n = if is_cut g w n then [] else gathered_with w bytes n
+
+-- a writer of the same put, behind the bytes that it took
+pub record GathersAsAsked (g : Geometry) (old : Writer) (bytes : List ℕ) (n : ℕ) (new : Writer) : Type 0 where
+  pub put : new.put ≡ old.put
+  pub gathered : new.gathered.items ≡ left_of g old bytes n
+
+-- when each answer comes; a fragment more is begun only where there may be one more
+abbrev pub WritesWhere : State → Writer → List ℕ → Result ℕ Refusal → Type 0
+WritesWhere s w bytes (Ok n) = (is_writing s w.put ≡ true) × (n ≡ taken_of s.geometry w bytes) × (0 < length bytes → length w.table.rows < most_fragments)
+WritesWhere s w bytes (Err refusal.NoSuchWriter) = is_writing s w.put ≡ false
+WritesWhere s w bytes (Err refusal.TooManyFragments) = (is_writing s w.put ≡ true) × (0 < length bytes) × (length w.table.rows ≡ most_fragments)
+WritesWhere s w bytes (Err (refusal.DeviceFault count)) = is_writing s w.put ≡ true
+WritesWhere s w bytes (Err (refusal.Exhausted number)) = is_writing s w.put ≡ true
+WritesWhere s w bytes (Err (refusal.Memory e)) = is_writing s w.put ≡ true
+WritesWhere s w bytes (Err _) = ⊥
+
+abbrev pub cuts_fragment : Writer → List ℕ → Intent
+cuts_fragment w payload = Fragment w.put (length w.table.rows + 1) payload
+
+-- the next fragment is cut, or cannot be; or there would be one too many
+abbrev pub WritesAsAsked : State → ℕ → ℕ → Writer → List ℕ → Result ℕ Refusal → Type 0
+WritesAsAsked s before after w bytes (Ok n) = is_cut s.geometry w n ≡ true
+    → ((p : Permit) → Covers p before after [] → Spends p s (cuts_fragment w (gathered_with w bytes n)) (write_adds s w bytes (Ok n)) Done)
+WritesAsAsked s before after w bytes (Err (refusal.DeviceFault count)) =
+    (p : Permit) → Covers p before after [] → Spends p s (cuts_fragment w (gathered_with w bytes (taken_of s.geometry w bytes))) (rec.Fault count ∷ []) (Fails (Faulted count))
+WritesAsAsked s before after w bytes (Err (refusal.Exhausted number)) =
+    (p : Permit) → Covers p before after [] → Spends p s (cuts_fragment w (gathered_with w bytes (taken_of s.geometry w bytes))) (write_adds s w bytes (Err (refusal.Exhausted number))) (Fails Exhausted)
+WritesAsAsked s before after w bytes (Err refusal.TooManyFragments) =
+    (p : Permit) → Does p s (Overflow w.put) (write_adds s w bytes (Err refusal.TooManyFragments)) (Fails (ManyFragments w.put))
+WritesAsAsked s before after w bytes (Err _) = Unit {0}
+
+-- a writer as it was
+pub record SameWriter (old new : Writer) : Type 0 where
+  pub put : new.put ≡ old.put
+  pub key : new.key ≡ old.key
+  pub request : new.request ≡ old.request
+  pub response : new.response ≡ old.response
+  pub pin : new.pin ≡ old.pin
+  pub gathered : new.gathered.items ≡ old.gathered.items
+  pub rows : new.table.rows ≡ old.table.rows
+
+-- what is at hand of an open put whose next fragment is gathered
+pub record IsReady (s : State) (w : Writer) : Type 0 where
+  pub row : PutRow
+  pub found : put_of s w.put ≡ Some row
+  pub is_open : row.writing ≡ Open
+  pub key_is : row.key ≡ w.key
+  pub request_is : row.request ≡ w.request
+  pub response_is : row.response ≡ w.response
+  pub pin_is : row.pin ≡ w.pin
+  pub cuts_are : row.cuts ≡ w.table.rows
+  pub whole : total_length row.cuts ≡ length row.cuts * s.geometry.fragment
+  pub few : length w.table.rows < most_fragments
+  pub size : length w.gathered.items ≡ s.geometry.fragment
+  pub room : 0 < w.table.room
+
+-- one fragment too many, or memory is wanting
+abbrev pub IsOverflow : Result ℕ Refusal → Type 0
+IsOverflow (Err refusal.TooManyFragments) = Unit {0}
+IsOverflow (Err (refusal.Memory e)) = Unit {0}
+IsOverflow _ = ⊥
+
+abbrev pub overflow_adds : Writer → Result ℕ Refusal → List Rec
+overflow_adds w (Err refusal.TooManyFragments) = rec.Aborted w.put w.key ∷ []
+overflow_adds w _ = []
+
+abbrev pub OverflowsAsAsked : State → Writer → Type 0
+OverflowsAsAsked s w = (p : Permit) → Does p s (Overflow w.put) (rec.Aborted w.put w.key ∷ []) (Fails (ManyFragments w.put))

@@ -1,4 +1,4 @@
-//! Writers on a stripe: they open and are given up, and objects are removed.
+//! Writers on a stripe: they open, take bytes, are given up; and objects are removed.
 #![tactic(auto)]
 
 mod removal;
@@ -7,7 +7,7 @@ mod writing;
 
 pub use removal::{Removal, remove};
 pub use writer::Writer;
-pub use writing::{abort_write, open_write};
+pub use writing::{abort_write, open_write, write};
 
 #[cfg(test)]
 mod tests;

@@ -1,7 +1,7 @@
 ghost use Rattle.std.specs.Prelude.{◌≡◌, None, IfOk};
 ghost use Rattle.stripe_core.specs.Stripe.{IsStripe, state_in};
 
-use crate::{Removal, abort_write, open_write, remove};
+use crate::{Removal, abort_write, open_write, remove, write};
 use alternate_vector::Fields;
 use ats_disk::{Disk, MemDisk};
 use cache_chronicle::{Chronicle, FullChronicle};
@@ -46,5 +46,28 @@ fn a_writer_opens_and_is_given_up_once(rt: HostRuntime) -> Result<(), Fail> {
         Removal::Absent(Cause::Aborted { writer: 1 })
     );
     assert_eq!(rt; stripe.chronicle().count(), 4);
+    Ok(())
+}
+
+#[test]
+fn bytes_are_taken_up_to_the_next_cut(rt: HostRuntime) -> Result<(), Fail> {
+    let mut stripe = empty(&rt)?;
+    let alloc = stripe.alloc();
+    let key = Key::new([1; 16]);
+    let (request, response) = (Fields::new(alloc), Fields::new(alloc));
+    let Ok(mut writer) = open_write(&mut stripe, Actor(1), key, request, response, 0) else {
+        return Err("refused".into());
+    };
+    assert_eq!(rt; write(&mut stripe, &mut writer, &[1, 2, 3]), Ok(3));
+    assert_eq!(rt; write(&mut stripe, &mut writer, &[]), Ok(0));
+    assert_eq!(rt; stripe.chronicle().count(), 3);
+    assert_eq!(rt; write(&mut stripe, &mut writer, &[4, 5, 6]), Ok(1));
+    assert_eq!(rt; write(&mut stripe, &mut writer, &[5, 6]), Ok(2));
+    assert_eq!(rt; stripe.chronicle().count(), 5);
+    assert_eq!(rt; abort_write(&mut stripe, &mut writer), Ok(1));
+    assert_eq!(rt;
+        write(&mut stripe, &mut writer, &[7]),
+        Err(Refusal::NoSuchWriter)
+    );
     Ok(())
 }

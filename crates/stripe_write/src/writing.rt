@@ -1,12 +1,13 @@
-// Writers open, and are given up.
+// Writers open, take bytes, and are given up.
 ghost use Rattle.std.specs.Prelude.{◌≡◌, ◌+◌, ◌≤◌, ◌<◌, [], ◌∷◌, true, false, IfOk, OnOk, OnErr, length};
 ghost use Rattle.cache_model.specs.Kept.{with_records};
-ghost use Rattle.cache_model.specs.Legal.{IsQuiet, is_writing};
+ghost use Rattle.cache_model.specs.Legal.{IsQuiet, is_writing, most_fragments};
 ghost use Rattle.stripe_actors.specs.Calls.{HasNumber};
 ghost use Rattle.stripe_core.specs.Acts.{OpensAsAsked, opened_record};
-ghost use Rattle.stripe_core.specs.Stripe.{IsStripe, kept_in, seen_in, state_in};
+ghost use Rattle.stripe_core.specs.Place.{CutsAsAsked, fragment_adds};
+ghost use Rattle.stripe_core.specs.Stripe.{Answers, IsStripe, kept_in, seen_in, state_in};
 ghost use Rattle.stripe_write.specs.Writers.{IsWriterOf};
-ghost use Rattle.stripe_write.specs.Writes.{AbortsAsAsked, AbortsWhere, abort_adds, number_of};
+ghost use Rattle.stripe_write.specs.Writes.{AbortsAsAsked, AbortsWhere, GathersAsAsked, IsOverflow, IsReady, OverflowsAsAsked, SameWriter, WritesAsAsked, WritesWhere, abort_adds, next_id, next_start, number_of, overflow_adds, write_adds};
 
 use crate::Writer;
 use alternate_vector::Fields;
@@ -15,8 +16,11 @@ use cache_chronicle::Chronicle;
 use dir_table::Directory;
 use fragment_table::FragTable;
 use open_directory::PutState;
-use stripe_core::{Refusal, Stripe};
-use tape_base::{Actor, Key};
+use stripe_core::{Placed, Refusal, Stripe};
+use tape_base::{Actor, Key, PieceId};
+
+// How many fragments a put may have.
+const MAX_FRAGMENTS: u32 = 4096;
 
 /// Opens a writer of a new put.
 pub fn open_write<D: Disk, R: Directory + Drop, C: Chronicle>(
@@ -36,12 +40,46 @@ pub fn open_write<D: Disk, R: Directory + Drop, C: Chronicle>(
     ensures err { OnErr result (kept_in C.Chronicle stripe.new ≡ kept_in C.Chronicle stripe.old) }
     ensures does { OpensAsAsked (state_in C.Chronicle stripe.old) actor key request response pin (number_of result) }
     ensures writer { IfOk result (IsWriterOf (state_in C.Chronicle stripe.new)) }
+    ensures empty { IfOk result (λ w. w.gathered.items ≡ []) }
     ensures still { (seen_in D.Disk R.Directory stripe.new).device ≡ (seen_in D.Disk R.Directory stripe.old).device }
 {
     match stripe.put_refusal() {
         Some(refusal) => Err(refusal),
         None => begin(stripe, actor, key, request, response, pin),
     }
+}
+
+/// Takes bytes up to the next cut, and says how many. As soon as a fragment has gathered it is cut and
+/// placed. A refusal leaves the writer as it was.
+pub fn write<D: Disk, R: Directory + Drop, C: Chronicle>(
+    stripe: &mut Stripe<D, R, C>,
+    writer: &mut Writer,
+    bytes: &[u8],
+) -> Result<usize, Refusal>
+    requires stripe { IsStripe D.Disk R.Directory C.Chronicle stripe.old }
+    requires quiet { IsQuiet (state_in C.Chronicle stripe.old) }
+    requires writer { IsWriterOf (state_in C.Chronicle stripe.old) writer.old }
+    ensures stripe { IsStripe D.Disk R.Directory C.Chronicle stripe.new }
+    ensures quiet { IsQuiet (state_in C.Chronicle stripe.new) }
+    ensures adds { kept_in C.Chronicle stripe.new
+        ≡ with_records (kept_in C.Chronicle stripe.old) (write_adds (state_in C.Chronicle stripe.old) writer.old bytes.now result) }
+    ensures writes { WritesWhere (state_in C.Chronicle stripe.old) writer.old bytes.now result }
+    ensures does { WritesAsAsked (state_in C.Chronicle stripe.old) (seen_in D.Disk R.Directory stripe.old).device.faults
+        (seen_in D.Disk R.Directory stripe.new).device.faults writer.old bytes.now result }
+    ensures writer { IsWriterOf (state_in C.Chronicle stripe.new) writer.new }
+    ensures gathers { IfOk result (λ n. GathersAsAsked (state_in C.Chronicle stripe.old).geometry writer.old bytes.now n writer.new) }
+    ensures same { OnErr result (SameWriter writer.old writer.new) }
+{
+    if !is_open(stripe, writer.put) {
+        return Err(Refusal::NoSuchWriter);
+    }
+    if bytes.is_empty() {
+        return Ok(0);
+    }
+    if writer.table.len() == MAX_FRAGMENTS {
+        return overflow(stripe, writer);
+    }
+    take(stripe, writer, bytes)
 }
 
 /// Gives a put up that is open.
@@ -95,6 +133,7 @@ fn begin<D: Disk, R: Directory + Drop, C: Chronicle>(
     ensures err { OnErr result (kept_in C.Chronicle stripe.new ≡ kept_in C.Chronicle stripe.old) }
     ensures does { OpensAsAsked (state_in C.Chronicle stripe.old) actor key request response pin (number_of result) }
     ensures writer { IfOk result (IsWriterOf (state_in C.Chronicle stripe.new)) }
+    ensures empty { IfOk result (λ w. w.gathered.items ≡ []) }
     ensures still { (seen_in D.Disk R.Directory stripe.new).device ≡ (seen_in D.Disk R.Directory stripe.old).device }
 {
     let alloc = stripe.alloc();
@@ -110,4 +149,99 @@ fn begin<D: Disk, R: Directory + Drop, C: Chronicle>(
         gathered: Vec::new(alloc),
         table: FragTable::new(alloc),
     })
+}
+
+// Gives a put up that would have too many fragments.
+fn overflow<D: Disk, R: Directory + Drop, C: Chronicle>(
+    stripe: &mut Stripe<D, R, C>,
+    writer: &Writer,
+) -> Result<usize, Refusal>
+    requires stripe { IsStripe D.Disk R.Directory C.Chronicle stripe.old }
+    requires quiet { IsQuiet (state_in C.Chronicle stripe.old) }
+    requires writer { IsWriterOf (state_in C.Chronicle stripe.old) writer.now }
+    requires open { is_writing (state_in C.Chronicle stripe.old) writer.now.put ≡ true }
+    requires full { length writer.now.table.rows ≡ most_fragments }
+    ensures stripe { IsStripe D.Disk R.Directory C.Chronicle stripe.new }
+    ensures quiet { IsQuiet (state_in C.Chronicle stripe.new) }
+    ensures refused { IsOverflow result }
+    ensures adds { kept_in C.Chronicle stripe.new ≡ with_records (kept_in C.Chronicle stripe.old) (overflow_adds writer.now result) }
+    ensures does { OverflowsAsAsked (state_in C.Chronicle stripe.old) writer.now }
+    ensures writer { IsWriterOf (state_in C.Chronicle stripe.new) writer.now }
+{
+    stripe.prepare(None, 1)?;
+    stripe.give_up(writer.put, writer.key);
+    Err(Refusal::TooManyFragments)
+}
+
+// Takes bytes, of which there are some, and cuts the fragment that has gathered.
+fn take<D: Disk, R: Directory + Drop, C: Chronicle>(
+    stripe: &mut Stripe<D, R, C>,
+    writer: &mut Writer,
+    bytes: &[u8],
+) -> Result<usize, Refusal>
+    requires stripe { IsStripe D.Disk R.Directory C.Chronicle stripe.old }
+    requires quiet { IsQuiet (state_in C.Chronicle stripe.old) }
+    requires writer { IsWriterOf (state_in C.Chronicle stripe.old) writer.old }
+    requires open { is_writing (state_in C.Chronicle stripe.old) writer.old.put ≡ true }
+    requires few { length writer.old.table.rows < most_fragments }
+    ensures stripe { IsStripe D.Disk R.Directory C.Chronicle stripe.new }
+    ensures quiet { IsQuiet (state_in C.Chronicle stripe.new) }
+    ensures adds { kept_in C.Chronicle stripe.new
+        ≡ with_records (kept_in C.Chronicle stripe.old) (write_adds (state_in C.Chronicle stripe.old) writer.old bytes.now result) }
+    ensures writes { WritesWhere (state_in C.Chronicle stripe.old) writer.old bytes.now result }
+    ensures does { WritesAsAsked (state_in C.Chronicle stripe.old) (seen_in D.Disk R.Directory stripe.old).device.faults
+        (seen_in D.Disk R.Directory stripe.new).device.faults writer.old bytes.now result }
+    ensures writer { IsWriterOf (state_in C.Chronicle stripe.new) writer.new }
+    ensures gathers { IfOk result (λ n. GathersAsAsked (state_in C.Chronicle stripe.old).geometry writer.old bytes.now n writer.new) }
+    ensures same { OnErr result (SameWriter writer.old writer.new) }
+{
+    let before = writer.gathered.len();
+    let room = stripe.geometry().fragment as usize - before;
+    let taken = bytes.len().min(room);
+    stripe.prepare(Some(writer.put), 1)?;
+    writer.table.reserve(1)?;
+    writer.gathered.extend_from_slice(&bytes[..taken])?;
+    if taken < room {
+        return Ok(taken);
+    }
+    match cut(stripe, writer) {
+        Ok(_) => Ok(taken),
+        Err(refusal) => {
+            writer.gathered.truncate(before);
+            Err(refusal)
+        }
+    }
+}
+
+// Cuts the fragment that has gathered.
+fn cut<D: Disk, R: Directory + Drop, C: Chronicle>(
+    stripe: &mut Stripe<D, R, C>,
+    writer: &mut Writer,
+) -> Result<Placed, Refusal>
+    requires stripe { IsStripe D.Disk R.Directory C.Chronicle stripe.old }
+    requires quiet { IsQuiet (state_in C.Chronicle stripe.old) }
+    requires ready { IsReady (state_in C.Chronicle stripe.old) writer.old }
+    ensures stripe { IsStripe D.Disk R.Directory C.Chronicle stripe.new }
+    ensures quiet { IsQuiet (state_in C.Chronicle stripe.new) }
+    ensures adds { let w = writer.old in Answers result (λ r. kept_in C.Chronicle stripe.new
+        ≡ with_records (kept_in C.Chronicle stripe.old) (fragment_adds (state_in C.Chronicle stripe.old) (next_id w) w.pin (next_start w) w.gathered.items r))
+        (kept_in C.Chronicle stripe.new ≡ kept_in C.Chronicle stripe.old) }
+    ensures does { let w = writer.old in Answers result (CutsAsAsked (state_in C.Chronicle stripe.old) (seen_in D.Disk R.Directory stripe.old).device.faults
+        (seen_in D.Disk R.Directory stripe.new).device.faults (next_id w) w.pin (next_start w) w.gathered.items) (Unit {0}) }
+    ensures writer { OnOk result (IsWriterOf (state_in C.Chronicle stripe.new) writer.new) }
+    ensures put { OnOk result (writer.new.put ≡ writer.old.put) }
+    ensures empty { OnOk result (writer.new.gathered.items ≡ []) }
+    ensures same { OnErr result (writer.new ≡ writer.old) }
+{
+    let id = PieceId {
+        first: writer.key,
+        put: writer.put,
+        index: writer.table.len() + 1,
+    };
+    let size = writer.gathered.len() as u32;
+    let placed = stripe.place_piece(id, writer.pin, writer.table.total(), &writer.gathered)?;
+    let pushed: Result<_, _> = writer.table.push(size, placed.payload.0);
+    pushed.unwrap();
+    writer.gathered.clear();
+    Ok(placed)
 }

@@ -1,0 +1,29 @@
+use Rattle.std.proofs.Common.{sym, ◌∙◌, ap, subst, [], ◌∷◌}
+use Rattle.cache_model.specs.declared.record.Rec.TheVariants as rec
+use Rattle.cache_model.specs.Kept.{state_of}
+use Rattle.cache_model.specs.Legal.{IsQuiet, is_writing}
+use Rattle.stripe_core.specs.Stripe.{kept_in, state_in}
+use Rattle.stripe_write.specs.Writers.{IsWriterOf}
+use Rattle.stripe_write.proofs.Ended.{giving_up, no_writer, overflows}
+use Rattle.stripe_write.proofs.writing.overflow.Goals as goal
+
+pub returns-in_err-prepare-clause-does : goal.returns-in_err-prepare-clause-does
+returns-in_err-prepare-clause-does g c = λ p. overflows p (state_in g.C.Chronicle c.args.stripe.now) c.args.writer.now c.requires.quiet c.requires.open c.requires.writer c.requires.full
+
+pub returns-in_err-prepare-clause-writer : goal.returns-in_err-prepare-clause-writer
+returns-in_err-prepare-clause-writer g c = subst (λ k. IsWriterOf (state_of k) c.args.writer.now) (sym c.prepare.ensures.records) c.requires.writer
+
+pub give_up-requires-clause-writing : goal.give_up-requires-clause-writing
+give_up-requires-clause-writing g c =
+    giving_up (state_in g.C.Chronicle c.prepare.new.self) c.args.writer.now (subst (λ k. IsQuiet (state_of k)) (sym c.prepare.ensures.records) c.requires.quiet)
+    (ap (λ k. is_writing (state_of k) c.args.writer.now.put) c.prepare.ensures.records ∙ c.requires.open)
+    (subst (λ k. IsWriterOf (state_of k) c.args.writer.now) (sym c.prepare.ensures.records) c.requires.writer)
+
+pub returns-clause-does : goal.returns-clause-does
+returns-clause-does g c = λ p. overflows p (state_in g.C.Chronicle c.args.stripe.now) c.args.writer.now c.requires.quiet c.requires.open c.requires.writer c.requires.full
+
+pub returns-clause-writer : goal.returns-clause-writer
+returns-clause-writer g c =
+    subst (λ t. IsWriterOf t c.args.writer.now)
+    (sym (ap state_of c.give_up.ensures.adds ∙ Rattle.cache_model.proofs.Steps.after_all-append (kept_in g.C.Chronicle c.prepare.new.self).base (kept_in g.C.Chronicle c.prepare.new.self).since (rec.Aborted c.args.writer.now.put c.args.writer.now.key ∷ [])))
+    (no_writer (state_in g.C.Chronicle c.prepare.new.self) c.args.writer.now c.args.writer.now.key)

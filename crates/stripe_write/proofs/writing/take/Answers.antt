@@ -1,0 +1,113 @@
+use Rattle.std.proofs.Common.{◌≡◌, ◌+◌, ◌<◌, ℕ, refl, sym, ◌∙◌, ap, subst, arith, length, take}
+use Rattle.cache_model.specs.Kept.{state_of}
+use Rattle.cache_model.specs.Legal.{is_writing}
+use Rattle.stripe_core.specs.Stripe.{kept_in, seen_in, state_in}
+use Rattle.stripe_write.specs.Writers.{IsWriterOf}
+use Rattle.stripe_write.specs.declared.writer.Writer.{Writer}
+use Rattle.stripe_write.specs.Writes.{next_id, next_start}
+use Rattle.tape_base.specs.declared.geometries.Geometry.{Geometry}
+use Rattle.stripe_write.proofs.Gathering.{cut_now, few_gathered, gathered_length, is_ready, left_cut, more_writer, same_writer, took_adds, took_does, SameButGathered, back, failed_puts, still_writer, taken_back}
+use Rattle.stripe_write.proofs.writing.take.Goals as goal
+
+pub overflow_sub-room : goal.overflow_sub-room
+overflow_sub-room g c =
+    let few = few_gathered (state_in g.C.Chronicle c.args.stripe.now) c.args.writer.now c.requires.open c.requires.writer in
+    rw c.geometry.ensures (omega (arith, few, c.len-before.ensures))
+
+pub returns-in_err-prepare-clause-writer : goal.returns-in_err-prepare-clause-writer
+returns-in_err-prepare-clause-writer g c = subst (λ k. IsWriterOf (state_of k) c.args.writer.now) (sym c.prepare.ensures.records) c.requires.writer
+
+pub returns-in_err-reserve-clause-writer : goal.returns-in_err-reserve-clause-writer
+returns-in_err-reserve-clause-writer g c =
+    same_writer (state_in g.C.Chronicle c.prepare.new.self) c.args.writer.now _ (record { put = refl; key = refl; request = refl; response = refl; pin = refl; gathered = refl; rows = c.reserve.ensures.rows })
+    (subst (λ k. IsWriterOf (state_of k) c.args.writer.now) (sym c.prepare.ensures.records) c.requires.writer)
+
+pub returns-in_err-extend_from_slice-clause-writer : goal.returns-in_err-extend_from_slice-clause-writer
+returns-in_err-extend_from_slice-clause-writer g c =
+    same_writer (state_in g.C.Chronicle c.prepare.new.self) c.args.writer.now _
+    (record { put = refl; key = refl; request = refl; response = refl; pin = refl; gathered = c.in_err-extend_from_slice.ensures.items; rows = c.reserve.ensures.rows })
+    (subst (λ k. IsWriterOf (state_of k) c.args.writer.now) (sym c.prepare.ensures.records) c.requires.writer)
+
+pub returns-then-taken-room-clause-writer : goal.returns-then-taken-room-clause-writer
+returns-then-taken-room-clause-writer g c =
+    let s = state_in g.C.Chronicle c.args.stripe.now in
+    let w = c.args.writer.now in
+    let n : ℕ = c.min-taken.result in
+    let few = few_gathered s w c.requires.open c.requires.writer in
+    let size : length c.extend_from_slice.new.self.items ≡ length w.gathered.items + n =
+    ap length c.in_ok-extend_from_slice.ensures.items ∙ gathered_length w c.args.bytes.now n (omega (arith, c.min-taken.ensures)) in
+    let fragment = ap (λ (x : Geometry). x.fragment) c.geometry.ensures in
+    let less : length c.extend_from_slice.new.self.items < s.geometry.fragment = omega (arith, size, few, fragment, c.len-before.ensures, c.if-taken-room.true) in
+    more_writer (state_in g.C.Chronicle c.prepare.new.self) w _ (record { put = refl; key = refl; request = refl; response = refl; pin = refl; rows = c.reserve.ensures.rows })
+    (rw (ap state_of c.prepare.ensures.records) less)
+    (subst (λ k. IsWriterOf (state_of k) w) (sym c.prepare.ensures.records) c.requires.writer)
+
+pub cut-requires-clause-ready : goal.cut-requires-clause-ready
+cut-requires-clause-ready g c =
+    let s = state_in g.C.Chronicle c.args.stripe.now in
+    let w = c.args.writer.now in
+    let n : ℕ = c.min-taken.result in
+    let few = few_gathered s w c.requires.open c.requires.writer in
+    let size : length c.extend_from_slice.new.self.items ≡ length w.gathered.items + n =
+    ap length c.in_ok-extend_from_slice.ensures.items ∙ gathered_length w c.args.bytes.now n (omega (arith, c.min-taken.ensures)) in
+    let fragment = ap (λ (x : Geometry). x.fragment) c.geometry.ensures in
+    let whole : length c.extend_from_slice.new.self.items ≡ s.geometry.fragment = omega (arith, size, few, fragment, c.len-before.ensures, c.min-taken.ensures, c.if-taken-room.false) in
+    is_ready (state_in g.C.Chronicle c.prepare.new.self) w _ (ap (λ k. is_writing (state_of k) w.put) c.prepare.ensures.records ∙ c.requires.open)
+    (subst (λ k. IsWriterOf (state_of k) w) (sym c.prepare.ensures.records) c.requires.writer)
+    (record { put = refl; key = refl; request = refl; response = refl; pin = refl; rows = c.reserve.ensures.rows }) c.requires.few (rw (ap state_of c.prepare.ensures.records) whole) c.in_ok-reserve.ensures.room
+
+pub returns-in-Ok-clause-adds : goal.returns-in-Ok-clause-adds
+returns-in-Ok-clause-adds g c =
+    let s = state_in g.C.Chronicle c.args.stripe.now in
+    let w = c.args.writer.now in
+    let n : ℕ = c.min-taken.result in
+    let few = few_gathered s w c.requires.open c.requires.writer in
+    let fragment = ap (λ (x : Geometry). x.fragment) c.geometry.ensures in
+    let held : Writer = record { put = w.put; key = w.key; request = w.request; response = w.response; pin = w.pin; gathered = c.extend_from_slice.new.self; table = c.reserve.new.self } in
+    took_adds (kept_in g.C.Chronicle c.args.stripe.now) (kept_in g.C.Chronicle c.prepare.new.self) (kept_in g.C.Chronicle c.cut.new.stripe) w held c.args.bytes.now n c.in-Ok.field-0 c.prepare.ensures.records
+    (record { put = refl; key = refl; request = refl; response = refl; pin = refl; rows = c.reserve.ensures.rows }) c.in_ok-extend_from_slice.ensures.items
+    (cut_now s.geometry w n (omega (arith, few, fragment, c.len-before.ensures, c.min-taken.ensures, c.if-taken-room.false))) c.in-Ok.ensures.adds
+
+pub returns-in-Ok-clause-does : goal.returns-in-Ok-clause-does
+returns-in-Ok-clause-does g c =
+    let w = c.args.writer.now in
+    let held : Writer = record { put = w.put; key = w.key; request = w.request; response = w.response; pin = w.pin; gathered = c.extend_from_slice.new.self; table = c.reserve.new.self } in
+    took_does (kept_in g.C.Chronicle c.args.stripe.now) (kept_in g.C.Chronicle c.prepare.new.self) (seen_in g.D.Disk g.R.Directory c.args.stripe.now).device.faults (seen_in g.D.Disk g.R.Directory c.prepare.new.self).device.faults
+    (seen_in g.D.Disk g.R.Directory c.cut.new.stripe).device.faults w held c.args.bytes.now c.min-taken.result c.in-Ok.field-0 c.prepare.ensures.records c.prepare.ensures.still.faults
+    (record { put = refl; key = refl; request = refl; response = refl; pin = refl; rows = c.reserve.ensures.rows }) c.in_ok-extend_from_slice.ensures.items c.in-Ok.ensures.does
+
+pub returns-in-Err-clause-writer : goal.returns-in-Err-clause-writer
+returns-in-Err-clause-writer g c =
+    let w = c.args.writer.now in
+    let held : Writer = record { put = w.put; key = w.key; request = w.request; response = w.response; pin = w.pin; gathered = c.extend_from_slice.new.self; table = c.reserve.new.self } in
+    let same : c.cut.new.writer ≡ held = c.in-Err.ensures.same in
+    let first : SameButGathered w held = record { put = refl; key = refl; request = refl; response = refl; pin = refl; rows = c.reserve.ensures.rows } in
+    let gathered : c.truncate.new.self.items ≡ w.gathered.items =
+    c.truncate.ensures.items
+    ∙ (ap (λ (x : Writer). take c.len-before.result x.gathered.items) same
+    ∙ (ap (take c.len-before.result) c.in_ok-extend_from_slice.ensures.items ∙ taken_back w c.args.bytes.now c.min-taken.result c.len-before.result (omega (arith, c.len-before.ensures)))) in
+    still_writer (state_in g.C.Chronicle c.prepare.new.self) (state_in g.C.Chronicle c.cut.new.stripe) _
+    (failed_puts (kept_in g.C.Chronicle c.prepare.new.self) (kept_in g.C.Chronicle c.cut.new.stripe) (next_id held) held.pin (next_start held) held.gathered.items c.in-Err.refusal c.in-Err.ensures.adds)
+    (same_writer (state_in g.C.Chronicle c.prepare.new.self) w _
+    (back w held _ first
+    (record {
+      put = ap (λ (x : Writer). x.put) same;
+      key = ap (λ (x : Writer). x.key) same;
+      request = ap (λ (x : Writer). x.request) same;
+      response = ap (λ (x : Writer). x.response) same;
+      pin = ap (λ (x : Writer). x.pin) same;
+      rows = ap (λ (x : Writer). x.table.rows) same;
+    }) gathered)
+    (subst (λ k. IsWriterOf (state_of k) w) (sym c.prepare.ensures.records) c.requires.writer))
+
+pub returns-in-Ok-clause-gathers : goal.returns-in-Ok-clause-gathers
+returns-in-Ok-clause-gathers g c =
+    let s = state_in g.C.Chronicle c.args.stripe.now in
+    let w = c.args.writer.now in
+    let n : ℕ = c.min-taken.result in
+    let few = few_gathered s w c.requires.open c.requires.writer in
+    let fragment = ap (λ (x : Geometry). x.fragment) c.geometry.ensures in
+    record {
+      put = c.in-Ok.ensures.put;
+      gathered = c.in-Ok.ensures.empty ∙ sym (left_cut s.geometry w c.args.bytes.now n (cut_now s.geometry w n (omega (arith, few, fragment, c.len-before.ensures, c.min-taken.ensures, c.if-taken-room.false))));
+    }
