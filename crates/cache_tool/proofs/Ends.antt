@@ -8,13 +8,13 @@ use Rattle.edge_io.specs.declared.reader.LineFault.{LineFault}
 use Rattle.edge_io.specs.declared.reader.LineFault.TheVariants as fault
 use Rattle.ats_disk.specs.declared.device.Disk.{Ghosts as DiskGhosts}
 use Rattle.first_chronicle.specs.declared.chronicle.Chronicle.{Ghosts as ChronicleGhosts}
-use Rattle.script_lang.specs.declared.line.BadLine.{BadLine}
-use Rattle.script_lang.specs.declared.line.LineAnswer.TheVariants as line
-use Rattle.script_lang.specs.declared.step.Step.{Step}
-use Rattle.script_lang.specs.declared.answer.LastLine.{LastLine}
-use Rattle.script_lang.specs.declared.answer.LastLine.TheVariants as last
-use Rattle.script_lang.specs.Texts.{answer_line}
-use Rattle.script_lang.specs.Grammar.{reading_of}
+use Rattle.first_lang.specs.declared.line.BadLine.{BadLine}
+use Rattle.first_lang.specs.declared.line.LineAnswer.TheVariants as line
+use Rattle.first_lang.specs.declared.step.Step.{Step}
+use Rattle.first_lang.specs.declared.answer.LastLine.{LastLine}
+use Rattle.first_lang.specs.declared.answer.LastLine.TheVariants as last
+use Rattle.first_lang.specs.Texts.{answer_line}
+use Rattle.first_lang.specs.Grammar.{reading_of}
 use Rattle.cache_tool.specs.declared.tape.Tape.{Tape}
 use Rattle.cache_tool.specs.declared.session.Stop.TheVariants as stop
 use Rattle.cache_tool.specs.declared.run.Ending.{Ending}

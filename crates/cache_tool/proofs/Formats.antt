@@ -10,10 +10,10 @@ use Rattle.ats_disk.specs.declared.device.Disk.{Ghosts as DiskGhosts}
 use Rattle.first_chronicle.specs.declared.chronicle.Chronicle.{Ghosts as ChronicleGhosts}
 use Rattle.first_model.specs.declared.record.Rec.TheVariants as rec
 use Rattle.first_model.specs.State.{State}
-use Rattle.script_lang.specs.declared.step.Step.TheVariants as step
-use Rattle.script_lang.specs.declared.answer.StepAnswer.{StepAnswer}
-use Rattle.script_lang.specs.declared.answer.StepAnswer.TheVariants as answer
-use Rattle.script_lang.specs.declared.answer.Refused.TheVariants as refused
+use Rattle.first_lang.specs.declared.step.Step.TheVariants as step
+use Rattle.first_lang.specs.declared.answer.StepAnswer.{StepAnswer}
+use Rattle.first_lang.specs.declared.answer.StepAnswer.TheVariants as answer
+use Rattle.first_lang.specs.declared.answer.Refused.TheVariants as refused
 use Rattle.cache_tool.specs.declared.tape.Tape.{Tape}
 use Rattle.cache_tool.specs.Run.{Run, Turn, no_turn, after_put, formatted, fault_of, number_of}
 use Rattle.cache_tool.specs.Session.{Plays, AreTapes, Ledger, StepMoves, DeviceMoves, ComeBack}

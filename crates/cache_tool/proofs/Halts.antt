@@ -5,9 +5,9 @@ use Rattle.std.specs.Io.KnownBytes.{Appends, Keeps}
 use Rattle.std.proofs.KnownBytes.{Appends-trans}
 use Rattle.ats_disk.specs.declared.device.Disk.{Ghosts as DiskGhosts}
 use Rattle.first_chronicle.specs.declared.chronicle.Chronicle.{Ghosts as ChronicleGhosts}
-use Rattle.script_lang.specs.declared.step.Step.{Step}
-use Rattle.script_lang.specs.declared.answer.StepAnswer.{StepAnswer}
-use Rattle.script_lang.specs.Texts.{answer_line}
+use Rattle.first_lang.specs.declared.step.Step.{Step}
+use Rattle.first_lang.specs.declared.answer.StepAnswer.{StepAnswer}
+use Rattle.first_lang.specs.Texts.{answer_line}
 use Rattle.cache_tool.specs.declared.tape.Tape.{Tape}
 use Rattle.cache_tool.specs.declared.run.Halt.{Halt}
 use Rattle.cache_tool.specs.declared.run.Halt.TheVariants.{Stop, WriteFault, Memory}

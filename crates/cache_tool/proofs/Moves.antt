@@ -18,7 +18,7 @@ use Rattle.first_model.specs.Legal.{Does, blocks_for, next_place, GivesFound, Da
 use Rattle.first_model.specs.Verdict.{Verdict, Hit, Miss, lookup_verdict, body_piece}
 use Rattle.first_model.proofs.Verdicts.{state_of-with_records, verdict-stored, verdict-damaged, verdict-found_before}
 use Rattle.first_model.proofs.Steps.{one_group, refused_by}
-use Rattle.script_lang.specs.declared.step.Step.TheVariants as step
+use Rattle.first_lang.specs.declared.step.Step.TheVariants as step
 use Rattle.cache_tool.specs.declared.tape.Tape.{Tape}
 use Rattle.cache_tool.specs.declared.tape.PutAnswer.{PutAnswer}
 use Rattle.cache_tool.specs.declared.tape.PutAnswer.TheVariants as put

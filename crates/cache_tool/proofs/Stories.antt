@@ -5,11 +5,11 @@ use Rattle.edge_io.specs.declared.reader.TheConstants.{MAX_LINE_BYTES}
 use Rattle.edge_io.specs.Lines.{lines_of}
 use Rattle.edge_io.specs.LineReader.{AnswersKnown}
 use Rattle.ats_disk.specs.Bay.{Return}
-use Rattle.script_lang.specs.declared.line.LineAnswer.TheVariants as line
-use Rattle.script_lang.specs.declared.step.Step.{Step}
-use Rattle.script_lang.specs.declared.answer.StepAnswer.{StepAnswer}
-use Rattle.script_lang.specs.Grammar.{reading_of}
-use Rattle.script_lang.specs.Texts.{answer_line}
+use Rattle.first_lang.specs.declared.line.LineAnswer.TheVariants as line
+use Rattle.first_lang.specs.declared.step.Step.{Step}
+use Rattle.first_lang.specs.declared.answer.StepAnswer.{StepAnswer}
+use Rattle.first_lang.specs.Grammar.{reading_of}
+use Rattle.first_lang.specs.Texts.{answer_line}
 use Rattle.cache_tool.specs.Run.{Run, Turn, no_turn, fresh, LineTakes, StepTakes, after_line, after_step, step_answer, line_text, run_after}
 use Rattle.cache_tool.specs.Session.{ComeBack, Ledger, Deals}
 use Rattle.cache_tool.specs.Story.{Story, AreShort, IsBehind, IsNext, GoesOn, Owes}

@@ -2,9 +2,9 @@
 use Rattle.std.proofs.Common.{◌≡◌, ℕ, ◌≤◌, List, [], Option, refl, sym, subst, inl, inr, ◌⊎◌}
 use Rattle.std.specs.Io.KnownBytes.{Appends, Keeps}
 use Rattle.std.proofs.KnownBytes.{Appends-trans}
-use Rattle.script_lang.specs.declared.answer.LastLine.{LastLine}
-use Rattle.script_lang.specs.declared.answer.LastLine.TheVariants as last
-use Rattle.script_lang.specs.Texts.{last_line}
+use Rattle.first_lang.specs.declared.answer.LastLine.{LastLine}
+use Rattle.first_lang.specs.declared.answer.LastLine.TheVariants as last
+use Rattle.first_lang.specs.Texts.{last_line}
 use Rattle.cache_tool.specs.declared.top.Status.{Status}
 use Rattle.cache_tool.specs.declared.top.Status.TheVariants as status
 use Rattle.cache_tool.specs.Run.{Run}

@@ -18,15 +18,15 @@ use Rattle.first_model.specs.State.{State, nothing_yet, after_all}
 use Rattle.first_model.specs.Permit.{Permit, Store, Look, Reason, TapeEnd, Faulted, End, Done, Fails}
 use Rattle.first_model.specs.Legal.{IsStep}
 use Rattle.first_model.specs.Verdict.{Verdict, Hit, lookup_verdict, body_piece}
-use Rattle.script_lang.specs.declared.step.Step.{Step}
-use Rattle.script_lang.specs.declared.step.Step.TheVariants as step
-use Rattle.script_lang.specs.declared.line.LineAnswer.{LineAnswer}
-use Rattle.script_lang.specs.declared.line.LineAnswer.TheVariants as line
-use Rattle.script_lang.specs.declared.answer.StepAnswer.{StepAnswer}
-use Rattle.script_lang.specs.declared.answer.StepAnswer.TheVariants as answer
-use Rattle.script_lang.specs.declared.answer.Refused.TheVariants as refused
-use Rattle.script_lang.specs.Grammar.{reading_of}
-use Rattle.script_lang.specs.Texts.{answer_line}
+use Rattle.first_lang.specs.declared.step.Step.{Step}
+use Rattle.first_lang.specs.declared.step.Step.TheVariants as step
+use Rattle.first_lang.specs.declared.line.LineAnswer.{LineAnswer}
+use Rattle.first_lang.specs.declared.line.LineAnswer.TheVariants as line
+use Rattle.first_lang.specs.declared.answer.StepAnswer.{StepAnswer}
+use Rattle.first_lang.specs.declared.answer.StepAnswer.TheVariants as answer
+use Rattle.first_lang.specs.declared.answer.Refused.TheVariants as refused
+use Rattle.first_lang.specs.Grammar.{reading_of}
+use Rattle.first_lang.specs.Texts.{answer_line}
 use Rattle.cache_tool.specs.Tape.{look_answer}
 
 -- the body that each put stored, by its piece, the last first

@@ -10,8 +10,8 @@ use Rattle.first_model.specs.declared.table.Stored.{Stored}
 use Rattle.first_model.specs.declared.table.Commit.{Commit}
 use Rattle.first_model.specs.State.{State}
 use Rattle.first_model.specs.Verdict.{lookup_verdict, Hit, body_piece}
-use Rattle.script_lang.specs.declared.step.Step.{Step}
-use Rattle.script_lang.specs.declared.answer.StepAnswer.{StepAnswer}
+use Rattle.first_lang.specs.declared.step.Step.{Step}
+use Rattle.first_lang.specs.declared.answer.StepAnswer.{StepAnswer}
 use Rattle.cache_tool.specs.declared.tape.Tape.{Tape}
 use Rattle.cache_tool.specs.Tape.{IsTape, state_of_tape}
 use Rattle.cache_tool.specs.Run.{Bodies, body_of, Run, Turn, StepTakes, after_step, step_answer, AreReached}

@@ -1,12 +1,12 @@
 -- When each reason to end the run comes.
 use Rattle.std.specs.Prelude.{◌≡◌, ℕ, ◌<◌, ◌⊎◌, List, length, Option, Some, None, IfSome, ⊤}
-use Rattle.script_lang.specs.declared.line.BadKind.TheVariants as kind
+use Rattle.first_lang.specs.declared.line.BadKind.TheVariants as kind
 use Rattle.tape_base.specs.Limits.{first_refusal}
-use Rattle.script_lang.specs.Words.{bad}
+use Rattle.first_lang.specs.Words.{bad}
 use Rattle.edge_io.specs.Causes.{Rose}
-use Rattle.script_lang.specs.declared.line.BadLine.{BadLine as BadAt}
-use Rattle.script_lang.specs.declared.step.Step.{Step}
-use Rattle.script_lang.specs.declared.step.Step.TheVariants as step
+use Rattle.first_lang.specs.declared.line.BadLine.{BadLine as BadAt}
+use Rattle.first_lang.specs.declared.step.Step.{Step}
+use Rattle.first_lang.specs.declared.step.Step.TheVariants as step
 use Rattle.first_model.specs.State.{State}
 use Rattle.cache_tool.specs.Run.{Run}
 use Rattle.cache_tool.specs.declared.session.Stop.{Stop}

@@ -4,14 +4,14 @@ use Rattle.std.specs.Io.KnownBytes.{Appends}
 use Rattle.edge_io.specs.Causes.{Rose}
 use Rattle.edge_io.specs.declared.reader.TheConstants.{MAX_LINE_BYTES, MAX_LINES}
 use Rattle.edge_io.specs.Lines.{lines_of, IsTooLong, IsTooMany, GivesLine}
-use Rattle.script_lang.specs.declared.line.BadLine.{BadLine}
-use Rattle.script_lang.specs.declared.line.LineAnswer.TheVariants as line
-use Rattle.script_lang.specs.declared.step.Step.{Step}
-use Rattle.script_lang.specs.declared.answer.LastLine.{LastLine}
-use Rattle.script_lang.specs.declared.answer.LastLine.TheVariants as last
-use Rattle.script_lang.specs.declared.answer.StepAnswer.{StepAnswer}
-use Rattle.script_lang.specs.Texts.{answer_line}
-use Rattle.script_lang.specs.Grammar.{reading_of}
+use Rattle.first_lang.specs.declared.line.BadLine.{BadLine}
+use Rattle.first_lang.specs.declared.line.LineAnswer.TheVariants as line
+use Rattle.first_lang.specs.declared.step.Step.{Step}
+use Rattle.first_lang.specs.declared.answer.LastLine.{LastLine}
+use Rattle.first_lang.specs.declared.answer.LastLine.TheVariants as last
+use Rattle.first_lang.specs.declared.answer.StepAnswer.{StepAnswer}
+use Rattle.first_lang.specs.Texts.{answer_line}
+use Rattle.first_lang.specs.Grammar.{reading_of}
 use Rattle.cache_tool.specs.Run.{Run, Turn, fresh, IsRun, run_after, output_of}
 use Rattle.cache_tool.specs.Session.{Ledger, Deals}
 use Rattle.cache_tool.specs.Stop.{IsUnfitPut, NeedsSession, Attaches}

@@ -16,9 +16,9 @@ use Rattle.first_model.specs.Permit.{Permit, End, Done, Fails, TapeEnd, Faulted}
 use Rattle.first_model.specs.Legal.{blocks_for, next_place}
 use Rattle.first_model.specs.declared.record.Cause.TheVariants as cause
 use Rattle.first_model.specs.Verdict.{Verdict, lookup_verdict, Hit, Miss, body_piece}
-use Rattle.script_lang.specs.declared.answer.StepAnswer.{StepAnswer}
-use Rattle.script_lang.specs.declared.answer.StepAnswer.TheVariants as answer
-use Rattle.script_lang.specs.declared.answer.Refused.TheVariants as refused
+use Rattle.first_lang.specs.declared.answer.StepAnswer.{StepAnswer}
+use Rattle.first_lang.specs.declared.answer.StepAnswer.TheVariants as answer
+use Rattle.first_lang.specs.declared.answer.Refused.TheVariants as refused
 use Rattle.cache_tool.specs.declared.tape.Tape.{Tape}
 use Rattle.cache_tool.specs.declared.tape.PutAnswer.{PutAnswer}
 use Rattle.cache_tool.specs.declared.tape.PutAnswer.TheVariants as put

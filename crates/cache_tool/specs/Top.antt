@@ -3,9 +3,9 @@ use Rattle.std.specs.Prelude.{◌≡◌, ℕ, ◌⊎◌, List, [], ◌∷◌, �
 use Rattle.std.specs.declared.string.String.{String}
 use Rattle.std.specs.Io.KnownBytes.{Appends, IsAtEnd}
 use Rattle.edge_io.specs.Causes.{Rose}
-use Rattle.script_lang.specs.declared.answer.LastLine.{LastLine}
-use Rattle.script_lang.specs.declared.answer.LastLine.TheVariants as last
-use Rattle.script_lang.specs.Texts.{last_line}
+use Rattle.first_lang.specs.declared.answer.LastLine.{LastLine}
+use Rattle.first_lang.specs.declared.answer.LastLine.TheVariants as last
+use Rattle.first_lang.specs.Texts.{last_line}
 use Rattle.cache_tool.specs.declared.top.Status.{Status}
 use Rattle.cache_tool.specs.declared.top.Status.TheVariants as status
 use Rattle.cache_tool.specs.Run.{Run, counts_of}

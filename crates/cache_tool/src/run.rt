@@ -3,7 +3,7 @@ ghost use Rattle.std.specs.Prelude.{◌≡◌, ◌+◌, ◌<◌, ◌≤◌, ℕ,
 ghost use Rattle.std.specs.Io.KnownBytes.{Appends, Keeps};
 ghost use Rattle.edge_io.specs.Causes.{Rose};
 ghost use Rattle.edge_io.specs.LineReader.{unread, lines_given, source_of};
-ghost use Rattle.script_lang.specs.Texts.{answer_line};
+ghost use Rattle.first_lang.specs.Texts.{answer_line};
 ghost use Rattle.cache_tool.specs.Run.{Run};
 ghost use Rattle.cache_tool.specs.Session.{Plays, AreTapes, Ledger, ledger_of, held};
 ghost use Rattle.cache_tool.specs.Story.{GoesOn, Owes, SendsFront, counts};
@@ -17,7 +17,7 @@ use crate::steps::answer;
 use ats_disk::{Bay, Disk};
 use edge_io::{LineFault, LineReader, MAX_LINES, Sink, Source};
 use first_chronicle::{Chronicle, FullChronicle};
-use script_lang::{LastLine, LineAnswer, Step, StepAnswer, answer_text};
+use first_lang::{LastLine, LineAnswer, Step, StepAnswer, answer_text};
 use std::alloc::Global;
 
 /// How a run of lines ends.

@@ -1,6 +1,6 @@
 // The steps of a script on a session: a device, its tape and its records.
 ghost use Rattle.std.specs.Prelude.{◌≡◌, Some, IfOk, IfErr, OnErr};
-ghost use Rattle.script_lang.specs.declared.step.Step.TheVariants as step;
+ghost use Rattle.first_lang.specs.declared.step.Step.TheVariants as step;
 ghost use Rattle.cache_tool.specs.Run.{Run};
 ghost use Rattle.cache_tool.specs.Tape.{IsTape, put_said, told_of};
 ghost use Rattle.cache_tool.specs.Session.{PlaysOn, StepMoves};
@@ -9,7 +9,7 @@ ghost use Rattle.cache_tool.specs.Stop.{IsPutStop};
 use crate::tape::{GetAnswer, PutAnswer, Tape};
 use ats_disk::{BayFault, Disk};
 use first_chronicle::{Cause, Chronicle};
-use script_lang::{BadKind, BadLine, ByteList, Refused, StepAnswer};
+use first_lang::{BadKind, BadLine, ByteList, Refused, StepAnswer};
 use std::alloc::{AllocError, Global};
 use tape_base::{Key, digests_tell};
 

@@ -1,6 +1,6 @@
 // The steps of a script, whatever they are.
 ghost use Rattle.std.specs.Prelude.{◌≡◌, ◌+◌, ◌≤◌, IfOk, IfErr, OnErr};
-ghost use Rattle.script_lang.specs.declared.step.Step.TheVariants as step;
+ghost use Rattle.first_lang.specs.declared.step.Step.TheVariants as step;
 ghost use Rattle.cache_tool.specs.Run.{Run, number_of};
 ghost use Rattle.cache_tool.specs.Session.{Plays, AreTapes, DeviceMoves, ledger_of, held};
 ghost use Rattle.cache_tool.specs.Stop.{StopsStep};
@@ -9,7 +9,7 @@ use crate::device::{Session, begin};
 use crate::session::{Stop, get, put};
 use ats_disk::{Bay, Disk};
 use first_chronicle::{Chronicle, FullChronicle};
-use script_lang::{ByteList, Refused, Step, StepAnswer};
+use first_lang::{ByteList, Refused, Step, StepAnswer};
 use std::alloc::Global;
 use tape_base::{BadGeometry, Geometry, floor_of};
 

@@ -1,7 +1,7 @@
 // The top call: words, a script, and what came of it.
 ghost use Rattle.std.specs.Prelude.{◌≡◌, ◌≤◌, ◌↔◌, ◌⊎◌, [], IsTrue};
 ghost use Rattle.std.specs.Io.KnownBytes.{Keeps};
-ghost use Rattle.script_lang.specs.Texts.{last_line, usage_line};
+ghost use Rattle.first_lang.specs.Texts.{last_line, usage_line};
 ghost use Rattle.cache_tool.specs.Run.{counts_of};
 ghost use Rattle.cache_tool.specs.Session.{ledger_of};
 ghost use Rattle.cache_tool.specs.Story.{counts};
@@ -12,7 +12,7 @@ use crate::device::close;
 use crate::run::{Ending, run_lines};
 use ats_disk::Bay;
 use edge_io::{LineBuffer, LineReader, Sink, Source};
-use script_lang::{LastLine, last_line_text, usage_text};
+use first_lang::{LastLine, last_line_text, usage_text};
 use std::alloc::Global;
 
 /// What came of a run.

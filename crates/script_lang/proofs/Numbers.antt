@@ -1,5 +1,7 @@
 -- What the standard library's parse says of digits.
-use Rattle.std.proofs.Common.{◌≡◌, ℕ, ◌<◌, ◌^◌, Bool, true, List, length, nat_lt, Some, None, Result, Ok, Err, arith, rules}
+use Rattle.std.proofs.Common.{◌≡◌, ℕ, zero, suc, ◌<◌, ◌^◌, Bool, true, List, length, nat_lt, get_or, Some, None, Result, Ok, Err, refl, arith, rules}
+use Rattle.std.specs.Fmt.{decimal}
+use Rattle.std.proofs.lemmas.Fmt.{decimal_digit, decimal_nonempty, digits_decimal, digits_value-decimal, first_decimal}
 use Rattle.std.specs.Prelude.{◌&&◌, if◌then◌else◌}
 use Rattle.std.specs.List.{list_all}
 use Rattle.std.specs.Result.{OkIff, result_ok}
@@ -10,7 +12,7 @@ use Rattle.std.proofs.lemmas.Grind.{common_steps}
 use Rattle.std.specs.Str.{IsUtf8}
 use Rattle.std.proofs.lemmas.Str.{IsUtf8-from_ascii}
 use Rattle.std.proofs.lemmas.Fmt.{IsAscii-from_digits}
-use Rattle.script_lang.specs.Tokens.{is_digit, value_after, value_of, number_of, is_number}
+use Rattle.script_lang.specs.Tokens.{is_digit, value_after, value_of, number_of, is_number, number_in, number_below}
 
 own : IsNumeralModel (λ digits. list_all is_digit digits ≡ true) (value_after 0)
 own = numerals_by_fold _ (search rules) value_after (search rules)
@@ -27,3 +29,27 @@ left_of_and a b h = grind (arith, common_steps)
 
 pub IsUtf8-number : (bytes : List ℕ) → is_number bytes ≡ true → IsUtf8 bytes
 IsUtf8-number bytes h = IsUtf8-from_ascii bytes (IsAscii-from_digits bytes (own.to bytes (left_of_and _ _ h)))
+
+-- ---- a number as it is written
+
+is_number-decimal : (n : ℕ) → n < 2 ^ 64 → is_number (decimal n) ≡ true
+is_number-decimal zero h = rw (decimal_digit zero (omega arith)) refl
+is_number-decimal (suc n) h =
+    let digits : list_all is_digit (decimal (suc n)) ≡ true = digits_decimal own (suc n) h in
+    let first : 48 < get_or (decimal (suc n)) 0 0 = first_decimal (suc n) (omega arith) h in
+    grind (arith, nat_tests)
+
+pub number_in-decimal : (n : ℕ) → n < 2 ^ 64 → number_in (decimal n) ≡ Some n
+unfolding number_in
+number_in-decimal n h =
+    let number = is_number-decimal n h in
+    let value : value_of (decimal n) ≡ n = digits_value-decimal own n h in
+    let some : 0 < length (decimal n) = decimal_nonempty n h in
+    rw (number, value) (grind (arith, nat_tests))
+
+pub number_below-decimal : (limit column n : ℕ) → n < limit → n < 2 ^ 64 → number_below limit (record { column = column; bytes = decimal n }) ≡ Ok n
+unfolding number_below
+number_below-decimal limit column n h k = rw (number_in-decimal n k) (grind (arith, nat_tests))
+
+pub all_digits-decimal : (n : ℕ) → n < 2 ^ 64 → list_all is_digit (decimal n) ≡ true
+all_digits-decimal n h = digits_decimal own n h

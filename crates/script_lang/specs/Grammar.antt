@@ -1,79 +1,159 @@
 -- Which line is which step, and where the first word that does not fit stands.
-use Rattle.std.specs.Prelude.{ℕ, ◌+◌, ◌^◌, ◌==◌, nat_eq, Bool, ◌||◌, if◌then◌else◌, List, length, codes, slice_index, Some, Result, Ok, Err}
-use Rattle.std.specs.List.{starts_with}
-use lib.Pointwise.{pointwise}
+use Rattle.std.specs.Prelude.{ℕ, ◌+◌, ◌^◌, ◌==◌, Bool, ◌||◌, if◌then◌else◌, List, length, codes, slice_index, Option, Some, None, Result, Ok, Err}
 use Rattle.script_lang.specs.declared.line.BadKind.TheVariants as kind
 use Rattle.script_lang.specs.declared.line.BadLine.{BadLine}
 use Rattle.script_lang.specs.declared.line.LineAnswer.{LineAnswer}
 use Rattle.script_lang.specs.declared.line.LineAnswer.TheVariants as answer
+use Rattle.script_lang.specs.declared.fields.FieldKinds.TheVariants.{Request, Both}
 use Rattle.script_lang.specs.declared.step.Step.{Step}
-use Rattle.script_lang.specs.declared.step.Step.TheVariants.{Format, Put, Get}
-use Rattle.script_lang.specs.Words.{WordAt, Left, bad, take_word, take_end, ◌>>=◌}
-use Rattle.script_lang.specs.Tokens.{number_below, object_of, body_of}
-
--- a word that may be the name of a device: one that begins `mem:`
-abbrev pub is_name : List ℕ → Bool
-is_name bytes = starts_with nat_eq bytes (codes "mem:")
-
-unfoldable pub name_of : WordAt → Result (List ℕ) BadLine
-name_of w = if is_name w.bytes then Ok w.bytes else Err (bad w.column kind.Word)
+use Rattle.script_lang.specs.declared.step.Step.TheVariants as step
+use Rattle.script_lang.specs.declared.verbs.Verb.{Verb}
+use Rattle.script_lang.specs.declared.verbs.Verb.TheVariants as verb
+use Rattle.script_lang.specs.Words.{WordAt, bad, take_word, take_end, words_from, ◌>>=◌}
+use Rattle.script_lang.specs.Tokens.{number_below, object_of, body_of, actor_of}
+use Rattle.script_lang.specs.Fields.{fields_after, no_fields}
+use Rattle.script_lang.specs.Verbs.{same_word, verb_of}
 
 -- the next word as a number below a limit, and what is left
-unfoldable pub take_number : ℕ → ℕ → Left → Result (ℕ × Left) BadLine
-take_number limit end left = do
-  w ← take_word end left
+unfoldable pub take_number : ℕ → ℕ → List WordAt → Result (ℕ × List WordAt) BadLine
+take_number limit end words = do
+  w ← take_word end words
   n ← number_below limit w.0
   Ok (n, w.1)
 
--- format NAME S B N A R F G
-unfoldable pub format_of : ℕ → Left → Result Step BadLine
-format_of end left = do
-  w ← take_word end left
-  name ← name_of w.0
-  segments ← take_number (2 ^ 32) end w.1
-  buckets ← take_number (2 ^ 32) end segments.1
+-- the generation behind `default`, and the numbers of the usual geometry
+unfoldable pub usual_of : ℕ → List ℕ → List WordAt → Result Step BadLine
+usual_of end name words = do
+  generation ← take_number (2 ^ 64) end words
+  done ← take_end generation.1
+  Ok (step.Format name 4 8192 2097152 8192 65536 1048576 generation.0)
+
+-- seven numbers, of which the first was taken
+unfoldable pub numbers_of : ℕ → List ℕ → ℕ → List WordAt → Result Step BadLine
+numbers_of end name segments words = do
+  buckets ← take_number (2 ^ 32) end words
   content ← take_number (2 ^ 64) end buckets.1
   agg ← take_number (2 ^ 32) end content.1
   reach ← take_number (2 ^ 64) end agg.1
   fragment ← take_number (2 ^ 32) end reach.1
   generation ← take_number (2 ^ 64) end fragment.1
-  done ← take_end end generation.1
-  Ok (Format name segments.0 buckets.0 content.0 agg.0 reach.0 fragment.0 generation.0)
+  done ← take_end generation.1
+  Ok (step.Format name segments buckets.0 content.0 agg.0 reach.0 fragment.0 generation.0)
 
--- put OBJECT BODY
-unfoldable pub put_of : ℕ → Left → Result Step BadLine
-put_of end left = do
-  w ← take_word end left
+abbrev pub is_default : WordAt → Bool
+is_default w = same_word w.bytes (codes "default")
+
+-- a word behind the name: `default`, or the first of seven numbers
+abbrev pub geometry_of : ℕ → List ℕ → WordAt → List WordAt → Result Step BadLine
+geometry_of end name w words =
+    if is_default w then usual_of end name words else number_below (2 ^ 32) w >>= (λ segments. numbers_of end name segments words)
+
+-- format NAME S B N A R F G, or format NAME default G
+unfoldable pub format_of : ℕ → List WordAt → Result Step BadLine
+format_of end words = do
+  name ← take_word end words
+  w ← take_word end name.1
+  geometry_of end name.0.bytes w.0 w.1
+
+-- put OBJECT BODY FIELD*
+unfoldable pub put_of : ℕ → List WordAt → Result Step BadLine
+put_of end words = do
+  w ← take_word end words
   object ← object_of w.0
   v ← take_word end w.1
   body ← body_of v.0
-  done ← take_end end v.1
-  Ok (Put object body v.0.column)
+  sides ← fields_after Both no_fields v.1
+  Ok (step.Put object body sides.request sides.response)
 
--- get OBJECT
-unfoldable pub get_of : ℕ → Left → Result Step BadLine
-get_of end left = do
-  w ← take_word end left
+-- get OBJECT FIELD*
+unfoldable pub get_of : ℕ → List WordAt → Result Step BadLine
+get_of end words = do
+  w ← take_word end words
   object ← object_of w.0
-  done ← take_end end w.1
-  Ok (Get object)
+  sides ← fields_after Request no_fields w.1
+  Ok (step.Get object sides.request)
 
-abbrev pub same_word : List ℕ → List ℕ → Bool
-same_word a b = pointwise nat_eq a b
+-- the next word as an actor's name, and what is left
+unfoldable pub take_actor : ℕ → List WordAt → Result (List ℕ × List WordAt) BadLine
+take_actor end words = do
+  w ← take_word end words
+  actor ← actor_of w.0
+  Ok (actor, w.1)
 
--- the step that a verb begins
-unfoldable pub step_by : ℕ → WordAt → Left → Result Step BadLine
-step_by end verb left =
-    if same_word verb.bytes (codes "format") then format_of end left
-    else if same_word verb.bytes (codes "put") then put_of end left
-    else if same_word verb.bytes (codes "get") then get_of end left
-    else Err (bad verb.column kind.Verb)
+-- open-write ACTOR OBJECT PIN FIELD*
+unfoldable pub open_write_of : ℕ → List WordAt → Result Step BadLine
+open_write_of end words = do
+  actor ← take_actor end words
+  w ← take_word end actor.1
+  object ← object_of w.0
+  pin ← take_number (2 ^ 64) end w.1
+  sides ← fields_after Both no_fields pin.1
+  Ok (step.OpenWrite actor.0 object pin.0 sides.request sides.response)
+
+-- data ACTOR BODY
+unfoldable pub data_of : ℕ → List WordAt → Result Step BadLine
+data_of end words = do
+  actor ← take_actor end words
+  w ← take_word end actor.1
+  body ← body_of w.0
+  done ← take_end w.1
+  Ok (step.Feed actor.0 body)
+
+-- open-read ACTOR OBJECT FIELD*
+unfoldable pub open_read_of : ℕ → List WordAt → Result Step BadLine
+open_read_of end words = do
+  actor ← take_actor end words
+  w ← take_word end actor.1
+  object ← object_of w.0
+  sides ← fields_after Request no_fields w.1
+  Ok (step.OpenRead actor.0 object sides.request)
+
+-- an actor and no more: close ACTOR, abort ACTOR, next ACTOR, done ACTOR
+unfoldable pub only_actor : ℕ → List WordAt → Result (List ℕ) BadLine
+only_actor end words = do
+  actor ← take_actor end words
+  done ← take_end actor.1
+  Ok actor.0
+
+abbrev pub by_actor : ℕ → List WordAt → (List ℕ → Step) → Result Step BadLine
+by_actor end words make = only_actor end words >>= (λ actor. Ok (make actor))
+
+-- remove OBJECT
+unfoldable pub remove_of : ℕ → List WordAt → Result Step BadLine
+remove_of end words = do
+  w ← take_word end words
+  object ← object_of w.0
+  done ← take_end w.1
+  Ok (step.Remove object)
+
+-- flush
+abbrev pub flush_of : List WordAt → Result Step BadLine
+flush_of words = take_end words >>= (λ done. Ok step.Flush)
+
+-- the step of a verb and the words behind it
+abbrev pub step_by : ℕ → Verb → List WordAt → Result Step BadLine
+step_by end verb.Format words = format_of end words
+step_by end verb.Put words = put_of end words
+step_by end verb.Get words = get_of end words
+step_by end verb.OpenWrite words = open_write_of end words
+step_by end verb.Data words = data_of end words
+step_by end verb.Close words = by_actor end words step.Close
+step_by end verb.Abort words = by_actor end words step.Abort
+step_by end verb.OpenRead words = open_read_of end words
+step_by end verb.Next words = by_actor end words step.Next
+step_by end verb.Done words = by_actor end words step.Done
+step_by end verb.Remove words = remove_of end words
+step_by end verb.Flush words = flush_of words
+
+abbrev pub step_named : ℕ → WordAt → Option Verb → List WordAt → Result Step BadLine
+step_named end w None words = Err (bad w.column kind.Verb)
+step_named end w (Some verb) words = step_by end verb words
 
 -- the step that a line asks for
 unfoldable pub step_of : List ℕ → Result Step BadLine
 step_of line = do
-  verb ← take_word (length line + 1) (Some line)
-  step_by (length line + 1) verb.0 verb.1
+  w ← take_word (length line + 1) (words_from 1 line)
+  step_named (length line + 1) w.0 (verb_of w.0.bytes) w.1
 
 -- an empty line or a comment is passed over
 abbrev pub is_passed_over : List ℕ → Bool

@@ -1,6 +1,10 @@
 pub mod Words
 pub mod Taken
 pub mod Tokens
+pub mod Fields
 pub mod Refusal
+pub mod Verbs
 pub mod Grammar
 pub mod Texts
+pub mod Spelled
+pub mod Lines

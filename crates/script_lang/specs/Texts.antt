@@ -1,23 +1,25 @@
 -- The text of each answer: one line, ended by a newline.
-use Rattle.std.specs.Prelude.{ℕ, ◌==◌, nat_le, if◌then◌else◌, List, [], ◌∷◌, ◌++◌, length, codes}
+use Rattle.std.specs.Prelude.{ℕ, ◌==◌, nat_le, if◌then◌else◌, List, [], ◌∷◌, ◌++◌, length, codes, Option, Some, None}
 use Rattle.std.specs.Fmt.{decimal}
 use Rattle.sha2.specs.Sha256.{sha256}
 use Rattle.hex.specs.Hex.{encode_lower}
 use Rattle.tape_base.specs.declared.digests.Digest.{Digest}
-use Rattle.first_model.specs.declared.record.Cause.{Cause}
-use Rattle.first_model.specs.declared.record.Cause.TheVariants as cause
+use Rattle.cache_model.specs.declared.cause.Cause.{Cause}
+use Rattle.cache_model.specs.declared.cause.Cause.TheVariants as cause
 use Rattle.script_lang.specs.declared.line.BadKind.{BadKind}
 use Rattle.script_lang.specs.declared.line.BadKind.TheVariants as kind
 use Rattle.script_lang.specs.declared.answer.Refused.{Refused}
 use Rattle.script_lang.specs.declared.answer.Refused.TheVariants as refused
 use Rattle.script_lang.specs.declared.answer.StepAnswer.{StepAnswer}
 use Rattle.script_lang.specs.declared.answer.StepAnswer.TheVariants as answer
-use Rattle.script_lang.specs.declared.answer.LastLine.{LastLine}
-use Rattle.script_lang.specs.declared.answer.LastLine.TheVariants as last
+use Rattle.script_lang.specs.declared.last.LastLine.{LastLine}
+use Rattle.script_lang.specs.declared.last.LastLine.TheVariants as last
 
 -- a line's newline
 abbrev pub newline : List ℕ
 newline = 10 ∷ []
+
+-- ---- the parts of lines
 
 -- bytes as an answer shows them: none, up to 64 in hex, or their SHA-256
 unfoldable pub shown : List ℕ → List ℕ
@@ -25,6 +27,61 @@ shown bytes =
     if length bytes == 0 then codes "-"
     else if nat_le (length bytes) 64 then encode_lower bytes
     else codes "sha256 " ++ encode_lower (sha256 bytes)
+
+-- a word and a number
+unfoldable pub numbered : List ℕ → ℕ → List ℕ
+numbered word n = word ++ (codes " " ++ decimal n)
+
+unfoldable pub passed_text : ℕ → ℕ → List ℕ
+passed_text place floor = codes "passed " ++ (decimal place ++ (codes " " ++ decimal floor))
+
+unfoldable pub displaced_text : ℕ → ℕ → List ℕ
+displaced_text segment live = codes "displaced " ++ (decimal segment ++ (codes " " ++ decimal live))
+
+unfoldable pub damaged_text : ℕ → Digest → Digest → List ℕ
+damaged_text place kept found =
+    codes "damaged " ++ (decimal place ++ (codes " " ++ (encode_lower kept.0 ++ (codes " " ++ encode_lower found.0))))
+
+-- a cause, as a miss, a broken reader or a refusal tells it
+abbrev pub cause_text : Cause → List ℕ
+cause_text cause.NeverPut = codes "never-put"
+cause_text cause.Removed = codes "removed"
+cause_text (cause.Passed place floor) = passed_text place floor
+cause_text (cause.NoMatch count) = numbered (codes "no-match") count
+cause_text (cause.Displaced segment live) = displaced_text segment live
+cause_text (cause.Aborted writer) = numbered (codes "aborted") writer
+cause_text (cause.DeviceFault count) = numbered (codes "device-fault") count
+cause_text (cause.Damaged place kept found) = damaged_text place kept found
+
+unfoldable pub lost_text : ℕ → Cause → List ℕ
+lost_text index why = codes "lost " ++ (decimal index ++ (codes " " ++ cause_text why))
+
+abbrev pub refusal_text : Refused → List ℕ
+refusal_text (refused.Geometry number) = numbered (codes "geometry") number
+refusal_text refused.TooManyWriters = codes "too-many-writers"
+refusal_text refused.TooManyFragments = codes "too-many-fragments"
+refusal_text (refused.VectorTooLarge bytes) = numbered (codes "vector-too-large") bytes
+refusal_text (refused.Lost index why) = lost_text index why
+refusal_text refused.Sealed = codes "sealed"
+refusal_text refused.Exhausted = codes "exhausted"
+refusal_text refused.Busy = codes "busy"
+refusal_text refused.Idle = codes "idle"
+
+-- how many bytes were taken before, where that is told
+abbrev pub took_text : Option ℕ → List ℕ
+took_text None = []
+took_text (Some count) = codes " took " ++ decimal count
+
+-- the serial of the sync that ran, where one did
+abbrev pub synced_text : Option ℕ → List ℕ
+synced_text None = []
+synced_text (Some serial) = codes " synced " ++ decimal serial
+
+-- ---- the lines
+
+-- a line of a word and a number
+unfoldable pub number_line : List ℕ → ℕ → List ℕ
+number_line word n = word ++ (codes " " ++ (decimal n ++ newline))
 
 unfoldable pub formatted_line : ℕ → ℕ → ℕ → List ℕ
 formatted_line serial cursor floor =
@@ -38,38 +95,55 @@ unfoldable pub got_line : ℕ → ℕ → List ℕ → List ℕ
 got_line put length bytes =
     codes "got " ++ (decimal put ++ (codes " length " ++ (decimal length ++ (codes " " ++ (shown bytes ++ newline)))))
 
-unfoldable pub damaged_line : ℕ → Digest → Digest → List ℕ
-damaged_line place kept found =
-    codes "miss damaged " ++ (decimal place ++ (codes " " ++ (encode_lower kept.0 ++ (codes " " ++ (encode_lower found.0 ++ newline)))))
+unfoldable pub hit_line : ℕ → ℕ → List ℕ
+hit_line put length = codes "hit " ++ (decimal put ++ (codes " length " ++ (decimal length ++ newline)))
 
-unfoldable pub never_put_line : List ℕ
-never_put_line = codes "miss never-put" ++ newline
+unfoldable pub piece_line : ℕ → ℕ → List ℕ → List ℕ
+piece_line index length bytes =
+    codes "piece " ++ (decimal index ++ (codes " " ++ (decimal length ++ (codes " " ++ (shown bytes ++ newline)))))
 
-abbrev pub miss_line : Cause → List ℕ
-miss_line cause.NeverPut = never_put_line
-miss_line (cause.Damaged place kept found) = damaged_line place kept found
+unfoldable pub flushed_line : ℕ → ℕ → ℕ → Option ℕ → List ℕ
+flushed_line blocks cursor floor synced =
+    codes "flushed " ++ (decimal blocks ++ (codes " cursor " ++ (decimal cursor ++ (codes " floor " ++ (decimal floor ++ (synced_text synced ++ newline))))))
 
-unfoldable pub tape_end_line : List ℕ
-tape_end_line = codes "refused tape-end" ++ newline
+unfoldable pub refused_line : Refused → Option ℕ → List ℕ
+refused_line why took = codes "refused " ++ (refusal_text why ++ (took_text took ++ newline))
 
-unfoldable pub geometry_line : ℕ → List ℕ
-geometry_line number = codes "refused geometry " ++ (decimal number ++ newline)
+unfoldable pub fault_line : ℕ → Option ℕ → List ℕ
+fault_line count took = codes "device-fault " ++ (decimal count ++ (took_text took ++ newline))
 
-abbrev pub refused_line : Refused → List ℕ
-refused_line (refused.Geometry number) = geometry_line number
-refused_line refused.TapeEnd = tape_end_line
+unfoldable pub cause_line : List ℕ → Cause → List ℕ
+cause_line word why = word ++ (codes " " ++ (cause_text why ++ newline))
 
-unfoldable pub fault_line : ℕ → List ℕ
-fault_line count = codes "device-fault " ++ (decimal count ++ newline)
+-- a line of a word and a cause; a device's fault is the whole line
+abbrev pub why_line : List ℕ → Cause → List ℕ
+why_line word (cause.DeviceFault count) = fault_line count None
+why_line word why = cause_line word why
+
+unfoldable pub done_line : List ℕ
+done_line = codes "done" ++ newline
 
 -- the line of an answer
 abbrev pub answer_line : StepAnswer → List ℕ
 answer_line (answer.Formatted serial cursor floor) = formatted_line serial cursor floor
 answer_line (answer.Put put length fragments) = put_line put length fragments
 answer_line (answer.Got put length bytes) = got_line put length bytes
-answer_line (answer.Miss cause) = miss_line cause
-answer_line (answer.Refused why) = refused_line why
-answer_line (answer.DeviceFault count) = fault_line count
+answer_line (answer.Miss why) = why_line (codes "miss") why
+answer_line (answer.Broken why) = why_line (codes "broken") why
+answer_line (answer.Follow put) = number_line (codes "follow") put
+answer_line (answer.Writer put) = number_line (codes "writer") put
+answer_line (answer.Took count) = number_line (codes "took") count
+answer_line (answer.Aborted put) = number_line (codes "aborted") put
+answer_line (answer.Hit put length) = hit_line put length
+answer_line (answer.Piece index length bytes) = piece_line index length bytes
+answer_line (answer.End length) = number_line (codes "end") length
+answer_line (answer.NotYet cut) = number_line (codes "notyet") cut
+answer_line answer.Done = done_line
+answer_line (answer.Removed put) = number_line (codes "removed") put
+answer_line (answer.Absent why) = why_line (codes "absent") why
+answer_line (answer.Flushed blocks cursor floor synced) = flushed_line blocks cursor floor synced
+answer_line (answer.Refused why took) = refused_line why took
+answer_line (answer.DeviceFault count took) = fault_line count took
 
 -- ---- the last line of a run that ends early
 
@@ -79,6 +153,7 @@ kind_word kind.Word = codes "word"
 kind_word kind.Count = codes "count"
 kind_word kind.Number = codes "number"
 kind_word kind.Body = codes "body"
+kind_word kind.Field = codes "field"
 
 unfoldable pub usage_line : List ℕ
 usage_line = codes "error usage" ++ newline

@@ -107,3 +107,16 @@ body_by w None = hex_body w
 -- `-` for no bytes, else a byte repeated, else hex digits
 unfoldable pub body_of : WordAt → Result (List ℕ) BadLine
 body_of w = if is_dash w.bytes then Ok [] else body_by w (position is_star w.bytes)
+
+-- ---- actors
+
+-- a letter, a digit or `-`
+abbrev pub is_actor_byte : ℕ → Bool
+is_actor_byte byte = is_digit byte || (nat_le 65 byte && nat_le byte 90) || (nat_le 97 byte && nat_le byte 122) || byte == 45
+
+-- 1 to 32 of these name an actor
+abbrev pub is_actor : List ℕ → Bool
+is_actor bytes = nat_le 1 (length bytes) && nat_le (length bytes) 32 && list_all is_actor_byte bytes
+
+unfoldable pub actor_of : WordAt → Result (List ℕ) BadLine
+actor_of w = if is_actor w.bytes then Ok w.bytes else Err (bad w.column kind.Word)

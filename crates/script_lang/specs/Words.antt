@@ -1,33 +1,26 @@
 -- The words of a line: parted by one space each, and tested one by one from the left.
-use Rattle.std.specs.Prelude.{ℕ, ◌+◌, ◌-◌, ◌==◌, nat_le, Bool, not, ◌&&◌, if◌then◌else◌, List, length, take, drop, position, Option, Some, None, option_map, Result, Ok, Err}
-use Rattle.std.specs.List.{list_all}
+use Rattle.std.specs.Prelude.{ℕ, ◌+◌, ◌==◌, nat_le, Bool, true, false, not, ◌&&◌, if◌then◌else◌, List, [], ◌∷◌, length, Result, Ok, Err}
+use Rattle.std.specs.List.{list_all, slice_split}
 use Rattle.script_lang.specs.declared.line.BadKind.{BadKind}
 use Rattle.script_lang.specs.declared.line.BadKind.TheVariants.{Word, Count}
 use Rattle.script_lang.specs.declared.line.BadLine.{BadLine}
 
--- a word, and the column of its first byte, from 1
+-- what stands between two spaces, and the column of its first byte, from 1
 pub record WordAt : Type 0 where
   pub column : ℕ
   pub bytes : List ℕ
 
--- what is left of a line: nothing, or what stands behind a space
-abbrev pub Left : Type 0
-Left = Option (List ℕ)
-
 abbrev pub is_space : ℕ → Bool
 is_space byte = byte == 32
 
--- up to the first space, or all
-abbrev pub word_to : List ℕ → Option ℕ → List ℕ
-word_to bytes (Some at) = take at bytes
-word_to bytes None = bytes
+-- words of which the first begins at this column, each behind the space that ends the one before
+abbrev pub located : ℕ → List (List ℕ) → List WordAt
+located column [] = []
+located column (word ∷ words) = record { column = column; bytes = word } ∷ located (column + length word + 1) words
 
-abbrev pub first_word : List ℕ → List ℕ
-first_word bytes = word_to bytes (position is_space bytes)
-
--- what stands behind the first space
-abbrev pub behind_word : List ℕ → Left
-behind_word bytes = option_map (λ at. drop (at + 1) bytes) (position is_space bytes)
+-- the words of bytes that begin at this column
+abbrev pub words_from : ℕ → List ℕ → List WordAt
+words_from column bytes = located column (slice_split is_space bytes)
 
 -- a byte from 21 to 7E hex
 abbrev pub is_word_byte : ℕ → Bool
@@ -45,19 +38,21 @@ abbrev pub ◌>>=◌ : {A B : Type 0} → Result A BadLine → (A → Result B B
 Ok x >>= f = f x
 Err e >>= f = Err e
 
--- the column of what is left, in a line that ends before the column `end`
-abbrev pub column_of : ℕ → List ℕ → ℕ
-column_of end bytes = end - length bytes
+abbrev pub checked : WordAt → List WordAt → Result (WordAt × List WordAt) BadLine
+checked w words = if is_word w.bytes then Ok (w, words) else Err (bad w.column Word)
 
--- the next word, which has to be there and to be one, and what is left behind it
-unfoldable pub take_word : ℕ → Left → Result (WordAt × Left) BadLine
-take_word end None = Err (bad end Count)
-take_word end (Some bytes) =
-    if is_word (first_word bytes)
-    then Ok (record { column = column_of end bytes; bytes = first_word bytes }, behind_word bytes)
-    else Err (bad (column_of end bytes) Word)
+-- the next word, which has to be there and to be one, and what is left behind it, in a line that
+-- ends before the column `end`
+abbrev pub take_word : ℕ → List WordAt → Result (WordAt × List WordAt) BadLine
+take_word end [] = Err (bad end Count)
+take_word end (w ∷ words) = checked w words
 
 -- no word may follow
-unfoldable pub take_end : ℕ → Left → Result Unit BadLine
-take_end end None = Ok tt
-take_end end (Some bytes) = Err (bad (column_of end bytes) (if is_word (first_word bytes) then Count else Word))
+abbrev pub take_end : List WordAt → Result Unit BadLine
+take_end [] = Ok tt
+take_end (w ∷ words) = Err (bad w.column (if is_word w.bytes then Count else Word))
+
+-- whether a word follows
+abbrev pub has_more : List WordAt → Bool
+has_more [] = false
+has_more (w ∷ words) = true

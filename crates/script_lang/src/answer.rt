@@ -1,14 +1,26 @@
-// What the steps of a script answer, and how a run ends that does not answer them all.
-use crate::{BadLine, ByteList};
-use first_model::Cause;
+// What the steps of a script answer.
+use crate::ByteList;
+use cache_model::Cause;
 
 /// Why a step was not done.
 #[derive(Clone, Copy, Debug, PartialEq, Eq)]
 pub enum Refused {
     /// The number of the geometry that is outside, from 1 to 6 in the order of the line.
     Geometry { number: u32 },
-    /// The body would end above the tape.
-    TapeEnd,
+    TooManyWriters,
+    TooManyFragments,
+    /// The object's list of alternates would take so many bytes.
+    VectorTooLarge { bytes: u64 },
+    /// A fragment of the writer is gone.
+    Lost { index: u32, cause: Cause },
+    /// The writer takes no more bytes.
+    Sealed,
+    /// No numbers are left.
+    Exhausted,
+    /// The actor has a writer or a reader.
+    Busy,
+    /// The actor lacks the writer or the reader.
+    Idle,
 }
 
 #[derive(Debug, Drop)]
@@ -18,6 +30,7 @@ pub enum StepAnswer {
         cursor: u64,
         floor: u64,
     },
+    /// A put is whole, by `put` or by `close`.
     Put {
         put: u64,
         length: u64,
@@ -29,23 +42,55 @@ pub enum StepAnswer {
         bytes: ByteList,
     },
     Miss(Cause),
+    Broken(Cause),
+    /// The reader follows the writer of this put.
+    Follow {
+        put: u64,
+    },
+    Writer {
+        put: u64,
+    },
+    Took {
+        count: u64,
+    },
+    Aborted {
+        put: u64,
+    },
+    Hit {
+        put: u64,
+        length: u64,
+    },
+    Piece {
+        index: u32,
+        length: u32,
+        bytes: ByteList,
+    },
+    End {
+        length: u64,
+    },
+    /// The writer has cut so many pieces and not the next one.
+    NotYet {
+        cut: u32,
+    },
+    Done,
+    Removed {
+        put: u64,
+    },
+    Absent(Cause),
+    Flushed {
+        blocks: u32,
+        cursor: u64,
+        floor: u64,
+        synced: Option<u64>,
+    },
+    /// `took` is there for a line that gives bytes: how many of them the writer took.
     Refused {
         why: Refused,
+        took: Option<u64>,
     },
     /// The device refused a call; this is its count of faults.
     DeviceFault {
         count: u64,
+        took: Option<u64>,
     },
-}
-
-/// Why a run ends before its script does, as its last line says it. Lines count from 1.
-#[derive(Clone, Copy, Debug, PartialEq, Eq)]
-pub enum LastLine {
-    Usage,
-    BadScript { line: u64, fault: BadLine },
-    ReadFault,
-    BayFault,
-    LineTooLong { line: u64 },
-    TooManyLines,
-    NoCache { line: u64 },
 }

@@ -12,6 +12,8 @@ pub enum BadKind {
     Count,
     Number,
     Body,
+    /// The word is no field, or one that the line cannot take.
+    Field,
 }
 
 /// Where the first word that does not fit begins, in columns from 1, and why it does not fit.

@@ -1,6 +1,7 @@
 // The steps that the lines of a script ask for.
 ghost use Rattle.std.specs.Prelude.{◌≡◌};
 
+use alternate_vector::Fields;
 use std::marker::Model;
 use tape_base::Key;
 
@@ -45,14 +46,52 @@ pub enum Step {
         fragment: u32,
         generation: u64,
     },
-    /// Stores a body. `column` is that of the body's word, counted from 1.
+    /// Stores a body at once.
     Put {
         object: Key,
         body: ByteList,
-        column: u64,
+        request: Fields,
+        response: Fields,
     },
-    /// Reads the body of the last put.
+    /// Reads a whole body at once.
     Get {
         object: Key,
+        request: Fields,
     },
+    /// Opens a writer for an actor. The object is kept past the floor until `pin`.
+    OpenWrite {
+        actor: ByteList,
+        object: Key,
+        pin: u64,
+        request: Fields,
+        response: Fields,
+    },
+    /// Gives bytes to the actor's writer.
+    Feed {
+        actor: ByteList,
+        body: ByteList,
+    },
+    Close {
+        actor: ByteList,
+    },
+    Abort {
+        actor: ByteList,
+    },
+    /// Opens a reader for an actor.
+    OpenRead {
+        actor: ByteList,
+        object: Key,
+        request: Fields,
+    },
+    /// Reads the actor's next piece.
+    Next {
+        actor: ByteList,
+    },
+    Done {
+        actor: ByteList,
+    },
+    Remove {
+        object: Key,
+    },
+    Flush,
 }

@@ -1,10 +1,9 @@
 // The text of each answer: one line, ended by a newline.
-ghost use Rattle.std.specs.Prelude.{◌≡◌, IfOk, string_bytes};
-ghost use Rattle.hex.specs.Hex.{encode_lower};
-ghost use Rattle.script_lang.specs.Texts.{shown, formatted_line, put_line, got_line, damaged_line, never_put_line, miss_line, tape_end_line, geometry_line, refused_line, fault_line, answer_line, kind_word, usage_line, bad_script_line, read_fault_line, bay_fault_line, too_long_line, too_many_line, no_cache_line, last_line};
+ghost use Rattle.std.specs.Prelude.{◌≡◌, ◌++◌, IfOk, OnOk, OnErr, string_bytes};
+ghost use Rattle.script_lang.specs.Texts.{shown, numbered, passed_text, displaced_text, damaged_text, cause_text, lost_text, refusal_text, took_text, synced_text, number_line, formatted_line, put_line, got_line, hit_line, piece_line, flushed_line, refused_line, fault_line, cause_line, why_line, done_line, answer_line};
 
-use crate::{BadKind, BadLine, LastLine, Refused, StepAnswer};
-use first_model::Cause;
+use crate::{Refused, StepAnswer};
+use cache_model::Cause;
 use hex::encode;
 use sha2::{Digest as _, Sha256};
 use std::alloc::{AllocError, Global};
@@ -23,6 +22,104 @@ fn shown(alloc: Global, bytes: &[u8]) -> Result<String, AllocError>
     }
     let digest = encode(alloc, Sha256::digest(bytes).as_slice())?;
     format!(in alloc; "sha256 {digest}")
+}
+
+/// A word and a number.
+#[tactic(auto, unfolding(crate::specs::Texts::numbered))]
+fn numbered(alloc: Global, word: &str, n: u64) -> Result<String, AllocError>
+    ensures { IfOk result (λ text. string_bytes text ≡ numbered word.now n) }
+{
+    format!(in alloc; "{word} {n}")
+}
+
+#[tactic(auto, unfolding(crate::specs::Texts::passed_text))]
+fn passed(alloc: Global, place: u64, floor: u64) -> Result<String, AllocError>
+    ensures { IfOk result (λ text. string_bytes text ≡ passed_text place floor) }
+{
+    format!(in alloc; "passed {place} {floor}")
+}
+
+#[tactic(auto, unfolding(crate::specs::Texts::displaced_text))]
+fn displaced(alloc: Global, segment: u32, live: u64) -> Result<String, AllocError>
+    ensures { IfOk result (λ text. string_bytes text ≡ displaced_text segment live) }
+{
+    format!(in alloc; "displaced {segment} {live}")
+}
+
+#[tactic(auto, unfolding(crate::specs::Texts::damaged_text))]
+fn damaged(alloc: Global, place: u64, kept: Digest, found: Digest) -> Result<String, AllocError>
+    ensures { IfOk result (λ text. string_bytes text ≡ damaged_text place kept found) }
+{
+    let kept = encode(alloc, kept.0.as_slice())?;
+    let found = encode(alloc, found.0.as_slice())?;
+    format!(in alloc; "damaged {place} {kept} {found}")
+}
+
+fn cause(alloc: Global, why: Cause) -> Result<String, AllocError>
+    ensures { IfOk result (λ text. string_bytes text ≡ cause_text why) }
+{
+    match why {
+        Cause::NeverPut => String::from_str(alloc, "never-put"),
+        Cause::Removed => String::from_str(alloc, "removed"),
+        Cause::Passed { place, floor } => passed(alloc, place, floor),
+        Cause::NoMatch { count } => numbered(alloc, "no-match", count as u64),
+        Cause::Displaced { segment, live } => displaced(alloc, segment, live),
+        Cause::Aborted { writer } => numbered(alloc, "aborted", writer),
+        Cause::DeviceFault { count } => numbered(alloc, "device-fault", count),
+        Cause::Damaged { place, kept, found } => damaged(alloc, place, kept, found),
+    }
+}
+
+#[tactic(auto, unfolding(crate::specs::Texts::lost_text))]
+fn lost(alloc: Global, index: u32, why: Cause) -> Result<String, AllocError>
+    ensures { IfOk result (λ text. string_bytes text ≡ lost_text index why) }
+{
+    let why = cause(alloc, why)?;
+    format!(in alloc; "lost {index} {why}")
+}
+
+fn refusal(alloc: Global, why: Refused) -> Result<String, AllocError>
+    ensures { IfOk result (λ text. string_bytes text ≡ refusal_text why) }
+{
+    match why {
+        Refused::Geometry { number } => numbered(alloc, "geometry", number as u64),
+        Refused::TooManyWriters => String::from_str(alloc, "too-many-writers"),
+        Refused::TooManyFragments => String::from_str(alloc, "too-many-fragments"),
+        Refused::VectorTooLarge { bytes } => numbered(alloc, "vector-too-large", bytes),
+        Refused::Lost { index, cause } => lost(alloc, index, cause),
+        Refused::Sealed => String::from_str(alloc, "sealed"),
+        Refused::Exhausted => String::from_str(alloc, "exhausted"),
+        Refused::Busy => String::from_str(alloc, "busy"),
+        Refused::Idle => String::from_str(alloc, "idle"),
+    }
+}
+
+/// How many bytes were taken, where that is told.
+fn took(alloc: Global, count: Option<u64>) -> Result<String, AllocError>
+    ensures { IfOk result (λ text. string_bytes text ≡ took_text count) }
+{
+    match count {
+        None => Ok(String::new(alloc)),
+        Some(count) => format!(in alloc; " took {count}"),
+    }
+}
+
+/// The serial of the sync that ran, where one did.
+fn synced(alloc: Global, serial: Option<u64>) -> Result<String, AllocError>
+    ensures { IfOk result (λ text. string_bytes text ≡ synced_text serial) }
+{
+    match serial {
+        None => Ok(String::new(alloc)),
+        Some(serial) => format!(in alloc; " synced {serial}"),
+    }
+}
+
+/// The line of a word and a number.
+#[tactic(auto, unfolding(crate::specs::Texts::number_line))]
+fn number(alloc: Global, word: &str, n: u64) -> Result<String, AllocError>
+    ensures { IfOk result (λ text. string_bytes text ≡ number_line word.now n) }
+{
+    format!(in alloc; "{word} {n}\n")
 }
 
 #[tactic(auto, unfolding(crate::specs::Texts::formatted_line))]
@@ -47,63 +144,80 @@ fn got(alloc: Global, put: u64, length: u64, bytes: &[u8]) -> Result<String, All
     format!(in alloc; "got {put} length {length} {body}\n")
 }
 
-#[tactic(auto, unfolding(crate::specs::Texts::damaged_line))]
-fn damaged(alloc: Global, place: u64, kept: Digest, found: Digest) -> Result<String, AllocError>
-    ensures { IfOk result (λ text. string_bytes text ≡ damaged_line place kept found) }
+#[tactic(auto, unfolding(crate::specs::Texts::hit_line))]
+fn hit(alloc: Global, put: u64, length: u64) -> Result<String, AllocError>
+    ensures { IfOk result (λ text. string_bytes text ≡ hit_line put length) }
 {
-    let kept = encode(alloc, kept.0.as_slice())?;
-    let found = encode(alloc, found.0.as_slice())?;
-    format!(in alloc; "miss damaged {place} {kept} {found}\n")
+    format!(in alloc; "hit {put} length {length}\n")
 }
 
-#[tactic(auto, unfolding(crate::specs::Texts::never_put_line))]
-fn never_put(alloc: Global) -> Result<String, AllocError>
-    ensures { IfOk result (λ text. string_bytes text ≡ never_put_line) }
+#[tactic(auto, unfolding(crate::specs::Texts::piece_line))]
+fn piece(alloc: Global, index: u32, length: u32, bytes: &[u8]) -> Result<String, AllocError>
+    ensures { IfOk result (λ text. string_bytes text ≡ piece_line index length bytes.now) }
 {
-    String::from_str(alloc, "miss never-put\n")
+    let body = shown(alloc, bytes)?;
+    format!(in alloc; "piece {index} {length} {body}\n")
 }
 
-fn miss(alloc: Global, cause: Cause) -> Result<String, AllocError>
-    ensures { IfOk result (λ text. string_bytes text ≡ miss_line cause) }
+#[tactic(auto, unfolding(crate::specs::Texts::flushed_line))]
+fn flushed(
+    alloc: Global,
+    blocks: u32,
+    cursor: u64,
+    floor: u64,
+    serial: Option<u64>,
+) -> Result<String, AllocError>
+    ensures { IfOk result (λ text. string_bytes text ≡ flushed_line blocks cursor floor serial) }
 {
-    match cause {
-        Cause::NeverPut => never_put(alloc),
-        Cause::Damaged { place, kept, found } => damaged(alloc, place, kept, found),
-    }
+    let synced = synced(alloc, serial)?;
+    format!(in alloc; "flushed {blocks} cursor {cursor} floor {floor}{synced}\n")
 }
 
-#[tactic(auto, unfolding(crate::specs::Texts::tape_end_line))]
-fn tape_end(alloc: Global) -> Result<String, AllocError>
-    ensures { IfOk result (λ text. string_bytes text ≡ tape_end_line) }
+#[tactic(auto, unfolding(crate::specs::Texts::refused_line))]
+fn refused(alloc: Global, why: Refused, count: Option<u64>) -> Result<String, AllocError>
+    ensures { IfOk result (λ text. string_bytes text ≡ refused_line why count) }
 {
-    String::from_str(alloc, "refused tape-end\n")
-}
-
-#[tactic(auto, unfolding(crate::specs::Texts::geometry_line))]
-fn geometry(alloc: Global, number: u32) -> Result<String, AllocError>
-    ensures { IfOk result (λ text. string_bytes text ≡ geometry_line number) }
-{
-    format!(in alloc; "refused geometry {number}\n")
-}
-
-fn refused(alloc: Global, why: Refused) -> Result<String, AllocError>
-    ensures { IfOk result (λ text. string_bytes text ≡ refused_line why) }
-{
-    match why {
-        Refused::Geometry { number } => geometry(alloc, number),
-        Refused::TapeEnd => tape_end(alloc),
-    }
+    let why = refusal(alloc, why)?;
+    let took = took(alloc, count)?;
+    format!(in alloc; "refused {why}{took}\n")
 }
 
 #[tactic(auto, unfolding(crate::specs::Texts::fault_line))]
-fn fault(alloc: Global, count: u64) -> Result<String, AllocError>
-    ensures { IfOk result (λ text. string_bytes text ≡ fault_line count) }
+fn fault(alloc: Global, count: u64, taken: Option<u64>) -> Result<String, AllocError>
+    ensures { IfOk result (λ text. string_bytes text ≡ fault_line count taken) }
 {
-    format!(in alloc; "device-fault {count}\n")
+    let took = took(alloc, taken)?;
+    format!(in alloc; "device-fault {count}{took}\n")
+}
+
+/// The line of a word and a cause.
+#[tactic(auto, unfolding(crate::specs::Texts::cause_line))]
+fn told(alloc: Global, word: &str, why: Cause) -> Result<String, AllocError>
+    ensures { IfOk result (λ text. string_bytes text ≡ cause_line word.now why) }
+{
+    let why = cause(alloc, why)?;
+    format!(in alloc; "{word} {why}\n")
+}
+
+/// The line of a word and a cause, which a device's fault is by itself.
+fn why(alloc: Global, word: &str, why: Cause) -> Result<String, AllocError>
+    ensures { IfOk result (λ text. string_bytes text ≡ why_line word.now why) }
+{
+    match why {
+        Cause::DeviceFault { count } => fault(alloc, count, None),
+        _ => told(alloc, word, why),
+    }
+}
+
+#[tactic(auto, unfolding(crate::specs::Texts::done_line))]
+fn done(alloc: Global) -> Result<String, AllocError>
+    ensures { IfOk result (λ text. string_bytes text ≡ done_line) }
+{
+    String::from_str(alloc, "done\n")
 }
 
 /// The line of an answer, with its newline.
-pub fn answer_text(alloc: Global, answer: &StepAnswer) -> Result<String, AllocError>
+fn line(alloc: Global, answer: &StepAnswer) -> Result<String, AllocError>
     ensures { IfOk result (λ text. string_bytes text ≡ answer_line answer.now) }
 {
     match answer {
@@ -113,91 +227,45 @@ pub fn answer_text(alloc: Global, answer: &StepAnswer) -> Result<String, AllocEr
             floor,
         } => formatted(alloc, *serial, *cursor, *floor),
         StepAnswer::Put {
-            put: number,
+            put: id,
             length,
             fragments,
-        } => put(alloc, *number, *length, *fragments),
+        } => put(alloc, *id, *length, *fragments),
         StepAnswer::Got { put, length, bytes } => got(alloc, *put, *length, bytes.bytes()),
-        StepAnswer::Miss(cause) => miss(alloc, *cause),
-        StepAnswer::Refused { why } => refused(alloc, *why),
-        StepAnswer::DeviceFault { count } => fault(alloc, *count),
+        StepAnswer::Miss(cause) => why(alloc, "miss", *cause),
+        StepAnswer::Broken(cause) => why(alloc, "broken", *cause),
+        StepAnswer::Follow { put } => number(alloc, "follow", *put),
+        StepAnswer::Writer { put } => number(alloc, "writer", *put),
+        StepAnswer::Took { count } => number(alloc, "took", *count),
+        StepAnswer::Aborted { put } => number(alloc, "aborted", *put),
+        StepAnswer::Hit { put, length } => hit(alloc, *put, *length),
+        StepAnswer::Piece {
+            index,
+            length,
+            bytes,
+        } => piece(alloc, *index, *length, bytes.bytes()),
+        StepAnswer::End { length } => number(alloc, "end", *length),
+        StepAnswer::NotYet { cut } => number(alloc, "notyet", *cut as u64),
+        StepAnswer::Done => done(alloc),
+        StepAnswer::Removed { put } => number(alloc, "removed", *put),
+        StepAnswer::Absent(cause) => why(alloc, "absent", *cause),
+        StepAnswer::Flushed {
+            blocks,
+            cursor,
+            floor,
+            synced,
+        } => flushed(alloc, *blocks, *cursor, *floor, *synced),
+        StepAnswer::Refused { why, took } => refused(alloc, *why, *took),
+        StepAnswer::DeviceFault { count, took } => fault(alloc, *count, *took),
     }
 }
 
-fn kind_word(kind: BadKind) -> &'static str
-    ensures { result.now ≡ kind_word kind }
+/// Writes the line of an answer, with its newline, behind what stands in `out`. Without the memory
+/// for all of it nothing is written.
+pub fn answer_text(answer: &StepAnswer, out: &mut Vec<u8>) -> Result<(), AllocError>
+    ensures ok { OnOk result (out.new.items ≡ out.old.items ++ answer_line answer.now) }
+    ensures err { OnErr result (out.new.items ≡ out.old.items) }
 {
-    match kind {
-        BadKind::Verb => "verb",
-        BadKind::Word => "word",
-        BadKind::Count => "count",
-        BadKind::Number => "number",
-        BadKind::Body => "body",
-    }
-}
-
-/// The last line of a run whose words are no command. It takes no memory.
-#[tactic(auto, unfolding(crate::specs::Texts::usage_line))]
-pub fn usage_text() -> &'static str
-    ensures { result.now ≡ usage_line }
-{
-    "error usage\n"
-}
-
-#[tactic(auto, unfolding(crate::specs::Texts::bad_script_line))]
-fn bad_script(alloc: Global, line: u64, column: u64, kind: BadKind) -> Result<String, AllocError>
-    ensures { IfOk result (λ text. string_bytes text ≡ bad_script_line line column kind) }
-{
-    let word = kind_word(kind);
-    format!(in alloc; "error bad-script line {line} column {column} {word}\n")
-}
-
-#[tactic(auto, unfolding(crate::specs::Texts::read_fault_line))]
-fn read_fault(alloc: Global) -> Result<String, AllocError>
-    ensures { IfOk result (λ text. string_bytes text ≡ read_fault_line) }
-{
-    String::from_str(alloc, "error read-fault\n")
-}
-
-#[tactic(auto, unfolding(crate::specs::Texts::bay_fault_line))]
-fn bay_fault(alloc: Global) -> Result<String, AllocError>
-    ensures { IfOk result (λ text. string_bytes text ≡ bay_fault_line) }
-{
-    String::from_str(alloc, "error bay-fault\n")
-}
-
-#[tactic(auto, unfolding(crate::specs::Texts::too_long_line))]
-fn too_long(alloc: Global, line: u64) -> Result<String, AllocError>
-    ensures { IfOk result (λ text. string_bytes text ≡ too_long_line line) }
-{
-    format!(in alloc; "error line-too-long line {line}\n")
-}
-
-#[tactic(auto, unfolding(crate::specs::Texts::too_many_line))]
-fn too_many(alloc: Global) -> Result<String, AllocError>
-    ensures { IfOk result (λ text. string_bytes text ≡ too_many_line) }
-{
-    String::from_str(alloc, "error too-many-lines\n")
-}
-
-#[tactic(auto, unfolding(crate::specs::Texts::no_cache_line))]
-fn no_cache(alloc: Global, line: u64) -> Result<String, AllocError>
-    ensures { IfOk result (λ text. string_bytes text ≡ no_cache_line line) }
-{
-    format!(in alloc; "error no-cache line {line}\n")
-}
-
-/// The last line of a run that ends early, with its newline.
-pub fn last_line_text(alloc: Global, last: LastLine) -> Result<String, AllocError>
-    ensures { IfOk result (λ text. string_bytes text ≡ last_line last) }
-{
-    match last {
-        LastLine::Usage => String::from_str(alloc, usage_text()),
-        LastLine::BadScript { line, fault } => bad_script(alloc, line, fault.column, fault.kind),
-        LastLine::ReadFault => read_fault(alloc),
-        LastLine::BayFault => bay_fault(alloc),
-        LastLine::LineTooLong { line } => too_long(alloc, line),
-        LastLine::TooManyLines => too_many(alloc),
-        LastLine::NoCache { line } => no_cache(alloc, line),
-    }
+    let text = line(*out.allocator(), answer)?;
+    out.extend_from_slice(text.as_bytes())
 }

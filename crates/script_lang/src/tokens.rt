@@ -1,12 +1,12 @@
-// What single words spell: numbers, objects and bodies.
+// What single words spell: numbers, objects, bodies and actors.
 ghost use Rattle.std.specs.Prelude.{◌≡◌, ◌/◌, ◌+◌, ◌<◌, ◌≤◌, ◌^◌, ◌==◌, slice_index, true, IsTrue, length, take, drop, replicate, position, nat_le, ◌&&◌, false, Some, IfOk, IfSome, IfNone};
 ghost use Rattle.std.specs.List.{list_all};
-ghost use Rattle.script_lang.specs.Tokens.{is_digit, is_number, number_of, number_in, number_below, is_lower_hex, is_key_word, key_in, object_of, is_star, is_dash, hex_body, repeated_body, body_of};
+ghost use Rattle.script_lang.specs.Tokens.{is_digit, is_number, number_of, number_in, number_below, is_lower_hex, is_key_word, key_in, object_of, is_star, is_dash, hex_body, repeated_body, body_of, is_actor_byte, is_actor, actor_of};
 ghost use Rattle.script_lang.specs.Taken.{seen};
 ghost use Rattle.script_lang.specs.Words.{bad};
 ghost use Rattle.script_lang.specs.Refusal.{Reads};
 
-use crate::words::Word;
+use crate::left::Word;
 use crate::{BadKind, BadLine, ByteList};
 use hex::decode_to_slice;
 use std::alloc::{AllocError, Global};
@@ -15,6 +15,9 @@ use tape_base::Key;
 
 /// The longest URL, in bytes.
 const MAX_URL: usize = 4_096;
+
+/// The longest name of an actor.
+const MAX_ACTOR: usize = 32;
 
 /// The greatest count of a repeated byte.
 const MAX_REPEATS: u64 = 67_108_864;
@@ -232,4 +235,36 @@ pub(crate) fn body(alloc: Global, word: Word) -> Result<ByteList, Refusal>
         Some(star) => repeated_body(alloc, word, star),
         None => hex_body(alloc, word),
     }
+}
+
+fn is_actor_byte(byte: u8) -> bool
+    ensures { result ≡ is_actor_byte byte }
+{
+    matches!(byte, b'0'..=b'9' | b'A'..=b'Z' | b'a'..=b'z' | b'-')
+}
+
+fn are_actor_bytes(bytes: &[u8]) -> bool
+    ensures { result ≡ list_all is_actor_byte bytes.now }
+{
+    bytes.iter().all(|byte| is_actor_byte(*byte))
+}
+
+fn is_actor(bytes: &[u8]) -> bool
+    ensures { result ≡ is_actor bytes.now }
+{
+    !bytes.is_empty() && bytes.len() <= MAX_ACTOR && are_actor_bytes(bytes)
+}
+
+/// The actor that a word names.
+#[tactic(auto, unfolding(crate::specs::Tokens::actor_of))]
+pub(crate) fn actor(alloc: Global, word: Word) -> Result<ByteList, Refusal>
+    ensures { Reads (actor_of (seen word.entry)) result }
+{
+    if !is_actor(word.bytes) {
+        return Err(Refusal::Bad(BadLine {
+            column: word.column,
+            kind: BadKind::Word,
+        }));
+    }
+    Ok(ByteList::new(word.bytes.to_vec(alloc)?))
 }

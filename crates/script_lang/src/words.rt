@@ -1,27 +1,12 @@
 // The words of a line, taken one by one from the left.
-ghost use Rattle.std.specs.Prelude.{◌≡◌, ◌<◌, ◌+◌, length, position, IfSome, Some, IfOk, IfErr, IsTrue, false, if◌then◌else◌};
+ghost use Rattle.std.specs.Prelude.{◌≡◌, ◌+◌, ◌<◌, length, position, IfSome, IfOk, IfErr, IsTrue, false, if◌then◌else◌};
 ghost use Rattle.std.specs.List.{list_all};
 ghost use Rattle.std.specs.Option.{ForSome, option_copied};
+ghost use Rattle.script_lang.specs.Words.{is_space, is_word_byte, is_word, bad, take_end, has_more, words_from};
+ghost use Rattle.script_lang.specs.Taken.{first_word, behind_word, seen, TakesWord, words_in};
 
+use crate::left::{Word, Words};
 use crate::{BadKind, BadLine};
-
-/// A word, and the column of its first byte, counted from 1.
-#[derive(Clone, Copy)]
-pub(crate) struct Word<'a> {
-    pub column: u64,
-    pub bytes: &'a [u8],
-}
-
-/// What is left of a line: nothing, or what stands behind the last space that was passed.
-#[derive(Drop)]
-pub(crate) struct Words<'a> {
-    pub left: Option<&'a [u8]>,
-    pub end: u64,
-    ghost inside: { ForSome left (λ bytes. length bytes.now < end) },
-}
-
-ghost use Rattle.script_lang.specs.Words.{is_space, is_word_byte, first_word, behind_word, is_word, take_end, bad};
-ghost use Rattle.script_lang.specs.Taken.{TakesWord, seen};
 
 /// Where the first space stands.
 fn space_at(bytes: &[u8]) -> Option<usize>
@@ -51,7 +36,7 @@ fn is_printable(bytes: &[u8]) -> bool
 }
 
 /// Whether the bytes are a word: one or more, each from 21 to 7E hex.
-pub(crate) fn is_word(bytes: &[u8]) -> bool
+fn is_word(bytes: &[u8]) -> bool
     ensures { result ≡ is_word bytes.now }
 {
     !bytes.is_empty() && is_printable(bytes)
@@ -59,7 +44,7 @@ pub(crate) fn is_word(bytes: &[u8]) -> bool
 
 impl<'a> Words<'a> {
     pub(crate) fn new(line: &'a [u8]) -> Words<'a>
-        ensures left { option_copied result.left ≡ Some line.now }
+        ensures words { words_in result ≡ words_from 1 line.now }
         ensures end { result.end ≡ length line.now + 1 }
     {
         Words {
@@ -69,9 +54,9 @@ impl<'a> Words<'a> {
     }
 
     /// The next word.
-    #[tactic(auto, unfolding(crate::specs::Words::take_word))]
+    #[tactic(auto, using(crate::proofs::Cut::words_cut))]
     pub(crate) fn word(&mut self) -> Result<Word<'a>, BadLine>
-        ensures taken { TakesWord self.old.end (option_copied self.old.left) result (option_copied self.new.left) }
+        ensures taken { TakesWord self.old.end (words_in self.old) result (words_in self.new) }
         ensures end { self.new.end ≡ self.old.end }
     {
         match self.left {
@@ -88,10 +73,18 @@ impl<'a> Words<'a> {
         }
     }
 
+    /// Whether a word follows.
+    #[tactic(auto, using(crate::proofs::Cut::words_cut))]
+    pub(crate) fn has_more(&self) -> bool
+        ensures { result ≡ has_more (words_in self.now) }
+    {
+        self.left.is_some()
+    }
+
     /// Tests that no word follows.
-    #[tactic(auto, unfolding(crate::specs::Words::take_end))]
+    #[tactic(auto, using(crate::proofs::Cut::words_cut))]
     pub(crate) fn end(&self) -> Result<(), BadLine>
-        ensures { result ≡ take_end self.now.end (option_copied self.now.left) }
+        ensures { result ≡ take_end (words_in self.now) }
     {
         match self.left {
             None => Ok(()),

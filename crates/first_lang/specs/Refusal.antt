@@ -1,0 +1,14 @@
+-- What a call that may want memory reads, against what stands there.
+use Rattle.std.specs.Prelude.{◌≡◌, ⊤, Result, Ok, Err, MatchResult}
+use Rattle.first_lang.specs.declared.line.BadLine.{BadLine}
+use Rattle.first_lang.specs.declared.tokens.Refusal.{Refusal}
+use Rattle.first_lang.specs.declared.tokens.Refusal.TheVariants.{Bad, Memory}
+
+-- a fault is the one that stands there; nothing is said of want of memory
+abbrev pub IsFaultOf : {A : Type 0} → Result A BadLine → Refusal → Type 0
+IsFaultOf want (Bad fault) = want ≡ Err fault
+IsFaultOf want (Memory error) = ⊤
+
+-- the value is the one that stands there, and so is the fault
+abbrev pub Reads : {A : Type 0} → Result A BadLine → Result A Refusal → Type 0
+Reads want result = MatchResult result (λ value. want ≡ Ok value) (IsFaultOf want)

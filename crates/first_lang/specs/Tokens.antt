@@ -1,0 +1,109 @@
+-- What single words spell: numbers, objects and bodies.
+use Rattle.std.specs.Prelude.{ℕ, ◌+◌, ◌-◌, ◌*◌, ◌/◌, ◌^◌, ◌==◌, nat_le, nat_lt, Bool, not, ◌&&◌, ◌||◌, if◌then◌else◌, List, [], ◌∷◌, length, take, drop, position, replicate, codes, slice_index, Option, Some, None, Result, Ok, Err}
+use Rattle.std.specs.List.{list_all, starts_with}
+use Rattle.std.specs.Prelude.{nat_eq}
+use Rattle.hex.specs.Hex.{decode_sized}
+use Rattle.hex.specs.declared.error.FromHexError.{FromHexError}
+use Rattle.tape_base.specs.declared.keys.Key.{Key}
+use Rattle.tape_base.specs.Key.{key_of_bytes, key_of_url}
+use Rattle.first_lang.specs.declared.line.BadKind.TheVariants as kind
+use Rattle.first_lang.specs.declared.line.BadLine.{BadLine}
+use Rattle.first_lang.specs.Words.{WordAt, bad}
+
+-- ---- numbers
+
+abbrev pub is_digit : ℕ → Bool
+is_digit byte = nat_le 48 byte && nat_le byte 57
+
+-- the number that decimal digits write behind those of n
+abbrev pub value_after : ℕ → List ℕ → ℕ
+value_after n [] = n
+value_after n (digit ∷ digits) = value_after (10 * n + (digit - 48)) digits
+
+abbrev pub value_of : List ℕ → ℕ
+value_of digits = value_after 0 digits
+
+-- digits alone, without a zero before others
+abbrev pub is_number : List ℕ → Bool
+is_number bytes = list_all is_digit bytes && (length bytes == 1 || not (slice_index bytes 0 == 48))
+
+-- the number of one or more digits, if it is below 2^64
+abbrev pub number_of : List ℕ → Option ℕ
+number_of digits = if nat_lt 0 (length digits) && nat_lt (value_of digits) (2 ^ 64) then Some (value_of digits) else None
+
+-- the number that a word spells
+unfoldable pub number_in : List ℕ → Option ℕ
+number_in bytes = if is_number bytes then number_of bytes else None
+
+-- a number below a limit
+abbrev pub below : ℕ → WordAt → Option ℕ → Result ℕ BadLine
+below limit w (Some n) = if nat_lt n limit then Ok n else Err (bad w.column kind.Number)
+below limit w None = Err (bad w.column kind.Number)
+
+unfoldable pub number_below : ℕ → WordAt → Result ℕ BadLine
+number_below limit w = below limit w (number_in w.bytes)
+
+-- ---- objects
+
+abbrev pub is_lower_hex : ℕ → Bool
+is_lower_hex byte = is_digit byte || (nat_le 97 byte && nat_le byte 102)
+
+-- `key:` and 32 lower-case hex digits
+abbrev pub is_key_word : List ℕ → Bool
+is_key_word bytes = length bytes == 36 && starts_with nat_eq bytes (codes "key:") && list_all is_lower_hex (drop 4 bytes)
+
+abbrev pub key_by : Result (List ℕ) FromHexError → Option Key
+key_by (Ok bytes) = Some (key_of_bytes bytes)
+key_by (Err fault) = None
+
+unfoldable pub key_in : List ℕ → Option Key
+key_in bytes = if is_key_word bytes then key_by (decode_sized (drop 4 bytes) 16) else None
+
+abbrev pub object_by : WordAt → Option Key → Result Key BadLine
+object_by w (Some key) = Ok key
+object_by w None = if nat_le (length w.bytes) 4096 then Ok (key_of_url w.bytes) else Err (bad w.column kind.Word)
+
+-- the key that a word spells, or that of the URL that it is
+unfoldable pub object_of : WordAt → Result Key BadLine
+object_of w = object_by w (key_in w.bytes)
+
+-- ---- bodies
+
+abbrev pub is_star : ℕ → Bool
+is_star byte = byte == 42
+
+abbrev pub by_hex : WordAt → Result (List ℕ) FromHexError → Result (List ℕ) BadLine
+by_hex w (Ok bytes) = Ok bytes
+by_hex w (Err fault) = Err (bad w.column kind.Body)
+
+-- bytes in pairs of hex digits of either case
+unfoldable pub hex_body : WordAt → Result (List ℕ) BadLine
+hex_body w = by_hex w (decode_sized w.bytes (length w.bytes / 2))
+
+-- the greatest count of a repeated byte
+abbrev pub most_repeats : ℕ
+most_repeats = 67108864
+
+abbrev pub repeat_by : WordAt → ℕ → Result (List ℕ) FromHexError → Result (List ℕ) BadLine
+repeat_by w count (Ok bytes) = Ok (replicate count (slice_index bytes 0))
+repeat_by w count (Err fault) = Err (bad w.column kind.Body)
+
+abbrev pub repeat_times : WordAt → List ℕ → Option ℕ → Result (List ℕ) BadLine
+repeat_times w digits (Some count) =
+    if nat_le 1 count && nat_le count most_repeats then repeat_by w count (decode_sized digits 1) else Err (bad w.column kind.Body)
+repeat_times w digits None = Err (bad w.column kind.Body)
+
+-- a count, a star and the two hex digits of a byte
+unfoldable pub repeated_body : WordAt → ℕ → Result (List ℕ) BadLine
+repeated_body w star = repeat_times w (drop (star + 1) w.bytes) (number_in (take star w.bytes))
+
+abbrev pub is_dash : List ℕ → Bool
+is_dash bytes = length bytes == 1 && slice_index bytes 0 == 45
+
+abbrev pub body_by : WordAt → Option ℕ → Result (List ℕ) BadLine
+body_by w (Some star) = repeated_body w star
+body_by w None = hex_body w
+
+-- `-` for no bytes, else a byte repeated, else hex digits
+unfoldable pub body_of : WordAt → Result (List ℕ) BadLine
+body_of w = if is_dash w.bytes then Ok [] else body_by w (position is_star w.bytes)

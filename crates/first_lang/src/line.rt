@@ -1,0 +1,31 @@
+// What a line of a script turns out to be.
+use crate::Step;
+
+/// Why a word does not fit.
+#[derive(Clone, Copy, Debug, PartialEq, Eq)]
+pub enum BadKind {
+    /// The first word names no step.
+    Verb,
+    /// The word is empty, has a byte outside 21 to 7E hex, or is none of the words for its place.
+    Word,
+    /// Words are missing, or there are more than the line takes.
+    Count,
+    Number,
+    Body,
+}
+
+/// Where the first word that does not fit begins, in columns from 1, and why it does not fit.
+/// Where words are missing the column is one past the line's end.
+#[derive(Clone, Copy, Debug, PartialEq, Eq)]
+pub struct BadLine {
+    pub column: u64,
+    pub kind: BadKind,
+}
+
+#[derive(Debug, Drop)]
+pub enum LineAnswer {
+    Step(Step),
+    /// An empty line, or a comment.
+    Nothing,
+    Bad(BadLine),
+}

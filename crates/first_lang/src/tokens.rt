@@ -1,0 +1,235 @@
+// What single words spell: numbers, objects and bodies.
+ghost use Rattle.std.specs.Prelude.{◌≡◌, ◌/◌, ◌+◌, ◌<◌, ◌≤◌, ◌^◌, ◌==◌, slice_index, true, IsTrue, length, take, drop, replicate, position, nat_le, ◌&&◌, false, Some, IfOk, IfSome, IfNone};
+ghost use Rattle.std.specs.List.{list_all};
+ghost use Rattle.first_lang.specs.Tokens.{is_digit, is_number, number_of, number_in, number_below, is_lower_hex, is_key_word, key_in, object_of, is_star, is_dash, hex_body, repeated_body, body_of};
+ghost use Rattle.first_lang.specs.Taken.{seen};
+ghost use Rattle.first_lang.specs.Words.{bad};
+ghost use Rattle.first_lang.specs.Refusal.{Reads};
+
+use crate::words::Word;
+use crate::{BadKind, BadLine, ByteList};
+use hex::decode_to_slice;
+use std::alloc::{AllocError, Global};
+use std::str;
+use tape_base::Key;
+
+/// The longest URL, in bytes.
+const MAX_URL: usize = 4_096;
+
+/// The greatest count of a repeated byte.
+const MAX_REPEATS: u64 = 67_108_864;
+
+/// Why a line gives no step.
+#[derive(Debug, Drop)]
+pub(crate) enum Refusal {
+    Bad(BadLine),
+    Memory(AllocError),
+}
+
+impl From<BadLine> for Refusal {
+    ghost use Rattle.first_lang.specs.declared.tokens.Refusal.TheVariants.{Bad};
+
+    ghost from_gives = { λ fault refusal. refusal ≡ Bad fault };
+
+    fn from(fault: BadLine) -> Refusal {
+        Refusal::Bad(fault)
+    }
+}
+
+impl From<AllocError> for Refusal {
+    ghost use Rattle.first_lang.specs.declared.tokens.Refusal.TheVariants.{Memory};
+
+    ghost from_gives = { λ error refusal. refusal ≡ Memory error };
+
+    fn from(error: AllocError) -> Refusal {
+        Refusal::Memory(error)
+    }
+}
+
+fn are_digits(bytes: &[u8]) -> bool
+    ensures { result ≡ list_all is_digit bytes.now }
+{
+    bytes.iter().all(|byte| *byte >= b'0' && *byte <= b'9')
+}
+
+fn is_number(bytes: &[u8]) -> bool
+    ensures { result ≡ is_number bytes.now }
+{
+    are_digits(bytes) && (bytes.len() == 1 || !begins_with_zero(bytes))
+}
+
+fn begins_with_zero(bytes: &[u8]) -> bool
+    ensures { result ≡ (slice_index bytes.now 0 == 48) }
+{
+    match bytes.first() {
+        Some(first) => *first == b'0',
+        None => false,
+    }
+}
+
+/// The number that digits write, if it fits.
+fn parse(digits: &str) -> Option<u64>
+    requires { list_all is_digit digits.now ≡ true }
+    ensures { result ≡ number_of digits.now }
+{
+    digits.parse::<u64>().ok()
+}
+
+/// The number that these bytes spell: decimal digits, without a zero before others.
+#[tactic(auto, unfolding(crate::specs::Tokens::number_in))]
+pub(crate) fn number_in(bytes: &[u8]) -> Option<u64>
+    ensures { result ≡ number_in bytes.now }
+{
+    if !is_number(bytes) {
+        return None;
+    }
+    match str::from_utf8(bytes) {
+        Ok(text) => parse(text),
+        Err(_) => None,
+    }
+}
+
+#[tactic(auto, unfolding(crate::specs::Tokens::number_below))]
+pub(crate) fn long_number(word: Word) -> Result<u64, BadLine>
+    ensures { result ≡ number_below (2 ^ 64) (seen word.entry) }
+{
+    match number_in(word.bytes) {
+        Some(number) => Ok(number),
+        None => Err(BadLine {
+            column: word.column,
+            kind: BadKind::Number,
+        }),
+    }
+}
+
+#[tactic(auto, unfolding(crate::specs::Tokens::number_below))]
+pub(crate) fn short_number(word: Word) -> Result<u32, BadLine>
+    ensures { result ≡ number_below (2 ^ 32) (seen word.entry) }
+{
+    match number_in(word.bytes) {
+        Some(number) if number <= u32::MAX as u64 => Ok(number as u32),
+        _ => Err(BadLine {
+            column: word.column,
+            kind: BadKind::Number,
+        }),
+    }
+}
+
+fn are_lower_hex(bytes: &[u8]) -> bool
+    ensures { result ≡ list_all is_lower_hex bytes.now }
+{
+    bytes.iter().all(|byte| (*byte >= b'0' && *byte <= b'9') || (*byte >= b'a' && *byte <= b'f'))
+}
+
+/// Whether the bytes are `key:` and 32 lower-case hex digits.
+fn is_key_word(bytes: &[u8]) -> bool
+    ensures { result ≡ is_key_word bytes.now }
+{
+    bytes.len() == 36 && bytes.starts_with(b"key:") && are_lower_hex(&bytes[4..])
+}
+
+/// The key that the bytes spell.
+#[tactic(auto, unfolding(crate::specs::Tokens::key_in))]
+fn key_in(bytes: &[u8]) -> Option<Key>
+    ensures { result ≡ key_in bytes.now }
+{
+    if !is_key_word(bytes) {
+        return None;
+    }
+    let mut key = [0; 16];
+    match decode_to_slice(&bytes[4..], &mut key) {
+        Ok(()) => Some(Key::new(key)),
+        Err(_) => None,
+    }
+}
+
+/// The key of the object that a word names.
+#[tactic(auto, unfolding(crate::specs::Tokens::object_of))]
+pub(crate) fn object(word: Word) -> Result<Key, BadLine>
+    ensures { result ≡ object_of (seen word.entry) }
+{
+    match key_in(word.bytes) {
+        Some(key) => Ok(key),
+        None if word.bytes.len() <= MAX_URL => Ok(Key::of_url(word.bytes)),
+        None => Err(BadLine {
+            column: word.column,
+            kind: BadKind::Word,
+        }),
+    }
+}
+
+fn bad_body(word: Word) -> Refusal
+    ensures { result ≡ Refusal.Bad (bad word.entry.column BadKind.Body) }
+{
+    Refusal::Bad(BadLine {
+        column: word.column,
+        kind: BadKind::Body,
+    })
+}
+
+/// The bytes that pairs of hex digits spell.
+#[tactic(auto, unfolding(crate::specs::Tokens::hex_body))]
+fn hex_body(alloc: Global, word: Word) -> Result<ByteList, Refusal>
+    ensures { Reads (hex_body (seen word.entry)) result }
+{
+    let mut bytes = vec![in alloc; 0; word.bytes.len() / 2]?;
+    match decode_to_slice(word.bytes, &mut bytes) {
+        Ok(()) => Ok(ByteList::new(bytes)),
+        Err(_) => Err(bad_body(word)),
+    }
+}
+
+/// The count of a repeated byte, if it may be one.
+fn repeats(bytes: &[u8]) -> Option<u64>
+    ensures value { IfSome result (λ count. number_in bytes.now ≡ Some count) }
+    ensures fits { IfSome result (λ count. (1 ≤ count) × (count ≤ 67108864)) }
+    ensures none { IfNone result (IfSome (number_in bytes.now) (λ count. (nat_le 1 count && nat_le count 67108864) ≡ false)) }
+{
+    match number_in(bytes) {
+        Some(count) if count >= 1 && count <= MAX_REPEATS => Some(count),
+        _ => None,
+    }
+}
+
+/// The bytes of a count, a star and the hex digits of a byte.
+#[tactic(auto, unfolding(crate::specs::Tokens::repeated_body))]
+fn repeated_body(alloc: Global, word: Word, star: usize) -> Result<ByteList, Refusal>
+    requires { star < length word.bytes.now }
+    ensures { Reads (repeated_body (seen word.entry) star) result }
+{
+    let Some(count) = repeats(&word.bytes[..star]) else {
+        return Err(bad_body(word));
+    };
+    let mut byte = [0; 1];
+    match decode_to_slice(&word.bytes[star + 1..], &mut byte) {
+        Ok(()) => Ok(ByteList::new(vec![in alloc; byte[0]; count as usize]?)),
+        Err(_) => Err(bad_body(word)),
+    }
+}
+
+fn star_in(bytes: &[u8]) -> Option<usize>
+    ensures found { result ≡ position is_star bytes.now }
+    ensures within { IfSome result (λ at. at < length bytes.now) }
+{
+    bytes.iter().position(|byte| *byte == b'*')
+}
+
+fn is_dash(bytes: &[u8]) -> bool
+    ensures { result ≡ is_dash bytes.now }
+{
+    bytes.len() == 1 && bytes[0] == b'-'
+}
+
+/// The bytes of the body that a word spells.
+#[tactic(auto, unfolding(crate::specs::Tokens::body_of))]
+pub(crate) fn body(alloc: Global, word: Word) -> Result<ByteList, Refusal>
+    ensures { Reads (body_of (seen word.entry)) result }
+{
+    if is_dash(word.bytes) {
+        return Ok(ByteList::new(Vec::new(alloc)));
+    }
+    match star_in(word.bytes) {
+        Some(star) => repeated_body(alloc, word, star),
+        None => hex_body(alloc, word),
+    }
+}

@@ -1,0 +1,17 @@
+-- Each answer is one line, and so is the last line of a run that ends early.
+use Rattle.std.specs.Prelude.{ℕ, ◌≡◌, ◌==◌, Bool, true, false, not, ◌&&◌, List, [], ◌∷◌}
+use Rattle.script_lang.specs.declared.answer.StepAnswer.{StepAnswer}
+use Rattle.script_lang.specs.declared.last.LastLine.{LastLine}
+use Rattle.script_lang.specs.Texts.{answer_line, last_line}
+
+-- a newline at the end and nowhere else
+abbrev pub is_line : List ℕ → Bool
+is_line [] = false
+is_line (byte ∷ []) = byte == 10
+is_line (byte ∷ next ∷ rest) = not (byte == 10) && is_line (next ∷ rest)
+
+abbrev pub AnswersAreLines : Type 0
+AnswersAreLines = (answer : StepAnswer) → is_line (answer_line answer) ≡ true
+
+abbrev pub LastLinesAreLines : Type 0
+LastLinesAreLines = (last : LastLine) → is_line (last_line last) ≡ true

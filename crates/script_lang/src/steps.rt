@@ -1,0 +1,237 @@
+// The step of each verb, from the words behind it.
+ghost use Rattle.std.specs.Prelude.{◌≡◌, ◌^◌, codes};
+ghost use Rattle.script_lang.specs.Grammar.{take_number, usual_of, numbers_of, is_default, geometry_of, format_of, put_of, get_of, take_actor, open_write_of, data_of, open_read_of, only_actor, remove_of, flush_of, step_by};
+ghost use Rattle.script_lang.specs.Taken.{seen, words_in, TakesNumber};
+ghost use Rattle.script_lang.specs.Refusal.{Reads, Takes};
+
+use crate::fields::{FieldKinds, fields};
+use crate::left::{Word, Words};
+use crate::tokens::{Refusal, actor, body, long_number, object, short_number};
+use crate::verbs::{Verb, is_word};
+use crate::{BadLine, ByteList, Step};
+use std::alloc::Global;
+use tape_base::Geometry;
+
+/// The next word, as a number below 2^32.
+#[tactic(auto, unfolding(crate::specs::Grammar::take_number))]
+fn take_short(words: &mut Words) -> Result<u32, BadLine>
+    ensures taken { TakesNumber (2 ^ 32) words.old.end (words_in words.old) result (words_in words.new) }
+    ensures end { words.new.end ≡ words.old.end }
+{
+    let word = words.word()?;
+    short_number(word)
+}
+
+/// The next word, as a number below 2^64.
+#[tactic(auto, unfolding(crate::specs::Grammar::take_number))]
+fn take_long(words: &mut Words) -> Result<u64, BadLine>
+    ensures taken { TakesNumber (2 ^ 64) words.old.end (words_in words.old) result (words_in words.new) }
+    ensures end { words.new.end ≡ words.old.end }
+{
+    let word = words.word()?;
+    long_number(word)
+}
+
+/// The generation behind `default`, and the numbers of the usual geometry.
+#[tactic(auto, unfolding(crate::specs::Grammar::usual_of))]
+fn usual(name: ByteList, words: &mut Words) -> Result<Step, Refusal>
+    ensures { Reads (usual_of words.old.end name (words_in words.old)) result }
+{
+    let usual = Geometry::usual(take_long(words)?);
+    words.end()?;
+    Ok(Step::Format {
+        name,
+        segments: usual.segments,
+        buckets: usual.buckets,
+        content: usual.content,
+        agg: usual.agg,
+        reach: usual.reach,
+        fragment: usual.fragment,
+        generation: usual.generation,
+    })
+}
+
+/// The numbers of a geometry behind the first one.
+#[tactic(auto, unfolding(crate::specs::Grammar::numbers_of))]
+fn numbers(name: ByteList, segments: u32, words: &mut Words) -> Result<Step, Refusal>
+    ensures { Reads (numbers_of words.old.end name segments (words_in words.old)) result }
+{
+    let buckets = take_short(words)?;
+    let content = take_long(words)?;
+    let agg = take_short(words)?;
+    let reach = take_long(words)?;
+    let fragment = take_short(words)?;
+    let generation = take_long(words)?;
+    words.end()?;
+    Ok(Step::Format {
+        name,
+        segments,
+        buckets,
+        content,
+        agg,
+        reach,
+        fragment,
+        generation,
+    })
+}
+
+/// `default`, or the first of seven numbers, and the words behind it.
+fn geometry(name: ByteList, word: Word, words: &mut Words) -> Result<Step, Refusal>
+    ensures { Reads (geometry_of words.old.end name (seen word.entry) (words_in words.old)) result }
+{
+    if is_word(word.bytes, b"default") {
+        return usual(name, words);
+    }
+    let segments = short_number(word)?;
+    numbers(name, segments, words)
+}
+
+/// `format NAME S B N A R F G` or `format NAME default G`
+#[tactic(auto, unfolding(crate::specs::Grammar::format_of))]
+fn format_line(alloc: Global, words: &mut Words) -> Result<Step, Refusal>
+    ensures { Reads (format_of words.old.end (words_in words.old)) result }
+{
+    let name = words.word()?;
+    let word = words.word()?;
+    let name = ByteList::new(name.bytes.to_vec(alloc)?);
+    geometry(name, word, words)
+}
+
+/// `put OBJECT BODY FIELD*`
+#[tactic(auto, unfolding(crate::specs::Grammar::put_of))]
+fn put_line(alloc: Global, words: &mut Words) -> Result<Step, Refusal>
+    ensures { Reads (put_of words.old.end (words_in words.old)) result }
+{
+    let object = object(words.word()?)?;
+    let body = body(alloc, words.word()?)?;
+    let sides = fields(alloc, FieldKinds::Both, words)?;
+    Ok(Step::Put {
+        object,
+        body,
+        request: sides.request,
+        response: sides.response,
+    })
+}
+
+/// `get OBJECT FIELD*`
+#[tactic(auto, unfolding(crate::specs::Grammar::get_of))]
+fn get_line(alloc: Global, words: &mut Words) -> Result<Step, Refusal>
+    ensures { Reads (get_of words.old.end (words_in words.old)) result }
+{
+    let object = object(words.word()?)?;
+    let sides = fields(alloc, FieldKinds::Request, words)?;
+    Ok(Step::Get {
+        object,
+        request: sides.request,
+    })
+}
+
+/// The next word, as the name of an actor.
+#[tactic(auto, unfolding(crate::specs::Grammar::take_actor))]
+fn take_actor(alloc: Global, words: &mut Words) -> Result<ByteList, Refusal>
+    ensures taken { Takes (take_actor words.old.end (words_in words.old)) result (words_in words.new) }
+    ensures end { words.new.end ≡ words.old.end }
+{
+    let word = words.word()?;
+    actor(alloc, word)
+}
+
+/// `open-write ACTOR OBJECT PIN FIELD*`
+#[tactic(auto, unfolding(crate::specs::Grammar::open_write_of))]
+fn open_write_line(alloc: Global, words: &mut Words) -> Result<Step, Refusal>
+    ensures { Reads (open_write_of words.old.end (words_in words.old)) result }
+{
+    let actor = take_actor(alloc, words)?;
+    let object = object(words.word()?)?;
+    let pin = take_long(words)?;
+    let sides = fields(alloc, FieldKinds::Both, words)?;
+    Ok(Step::OpenWrite {
+        actor,
+        object,
+        pin,
+        request: sides.request,
+        response: sides.response,
+    })
+}
+
+/// `data ACTOR BODY`
+#[tactic(auto, unfolding(crate::specs::Grammar::data_of))]
+fn data_line(alloc: Global, words: &mut Words) -> Result<Step, Refusal>
+    ensures { Reads (data_of words.old.end (words_in words.old)) result }
+{
+    let actor = take_actor(alloc, words)?;
+    let body = body(alloc, words.word()?)?;
+    words.end()?;
+    Ok(Step::Feed { actor, body })
+}
+
+/// `open-read ACTOR OBJECT FIELD*`
+#[tactic(auto, unfolding(crate::specs::Grammar::open_read_of))]
+fn open_read_line(alloc: Global, words: &mut Words) -> Result<Step, Refusal>
+    ensures { Reads (open_read_of words.old.end (words_in words.old)) result }
+{
+    let actor = take_actor(alloc, words)?;
+    let object = object(words.word()?)?;
+    let sides = fields(alloc, FieldKinds::Request, words)?;
+    Ok(Step::OpenRead {
+        actor,
+        object,
+        request: sides.request,
+    })
+}
+
+/// An actor and no more.
+#[tactic(auto, unfolding(crate::specs::Grammar::only_actor))]
+fn only_actor(alloc: Global, words: &mut Words) -> Result<ByteList, Refusal>
+    ensures { Reads (only_actor words.old.end (words_in words.old)) result }
+{
+    let actor = take_actor(alloc, words)?;
+    words.end()?;
+    Ok(actor)
+}
+
+/// `remove OBJECT`
+#[tactic(auto, unfolding(crate::specs::Grammar::remove_of))]
+fn remove_line(words: &mut Words) -> Result<Step, Refusal>
+    ensures { Reads (remove_of words.old.end (words_in words.old)) result }
+{
+    let object = object(words.word()?)?;
+    words.end()?;
+    Ok(Step::Remove { object })
+}
+
+/// `flush`
+fn flush_line(words: &Words) -> Result<Step, Refusal>
+    ensures { Reads (flush_of (words_in words.now)) result }
+{
+    words.end()?;
+    Ok(Step::Flush)
+}
+
+/// The step of a verb and the words behind it.
+pub(crate) fn step_by(alloc: Global, verb: Verb, words: &mut Words) -> Result<Step, Refusal>
+    ensures { Reads (step_by words.old.end verb (words_in words.old)) result }
+{
+    match verb {
+        Verb::Format => format_line(alloc, words),
+        Verb::Put => put_line(alloc, words),
+        Verb::Get => get_line(alloc, words),
+        Verb::OpenWrite => open_write_line(alloc, words),
+        Verb::Data => data_line(alloc, words),
+        Verb::Close => Ok(Step::Close {
+            actor: only_actor(alloc, words)?,
+        }),
+        Verb::Abort => Ok(Step::Abort {
+            actor: only_actor(alloc, words)?,
+        }),
+        Verb::OpenRead => open_read_line(alloc, words),
+        Verb::Next => Ok(Step::Next {
+            actor: only_actor(alloc, words)?,
+        }),
+        Verb::Done => Ok(Step::Done {
+            actor: only_actor(alloc, words)?,
+        }),
+        Verb::Remove => remove_line(words),
+        Verb::Flush => flush_line(words),
+    }
+}
