@@ -8,6 +8,7 @@ use Rattle.tape_base.specs.declared.geometries.Geometry.{Geometry}
 use Rattle.tape_base.specs.Digest.{digest_of}
 use Rattle.doc_header.specs.Reading.{document_digest}
 use Rattle.fragment_table.specs.Table.{made_row}
+use Rattle.alternate_vector.specs.Field.{AreFields}
 use Rattle.alternate_vector.specs.Alternates.{Stored}
 use Rattle.cache_model.specs.declared.record.Rec.{Rec}
 use Rattle.cache_model.specs.declared.record.Rec.TheVariants as rec
@@ -92,8 +93,11 @@ committed = rec.Committed 1 k 4 ∷ []
 abbrev s4 : State
 s4 = after_all s3 committed
 
+no_fields : AreFields []
+no_fields = record { few = lit≤ tt; each = tt; rising = tt }
+
 opens : Does idle formatted (Write 0 k [] [] 0) opened Done
-opens = Legal.opens (record { who = record { 0 = 0 }; number = refl; quiet = refl; few = lit< tt; below = lit< tt; is = refl })
+opens = Legal.opens (record { who = record { 0 = 0 }; number = refl; quiet = refl; few = lit< tt; below = lit< tt; request_fits = no_fields; response_fits = no_fields; pin_fits = lit< tt; is = refl })
 
 is_writing_1 : IsWriting s1 1 w1
 is_writing_1 = record { quiet = refl; found = refl; is_open = refl }
@@ -211,7 +215,7 @@ abbrev aborted : List Rec
 aborted = aborted_record w1 ∷ []
 
 opens_full : Does faulty full (Write 0 k [] [] 0) opened Done
-opens_full = Legal.opens (record { who = record { 0 = 0 }; number = refl; quiet = refl; few = lit< tt; below = lit< tt; is = refl })
+opens_full = Legal.opens (record { who = record { 0 = 0 }; number = refl; quiet = refl; few = lit< tt; below = lit< tt; request_fits = no_fields; response_fits = no_fields; pin_fits = lit< tt; is = refl })
 
 faults : Does faulty f1 (Fragment 1 1 body) fault (Fails (Faulted 1))
 faults = Legal.DoesFragment.rooms w1

@@ -1,13 +1,14 @@
-mod Found
+pub mod Found
 mod Lists
 pub mod Laps
 pub mod Rows
 mod Places
 pub mod Steps
 pub mod Sound
+mod Aside
 pub mod Onward
 pub mod Known
-mod Answered
+pub mod Answered
 mod Asked
 mod Cleanup
 mod Backed
@@ -17,3 +18,7 @@ mod Determined
 mod Purged
 mod Possible
 mod Tried
+mod Merged
+mod VectorLaws
+mod Told
+mod ToldGroups

@@ -1,31 +1,22 @@
 -- Each group of records, each step and each legal chronicle is sound.
-use Rattle.std.proofs.Common.{◌≡◌, ℕ, ◌+◌, ◌≤◌, List, [], ◌∷◌, ◌++◌, sym, subst, arith, Bool}
+use Rattle.std.proofs.Common.{◌≡◌, ℕ, ◌+◌, ◌≤◌, List, [], ◌∷◌, sym, subst, arith, Bool}
 use Rattle.std.specs.Prelude.{Option, length}
 use Rattle.std.proofs.lemmas.Bool.{leb-true}
-use Rattle.tape_base.specs.declared.keys.Key.{Key}
 use Rattle.tape_base.specs.declared.geometries.Geometry.{Geometry}
 use Rattle.tape_base.specs.Blocks.{blocks_of}
 use Rattle.tape_base.specs.Digest.{digest_of}
-use Rattle.alternate_vector.specs.Field.{Field}
-use Rattle.fragment_table.specs.Table.{TableRow}
 use Rattle.cache_model.specs.declared.answer.NextAnswer.{NextAnswer}
-use Rattle.cache_model.specs.declared.answer.NextAnswer.TheVariants as next
-use Rattle.cache_model.specs.declared.answer.ReadAnswer.{ReadAnswer}
-use Rattle.cache_model.specs.declared.cause.Cause.{Cause}
 use Rattle.cache_model.specs.declared.record.Rec.{Rec}
 use Rattle.cache_model.specs.declared.record.Rec.TheVariants as rec
-use Rattle.cache_model.specs.State.{State, Row, ReaderRow, after_all, nothing_yet, floor_now}
+use Rattle.cache_model.specs.State.{State, after_all, nothing_yet, floor_now}
 use Rattle.cache_model.specs.Permit.{Permit, Intent, Flush, Write, Fragment, Overflow, Weigh, Finish, Commit, GiveUp, Remove, Look, ReadOn, ReadAll, StopReading, End, Work, Reason}
 use Rattle.cache_model.specs.Legal
 use Rattle.cache_model.specs.Legal.{Does, Advances, MayGrow, nothing, more, IsStep, IsLegal, Course, answer_record, format_records}
 use Rattle.cache_model.specs.Tape.{IsSound}
 use Rattle.cache_model.proofs.Laps.{next_fits}
 use Rattle.cache_model.proofs.Steps.{after_all-append}
-use Rattle.cache_model.proofs.Sound.{LeavesTape, AllLeaveTape, IsLater, later_self, later_trans, later_leaves, later_began, later_insert, displaced_leave}
-
-leave_append : (a b : List Rec) → AllLeaveTape a → AllLeaveTape b → AllLeaveTape (a ++ b)
-leave_append [] b h k = k
-leave_append (r ∷ a) b h k = (h.0, leave_append a b h.1 k)
+use Rattle.cache_model.proofs.Aside.{aside_append, aside_leaves, lookup_aside, one_aside, reading_on_aside}
+use Rattle.cache_model.proofs.Sound.{AllLeaveTape, IsLater, later_self, later_trans, later_leaves, later_began, later_insert, displaced_leave}
 
 leaving : (s : State) (added other : List Rec) → added ≡ other → AllLeaveTape other → IsSound s → IsLater s (after_all s added)
 leaving s added other is leave h = later_leaves s added (subst AllLeaveTape (sym is) leave) h
@@ -38,30 +29,8 @@ roomed p s bytes added e (Legal.MakesRoom.flushes x m) h = flushed s added m h
 roomed p s bytes added e (Legal.MakesRoom.stops count x m) h = leaving s added _ m.is (tt, tt) h
 roomed p s bytes added e (Legal.MakesRoom.exhausted x q is) h = leaving s added [] is tt h
 
-trouble_leaves : (p : Permit) (s : State) (row : Row) (before : List Rec) (why : Cause) → Legal.Trouble p s row before why → AllLeaveTape before
-trouble_leaves p s row before why (Legal.Trouble.faulted count w m) = (tt, tt)
-trouble_leaves p s row before why (Legal.Trouble.damaged found d) = (tt, tt)
-
-lookup_leaves : (p : Permit) (s : State) (key : Key) (request : List Field) (before : List Rec) (answer : ReadAnswer) → Legal.IsLookup p s key request before answer → AllLeaveTape before
-lookup_leaves p s key request before answer (Legal.IsLookup.verdict r) = tt
-lookup_leaves p s key request before answer (Legal.IsLookup.trouble row b why live t) = trouble_leaves p s row before why t
-
-fragment_leaves : (p : Permit) (s : State) (r : ReaderRow) (row : Row) (entry : TableRow) (before : List Rec) (why : Cause) → Legal.ReadTrouble p s r row entry before why → AllLeaveTape before
-fragment_leaves p s r row entry before why (Legal.ReadTrouble.troubled b c t) = trouble_leaves p s row before why t
-fragment_leaves p s r row entry before why (Legal.ReadTrouble.mismatched found hit m) = (tt, tt)
-
-reading_leaves : (p : Permit) (s : State) (r : ReaderRow) (before : List Rec) (answer : NextAnswer) → Legal.IsReading p s r before answer → AllLeaveTape before
-reading_leaves p s r before answer (Legal.IsReading.verdict x) = tt
-reading_leaves p s r before answer (Legal.IsReading.trouble entry row b why n live t) = fragment_leaves p s r row entry before why t
-
-answer_leaves : (reader : ℕ) (answer : NextAnswer) → LeavesTape (answer_record reader answer)
-answer_leaves reader (next.Gave index length) = tt
-answer_leaves reader (next.Ended length) = tt
-answer_leaves reader (next.Waited cut) = tt
-answer_leaves reader (next.Broke why) = tt
-
 read_on : (p : Permit) (s : State) (reader : ℕ) (answer : NextAnswer) (added : List Rec) → Legal.MayReadOn p s reader answer added → IsSound s → IsLater s (after_all s added)
-read_on p s reader answer added m h = leaving s added _ m.is (leave_append m.before _ (reading_leaves p s m.r m.before answer m.right) (answer_leaves reader answer, tt)) h
+read_on p s reader answer added m h = leaving s added _ m.is (aside_leaves _ (reading_on_aside p s reader answer added m)) h
 
 pub later_group : (p : Permit) (s : State) (i : Intent) (added : List Rec) (e : End) → Does p s i added e → IsSound s → IsLater s (after_all s added)
 later_group p s Flush added e (Legal.DoesFlush.empty q f is) h = leaving s added [] is tt h
@@ -93,7 +62,7 @@ later_group p s (GiveUp put) added e (Legal.DoesGiveUp.aborts w q is) h = leavin
 later_group p s (GiveUp put) added e (Legal.DoesGiveUp.over q o is) h = leaving s added [] is tt h
 later_group p s (Remove key) added e (Legal.DoesRemove.removes row q l is) h = leaving s added _ is (tt, tt) h
 later_group p s (Remove key) added e (Legal.DoesRemove.absent q l is) h = leaving s added [] is tt h
-later_group p s (Look actor key request) added e (Legal.DoesLook.looks m) h = leaving s added _ m.is (leave_append m.before _ (lookup_leaves p s key request m.before m.answer m.right) (tt, tt)) h
+later_group p s (Look actor key request) added e (Legal.DoesLook.looks m) h = leaving s added _ m.is (aside_leaves _ (aside_append m.before _ (lookup_aside p s key request m.before m.answer m.right) one_aside)) h
 later_group p s (ReadOn reader) added e (Legal.DoesReadOn.reads_on answer m) h = read_on p s reader answer added m h
 later_group p s (ReadAll reader) added e (Legal.DoesReadAll.reads_on answer x m y) h = read_on p s reader answer added m h
 later_group p s (ReadAll reader) added e (Legal.DoesReadAll.has_none q x is y) h = leaving s added [] is tt h

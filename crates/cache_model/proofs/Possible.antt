@@ -24,7 +24,7 @@ use Rattle.cache_model.specs.Room.{HasPlace, has_room, is_flush_exhausted, limit
 use Rattle.cache_model.specs.Legal
 use Rattle.cache_model.specs.Legal.{Does, IsQuiet, IsRead, IsReadWhereLive, IsGiven, IsDamaged, IsWritten, MayCount, MayReadOn, Trouble, DoesWrite, DoesOverflow, DoesCommit, DoesGiveUp, DoesReadAll, DoesStopReading, most_writers, open_writers, live_next, has_hit, MakesRoom, DoesFragment, DoesFinish, IsNext, IsCut, HasLost, AreLiveTo, IsFragmentLive, HasNoPlace, IsWriting, DoesWeigh, DoesFlush, DoesLook, DoesReadOn, DoesRemove, IsLookup, IsReading, FitsAlone, next_fragment_of, size_alone, vector_length}
 use Rattle.cache_model.specs.Choices
-use Rattle.cache_model.specs.Choices.{IsTried, IsTriedWhereLive, MayAsk, to_read}
+use Rattle.cache_model.specs.Choices.{IsTried, IsTriedWhereLive, MayAsk, MayAskWrite, to_read}
 use Rattle.cache_model.specs.Tape.{IsSound}
 use Rattle.cache_model.proofs.Found.{none_is, number_of}
 use Rattle.cache_model.proofs.Purged.{can_displace}
@@ -230,20 +230,23 @@ flush_case p s false false quiet empty is =
     (_, _, Legal.DoesFlush.flushes (record { can = record { quiet = quiet; filled = leb-false s.filled 0 empty; below = is }; is = refl }))
 flush_case p s false true quiet empty is = (_, _, Legal.DoesFlush.exhausted quiet (leb-false s.filled 0 empty) is refl)
 
-write_case : (s : State) (who : Actor) (key : Key) (request response : List Field) (pin : ℕ) (many high : Bool) → IsQuiet s
-    → nat_le most_writers (open_writers s) ≡ many → nat_le limit (s.next_put + 1) ≡ high → (added : List Rec) × (e : End) × DoesWrite s who.0 key request response pin added e
-write_case s who key request response pin true high quiet many above = (_, _, Legal.DoesWrite.many quiet (leb-true most_writers (open_writers s) many) refl)
-write_case s who key request response pin false true quiet many above =
-    (_, _, Legal.DoesWrite.exhausted quiet (leb-false most_writers (open_writers s) many) (leb-true limit (s.next_put + 1) above) refl)
-write_case s who key request response pin false false quiet many above = (
+write_case : (s : State) (actor : ℕ) (key : Key) (request response : List Field) (pin : ℕ) (many high : Bool) → MayAskWrite s actor request response pin
+    → nat_le most_writers (open_writers s) ≡ many → nat_le limit (s.next_put + 1) ≡ high → (added : List Rec) × (e : End) × DoesWrite s actor key request response pin added e
+write_case s actor key request response pin true high may many above = (_, _, Legal.DoesWrite.many may.quiet (leb-true most_writers (open_writers s) many) refl)
+write_case s actor key request response pin false true may many above =
+    (_, _, Legal.DoesWrite.exhausted may.quiet (leb-false most_writers (open_writers s) many) (leb-true limit (s.next_put + 1) above) refl)
+write_case s actor key request response pin false false may many above = (
   _,
   _,
   Legal.DoesWrite.opens (record {
-    who = who;
-    number = refl;
-    quiet = quiet;
+    who = may.number.0;
+    number = may.number.1;
+    quiet = may.quiet;
     few = leb-false most_writers (open_writers s) many;
     below = leb-false limit (s.next_put + 1) above;
+    request_fits = may.request_fits;
+    response_fits = may.response_fits;
+    pin_fits = may.pin_fits;
     is = refl;
   }),
 )
@@ -341,11 +344,6 @@ stop_case s reader (Some r) quiet reading = (_, _, Legal.DoesStopReading.closes 
 
 -- ---- each intent
 
-write_asked : (s : State) (actor : ℕ) (key : Key) (request response : List Field) (pin : ℕ) (who : Actor) → who.0 ≡ actor → IsQuiet s
-    → (added : List Rec) × (e : End) × DoesWrite s actor key request response pin added e
-write_asked s actor key request response pin who number quiet =
-    subst (λ n. (added : List Rec) × (e : End) × DoesWrite s n key request response pin added e) number (write_case s who key request response pin _ _ quiet refl refl)
-
 look_asked : (p : Permit) (s : State) (actor : ℕ) (key : Key) (request : List Field) (who : Actor) → who.0 ≡ actor → IsQuiet s → IsTriedWhereLive p s (live_vector_of s key)
     → (added : List Rec) × (e : End) × DoesLook p s actor key request added e
 look_asked p s actor key request who number quiet tried =
@@ -354,7 +352,7 @@ look_asked p s actor key request who number quiet tried =
 pub asked_is_answered : (p : Permit) (s : State) (i : Intent) → IsSound s → MayAsk s i → IsTriedWhereLive p s (to_read s i)
     → (added : List Rec) × (e : End) × Does p s i added e
 asked_is_answered p s Flush sound may tried = flush_case p s _ _ may refl refl
-asked_is_answered p s (Write actor key request response pin) sound may tried = write_asked s actor key request response pin may.1.0 may.1.1 may.0
+asked_is_answered p s (Write actor key request response pin) sound may tried = write_case s actor key request response pin _ _ may refl refl
 asked_is_answered p s (Fragment put index payload) sound may tried = a_fragment_can_be_asked p s put index payload may.0 sound may.1
 asked_is_answered p s (Overflow put) sound may tried = (_, _, Legal.DoesOverflow.aborts may.0 may.1 may.2 refl)
 asked_is_answered p s (Weigh put rest) sound may tried =

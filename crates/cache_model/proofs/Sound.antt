@@ -41,7 +41,7 @@ pub later_trans : (s t u : State) → IsLater s t → IsLater t u → IsLater s 
 later_trans s t u a b = record { sound = b.sound; geometry = b.geometry ∙ a.geometry; floor = omega arith }
 
 -- the buffer and what is known of places are as they were, and no row is new
-record SameTape (s t : State) : Type 0 where
+pub record SameTape (s t : State) : Type 0 where
   pub geometry : t.geometry ≡ s.geometry
   pub cursor : t.cursor ≡ s.cursor
   pub filled : t.filled ≡ s.filled
@@ -74,7 +74,7 @@ earlier_part key put (Some (Complete old)) rows = by (old == put)
 earlier_part key put (Some (TakenOut old)) rows = part_all rows
 earlier_part key put None rows = part_all rows
 
-leaves_one : (s : State) (r : Rec) → LeavesTape r → SameTape s (state_after s r)
+pub leaves_one : (s : State) (r : Rec) → LeavesTape r → SameTape s (state_after s r)
 leaves_one s (rec.Formatted geometry) h = absurd h
 leaves_one s (rec.Began cursor floor) h = absurd h
 leaves_one s (rec.Placed piece place blocks digest pin) h = absurd h

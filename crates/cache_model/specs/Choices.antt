@@ -7,7 +7,7 @@ use Rattle.tape_base.specs.declared.actors.Actor.{Actor}
 use Rattle.tape_base.specs.Digest.{digest_of}
 use Rattle.doc_header.specs.Reading.{document_digest, payload_of}
 use Rattle.fragment_table.specs.Table.{TableRow}
-use Rattle.alternate_vector.specs.Field.{Field}
+use Rattle.alternate_vector.specs.Field.{Field, AreFields}
 use Rattle.cache_model.specs.declared.answer.ReadAnswer.TheVariants as read
 use Rattle.cache_model.specs.declared.answer.NextAnswer.TheVariants as next
 use Rattle.cache_model.specs.declared.record.Rec.{Rec}
@@ -65,10 +65,18 @@ pub record IsPending (s : State) (put : ℕ) (w : PutRow) : Type 0 where
   pub is_open : w.writing ≡ Open
   pub pending : s.pending ≡ Some (vector_piece w.key put)
 
+-- a writer may be asked for with these lines and this pin
+pub record MayAskWrite (s : State) (actor : ℕ) (request response : List Field) (pin : ℕ) : Type 0 where
+  pub quiet : IsQuiet s
+  pub number : IsActor actor
+  pub request_fits : AreFields request
+  pub response_fits : AreFields response
+  pub pin_fits : pin < 2 ^ 64
+
 -- this may be asked here: no vector is pending but that of a commit, and what is spoken of is open
 abbrev pub MayAsk : State → Intent → Type 0
 MayAsk s Flush = IsQuiet s
-MayAsk s (Write actor key request response pin) = IsQuiet s × IsActor actor
+MayAsk s (Write actor key request response pin) = MayAskWrite s actor request response pin
 MayAsk s (Fragment put index payload) = (w : PutRow) × IsNext s put index payload w
 MayAsk s (Overflow put) = (w : PutRow) × IsWriting s put w × (length w.cuts ≡ most_fragments)
 MayAsk s (Weigh put rest) = (w : PutRow) × IsWriting s put w

@@ -1,6 +1,6 @@
 -- Which records a step adds: groups that stand together, each of which ends, leaves or refuses what
 -- was asked first.
-use Rattle.std.specs.Prelude.{ℕ, ◌≡◌, ◌≢◌, ◌+◌, ◌-◌, ◌*◌, ◌<◌, ◌≤◌, ◌==◌, Bool, true, false, if◌then◌else◌, List, [], ◌∷◌, ◌++◌, length, Option, Some, None, option_map, option_and_then, unwrap_or, is_some, cond, max}
+use Rattle.std.specs.Prelude.{ℕ, ◌≡◌, ◌≢◌, ◌+◌, ◌-◌, ◌*◌, ◌^◌, ◌<◌, ◌≤◌, ◌==◌, Bool, true, false, if◌then◌else◌, List, [], ◌∷◌, ◌++◌, length, Option, Some, None, option_map, option_and_then, unwrap_or, is_some, cond, max}
 use Rattle.std.specs.List.{count_by}
 use Rattle.edge_io.specs.Causes.{Rose}
 use Rattle.tape_base.specs.declared.keys.Key.{Key}
@@ -14,7 +14,7 @@ use Rattle.tape_base.specs.Geometry.{budget_of}
 use Rattle.tape_base.specs.Place.{floor_of}
 use Rattle.doc_header.specs.Reading.{document_digest, payload_of}
 use Rattle.fragment_table.specs.Table.{TableRow, made_row, total_length}
-use Rattle.alternate_vector.specs.Field.{Field}
+use Rattle.alternate_vector.specs.Field.{Field, AreFields}
 use Rattle.alternate_vector.specs.Alternates.{vector_size}
 use Rattle.alternate_vector.specs.Spelling.{vector_bytes}
 use Rattle.cache_model.specs.declared.cause.Cause.{Cause}
@@ -146,6 +146,9 @@ pub record MayOpenWrite (s : State) (actor : ℕ) (key : Key) (request response 
   pub quiet : IsQuiet s
   pub few : open_writers s < most_writers
   pub below : s.next_put + 1 < limit
+  pub request_fits : AreFields request
+  pub response_fits : AreFields response
+  pub pin_fits : pin < 2 ^ 64
   pub is : added ≡ rec.WriteOpened who s.next_put key request response pin ∷ []
 
 pub data DoesWrite (s : State) (actor : ℕ) (key : Key) (request response : List Field) (pin : ℕ) (added : List Rec) : End → Type 0 where

@@ -9,3 +9,4 @@ pub mod StepLaws
 pub mod Choices
 pub mod VerdictLaws
 pub mod Tape
+pub mod Vectors

@@ -5,6 +5,7 @@ ghost use Rattle.cache_model.specs.Choices.{GroupIsFixed, AskedIsAnswered, Answe
 ghost use Rattle.cache_model.specs.StepLaws.{RefusalEnds, NumbersFollow, FaultsRise, OneGroup, NothingAsked, FragmentIsCut, LiveIsRemoved, EmptyFlush, LookupIsOne, TooLargeIsNotPlaced, AllIsCutFirst, ReaderIsClosed, WriterIsEnded, TroubleIsBacked};
 ghost use Rattle.cache_model.specs.VerdictLaws.{HitMatches, CompleteIsHit, RemovedIsMissed, PassedIsMissed, FormattedIsEmpty, GivenIsOwn, EndIsWhole, FollowedIsClosed, WaitsForOpen};
 ghost use Rattle.cache_model.specs.Tape.{StepsAreSound, LegalIsSound, LiveIsKnown};
+ghost use Rattle.cache_model.specs.Vectors.{FormatsTell, GroupsTell, StepsTell, VectorsAreKept, LiveVectorIsListed, VectorIsReadBack, MergedIsSpelled};
 
 /// What each record makes of the place of each piece.
 pub fn place_follows()
@@ -195,4 +196,41 @@ pub fn followed_is_closed()
 /// A reader waits for an open writer alone.
 pub fn waits_for_open()
     ensures { WaitsForOpen }
+{}
+
+/// A format leaves no alternate that may not be kept.
+pub fn formats_tell()
+    ensures { FormatsTell }
+{}
+
+/// Each group of records leaves vectors that spell their alternates, and puts whose alternates may be
+/// kept.
+pub fn groups_tell()
+    ensures { GroupsTell }
+{}
+
+/// And so does each step.
+pub fn steps_tell()
+    ensures { StepsTell }
+{}
+
+/// In each legal chronicle each vector is the document that spells its alternates.
+pub fn vectors_are_kept()
+    ensures { VectorsAreKept }
+{}
+
+/// What a key's live vector lists are the key's alternates.
+pub fn live_vector_is_listed()
+    ensures { LiveVectorIsListed }
+{}
+
+/// Bytes of a vector's digest give its alternates back, or they and its document are two byte strings of
+/// one SHA-256.
+pub fn vector_is_read_back()
+    ensures { VectorIsReadBack }
+{}
+
+/// The vector that a put is to have is a piece, where that of its own alternate alone is one.
+pub fn merged_is_spelled()
+    ensures { MergedIsSpelled }
 {}

@@ -6,7 +6,7 @@ use Rattle.std.specs.Option.{option_or}
 use Rattle.std.specs.Str.{bytes_eq}
 use Rattle.std.proofs.lemmas.Slice.Eq.{bytes_eq-Decides}
 use Rattle.std.proofs.lemmas.Bool.{eqb-true, eq-eqb, and_parts, ltb-false, le-ltb}
-use Rattle.std.proofs.lemmas.List.{take-append-drop, take_at, length-append, length-take}
+use Rattle.std.proofs.lemmas.List.{take-append-drop, take_at, drop-take, drop_at, length-append, length-take}
 use Rattle.sha2.specs.Sha256.{sha256, digest_bytes}
 use Rattle.tape_base.specs.Key.{key_bytes, key_of_bytes}
 use Rattle.tape_base.specs.Blocks.{blocks_of}
@@ -20,7 +20,7 @@ use Rattle.doc_header.specs.Document.{name_bytes, field_bytes, header_bytes, doc
 use Rattle.doc_header.specs.Reading.{field_at, number_at, length_of, extent_of, doc_of, payload_of, kept_of, has_blocks, header_fault, address_fault, payload_fault, first_fault, document_digest, Answers}
 use Rattle.doc_header.proofs.Stands.{Stands, joined, AreWide, AreBytes, take-field, length-joined, joined_as_they_stand, stand_as_joined, field_behind, length-field, spelled_32, spelled_64, below_32, below_64, number_32_again, number_64_again, field_in_front, number_32_in_front, number_64_in_front}
 
-length-sha256 : (m : List ℕ) → length (sha256 m) ≡ 32
+pub length-sha256 : (m : List ℕ) → length (sha256 m) ≡ 32
 unfolding sha256 digest_bytes
 length-sha256 m = refl
 
@@ -49,6 +49,20 @@ length-check doc payload = omega (arith, length-take 16 (sha256 (field_bytes doc
 header_is : (doc : Doc) (payload : List ℕ) → header_bytes doc payload ≡ field_bytes doc payload ++ check_of (field_bytes doc payload)
 unfolding header_bytes
 header_is doc payload = refl
+
+length-header : (doc : Doc) (payload : List ℕ) → length (header_bytes doc payload) ≡ 128
+length-header doc payload =
+    let wide : length (field_bytes doc payload ++ check_of (field_bytes doc payload)) ≡ 128 =
+    omega (arith, length-append (field_bytes doc payload) (check_of (field_bytes doc payload)), length-fields doc payload, length-check doc payload) in
+    ap length (header_is doc payload) ∙ wide
+
+-- bytes that are those of a document, as far as they are looked at, tell its payload
+pub payload_told : (bytes : List ℕ) (doc : Doc) (payload : List ℕ) → take (extent_of bytes) bytes ≡ header_bytes doc payload ++ payload → payload_of bytes ≡ payload
+unfolding field_at
+payload_told bytes doc payload same =
+    let extent : 128 + length_of bytes ≡ extent_of bytes = omega arith in
+    sym (drop-take 128 (length_of bytes) bytes)
+    ∙ (ap (λ n. drop 128 (take n bytes)) extent ∙ (ap (drop 128) same ∙ drop_at (header_bytes doc payload) payload 128 (length-header doc payload)))
 
 -- ---- what passed, and what passes
 

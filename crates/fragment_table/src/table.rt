@@ -70,6 +70,7 @@ impl FragTable {
         ensures rows { self.new.rows ≡ self.old.rows }
         ensures room { OnOk result (more ≤ self.new.room) }
         ensures kept { self.old.room ≤ self.new.room }
+        ensures reserved { more ≤ self.old.room → IsOk result }
     {
         self.rows.reserve(more)
     }

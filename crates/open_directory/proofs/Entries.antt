@@ -1,11 +1,11 @@
 -- An entry that is written through, as the definitions change it.
 use Rattle.std.proofs.Common.{◌≡◌, ℕ, true, false, cond, List, [], ◌∷◌, ◌++◌, Some, None, refl, sym, ap, ◌∙◌, arith}
-use Rattle.std.specs.Map.{lookup, set_value}
+use Rattle.std.specs.Map.{lookup, remove_entry, set_value}
 use Rattle.fragment_table.specs.Table.{TableRow}
 use Rattle.open_directory.specs.declared.kept.KeptPut.{KeptPut}
 use Rattle.open_directory.specs.Directory.{changed, is_number, room_kept, room_of, with_cut, with_cuts, with_room}
 
-some_is : {X : Type 0} (a b : X) → Some a ≡ Some b → a ≡ b
+pub some_is : {X : Type 0} (a b : X) → Some a ≡ Some b → a ≡ b
 some_is a b h = grind arith
 
 pub written : {X : Type 0} (f : X → X) (n : ℕ) (es : List (ℕ × X)) (v : X) → lookup (is_number n) es ≡ Some v → set_value (is_number n) es (f v) ≡ changed f n es
@@ -22,6 +22,15 @@ absent f n (e ∷ es) h =
     elim (is_number n e.0) as (λ b. cond b (Some e.1) (lookup (is_number n) es) ≡ None → cond b ((e.0, f e.1) ∷ es) (e ∷ changed f n es) ≡ e ∷ es) [
       | true ↦ λ some. absurd (cc)
       | false ↦ λ rest. ap (λ xs. e ∷ xs) (absent f n es rest)
+    ] h
+
+-- what is not there is not removed
+pub not_removed : {X : Type 0} (n : ℕ) (es : List (ℕ × X)) → lookup (is_number n) es ≡ None → remove_entry (is_number n) es ≡ es
+not_removed n [] h = refl
+not_removed n (e ∷ es) h =
+    elim (is_number n e.0) as (λ b. cond b (Some e.1) (lookup (is_number n) es) ≡ None → cond b es (e ∷ remove_entry (is_number n) es) ≡ e ∷ es) [
+      | true ↦ λ some. absurd (cc)
+      | false ↦ λ rest. ap (λ xs. e ∷ xs) (not_removed n es rest)
     ] h
 
 -- a change that keeps what stands there

@@ -7,7 +7,7 @@ use Rattle.open_directory.specs.declared.nexts.Nexts.{Nexts}
 use Rattle.open_directory.specs.Directory.{changed, is_number}
 use Rattle.open_directory.specs.Nexts.{AllLeast, IsIndex, SetsIndex, next_for, next_of}
 use Rattle.open_directory.proofs.Followers.{same_number}
-use Rattle.open_directory.proofs.Standing.{eq_number}
+use Rattle.open_directory.proofs.Standing.{eq_number, number_flip}
 
 number_eq : (q n : ℕ) → (q == n) ≡ is_number n q
 number_eq q n = grind arith
@@ -23,6 +23,7 @@ indexed put reader next new index index' readers readers' before least sets find
   least = least;
   nexts = λ p q.
       sets p q
+      ∙ ap (λ b. if b && q == reader then next else next_of p q index) (eq_number put p)
       ∙ ap (λ b. if is_number put p && b then next else next_of p q index) (number_eq q reader)
       ∙ elim (is_number reader q) as (λ b. is_number reader q ≡ b → (if is_number put p && b then next else next_of p q index) ≡ next_for p (cond b new (lookup (is_number q) readers))) [
         | true ↦ λ t. elim (is_number put p) as (λ b. is_number put p ≡ b → (if b && true then next else next_of p q index) ≡ next_for p new) [
@@ -55,11 +56,8 @@ found_changed f n (e ∷ es) v h q =
       | false ↦ λ t found. behind t (found_changed f n es v found q)
     ] refl h
   where
-    flip : (a b : ℕ) → is_number a b ≡ is_number b a
-    flip a b = grind arith
-
     here : Some e.1 ≡ Some v → cond (is_number q n) (Some (f e.1)) (lookup (is_number q) es) ≡ cond (is_number n q) (Some (f v)) (cond (is_number q n) (Some e.1) (lookup (is_number q) es))
-    here found = rw (flip q n) (elim (is_number n q) as (λ b. cond b (Some (f e.1)) (lookup (is_number q) es) ≡ cond b (Some (f v)) (cond b (Some e.1) (lookup (is_number q) es))) [ true ↦ cc found | false ↦ refl ])
+    here found = rw (number_flip q n) (elim (is_number n q) as (λ b. cond b (Some (f e.1)) (lookup (is_number q) es) ≡ cond b (Some (f v)) (cond b (Some e.1) (lookup (is_number q) es))) [ true ↦ cc found | false ↦ refl ])
 
     behind : is_number n e.0 ≡ false → lookup (is_number q) (changed f n es) ≡ cond (is_number n q) (Some (f v)) (lookup (is_number q) es)
         → cond (is_number q e.0) (Some e.1) (lookup (is_number q) (changed f n es)) ≡ cond (is_number n q) (Some (f v)) (cond (is_number q e.0) (Some e.1) (lookup (is_number q) es))

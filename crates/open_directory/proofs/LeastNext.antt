@@ -1,17 +1,13 @@
 -- The least next index, and who is there.
 use Rattle.std.proofs.Common.{◌≡◌, ℕ, ◌/◌, ◌%◌, ◌+◌, ◌*◌, ◌≤◌, true, false, cond, List, [], ◌∷◌, Option, Some, None, min, ◌⊎◌, inl, inr, refl, sym, ap, ◌∙◌, subst, fold, arith}
 use Rattle.std.specs.Prelude.{◌==◌, if◌then◌else◌}
-use Rattle.std.specs.Ordering.{nat_cmp, is_eq}
-use Rattle.std.specs.declared.cmp.Ordering.TheVariants.{Less}
-use Rattle.std.specs.declared.cmp.Ordering.{Ordering}
-use Rattle.std.specs.List.{AllByRecursion}
-use Rattle.std.specs.List.Sorted.{IsStrictlySortedBy}
-use Rattle.std.specs.Map.{keys_of, lookup, values_of}
+use Rattle.std.specs.Map.{lookup, values_of}
 use Rattle.std.proofs.lemmas.Bool.{cases_lt}
-use Rattle.std.proofs.lemmas.Map.Keys.{sorted_head, sorted_tail}
 use Rattle.open_directory.specs.declared.kept.Reader.{Reader}
 use Rattle.open_directory.specs.Directory.{is_number, least_next, min_with}
+use Rattle.open_directory.specs.Readers.{Rises}
 use Rattle.open_directory.proofs.Followers.{is_number_self, same_number}
+use Rattle.open_directory.proofs.Rising.{absent_below}
 use Rattle.open_directory.specs.declared.nexts.Nexts.{Nexts}
 use Rattle.open_directory.specs.declared.nexts.Nexts.TheVariants.{Nobody, One, Fork'}
 use Rattle.open_directory.specs.Nexts.{HasLeast, least_of, lesser, next_at, next_for}
@@ -128,10 +124,6 @@ folded put least (e ∷ es) =
     step : (if e.1.put == put then min_with e.1.next least else least) ≡ lesser least (next_for put (Some e.1))
     step = elim (e.1.put == put) as (λ b. (if b then min_with e.1.next least else least) ≡ lesser least (if b then Some e.1.next else None)) [ true ↦ min_lesser e.1.next least | false ↦ sym (lesser_any least) ]
 
-none_behind : (k : ℕ) (es : List (ℕ × Reader)) → AllByRecursion (λ y. nat_cmp k y ≡ Less) (keys_of es) → lookup (is_number k) es ≡ None
-none_behind k [] h = refl
-none_behind k (e ∷ es) h = let P : Ordering → Type 0 = λ o. cond (is_eq o) (Some e.1) (lookup (is_number k) es) ≡ None in subst P (sym h.0) (none_behind k es h.1)
-
 first_least : (put : ℕ) (o : Option Reader) → IsLeast (next_for put o) (λ n. next_for put o ≡ Some n)
 first_least put o = alone (next_for put o)
   where
@@ -142,11 +134,11 @@ first_least put o = alone (next_for put o)
         above : (m n : ℕ) → Some m ≡ Some n → m ≤ n
         above m n h = grind arith
 
-least_in_list : (put : ℕ) (es : List (ℕ × Reader)) → IsStrictlySortedBy nat_cmp (keys_of es) → IsLeast (least_right put es) (HasReader put es)
-least_in_list put [] h = λ n k. absurd (let e = k.1 in cc e)
-least_in_list put (e ∷ es) h =
+least_in_list : (put low : ℕ) (es : List (ℕ × Reader)) → Rises low es → IsLeast (least_right put es) (HasReader put es)
+least_in_list put low [] h = λ n k. absurd (let e = k.1 in cc e)
+least_in_list put low (e ∷ es) h =
     least_of_both (next_for put (Some e.1)) (least_right put es) (λ n. next_for put (Some e.1) ≡ Some n) (HasReader put es) (HasReader put (e ∷ es))
-    (λ n k. side n k.0 k.1) (λ n k. (e.0, first n k)) (λ n k. (k.0, behind n k.0 k.1)) (first_least put (Some e.1)) (least_in_list put es (sorted_tail nat_cmp e.0 (keys_of es) h))
+    (λ n k. side n k.0 k.1) (λ n k. (e.0, first n k)) (λ n k. (k.0, behind n k.0 k.1)) (first_least put (Some e.1)) (least_in_list put (e.0 + 1) es h.1)
   where
     side : (n q : ℕ) → next_for put (lookup (is_number q) (e ∷ es)) ≡ Some n → (next_for put (Some e.1) ≡ Some n) ⊎ HasReader put es n
     side n q k = elim (is_number q e.0) as (λ b. next_for put (cond b (Some e.1) (lookup (is_number q) es)) ≡ Some n → (next_for put (Some e.1) ≡ Some n) ⊎ HasReader put es n) [ true ↦ λ x. inl x | false ↦ λ x. inr (q, x) ] k
@@ -159,14 +151,14 @@ least_in_list put (e ∷ es) h =
         elim (is_number q e.0) as (λ b. is_number q e.0 ≡ b → next_for put (cond b (Some e.1) (lookup (is_number q) es)) ≡ Some n) [
           | true ↦ λ t.
               let P : ℕ → Type 0 = λ m. lookup (is_number m) es ≡ None in
-              let gone : lookup (is_number q) es ≡ None = subst P (sym (same_number q e.0 t)) (none_behind e.0 es (sorted_head nat_cmp e.0 (keys_of es) h)) in
+              let gone : lookup (is_number q) es ≡ None = subst P (sym (same_number q e.0 t)) (absent_below e.0 (e.0 + 1) es (omega arith) h.1) in
               absurd (let none = ap (next_for put) gone in cc (none, k))
           | false ↦ λ t. k
         ] refl
 
 -- the least that the tree of a put has at hand is the least of its readers
-pub least_is : (put : ℕ) (nexts : Nexts) (es : List (ℕ × Reader)) → HasLeast nexts → ((q : ℕ) → next_at q nexts ≡ next_for put (lookup (is_number q) es)) → IsStrictlySortedBy nat_cmp (keys_of es)
+pub least_is : (put : ℕ) (nexts : Nexts) (es : List (ℕ × Reader)) → HasLeast nexts → ((q : ℕ) → next_at q nexts ≡ next_for put (lookup (is_number q) es)) → Rises 0 es
     → least_of nexts ≡ least_next put (values_of es)
-least_is put nexts es right same sorted =
-    least_alone (least_of nexts) (least_right put es) (HasNext nexts) (HasReader put es) (λ n k. (k.0, sym (same k.0) ∙ k.1)) (λ n k. (k.0, same k.0 ∙ k.1)) (least_in_tree nexts right) (least_in_list put es sorted)
+least_is put nexts es right same rise =
+    least_alone (least_of nexts) (least_right put es) (HasNext nexts) (HasReader put es) (λ n k. (k.0, sym (same k.0) ∙ k.1)) (λ n k. (k.0, same k.0 ∙ k.1)) (least_in_tree nexts right) (least_in_list put 0 es rise)
     ∙ sym (folded put None es)

@@ -1,5 +1,7 @@
 mod Entries
-mod Followers
+pub mod Followers
+mod Halves
 mod Indexed
 mod LeastNext
-mod Standing
+pub mod Rising
+pub mod Standing

@@ -52,6 +52,9 @@ kept_other f q n (e ∷ es) h =
 pub eq_number : (a b : ℕ) → (a == b) ≡ is_number a b
 eq_number a b = grind arith
 
+pub number_flip : (a b : ℕ) → is_number a b ≡ is_number b a
+number_flip a b = grind arith
+
 -- a put that is forgotten was not open
 unless_done_opens : (o : Option KeptPut) → is_open_put (unless_done o) ≡ is_open_put o
 unless_done_opens None = refl

@@ -18,11 +18,21 @@ use Rattle.open_directory.specs.declared.kept.Phase.TheVariants.{Writing, Closed
 use Rattle.open_directory.specs.declared.kept.PutState.{PutState}
 use Rattle.open_directory.specs.declared.kept.PutState.TheVariants.{Open, Committed, Aborted}
 
--- the open writers in the order of opening, and by their numbers the kept puts and the open readers
+-- the open writers in the order of opening, by their numbers the kept puts and the open readers, and how many more
+-- readers can be added without taking memory
 pub record Held : Type 0 where
   pub writers : List Writer
   pub puts : List (ℕ × KeptPut)
   pub readers : List (ℕ × Reader)
+  pub reader_room : ℕ
+
+-- a reader takes room of both tables
+abbrev pub room_now : ℕ → ℕ → ℕ
+room_now readers index = min readers index
+
+-- the same, with another room for readers
+abbrev pub with_reader_room : ℕ → Held → Held
+with_reader_room room held = record held { reader_room = room }
 
 -- the test for a number
 abbrev pub is_number : ℕ → ℕ → Bool

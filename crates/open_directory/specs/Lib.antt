@@ -1,5 +1,7 @@
 pub mod Directory
+pub mod Index
 pub mod Nexts
+pub mod Readers
 pub mod Refusal
 pub use Rattle.alternate_vector.specs.Field
 pub use Rattle.alternate_vector.specs.Vary

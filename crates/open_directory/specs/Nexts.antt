@@ -1,5 +1,5 @@
 -- The next indices of the readers of one put, as a tree by the numbers of the readers.
-use Rattle.std.specs.Prelude.{◌≡◌, ℕ, ◌/◌, ◌%◌, ◌==◌, if◌then◌else◌, min, Bool, true, false, ◌&&◌, List, Option, Some, None}
+use Rattle.std.specs.Prelude.{◌≡◌, ℕ, ◌/◌, ◌%◌, ◌==◌, if◌then◌else◌, min, Bool, true, false, ◌&&◌, nat_eq, List, Option, Some, None}
 use Rattle.std.specs.Map.{lookup}
 use Rattle.open_directory.specs.declared.kept.Reader.{Reader}
 use Rattle.open_directory.specs.Directory.{Held, IsHeld, is_number}
@@ -58,7 +58,7 @@ nexts_in (Some nexts) = nexts
 
 -- the readers of a put
 abbrev pub nexts_of : ℕ → List (ℕ × Nexts) → Nexts
-nexts_of put index = nexts_in (lookup (is_number put) index)
+nexts_of put index = nexts_in (lookup (nat_eq put) index)
 
 -- the next index of a reader of a put
 abbrev pub next_of : ℕ → ℕ → List (ℕ × Nexts) → Option ℕ
@@ -70,7 +70,7 @@ AllLeast index = (put : ℕ) → HasLeast (nexts_of put index)
 
 -- one reader of a put has this next index or is gone, and the others are as they were
 abbrev pub SetsIndex : ℕ → ℕ → Option ℕ → List (ℕ × Nexts) → List (ℕ × Nexts) → Type 0
-SetsIndex put reader next before after = (p q : ℕ) → next_of p q after ≡ (if is_number put p && q == reader then next else next_of p q before)
+SetsIndex put reader next before after = (p q : ℕ) → next_of p q after ≡ (if nat_eq put p && q == reader then next else next_of p q before)
 
 -- each reader is as it was
 abbrev pub KeepsIndex : List (ℕ × Nexts) → List (ℕ × Nexts) → Type 0

@@ -1,15 +1,16 @@
 // The open directory of a stripe.
 
-ghost use Rattle.std.specs.Prelude.{◌≡◌, ◌+◌, ◌<◌, ◌≤◌, length, [], None, OnOk, OnErr, IfOk, IfSome, false, if◌then◌else◌, is_some, option_map, true};
+ghost use Rattle.std.specs.Prelude.{◌≡◌, ◌+◌, ◌<◌, ◌≤◌, length, [], None, OnOk, OnErr, IsOk, IfOk, IfSome, false, if◌then◌else◌, is_some, true};
 ghost use Rattle.fragment_table.specs.Table.{CanGrow, made_row, total_length};
-ghost use Rattle.std.specs.Map.{lookup, values_of};
+ghost use Rattle.std.specs.Map.{values_of};
 ghost use Rattle.open_directory.specs.declared.kept.Writer.{Writer};
-ghost use Rattle.open_directory.specs.Directory.{IsHeld, changed, count_of, cuts_of, ended, followed, followers_of, is_ended_state, is_number, is_open, is_open_state, is_writing, least_next, moved, opened, reader_at, put_state, room_of, row_of, with_cut, with_reader, with_room, without_reader, writers_but, writers_of};
+ghost use Rattle.open_directory.specs.Directory.{IsHeld, count_of, cuts_of, ended, followed, followers_of, is_ended_state, is_open, is_open_state, is_writing, least_next, moved, opened, reader_at, put_state, room_of, row_of, with_cut, with_reader, with_reader_room, with_room, without_reader, writers_but, writers_of};
 ghost use Rattle.open_directory.specs.Refusal.{IsMemory, Refuses, RefusesOnly, opening_refusal, writing_refusal};
 
-use crate::index::{self, Index};
+use crate::index::Index;
 use crate::kept::{KeptPut, Phase, PutState, Reader, Writer};
 use crate::puts::{self, Puts};
+use crate::readers::Readers;
 use crate::refusal::OpenRefusal;
 use alternate_vector::Fields;
 use fragment_table::FragTable;
@@ -26,20 +27,21 @@ pub struct OpenDirectory {
     alloc: Global,
     writers: Vec<Writer>,
     puts: Puts,
-    readers: BTreeMap<u64, Reader>,
+    readers: Readers,
     index: Index,
 }
 
 impl Model for OpenDirectory {
-    ghost use Rattle.open_directory.specs.Directory.{Held, IsHeld};
+    ghost use Rattle.open_directory.specs.Directory.{Held, IsHeld, room_now};
+    ghost use Rattle.open_directory.specs.Index.{index_room};
 
     ghost Value = { Held };
 
-    ghost view = { λ d. record { writers = d.writers.items; puts = d.puts.entries; readers = d.readers.entries } };
+    ghost view = { λ d. record { writers = d.writers.items; puts = d.puts.entries; readers = d.readers.entries; reader_room = room_now d.readers.room (index_room d.index) } };
 
     ghost use Rattle.open_directory.specs.Nexts.{IsKept};
 
-    ghost invariant = { λ d. IsKept (record { writers = d.writers.items; puts = d.puts.entries; readers = d.readers.entries }) d.index.entries };
+    ghost invariant = { λ d. IsKept (record { writers = d.writers.items; puts = d.puts.entries; readers = d.readers.entries; reader_room = room_now d.readers.room (index_room d.index) }) d.index.trees.entries };
 }
 
 impl OpenDirectory {
@@ -53,8 +55,8 @@ impl OpenDirectory {
             alloc,
             writers: Vec::new(alloc),
             puts: BTreeMap::new(alloc),
-            readers: BTreeMap::new(alloc),
-            index: BTreeMap::new(alloc),
+            readers: Readers::new(alloc),
+            index: Index::new(alloc),
         }
     }
 
@@ -115,6 +117,7 @@ impl OpenDirectory {
         ensures exact { Refuses result (writing_refusal put self.old.puts) }
         ensures room { OnOk result (0 < room_of put self.new.puts) }
         ensures rest { self.new ≡ record self.old { puts = with_room put (room_of put self.new.puts) self.old.puts } }
+        ensures reserved { IsMemory result → room_of put self.old.puts ≡ 0 }
     {
         puts::reserve_row(&mut self.puts, put)
     }
@@ -145,23 +148,44 @@ impl OpenDirectory {
         self.end(put, Phase::GivenUp)
     }
 
+    /// Makes room so that so many more readers take no memory.
+    pub fn reserve_readers(&mut self, more: u32) -> Result<(), AllocError>
+        ensures room { OnOk result (more ≤ self.new.reader_room) }
+        ensures kept { self.old.reader_room ≤ self.new.reader_room }
+        ensures reserved { more ≤ self.old.reader_room → IsOk result }
+        ensures rest { self.new ≡ with_reader_room self.new.reader_room self.old }
+    {
+        self.readers.reserve(more as usize)?;
+        self.index.reserve(self.alloc, more)
+    }
+
     /// Adds a reader of a put.
     pub fn add_reader(&mut self, reader: u64, put: u64, next: u32) -> Result<(), AllocError>
         requires { reader_at reader self.old ≡ None }
-        ensures ok { OnOk result (self.new ≡ with_reader reader put next self.old) }
-        ensures err { OnErr result (self.new ≡ self.old) }
+        ensures ok { OnOk result (self.new ≡ with_reader_room self.new.reader_room (with_reader reader put next self.old)) }
+        ensures err { OnErr result (self.new ≡ with_reader_room self.new.reader_room self.old) }
+        ensures room { self.old.reader_room ≤ self.new.reader_room + 1 }
+        ensures reserved { 0 < self.old.reader_room → IsOk result }
+    {
+        self.reserve_readers(1)?;
+        self.enter_reader(reader, put, next);
+        Ok(())
+    }
+
+    // Adds a reader for which there is room.
+    fn enter_reader(&mut self, reader: u64, put: u64, next: u32)
+        requires new { reader_at reader self.old ≡ None }
+        requires room { 0 < self.old.reader_room }
+        ensures added { self.new ≡ with_reader_room self.new.reader_room (with_reader reader put next self.old) }
+        ensures room { self.old.reader_room ≤ self.new.reader_room + 1 }
     {
         let follows = puts::is_open(&self.puts, put);
         let _readers = self.readers.len();
-        index::add(&mut self.index, self.alloc, put, reader, next)?;
-        if let Err(failed) = self.readers.insert(reader, Reader { put, next, follows }) {
-            index::remove(&mut self.index, put, reader);
-            return Err(failed.into());
-        }
+        self.index.add(put, reader, next);
+        self.readers.add(reader, Reader { put, next, follows });
         if follows {
             puts::add_follower(&mut self.puts, put);
         }
-        Ok(())
     }
 
     /// Says which fragment a reader takes next, and whether there is that reader.
@@ -170,9 +194,9 @@ impl OpenDirectory {
         ensures moved { self.new ≡ moved reader next self.old }
         ensures none { result ≡ false → self.new ≡ self.old }
     {
-        match set_next(&mut self.readers, reader, next) {
+        match self.readers.set_next(reader, next) {
             Some(put) => {
-                index::set(&mut self.index, put, reader, next);
+                self.index.set(put, reader, next);
                 true
             }
             None => false,
@@ -182,12 +206,13 @@ impl OpenDirectory {
     /// Takes a reader out, and says whether there was that reader.
     pub fn drop_reader(&mut self, reader: u64) -> bool
         ensures found { result ≡ is_some (reader_at reader self.old) }
-        ensures gone { self.new ≡ without_reader reader self.old }
+        ensures gone { self.new ≡ with_reader_room self.new.reader_room (without_reader reader self.old) }
+        ensures room { self.old.reader_room ≤ self.new.reader_room }
         ensures none { result ≡ false → self.new ≡ self.old }
     {
-        match self.readers.remove(&reader) {
+        match self.readers.remove(reader) {
             Some(gone) => {
-                index::remove(&mut self.index, gone.put, reader);
+                self.index.remove(gone.put, reader);
                 if gone.follows {
                     puts::remove_follower(&mut self.puts, gone.put);
                 }
@@ -202,7 +227,7 @@ impl OpenDirectory {
         ensures { result ≡ least_next put (values_of self.now.readers) }
     {
         let _readers = self.readers.len();
-        index::least(&self.index, put)
+        self.index.least(put)
     }
 
     /// How a put stands, while it is open or a reader follows it.
@@ -217,7 +242,8 @@ impl OpenDirectory {
 
     /// The length and the digest of a fragment that was cut, counted from 1.
     pub fn row(&self, put: u64, index: u32) -> Option<(u32, Digest)>
-        ensures { result ≡ row_of index (cuts_of put self.now.puts) }
+        ensures row { result ≡ row_of index (cuts_of put self.now.puts) }
+        ensures few { IfSome result (λ row. index ≤ 4096) }
     {
         self.puts.get(&put)?.row(index)
     }
@@ -273,16 +299,4 @@ fn remove_writer(writers: &mut Vec<Writer>, put: u64)
     ensures fewer { length writers.new.items ≤ length writers.old.items }
 {
     writers.retain(|writer| writer.put != put);
-}
-
-// Writes the next index of a reader, and gives its put.
-#[tactic(auto, using(crate::proofs::Entries::absent, crate::proofs::Entries::written_as))]
-fn set_next(readers: &mut BTreeMap<u64, Reader>, reader: u64, next: u32) -> Option<u64>
-    ensures put { result ≡ option_map (λ r. r.put) (lookup (is_number reader) readers.old.entries) }
-    ensures moved { readers.new.entries ≡ changed (λ r. record r { next = next }) reader readers.old.entries }
-    ensures none { result ≡ None → readers.new.entries ≡ readers.old.entries }
-{
-    let found = readers.get_mut(&reader)?;
-    found.next = next;
-    Some(found.put)
 }

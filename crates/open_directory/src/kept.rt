@@ -1,6 +1,6 @@
 // What is kept of each writer, put and reader.
 
-ghost use Rattle.std.specs.Prelude.{◌≡◌};
+ghost use Rattle.std.specs.Prelude.{◌≡◌, ◌≤◌, IfSome};
 ghost use Rattle.open_directory.specs.Directory.{is_follow, row_of, state_of};
 
 use alternate_vector::{Fields, request_matches};
@@ -80,7 +80,8 @@ impl KeptPut {
 
     /// The length and the digest of a fragment, counted from 1.
     pub fn row(&self, index: u32) -> Option<(u32, Digest)>
-        ensures { result ≡ row_of index self.now.cuts.rows }
+        ensures row { result ≡ row_of index self.now.cuts.rows }
+        ensures few { IfSome result (λ row. index ≤ 4096) }
     {
         if index == 0 || self.cuts.len() < index {
             return None;

@@ -6,6 +6,7 @@ mod index;
 mod kept;
 mod nexts;
 mod puts;
+mod readers;
 mod refusal;
 
 pub use directory::OpenDirectory;

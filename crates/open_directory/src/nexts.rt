@@ -1,6 +1,6 @@
 // The next indices of the readers of one put, with the least of them at hand.
 
-ghost use Rattle.std.specs.Prelude.{◌≡◌, ◌≢◌, None, Some, OnOk, OnErr, IfOk, IsSome, true};
+ghost use Rattle.std.specs.Prelude.{◌≡◌, ◌≢◌, ◌+◌, ◌/◌, ◌<◌, ◌≤◌, ◌^◌, None, Some, OnOk, IsOk, IsSome, length, true};
 ghost use Rattle.open_directory.specs.declared.nexts.Nexts.TheVariants.{Nobody};
 ghost use Rattle.open_directory.specs.Nexts.{HasLeast, IsFork, KeepsNexts, SetsNext, SidesHaveLeast, is_nobody, is_one, least_of, lesser, next_at};
 
@@ -20,6 +20,38 @@ pub enum Nexts {
         even: Box<Nexts>,
         odd: Box<Nexts>,
     },
+}
+
+/// Memory for the two sides of a fork.
+#[derive(Debug, Drop)]
+pub(crate) struct Sides {
+    even: Box<Nexts>,
+    odd: Box<Nexts>,
+}
+
+impl Sides {
+    fn new(alloc: Global) -> Result<Sides, AllocError> {
+        let even = Box::new(alloc, Nexts::Nobody)?;
+        let odd = Box::new(alloc, Nexts::Nobody)?;
+        Ok(Sides { even, odd })
+    }
+}
+
+/// Makes memory for so many forks.
+pub(crate) fn spare_sides(
+    sides: &mut Vec<Sides>,
+    alloc: Global,
+    count: usize,
+) -> Result<(), AllocError>
+    ensures enough { OnOk result (count ≤ length sides.new.items) }
+    ensures kept { length sides.old.items ≤ length sides.new.items }
+    ensures reserved { count ≤ length sides.old.items → IsOk result }
+{
+    while sides.len() < count {
+        let more = Sides::new(alloc)?;
+        sides.push(more)?;
+    }
+    Ok(())
 }
 
 impl Nexts {
@@ -104,19 +136,17 @@ impl Nexts {
         }
     }
 
-    /// Adds a reader, or writes the next index of one that is there.
-    pub fn add(&mut self, alloc: Global, reader: u64, next: u32) -> Result<(), AllocError>
+    /// Adds a reader, or writes the next index of one that is there. There are no more forks than
+    /// a number has bits.
+    pub(crate) fn add(&mut self, sides: &mut Vec<Sides>, reader: u64, next: u32)
         requires least { HasLeast self.old }
+        requires room { 64 ≤ length sides.old.items }
         ensures least { HasLeast self.new }
-        ensures ok { OnOk result (SetsNext reader (Some next) self.old self.new) }
-        ensures err { OnErr result (KeepsNexts self.old self.new) }
-        ensures stays { OnErr result (least_of self.new ≡ least_of self.old) }
+        ensures next { SetsNext reader (Some next) self.old self.new }
+        ensures room { length sides.old.items ≤ length sides.new.items + 64 }
     {
         match self {
-            Nexts::Nobody => {
-                *self = Nexts::One { reader, next };
-                Ok(())
-            }
+            Nexts::Nobody => *self = Nexts::One { reader, next },
             Nexts::One {
                 reader: one,
                 next: kept,
@@ -124,18 +154,16 @@ impl Nexts {
                 if *one == reader {
                     *kept = next;
                 } else {
-                    *self = apart(alloc, *one, *kept, reader, next)?;
+                    *self = apart(sides, *one, *kept, reader, next, 64);
                 }
-                Ok(())
             }
             Nexts::Fork { least, even, odd } => {
                 if reader % 2 == 0 {
-                    even.add(alloc, reader / 2, next)?;
+                    even.add(sides, reader / 2, next);
                 } else {
-                    odd.add(alloc, reader / 2, next)?;
+                    odd.add(sides, reader / 2, next);
                 }
                 *least = lesser(even.least(), odd.least());
-                Ok(())
             }
         }
     }
@@ -151,12 +179,17 @@ fn lesser(one: Option<u32>, other: Option<u32>) -> Option<u32>
     }
 }
 
-// Two readers.
-fn apart(alloc: Global, a: u64, a_next: u32, b: u64, b_next: u32) -> Result<Nexts, AllocError>
-    requires { a ≢ b }
-    ensures least { IfOk result HasLeast }
-    ensures two { IfOk result (λ nexts. SetsNext b (Some b_next) (is_one a a_next) nexts) }
+// Two readers, whose numbers have no more than so many bits.
+fn apart(sides: &mut Vec<Sides>, a: u64, a_next: u32, b: u64, b_next: u32, bits: u32) -> Nexts
+    requires two { a ≢ b }
+    requires a_bits { a < 2 ^ bits }
+    requires b_bits { b < 2 ^ bits }
+    requires room { bits ≤ length sides.old.items }
+    ensures least { HasLeast result }
+    ensures two { SetsNext b (Some b_next) (is_one a a_next) result }
+    ensures room { length sides.old.items ≤ length sides.new.items + bits }
 {
+    let fewer = without_last_bit(a, b, bits);
     let one = Nexts::One {
         reader: a / 2,
         next: a_next,
@@ -166,29 +199,49 @@ fn apart(alloc: Global, a: u64, a_next: u32, b: u64, b_next: u32) -> Result<Next
         next: b_next,
     };
     match (a % 2 == 0, b % 2 == 0) {
-        (true, true) => fork(
-            alloc,
-            apart(alloc, a / 2, a_next, b / 2, b_next)?,
-            Nexts::Nobody,
-        ),
-        (true, false) => fork(alloc, one, other),
-        (false, true) => fork(alloc, other, one),
-        (false, false) => fork(
-            alloc,
-            Nexts::Nobody,
-            apart(alloc, a / 2, a_next, b / 2, b_next)?,
-        ),
+        (true, true) => {
+            let both = apart(sides, a / 2, a_next, b / 2, b_next, fewer);
+            fork(sides, both, Nexts::Nobody)
+        }
+        (true, false) => fork(sides, one, other),
+        (false, true) => fork(sides, other, one),
+        (false, false) => {
+            let both = apart(sides, a / 2, a_next, b / 2, b_next, fewer);
+            fork(sides, Nexts::Nobody, both)
+        }
     }
 }
 
-fn fork(alloc: Global, even: Nexts, odd: Nexts) -> Result<Nexts, AllocError>
+// How many bits the halves of two numbers have, where the numbers have so many.
+fn without_last_bit(a: u64, b: u64, bits: u32) -> u32
+    requires two { a ≢ b }
+    requires a_bits { a < 2 ^ bits }
+    requires b_bits { b < 2 ^ bits }
+    ensures one { result + 1 ≡ bits }
+    ensures a_bits { a / 2 < 2 ^ result }
+    ensures b_bits { b / 2 < 2 ^ result }
+{
+    bits - 1
+}
+
+fn fork(sides: &mut Vec<Sides>, even: Nexts, odd: Nexts) -> Nexts
     requires even { HasLeast even }
     requires odd { HasLeast odd }
-    ensures least { IfOk result HasLeast }
-    ensures sides { IfOk result (IsFork even odd) }
+    requires room { 0 < length sides.old.items }
+    ensures least { HasLeast result }
+    ensures sides { IsFork even odd result }
+    ensures room { length sides.old.items ≡ length sides.new.items + 1 }
 {
     let least = lesser(even.least(), odd.least());
-    let even = Box::new(alloc, even)?;
-    let odd = Box::new(alloc, odd)?;
-    Ok(Nexts::Fork { least, even, odd })
+    let Sides {
+        even: mut even_side,
+        odd: mut odd_side,
+    } = sides.pop().unwrap();
+    *even_side = even;
+    *odd_side = odd;
+    Nexts::Fork {
+        least,
+        even: even_side,
+        odd: odd_side,
+    }
 }

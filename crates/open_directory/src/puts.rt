@@ -52,6 +52,7 @@ pub(crate) fn reserve_row(puts: &mut Puts, put: u64) -> Result<(), OpenRefusal>
     ensures exact { Refuses result (writing_refusal put puts.old.entries) }
     ensures room { OnOk result (0 < room_of put puts.new.entries) }
     ensures rest { puts.new.entries ≡ with_room put (room_of put puts.new.entries) puts.old.entries }
+    ensures reserved { IsMemory result → room_of put puts.old.entries ≡ 0 }
     ensures followers { KeepsFollowers puts.old.entries puts.new.entries }
     ensures standing { KeepsStanding puts.old.entries puts.new.entries }
 {

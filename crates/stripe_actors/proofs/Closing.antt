@@ -6,7 +6,7 @@ use Rattle.open_directory.specs.declared.kept.KeptPut.{KeptPut}
 use Rattle.open_directory.specs.declared.kept.Reader.{Reader}
 use Rattle.open_directory.specs.declared.kept.Writer.{Writer}
 use Rattle.open_directory.specs.declared.kept.Phase.{Phase}
-use Rattle.open_directory.specs.Directory.{Held, changed, ended, is_open, moved, new_put, new_reader, one_fewer, one_more, opened, puts_without, reader_at, with_cut, with_cuts, with_followers, with_phase, with_reader, with_room, without_done, without_reader}
+use Rattle.open_directory.specs.Directory.{Held, changed, ended, is_open, moved, new_put, new_reader, one_fewer, one_more, opened, puts_without, reader_at, with_cut, with_cuts, with_followers, with_phase, with_reader, with_reader_room, with_room, without_done, without_reader}
 use Rattle.cache_model.specs.Room.{limit}
 use Rattle.stripe_actors.specs.Actors.{IsNumbered, RiseWithin}
 use Rattle.stripe_actors.proofs.Numbered.{rise_changed, rise_inserted, rise_removed, rise_unless_done}
@@ -60,9 +60,14 @@ ended_numbered held new next_put next_reader put phase is h =
       below = h.below;
     })
 
-pub reading_numbered : (held new : Held) (next_put reader put : ℕ) → new ≡ with_reader reader put 1 held
+pub reader_room_numbered : (held new : Held) (next_put next_reader room : ℕ) → new ≡ with_reader_room room held
+    → IsNumbered (seen_of held next_put next_reader) → IsNumbered (seen_of new next_put next_reader)
+reader_room_numbered held new next_put next_reader room is h =
+    subst (λ (x : Held). IsNumbered (seen_of x next_put next_reader)) (sym is) (record { puts = h.puts; readers = h.readers; below = h.below })
+
+pub reading_numbered : (held new : Held) (next_put reader put room : ℕ) → new ≡ with_reader_room room (with_reader reader put 1 held)
     → IsNumbered (seen_of held next_put reader) → IsNumbered (seen_of new next_put (reader + 1))
-reading_numbered held new next_put reader put is h =
+reading_numbered held new next_put reader put room is h =
     subst (λ (x : Held). IsNumbered (seen_of x next_put (reader + 1))) (sym is) (record {
       puts = by_open (is_open put held.puts);
       readers = rise_inserted reader 1 (new_reader put 1 held.puts) held.readers h.readers;
@@ -85,9 +90,9 @@ moved_numbered held new next_put next_reader reader next is h =
       below = h.below;
     })
 
-pub left_numbered : (held new : Held) (next_put next_reader reader : ℕ) → new ≡ without_reader reader held
+pub left_numbered : (held new : Held) (next_put next_reader reader room : ℕ) → new ≡ with_reader_room room (without_reader reader held)
     → IsNumbered (seen_of held next_put next_reader) → IsNumbered (seen_of new next_put next_reader)
-left_numbered held new next_put next_reader reader is h =
+left_numbered held new next_put next_reader reader room is h =
     subst (λ (x : Held). IsNumbered (seen_of x next_put next_reader)) (sym is) (record {
       puts = by_reader (reader_at reader held);
       readers = rise_removed reader 1 next_reader held.readers h.readers;

@@ -1,6 +1,6 @@
 -- Each call keeps the actors in step with the records.
 use Rattle.std.proofs.Common.{◌≡◌, ℕ, ◌+◌, ◌-◌, true, false, cond, List, [], ◌∷◌, ◌++◌, Option, Some, None, refl, sym, ap, subst, ◌∙◌, arith}
-use Rattle.std.specs.Prelude.{Bool, not, ◌==◌, option_map}
+use Rattle.std.specs.Prelude.{Bool, not, ◌==◌, OnErr, Result, Ok, Err, option_map}
 use Rattle.std.specs.Map.{lookup}
 use Rattle.tape_base.specs.declared.keys.Key.{Key}
 use Rattle.tape_base.specs.declared.actors.Actor.{Actor}
@@ -11,7 +11,7 @@ use Rattle.fragment_table.specs.Table.{TableRow, made_row}
 use Rattle.open_directory.specs.declared.kept.Writer.{Writer}
 use Rattle.open_directory.specs.declared.kept.KeptPut.{KeptPut}
 use Rattle.open_directory.specs.declared.kept.Reader.{Reader}
-use Rattle.open_directory.specs.Directory.{Held, changed, is_number, is_open, kept_put, new_put, new_reader, one_fewer, one_more, opened, puts_without, reader_at, unless_done, with_cuts, with_followers, with_phase, with_reader, with_room, without_done, without_reader, moved}
+use Rattle.open_directory.specs.Directory.{Held, changed, is_number, is_open, kept_put, new_put, new_reader, one_fewer, one_more, opened, puts_without, reader_at, unless_done, with_cuts, with_followers, with_phase, with_reader, with_reader_room, with_room, without_done, without_reader, moved}
 use Rattle.open_directory.specs.Directory.{ended as ended_in, with_cut as cut_in}
 use Rattle.cache_model.specs.declared.cause.Cause.{Cause}
 use Rattle.cache_model.specs.declared.answer.ReadAnswer.TheVariants as read
@@ -21,7 +21,9 @@ use Rattle.cache_model.specs.State.{with_cut as cut_row}
 use Rattle.cache_model.specs.Verdict.{is_open as is_open_row}
 use Rattle.cache_model.specs.Legal.{format_records}
 use Rattle.stripe_actors.specs.Actors.{AreActors, FallBelow, IsKeptAs, IsPutOf, IsReaderOf, RiseWithin, Seen, phase_of, put_numbers, reader_numbers}
-use Rattle.stripe_actors.proofs.Numbered.{eq_number, found_changed, found_inserted, found_removed, found_unless_done, rise_changed}
+use Rattle.open_directory.proofs.Rising.{found_inserted, found_removed}
+use Rattle.open_directory.proofs.Standing.{eq_number}
+use Rattle.stripe_actors.proofs.Numbered.{found_changed, found_unless_done, rise_changed, rises_within}
 use Rattle.stripe_actors.proofs.Rows.{fall_from, fall_without, find-changed, find-without, numbers-changed, writers-cut, writers-ended}
 use Rattle.stripe_actors.proofs.Kept.{kept_along, kept_anew, kept_either, kept_mapped, kept_or, kept_unless_done, reader_along, reader_either, reader_mapped}
 
@@ -59,17 +61,17 @@ abbrev pub new_writer : ℕ → Key → List Field → List Field → Writer
 new_writer put key request response = record { put = put; key = key; request = request; response = response }
 
 pub opened_in_step : (s : State) (held new : Held) (put next_reader room : ℕ) (who : Actor) (key : Key) (request response : List Field) (pin : ℕ)
-    → RiseWithin 1 put held.puts → new ≡ opened (new_writer put key request response) room held
+    → new ≡ opened (new_writer put key request response) room held
     → AreActors s (seen_of held put next_reader)
     → AreActors (state_after s (rec.WriteOpened who put key request response pin)) (seen_of new (put + 1) next_reader)
-opened_in_step s held new put next_reader room who key request response pin rise is h =
+opened_in_step s held new put next_reader room who key request response pin is h =
     subst (λ (x : Held). AreActors (state_after s (rec.WriteOpened who put key request response pin)) (seen_of x (put + 1) next_reader)) (sym is) (record {
       next_put = refl;
       next_reader = h.next_reader;
       writers = ap (λ (ws : List Writer). ws ++ new_writer put key request response ∷ []) h.writers;
       puts = λ q. kept_along _ _ _ _
           (ap (λ (b : Bool). cond b (Some row) (put_of s q)) (eq_number put q))
-          (found_inserted put q 1 (new_put room) held.puts rise)
+          (found_inserted q put (new_put room) held.puts)
           (kept_either (is_number put q) (Some row) (put_of s q) (Some (new_put room)) (kept_put q held.puts) same (h.puts q));
       readers = h.readers;
       puts_fall = (omega arith, subst (λ (n : ℕ). FallBelow n (put_numbers s.puts)) (sym h.next_put) h.puts_fall);
@@ -183,10 +185,27 @@ aborted_in_step s held new next_put next_reader put key rise is h =
 
 -- ---- readers
 
-reading_in_step : (s : State) (held new : Held) (next_put reader put : ℕ) (row : ReaderRow) → row.reader ≡ reader → IsReaderOf row (new_reader put 1 held.puts)
-    → RiseWithin 1 reader held.readers → new ≡ with_reader reader put 1 held
+pub on_err : {X E P : Type 0} (r : Result X E) → P → OnErr r P
+on_err (Ok x) p = tt
+on_err (Err e) p = p
+
+pub reader_room_in_step : (s : State) (held new : Held) (next_put next_reader room : ℕ) → new ≡ with_reader_room room held
+    → AreActors s (seen_of held next_put next_reader) → AreActors s (seen_of new next_put next_reader)
+reader_room_in_step s held new next_put next_reader room is h =
+    subst (λ (x : Held). AreActors s (seen_of x next_put next_reader)) (sym is) (record {
+      next_put = h.next_put;
+      next_reader = h.next_reader;
+      writers = h.writers;
+      puts = h.puts;
+      readers = h.readers;
+      puts_fall = h.puts_fall;
+      readers_fall = h.readers_fall;
+    })
+
+reading_in_step : (s : State) (held new : Held) (next_put reader put room : ℕ) (row : ReaderRow) → row.reader ≡ reader → IsReaderOf row (new_reader put 1 held.puts)
+    → new ≡ with_reader_room room (with_reader reader put 1 held)
     → AreActors s (seen_of held next_put reader) → AreActors (record s { readers = row ∷ s.readers; next_reader = reader + 1 }) (seen_of new next_put (reader + 1))
-reading_in_step s held new next_put reader put row numbered same rise is h =
+reading_in_step s held new next_put reader put room row numbered same is h =
     subst (λ (x : Held). AreActors (record s { readers = row ∷ s.readers; next_reader = reader + 1 }) (seen_of x next_put (reader + 1))) (sym is) (record {
       next_put = h.next_put;
       next_reader = refl;
@@ -194,7 +213,7 @@ reading_in_step s held new next_put reader put row numbered same rise is h =
       puts = λ q. by_open q (is_open put held.puts);
       readers = λ q. reader_along _ _ _ _
           (ap (λ (i : ℕ). cond (i == q) (Some row) (reader_of s q)) numbered ∙ ap (λ (b : Bool). cond b (Some row) (reader_of s q)) (eq_number reader q))
-          (found_inserted reader q 1 (new_reader put 1 held.puts) held.readers rise)
+          (found_inserted q reader (new_reader put 1 held.puts) held.readers)
           (reader_either (is_number reader q) (Some row) (reader_of s q) (Some (new_reader put 1 held.puts)) (reader_at q held) same (h.readers q));
       puts_fall = h.puts_fall;
       readers_fall = (omega arith, subst (λ (n : ℕ). FallBelow n (reader_numbers s.readers)) (sym h.next_reader ∙ sym numbered) h.readers_fall);
@@ -211,19 +230,19 @@ reading_in_step s held new next_put reader put row numbered same rise is h =
         (kept_or (is_number put q) (put_of s q) (option_map more (kept_put q held.puts)) (kept_put q held.puts) (kept_anew more kept_same (put_of s q) (kept_put q held.puts) (h.puts q)) (h.puts q))
     by_open q false = h.puts q
 
-pub hit_in_step : (s : State) (held new : Held) (next_put reader put : ℕ) (who : Actor) (key : Key) (request : List Field)
-    → RiseWithin 1 reader held.readers → new ≡ with_reader reader put 1 held
+pub hit_in_step : (s : State) (held new : Held) (next_put reader put room : ℕ) (who : Actor) (key : Key) (request : List Field)
+    → new ≡ with_reader_room room (with_reader reader put 1 held)
     → AreActors s (seen_of held next_put reader) → AreActors (state_after s (rec.ReadOpened reader who key request (read.Hit put))) (seen_of new next_put (reader + 1))
-hit_in_step s held new next_put reader put who key request rise is h =
-    reading_in_step s held new next_put reader put (record { actor = who.0; reader = reader; key = key; put = put; table = Some (table_of_hit s key request); next = 1 })
-    refl (record { put = refl; next = refl; counted = omega arith; follows = λ none. absurd (cc) }) rise is h
+hit_in_step s held new next_put reader put room who key request is h =
+    reading_in_step s held new next_put reader put room (record { actor = who.0; reader = reader; key = key; put = put; table = Some (table_of_hit s key request); next = 1 })
+    refl (record { put = refl; next = refl; counted = omega arith; follows = λ none. absurd (cc) }) is h
 
-pub follow_in_step : (s : State) (held new : Held) (next_put reader put : ℕ) (who : Actor) (key : Key) (request : List Field) → is_open put held.puts ≡ true
-    → RiseWithin 1 reader held.readers → new ≡ with_reader reader put 1 held
+pub follow_in_step : (s : State) (held new : Held) (next_put reader put room : ℕ) (who : Actor) (key : Key) (request : List Field) → is_open put held.puts ≡ true
+    → new ≡ with_reader_room room (with_reader reader put 1 held)
     → AreActors s (seen_of held next_put reader) → AreActors (state_after s (rec.ReadOpened reader who key request (read.Follow put))) (seen_of new next_put (reader + 1))
-follow_in_step s held new next_put reader put who key request open_now rise is h =
-    reading_in_step s held new next_put reader put (record { actor = who.0; reader = reader; key = key; put = put; table = None; next = 1 })
-    refl (record { put = refl; next = refl; counted = omega arith; follows = λ none. open_now }) rise is h
+follow_in_step s held new next_put reader put room who key request open_now is h =
+    reading_in_step s held new next_put reader put room (record { actor = who.0; reader = reader; key = key; put = put; table = None; next = 1 })
+    refl (record { put = refl; next = refl; counted = omega arith; follows = λ none. open_now }) is h
 
 pub missed_in_step : (s : State) (held : Held) (next_put reader : ℕ) (who : Actor) (key : Key) (request : List Field) (why : Cause)
     → AreActors s (seen_of held next_put reader) → AreActors (state_after s (rec.ReadOpened reader who key request (read.Miss why))) (seen_of held next_put (reader + 1))
@@ -263,10 +282,10 @@ gave_in_step s held new next_put next_reader reader index length is h =
     same : (row : ReaderRow) (r : Reader) → IsReaderOf row r → IsReaderOf (record row { next = index + 1 }) (record r { next = index + 1 })
     same row r g = record { put = g.put; next = refl; counted = omega arith; follows = g.follows }
 
-pub left_in_step : (s : State) (held new : Held) (next_put next_reader reader : ℕ) → RiseWithin 1 next_put held.puts → RiseWithin 1 next_reader held.readers
-    → new ≡ without_reader reader held
+pub left_in_step : (s : State) (held new : Held) (next_put next_reader reader room : ℕ) → RiseWithin 1 next_put held.puts → RiseWithin 1 next_reader held.readers
+    → new ≡ with_reader_room room (without_reader reader held)
     → AreActors s (seen_of held next_put next_reader) → AreActors (state_after s (rec.ReadClosed reader)) (seen_of new next_put next_reader)
-left_in_step s held new next_put next_reader reader puts_rise readers_rise is h =
+left_in_step s held new next_put next_reader reader room puts_rise readers_rise is h =
     subst (λ (x : Held). AreActors (state_after s (rec.ReadClosed reader)) (seen_of x next_put next_reader)) (sym is) (record {
       next_put = h.next_put;
       next_reader = h.next_reader;
@@ -274,7 +293,7 @@ left_in_step s held new next_put next_reader reader puts_rise readers_rise is h 
       puts = λ q. by_reader q (reader_at reader held);
       readers = λ q. reader_along _ _ _ _
           (find-without (λ (r : ReaderRow). r.reader) reader q s.readers ∙ ap (λ (b : Bool). cond b None (reader_of s q)) (eq_number reader q))
-          (found_removed reader q 1 next_reader held.readers readers_rise)
+          (found_removed reader q 1 held.readers (rises_within 1 next_reader held.readers readers_rise))
           (reader_either (is_number reader q) None (reader_of s q) None (reader_at q held) tt (h.readers q));
       puts_fall = h.puts_fall;
       readers_fall = fall_without (λ (r : ReaderRow). r.reader) (λ (r : ReaderRow). not (r.reader == reader)) s.next_reader s.readers h.readers_fall;

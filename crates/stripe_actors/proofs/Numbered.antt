@@ -4,47 +4,31 @@ use Rattle.std.specs.declared.cmp.Ordering.{Ordering}
 use Rattle.std.specs.declared.cmp.Ordering.TheVariants.{Greater}
 use Rattle.std.specs.Ordering.{nat_cmp, match_ordering}
 use Rattle.std.specs.Cmp.{nat_cmp_is}
-use Rattle.std.specs.Prelude.{Bool, ◌==◌, option_map}
+use Rattle.std.specs.Prelude.{Bool, option_map}
 use Rattle.std.specs.BTreeMap.{insert_entry}
 use Rattle.std.specs.Map.{lookup, remove_entry}
 use Rattle.open_directory.specs.declared.kept.KeptPut.{KeptPut}
 use Rattle.open_directory.specs.Directory.{changed, is_done_put, is_number, kept_put, unless_done, without_done}
-use Rattle.std.proofs.lemmas.Bool.{eqb-true, eq-eqb}
+use Rattle.open_directory.specs.Readers.{Rises}
+use Rattle.open_directory.proofs.Followers.{same_number}
+use Rattle.open_directory.proofs.Rising.{found_removed}
+use Rattle.open_directory.proofs.Standing.{number_flip}
 use Rattle.stripe_actors.specs.Actors.{RiseWithin}
 
 -- ---- the test for a number
 
-pub eq_number : (a b : ℕ) → (a == b) ≡ is_number a b
-eq_number a b = grind arith
-
-pub same_number : (a b : ℕ) → is_number a b ≡ true → a ≡ b
-same_number a b h = eqb-true a b (eq_number a b ∙ h)
-
-pub is_number_self : (n : ℕ) → is_number n n ≡ true
-is_number_self n = sym (eq_number n n) ∙ eq-eqb n n refl
-
-differ : (b : Bool) → b ≡ true → b ≡ false → ⊥
-differ b t f = let e : true ≡ false = sym t ∙ f in cc
-
 number_at : (a b c : ℕ) → is_number a c ≡ true → is_number b a ≡ is_number b c
 number_at a b c t = ap (λ (m : ℕ). is_number b m) (same_number a c t)
-
-pub number_flip : (a b : ℕ) → is_number a b ≡ is_number b a
-number_flip a b = by_first (is_number a b) refl
-  where
-    by_second : (y : Bool) → is_number b a ≡ y → is_number a b ≡ false → false ≡ y
-    by_second true u t = absurd (differ (is_number a b) (ap (λ (m : ℕ). is_number m b) (sym (same_number b a u)) ∙ is_number_self b) t)
-    by_second false u t = refl
-
-    by_first : (x : Bool) → is_number a b ≡ x → is_number a b ≡ is_number b a
-    by_first true t = t ∙ sym (ap (λ (m : ℕ). is_number m a) (sym (same_number a b t)) ∙ is_number_self a)
-    by_first false t = t ∙ by_second (is_number b a) refl t
 
 -- ---- numbers that rise
 
 pub rise_bounds : {X : Type 0} (low high : ℕ) (es : List (ℕ × X)) → RiseWithin low high es → low ≤ high
 rise_bounds low high [] h = h
 rise_bounds low high (e ∷ es) h = let rest : e.0 + 1 ≤ high = rise_bounds (e.0 + 1) high es h.1 in let first : low ≤ e.0 = h.0 in omega arith
+
+pub rises_within : {X : Type 0} (low high : ℕ) (es : List (ℕ × X)) → RiseWithin low high es → Rises low es
+rises_within low high [] h = tt
+rises_within low high (e ∷ es) h = (h.0, rises_within (e.0 + 1) high es h.1)
 
 pub rise_from : {X : Type 0} (low from high : ℕ) (es : List (ℕ × X)) → low ≤ from → RiseWithin from high es → RiseWithin low high es
 rise_from low from high [] le h = let k : from ≤ high = h in omega arith
@@ -83,16 +67,6 @@ rise_inserted n low v (e ∷ es) h =
 
 -- ---- what is found
 
-pub absent_below : {X : Type 0} (n low high : ℕ) (es : List (ℕ × X)) → n < low → RiseWithin low high es → lookup (is_number n) es ≡ None
-absent_below n low high [] lt h = refl
-absent_below n low high (e ∷ es) lt h =
-    let first : low ≤ e.0 = h.0 in
-    let rest = absent_below n (e.0 + 1) high es (omega arith) h.1 in
-    elim (is_number n e.0) as (λ b. is_number n e.0 ≡ b → cond b (Some e.1) (lookup (is_number n) es) ≡ None) [
-      | true ↦ λ t. let same : n ≡ e.0 = same_number n e.0 t in absurd (omega arith)
-      | false ↦ λ t. rest
-    ] refl
-
 pub absent_above : {X : Type 0} (n low high : ℕ) (es : List (ℕ × X)) → high ≤ n → RiseWithin low high es → lookup (is_number n) es ≡ None
 absent_above n low high [] le h = refl
 absent_above n low high (e ∷ es) le h =
@@ -124,52 +98,6 @@ found_changed {X} f n q (e ∷ es) = by_changed (found_changed f n q es) (is_num
         rw (there, w) refl
     by_changed rest false t false w = rw w rest
 
--- a number that is removed is not found, and the others are as they were
-pub found_removed : {X : Type 0} (n q low high : ℕ) (es : List (ℕ × X)) → RiseWithin low high es
-    → lookup (is_number q) (remove_entry (is_number n) es) ≡ cond (is_number n q) None (lookup (is_number q) es)
-found_removed {X} n q low high [] h = let none : Option X = None in elim (is_number n q) as (λ b. none ≡ cond b none none) [ true ↦ refl | false ↦ refl ]
-found_removed {X} n q low high (e ∷ es) h = by_removed (found_removed n q (e.0 + 1) high es h.1) (is_number n e.0) refl (is_number q e.0) refl
-  where
-    by_removed : lookup (is_number q) (remove_entry (is_number n) es) ≡ cond (is_number n q) None (lookup (is_number q) es)
-        → (b : Bool) → is_number n e.0 ≡ b → (w : Bool) → is_number q e.0 ≡ w
-        → lookup (is_number q) (cond b es (e ∷ remove_entry (is_number n) es)) ≡ cond (is_number n q) None (lookup (is_number q) (e ∷ es))
-    by_removed rest true t true w =
-        let here : is_number n q ≡ true = number_at q n e.0 w ∙ t in
-        let same : q ≡ e.0 = same_number q e.0 w in
-        let gone : lookup (is_number q) es ≡ None = absent_below q (e.0 + 1) high es (omega arith) h.1 in
-        rw here gone
-    by_removed rest true t false w =
-        let there : is_number n q ≡ false = number_flip n q ∙ number_at n q e.0 t ∙ w in
-        rw (there, w) refl
-    by_removed rest false t true w =
-        let there : is_number n q ≡ false = number_at q n e.0 w ∙ t in
-        rw (there, w) refl
-    by_removed rest false t false w = rw w rest
-
--- a number that comes is found, and the others are as they were
-pub found_inserted : {X : Type 0} (n q low : ℕ) (v : X) (es : List (ℕ × X)) → RiseWithin low n es
-    → lookup (is_number q) (insert_entry nat_cmp es n v) ≡ cond (is_number n q) (Some v) (lookup (is_number q) es)
-found_inserted {X} n q low v [] h = ap (λ (b : Bool). cond b (Some v) None) (number_flip q n)
-found_inserted {X} n q low v (e ∷ es) h =
-    subst (λ (o : Ordering). lookup (is_number q) (match_ordering o ((n, v) ∷ e ∷ es) ((e.0, v) ∷ es) (e ∷ insert_entry nat_cmp es n v)) ≡ cond (is_number n q) (Some v) (lookup (is_number q) (e ∷ es)))
-    (greater e.0 n (before (rise_bounds (e.0 + 1) n es h.1)))
-    (by_test (found_inserted n q (e.0 + 1) v es h.1) (is_number q e.0) refl (is_number n q) refl)
-  where
-    before : e.0 + 1 ≤ n → e.0 < n
-    before le = omega arith
-
-    by_test : lookup (is_number q) (insert_entry nat_cmp es n v) ≡ cond (is_number n q) (Some v) (lookup (is_number q) es)
-        → (w : Bool) → is_number q e.0 ≡ w → (b : Bool) → is_number n q ≡ b
-        → lookup (is_number q) (e ∷ insert_entry nat_cmp es n v) ≡ cond (is_number n q) (Some v) (lookup (is_number q) (e ∷ es))
-    by_test rest true w true b =
-        let same : q ≡ e.0 = same_number q e.0 w in
-        let also : n ≡ q = same_number n q b in
-        let le : e.0 + 1 ≤ n = rise_bounds (e.0 + 1) n es h.1 in
-        absurd (omega arith)
-    by_test rest true w false b = rw (w, b) refl
-    by_test rest false w true b = rw w rest
-    by_test rest false w false b = rw w rest
-
 -- a put that is done is not found, and the others are as they were
 pub found_unless_done : (n q low high : ℕ) (puts : List (ℕ × KeptPut)) → RiseWithin low high puts
     → kept_put q (without_done n puts) ≡ cond (is_number n q) (unless_done (kept_put q puts)) (kept_put q puts)
@@ -179,9 +107,9 @@ found_unless_done n q low high puts h = by_test (is_number n q) refl (is_done_pu
         → kept_put q (cond done (remove_entry (is_number n) puts) puts) ≡ cond b (unless_done (kept_put q puts)) (kept_put q puts)
     by_test true b true d =
         let same : is_done_put (kept_put q puts) ≡ true = ap (λ (m : ℕ). is_done_put (kept_put m puts)) (sym (same_number n q b)) ∙ d in
-        found_removed n q low high puts h ∙ ap (λ (c : Bool). cond c None (kept_put q puts)) b ∙ sym (ap (λ (c : Bool). cond c None (kept_put q puts)) same)
+        found_removed n q low puts (rises_within low high puts h) ∙ ap (λ (c : Bool). cond c None (kept_put q puts)) b ∙ sym (ap (λ (c : Bool). cond c None (kept_put q puts)) same)
     by_test true b false d =
         let same : is_done_put (kept_put q puts) ≡ false = ap (λ (m : ℕ). is_done_put (kept_put m puts)) (sym (same_number n q b)) ∙ d in
         sym (ap (λ (c : Bool). cond c None (kept_put q puts)) same)
-    by_test false b true d = found_removed n q low high puts h ∙ ap (λ (c : Bool). cond c None (kept_put q puts)) b
+    by_test false b true d = found_removed n q low puts (rises_within low high puts h) ∙ ap (λ (c : Bool). cond c None (kept_put q puts)) b
     by_test false b false d = refl

@@ -20,7 +20,7 @@ use Rattle.stripe_actors.specs.Actors.{AreActors, FallBelow, IsKeptAs, IsPutOf, 
 use Rattle.stripe_actors.specs.ActorLaws.{IsTold, number_in, speaks_of_actors, state_in}
 use Rattle.stripe_actors.proofs.InStep.{alike_in_step}
 use Rattle.stripe_actors.proofs.Kept.{open_as}
-use Rattle.stripe_actors.proofs.Numbered.{is_number_self}
+use Rattle.open_directory.proofs.Followers.{is_number_self}
 use Rattle.stripe_actors.proofs.Rows.{followed-writers}
 
 pub others : (s : State) (a : Seen) (r : Rec) → speaks_of_actors r ≡ false → AreActors s a → AreActors (state_after s r) a

@@ -16,6 +16,10 @@ pub record Seen : Type 0 where
   pub next_put : ℕ
   pub next_reader : ℕ
 
+-- how many more readers can be opened without taking memory
+abbrev pub reader_room_of : Seen → ℕ
+reader_room_of a = a.held.reader_room
+
 -- the numbers of the entries rise, from `low` on and below `high`
 abbrev pub RiseWithin : {X : Type 0} → ℕ → ℕ → List (ℕ × X) → Type 0
 RiseWithin low high [] = low ≤ high

@@ -12,7 +12,7 @@ use Rattle.cache_model.specs.declared.record.Rec.TheVariants as rec
 use Rattle.cache_model.specs.State.{State, after_all, nothing_yet, state_after}
 use Rattle.cache_model.specs.Legal.{format_records, most_writers, open_writers}
 use Rattle.cache_model.specs.Room.{limit}
-use Rattle.open_directory.specs.Directory.{is_open, with_room}
+use Rattle.open_directory.specs.Directory.{is_open, with_reader_room, with_room}
 use Rattle.stripe_actors.specs.declared.refusal.OpenPutRefusal.{OpenPutRefusal}
 use Rattle.stripe_actors.specs.declared.refusal.OpenPutRefusal.TheVariants.{TooManyWriters, Exhausted, Memory}
 use Rattle.stripe_actors.specs.Actors.{Seen, AreActors}
@@ -28,6 +28,10 @@ StayInStep old new = (s : State) → AreActors s old → AreActors s new
 -- nothing but the room of a put is another
 abbrev pub with_room_of : ℕ → ℕ → Seen → Seen
 with_room_of put room a = record a { held = record a.held { puts = with_room put room a.held.puts } }
+
+-- nothing but the room for readers is another
+abbrev pub with_room_of_readers : ℕ → Seen → Seen
+with_room_of_readers room a = record a { held = with_reader_room room a.held }
 
 -- nobody, at the beginning of a session that a format began
 abbrev pub BeginInStep : Seen → Type 0

@@ -1,10 +1,11 @@
 // Who writes and reads on a stripe.
 
-ghost use Rattle.std.specs.Prelude.{◌≡◌, ◌+◌, ◌<◌, ◌^◌, OnOk, OnErr, IfOk, true, length};
+ghost use Rattle.std.specs.Prelude.{◌≡◌, ◌+◌, ◌<◌, ◌≤◌, ◌^◌, OnOk, OnErr, IfOk, IsOk, true, length};
 ghost use Rattle.fragment_table.specs.Table.{CanGrow};
 ghost use Rattle.open_directory.specs.Directory.{IsHeld, cuts_of, is_open, room_of};
 ghost use Rattle.cache_model.specs.declared.record.Rec.TheVariants as rec;
-ghost use Rattle.stripe_actors.specs.Calls.{AnswersPut, BeginInStep, Commits, CutsNext, GaveFragment, GivesUp, KeepUpWith, Misses, OpensPut, OpensReader, StayInStep, with_room_of};
+ghost use Rattle.stripe_actors.specs.Calls.{AnswersPut, BeginInStep, Commits, CutsNext, GaveFragment, GivesUp, KeepUpWith, Misses, OpensPut, OpensReader, StayInStep, with_room_of, with_room_of_readers};
+ghost use Rattle.stripe_actors.specs.Actors.{reader_room_of};
 
 use crate::refusal::OpenPutRefusal;
 use alternate_vector::Fields;
@@ -88,6 +89,7 @@ impl Actors {
         ensures exact { AnswersPut self.old result }
         ensures ok { IfOk result (OpensPut key request response self.old self.new) }
         ensures err { OnErr result (self.new ≡ self.old) }
+        ensures readers { reader_room_of self.old ≤ reader_room_of self.new }
     {
         if self.open.writers() == MAX_WRITERS {
             return Err(OpenPutRefusal::TooManyWriters);
@@ -112,6 +114,8 @@ impl Actors {
         ensures room { OnOk result (0 < room_of put self.new.held.puts) }
         ensures step { StayInStep self.old self.new }
         ensures rest { self.new ≡ with_room_of put (room_of put self.new.held.puts) self.old }
+        ensures reserved { 0 < room_of put self.old.held.puts → IsOk result }
+        ensures readers { reader_room_of self.old ≤ reader_room_of self.new }
     {
         match self.open.reserve_cut(put) {
             Ok(()) => Ok(()),
@@ -126,7 +130,8 @@ impl Actors {
         requires some { 0 < length }
         requires few { CanGrow (cuts_of put self.old.held.puts) }
         requires room { 0 < room_of put self.old.held.puts }
-        ensures { CutsNext put length digest self.old self.new }
+        ensures cuts { CutsNext put length digest self.old self.new }
+        ensures readers { reader_room_of self.old ≤ reader_room_of self.new }
     {
         let cut: Result<_, _> = self.open.cut_fragment(put, length, digest);
         cut.unwrap();
@@ -135,7 +140,8 @@ impl Actors {
     /// Commits a put: what was cut is all of it.
     pub fn close(&mut self, put: u64)
         requires { is_open put self.old.held.puts ≡ true }
-        ensures { Commits put self.old self.new }
+        ensures commits { Commits put self.old self.new }
+        ensures readers { reader_room_of self.old ≤ reader_room_of self.new }
     {
         self.open.close(put).unwrap();
     }
@@ -143,16 +149,31 @@ impl Actors {
     /// Gives a put up.
     pub fn abort(&mut self, put: u64)
         requires { is_open put self.old.held.puts ≡ true }
-        ensures { GivesUp put self.old self.new }
+        ensures ends { GivesUp put self.old self.new }
+        ensures readers { reader_room_of self.old ≤ reader_room_of self.new }
     {
         self.open.abort(put).unwrap();
+    }
+
+    /// Makes room so that so many more readers take no memory.
+    pub fn reserve_readers(&mut self, more: u32) -> Result<(), AllocError>
+        ensures room { OnOk result (more ≤ reader_room_of self.new) }
+        ensures kept { reader_room_of self.old ≤ reader_room_of self.new }
+        ensures reserved { more ≤ reader_room_of self.old → IsOk result }
+        ensures step { StayInStep self.old self.new }
+        ensures rest { self.new ≡ with_room_of_readers (reader_room_of self.new) self.old }
+    {
+        self.open.reserve_readers(more)
     }
 
     /// Opens a reader at the first fragment of a put, which it follows where that is open.
     pub fn open_reader(&mut self, put: u64) -> Result<u64, AllocError>
         requires { self.old.next_reader + 1 < 2 ^ 64 }
         ensures ok { IfOk result (OpensReader put self.old self.new) }
-        ensures err { OnErr result (self.new ≡ self.old) }
+        ensures err { OnErr result (self.new ≡ with_room_of_readers (reader_room_of self.new) self.old) }
+        ensures stays { OnErr result (StayInStep self.old self.new) }
+        ensures room { reader_room_of self.old ≤ reader_room_of self.new + 1 }
+        ensures reserved { 0 < reader_room_of self.old → IsOk result }
     {
         let reader = self.next_reader;
         self.open.add_reader(reader, put, 1)?;
@@ -163,7 +184,8 @@ impl Actors {
     /// Takes the next reader's number for a lookup that opens none.
     pub fn miss(&mut self) -> u64
         requires { self.old.next_reader + 1 < 2 ^ 64 }
-        ensures { Misses self.old self.new result }
+        ensures misses { Misses self.old self.new result }
+        ensures readers { reader_room_of self.old ≤ reader_room_of self.new }
     {
         let missed = self.next_reader;
         self.next_reader = missed + 1;
@@ -173,14 +195,16 @@ impl Actors {
     /// The reader was given a fragment, and takes the one behind it next.
     pub fn gave(&mut self, reader: u64, index: u32)
         requires { index + 1 < 2 ^ 32 }
-        ensures { GaveFragment reader index self.old self.new }
+        ensures gave { GaveFragment reader index self.old self.new }
+        ensures readers { reader_room_of self.old ≤ reader_room_of self.new }
     {
         self.open.set_reader(reader, index + 1);
     }
 
     /// Closes a reader.
     pub fn close_reader(&mut self, reader: u64)
-        ensures { KeepUpWith (rec.ReadClosed reader) self.old self.new }
+        ensures closes { KeepUpWith (rec.ReadClosed reader) self.old self.new }
+        ensures readers { reader_room_of self.old ≤ reader_room_of self.new }
     {
         self.open.drop_reader(reader);
     }

@@ -1,12 +1,12 @@
 -- Writers and readers that come and go leave the pieces held.
-use Rattle.std.proofs.Common.{◌≡◌, ℕ, ◌+◌, ◌-◌, ◌<◌, ◌≤◌, List, [], ◌∷◌, refl, sym, ◌∙◌, ap, subst, arith, Bool, true, false, Result, Ok, Err, length}
+use Rattle.std.proofs.Common.{◌≡◌, ℕ, ◌+◌, ◌-◌, ◌^◌, ◌<◌, ◌≤◌, List, [], ◌∷◌, refl, sym, ◌∙◌, ap, subst, arith, Bool, true, false, Result, Ok, Err, length}
 use Rattle.std.specs.Prelude.{Option, Some, None, IfOk, IsSome, find, option_map, option_and_then, unwrap_or, if◌then◌else◌, ◌==◌, IfSome}
 use Rattle.std.proofs.lemmas.Bool.{eqb-true}
 use Rattle.tape_base.specs.declared.actors.Actor.{Actor}
 use Rattle.tape_base.specs.declared.keys.Key.{Key}
 use Rattle.tape_base.specs.declared.pieces.PieceId.{PieceId}
 use Rattle.fragment_table.specs.Table.{total_length}
-use Rattle.alternate_vector.specs.Field.{Field}
+use Rattle.alternate_vector.specs.Field.{Field, AreFields}
 use Rattle.cyclone.specs.Cyclone.{Seen}
 use Rattle.cache_model.specs.declared.answer.NextAnswer.{NextAnswer}
 use Rattle.cache_model.specs.declared.answer.NextAnswer.TheVariants as next
@@ -125,8 +125,18 @@ removes p s key put quiet live is =
     DoesRemove.removes row quiet found.1 (ap (λ (i : PieceId). rec.Removed i.put key ∷ []) (sym name))
 
 pub opens : (p : Permit) (s : State) (who : Actor) (key : Key) (request response : List Field) (pin : ℕ) → IsQuiet s → open_writers s < most_writers → s.next_put + 1 < limit
-    → Does p s (Write who.0 key request response pin) (opened_record s who key request response pin ∷ []) Done
-opens p s who key request response pin quiet few below = DoesWrite.opens (record { who = who; number = refl; quiet = quiet; few = few; below = below; is = refl })
+    → AreFields request → AreFields response → pin < 2 ^ 64 → Does p s (Write who.0 key request response pin) (opened_record s who key request response pin ∷ []) Done
+opens p s who key request response pin quiet few below asked answered pin_fits = DoesWrite.opens (record {
+  who = who;
+  number = refl;
+  quiet = quiet;
+  few = few;
+  below = below;
+  request_fits = asked;
+  response_fits = answered;
+  pin_fits = pin_fits;
+  is = refl;
+})
 
 pub too_many : (p : Permit) (s : State) (who : Actor) (key : Key) (request response : List Field) (pin : ℕ) → IsQuiet s → most_writers ≤ open_writers s
     → Does p s (Write who.0 key request response pin) [] (Fails ManyWriters)

@@ -3,11 +3,12 @@ mod Counts
 mod Holding
 mod Placements
 mod Beginning
-mod Going
+pub mod Going
 mod Starting
-mod Candidates
+pub mod Candidates
 mod Flushes
 mod Rooms
+mod Rowed
 mod Puts
 mod Groups
 mod Fronts

@@ -35,7 +35,7 @@ use Rattle.stripe_core.specs.declared.refusal.Stop.TheVariants as stop
 use Rattle.stripe_core.specs.Find.{cause_records, find_adds, found_records}
 use Rattle.stripe_core.specs.Flush.{flush_adds, stop_records}
 use Rattle.stripe_core.specs.Named.{IsNamed, IsOwn, IsOwnOf, IsPieceOf}
-use Rattle.stripe_core.specs.Place.{IsFragmentOf, IsNew, IsVectorOf, fragment_adds, room_records, with_room}
+use Rattle.stripe_core.specs.Place.{IsFragmentOf, IsNew, IsVectorFor, fragment_adds, room_records, with_room}
 use Rattle.stripe_core.proofs.Flushes.{state_of-with_records}
 use Rattle.stripe_core.proofs.Going.{all_left}
 use Rattle.stripe_core.proofs.Placements.{all_append}
@@ -250,12 +250,12 @@ fragment_nowhere s id pin start payload f h =
     omega (arith, cut, next)) s.rows h)
 
 -- nor does the vector of an open put
-pub vector_nowhere : (s : State) (id : PieceId) (pin start : ℕ) (payload : List ℕ) → IsVectorOf s id pin start payload → is_vector id ≡ true → IsNamed s → row_of s id ≡ None
-vector_nowhere s id pin start payload v kind h =
+pub vector_nowhere : (s : State) (id : PieceId) (start : ℕ) (payload : List ℕ) → IsVectorFor s id start payload → is_vector id ≡ true → IsNamed s → row_of s id ≡ None
+vector_nowhere s id start payload v kind h =
     none_in id s.rows (all_map (IsOwn s) (λ (row : Row). row.id ≡ id → ⊥)
     (λ row own is.
-    let piece : IsPieceOf v.w s.pending id = own_of s id v.w row v.cut.writing.found v.cut.writing.is_open is own in
-    let clash : None ≡ Some id = sym v.cut.writing.quiet ∙ piece.vector kind in
+    let piece : IsPieceOf v.w s.pending id = own_of s id v.w row v.writing.found v.writing.is_open is own in
+    let clash : None ≡ Some id = sym v.writing.quiet ∙ piece.vector kind in
     cc) s.rows h)
 
 -- so it is new, and small
@@ -274,8 +274,8 @@ fragment_new s id pin start payload f h =
     let fits : blocks_of s.geometry.fragment ≤ s.geometry.agg / 2 = s.geometry.accepted.fragment_fits.1 in
     record { nowhere = fragment_nowhere s id pin start payload f h; small = omega (arith, few, fits) }
 
-pub vector_new : (s : State) (id : PieceId) (pin start : ℕ) (payload : List ℕ) → IsVectorOf s id pin start payload → is_vector id ≡ true → IsNamed s → IsNew s id payload
-vector_new s id pin start payload v kind h = record { nowhere = vector_nowhere s id pin start payload v kind h; small = v.small }
+pub vector_new : (s : State) (id : PieceId) (start : ℕ) (payload : List ℕ) → IsVectorFor s id start payload → is_vector id ≡ true → IsNamed s → IsNew s id payload
+vector_new s id start payload v kind h = record { nowhere = vector_nowhere s id start payload v kind h; small = v.small }
 
 -- ---- a fragment that was cut and placed
 

@@ -185,6 +185,7 @@ spent_by true u f n room left records entries c new is h uses r e still = subst 
   of_records = uses.of_records;
   of_entries = uses.of_entries;
   device = subst (λ k. Keeps 1 k c.device new.device) (one_of c.geometry.agg) uses.device;
+  later = uses.later;
 }) r e (omega arith))
   where
     one_of : (k : ℕ) → k ≡ 1 * k
@@ -194,6 +195,7 @@ spent_by false u f n room left records entries c new is h uses r e still = subst
   of_records = uses.of_records;
   of_entries = uses.of_entries;
   device = subst (λ d. Keeps 0 0 c.device d) (sym (still refl)) (record { size = refl; trust = omega arith; calls = omega arith; blocks = omega arith });
+  later = uses.later;
 }) r e)
 
 -- an empty buffer, and a piece that has room

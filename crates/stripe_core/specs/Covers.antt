@@ -33,3 +33,4 @@ pub record Uses (records entries calls blocks : ℕ) (room left : ℕ) (old new 
   pub of_records : room ≤ left + records
   pub of_entries : old.spare ≤ new.spare + entries
   pub device : Keeps calls blocks old.device new.device
+  pub later : old.device.faults ≤ new.device.faults

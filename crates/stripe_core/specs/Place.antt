@@ -13,7 +13,7 @@ use Rattle.cache_model.specs.State.{PutRow, State, after_all, cursor_next, floor
 use Rattle.cache_model.specs.Verdict.{cuts_of}
 use Rattle.cache_model.specs.Permit.{Done, End, Finish, Fragment, Permit, Stays}
 use Rattle.cache_model.specs.Room.{greatest_pin, has_room, is_flush_exhausted, limit, placed_record}
-use Rattle.cache_model.specs.Legal.{AreLiveTo, Does, IsCut, IsNext, MakesRoom, next_fragment_of, vector_length, vector_payload}
+use Rattle.cache_model.specs.Legal.{AreLiveTo, Does, IsCut, IsNext, IsWriting, MakesRoom, next_fragment_of, vector_length, vector_payload}
 use Rattle.stripe_core.specs.declared.refusal.Placed.{Placed}
 use Rattle.stripe_core.specs.declared.refusal.Stop.{Stop}
 use Rattle.stripe_core.specs.declared.refusal.Stop.TheVariants as stop
@@ -112,7 +112,16 @@ CutsAsAsked s before after id pin start payload result =
 
 -- ---- a vector
 
--- the vector of a put whose fragments are all cut and live; there is room for it
+-- the vector of an open put, which is small, and there is room for it
+pub record IsVectorFor (s : State) (id : PieceId) (start : ℕ) (payload : List ℕ) : Type 0 where
+  pub w : PutRow
+  pub writing : IsWriting s id.put w
+  pub id_is : id ≡ vector_piece w.key id.put
+  pub start_is : start ≡ 0
+  pub small : blocks_of (length payload) ≤ budget_of s.geometry
+  pub room : has_room s (length payload) ≡ true
+
+-- the vector of a put whose fragments are all cut and live: it spells what the put's vector lists
 pub record IsVectorOf (s : State) (id : PieceId) (pin start : ℕ) (payload : List ℕ) : Type 0 where
   pub w : PutRow
   pub cut : IsCut s id.put (length w.cuts) w
@@ -122,17 +131,17 @@ pub record IsVectorOf (s : State) (id : PieceId) (pin start : ℕ) (payload : Li
   pub start_is : start ≡ 0
   pub payload_is : payload ≡ vector_payload s id.put
   pub length_is : length payload ≡ vector_length s id.put
-  pub small : blocks_of (length payload) ≤ budget_of s.geometry
   pub room : has_room s (length payload) ≡ true
 
+-- such a vector finishes the put
 abbrev pub FinishesAsAsked : State → ℕ → ℕ → PieceId → ℕ → ℕ → List ℕ → ℕ → Result Placed Stop → Type 0
-FinishesAsAsked s before after id pin start payload fragments result =
-    (p : Permit) → Covers p before after [] → Does p s (Finish id.put fragments) (place_adds s id pin start payload result) (place_end result)
+FinishesAsAsked s before after id pin start payload fragments result = IsVectorOf s id pin start payload
+    → (p : Permit) → Covers p before after [] → Does p s (Finish id.put fragments) (place_adds s id pin start payload result) (place_end result)
 
 -- ---- a piece of either kind
 
 abbrev pub IsPlacing : State → PieceId → ℕ → ℕ → List ℕ → Type 0
-IsPlacing s id pin start payload = MatchBool (is_vector id) (IsVectorOf s id pin start payload) (IsFragmentOf s id pin start payload)
+IsPlacing s id pin start payload = MatchBool (is_vector id) (IsVectorFor s id start payload) (IsFragmentOf s id pin start payload)
 
 abbrev pub placing_adds : State → PieceId → ℕ → ℕ → List ℕ → Result Placed Stop → List Rec
 placing_adds s id pin start payload result =

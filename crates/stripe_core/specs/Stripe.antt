@@ -1,6 +1,8 @@
 -- What contracts see of a stripe: its pieces and its actors, in step with the records, and the memory
 -- that is made for calls to come.
 use Rattle.std.specs.Prelude.{ℕ, ◌≡◌, ◌*◌, ◌<◌, ◌≤◌, false, length, Result, Ok, Err}
+use Rattle.tape_base.specs.declared.pieces.PieceId.{PieceId}
+use Rattle.tape_base.specs.Piece.{is_vector}
 use Rattle.ats_disk.specs.Device.{SameSeen, State as Device}
 use Rattle.ats_disk.specs.declared.device.Disk.{Ghosts as DiskGhosts}
 use Rattle.dir_table.specs.declared.directory.Directory.{Ghosts as DirectoryGhosts}
@@ -9,7 +11,7 @@ use Rattle.cache_model.specs.State.{State}
 use Rattle.cache_model.specs.Kept.{Kept}
 use Rattle.cache_chronicle.specs.declared.chronicle.Chronicle.{Ghosts as ChronicleGhosts}
 use Rattle.open_directory.specs.Directory.{room_of}
-use Rattle.stripe_actors.specs.Actors.{AreActors, Seen as Actors}
+use Rattle.stripe_actors.specs.Actors.{AreActors, reader_room_of, Seen as Actors}
 use Rattle.stripe_core.specs.declared.refusal.Refusal.{Refusal}
 use Rattle.stripe_core.specs.declared.refusal.Refusal.TheVariants as refusal
 use Rattle.stripe_core.specs.declared.refusal.Stop.{Stop}
@@ -40,7 +42,7 @@ units_in t = t.units
 abbrev pub flushes_in : {D R C : Type 0} → Stripe D R C → ℕ
 flushes_in t = t.flushes
 
--- memory is made for so many calls: of each a flush, a piece, and their records
+-- memory is made for so many calls: of each a flush, a piece, and their records; `IsStripe` has the readers
 pub record IsSpared (units flushes room : ℕ) (c : Seen) : Type 0 where
   pub for_records : 3 * units ≤ room
   pub entries : units ≤ c.spare
@@ -59,6 +61,10 @@ pub record IsStill (old new : Device) : Type 0 where
 abbrev pub room_for : ℕ → Actors → ℕ
 room_for put a = room_of put a.held.puts
 
+-- a fragment can be cut without more memory; a vector is no fragment
+abbrev pub RowIsMade : PieceId → Actors → Type 0
+RowIsMade id a = is_vector id ≡ false → 0 < room_for id.put a
+
 -- what holds of a stripe between calls
 pub record IsStripe {D R C : Type 0} (disk : DiskGhosts D) (directory : DirectoryGhosts R) (chronicle : ChronicleGhosts C) (t : Stripe D R C) : Type 0 where
   pub pieces : ArePieces disk directory chronicle t.pieces
@@ -68,6 +74,8 @@ pub record IsStripe {D R C : Type 0} (disk : DiskGhosts D) (directory : Director
   pub spared : IsSpared t.units t.flushes (chronicle.room t.pieces.chronicle) (seen_in disk directory t)
   -- each piece is one of a put that has begun, and of an open put one that it has cut
   pub named : IsNamed (state_in chronicle t)
+  -- a call may open a reader
+  pub readers : t.units ≤ reader_room_of t.actors
   -- each reader has a record
   pub numbered : (state_in chronicle t).next_reader < length (kept_in chronicle t).since
 

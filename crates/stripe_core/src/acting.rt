@@ -1,12 +1,12 @@
 // How writers and readers come and go.
-ghost use Rattle.std.specs.Prelude.{◌≡◌, ◌+◌, ◌≤◌, ◌<◌, ◌^◌, ℕ, [], ◌∷◌, Some, IsSome, IfOk, IfSome, OnOk, OnErr};
+ghost use Rattle.std.specs.Prelude.{◌≡◌, ◌+◌, ◌≤◌, ◌<◌, ◌^◌, ℕ, [], ◌∷◌, Some, IsSome, IsOk, IfOk, IfSome, OnOk, OnErr};
 ghost use Rattle.cache_model.specs.declared.record.Rec.TheVariants as rec;
 ghost use Rattle.cache_model.specs.Kept.{with_records};
 ghost use Rattle.cache_model.specs.Legal.{IsQuiet, answer_record};
 ghost use Rattle.cache_model.specs.Verdict.{live_vector_of};
 ghost use Rattle.cache_model.specs.State.{State};
-ghost use Rattle.stripe_actors.specs.Actors.{AreActors};
-ghost use Rattle.stripe_actors.specs.Calls.{HasNumber, KeepUpWith};
+ghost use Rattle.stripe_actors.specs.Actors.{AreActors, reader_room_of};
+ghost use Rattle.stripe_actors.specs.Calls.{HasNumber, KeepUpWith, StayInStep};
 ghost use Rattle.stripe_core.specs.Acts.{AnswersLookup, CommitsAsAsked, GivesUpAsAsked, IsCommitting, IsFollowable, IsGivable, IsGivingUp, IsRefusedPut, OpensAsAsked, RefusesAsAsked, RemovesAsAsked, committed_record, opened_record};
 
 use crate::flushing::LIMIT;
@@ -142,6 +142,7 @@ impl<D: Disk, R: Directory + Drop, C: Chronicle> Stripe<D, R, C> {
         ensures reader { IfOk result (λ reader. reader ≡ (state_in C.Chronicle self.old).next_reader) }
         ensures err { OnErr result (kept_in C.Chronicle self.new ≡ kept_in C.Chronicle self.old) }
         ensures still { IsStill (seen_in D.Disk R.Directory self.old).device (seen_in D.Disk R.Directory self.new).device }
+        ensures memory { 0 < units_in self.old → IsOk result }
         ensures unit { units_in self.old ≤ units_in self.new + 1 }
     {
         self.take_unit()?;
@@ -252,7 +253,8 @@ fn put_refusal(actors: &Actors) -> Option<Refusal>
 // A reader that was given a fragment goes on behind it.
 fn go_on(actors: &mut Actors, reader: u64, answer: NextAnswer)
     requires { IsGivable answer }
-    ensures { KeepUpWith (answer_record reader answer) actors.old actors.new }
+    ensures keeps { KeepUpWith (answer_record reader answer) actors.old actors.new }
+    ensures readers { reader_room_of actors.old ≤ reader_room_of actors.new }
 {
     match answer {
         NextAnswer::Gave { index, .. } => actors.gave(reader, index),
@@ -265,7 +267,9 @@ fn answer_lookup(actors: &mut Actors, answer: ReadAnswer) -> Result<u64, AllocEr
     requires { actors.old.next_reader + 1 < 2 ^ 64 }
     ensures number { IfOk result (λ reader. reader ≡ actors.old.next_reader) }
     ensures keeps { IfOk result (λ reader. AnswersLookup reader answer actors.old actors.new) }
-    ensures err { OnErr result (actors.new ≡ actors.old) }
+    ensures err { OnErr result (StayInStep actors.old actors.new) }
+    ensures room { reader_room_of actors.old ≤ reader_room_of actors.new + 1 }
+    ensures reserved { 0 < reader_room_of actors.old → IsOk result }
 {
     match answer {
         ReadAnswer::Hit { put } => actors.open_reader(put),

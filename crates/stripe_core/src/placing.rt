@@ -5,7 +5,7 @@ ghost use Rattle.cache_model.specs.Kept.{with_records};
 ghost use Rattle.cache_model.specs.Legal.{IsQuiet};
 ghost use Rattle.cache_model.specs.Room.{doc_at, has_room};
 ghost use Rattle.stripe_core.specs.Covers.{Uses};
-ghost use Rattle.stripe_core.specs.Place.{CutsAsAsked, FinishesAsAsked, FragmentAt, IsFragmentOf, IsNew, IsVectorOf, PlacesAt, fragment_adds, piece_records, place_adds};
+ghost use Rattle.stripe_core.specs.Place.{CutsAsAsked, FragmentAt, IsFragmentOf, IsNew, PlacesAt, fragment_adds, piece_records, place_adds};
 
 use crate::flushing::LIMIT;
 use crate::refusal::{Placed, Stop};

@@ -1,5 +1,6 @@
 // The stripe: its pieces, and who writes and reads them.
-ghost use Rattle.std.specs.Prelude.{◌≡◌, ◌+◌, ◌*◌, ◌<◌, ◌≤◌, ◌^◌, true, false, [], IfOk, IfErr, IfSome, OnOk, OnErr, IsOk, length, if◌then◌else◌};
+ghost use Rattle.std.specs.Prelude.{ℕ, ◌≡◌, ◌+◌, ◌*◌, ◌<◌, ◌≤◌, ◌^◌, true, false, [], IfOk, IfErr, IfSome, OnOk, OnErr, IsOk, length, if◌then◌else◌};
+ghost use Rattle.tape_base.specs.Blocks.{blocks_of};
 ghost use Rattle.tape_base.specs.Geometry.{budget_of};
 ghost use Rattle.agg_buffer.specs.Buffer.{room_of};
 ghost use Rattle.cache_model.specs.State.{floor_now};
@@ -9,8 +10,10 @@ ghost use Rattle.cache_model.specs.Room.{has_room};
 ghost use Rattle.stripe_core.specs.Flush.{DoesAsAsked, StopsWith, Tells, flush_adds};
 ghost use Rattle.cache_model.specs.Legal.{is_writing};
 ghost use Rattle.cache_model.specs.Verdict.{cuts_of};
+ghost use Rattle.stripe_actors.specs.Actors.{reader_room_of};
+ghost use Rattle.stripe_actors.specs.Calls.{with_room_of_readers};
 ghost use Rattle.stripe_core.specs.Find.{Finds, find_adds};
-ghost use Rattle.stripe_core.specs.Place.{CutsAsAsked, FinishesAsAsked, FragmentAt, IsFragmentOf, IsPlacedAt, IsPlacing, IsVectorOf, PlacesAsAsked, PlacesAt, fragment_adds, place_adds, placing_adds};
+ghost use Rattle.stripe_core.specs.Place.{CutsAsAsked, FinishesAsAsked, FragmentAt, IsFragmentOf, IsPlacedAt, IsPlacing, IsVectorFor, MakesRoomAsAsked, PlacesAsAsked, PlacesAt, fragment_adds, place_adds, placing_adds, room_adds};
 
 use crate::Pieces;
 use crate::refusal::{Flushed, Found, Placed, Refusal};
@@ -34,7 +37,7 @@ pub struct Stripe<D: Disk, R: Directory + Drop, C: Chronicle> {
 
 impl<D: Disk, R: Directory + Drop, C: Chronicle> Stripe<D, R, C> {
     ghost use Rattle.stripe_core.specs.Pieces.{live_place_of};
-    ghost use Rattle.stripe_core.specs.Stripe.{Answers, HasMemory, IsSpared, IsStill, IsStripe, alloc_in, flushes_in, kept_in, room_for, seen_in, state_in, units_in};
+    ghost use Rattle.stripe_core.specs.Stripe.{Answers, HasMemory, IsSpared, IsStill, IsStripe, RowIsMade, alloc_in, flushes_in, kept_in, room_for, seen_in, state_in, units_in};
 
     /// Begins a session on an empty content area. A refusal gives back the device and the chronicle.
     pub fn format(
@@ -146,8 +149,10 @@ impl<D: Disk, R: Directory + Drop, C: Chronicle> Stripe<D, R, C> {
             ≡ with_records (kept_in C.Chronicle self.old) (flush_adds (state_in C.Chronicle self.old) r)) (kept_in C.Chronicle self.new ≡ kept_in C.Chronicle self.old) }
         ensures does { Answers result (DoesAsAsked (state_in C.Chronicle self.old) (seen_in D.Disk R.Directory self.old).device.faults
             (seen_in D.Disk R.Directory self.new).device.faults) (Unit {0}) }
+        ensures row { (put : ℕ) → room_for put self.new.actors ≡ room_for put self.old.actors }
         ensures tells { IfOk result (Tells (state_in C.Chronicle self.old) (state_in C.Chronicle self.new)) }
         ensures stops { Answers result (λ r. IfErr r (StopsWith (state_in C.Chronicle self.old) (seen_in D.Disk R.Directory self.new).device.faults)) (Unit {0}) }
+        ensures later { (seen_in D.Disk R.Directory self.old).device.faults ≤ (seen_in D.Disk R.Directory self.new).device.faults }
         ensures memory { 0 < units_in self.old → HasMemory result }
         ensures unit { units_in self.old ≤ units_in self.new + 1 }
     {
@@ -158,6 +163,30 @@ impl<D: Disk, R: Directory + Drop, C: Chronicle> Stripe<D, R, C> {
         match self.pieces.flush() {
             Ok(flushed) => Ok(flushed),
             Err(stop) => Err(Refusal::from(stop)),
+        }
+    }
+
+    /// Flushes where a piece with so many bytes of payload has no room.
+    pub fn make_room(&mut self, bytes: u32) -> Result<(), Refusal>
+        requires stripe { IsStripe D.Disk R.Directory C.Chronicle self.old }
+        requires quiet { IsQuiet (state_in C.Chronicle self.old) }
+        requires small { blocks_of bytes ≤ budget_of (state_in C.Chronicle self.old).geometry }
+        ensures stripe { IsStripe D.Disk R.Directory C.Chronicle self.new }
+        ensures adds { Answers result (λ r. kept_in C.Chronicle self.new
+            ≡ with_records (kept_in C.Chronicle self.old) (room_adds (state_in C.Chronicle self.old) bytes r)) (kept_in C.Chronicle self.new ≡ kept_in C.Chronicle self.old) }
+        ensures does { Answers result (MakesRoomAsAsked (state_in C.Chronicle self.old) bytes (seen_in D.Disk R.Directory self.old).device.faults
+            (seen_in D.Disk R.Directory self.new).device.faults) (Unit {0}) }
+        ensures later { (seen_in D.Disk R.Directory self.old).device.faults ≤ (seen_in D.Disk R.Directory self.new).device.faults }
+        ensures row { (put : ℕ) → room_for put self.new.actors ≡ room_for put self.old.actors }
+        ensures memory { 0 < units_in self.old → HasMemory result }
+        ensures unit { units_in self.old ≤ units_in self.new + 1 }
+    {
+        if blocks_of(bytes) <= self.room() {
+            return Ok(());
+        }
+        match self.flush() {
+            Ok(_) => Ok(()),
+            Err(why) => Err(why),
         }
     }
 
@@ -172,6 +201,8 @@ impl<D: Disk, R: Directory + Drop, C: Chronicle> Stripe<D, R, C> {
         ensures finds { IfOk result (λ found. Finds (state_in C.Chronicle self.old) (seen_in D.Disk R.Directory self.old).device
             (seen_in D.Disk R.Directory self.new).device id found into.new) }
         ensures err { OnErr result (kept_in C.Chronicle self.new ≡ kept_in C.Chronicle self.old) }
+        ensures later { (seen_in D.Disk R.Directory self.old).device.faults ≤ (seen_in D.Disk R.Directory self.new).device.faults }
+        ensures row { (put : ℕ) → room_for put self.new.actors ≡ room_for put self.old.actors }
         ensures memory { 0 < units_in self.old → IsOk result }
         ensures unit { units_in self.old ≤ units_in self.new + 1 }
     {
@@ -190,10 +221,24 @@ impl<D: Disk, R: Directory + Drop, C: Chronicle> Stripe<D, R, C> {
         ensures more { units_in self.old ≤ units_in self.new }
         ensures still { IsStill (seen_in D.Disk R.Directory self.old).device (seen_in D.Disk R.Directory self.new).device }
     {
-        if let Some(put) = put {
-            self.actors.reserve_cut(put)?;
-        }
+        self.make_row(put)?;
         self.make_units(units)
+    }
+
+    // Makes memory for the next fragment of a put.
+    fn make_row(&mut self, put: Option<u64>) -> Result<(), AllocError>
+        requires stripe { IsStripe D.Disk R.Directory C.Chronicle self.old }
+        requires open { IfSome put (λ n. is_writing (state_in C.Chronicle self.old) n ≡ true) }
+        ensures stripe { IsStripe D.Disk R.Directory C.Chronicle self.new }
+        ensures records { kept_in C.Chronicle self.new ≡ kept_in C.Chronicle self.old }
+        ensures row { OnOk result (IfSome put (λ n. 0 < room_for n self.new.actors)) }
+        ensures units { units_in self.new ≡ units_in self.old }
+        ensures still { seen_in D.Disk R.Directory self.new ≡ seen_in D.Disk R.Directory self.old }
+    {
+        match put {
+            Some(put) => self.actors.reserve_cut(put),
+            None => Ok(()),
+        }
     }
 
     /// Places a piece: the next fragment of an open put, behind a flush where it has no room, or a
@@ -217,6 +262,9 @@ impl<D: Disk, R: Directory + Drop, C: Chronicle> Stripe<D, R, C> {
         // Without a flush the device stays as it is, but for the memory of its calls.
         ensures still { has_room (state_in C.Chronicle self.old) (length payload.now) ≡ true
             → IsStill (seen_in D.Disk R.Directory self.old).device (seen_in D.Disk R.Directory self.new).device }
+        ensures later { (seen_in D.Disk R.Directory self.old).device.faults ≤ (seen_in D.Disk R.Directory self.new).device.faults }
+        // Of a fragment, memory of a row is made too.
+        ensures memory { 0 < units_in self.old → RowIsMade id self.old.actors → HasMemory result }
         ensures unit { units_in self.old ≤ units_in self.new + 1 }
     {
         self.take_unit()?;
@@ -237,7 +285,7 @@ impl<D: Disk, R: Directory + Drop, C: Chronicle> Stripe<D, R, C> {
         requires stripe { IsStripe D.Disk R.Directory C.Chronicle self.old }
         requires spared { IsSpared (units_in self.old + 1) (flushes_in self.old) (C.room self.old.pieces.chronicle) (seen_in D.Disk R.Directory self.old) }
         requires kind { id.index ≡ 0 }
-        requires vector { IsVectorOf (state_in C.Chronicle self.old) id pin start payload.now }
+        requires vector { IsVectorFor (state_in C.Chronicle self.old) id start payload.now }
         ensures stripe { IsStripe D.Disk R.Directory C.Chronicle self.new }
         ensures adds { Answers result (λ r. kept_in C.Chronicle self.new
             ≡ with_records (kept_in C.Chronicle self.old) (place_adds (state_in C.Chronicle self.old) id pin start payload.now r)) ⊥ }
@@ -272,6 +320,8 @@ impl<D: Disk, R: Directory + Drop, C: Chronicle> Stripe<D, R, C> {
         ensures at { Answers result (FragmentAt (state_in C.Chronicle self.old) (seen_in D.Disk R.Directory self.new).device.faults payload.now) (Unit {0}) }
         ensures still { has_room (state_in C.Chronicle self.old) (length payload.now) ≡ true
             → (seen_in D.Disk R.Directory self.new).device ≡ (seen_in D.Disk R.Directory self.old).device }
+        ensures later { (seen_in D.Disk R.Directory self.old).device.faults ≤ (seen_in D.Disk R.Directory self.new).device.faults }
+        ensures memory { 0 < room_for id.put self.old.actors → HasMemory result }
         ensures unit { units_in self.new ≡ units_in self.old }
     {
         self.actors.reserve_cut(id.put)?;
@@ -293,7 +343,8 @@ impl<D: Disk, R: Directory + Drop, C: Chronicle> Stripe<D, R, C> {
         ensures stripe { IsStripe D.Disk R.Directory C.Chronicle self.new }
         ensures records { kept_in C.Chronicle self.new ≡ kept_in C.Chronicle self.old }
         ensures spared { OnOk result (IsSpared (units_in self.new + 1) (flushes_in self.new) (C.room self.new.pieces.chronicle) (seen_in D.Disk R.Directory self.new)) }
-        ensures actors { self.new.actors ≡ self.old.actors }
+        ensures actors { self.new.actors ≡ with_room_of_readers (reader_room_of self.new.actors) self.old.actors }
+        ensures readers { OnOk result (units_in self.new + 1 ≤ reader_room_of self.new.actors) }
         ensures memory { 0 < units_in self.old → IsOk result }
         ensures unit { units_in self.old ≤ units_in self.new + 1 }
         ensures still { IsStill (seen_in D.Disk R.Directory self.old).device (seen_in D.Disk R.Directory self.new).device }
@@ -309,13 +360,14 @@ impl<D: Disk, R: Directory + Drop, C: Chronicle> Stripe<D, R, C> {
         ensures stripe { IsStripe D.Disk R.Directory C.Chronicle self.new }
         ensures records { kept_in C.Chronicle self.new ≡ kept_in C.Chronicle self.old }
         ensures units { OnOk result (units ≤ units_in self.new) }
-        ensures actors { self.new.actors ≡ self.old.actors }
+        ensures actors { self.new.actors ≡ with_room_of_readers (reader_room_of self.new.actors) self.old.actors }
         ensures memory { units ≤ units_in self.old → IsOk result }
         ensures more { units_in self.old ≤ units_in self.new }
         ensures still { IsStill (seen_in D.Disk R.Directory self.old).device (seen_in D.Disk R.Directory self.new).device }
     {
         if units > self.units {
             let more = units.saturating_sub(self.flushes);
+            self.actors.reserve_readers(units)?;
             self.pieces.prepare(units, more)?;
             self.units = units;
             self.flushes += more;

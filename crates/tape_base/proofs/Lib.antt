@@ -1,3 +1,3 @@
-mod DigestLaw
+pub mod DigestLaw
 mod LowBytes
 pub mod NameLaws

@@ -24,4 +24,4 @@ returns-in-Follow-clause-keeps c =
 
 pub returns-in-Miss-clause-keeps : goal.returns-in-Miss-clause-keeps
 returns-in-Miss-clause-keeps c = λ s who key request f a.
-    subst (λ answer. AreActors (state_after s (rec.ReadOpened c.miss.result who key request answer)) c.miss.new.self) (sym c.in-Miss.is) (c.miss.ensures.missed who key request c.in-Miss.field-0 s a)
+    subst (λ answer. AreActors (state_after s (rec.ReadOpened c.miss.result who key request answer)) c.miss.new.self) (sym c.in-Miss.is) (c.miss.ensures.misses.missed who key request c.in-Miss.field-0 s a)

@@ -19,7 +19,7 @@ invariant_of-self c =
     let puts = c.self.inside.puts.entries in
     let fewer_puts = one_fewer gone.put puts in
     record {
-      index = indexed_removed c.args.reader gone c.self.inside.index.entries c.remove-in-Some.new.index.entries c.self.inside.readers.entries c.remove.new.self.entries c.self.invariant.index c.remove-in-Some.ensures.least c.remove-in-Some.ensures.next (sym c.in-Some.ensures.value) (c.in-Some.ensures.updates).0;
+      index = indexed_removed c.args.reader gone c.self.inside.index.trees.entries c.remove-in-Some.new.self.trees.entries c.self.inside.readers.entries c.remove.new.self.entries c.self.invariant.index c.remove-in-Some.ensures.least c.remove-in-Some.ensures.next (sym c.in-Some.ensures.value) c.in-Some.ensures.finds;
       held = record {
         few = c.self.invariant.held.few;
         writing = λ q. c.self.invariant.held.writing q ∙ sym (ap (λ b. cond b 1 0) (forgets_open gone.put fewer_puts c.remove_follower.new.puts.entries c.remove_follower.ensures.forgets q ∙ seen_changed is_open_put (λ kept. with_followers (kept.followers - 1) kept) (λ kept. refl) q gone.put puts));
@@ -39,7 +39,7 @@ pub invariant_of-self-else-gone : goal.invariant_of-self-else-gone
 invariant_of-self-else-gone c =
     let gone = c.in-Some.gone in
     record {
-      index = indexed_removed c.args.reader gone c.self.inside.index.entries c.remove-in-Some.new.index.entries c.self.inside.readers.entries c.remove.new.self.entries c.self.invariant.index c.remove-in-Some.ensures.least c.remove-in-Some.ensures.next (sym c.in-Some.ensures.value) (c.in-Some.ensures.updates).0;
+      index = indexed_removed c.args.reader gone c.self.inside.index.trees.entries c.remove-in-Some.new.self.trees.entries c.self.inside.readers.entries c.remove.new.self.entries c.self.invariant.index c.remove-in-Some.ensures.least c.remove-in-Some.ensures.next (sym c.in-Some.ensures.value) c.in-Some.ensures.finds;
       held = record {
         few = c.self.invariant.held.few;
         writing = c.self.invariant.held.writing;

@@ -6,7 +6,7 @@ use Rattle.open_directory.proofs.directory.OpenDirectory.set_reader.Goals as goa
 
 pub invariant_of-self : goal.invariant_of-self
 invariant_of-self c = record {
-  index = indexed_moved c.in-Some.put c.args.reader c.args.next c.self.inside.index.entries c.set.new.index.entries c.self.inside.readers.entries c.set_next.new.readers.entries c.self.invariant.index c.set.ensures.least c.set.ensures.next c.in-Some.ensures.put c.set_next.ensures.moved;
+  index = indexed_moved c.in-Some.put c.args.reader c.args.next c.self.inside.index.trees.entries c.set.new.self.trees.entries c.self.inside.readers.entries c.set_next.new.self.entries c.self.invariant.index c.set.ensures.least c.set.ensures.next c.in-Some.ensures.put c.set_next.ensures.moved;
   held = record {
     few = c.self.invariant.held.few;
     writing = c.self.invariant.held.writing;

@@ -10,8 +10,8 @@ invariant_of-self c =
     let is = rw c.unwrap.ensures at c.abort.ensures.ok in
     ended_numbered c.self.inside.open c.abort.new.self c.self.inside.next_put c.self.inside.next_reader c.args.put (phase_of GivenUp) is c.self.invariant
 
-pub returns : goal.returns
-returns c key s h =
+pub returns-clause-ends : goal.returns-clause-ends
+returns-clause-ends c key s h =
     let is = rw c.unwrap.ensures at c.abort.ensures.ok in
     aborted_in_step s c.self.inside.open c.abort.new.self c.self.inside.next_put c.self.inside.next_reader c.args.put key c.self.invariant.puts is
     (subst (λ (a : Seen). AreActors s a) (sym c.self.view_is) h)

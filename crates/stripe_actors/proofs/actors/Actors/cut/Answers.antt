@@ -12,8 +12,8 @@ invariant_of-self c =
     let is = rw c.unwrap.ensures at c.cut_fragment-cut.ensures.ok in
     cut_numbered c.self.inside.open new c.self.inside.next_put c.self.inside.next_reader c.args.put (room_of c.args.put new.puts) (made_row c.args.length c.args.digest.0) is c.self.invariant
 
-pub returns : goal.returns
-returns c index s h =
+pub returns-clause-cuts : goal.returns-clause-cuts
+returns-clause-cuts c index s h =
     let new = c.cut_fragment-cut.new.self in
     let is = rw c.unwrap.ensures at c.cut_fragment-cut.ensures.ok in
     cut_in_step s c.self.inside.open new c.self.inside.next_put c.self.inside.next_reader c.args.put index c.args.length (room_of c.args.put new.puts) c.args.digest is

@@ -41,7 +41,7 @@ returns-in-Ok-clause-ok c =
       number = ap (λ (a : Seen). a.next_put) c.self.view_is;
       opened = λ who pin s h.
           opened_in_step s c.self.inside.open new c.self.inside.next_put c.self.inside.next_reader (room_of c.self.inside.next_put new.puts) who c.args.key c.args.request c.args.response pin
-          c.self.invariant.puts c.in-Ok.ensures.ok
+          c.in-Ok.ensures.ok
           (subst (λ (a : Seen). AreActors s a) (sym c.self.view_is) h);
     }
 

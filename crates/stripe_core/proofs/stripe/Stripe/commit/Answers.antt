@@ -20,11 +20,12 @@ returns-clause-stripe g c =
     let reader = reader_behind kept after told c.commit.ensures.adds in
     record {
       pieces = c.commit.ensures.pieces;
-      actors = subst (λ t. AreActors t c.close.new.self) (sym (ap state_of c.commit.ensures.adds ∙ state_of-with_records kept (told ∷ []))) (c.close.ensures c.args.key c.length-length.result s c.requires.stripe.actors);
+      actors = subst (λ t. AreActors t c.close.new.self) (sym (ap state_of c.commit.ensures.adds ∙ state_of-with_records kept (told ∷ []))) (c.close.ensures.commits c.args.key c.length-length.result s c.requires.stripe.actors);
       plain = c.requires.stripe.plain;
       spared = one_less c.args.self.now.units c.args.self.now.flushes _ _ (seen_in g.D.Disk g.R.Directory c.args.self.now) (seen_of g.D.Disk g.R.Directory c.commit.new.self) c.requires.unit c.requires.stripe.spared c.commit.ensures.uses;
       named = named_behind kept _ told c.commit.ensures.adds
           (named_committed s c.args.put c.length-length.result c.args.key (c.requires.committing.pending ∙ ap (λ k. Some (vector_piece k c.args.put)) c.requires.committing.key_is) c.requires.stripe.named);
+      readers = omega (arith, c.requires.stripe.readers, c.close.ensures.readers);
       numbered = numbered_by kept after (told ∷ []) 0 c.commit.ensures.adds (omega (arith, reader)) (omega arith) c.requires.stripe.numbered;
     }
 

@@ -19,6 +19,7 @@ returns-clause-stripe g c =
       spared = spent_calm (units_in c.take_unit.new.self) (flushes_in c.take_unit.new.self) _ _ 1 0 (seen_in g.D.Disk g.R.Directory c.take_unit.new.self) (seen_of g.D.Disk g.R.Directory c.find.new.self)
           c.in_ok-take_unit.ensures.spared c.find.ensures.uses (omega arith) (omega arith);
       named = named_with kept _ adds c.find.ensures.adds (find_leaves taken c.args.id c.find.result) c.take_unit.ensures.stripe.named;
+      readers = c.take_unit.ensures.stripe.readers;
       numbered = numbered_others kept _ adds c.find.ensures.adds (find_are_others taken c.args.id c.find.result) c.take_unit.ensures.stripe.numbered;
     }
 

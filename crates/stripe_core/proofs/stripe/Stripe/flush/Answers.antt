@@ -34,6 +34,7 @@ returns-in-Ok-clause-stripe g c =
           (seen_of g.D.Disk g.R.Directory c.flush.new.self) c.one_where.ensures c.in_ok-take_unit.ensures.spared c.flush.ensures.uses (omega arith) (omega arith)
           (λ none. c.flush.ensures.still (nothing_in_buffer taken (seen_in g.D.Disk g.R.Directory c.take_unit.new.self) c.cursor.result c.next_place.result c.take_unit.ensures.stripe.pieces c.cursor.ensures c.next_place.ensures none));
       named = named_with kept _ adds c.in-Ok.ensures.adds (flush_leaves taken (Ok c.in-Ok.flushed)) c.take_unit.ensures.stripe.named;
+      readers = c.take_unit.ensures.stripe.readers;
       numbered = numbered_others kept _ adds c.in-Ok.ensures.adds (flush_is_others taken (Ok c.in-Ok.flushed)) c.take_unit.ensures.stripe.numbered;
     }
 
@@ -50,5 +51,18 @@ returns-in-Err-clause-stripe g c =
           (seen_of g.D.Disk g.R.Directory c.flush.new.self) c.one_where.ensures c.in_ok-take_unit.ensures.spared c.flush.ensures.uses (omega arith) (omega arith)
           (λ none. c.flush.ensures.still (nothing_in_buffer taken (seen_in g.D.Disk g.R.Directory c.take_unit.new.self) c.cursor.result c.next_place.result c.take_unit.ensures.stripe.pieces c.cursor.ensures c.next_place.ensures none));
       named = named_with kept _ adds c.in-Err.ensures.adds (flush_leaves taken (Err c.in-Err.stop)) c.take_unit.ensures.stripe.named;
+      readers = c.take_unit.ensures.stripe.readers;
       numbered = numbered_others kept _ adds c.in-Err.ensures.adds (flush_is_others taken (Err c.in-Err.stop)) c.take_unit.ensures.stripe.numbered;
     }
+
+pub returns-in-Ok-clause-later : goal.returns-in-Ok-clause-later
+returns-in-Ok-clause-later g c =
+    let taken = c.take_unit.ensures.still.faults in
+    let later = c.flush.ensures.uses.later in
+    omega (arith, taken, later)
+
+pub returns-in-Err-clause-later : goal.returns-in-Err-clause-later
+returns-in-Err-clause-later g c =
+    let taken = c.take_unit.ensures.still.faults in
+    let later = c.flush.ensures.uses.later in
+    omega (arith, taken, later)

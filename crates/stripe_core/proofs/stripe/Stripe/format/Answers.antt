@@ -10,5 +10,6 @@ returns-in-Ok-clause-stripe g c = record {
   plain = c.requires.plain;
   spared = record { for_records = omega arith; entries = omega arith; one_each = omega arith; calls = omega arith; blocks = omega arith };
   named = rw c.in-Ok.ensures.records tt;
+  readers = omega arith;
   numbered = rw c.in-Ok.ensures.records (omega arith);
 }

@@ -38,6 +38,7 @@ returns-in-Ok-clause-stripe g c =
       named = named_behind kept after told is
           (subst (λ n. IsNamed (state_after s (rec.WriteOpened c.args.actor n c.args.key c.args.request c.args.response c.args.pin))) (sym (c.in-Ok.ensures.ok.number ∙ c.requires.stripe.actors.next_put))
           (named_opened s c.args.actor c.args.key c.args.request c.args.response c.args.pin c.requires.stripe.named));
+      readers = omega (arith, c.requires.stripe.readers, c.open_put.ensures.readers);
       numbered = numbered_by kept after (told ∷ []) 0 is (omega (arith, reader)) (omega arith) c.requires.stripe.numbered;
     }
 
@@ -45,5 +46,6 @@ pub returns-in-Ok-clause-does : goal.returns-in-Ok-clause-does
 returns-in-Ok-clause-does g c =
     let s = state_in g.C.Chronicle c.args.self.now in (
       c.in-Ok.ensures.ok.number ∙ c.requires.stripe.actors.next_put,
-      λ p. opens p s c.args.actor c.args.key c.args.request c.args.response c.args.pin c.requires.quiet c.requires.number.few c.requires.number.below,
+      λ p. opens p s c.args.actor c.args.key c.args.request c.args.response c.args.pin c.requires.quiet c.requires.number.few c.requires.number.below
+          c.in_ok-kept_request.ensures.fields c.in_ok-kept_response.ensures.fields (omega arith),
     )

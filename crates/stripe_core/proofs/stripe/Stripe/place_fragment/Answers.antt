@@ -21,7 +21,7 @@ returns-in-Ok-clause-stripe g c =
     record {
       pieces = c.place_fragment.ensures.pieces;
       actors = subst (λ t. AreActors t c.cut.new.self) (sym after)
-          (fragment_actors s c.args.id c.args.pin c.args.start payload kind c.reserve_cut.new.self c.cut.new.self c.in-Ok.placed.payload c.in-Ok.ensures.at.1 c.cut.ensures
+          (fragment_actors s c.args.id c.args.pin c.args.start payload kind c.reserve_cut.new.self c.cut.new.self c.in-Ok.placed.payload c.in-Ok.ensures.at.1 c.cut.ensures.cuts
           (c.reserve_cut.ensures.step s c.requires.stripe.actors));
       plain = c.requires.stripe.plain;
       spared = spent_by (nat_lt c.room.result c.blocks_of.result) (units_in c.args.self.now) (flushes_in c.args.self.now) c.one_where.result _ _ 3 1 (seen_in g.D.Disk g.R.Directory c.args.self.now)
@@ -31,6 +31,7 @@ returns-in-Ok-clause-stripe g c =
           fragment_named s _ c.args.id _ _ c.args.pin c.args.start _ payload _ _ c.requires.fragment c.requires.stripe.named
           (begun_put s c.args.self.now.actors c.args.id.put c.requires.fragment.w c.requires.stripe.actors c.requires.fragment.next.writing.found)
           (after ∙ placed_state s c.args.id c.args.pin c.args.start payload kind);
+      readers = omega (arith, c.requires.stripe.readers, c.reserve_cut.ensures.readers, c.cut.ensures.readers);
       numbered =
           let same : (state_of (kept_of g.C.Chronicle c.place_fragment.new.self)).next_reader ≡ s.next_reader =
           ap (λ (t : Rattle.cache_model.specs.State.State). t.next_reader) after ∙ fragment_readers s c.args.id c.args.pin c.args.start payload kind in
@@ -51,6 +52,7 @@ returns-in-Err-clause-stripe g c =
           (seen_of g.D.Disk g.R.Directory c.place_fragment.new.self) c.one_where.ensures c.requires.spared c.place_fragment.ensures.uses (omega arith) (omega arith)
           (λ none. c.place_fragment.ensures.still (room_for_it s (seen_in g.D.Disk g.R.Directory c.args.self.now) (length c.args.payload.now) c.blocks_of.result c.room.result c.requires.stripe.pieces c.blocks_of.ensures c.room.ensures none));
       named = named_with kept _ adds c.in-Err.ensures.adds (stopped_leaves s c.args.id c.args.pin c.args.start c.args.payload.now c.in-Err.stop) c.requires.stripe.named;
+      readers = omega (arith, c.requires.stripe.readers, c.reserve_cut.ensures.readers);
       numbered = numbered_others kept _ adds c.in-Err.ensures.adds others c.requires.stripe.numbered;
     }
 
@@ -70,3 +72,9 @@ pub place_fragment-requires-clause-size : goal.place_fragment-requires-clause-si
 place_fragment-requires-clause-size g c =
     let s = state_in g.C.Chronicle c.args.self.now in
     small_size s (length c.args.payload.now) (fragment_new s c.args.id c.args.pin c.args.start c.args.payload.now c.requires.fragment c.requires.stripe.named).small
+
+pub returns-in-Ok-clause-later : goal.returns-in-Ok-clause-later
+returns-in-Ok-clause-later g c = c.place_fragment.ensures.uses.later
+
+pub returns-in-Err-clause-later : goal.returns-in-Err-clause-later
+returns-in-Err-clause-later g c = c.place_fragment.ensures.uses.later

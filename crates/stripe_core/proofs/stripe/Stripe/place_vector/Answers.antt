@@ -26,14 +26,15 @@ returns-in-Ok-clause-stripe g c =
       spared = spent_calm (units_in c.args.self.now) (flushes_in c.args.self.now) _ _ 2 1 (seen_in g.D.Disk g.R.Directory c.args.self.now) (seen_of g.D.Disk g.R.Directory c.place.new.self)
           c.requires.spared c.place.ensures.uses (omega arith) (omega arith);
       named = named_behind kept _ (placed_record s c.args.id c.args.pin c.args.start (length c.args.payload.now) c.args.payload.now) (c.in-Ok.ensures.adds ∙ ap (with_records kept) (vector_alone s c.args.id c.args.pin c.args.start c.args.payload.now kind))
-          (named_placed s c.args.id _ _ c.args.pin _ c.requires.vector.w c.requires.stripe.named c.requires.vector.cut.writing.quiet
-          (begun_put s c.args.self.now.actors c.args.id.put c.requires.vector.w c.requires.stripe.actors c.requires.vector.cut.writing.found) c.requires.vector.cut.writing.found (rw c.requires.kind (omega arith)));
+          (named_placed s c.args.id _ _ c.args.pin _ c.requires.vector.w c.requires.stripe.named c.requires.vector.writing.quiet
+          (begun_put s c.args.self.now.actors c.args.id.put c.requires.vector.w c.requires.stripe.actors c.requires.vector.writing.found) c.requires.vector.writing.found (rw c.requires.kind (omega arith)));
+      readers = c.requires.stripe.readers;
       numbered = numbered_others kept _ adds c.in-Ok.ensures.adds others c.requires.stripe.numbered;
     }
 
 pub returns-in-Ok-clause-does : goal.returns-in-Ok-clause-does
-returns-in-Ok-clause-does g c = λ p covers.
-    vector_group p (state_in g.C.Chronicle c.args.self.now) c.args.id c.args.pin c.args.start c.args.payload.now (Ok c.in-Ok.placed) covers.plain c.requires.vector
+returns-in-Ok-clause-does g c = λ lists p covers.
+    vector_group p (state_in g.C.Chronicle c.args.self.now) c.args.id c.args.pin c.args.start c.args.payload.now (Ok c.in-Ok.placed) covers.plain lists
     (eq-eqb c.args.id.index 0 c.requires.kind) c.requires.vector.small c.in-Ok.ensures.at
 
 pub returns-in-Err-clause-does : goal.returns-in-Err-clause-does
@@ -44,12 +45,12 @@ returns-in-Err-clause-does g c =
     let does = FinishesAsAsked s before after c.args.id c.args.pin c.args.start c.args.payload.now (length (cuts_of s c.args.id.put)) in
     subst (λ r. Answers (Err r) does ⊥) (sym c.from.ensures)
     (answers_stop c.in-Err.stop does ⊥
-    (λ p covers.
-    vector_group p s c.args.id c.args.pin c.args.start c.args.payload.now (Err c.in-Err.stop) covers.plain c.requires.vector (eq-eqb c.args.id.index 0 c.requires.kind) c.requires.vector.small c.in-Err.ensures.at))
+    (λ lists p covers.
+    vector_group p s c.args.id c.args.pin c.args.start c.args.payload.now (Err c.in-Err.stop) covers.plain lists (eq-eqb c.args.id.index 0 c.requires.kind) c.requires.vector.small c.in-Err.ensures.at))
 
 pub place-requires-clause-new : goal.place-requires-clause-new
 place-requires-clause-new g c =
-    vector_new (state_in g.C.Chronicle c.args.self.now) c.args.id c.args.pin c.args.start c.args.payload.now c.requires.vector (eq-eqb c.args.id.index 0 c.requires.kind) c.requires.stripe.named
+    vector_new (state_in g.C.Chronicle c.args.self.now) c.args.id c.args.start c.args.payload.now c.requires.vector (eq-eqb c.args.id.index 0 c.requires.kind) c.requires.stripe.named
 
 pub place-requires-clause-size : goal.place-requires-clause-size
 place-requires-clause-size g c = small_size (state_in g.C.Chronicle c.args.self.now) (length c.args.payload.now) c.requires.vector.small

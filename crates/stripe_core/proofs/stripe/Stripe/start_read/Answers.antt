@@ -26,5 +26,6 @@ returns-clause-stripe g c =
       plain = c.requires.stripe.plain;
       spared = one_told (units_in c.take_unit.new.self) (flushes_in c.take_unit.new.self) _ _ (seen_in g.D.Disk g.R.Directory c.take_unit.new.self) c.in_ok-take_unit.ensures.spared c.read_opened.ensures.room;
       named = named_behind kept after told c.read_opened.ensures.kept (name_left taken told refl c.take_unit.ensures.stripe.named);
+      readers = omega (arith, c.in_ok-take_unit.ensures.readers, c.answer_lookup.ensures.room);
       numbered = numbered_by kept after (told ∷ []) 1 c.read_opened.ensures.kept (omega (arith, reader, number)) (omega arith) c.take_unit.ensures.stripe.numbered;
     }

@@ -1,4 +1,4 @@
-use Rattle.std.proofs.Common.{refl, [], ◌∷◌}
+use Rattle.std.proofs.Common.{arith, refl, [], ◌∷◌}
 use Rattle.cache_model.specs.declared.record.Rec.TheVariants as rec
 use Rattle.stripe_core.specs.Pieces.{seen_of}
 use Rattle.stripe_core.specs.Stripe.{kept_in, seen_in, state_in}
@@ -18,6 +18,7 @@ returns-clause-stripe g c =
       plain = c.requires.stripe.plain;
       spared = one_less c.args.self.now.units c.args.self.now.flushes _ _ (seen_in g.D.Disk g.R.Directory c.args.self.now) (seen_of g.D.Disk g.R.Directory c.remove-put.new.self) c.requires.unit c.requires.stripe.spared c.remove-put.ensures.uses;
       named = named_behind kept _ told c.remove-put.ensures.adds (name_left s told refl c.requires.stripe.named);
+      readers = omega (arith, c.requires.stripe.readers);
       numbered = numbered_others kept _ (told ∷ []) c.remove-put.ensures.adds (refl, tt) c.requires.stripe.numbered;
     }
 
