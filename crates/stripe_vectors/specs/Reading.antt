@@ -1,0 +1,76 @@
+-- What is read of a key's vector, and what that says of the records.
+use Rattle.std.specs.Prelude.{ℕ, ◌≡◌, ◌*◌, ◌⊎◌, List, [], length, take, Option, Some, None, Result, Ok, Err}
+use Rattle.tape_base.specs.declared.keys.Key.{Key}
+use Rattle.tape_base.specs.Digest.{Collide}
+use Rattle.ats_disk.specs.Device.{State as Device}
+use Rattle.doc_header.specs.Reading.{document_digest, extent_of, payload_of}
+use Rattle.alternate_vector.specs.declared.fault.VectorFault.{VectorFault}
+use Rattle.alternate_vector.specs.Alternates.{Stored}
+use Rattle.alternate_vector.specs.Reading.{read_vector}
+use Rattle.cache_model.specs.declared.record.Rec.{Rec}
+use Rattle.cache_model.specs.State.{Row, State, alternates_of}
+use Rattle.cache_model.specs.Verdict.{live_vector_of}
+use Rattle.cache_model.specs.Permit.{DeviceRead, Permit}
+use Rattle.cache_model.specs.Legal.{IsGiven, IsWritten, Trouble}
+use Rattle.cache_model.specs.Vectors.{AreVectors, IsVectorRow, vector_document}
+use Rattle.stripe_core.specs.Covers.{AreSeen, Covers}
+use Rattle.stripe_core.specs.Find.{cause_records}
+use Rattle.stripe_vectors.specs.declared.reading.KeyVector.{KeyVector}
+use Rattle.stripe_vectors.specs.declared.reading.KeyVector.TheVariants as found
+
+-- the alternates that a payload spells: none, where it is no vector
+abbrev pub spelled_in : Result (List Stored) VectorFault → List Stored
+spelled_in (Ok list) = list
+spelled_in (Err fault) = []
+
+abbrev pub listed_in : List ℕ → List Stored
+listed_in payload = spelled_in (read_vector payload)
+
+-- the document of a live vector was read, and this is what it lists
+pub record IsReadAs (p : Permit) (s : State) (row : Row) (list : List Stored) : Type 0 where
+  pub bytes : List ℕ
+  pub whole : length bytes ≡ 512 * row.blocks
+  pub digest : row.digest ≡ document_digest bytes
+  pub given : IsWritten s row → IsGiven p s row bytes
+  pub spelled : list ≡ listed_in (payload_of bytes)
+
+-- no vector is live; or it was read; or the trouble with it
+abbrev pub IsVectorFound : Permit → State → Option Row → KeyVector → Type 0
+IsVectorFound p s None found.Absent = Unit {0}
+IsVectorFound p s None (found.Read list) = ⊥
+IsVectorFound p s None (found.Trouble why) = ⊥
+IsVectorFound p s (Some row) found.Absent = ⊥
+IsVectorFound p s (Some row) (found.Read list) = IsReadAs p s row list
+IsVectorFound p s (Some row) (found.Trouble why) = Trouble p s row (cause_records row why) why
+
+-- what the device gave, and what came of it in any step that covers the call
+pub record FindsVector (s : State) (old new : Device) (key : Key) (answer : KeyVector) : Type 0 where
+  pub reads : List DeviceRead
+  pub seen : AreSeen s.geometry new reads
+  pub answers : (p : Permit) → Covers p old.faults new.faults reads → IsVectorFound p s (live_vector_of s key) answer
+
+-- the record of what kept a live vector from being read
+abbrev pub trouble_records : Option Row → KeyVector → List Rec
+trouble_records None answer = []
+trouble_records (Some row) found.Absent = []
+trouble_records (Some row) (found.Read list) = []
+trouble_records (Some row) (found.Trouble why) = cause_records row why
+
+abbrev pub vector_adds : State → Key → KeyVector → List Rec
+vector_adds s key answer = trouble_records (live_vector_of s key) answer
+
+-- the document as which the key's live vector was placed, and other bytes that were read for it, have
+-- one SHA-256
+pub record IsCollision (p : Permit) (s : State) (key : Key) : Type 0 where
+  pub row : Row
+  pub list : List Stored
+  pub bytes : List ℕ
+  pub live : live_vector_of s key ≡ Some row
+  pub placed : IsVectorRow s row list
+  pub given : IsWritten s row → IsGiven p s row bytes
+  pub collide : Collide (take (extent_of bytes) bytes) (vector_document s row list)
+
+-- what was read is what the key has, or two documents of one SHA-256 are shown
+abbrev pub ReadIsListed : Type 0
+ReadIsListed = (p : Permit) (s : State) (key : Key) (row : Row) (list : List Stored) → AreVectors s → live_vector_of s key ≡ Some row → IsReadAs p s row list
+    → (list ≡ alternates_of s key) ⊎ IsCollision p s key

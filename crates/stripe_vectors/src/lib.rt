@@ -1,0 +1,10 @@
+//! The alternates of a key, read back from its live vector, and the vector that a put is to have.
+#![tactic(auto)]
+
+mod laws;
+mod reading;
+mod spelling;
+
+pub use laws::read_is_listed;
+pub use reading::{KeyVector, live_vector, read_vector};
+pub use spelling::{Spelled, spell};

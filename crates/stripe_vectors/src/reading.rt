@@ -1,0 +1,132 @@
+// How a key's live vector is read.
+ghost use Rattle.std.specs.Prelude.{ℕ, ◌≡◌, ◌+◌, ◌*◌, ◌≤◌, IfOk, IfSome, IsSome, OnErr, None, Some, length, option_map, Ok};
+ghost use Rattle.tape_base.specs.Geometry.{budget_of};
+ghost use Rattle.alternate_vector.specs.Reading.{Gives, read_vector};
+ghost use Rattle.cache_model.specs.Kept.{with_records};
+ghost use Rattle.cache_model.specs.State.{live_row_of};
+ghost use Rattle.cache_model.specs.Verdict.{live_vector_of, vector_of};
+ghost use Rattle.stripe_core.specs.Stripe.{IsStripe, kept_in, room_for, seen_in, state_in, units_in};
+ghost use Rattle.stripe_vectors.specs.Reading.{FindsVector, listed_in, vector_adds};
+
+use alternate_vector::{Vector, VectorFault};
+use ats_disk::Disk;
+use cache_chronicle::Chronicle;
+use cache_model::Cause;
+use dir_table::Directory;
+use std::alloc::{AllocError, Global};
+use stripe_core::{Found, Stripe};
+use tape_base::{Key, PieceId};
+
+const BLOCK: usize = 512;
+
+/// What is read of a key's vector.
+#[derive(Debug, Drop)]
+pub enum KeyVector {
+    /// None is live.
+    Absent,
+    /// What the live one lists.
+    Read(Vector),
+    /// The live one cannot be read, for this cause.
+    Trouble(Cause),
+}
+
+/// Reads the live vector of a key. Bytes of its digest that are no vector list nothing.
+pub fn read_vector<D: Disk, R: Directory + Drop, C: Chronicle>(
+    stripe: &mut Stripe<D, R, C>,
+    key: Key,
+) -> Result<KeyVector, AllocError>
+    requires { IsStripe D.Disk R.Directory C.Chronicle stripe.old }
+    ensures stripe { IsStripe D.Disk R.Directory C.Chronicle stripe.new }
+    ensures adds { IfOk result (λ answer. kept_in C.Chronicle stripe.new
+        ≡ with_records (kept_in C.Chronicle stripe.old) (vector_adds (state_in C.Chronicle stripe.old) key answer)) }
+    ensures finds { IfOk result (FindsVector (state_in C.Chronicle stripe.old) (seen_in D.Disk R.Directory stripe.old).device
+        (seen_in D.Disk R.Directory stripe.new).device key) }
+    ensures err { OnErr result (kept_in C.Chronicle stripe.new ≡ kept_in C.Chronicle stripe.old) }
+    ensures later { (seen_in D.Disk R.Directory stripe.old).device.faults ≤ (seen_in D.Disk R.Directory stripe.new).device.faults }
+    ensures row { (put : ℕ) → room_for put stripe.new.actors ≡ room_for put stripe.old.actors }
+    ensures unit { units_in stripe.old ≤ units_in stripe.new + 1 }
+{
+    match live_vector(stripe, key) {
+        Some(vector) => read_live(stripe, key, vector),
+        None => Ok(KeyVector::Absent),
+    }
+}
+
+/// The key's live vector.
+pub fn live_vector<D: Disk, R: Directory + Drop, C: Chronicle>(
+    stripe: &Stripe<D, R, C>,
+    key: Key,
+) -> Option<PieceId>
+    requires { IsStripe D.Disk R.Directory C.Chronicle stripe.now }
+    ensures none { result ≡ None → live_vector_of (state_in C.Chronicle stripe.now) key ≡ None }
+    ensures some { IfSome result (λ id. (vector_of (state_in C.Chronicle stripe.now) key ≡ Some id) × IsSome (live_row_of (state_in C.Chronicle stripe.now) id)) }
+{
+    let vector = stripe.chronicle().vector_of(key)?;
+    match stripe.whereabouts(vector) {
+        Some(_) => Some(vector),
+        None => None,
+    }
+}
+
+fn read_live<D: Disk, R: Directory + Drop, C: Chronicle>(
+    stripe: &mut Stripe<D, R, C>,
+    key: Key,
+    vector: PieceId,
+) -> Result<KeyVector, AllocError>
+    requires stripe { IsStripe D.Disk R.Directory C.Chronicle stripe.old }
+    requires vector { vector_of (state_in C.Chronicle stripe.old) key ≡ Some vector }
+    requires live { IsSome (live_row_of (state_in C.Chronicle stripe.old) vector) }
+    ensures stripe { IsStripe D.Disk R.Directory C.Chronicle stripe.new }
+    ensures adds { IfOk result (λ answer. kept_in C.Chronicle stripe.new
+        ≡ with_records (kept_in C.Chronicle stripe.old) (vector_adds (state_in C.Chronicle stripe.old) key answer)) }
+    ensures finds { IfOk result (FindsVector (state_in C.Chronicle stripe.old) (seen_in D.Disk R.Directory stripe.old).device
+        (seen_in D.Disk R.Directory stripe.new).device key) }
+    ensures err { OnErr result (kept_in C.Chronicle stripe.new ≡ kept_in C.Chronicle stripe.old) }
+    ensures later { (seen_in D.Disk R.Directory stripe.old).device.faults ≤ (seen_in D.Disk R.Directory stripe.new).device.faults }
+    ensures row { (put : ℕ) → room_for put stripe.new.actors ≡ room_for put stripe.old.actors }
+    ensures unit { units_in stripe.old ≤ units_in stripe.new + 1 }
+{
+    let alloc = stripe.alloc();
+    let budget = stripe.geometry().agg as usize / 2;
+    let mut into = vec![in alloc; 0; budget * BLOCK]?;
+    read_through(stripe, key, vector, &mut into)
+}
+
+// Reads through memory that has room for a piece.
+fn read_through<D: Disk, R: Directory + Drop, C: Chronicle>(
+    stripe: &mut Stripe<D, R, C>,
+    key: Key,
+    vector: PieceId,
+    into: &mut [u8],
+) -> Result<KeyVector, AllocError>
+    requires stripe { IsStripe D.Disk R.Directory C.Chronicle stripe.old }
+    requires vector { vector_of (state_in C.Chronicle stripe.old) key ≡ Some vector }
+    requires into { length into.old ≡ 512 * budget_of (state_in C.Chronicle stripe.old).geometry }
+    requires live { IsSome (live_row_of (state_in C.Chronicle stripe.old) vector) }
+    ensures stripe { IsStripe D.Disk R.Directory C.Chronicle stripe.new }
+    ensures adds { IfOk result (λ answer. kept_in C.Chronicle stripe.new
+        ≡ with_records (kept_in C.Chronicle stripe.old) (vector_adds (state_in C.Chronicle stripe.old) key answer)) }
+    ensures finds { IfOk result (FindsVector (state_in C.Chronicle stripe.old) (seen_in D.Disk R.Directory stripe.old).device
+        (seen_in D.Disk R.Directory stripe.new).device key) }
+    ensures err { OnErr result (kept_in C.Chronicle stripe.new ≡ kept_in C.Chronicle stripe.old) }
+    ensures later { (seen_in D.Disk R.Directory stripe.old).device.faults ≤ (seen_in D.Disk R.Directory stripe.new).device.faults }
+    ensures row { (put : ℕ) → room_for put stripe.new.actors ≡ room_for put stripe.old.actors }
+    ensures unit { units_in stripe.old ≤ units_in stripe.new + 1 }
+{
+    let alloc = stripe.alloc();
+    match stripe.find_piece(vector, into)? {
+        Found::Found { length } => Ok(KeyVector::Read(listed(alloc, &into[..length as usize])?)),
+        Found::Missing(why) => Ok(KeyVector::Trouble(why)),
+    }
+}
+
+// What a payload lists.
+fn listed(alloc: Global, payload: &[u8]) -> Result<Vector, AllocError>
+    ensures { IfOk result (λ list. list ≡ listed_in payload.now) }
+{
+    match Vector::decode(alloc, payload) {
+        Ok(list) => Ok(list),
+        Err(VectorFault::Memory(e)) => Err(e),
+        Err(_) => Ok(Vector::new(alloc)),
+    }
+}
