@@ -1,5 +1,5 @@
 -- A fragment that has gathered is cut.
-use Rattle.std.proofs.Common.{◌≡◌, ℕ, ◌+◌, ◌*◌, ◌<◌, List, [], ◌∷◌, ◌++◌, refl, sym, ◌∙◌, ap, subst, arith, Bool, true, false, length, Result, Ok, Err}
+use Rattle.std.proofs.Common.{◌≡◌, ℕ, ◌+◌, ◌*◌, ◌<◌, inl, inr, ◌⊎◌, List, [], ◌∷◌, ◌++◌, refl, sym, ◌∙◌, ap, subst, arith, Bool, true, false, length, Result, Ok, Err}
 use Rattle.std.specs.Prelude.{Some, option_map, find, ◌==◌, if◌then◌else◌, MatchBool, OnOk}
 use Rattle.std.specs.declared.alloc.AllocError.{AllocError}
 use Rattle.std.proofs.lemmas.Bool.{eq-eqb, eqb-true}
@@ -21,7 +21,7 @@ use Rattle.stripe_core.specs.declared.refusal.Placed.{Placed}
 use Rattle.stripe_core.specs.Place.{FragmentAt, IsFragmentOf, IsPlacedAt, PlacesAt, fragment_adds, piece_records, place_adds, placing_adds, room_records, with_room}
 use Rattle.stripe_write.specs.declared.writer.Writer.{Writer}
 use Rattle.stripe_write.proofs.Ended.{own_number}
-use Rattle.stripe_write.specs.Writers.{IsAtHand, IsWriterOf}
+use Rattle.stripe_write.specs.Writers.{IsAllCut, IsAtHand, IsWriterOf}
 use Rattle.stripe_write.specs.Writes.{IsReady, next_id, next_start}
 
 -- ---- it is the next fragment of its put
@@ -47,8 +47,8 @@ ready_fragment s w quiet r =
         next = omega (arith, count);
         few = omega (arith, count, r.few);
         full = r.whole;
-        some = omega (arith, r.size, s.geometry.accepted.fragment_fits.0);
-        small = omega (arith, r.size);
+        some = r.some;
+        small = r.small;
       };
       id_is = sym (ap (λ k. fragment_piece k r.row.put (length r.row.cuts + 1)) r.key_is
           ∙ (ap (λ n. fragment_piece w.key n (length r.row.cuts + 1)) number ∙ ap (λ n. fragment_piece w.key w.put (n + 1)) count));
@@ -95,19 +95,32 @@ one_more rows row size is whole =
     total_one : (r : TableRow) → total_length (r ∷ []) ≡ r.length
     total_one r = omega arith
 
--- the writer behind a cut
-pub cut_writer : (s t : State) (w new : Writer) (placed : Placed) → IsReady s w → t ≡ after_all s (fragment_adds s (next_id w) w.pin (next_start w) w.gathered.items (Ok placed))
-    → new.put ≡ w.put → new.key ≡ w.key → new.request ≡ w.request → new.response ≡ w.response → new.pin ≡ w.pin → new.gathered.items ≡ []
-    → new.table.rows ≡ w.table.rows ++ made_row (length w.gathered.items) (digest_of w.gathered.items).0 ∷ [] → IsWriterOf t new
-cut_writer s t w new placed r is put key request response pin gathered rows = λ row found o.
+all_cut_or_whole : (w new : Writer) (rows : List TableRow) (row : TableRow) (size : ℕ) → (w.sealed ≡ true) ⊎ (row.length ≡ size) → new.sealed ≡ w.sealed → new.gathered.items ≡ []
+    → total_length rows ≡ length rows * size → IsAllCut new ⊎ (total_length (rows ++ row ∷ []) ≡ length (rows ++ row ∷ []) * size)
+all_cut_or_whole w new rows row size (inl is) same empty whole = inl (record { sealed = same ∙ is; empty = empty })
+all_cut_or_whole w new rows row size (inr is) same empty whole = inr (one_more rows row size is whole)
+
+-- the put behind a cut
+pub cut_row : (s t : State) (w : Writer) (placed : Placed) → (r : IsReady s w) → t ≡ after_all s (fragment_adds s (next_id w) w.pin (next_start w) w.gathered.items (Ok placed))
+    → put_of t w.put ≡ Some (with_cut (made_row (length w.gathered.items) (digest_of w.gathered.items).0) r.row)
+cut_row s t w placed r is =
     let payload : List ℕ = w.gathered.items in
     let room : State = with_room s (length payload) in
+    let cut : TableRow = made_row (length payload) (digest_of payload).0 in
+    let same = same_puts s (has_room s (length payload)) in
+    ap (λ (x : State). put_of x w.put) (is ∙ cut_state s (next_id w) w.pin (next_start w) payload placed (next_no_vector w))
+    ∙ found_changed w.put (with_cut cut) room.puts r.row (λ x. refl) (ap (find (λ (p : PutRow). p.put == w.put)) same.1 ∙ r.found)
+
+-- the writer behind a cut
+pub cut_writer : (s t : State) (w new : Writer) (placed : Placed) → IsReady s w → t ≡ after_all s (fragment_adds s (next_id w) w.pin (next_start w) w.gathered.items (Ok placed))
+    → new.put ≡ w.put → new.key ≡ w.key → new.request ≡ w.request → new.response ≡ w.response → new.pin ≡ w.pin → new.sealed ≡ w.sealed → new.gathered.items ≡ []
+    → new.table.rows ≡ w.table.rows ++ made_row (length w.gathered.items) (digest_of w.gathered.items).0 ∷ [] → IsWriterOf t new
+cut_writer s t w new placed r is put key request response pin sealed gathered rows = λ row found o.
+    let payload : List ℕ = w.gathered.items in
     let same = same_puts s (has_room s (length payload)) in
     let cut : TableRow = made_row (length payload) (digest_of payload).0 in
     let state = is ∙ cut_state s (next_id w) w.pin (next_start w) payload placed (next_no_vector w) in
-    let there : put_of t w.put ≡ Some (with_cut cut r.row) =
-    ap (λ (x : State). put_of x w.put) state
-    ∙ found_changed w.put (with_cut cut) room.puts r.row (λ x. refl) (ap (find (λ (p : PutRow). p.put == w.put)) same.1 ∙ r.found) in
+    let there : put_of t w.put ≡ Some (with_cut cut r.row) = cut_row s t w placed r is in
     let geometry : t.geometry ≡ s.geometry = ap (λ (x : State). x.geometry) state ∙ same.2 in
     let name : Some row ≡ Some (with_cut cut r.row) = sym found ∙ (ap (put_of t) put ∙ there) in
     let row_is : row ≡ with_cut cut r.row = cc in
@@ -117,8 +130,9 @@ cut_writer s t w new placed r is put key request response pin gathered rows = λ
       response_is = r.response_is ∙ sym response;
       pin_is = r.pin_is ∙ sym pin;
       cuts_are = ap (λ cuts. cuts ++ cut ∷ []) r.cuts_are ∙ sym rows;
-      whole = rw geometry (one_more r.row.cuts cut s.geometry.fragment r.size r.whole);
+      whole = rw geometry (all_cut_or_whole w new r.row.cuts cut s.geometry.fragment r.last sealed gathered r.whole);
       few = rw (geometry, gathered) s.geometry.accepted.fragment_fits.0;
+      more = λ some. let none : 0 < length new.gathered.items = some in let empty : length new.gathered.items ≡ 0 = ap length gathered in absurd (omega (arith, none, empty));
     })
 
 -- ---- what a placing says of the writer's fragment

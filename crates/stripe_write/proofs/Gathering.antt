@@ -1,5 +1,5 @@
 -- Bytes that are taken.
-use Rattle.std.proofs.Common.{◌≡◌, ℕ, ◌+◌, ◌<◌, ◌≤◌, List, [], ◌∷◌, refl, sym, ◌∙◌, ap, subst, arith, Bool, true, false, length, take, Result, Ok, Err}
+use Rattle.std.proofs.Common.{◌≡◌, ℕ, ◌+◌, ◌<◌, ◌≤◌, inl, inr, ◌⊎◌, ◌*◌, List, [], ◌∷◌, refl, sym, ◌∙◌, ap, subst, arith, Bool, true, false, length, take, Result, Ok, Err}
 use Rattle.std.specs.Prelude.{◌==◌, if◌then◌else◌, min, find}
 use Rattle.std.proofs.lemmas.Bool.{eq-eqb, eqb-true}
 use Rattle.std.proofs.lemmas.List.{append-nil, length-append, length-take, take-append-le, take_all}
@@ -22,11 +22,19 @@ use Rattle.stripe_core.specs.Covers.{Spends}
 use Rattle.stripe_core.specs.Place.{CutsAsAsked, fragment_adds, room_records}
 use Rattle.stripe_core.specs.Stripe.{Answers}
 use Rattle.stripe_write.specs.declared.writer.Writer.{Writer}
-use Rattle.stripe_write.specs.Writers.{IsAtHand, IsWriterOf}
+use Rattle.stripe_write.specs.Writers.{IsAllCut, IsAtHand, IsWriterOf}
 use Rattle.stripe_write.specs.Writes.{IsReady, SameWriter, WritesAsAsked, cut_adds, cuts_fragment, gathered_with, is_cut, left_of, next_id, next_start, write_adds}
 use Rattle.stripe_write.proofs.Ended.{open_put}
 
 -- ---- a writer that is as it was, or has gathered more
+
+all_cut_still : (w new : Writer) (P : Type 0) → SameWriter w new → IsAllCut w ⊎ P → IsAllCut new ⊎ P
+all_cut_still w new P same (inl all) = inl (record { sealed = same.sealed ∙ all.sealed; empty = same.gathered ∙ all.empty })
+all_cut_still w new P same (inr whole) = inr whole
+
+whole_of : (w : Writer) (P : Type 0) → w.sealed ≡ false → IsAllCut w ⊎ P → P
+whole_of w P unsealed (inl all) = let clash : true ≡ false = sym all.sealed ∙ unsealed in cc
+whole_of w P unsealed (inr whole) = whole
 
 pub same_writer : (s : State) (w new : Writer) → SameWriter w new → IsWriterOf s w → IsWriterOf s new
 same_writer s w new same own = λ row found o.
@@ -37,8 +45,9 @@ same_writer s w new same own = λ row found o.
       response_is = here.response_is ∙ sym same.response;
       pin_is = here.pin_is ∙ sym same.pin;
       cuts_are = here.cuts_are ∙ sym same.rows;
-      whole = here.whole;
+      whole = all_cut_still w new (total_length row.cuts ≡ length row.cuts * s.geometry.fragment) same here.whole;
       few = rw same.gathered here.few;
+      more = rw same.gathered here.more;
     }
 
 -- the same but for the bytes that are gathered
@@ -49,9 +58,10 @@ pub record SameButGathered (old new : Writer) : Type 0 where
   pub response : new.response ≡ old.response
   pub pin : new.pin ≡ old.pin
   pub rows : new.table.rows ≡ old.table.rows
+  pub sealed : new.sealed ≡ old.sealed
 
-pub more_writer : (s : State) (w new : Writer) → SameButGathered w new → length new.gathered.items < s.geometry.fragment → IsWriterOf s w → IsWriterOf s new
-more_writer s w new same few own = λ row found o.
+pub more_writer : (s : State) (w new : Writer) → SameButGathered w new → w.sealed ≡ false → length w.table.rows < most_fragments → length new.gathered.items < s.geometry.fragment → IsWriterOf s w → IsWriterOf s new
+more_writer s w new same unsealed one few own = λ row found o.
     let here : IsAtHand s.geometry row w = own row (ap (put_of s) (sym same.put) ∙ found) o in
     record {
       key_is = here.key_is ∙ sym same.key;
@@ -59,16 +69,17 @@ more_writer s w new same few own = λ row found o.
       response_is = here.response_is ∙ sym same.response;
       pin_is = here.pin_is ∙ sym same.pin;
       cuts_are = here.cuts_are ∙ sym same.rows;
-      whole = here.whole;
+      whole = inr (whole_of w (total_length row.cuts ≡ length row.cuts * s.geometry.fragment) unsealed here.whole);
       few = few;
+      more = λ some. rw here.cuts_are one;
     }
 
 pub few_gathered : (s : State) (w : Writer) → is_writing s w.put ≡ true → IsWriterOf s w → length w.gathered.items < s.geometry.fragment
 few_gathered s w writing own = let o = open_put (put_of s w.put) writing in (own o.0 o.1 o.2).few
 
-pub is_ready : (s : State) (w new : Writer) → is_writing s w.put ≡ true → IsWriterOf s w → SameButGathered w new → length w.table.rows < most_fragments → length new.gathered.items ≡ s.geometry.fragment → 0 < new.table.room
+pub is_ready : (s : State) (w new : Writer) → is_writing s w.put ≡ true → w.sealed ≡ false → IsWriterOf s w → SameButGathered w new → length w.table.rows < most_fragments → length new.gathered.items ≡ s.geometry.fragment → 0 < new.table.room
     → IsReady s new
-is_ready s w new writing own same few size room =
+is_ready s w new writing unsealed own same few size room =
     let o = open_put (put_of s w.put) writing in
     let here : IsAtHand s.geometry o.0 w = own o.0 o.1 o.2 in
     record {
@@ -80,9 +91,11 @@ is_ready s w new writing own same few size room =
       response_is = here.response_is ∙ sym same.response;
       pin_is = here.pin_is ∙ sym same.pin;
       cuts_are = here.cuts_are ∙ sym same.rows;
-      whole = here.whole;
+      whole = whole_of w (total_length o.0.cuts ≡ length o.0.cuts * s.geometry.fragment) unsealed here.whole;
       few = rw same.rows few;
-      size = size;
+      some = omega (arith, size, s.geometry.accepted.fragment_fits.0);
+      small = omega (arith, size);
+      last = inr size;
       room = room;
     }
 
@@ -196,6 +209,7 @@ back w w' new a b g = record {
   pin = b.pin ∙ a.pin;
   gathered = g;
   rows = b.rows ∙ a.rows;
+  sealed = b.sealed ∙ a.sealed;
 }
 
 -- ---- no bytes

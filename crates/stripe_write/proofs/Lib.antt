@@ -1,3 +1,10 @@
 mod Ended
 mod Cutting
 mod Gathering
+mod LastCut
+mod Spending
+mod Completing
+mod Roomed
+mod WeighingReads
+mod WeighingFits
+mod LastSteps

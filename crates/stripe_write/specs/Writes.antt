@@ -1,5 +1,5 @@
 -- What writers are answered, and what is recorded.
-use Rattle.std.specs.Prelude.{ℕ, ◌≡◌, ◌+◌, ◌-◌, ◌*◌, ◌==◌, ◌<◌, min, Bool, true, false, if◌then◌else◌, List, [], ◌∷◌, ◌++◌, length, take, Some, Result, Ok, Err}
+use Rattle.std.specs.Prelude.{ℕ, ◌≡◌, ◌+◌, ◌-◌, ◌*◌, ◌==◌, ◌<◌, ◌≤◌, ◌⊎◌, min, Bool, true, false, if◌then◌else◌, List, [], ◌∷◌, ◌++◌, length, take, Some, Result, Ok, Err}
 use Rattle.tape_base.specs.declared.geometries.Geometry.{Geometry}
 use Rattle.tape_base.specs.declared.keys.Key.{Key}
 use Rattle.tape_base.specs.declared.pieces.PieceId.{PieceId}
@@ -81,15 +81,21 @@ left_of g w bytes n = if is_cut g w n then [] else gathered_with w bytes n
 pub record GathersAsAsked (g : Geometry) (old : Writer) (bytes : List ℕ) (n : ℕ) (new : Writer) : Type 0 where
   pub put : new.put ≡ old.put
   pub gathered : new.gathered.items ≡ left_of g old bytes n
+  pub sealed : new.sealed ≡ old.sealed
+
+-- the put is open, and its writer takes bytes
+abbrev pub IsTaking : State → Writer → Type 0
+IsTaking s w = (is_writing s w.put ≡ true) × (w.sealed ≡ false)
 
 -- when each answer comes; a fragment more is begun only where there may be one more
 abbrev pub WritesWhere : State → Writer → List ℕ → Result ℕ Refusal → Type 0
-WritesWhere s w bytes (Ok n) = (is_writing s w.put ≡ true) × (n ≡ taken_of s.geometry w bytes) × (0 < length bytes → length w.table.rows < most_fragments)
+WritesWhere s w bytes (Ok n) = IsTaking s w × (n ≡ taken_of s.geometry w bytes) × (0 < length bytes → length w.table.rows < most_fragments)
 WritesWhere s w bytes (Err refusal.NoSuchWriter) = is_writing s w.put ≡ false
-WritesWhere s w bytes (Err refusal.TooManyFragments) = (is_writing s w.put ≡ true) × (0 < length bytes) × (length w.table.rows ≡ most_fragments)
-WritesWhere s w bytes (Err (refusal.DeviceFault count)) = is_writing s w.put ≡ true
-WritesWhere s w bytes (Err (refusal.Exhausted number)) = is_writing s w.put ≡ true
-WritesWhere s w bytes (Err (refusal.Memory e)) = is_writing s w.put ≡ true
+WritesWhere s w bytes (Err refusal.Sealed) = (is_writing s w.put ≡ true) × (w.sealed ≡ true)
+WritesWhere s w bytes (Err refusal.TooManyFragments) = IsTaking s w × (0 < length bytes) × (length w.table.rows ≡ most_fragments)
+WritesWhere s w bytes (Err (refusal.DeviceFault count)) = IsTaking s w
+WritesWhere s w bytes (Err (refusal.Exhausted number)) = IsTaking s w
+WritesWhere s w bytes (Err (refusal.Memory e)) = IsTaking s w
 WritesWhere s w bytes (Err _) = ⊥
 
 abbrev pub cuts_fragment : Writer → List ℕ → Intent
@@ -116,8 +122,18 @@ pub record SameWriter (old new : Writer) : Type 0 where
   pub pin : new.pin ≡ old.pin
   pub gathered : new.gathered.items ≡ old.gathered.items
   pub rows : new.table.rows ≡ old.table.rows
+  pub sealed : new.sealed ≡ old.sealed
 
--- what is at hand of an open put whose next fragment is gathered
+-- a writer as it was but for its bytes, gathered and cut
+pub record SameButBytes (old new : Writer) : Type 0 where
+  pub put : new.put ≡ old.put
+  pub key : new.key ≡ old.key
+  pub request : new.request ≡ old.request
+  pub response : new.response ≡ old.response
+  pub pin : new.pin ≡ old.pin
+  pub sealed : new.sealed ≡ old.sealed
+
+-- what is at hand of an open put whose next fragment is gathered: a short one is the last
 pub record IsReady (s : State) (w : Writer) : Type 0 where
   pub row : PutRow
   pub found : put_of s w.put ≡ Some row
@@ -129,7 +145,9 @@ pub record IsReady (s : State) (w : Writer) : Type 0 where
   pub cuts_are : row.cuts ≡ w.table.rows
   pub whole : total_length row.cuts ≡ length row.cuts * s.geometry.fragment
   pub few : length w.table.rows < most_fragments
-  pub size : length w.gathered.items ≡ s.geometry.fragment
+  pub some : 0 < length w.gathered.items
+  pub small : length w.gathered.items ≤ s.geometry.fragment
+  pub last : (w.sealed ≡ true) ⊎ (length w.gathered.items ≡ s.geometry.fragment)
   pub room : 0 < w.table.room
 
 -- one fragment too many, or memory is wanting

@@ -1,10 +1,16 @@
-//! Writers on a stripe: they open, take bytes, are given up; and objects are removed.
+//! Writers on a stripe: they open, take bytes, close or are given up; and objects are removed.
 #![tactic(auto)]
 
+mod closing;
+mod finishing;
 mod removal;
+mod resting;
+mod weighing;
 mod writer;
 mod writing;
 
+pub use closing::close_write;
+pub use finishing::Receipt;
 pub use removal::{Removal, remove};
 pub use writer::Writer;
 pub use writing::{abort_write, open_write, write};

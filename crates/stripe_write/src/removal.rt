@@ -1,9 +1,9 @@
 // Objects are removed.
-ghost use Rattle.std.specs.Prelude.{◌≡◌, IfOk, OnErr, is_some};
+ghost use Rattle.std.specs.Prelude.{◌≡◌, ◌≤◌, IfOk, OnErr, is_some};
 ghost use Rattle.cache_model.specs.Kept.{with_records};
 ghost use Rattle.cache_model.specs.Legal.{IsQuiet};
 ghost use Rattle.cache_model.specs.Verdict.{live_vector_of};
-ghost use Rattle.stripe_core.specs.Stripe.{IsStripe, kept_in, state_in};
+ghost use Rattle.stripe_core.specs.Stripe.{IsStripe, kept_in, seen_in, state_in};
 ghost use Rattle.stripe_write.specs.Removals.{RemovesAsIsAsked, RemovesWhere, removal_adds};
 
 use ats_disk::Disk;
@@ -36,6 +36,7 @@ pub fn remove<D: Disk, R: Directory + Drop, C: Chronicle>(
     ensures removes { IfOk result (RemovesWhere (state_in C.Chronicle stripe.old) key) }
     ensures does { IfOk result (RemovesAsIsAsked (state_in C.Chronicle stripe.old) key) }
     ensures err { OnErr result (kept_in C.Chronicle stripe.new ≡ kept_in C.Chronicle stripe.old) }
+    ensures later { (seen_in D.Disk R.Directory stripe.old).device.faults ≤ (seen_in D.Disk R.Directory stripe.new).device.faults }
 {
     stripe.prepare(None, 1)?;
     if is_live(stripe, key) {

@@ -1,7 +1,7 @@
 ghost use Rattle.std.specs.Prelude.{◌≡◌, None, IfOk};
 ghost use Rattle.stripe_core.specs.Stripe.{IsStripe, state_in};
 
-use crate::{Removal, abort_write, open_write, remove, write};
+use crate::{Receipt, Removal, abort_write, close_write, open_write, remove, write};
 use alternate_vector::Fields;
 use ats_disk::{Disk, MemDisk};
 use cache_chronicle::{Chronicle, FullChronicle};
@@ -69,5 +69,44 @@ fn bytes_are_taken_up_to_the_next_cut(rt: HostRuntime) -> Result<(), Fail> {
         write(&mut stripe, &mut writer, &[7]),
         Err(Refusal::NoSuchWriter)
     );
+    Ok(())
+}
+
+#[test]
+fn a_put_is_closed_and_the_next_one_takes_its_place(rt: HostRuntime) -> Result<(), Fail> {
+    let mut stripe = empty(&rt)?;
+    let alloc = stripe.alloc();
+    let key = Key::new([1; 16]);
+    let (request, response) = (Fields::new(alloc), Fields::new(alloc));
+    let Ok(mut first) = open_write(&mut stripe, Actor(1), key, request, response, 0) else {
+        return Err("refused".into());
+    };
+    assert_eq!(rt; write(&mut stripe, &mut first, &[1, 2, 3]), Ok(3));
+    assert_eq!(rt;
+        close_write(&mut stripe, &mut first),
+        Ok(Receipt {
+            put: 1,
+            length: 3,
+            fragments: 1
+        })
+    );
+    assert_eq!(rt;
+        close_write(&mut stripe, &mut first),
+        Err(Refusal::NoSuchWriter)
+    );
+    let (request, response) = (Fields::new(alloc), Fields::new(alloc));
+    let Ok(mut second) = open_write(&mut stripe, Actor(1), key, request, response, 0) else {
+        return Err("refused".into());
+    };
+    assert_eq!(rt;
+        close_write(&mut stripe, &mut second),
+        Ok(Receipt {
+            put: 2,
+            length: 0,
+            fragments: 0
+        })
+    );
+    assert_eq!(rt; remove(&mut stripe, key)?, Removal::Removed { put: 2 });
+    assert_eq!(rt; remove(&mut stripe, key)?, Removal::Absent(Cause::Removed));
     Ok(())
 }

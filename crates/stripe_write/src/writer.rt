@@ -13,4 +13,6 @@ pub struct Writer {
     pub(crate) pin: u64,
     pub(crate) gathered: Vec<u8>,
     pub(crate) table: FragTable,
+    /// It was closed in vain, and takes no more bytes.
+    pub(crate) sealed: bool,
 }

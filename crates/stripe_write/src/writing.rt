@@ -1,13 +1,15 @@
 // Writers open, take bytes, and are given up.
-ghost use Rattle.std.specs.Prelude.{◌≡◌, ◌+◌, ◌≤◌, ◌<◌, [], ◌∷◌, true, false, IfOk, OnOk, OnErr, length};
+ghost use Rattle.std.specs.Prelude.{◌≡◌, ◌+◌, ◌≤◌, ◌<◌, [], ◌∷◌, ◌++◌, true, false, IfOk, OnOk, OnErr, length};
+ghost use Rattle.tape_base.specs.Digest.{digest_of};
+ghost use Rattle.fragment_table.specs.Table.{made_row};
 ghost use Rattle.cache_model.specs.Kept.{with_records};
 ghost use Rattle.cache_model.specs.Legal.{IsQuiet, is_writing, most_fragments};
 ghost use Rattle.stripe_actors.specs.Calls.{HasNumber};
 ghost use Rattle.stripe_core.specs.Acts.{OpensAsAsked, opened_record};
 ghost use Rattle.stripe_core.specs.Place.{CutsAsAsked, fragment_adds};
-ghost use Rattle.stripe_core.specs.Stripe.{Answers, IsStripe, kept_in, seen_in, state_in};
+ghost use Rattle.stripe_core.specs.Stripe.{Answers, HasMemory, IsStripe, kept_in, room_for, seen_in, state_in, units_in};
 ghost use Rattle.stripe_write.specs.Writers.{IsWriterOf};
-ghost use Rattle.stripe_write.specs.Writes.{AbortsAsAsked, AbortsWhere, GathersAsAsked, IsOverflow, IsReady, OverflowsAsAsked, SameWriter, WritesAsAsked, WritesWhere, abort_adds, next_id, next_start, number_of, overflow_adds, write_adds};
+ghost use Rattle.stripe_write.specs.Writes.{AbortsAsAsked, AbortsWhere, GathersAsAsked, IsOverflow, IsReady, OverflowsAsAsked, SameButBytes, SameWriter, WritesAsAsked, WritesWhere, abort_adds, next_id, next_start, number_of, overflow_adds, write_adds};
 
 use crate::Writer;
 use alternate_vector::Fields;
@@ -41,7 +43,9 @@ pub fn open_write<D: Disk, R: Directory + Drop, C: Chronicle>(
     ensures does { OpensAsAsked (state_in C.Chronicle stripe.old) actor key request response pin (number_of result) }
     ensures writer { IfOk result (IsWriterOf (state_in C.Chronicle stripe.new)) }
     ensures empty { IfOk result (λ w. w.gathered.items ≡ []) }
+    ensures unsealed { IfOk result (λ w. w.sealed ≡ false) }
     ensures still { (seen_in D.Disk R.Directory stripe.new).device ≡ (seen_in D.Disk R.Directory stripe.old).device }
+    ensures later { (seen_in D.Disk R.Directory stripe.old).device.faults ≤ (seen_in D.Disk R.Directory stripe.new).device.faults }
 {
     match stripe.put_refusal() {
         Some(refusal) => Err(refusal),
@@ -69,9 +73,13 @@ pub fn write<D: Disk, R: Directory + Drop, C: Chronicle>(
     ensures writer { IsWriterOf (state_in C.Chronicle stripe.new) writer.new }
     ensures gathers { IfOk result (λ n. GathersAsAsked (state_in C.Chronicle stripe.old).geometry writer.old bytes.now n writer.new) }
     ensures same { OnErr result (SameWriter writer.old writer.new) }
+    ensures later { (seen_in D.Disk R.Directory stripe.old).device.faults ≤ (seen_in D.Disk R.Directory stripe.new).device.faults }
 {
     if !is_open(stripe, writer.put) {
         return Err(Refusal::NoSuchWriter);
+    }
+    if writer.sealed {
+        return Err(Refusal::Sealed);
     }
     if bytes.is_empty() {
         return Ok(0);
@@ -96,6 +104,7 @@ pub fn abort_write<D: Disk, R: Directory + Drop, C: Chronicle>(
     ensures aborts { AbortsWhere (state_in C.Chronicle stripe.old) writer.old.put result }
     ensures does { AbortsAsAsked (state_in C.Chronicle stripe.old) writer.old.put writer.old.key result }
     ensures writer { IsWriterOf (state_in C.Chronicle stripe.new) writer.new }
+    ensures later { (seen_in D.Disk R.Directory stripe.old).device.faults ≤ (seen_in D.Disk R.Directory stripe.new).device.faults }
 {
     if !is_open(stripe, writer.put) {
         return Err(Refusal::NoSuchWriter);
@@ -105,7 +114,10 @@ pub fn abort_write<D: Disk, R: Directory + Drop, C: Chronicle>(
     Ok(writer.put)
 }
 
-fn is_open<D: Disk, R: Directory + Drop, C: Chronicle>(stripe: &Stripe<D, R, C>, put: u64) -> bool
+pub(crate) fn is_open<D: Disk, R: Directory + Drop, C: Chronicle>(
+    stripe: &Stripe<D, R, C>,
+    put: u64,
+) -> bool
     requires { IsStripe D.Disk R.Directory C.Chronicle stripe.now }
     ensures { result ≡ is_writing (state_in C.Chronicle stripe.now) put }
 {
@@ -134,6 +146,7 @@ fn begin<D: Disk, R: Directory + Drop, C: Chronicle>(
     ensures does { OpensAsAsked (state_in C.Chronicle stripe.old) actor key request response pin (number_of result) }
     ensures writer { IfOk result (IsWriterOf (state_in C.Chronicle stripe.new)) }
     ensures empty { IfOk result (λ w. w.gathered.items ≡ []) }
+    ensures unsealed { IfOk result (λ w. w.sealed ≡ false) }
     ensures still { (seen_in D.Disk R.Directory stripe.new).device ≡ (seen_in D.Disk R.Directory stripe.old).device }
 {
     let alloc = stripe.alloc();
@@ -148,6 +161,7 @@ fn begin<D: Disk, R: Directory + Drop, C: Chronicle>(
         pin,
         gathered: Vec::new(alloc),
         table: FragTable::new(alloc),
+        sealed: false,
     })
 }
 
@@ -167,6 +181,7 @@ fn overflow<D: Disk, R: Directory + Drop, C: Chronicle>(
     ensures adds { kept_in C.Chronicle stripe.new ≡ with_records (kept_in C.Chronicle stripe.old) (overflow_adds writer.now result) }
     ensures does { OverflowsAsAsked (state_in C.Chronicle stripe.old) writer.now }
     ensures writer { IsWriterOf (state_in C.Chronicle stripe.new) writer.now }
+    ensures later { (seen_in D.Disk R.Directory stripe.old).device.faults ≤ (seen_in D.Disk R.Directory stripe.new).device.faults }
 {
     stripe.prepare(None, 1)?;
     stripe.give_up(writer.put, writer.key);
@@ -183,6 +198,7 @@ fn take<D: Disk, R: Directory + Drop, C: Chronicle>(
     requires quiet { IsQuiet (state_in C.Chronicle stripe.old) }
     requires writer { IsWriterOf (state_in C.Chronicle stripe.old) writer.old }
     requires open { is_writing (state_in C.Chronicle stripe.old) writer.old.put ≡ true }
+    requires unsealed { writer.old.sealed ≡ false }
     requires few { length writer.old.table.rows < most_fragments }
     ensures stripe { IsStripe D.Disk R.Directory C.Chronicle stripe.new }
     ensures quiet { IsQuiet (state_in C.Chronicle stripe.new) }
@@ -194,6 +210,7 @@ fn take<D: Disk, R: Directory + Drop, C: Chronicle>(
     ensures writer { IsWriterOf (state_in C.Chronicle stripe.new) writer.new }
     ensures gathers { IfOk result (λ n. GathersAsAsked (state_in C.Chronicle stripe.old).geometry writer.old bytes.now n writer.new) }
     ensures same { OnErr result (SameWriter writer.old writer.new) }
+    ensures later { (seen_in D.Disk R.Directory stripe.old).device.faults ≤ (seen_in D.Disk R.Directory stripe.new).device.faults }
 {
     let before = writer.gathered.len();
     let room = stripe.geometry().fragment as usize - before;
@@ -213,8 +230,8 @@ fn take<D: Disk, R: Directory + Drop, C: Chronicle>(
     }
 }
 
-// Cuts the fragment that has gathered.
-fn cut<D: Disk, R: Directory + Drop, C: Chronicle>(
+// Cuts the fragment that has gathered: a full one, or the short rest of a sealed writer.
+pub(crate) fn cut<D: Disk, R: Directory + Drop, C: Chronicle>(
     stripe: &mut Stripe<D, R, C>,
     writer: &mut Writer,
 ) -> Result<Placed, Refusal>
@@ -229,9 +246,14 @@ fn cut<D: Disk, R: Directory + Drop, C: Chronicle>(
     ensures does { let w = writer.old in Answers result (CutsAsAsked (state_in C.Chronicle stripe.old) (seen_in D.Disk R.Directory stripe.old).device.faults
         (seen_in D.Disk R.Directory stripe.new).device.faults (next_id w) w.pin (next_start w) w.gathered.items) (Unit {0}) }
     ensures writer { OnOk result (IsWriterOf (state_in C.Chronicle stripe.new) writer.new) }
-    ensures put { OnOk result (writer.new.put ≡ writer.old.put) }
+    ensures rest { OnOk result (SameButBytes writer.old writer.new) }
+    ensures rows { let w = writer.old in OnOk result (writer.new.table.rows
+        ≡ w.table.rows ++ made_row (length w.gathered.items) (digest_of w.gathered.items).0 ∷ []) }
     ensures empty { OnOk result (writer.new.gathered.items ≡ []) }
     ensures same { OnErr result (writer.new ≡ writer.old) }
+    ensures later { (seen_in D.Disk R.Directory stripe.old).device.faults ≤ (seen_in D.Disk R.Directory stripe.new).device.faults }
+    ensures memory { 0 < units_in stripe.old → 0 < room_for writer.old.put stripe.old.actors → HasMemory result }
+    ensures unit { units_in stripe.old ≤ units_in stripe.new + 1 }
 {
     let id = PieceId {
         first: writer.key,

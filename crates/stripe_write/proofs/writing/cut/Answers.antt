@@ -1,7 +1,7 @@
 use Rattle.std.proofs.Common.{sym, ◌∙◌, ap, subst, length, refl}
 use Rattle.std.specs.Prelude.{MatchBool}
 use Rattle.cache_model.specs.Legal.{IsQuiet}
-use Rattle.stripe_core.specs.Place.{IsFragmentOf, IsPlacing, IsVectorOf}
+use Rattle.stripe_core.specs.Place.{IsFragmentOf, IsPlacing, IsVectorFor}
 use Rattle.stripe_core.specs.Stripe.{kept_in, seen_in, state_in}
 use Rattle.stripe_write.specs.Writes.{next_id, next_start}
 use Rattle.stripe_write.proofs.Cutting.{cut_quiet, cut_writer, digest_is, next_no_vector, ready_fragment, rows_behind, state_behind}
@@ -12,7 +12,7 @@ place_piece-requires-clause-placing g c =
     let s = state_in g.C.Chronicle c.args.stripe.now in
     let w = c.args.writer.now in
     let here : IsPlacing s (next_id w) w.pin (next_start w) w.gathered.items =
-    subst (λ b. MatchBool b (IsVectorOf s (next_id w) w.pin (next_start w) w.gathered.items) (IsFragmentOf s (next_id w) w.pin (next_start w) w.gathered.items)) (sym (next_no_vector w)) (ready_fragment s w c.requires.quiet c.requires.ready) in
+    subst (λ b. MatchBool b (IsVectorFor s (next_id w) (next_start w) w.gathered.items) (IsFragmentOf s (next_id w) w.pin (next_start w) w.gathered.items)) (sym (next_no_vector w)) (ready_fragment s w c.requires.quiet c.requires.ready) in
     rw (c.len.ensures.len, c.total.ensures, c.deref.ensures.value) here
 
 pub returns-clause-quiet : goal.returns-clause-quiet
@@ -30,7 +30,7 @@ returns-clause-writer g c =
     cut_writer s (state_in g.C.Chronicle c.place_piece.new.self) w _ c.in_ok-placed.placed c.requires.ready
     (state_behind s (kept_in g.C.Chronicle c.args.stripe.now) (kept_in g.C.Chronicle c.place_piece.new.self) w c.len.result c.total.result c.deref.result.now c.in_ok-placed.placed 0
     c.len.ensures.len c.total.ensures c.deref.ensures.value refl c.in_ok-placed.ensures.adds)
-    refl refl refl refl refl c.clear.ensures.items
+    refl refl refl refl refl refl c.clear.ensures.items
     (rows_behind c.push-pushed.result c.unwrap.result w.table.rows c.push-pushed.new.self.rows c.len-size.result c.in_ok-placed.placed.payload w.gathered.items c.unwrap.ensures c.push-pushed.ensures.ok (c.len-size.ensures ∙ (sym c.deref.ensures.len ∙ ap length c.deref.ensures.value))
     (digest_is s (kept_in g.C.Chronicle c.args.stripe.now) (kept_in g.C.Chronicle c.place_piece.new.self) w c.len.result c.total.result c.deref.result.now c.in_ok-placed.placed (seen_in g.D.Disk g.R.Directory c.place_piece.new.self).device.faults
     c.len.ensures.len c.total.ensures c.deref.ensures.value c.in_ok-placed.ensures.at))

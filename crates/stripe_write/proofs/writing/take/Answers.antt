@@ -19,13 +19,13 @@ returns-in_err-prepare-clause-writer g c = subst (λ k. IsWriterOf (state_of k) 
 
 pub returns-in_err-reserve-clause-writer : goal.returns-in_err-reserve-clause-writer
 returns-in_err-reserve-clause-writer g c =
-    same_writer (state_in g.C.Chronicle c.prepare.new.self) c.args.writer.now _ (record { put = refl; key = refl; request = refl; response = refl; pin = refl; gathered = refl; rows = c.reserve.ensures.rows })
+    same_writer (state_in g.C.Chronicle c.prepare.new.self) c.args.writer.now _ (record { put = refl; key = refl; request = refl; response = refl; pin = refl; gathered = refl; rows = c.reserve.ensures.rows; sealed = refl })
     (subst (λ k. IsWriterOf (state_of k) c.args.writer.now) (sym c.prepare.ensures.records) c.requires.writer)
 
 pub returns-in_err-extend_from_slice-clause-writer : goal.returns-in_err-extend_from_slice-clause-writer
 returns-in_err-extend_from_slice-clause-writer g c =
     same_writer (state_in g.C.Chronicle c.prepare.new.self) c.args.writer.now _
-    (record { put = refl; key = refl; request = refl; response = refl; pin = refl; gathered = c.in_err-extend_from_slice.ensures.items; rows = c.reserve.ensures.rows })
+    (record { put = refl; key = refl; request = refl; response = refl; pin = refl; gathered = c.in_err-extend_from_slice.ensures.items; rows = c.reserve.ensures.rows; sealed = refl })
     (subst (λ k. IsWriterOf (state_of k) c.args.writer.now) (sym c.prepare.ensures.records) c.requires.writer)
 
 pub returns-then-taken-room-clause-writer : goal.returns-then-taken-room-clause-writer
@@ -38,8 +38,8 @@ returns-then-taken-room-clause-writer g c =
     ap length c.in_ok-extend_from_slice.ensures.items ∙ gathered_length w c.args.bytes.now n (omega (arith, c.min-taken.ensures)) in
     let fragment = ap (λ (x : Geometry). x.fragment) c.geometry.ensures in
     let less : length c.extend_from_slice.new.self.items < s.geometry.fragment = omega (arith, size, few, fragment, c.len-before.ensures, c.if-taken-room.true) in
-    more_writer (state_in g.C.Chronicle c.prepare.new.self) w _ (record { put = refl; key = refl; request = refl; response = refl; pin = refl; rows = c.reserve.ensures.rows })
-    (rw (ap state_of c.prepare.ensures.records) less)
+    more_writer (state_in g.C.Chronicle c.prepare.new.self) w _ (record { put = refl; key = refl; request = refl; response = refl; pin = refl; rows = c.reserve.ensures.rows; sealed = refl })
+    c.requires.unsealed c.requires.few (rw (ap state_of c.prepare.ensures.records) less)
     (subst (λ k. IsWriterOf (state_of k) w) (sym c.prepare.ensures.records) c.requires.writer)
 
 pub cut-requires-clause-ready : goal.cut-requires-clause-ready
@@ -52,9 +52,9 @@ cut-requires-clause-ready g c =
     ap length c.in_ok-extend_from_slice.ensures.items ∙ gathered_length w c.args.bytes.now n (omega (arith, c.min-taken.ensures)) in
     let fragment = ap (λ (x : Geometry). x.fragment) c.geometry.ensures in
     let whole : length c.extend_from_slice.new.self.items ≡ s.geometry.fragment = omega (arith, size, few, fragment, c.len-before.ensures, c.min-taken.ensures, c.if-taken-room.false) in
-    is_ready (state_in g.C.Chronicle c.prepare.new.self) w _ (ap (λ k. is_writing (state_of k) w.put) c.prepare.ensures.records ∙ c.requires.open)
+    is_ready (state_in g.C.Chronicle c.prepare.new.self) w _ (ap (λ k. is_writing (state_of k) w.put) c.prepare.ensures.records ∙ c.requires.open) c.requires.unsealed
     (subst (λ k. IsWriterOf (state_of k) w) (sym c.prepare.ensures.records) c.requires.writer)
-    (record { put = refl; key = refl; request = refl; response = refl; pin = refl; rows = c.reserve.ensures.rows }) c.requires.few (rw (ap state_of c.prepare.ensures.records) whole) c.in_ok-reserve.ensures.room
+    (record { put = refl; key = refl; request = refl; response = refl; pin = refl; rows = c.reserve.ensures.rows; sealed = refl }) c.requires.few (rw (ap state_of c.prepare.ensures.records) whole) c.in_ok-reserve.ensures.room
 
 pub returns-in-Ok-clause-adds : goal.returns-in-Ok-clause-adds
 returns-in-Ok-clause-adds g c =
@@ -63,25 +63,25 @@ returns-in-Ok-clause-adds g c =
     let n : ℕ = c.min-taken.result in
     let few = few_gathered s w c.requires.open c.requires.writer in
     let fragment = ap (λ (x : Geometry). x.fragment) c.geometry.ensures in
-    let held : Writer = record { put = w.put; key = w.key; request = w.request; response = w.response; pin = w.pin; gathered = c.extend_from_slice.new.self; table = c.reserve.new.self } in
+    let held : Writer = record { put = w.put; key = w.key; request = w.request; response = w.response; pin = w.pin; gathered = c.extend_from_slice.new.self; table = c.reserve.new.self; sealed = w.sealed } in
     took_adds (kept_in g.C.Chronicle c.args.stripe.now) (kept_in g.C.Chronicle c.prepare.new.self) (kept_in g.C.Chronicle c.cut.new.stripe) w held c.args.bytes.now n c.in-Ok.field-0 c.prepare.ensures.records
-    (record { put = refl; key = refl; request = refl; response = refl; pin = refl; rows = c.reserve.ensures.rows }) c.in_ok-extend_from_slice.ensures.items
+    (record { put = refl; key = refl; request = refl; response = refl; pin = refl; rows = c.reserve.ensures.rows; sealed = refl }) c.in_ok-extend_from_slice.ensures.items
     (cut_now s.geometry w n (omega (arith, few, fragment, c.len-before.ensures, c.min-taken.ensures, c.if-taken-room.false))) c.in-Ok.ensures.adds
 
 pub returns-in-Ok-clause-does : goal.returns-in-Ok-clause-does
 returns-in-Ok-clause-does g c =
     let w = c.args.writer.now in
-    let held : Writer = record { put = w.put; key = w.key; request = w.request; response = w.response; pin = w.pin; gathered = c.extend_from_slice.new.self; table = c.reserve.new.self } in
+    let held : Writer = record { put = w.put; key = w.key; request = w.request; response = w.response; pin = w.pin; gathered = c.extend_from_slice.new.self; table = c.reserve.new.self; sealed = w.sealed } in
     took_does (kept_in g.C.Chronicle c.args.stripe.now) (kept_in g.C.Chronicle c.prepare.new.self) (seen_in g.D.Disk g.R.Directory c.args.stripe.now).device.faults (seen_in g.D.Disk g.R.Directory c.prepare.new.self).device.faults
     (seen_in g.D.Disk g.R.Directory c.cut.new.stripe).device.faults w held c.args.bytes.now c.min-taken.result c.in-Ok.field-0 c.prepare.ensures.records c.prepare.ensures.still.faults
-    (record { put = refl; key = refl; request = refl; response = refl; pin = refl; rows = c.reserve.ensures.rows }) c.in_ok-extend_from_slice.ensures.items c.in-Ok.ensures.does
+    (record { put = refl; key = refl; request = refl; response = refl; pin = refl; rows = c.reserve.ensures.rows; sealed = refl }) c.in_ok-extend_from_slice.ensures.items c.in-Ok.ensures.does
 
 pub returns-in-Err-clause-writer : goal.returns-in-Err-clause-writer
 returns-in-Err-clause-writer g c =
     let w = c.args.writer.now in
-    let held : Writer = record { put = w.put; key = w.key; request = w.request; response = w.response; pin = w.pin; gathered = c.extend_from_slice.new.self; table = c.reserve.new.self } in
+    let held : Writer = record { put = w.put; key = w.key; request = w.request; response = w.response; pin = w.pin; gathered = c.extend_from_slice.new.self; table = c.reserve.new.self; sealed = w.sealed } in
     let same : c.cut.new.writer ≡ held = c.in-Err.ensures.same in
-    let first : SameButGathered w held = record { put = refl; key = refl; request = refl; response = refl; pin = refl; rows = c.reserve.ensures.rows } in
+    let first : SameButGathered w held = record { put = refl; key = refl; request = refl; response = refl; pin = refl; rows = c.reserve.ensures.rows; sealed = refl } in
     let gathered : c.truncate.new.self.items ≡ w.gathered.items =
     c.truncate.ensures.items
     ∙ (ap (λ (x : Writer). take c.len-before.result x.gathered.items) same
@@ -97,6 +97,7 @@ returns-in-Err-clause-writer g c =
       response = ap (λ (x : Writer). x.response) same;
       pin = ap (λ (x : Writer). x.pin) same;
       rows = ap (λ (x : Writer). x.table.rows) same;
+      sealed = ap (λ (x : Writer). x.sealed) same;
     }) gathered)
     (subst (λ k. IsWriterOf (state_of k) w) (sym c.prepare.ensures.records) c.requires.writer))
 
@@ -108,6 +109,7 @@ returns-in-Ok-clause-gathers g c =
     let few = few_gathered s w c.requires.open c.requires.writer in
     let fragment = ap (λ (x : Geometry). x.fragment) c.geometry.ensures in
     record {
-      put = c.in-Ok.ensures.put;
+      put = c.in-Ok.ensures.rest.put;
+      sealed = c.in-Ok.ensures.rest.sealed;
       gathered = c.in-Ok.ensures.empty ∙ sym (left_cut s.geometry w c.args.bytes.now n (cut_now s.geometry w n (omega (arith, few, fragment, c.len-before.ensures, c.min-taken.ensures, c.if-taken-room.false))));
     }

@@ -16,4 +16,4 @@ returns-then-is_empty-clause-does g c = λ cut p covers.
 
 pub returns-then-is_empty-clause-gathers : goal.returns-then-is_empty-clause-gathers
 returns-then-is_empty-clause-gathers g c =
-    record { put = refl; gathered = left_none (state_in g.C.Chronicle c.args.stripe.now) c.args.writer.now c.args.bytes.now (sym c.is_open.ensures ∙ c.if-not-is_open.false) c.requires.writer }
+    record { put = refl; sealed = refl; gathered = left_none (state_in g.C.Chronicle c.args.stripe.now) c.args.writer.now c.args.bytes.now (sym c.is_open.ensures ∙ c.if-not-is_open.false) c.requires.writer }

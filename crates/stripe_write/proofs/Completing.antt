@@ -1,0 +1,252 @@
+-- How a put is finished.
+use Rattle.std.proofs.Common.{◌≡◌, ℕ, ◌≤◌, List, [], ◌∷◌, ◌++◌, refl, sym, ◌∙◌, ap, subst, Bool, true, false, cond, length, Ok, Err}
+use Rattle.std.specs.Prelude.{Option, Some, None, IsSome, is_some, option_map, option_and_then, unwrap_or, if◌then◌else◌}
+use Rattle.std.proofs.lemmas.Bool.{eq-eqb}
+use Rattle.std.proofs.lemmas.List.{append-nil, append_assoc}
+use Rattle.tape_base.specs.declared.geometries.Geometry.{Geometry}
+use Rattle.tape_base.specs.declared.keys.Key.{Key}
+use Rattle.tape_base.specs.declared.pieces.PieceId.{PieceId}
+use Rattle.tape_base.specs.Blocks.{blocks_of}
+use Rattle.tape_base.specs.Geometry.{budget_of}
+use Rattle.fragment_table.specs.Table.{TableRow, total_length}
+use Rattle.alternate_vector.specs.Alternates.{Stored, vector_size}
+use Rattle.alternate_vector.specs.Spelling.{vector_bytes}
+use Rattle.cache_model.specs.declared.record.Rec.{Rec}
+use Rattle.cache_model.specs.declared.record.Rec.TheVariants as rec
+use Rattle.cache_model.specs.State.{Closed, Complete, LastVector, Open, PutRow, Row, State, TakenOut, alternate_of, alternates_of, fragment_piece, is_live, last_vector, list_among, list_of_last, list_of_put, list_of_row, live_row_of, merged_list, only_live, put_of, row_in, state_after, vector_piece, with_writing}
+use Rattle.cache_model.specs.Verdict.{cuts_of, live_vector_of, vector_of_last}
+use Rattle.cache_model.specs.Legal.{AreLiveTo, FitsAlone, IsCut, IsQuiet, IsWriting, is_writing}
+use Rattle.cache_model.specs.Room.{greatest_pin, has_room}
+use Rattle.stripe_actors.proofs.Rows.{find-changed}
+use Rattle.cache_model.specs.State.{after_all}
+use Rattle.cache_model.specs.Kept.{Kept, state_of, with_records}
+use Rattle.cache_model.specs.Permit.{Commit, Done, Exhausted, Fails, Finish}
+use Rattle.cache_model.specs.Legal.{Does}
+use Rattle.cache_model.proofs.Steps.{after_all-append}
+use Rattle.stripe_core.specs.declared.refusal.Placed.{Placed}
+use Rattle.stripe_core.specs.declared.refusal.Refusal.{Refusal}
+use Rattle.stripe_core.specs.declared.refusal.Refusal.TheVariants as refusal
+use Rattle.stripe_core.specs.Acts.{CommitsAsAsked, committed_record}
+use Rattle.stripe_core.specs.Stripe.{Answers, HasMemory}
+use Rattle.stripe_core.specs.Place.{IsPlacedAt, IsVectorFor, IsVectorOf, PlacesAsAsked, placing_adds}
+use Rattle.stripe_vectors.specs.declared.spelling.Spelled.{Spelled}
+use Rattle.stripe_vectors.specs.Spelled.{IsSpelled, listed_with}
+use Rattle.stripe_write.specs.declared.weighing.Vectors.{Vectors}
+use Rattle.stripe_write.specs.declared.writer.Writer.{Writer}
+use Rattle.stripe_write.specs.Writers.{IsAtHand, IsWriterOf}
+use Rattle.stripe_write.specs.Closing.{AreSpelled, IsReadFor, alternate_at_close, rest_rows, rows_at_close, size_at_close}
+use Rattle.stripe_write.specs.Finishing.{AreLive, FinishesAsRead, IsCurrent, bytes_now, picked, vector_now}
+use Rattle.stripe_write.specs.declared.finishing.Receipt.{Receipt}
+use Rattle.stripe_write.proofs.Spending.{last_done, one_group, then_all}
+use Rattle.stripe_write.proofs.Ended.{open_put, own_number}
+
+-- ---- no vector is live
+
+none_listed : (s : State) (row : Row) (b : Bool) → is_live s row ≡ b → (if b then Some row else None) ≡ None → (if b then unwrap_or row.alternates [] else []) ≡ []
+none_listed s row true e h = cc
+none_listed s row false e h = refl
+
+none_in_row : (s : State) (o : Option Row) → option_and_then (only_live s) o ≡ None → unwrap_or (option_map (list_of_row s) o) [] ≡ []
+none_in_row s None h = refl
+none_in_row s (Some row) h = none_listed s row (is_live s row) refl h
+
+none_last : (s : State) (key : Key) (last : Option LastVector) → option_and_then (live_row_of s) (option_and_then (vector_of_last key) last) ≡ None
+    → unwrap_or (option_map (list_of_last s s.rows key) last) [] ≡ []
+none_last s key None h = refl
+none_last s key (Some (TakenOut put)) h = refl
+none_last s key (Some (Complete put)) h = none_in_row s (row_in s.rows (vector_piece key put)) h
+
+-- a key whose vector is not live has no alternates
+pub no_alternates : (s : State) (key : Key) → live_vector_of s key ≡ None → alternates_of s key ≡ []
+no_alternates s key h = none_last s key (last_vector s key) h
+
+-- ---- the vector that is placed
+
+small_merged : (g : Geometry) (w : Writer) (v : Vectors) (o : Option Spelled) → v.merged ≡ o → AreSpelled g w v → blocks_of (length (unwrap_or o v.alone).bytes.items) ≤ budget_of g
+small_merged g w v None e h = h.alone.small
+small_merged g w v (Some m) e h = h.merged m e
+
+pub small_picked : (g : Geometry) (w : Writer) (v : Vectors) (b : Bool) → AreSpelled g w v → blocks_of (length (picked v b).bytes.items) ≤ budget_of g
+small_picked g w v true h = small_merged g w v v.merged refl h
+small_picked g w v false h = h.alone.small
+
+picked_by : (s : State) (w : Writer) (v : Vectors) (o : Option Row) → live_vector_of s w.key ≡ o → AreSpelled s.geometry w v → IsReadFor s w v
+    → IsSpelled s.geometry (alternates_of s w.key) (alternate_at_close w) (picked v (is_some o))
+picked_by s w v None e h read = subst (λ list. IsSpelled s.geometry list (alternate_at_close w) v.alone) (sym (no_alternates s w.key e)) h.alone
+picked_by s w v (Some row) e h read =
+    let m = read row e in
+    subst (λ o. IsSpelled s.geometry (alternates_of s w.key) (alternate_at_close w) (unwrap_or o v.alone)) (sym m.1) m.2
+
+-- ---- the put, when all is cut
+
+-- its row says what is at hand
+pub record IsClosing (s : State) (w : Writer) : Type 0 where
+  pub row : PutRow
+  pub writing : IsWriting s w.put row
+  pub key_is : row.key ≡ w.key
+  pub cuts_are : row.cuts ≡ w.table.rows
+  pub alternate_is : alternate_of row ≡ alternate_at_close w
+
+no_rest : (w : Writer) → w.gathered.items ≡ [] → rows_at_close w ≡ w.table.rows
+no_rest w h = ap (λ bytes. w.table.rows ++ rest_rows bytes) h ∙ append-nil w.table.rows
+
+pub is_closing : (s : State) (w : Writer) → IsQuiet s → is_writing s w.put ≡ true → IsWriterOf s w → w.gathered.items ≡ [] → IsClosing s w
+is_closing s w quiet writing own none =
+    let o = open_put (put_of s w.put) writing in
+    let here : IsAtHand s.geometry o.0 w = own o.0 o.1 o.2 in
+    let cuts : o.0.cuts ≡ rows_at_close w = here.cuts_are ∙ sym (no_rest w none) in
+    let number : o.0.put ≡ w.put = own_number w.put s.puts o.0 o.1 in
+    let made : ℕ → ℕ → List Rattle.alternate_vector.specs.Field.Field → List Rattle.alternate_vector.specs.Field.Field → List TableRow → Stored =
+    λ n pin q r rows. record { put = n; pin = pin; length = total_length rows; request = q; response = r; table = rows } in
+    record {
+      row = o.0;
+      writing = record { quiet = quiet; found = o.1; is_open = o.2 };
+      key_is = here.key_is;
+      cuts_are = here.cuts_are;
+      alternate_is =
+          ap (λ n. made n o.0.pin o.0.request o.0.response o.0.cuts) number
+          ∙ (ap (λ n. made w.put n o.0.request o.0.response o.0.cuts) here.pin_is
+          ∙ (ap (λ q. made w.put w.pin q o.0.response o.0.cuts) here.request_is
+          ∙ (ap (λ r. made w.put w.pin w.request r o.0.cuts) here.response_is ∙ ap (made w.put w.pin w.request w.response) cuts)));
+    }
+
+-- what its vector is to list
+listed_now : (s : State) (w : Writer) (c : IsClosing s w) → s.displaced ≡ [] → list_of_put s w.put ≡ listed_with s.geometry (alternates_of s w.key) (alternate_at_close w)
+listed_now s w c none =
+    ap (λ (o : Option PutRow). unwrap_or (option_map (merged_list s) o) []) c.writing.found
+    ∙ (ap (λ (d : List Row). listed_with s.geometry (list_among s (d ++ s.rows) c.row.key) (alternate_of c.row)) none
+    ∙ (ap (λ k. listed_with s.geometry (list_among s s.rows k) (alternate_of c.row)) c.key_is ∙ ap (listed_with s.geometry (alternates_of s w.key)) c.alternate_is))
+
+pub is_current : (s : State) (w : Writer) (v : Vectors) (c : IsClosing s w) → s.displaced ≡ [] → AreSpelled s.geometry w v → IsReadFor s w v → IsCurrent s w (vector_now s w v)
+is_current s w v c none spelled read =
+    let here : IsSpelled s.geometry (alternates_of s w.key) (alternate_at_close w) (vector_now s w v) = picked_by s w v (live_vector_of s w.key) refl spelled read in
+    let list = listed_now s w c none in
+    record {
+      payload = here.bytes ∙ ap vector_bytes (sym list);
+      size = here.size ∙ ap vector_size (sym list);
+      pin = here.pin ∙ ap greatest_pin (sym list);
+    }
+
+-- ---- its vector
+
+vector_id : (s : State) (w : Writer) (c : IsClosing s w) → vector_piece w.key w.put ≡ vector_piece c.row.key w.put
+vector_id s w c = ap (λ k. vector_piece k w.put) (sym c.key_is)
+
+pub vector_for : (s : State) (w : Writer) (v : Vectors) (payload : List ℕ) (c : IsClosing s w) → AreSpelled s.geometry w v → has_room s (bytes_now s w v) ≡ true
+    → payload ≡ (vector_now s w v).bytes.items → IsVectorFor s (vector_piece w.key w.put) 0 payload
+vector_for s w v payload c spelled room is =
+    record {
+      w = c.row;
+      writing = c.writing;
+      id_is = vector_id s w c;
+      start_is = refl;
+      small = subst (λ b. blocks_of (length b) ≤ budget_of s.geometry) (sym is) (small_picked s.geometry w v (is_some (live_vector_of s w.key)) spelled);
+      room = subst (λ b. has_room s (length b) ≡ true) (sym is) room;
+    }
+
+some_is : (o : Option Row) → IsSome o → (row : Row) × (o ≡ Some row)
+some_is (Some row) h = (row, refl)
+some_is None h = cc
+
+pub live_to : (s : State) (w : Writer) (c : IsClosing s w) (last : ℕ) → AreLive s w last → AreLiveTo s c.row last
+live_to s w c last whole = λ index some within.
+    let number : c.row.put ≡ w.put = own_number w.put s.puts c.row c.writing.found in
+    let id : fragment_piece w.key w.put index ≡ fragment_piece c.row.key c.row.put index = ap (λ k. fragment_piece k w.put index) (sym c.key_is) ∙ ap (λ n. fragment_piece c.row.key n index) (sym number) in
+    subst (λ i. (row : Row) × (live_row_of s i ≡ Some row)) id (some_is (live_row_of s (fragment_piece w.key w.put index)) (whole index some within))
+
+pub fits_alone : (s : State) (w : Writer) (c : IsClosing s w) → blocks_of (size_at_close w) ≤ budget_of s.geometry → FitsAlone s c.row 0
+fits_alone s w c fits = subst (λ (a : Stored). blocks_of (vector_size (a ∷ [])) ≤ budget_of s.geometry) (sym c.alternate_is) fits
+
+pub is_cut : (s : State) (w : Writer) (c : IsClosing s w) → blocks_of (size_at_close w) ≤ budget_of s.geometry → IsCut s w.put (length w.table.rows) c.row
+is_cut s w c fits = record { writing = c.writing; count = ap length c.cuts_are; alone = fits_alone s w c fits }
+
+pub vector_of_put : (s : State) (w : Writer) (v : Vectors) (pin : ℕ) (payload : List ℕ) (c : IsClosing s w) → AreSpelled s.geometry w v → has_room s (bytes_now s w v) ≡ true
+    → payload ≡ (vector_now s w v).bytes.items → pin ≡ (vector_now s w v).pin → AreLive s w (length w.table.rows) → s.displaced ≡ [] → IsReadFor s w v
+    → IsVectorOf s (vector_piece w.key w.put) pin 0 payload
+vector_of_put s w v pin payload c spelled room is pin_is whole none read =
+    let now = is_current s w v c none spelled read in
+    record {
+      w = c.row;
+      cut = record { writing = c.writing; count = refl; alone = fits_alone s w c spelled.fits };
+      whole = live_to s w c (length c.row.cuts) (subst (AreLive s w) (sym (ap length c.cuts_are)) whole);
+      id_is = vector_id s w c;
+      pin_is = pin_is ∙ now.pin;
+      start_is = refl;
+      payload_is = is ∙ now.payload;
+      length_is = ap length is ∙ now.size;
+      room = subst (λ b. has_room s (length b) ≡ true) (sym is) room;
+    }
+
+-- ---- a put that was committed is not open
+
+closed : (o : Option PutRow) (row : PutRow) → option_map (with_writing Closed) o ≡ Some row → row.writing ≡ Open → ⊥
+closed None row h o = cc
+closed (Some first) row h o = let same : with_writing Closed first ≡ row = cc in let clash : Closed ≡ Open = ap (λ (p : PutRow). p.writing) same ∙ o in cc
+
+pub closed_writer : (s : State) (w : Writer) (key : Key) (bytes : ℕ) → IsWriterOf (state_after s (rec.Committed w.put key bytes)) w
+closed_writer s w key bytes = λ row found o.
+    absurd (closed (put_of s w.put) row
+    (sym (find-changed (λ (p : PutRow). p.put) (with_writing Closed) (λ p. refl) w.put w.put s.puts ∙ ap (λ b. cond b (option_map (with_writing Closed) (put_of s w.put)) (put_of s w.put)) (eq-eqb w.put w.put refl)) ∙ found) o)
+
+-- ---- what it makes of the records
+
+cuts_of_put : (s : State) (put : ℕ) (w : PutRow) → put_of s put ≡ Some w → cuts_of s put ≡ w.cuts
+cuts_of_put s put w h = ap (λ (o : Option PutRow). unwrap_or (option_map (λ (p : PutRow). p.cuts) o) []) h
+
+fragments : (s : State) (w : Writer) (c : IsClosing s w) → length (cuts_of s w.put) ≡ length w.table.rows
+fragments s w c = ap length (cuts_of_put s w.put c.row c.writing.found ∙ c.cuts_are)
+
+module _ (old new : Kept) (before after : ℕ) (w : Writer) (v : Vectors) (pin : ℕ) (payload : List ℕ)
+    (c : IsClosing (state_of old) w) (of : (state_of old).displaced ≡ [] → IsReadFor (state_of old) w v → IsVectorOf (state_of old) (vector_piece w.key w.put) pin 0 payload) where
+  abbrev s : State
+  s = state_of old
+
+  abbrev id : PieceId
+  id = vector_piece w.key w.put
+
+  pub refused_finishes : (why : Refusal) → Answers {X = Placed} (Err why) (λ r. new ≡ with_records old (placing_adds s id pin 0 payload r)) (new ≡ old)
+      → Answers {X = Placed} (Err why) (PlacesAsAsked s before after id pin 0 payload) (Unit {0}) → Answers {X = Placed} (Err why) (IsPlacedAt s after id payload) (Unit {0})
+      → HasMemory {X = Placed} (Err why) → FinishesAsRead before after old new w v (Err why)
+  refused_finishes (refusal.Exhausted number) adds does at memory = λ p covers none read.
+      let d : Does p s (Finish w.put (length w.table.rows)) [] (Fails Exhausted) =
+      subst (λ n. Does p s (Finish w.put n) [] (Fails Exhausted)) (fragments s w c) (does (of none read) p covers) in
+      record { added = []; adds = adds; does = λ rest why. one_group p s (Finish w.put (length w.table.rows)) [] (Fails Exhausted) d (Commit w.put ∷ rest) why }
+  refused_finishes (refusal.DeviceFault count) adds does at memory = absurd at
+  refused_finishes (refusal.Memory e) adds does at memory = absurd memory
+  refused_finishes refusal.TooManyWriters adds does at memory = absurd adds
+  refused_finishes refusal.TooManyFragments adds does at memory = absurd adds
+  refused_finishes (refusal.VectorTooLarge size) adds does at memory = absurd adds
+  refused_finishes (refusal.Lost index why) adds does at memory = absurd adds
+  refused_finishes refusal.Sealed adds does at memory = absurd adds
+  refused_finishes refusal.NoSuchWriter adds does at memory = absurd adds
+
+  pub completes : (mid : Kept) (placed : Placed) (receipt : Receipt) → mid ≡ with_records old (placing_adds s id pin 0 payload (Ok placed)) → PlacesAsAsked s before after id pin 0 payload (Ok placed)
+      → new ≡ with_records mid (committed_record (state_of mid) w.put w.key ∷ []) → CommitsAsAsked (state_of mid) w.put w.key → FinishesAsRead before after old new w v (Ok receipt)
+  completes mid placed receipt first places last commits = λ p covers none read.
+      let a : List Rec = placing_adds s id pin 0 payload (Ok placed) in
+      let b : Rec = committed_record (state_of mid) w.put w.key in
+      let there : state_of mid ≡ after_all s a = ap state_of first ∙ after_all-append old.base old.since a in
+      let d : Does p s (Finish w.put (length w.table.rows)) a Done = subst (λ n. Does p s (Finish w.put n) a Done) (fragments s w c) (places (of none read) p covers) in
+      record {
+        added = a ++ b ∷ [];
+        adds = last ∙ (ap (λ k. with_records k (b ∷ [])) first ∙ ap (λ recs. let k : Kept = record { base = old.base; since = recs } in k) (append_assoc old.since a (b ∷ [])));
+        does = then_all p s (Finish w.put (length w.table.rows)) (Commit w.put ∷ []) a (b ∷ []) Done (one_group p s (Finish w.put (length w.table.rows)) a Done d)
+            (last_done p (after_all s a) (Commit w.put) (b ∷ []) (one_group p (after_all s a) (Commit w.put) (b ∷ []) Done (subst (λ t. Does p t (Commit w.put) (b ∷ []) Done) there (commits p))));
+      }
+
+-- ---- a writer whose records are as they were
+
+pub nothing_more : (k : Kept) → with_records k [] ≡ k
+nothing_more k = ap (λ recs. let x : Kept = record { base = k.base; since = recs } in x) (append-nil k.since)
+
+pub refused_writer : (old new : Kept) (w : Writer) (pin : ℕ) (payload : List ℕ) (why : Refusal)
+    → Answers {X = Placed} (Err why) (λ r. new ≡ with_records old (placing_adds (state_of old) (vector_piece w.key w.put) pin 0 payload r)) (new ≡ old) → IsWriterOf (state_of old) w → IsWriterOf (state_of new) w
+refused_writer old new w pin payload (refusal.Exhausted number) adds own = subst (λ k. IsWriterOf (state_of k) w) (sym (adds ∙ nothing_more old)) own
+refused_writer old new w pin payload (refusal.DeviceFault count) adds own = subst (λ k. IsWriterOf (state_of k) w) (sym (adds ∙ nothing_more old)) own
+refused_writer old new w pin payload (refusal.Memory e) adds own = subst (λ k. IsWriterOf (state_of k) w) (sym adds) own
+refused_writer old new w pin payload refusal.TooManyWriters adds own = absurd adds
+refused_writer old new w pin payload refusal.TooManyFragments adds own = absurd adds
+refused_writer old new w pin payload (refusal.VectorTooLarge size) adds own = absurd adds
+refused_writer old new w pin payload (refusal.Lost index why) adds own = absurd adds
+refused_writer old new w pin payload refusal.Sealed adds own = absurd adds
+refused_writer old new w pin payload refusal.NoSuchWriter adds own = absurd adds

@@ -1,0 +1,233 @@
+-- Whether a put's vector is a piece, and what comes of it.
+use Rattle.std.proofs.Common.{◌≡◌, ℕ, ◌+◌, ◌*◌, ◌<◌, ◌≤◌, List, [], ◌∷◌, ◌++◌, refl, sym, ◌∙◌, ap, subst, arith, inl, inr, ◌⊎◌, Bool, true, false, length, Result, Ok, Err, IfOk, append_assoc, append-nil}
+use Rattle.std.specs.Prelude.{Option, Some, None, ◌==◌, if◌then◌else◌}
+use Rattle.std.proofs.lemmas.Bool.{eqb-true}
+use Rattle.std.specs.declared.alloc.AllocError.{AllocError}
+use Rattle.std.proofs.lemmas.List.{length-append}
+use Rattle.tape_base.specs.declared.geometries.Geometry.{Geometry}
+use Rattle.tape_base.specs.Blocks.{blocks_of}
+use Rattle.tape_base.specs.Geometry.{budget_of}
+use Rattle.ats_disk.specs.Device.{State as Device}
+use Rattle.fragment_table.specs.Table.{TableRow, made_row}
+use Rattle.alternate_vector.specs.Field.{Field}
+use Rattle.alternate_vector.specs.Alternates.{Stored, fields_size, vector_size}
+use Rattle.cache_model.specs.declared.record.Rec.{Rec}
+use Rattle.cache_model.specs.declared.record.Rec.TheVariants as rec
+use Rattle.cache_model.specs.State.{PutRow, Row, State, after_all, alternate_of, alternates_of, put_of, with_cut}
+use Rattle.cache_model.specs.Kept.{Kept, state_of, with_records}
+use Rattle.cache_model.specs.Verdict.{live_vector_of}
+use Rattle.cache_model.specs.Permit.{Done, End, Fails, Faulted, Permit, Stays, TooLarge, Weigh, work_after}
+use Rattle.cache_model.specs.Legal.{DoesWeigh, IsQuiet, IsReadWhereLive, IsWriting, MayGrow, aborted_record, is_writing, most_fragments, nothing, size_alone}
+use Rattle.cache_model.specs.Vectors.{AreVectors}
+use Rattle.cache_model.proofs.Steps.{grows_by, grows_on}
+use Rattle.stripe_core.specs.declared.refusal.Refusal.{Refusal}
+use Rattle.stripe_core.specs.declared.refusal.Refusal.TheVariants as refusal
+use Rattle.stripe_core.specs.Covers.{AreSeen, Covers, Spends}
+use Rattle.stripe_vectors.specs.declared.reading.KeyVector.{KeyVector}
+use Rattle.stripe_vectors.specs.declared.spelling.Spelled.{Spelled}
+use Rattle.stripe_vectors.specs.Reading.{FindsVector, IsCollision, ReadIsListed, vector_adds}
+use Rattle.stripe_vectors.specs.Spelled.{IsSpelled}
+use Rattle.stripe_write.specs.declared.weighing.Vectors.{Vectors}
+use Rattle.stripe_write.specs.declared.writer.Writer.{Writer}
+use Rattle.stripe_write.specs.Closing.{AreSpelled, IsReadFor, WeighsAsAsked, WeighsWhere, alternate_at_close, rest_rows, size_at_close, weigh_end}
+use Rattle.stripe_write.specs.Weighing.{FitsWhere, IsSpelledWith, fault_in, fit_adds, list_in}
+use Rattle.stripe_write.specs.Writers.{IsAtHand, IsWriterOf}
+use Rattle.stripe_write.proofs.Ended.{open_put, own_number}
+use Rattle.stripe_write.proofs.WeighingReads.{IsReadSoFar, fault_does, read_so_far, state_behind}
+
+-- ---- the size of the vector
+
+-- a table of so many rows beside the fields
+abbrev sized : List Field → List Field → ℕ → ℕ
+sized request response rows = 4 + (0 + (24 + fields_size request + fields_size response + (4 + 36 * rows)))
+
+not_zero : (n : ℕ) → 0 < n → (n == 0) ≡ false
+not_zero n some = by (n == 0) refl
+  where
+    by : (b : Bool) → (n == 0) ≡ b → b ≡ false
+    by false e = refl
+    by true e = let zero : n ≡ 0 = eqb-true n 0 e in absurd (omega (arith, zero, some))
+
+size_cut : (row : PutRow) (rest : ℕ) → 0 < rest → size_alone row rest ≡ sized row.request row.response (length row.cuts + 1)
+size_cut row rest some =
+    ap (λ b. vector_size (alternate_of (if b then row else with_cut (made_row rest []) row) ∷ [])) (not_zero rest some)
+    ∙ ap (sized row.request row.response) (length-append row.cuts (made_row rest [] ∷ []))
+
+size_with : (row : PutRow) (rest : List ℕ) → size_alone row (length rest) ≡ sized row.request row.response (length (row.cuts ++ rest_rows rest))
+size_with row [] = ap (λ (rows : List TableRow). sized row.request row.response (length rows)) (sym (append-nil row.cuts))
+size_with row (byte ∷ bytes) = size_cut row (length (byte ∷ bytes)) (omega arith) ∙ ap (sized row.request row.response) (sym (length-append row.cuts (rest_rows (byte ∷ bytes))))
+
+size_is : (g : Geometry) (row : PutRow) (w : Writer) → IsAtHand g row w → size_alone row (length w.gathered.items) ≡ size_at_close w
+size_is g row w here =
+    size_with row w.gathered.items
+    ∙ (ap (λ fields. sized fields row.response (length (row.cuts ++ rest_rows w.gathered.items))) here.request_is
+    ∙ (ap (λ fields. sized w.request fields (length (row.cuts ++ rest_rows w.gathered.items))) here.response_is
+    ∙ ap (λ (rows : List TableRow). sized w.request w.response (length (rows ++ rest_rows w.gathered.items))) here.cuts_are))
+
+pub more_gathered : (s : State) (w : Writer) → is_writing s w.put ≡ true → IsWriterOf s w → 0 < length w.gathered.items → length w.table.rows < most_fragments
+more_gathered s w writing own some =
+    let o = open_put (put_of s w.put) writing in
+    let here : IsAtHand s.geometry o.0 w = own o.0 o.1 o.2 in
+    subst (λ (rows : List TableRow). length rows < most_fragments) here.cuts_are (here.more some)
+
+-- ---- what is spelled
+
+small_of : (g : Geometry) (list : Option (List Stored)) (new : Stored) (o : Option Spelled) → IsSpelledWith g list new o → (m : Spelled) → o ≡ Some m → blocks_of (length m.bytes.items) ≤ budget_of g
+small_of g (Some list) new (Some spelled) h m is = let same : spelled ≡ m = cc in subst (λ (x : Spelled). blocks_of (length x.bytes.items) ≤ budget_of g) same h.small
+small_of g (Some list) new None h m is = cc
+small_of g None new (Some spelled) h m is = absurd h
+small_of g None new None h m is = cc
+
+pub weighs_where : (s t : State) (list : Option (List Stored)) (w : Writer) (result : Result Vectors Refusal) → t.geometry ≡ s.geometry → FitsWhere t list w result → WeighsWhere s w result
+weighs_where s t list w (Ok v) same h =
+    subst (λ g. AreSpelled g w v) same (record { fits = h.fits; alone = h.alone; merged = small_of t.geometry list (alternate_at_close w) v.merged h.merged })
+weighs_where s t list w (Err (refusal.VectorTooLarge bytes)) same h = (h.0, subst (λ g. budget_of g < blocks_of bytes) same h.1)
+weighs_where s t list w (Err (refusal.Memory e)) same h = tt
+weighs_where s t list w (Err (refusal.DeviceFault count)) same h = absurd h
+weighs_where s t list w (Err (refusal.Exhausted number)) same h = absurd h
+weighs_where s t list w (Err refusal.TooManyWriters) same h = absurd h
+weighs_where s t list w (Err refusal.TooManyFragments) same h = absurd h
+weighs_where s t list w (Err (refusal.Lost index why)) same h = absurd h
+weighs_where s t list w (Err refusal.Sealed) same h = absurd h
+weighs_where s t list w (Err refusal.NoSuchWriter) same h = absurd h
+
+-- ---- the last group
+
+fit_does : (p : Permit) (t : State) (w : Writer) (row : PutRow) (list : Option (List Stored)) (result : Result Vectors Refusal) → IsWriting t w.put row → IsAtHand t.geometry row w
+    → IsReadWhereLive p t (live_vector_of t row.key) → FitsWhere t list w result → Spends p t (Weigh w.put (length w.gathered.items)) (fit_adds w result) (weigh_end w result)
+fit_does p t w row list (Ok v) writing here readable h = λ rest why.
+    let size : size_alone row (length w.gathered.items) ≡ size_at_close w = size_is t.geometry row w here in
+    let fits : blocks_of (size_alone row (length w.gathered.items)) ≤ budget_of t.geometry = subst (λ n. blocks_of n ≤ budget_of t.geometry) (sym size) h.fits in
+    grows_by p t _ _ [] (Done, DoesWeigh.weighs row writing readable fits refl, refl)
+fit_does p t w row list (Err (refusal.VectorTooLarge bytes)) writing here readable h = λ rest why.
+    let size : size_alone row (length w.gathered.items) ≡ bytes = size_is t.geometry row w here ∙ sym h.0 in
+    let large : budget_of t.geometry < blocks_of (size_alone row (length w.gathered.items)) = subst (λ n. budget_of t.geometry < blocks_of n) (sym size) h.1 in
+    let adds : rec.Aborted w.put w.key ∷ [] ≡ aborted_record row ∷ [] =
+    ap (λ n. rec.Aborted n w.key ∷ []) (sym (own_number w.put t.puts row writing.found)) ∙ ap (λ k. rec.Aborted row.put k ∷ []) (sym here.key_is) in
+    let does : DoesWeigh p t w.put (length w.gathered.items) (rec.Aborted w.put w.key ∷ []) (Fails (TooLarge w.put bytes)) =
+    subst (λ n. DoesWeigh p t w.put (length w.gathered.items) (rec.Aborted w.put w.key ∷ []) (Fails (TooLarge w.put n))) size (DoesWeigh.too_large row writing readable large adds) in
+    grows_by p t _ _ (rec.Aborted w.put w.key ∷ []) (Fails (TooLarge w.put bytes), does, refl)
+fit_does p t w row list (Err (refusal.Memory e)) writing here readable h = λ rest why. nothing
+fit_does p t w row list (Err (refusal.DeviceFault count)) writing here readable h = absurd h
+fit_does p t w row list (Err (refusal.Exhausted number)) writing here readable h = absurd h
+fit_does p t w row list (Err refusal.TooManyWriters) writing here readable h = absurd h
+fit_does p t w row list (Err refusal.TooManyFragments) writing here readable h = absurd h
+fit_does p t w row list (Err (refusal.Lost index why)) writing here readable h = absurd h
+fit_does p t w row list (Err refusal.Sealed) writing here readable h = absurd h
+fit_does p t w row list (Err refusal.NoSuchWriter) writing here readable h = absurd h
+
+-- behind what was read
+spends_on : (p : Permit) (s : State) (put rest : ℕ) (before added : List Rec) (e : End) → (before ≡ []) ⊎ DoesWeigh p s put rest before Stays → Spends p (after_all s before) (Weigh put rest) added e
+    → Spends p s (Weigh put rest) (before ++ added) e
+spends_on p s put rest before added e (inl none) h = λ is why.
+    subst (λ recs. MayGrow p s (record { intents = Weigh put rest ∷ is; refused = why }) (recs ++ added) (work_after (Weigh put rest) is why e)) (sym none)
+    (subst (λ recs. MayGrow p (after_all s recs) (record { intents = Weigh put rest ∷ is; refused = why }) added (work_after (Weigh put rest) is why e)) none (h is why))
+spends_on p s put rest before added e (inr does) h = λ is why. grows_on (grows_by p s _ _ before (Stays, does, refl)) (h is why)
+
+-- ---- what the vectors that are spelled have
+
+merged_some : (g : Geometry) (list : List Stored) (new : Stored) (o : Option Spelled) → IsSpelledWith g (Some list) new o → (m : Spelled) × (o ≡ Some m) × IsSpelled g list new m
+merged_some g list new (Some m) h = (m, refl, h)
+merged_some g list new None h = absurd h
+
+told_by : (p : Permit) (s t : State) (w : Writer) (answer : KeyVector) (result : Result Vectors Refusal) → FitsWhere t (list_in answer) w result
+    → (AreVectors s → ((row : Row) → live_vector_of t w.key ≡ Some row → list_in answer ≡ Some (alternates_of t w.key)) ⊎ IsCollision p s w.key)
+    → IfOk result (λ v. AreVectors s → IsReadFor t w v ⊎ IsCollision p s w.key)
+told_by p s t w answer (Err e) h listed = tt
+told_by p s t w answer (Ok v) h listed = λ vectors. elim (listed vectors) [
+  | inl same ↦ inl (λ row live. merged_some t.geometry (alternates_of t w.key) (alternate_at_close w) v.merged (subst (λ o. IsSpelledWith t.geometry o (alternate_at_close w) v.merged) (same row live) h.merged))
+  | inr collide ↦ inr collide
+]
+
+-- where a vector is spelled nothing is added
+no_more : (mid new : Kept) (w : Writer) (s : State) (p : Permit) (result : Result Vectors Refusal) → new ≡ with_records mid (fit_adds w result)
+    → IfOk result (λ v. AreVectors s → IsReadFor (state_of mid) w v ⊎ IsCollision p s w.key) → IfOk result (λ v. AreVectors s → IsReadFor (state_of new) w v ⊎ IsCollision p s w.key)
+no_more mid new w s p (Err e) is h = tt
+no_more mid new w s p (Ok v) is h = subst (λ t. AreVectors s → IsReadFor t w v ⊎ IsCollision p s w.key) (sym (state_behind mid new [] is)) h
+
+-- ---- weighing
+
+-- memory is wanting before anything is read
+pub wants : (kept new : Kept) (before after : Device) (w : Writer) (e : AllocError) (result : Result Vectors Refusal) → result ≡ Err (refusal.Memory e) → new ≡ kept → WeighsAsAsked before after kept new w result
+wants kept new before after w e result is same =
+    subst (WeighsAsAsked before after kept new w) (sym is) (record {
+      reads = [];
+      seen = tt;
+      does = λ p covers. record {
+        added = [];
+        adds = same ∙ ap (λ recs. let k : Kept = record { base = kept.base; since = recs } in k) (sym (append-nil kept.since));
+        does = λ rest why. nothing;
+        told = tt;
+      };
+    })
+
+-- the device refuses to give the vector
+pub faults : (kept new : Kept) (before after : Device) (w : Writer) (answer : KeyVector) (count : ℕ) → IsQuiet (state_of kept) → is_writing (state_of kept) w.put ≡ true → IsWriterOf (state_of kept) w
+    → fault_in answer ≡ Some count → new ≡ with_records kept (vector_adds (state_of kept) w.key answer) → FindsVector (state_of kept) before after w.key answer
+    → WeighsAsAsked before after kept new w (Err (refusal.DeviceFault count))
+faults kept new before after w answer count quiet writing own fault adds finds =
+    let s : State = state_of kept in
+    let o = open_put (put_of s w.put) writing in
+    let key : o.0.key ≡ w.key = (own o.0 o.1 o.2).key_is in
+    record {
+      reads = finds.reads;
+      seen = finds.seen;
+      does = λ p covers. record {
+        added = vector_adds s w.key answer;
+        adds = adds;
+        does = λ rest why.
+            grows_by p s _ _ (vector_adds s w.key answer)
+            (Fails (Faulted count), fault_does p s w.put (length w.gathered.items) o.0 (live_vector_of s w.key) answer count (record { quiet = quiet; found = o.1; is_open = o.2 }) (ap (live_vector_of s) key) (finds.answers p covers) fault, refl);
+        told = tt;
+      };
+    }
+
+-- a call that read, was not refused by the device, and judged: what its two parts tell
+pub record IsWeighed (kept mid new : Kept) (before during after : Device) (w : Writer) (answer : KeyVector) (result : Result Vectors Refusal) : Type 0 where
+  pub quiet : IsQuiet (state_of kept)
+  pub writing : is_writing (state_of kept) w.put ≡ true
+  pub own : IsWriterOf (state_of kept) w
+  pub quiet_then : IsQuiet (state_of mid)
+  pub writing_then : is_writing (state_of mid) w.put ≡ true
+  pub own_then : IsWriterOf (state_of mid) w
+  pub no_fault : fault_in answer ≡ None
+  pub reads : mid ≡ with_records kept (vector_adds (state_of kept) w.key answer)
+  pub finds : FindsVector (state_of kept) before during w.key answer
+  pub fits : FitsWhere (state_of mid) (list_in answer) w result
+  pub adds : new ≡ with_records mid (fit_adds w result)
+  pub still : after ≡ during
+
+so_far : ReadIsListed → (kept mid new : Kept) (before during after : Device) (w : Writer) (answer : KeyVector) (result : Result Vectors Refusal) (h : IsWeighed kept mid new before during after w answer result)
+    (p : Permit) → Covers p before.faults during.faults h.finds.reads → IsReadSoFar p (state_of kept) w.put (length w.gathered.items) w.key (vector_adds (state_of kept) w.key answer) answer
+so_far law kept mid new before during after w answer result h p covers =
+    let s : State = state_of kept in
+    let o = open_put (put_of s w.put) h.writing in
+    let key : o.0.key ≡ w.key = (h.own o.0 o.1 o.2).key_is in
+    subst (λ k. IsReadSoFar p s w.put (length w.gathered.items) k (vector_adds s w.key answer) answer) key
+    (read_so_far law p s w.put (length w.gathered.items) o.0 (live_vector_of s w.key) answer (record { quiet = h.quiet; found = o.1; is_open = o.2 }) (ap (live_vector_of s) key) (h.finds.answers p covers) h.no_fault)
+
+pub weighs : ReadIsListed → (kept mid new : Kept) (before during after : Device) (w : Writer) (answer : KeyVector) (result : Result Vectors Refusal) → IsWeighed kept mid new before during after w answer result
+    → WeighsAsAsked before after kept new w result
+weighs law kept mid new before during after w answer result h =
+    let s : State = state_of kept in
+    let first : List Rec = vector_adds s w.key answer in
+    let there : state_of mid ≡ after_all s first = state_behind kept mid first h.reads in
+    let o = open_put (put_of (state_of mid) w.put) h.writing_then in
+    let here : IsAtHand (state_of mid).geometry o.0 w = h.own_then o.0 o.1 o.2 in
+    record {
+      reads = h.finds.reads;
+      seen = subst (λ d. AreSeen s.geometry d h.finds.reads) (sym h.still) h.finds.seen;
+      does = λ p covers.
+          let far = so_far law kept mid new before during after w answer result h p (subst (λ (d : Device). Covers p before.faults d.faults h.finds.reads) h.still covers) in
+          let readable : IsReadWhereLive p (state_of mid) (live_vector_of (state_of mid) o.0.key) =
+          subst (λ k. IsReadWhereLive p (state_of mid) (live_vector_of (state_of mid) k)) (sym here.key_is) (subst (λ t. IsReadWhereLive p t (live_vector_of t w.key)) (sym there) far.readable) in
+          let last : Spends p (state_of mid) (Weigh w.put (length w.gathered.items)) (fit_adds w result) (weigh_end w result) =
+          fit_does p (state_of mid) w o.0 (list_in answer) result (record { quiet = h.quiet_then; found = o.1; is_open = o.2 }) here readable h.fits in
+          record {
+            added = first ++ fit_adds w result;
+            adds = h.adds ∙ (ap (λ k. with_records k (fit_adds w result)) h.reads ∙ ap (λ recs. let k : Kept = record { base = kept.base; since = recs } in k) (append_assoc kept.since first (fit_adds w result)));
+            does = spends_on p s w.put (length w.gathered.items) first (fit_adds w result) (weigh_end w result) far.grows (subst (λ t. Spends p t (Weigh w.put (length w.gathered.items)) (fit_adds w result) (weigh_end w result)) there last);
+            told = no_more mid new w s p result h.adds (told_by p s (state_of mid) w answer result h.fits
+                (subst (λ t. AreVectors s → ((row : Row) → live_vector_of t w.key ≡ Some row → list_in answer ≡ Some (alternates_of t w.key)) ⊎ IsCollision p s w.key) (sym there) far.listed));
+          };
+    }

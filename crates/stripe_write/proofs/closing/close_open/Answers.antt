@@ -1,0 +1,38 @@
+use Rattle.std.proofs.Common.{Bool, Err, sym, subst}
+use Rattle.stripe_core.specs.Stripe.{kept_in, seen_in, state_in}
+use Rattle.stripe_write.specs.declared.writer.Writer.{Writer}
+use Rattle.stripe_write.specs.Writers.{IsWriterOf}
+use Rattle.stripe_write.specs.Closes.{SealsWhere}
+use Rattle.stripe_write.specs.Closing.{AreSpelled}
+use Rattle.stripe_write.proofs.LastSteps.{refused_closes, refused_own, refused_seals, refused_where, weighed_closes}
+use Rattle.stripe_write.proofs.closing.close_open.Goals as goal
+
+pub end-requires-clause-spelled : goal.end-requires-clause-spelled
+end-requires-clause-spelled g c = subst (λ x. AreSpelled x c.args.writer.now c.in-Ok.vectors) (sym c.in-Ok.ensures.geometry) c.in-Ok.ensures.weighs
+
+pub returns-in-Ok-clause-does : goal.returns-in-Ok-clause-does
+returns-in-Ok-clause-does g c =
+    weighed_closes c.steps_tell.ensures (kept_in g.C.Chronicle c.args.stripe.now) (kept_in g.C.Chronicle c.weigh.new.stripe) (kept_in g.C.Chronicle c.end.new.stripe)
+    (seen_in g.D.Disk g.R.Directory c.args.stripe.now).device (seen_in g.D.Disk g.R.Directory c.weigh.new.stripe).device (seen_in g.D.Disk g.R.Directory c.end.new.stripe).device
+    c.args.writer.now c.in-Ok.vectors c.end.result c.weigh.ensures.later c.end.ensures.later c.in-Ok.ensures.does c.weigh.ensures.quiet c.end.ensures.ends c.end.ensures.does
+
+pub returns-in-Err-clause-closes : goal.returns-in-Err-clause-closes
+returns-in-Err-clause-closes g c = refused_where (state_in g.C.Chronicle c.args.stripe.now) (state_in g.C.Chronicle c.weigh.new.stripe) c.args.writer.now c.in-Err.why c.requires.open c.in-Err.ensures.weighs
+
+pub returns-in-Err-clause-does : goal.returns-in-Err-clause-does
+returns-in-Err-clause-does g c =
+    refused_closes (kept_in g.C.Chronicle c.args.stripe.now) (kept_in g.C.Chronicle c.weigh.new.stripe) (seen_in g.D.Disk g.R.Directory c.args.stripe.now).device (seen_in g.D.Disk g.R.Directory c.weigh.new.stripe).device
+    c.args.writer.now c.in-Err.why c.in-Err.ensures.weighs c.in-Err.ensures.does
+
+abbrev used : Writer → Bool → Writer
+used w sealed = record { put = w.put; key = w.key; request = w.request; response = w.response; pin = w.pin; gathered = w.gathered; table = w.table; sealed = sealed }
+
+pub returns-in-Err-clause-writer : goal.returns-in-Err-clause-writer
+returns-in-Err-clause-writer g c =
+    subst (λ b. IsWriterOf (state_in g.C.Chronicle c.weigh.new.stripe) (used c.args.writer.now b)) (sym c.is_sealed_by-writer.ensures)
+    (refused_own (state_in g.C.Chronicle c.weigh.new.stripe) (state_in g.C.Chronicle c.args.stripe.now) c.args.writer.now c.in-Err.why c.in-Err.ensures.weighs c.weigh.ensures.writer)
+
+pub returns-in-Err-clause-seals : goal.returns-in-Err-clause-seals
+returns-in-Err-clause-seals g c =
+    subst (λ b. SealsWhere c.args.writer.now (used c.args.writer.now b) (Err c.in-Err.why)) (sym c.is_sealed_by-writer.ensures)
+    (refused_seals (state_in g.C.Chronicle c.args.stripe.now) c.args.writer.now c.in-Err.why c.in-Err.ensures.weighs)

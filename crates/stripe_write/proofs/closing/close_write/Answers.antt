@@ -1,0 +1,28 @@
+use Rattle.std.proofs.Common.{sym, subst, refl}
+use Rattle.cache_model.specs.Kept.{state_of}
+use Rattle.stripe_core.specs.declared.refusal.Refusal.TheVariants as refusal
+use Rattle.stripe_core.specs.Stripe.{kept_in, state_in}
+use Rattle.stripe_write.specs.Writers.{IsWriterOf}
+use Rattle.stripe_write.proofs.Gathering.{same_writer}
+use Rattle.stripe_write.proofs.LastSteps.{closes_same, wanting_closes}
+use Rattle.stripe_write.proofs.closing.close_write.Goals as goal
+
+pub close_open-requires-clause-writer : goal.close_open-requires-clause-writer
+close_open-requires-clause-writer g c =
+    same_writer (state_in g.C.Chronicle c.make_memory.new.stripe) c.args.writer.now c.make_memory.new.writer c.make_memory.ensures.same
+    (subst (λ k. IsWriterOf (state_of k) c.args.writer.now) (sym c.make_memory.ensures.records) c.requires.writer)
+
+pub returns-in-Err-clause-writer : goal.returns-in-Err-clause-writer
+returns-in-Err-clause-writer g c =
+    same_writer (state_in g.C.Chronicle c.make_memory.new.stripe) c.args.writer.now c.make_memory.new.writer c.make_memory.ensures.same
+    (subst (λ k. IsWriterOf (state_of k) c.args.writer.now) (sym c.make_memory.ensures.records) c.requires.writer)
+
+pub returns-in-Err-clause-does : goal.returns-in-Err-clause-does
+returns-in-Err-clause-does g c =
+    wanting_closes (kept_in g.C.Chronicle c.args.stripe.now) (kept_in g.C.Chronicle c.make_memory.new.stripe) _ _ c.args.writer.now (refusal.Memory c.in-Err.e) c.in-Err.e refl c.make_memory.ensures.records
+
+pub returns-in-Ok-clause-does : goal.returns-in-Ok-clause-does
+returns-in-Ok-clause-does g c =
+    let same = c.make_memory.ensures.same in
+    closes_same (kept_in g.C.Chronicle c.args.stripe.now) (kept_in g.C.Chronicle c.make_memory.new.stripe) (kept_in g.C.Chronicle c.close_open.new.stripe) _ _ _ c.args.writer.now c.make_memory.new.writer c.close_open.result
+    c.make_memory.ensures.records c.make_memory.ensures.still.faults (record { put = same.put; key = same.key; gathered = same.gathered; rows = same.rows }) c.close_open.ensures.does

@@ -1,0 +1,34 @@
+use Rattle.std.proofs.Common.{◌≡◌, refl}
+use Rattle.stripe_core.specs.Stripe.{kept_in, state_in}
+use Rattle.stripe_write.specs.declared.writer.Writer.{Writer}
+use Rattle.stripe_write.proofs.LastSteps.{IsSealed, cut_same, keeps_rest, no_rest_ends, rest_then_finish, sealed_same, sealed_writer, spelled_same, then_same}
+use Rattle.stripe_write.proofs.closing.end.Goals as goal
+
+pub cut_rest-requires-clause-writer : goal.cut_rest-requires-clause-writer
+cut_rest-requires-clause-writer g c =
+    let w = c.args.writer.now in
+    let sealed : Writer = record { put = w.put; key = w.key; request = w.request; response = w.response; pin = w.pin; gathered = w.gathered; table = w.table; sealed = Rattle.std.proofs.Common.true } in
+    sealed_writer (state_in g.C.Chronicle c.args.stripe.now) w sealed (record { put = refl; key = refl; request = refl; response = refl; pin = refl; gathered = refl; rows = refl; sealed = refl }) c.requires.writer
+
+pub finish-requires-clause-spelled : goal.finish-requires-clause-spelled
+finish-requires-clause-spelled g c =
+    let w = c.args.writer.now in
+    let sealed : Writer = record { put = w.put; key = w.key; request = w.request; response = w.response; pin = w.pin; gathered = w.gathered; table = w.table; sealed = Rattle.std.proofs.Common.true } in
+    let is : IsSealed w sealed = record { put = refl; key = refl; request = refl; response = refl; pin = refl; gathered = refl; rows = refl; sealed = refl } in
+    spelled_same _ _ w c.cut_rest.new.writer c.args.vectors.now (keeps_rest (kept_in g.C.Chronicle c.args.stripe.now) (kept_in g.C.Chronicle c.cut_rest.new.stripe) sealed c.in-Ok.field-0 c.in-Ok.ensures.adds c.requires.stripe.pieces.sound).geometry
+    (then_same w sealed c.cut_rest.new.writer (sealed_same w sealed is) (cut_same sealed c.cut_rest.new.writer c.cut_rest.ensures.rest c.in-Ok.ensures.rows c.in-Ok.ensures.empty)) c.requires.spelled
+
+pub returns-in-Ok-clause-does : goal.returns-in-Ok-clause-does
+returns-in-Ok-clause-does g c =
+    let w = c.args.writer.now in
+    let sealed : Writer = record { put = w.put; key = w.key; request = w.request; response = w.response; pin = w.pin; gathered = w.gathered; table = w.table; sealed = Rattle.std.proofs.Common.true } in
+    rest_then_finish (kept_in g.C.Chronicle c.args.stripe.now) (kept_in g.C.Chronicle c.cut_rest.new.stripe) (kept_in g.C.Chronicle c.finish.new.stripe) _ _ _ w sealed c.cut_rest.new.writer c.args.vectors.now c.in-Ok.field-0 c.finish.result
+    (record { put = refl; key = refl; request = refl; response = refl; pin = refl; gathered = refl; rows = refl; sealed = refl }) c.cut_rest.ensures.rest c.in-Ok.ensures.rows c.in-Ok.ensures.empty c.requires.stripe.pieces.sound
+    c.cut_rest.ensures.later c.finish.ensures.later c.in-Ok.ensures.adds c.in-Ok.ensures.does c.finish.ensures.finishes c.finish.ensures.does
+
+pub returns-in-Err-clause-does : goal.returns-in-Err-clause-does
+returns-in-Err-clause-does g c =
+    let w = c.args.writer.now in
+    let sealed : Writer = record { put = w.put; key = w.key; request = w.request; response = w.response; pin = w.pin; gathered = w.gathered; table = w.table; sealed = Rattle.std.proofs.Common.true } in
+    no_rest_ends (kept_in g.C.Chronicle c.args.stripe.now) (kept_in g.C.Chronicle c.cut_rest.new.stripe) _ _ w sealed c.args.vectors.now c.in-Err.why
+    (record { put = refl; key = refl; request = refl; response = refl; pin = refl; gathered = refl; rows = refl; sealed = refl }) c.in-Err.ensures.adds c.in-Err.ensures.does

@@ -1,0 +1,18 @@
+use Rattle.std.proofs.Common.{sym, ◌∙◌, ap, subst, [], ◌∷◌}
+use Rattle.fragment_table.specs.Table.{total_length}
+use Rattle.cache_model.specs.Kept.{state_of}
+use Rattle.cache_model.specs.Verdict.{cuts_of}
+use Rattle.cache_model.proofs.Steps.{after_all-append}
+use Rattle.stripe_core.specs.Acts.{committed_record}
+use Rattle.stripe_core.specs.Stripe.{kept_in, state_in}
+use Rattle.stripe_write.specs.Writers.{IsWriterOf}
+use Rattle.stripe_write.proofs.Completing.{closed_writer}
+use Rattle.stripe_write.proofs.finishing.commit.Goals as goal
+
+pub returns-clause-writer : goal.returns-clause-writer
+returns-clause-writer g c =
+    let kept = kept_in g.C.Chronicle c.args.stripe.now in
+    let s = state_in g.C.Chronicle c.args.stripe.now in
+    let w = c.args.writer.now in
+    subst (λ t. IsWriterOf t w) (sym (ap state_of c.commit.ensures.adds ∙ after_all-append kept.base kept.since (committed_record s w.put w.key ∷ [])))
+    (closed_writer s w w.key (total_length (cuts_of s w.put)))

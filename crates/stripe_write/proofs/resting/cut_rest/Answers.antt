@@ -1,0 +1,31 @@
+use Rattle.std.proofs.Common.{◌≡◌, ◌<◌, length, sym, subst, arith}
+use Rattle.stripe_core.specs.Stripe.{kept_in, state_in}
+use Rattle.stripe_write.specs.Writers.{IsWriterOf}
+use Rattle.stripe_write.specs.Writes.{IsReady, next_id, next_start}
+use Rattle.stripe_write.proofs.Gathering.{failed_puts, still_writer}
+use Rattle.stripe_write.proofs.LastCut.{cut_open, rest_none, rest_ready}
+use Rattle.stripe_write.proofs.resting.cut_rest.Goals as goal
+
+pub returns-then-is_empty-clause-does : goal.returns-then-is_empty-clause-does
+returns-then-is_empty-clause-does g c = λ p covers.
+    let none : length c.args.writer.now.gathered.items ≡ 0 = grind (arith, c.is_empty.ensures, c.if-is_empty.true) in
+    rest_none p (state_in g.C.Chronicle c.args.stripe.now) c.args.writer.now c.args.writer.now.gathered.items none
+
+pub cut-requires-clause-ready : goal.cut-requires-clause-ready
+cut-requires-clause-ready g c =
+    let some : 0 < length c.args.writer.now.gathered.items = grind (arith, c.is_empty.ensures, c.if-is_empty.false) in
+    rest_ready (state_in g.C.Chronicle c.args.stripe.now) c.args.writer.now c.requires.open c.requires.writer c.requires.sealed some c.requires.table
+
+pub returns-in-Ok-clause-open : goal.returns-in-Ok-clause-open
+returns-in-Ok-clause-open g c =
+    let some : 0 < length c.args.writer.now.gathered.items = grind (arith, c.is_empty.ensures, c.if-is_empty.false) in
+    let ready : IsReady (state_in g.C.Chronicle c.args.stripe.now) c.args.writer.now =
+    rest_ready (state_in g.C.Chronicle c.args.stripe.now) c.args.writer.now c.requires.open c.requires.writer c.requires.sealed some c.requires.table in
+    cut_open (kept_in g.C.Chronicle c.args.stripe.now) (kept_in g.C.Chronicle c.cut.new.stripe) c.args.writer.now c.cut.new.writer c.in-Ok.field-0 ready c.in-Ok.ensures.adds c.in-Ok.ensures.rest.put
+
+pub returns-in-Err-clause-writer : goal.returns-in-Err-clause-writer
+returns-in-Err-clause-writer g c =
+    let w = c.args.writer.now in
+    subst (IsWriterOf (state_in g.C.Chronicle c.cut.new.stripe)) (sym c.in-Err.ensures.same)
+    (still_writer (state_in g.C.Chronicle c.args.stripe.now) (state_in g.C.Chronicle c.cut.new.stripe) w
+    (failed_puts (kept_in g.C.Chronicle c.args.stripe.now) (kept_in g.C.Chronicle c.cut.new.stripe) (next_id w) w.pin (next_start w) w.gathered.items c.in-Err.refusal c.in-Err.ensures.adds) c.requires.writer)

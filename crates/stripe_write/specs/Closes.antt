@@ -1,0 +1,99 @@
+-- What a writer that closes is answered, and what is recorded.
+use Rattle.std.specs.Prelude.{ℕ, ◌≡◌, ◌<◌, ◌⊎◌, Bool, true, false, List, [], ◌∷◌, ◌++◌, length, Result, Ok, Err}
+use Rattle.tape_base.specs.Blocks.{blocks_of}
+use Rattle.tape_base.specs.Geometry.{budget_of}
+use Rattle.fragment_table.specs.Table.{total_length}
+use Rattle.cache_model.specs.declared.record.Rec.{Rec}
+use Rattle.cache_model.specs.State.{State, fragment_piece}
+use Rattle.cache_model.specs.Kept.{Kept, state_of, with_records}
+use Rattle.cache_model.specs.Verdict.{cause_of_piece}
+use Rattle.cache_model.specs.Permit.{Commit, DeviceRead, Done, Finish, Intent, End, Exhausted, Fails, Faulted, Lost, Permit, Stays, TooLarge, Weigh}
+use Rattle.cache_model.specs.Legal.{is_writing}
+use Rattle.cache_model.specs.Vectors.{AreTold}
+use Rattle.stripe_core.specs.declared.refusal.Refusal.{Refusal}
+use Rattle.stripe_core.specs.declared.refusal.Refusal.TheVariants as refusal
+use Rattle.stripe_core.specs.Covers.{Covers, Spends}
+use Rattle.stripe_vectors.specs.Reading.{IsCollision}
+use Rattle.stripe_write.specs.declared.finishing.Receipt.{Receipt}
+use Rattle.stripe_write.specs.declared.weighing.Vectors.{Vectors}
+use Rattle.stripe_write.specs.declared.writer.Writer.{Writer}
+use Rattle.stripe_write.specs.Closing.{IsReadFor, SpendsAll, close_intents, rest_intents, rows_at_close, size_at_close}
+
+-- ---- when each answer comes
+
+-- the put is complete, of so many bytes and fragments
+pub record IsComplete (w : Writer) (receipt : Receipt) : Type 0 where
+  pub put : receipt.put ≡ w.put
+  pub bytes : receipt.length ≡ total_length (rows_at_close w)
+  pub fragments : receipt.fragments ≡ length (rows_at_close w)
+
+-- once the vector is weighed
+abbrev pub EndsWhere : State → Writer → Result Receipt Refusal → Type 0
+EndsWhere t w (Ok receipt) = IsComplete w receipt
+EndsWhere t w (Err (refusal.Lost index why)) = why ≡ cause_of_piece t (fragment_piece w.key w.put index)
+EndsWhere t w (Err (refusal.DeviceFault count)) = Unit {0}
+EndsWhere t w (Err (refusal.Exhausted number)) = Unit {0}
+EndsWhere t w (Err _) = ⊥
+
+abbrev pub ClosesWhere : State → State → Writer → Result Receipt Refusal → Type 0
+ClosesWhere s t w (Ok receipt) = (is_writing s w.put ≡ true) × IsComplete w receipt
+ClosesWhere s t w (Err refusal.NoSuchWriter) = is_writing s w.put ≡ false
+ClosesWhere s t w (Err (refusal.VectorTooLarge bytes)) = (is_writing s w.put ≡ true) × (bytes ≡ size_at_close w) × (budget_of s.geometry < blocks_of bytes)
+ClosesWhere s t w (Err (refusal.Lost index why)) = (is_writing s w.put ≡ true) × (why ≡ cause_of_piece t (fragment_piece w.key w.put index))
+ClosesWhere s t w (Err (refusal.DeviceFault count)) = is_writing s w.put ≡ true
+ClosesWhere s t w (Err (refusal.Exhausted number)) = is_writing s w.put ≡ true
+ClosesWhere s t w (Err (refusal.Memory e)) = is_writing s w.put ≡ true
+ClosesWhere s t w (Err _) = ⊥
+
+-- ---- what is recorded
+
+abbrev pub close_end : Writer → Result Receipt Refusal → End
+close_end w (Ok receipt) = Done
+close_end w (Err (refusal.VectorTooLarge bytes)) = Fails (TooLarge w.put bytes)
+close_end w (Err (refusal.Lost index why)) = Fails (Lost w.put index)
+close_end w (Err (refusal.DeviceFault count)) = Fails (Faulted count)
+close_end w (Err (refusal.Exhausted number)) = Fails Exhausted
+close_end w (Err _) = Stays
+
+-- what is left of closing once the vector is weighed
+abbrev pub end_intents : Writer → List Intent
+end_intents w = rest_intents w w.gathered.items ++ Finish w.put (length (rows_at_close w)) ∷ Commit w.put ∷ []
+
+pub record Ends (p : Permit) (old new : Kept) (w : Writer) (result : Result Receipt Refusal) : Type 0 where
+  pub added : List Rec
+  pub adds : new ≡ with_records old added
+  pub does : SpendsAll p (state_of old) (end_intents w) added (close_end w result)
+
+abbrev pub EndsAsAsked : ℕ → ℕ → Kept → Kept → Writer → Vectors → Result Receipt Refusal → Type 0
+EndsAsAsked before after old new w v result =
+    (p : Permit) → Covers p before after [] → (state_of old).displaced ≡ [] → IsReadFor (state_of old) w v → Ends p old new w result
+
+-- all that closing is asked is done, or fails; where memory is wanting it is still to be weighed; where
+-- there is no such writer nothing is
+abbrev pub Spent : Permit → State → Writer → Result Receipt Refusal → List Rec → Type 0
+Spent p s w (Err (refusal.Memory e)) added = Spends p s (Weigh w.put (length w.gathered.items)) added Stays
+Spent p s w (Err refusal.NoSuchWriter) added = added ≡ []
+Spent p s w result added = SpendsAll p s (close_intents w) added (close_end w result)
+
+pub record Closes (p : Permit) (old new : Kept) (w : Writer) (result : Result Receipt Refusal) : Type 0 where
+  pub added : List Rec
+  pub adds : new ≡ with_records old added
+  pub does : Spent p (state_of old) w result added
+
+-- what was read, and what came of it in any step that covers the call; or two documents of one SHA-256
+-- are shown
+pub record ClosesAsAsked (before after : ℕ) (old new : Kept) (w : Writer) (result : Result Receipt Refusal) : Type 0 where
+  pub reads : List DeviceRead
+  pub does : (p : Permit) → Covers p before after reads → AreTold (state_of old) → Closes p old new w result ⊎ IsCollision p (state_of old) w.key
+
+-- a writer that was refused by the device, or by the end of the tape, takes no more bytes
+abbrev pub SealsWhere : Writer → Writer → Result Receipt Refusal → Type 0
+SealsWhere old new (Err (refusal.DeviceFault count)) = new.sealed ≡ true
+SealsWhere old new (Err (refusal.Exhausted number)) = new.sealed ≡ true
+SealsWhere old new (Err (refusal.Memory e)) = new.sealed ≡ old.sealed
+SealsWhere old new _ = Unit {0}
+
+-- while the vector is weighed only the device seals
+abbrev pub is_sealed_by : Refusal → Bool → Bool
+is_sealed_by (refusal.DeviceFault count) sealed = true
+is_sealed_by _ sealed = sealed

@@ -1,0 +1,115 @@
+-- What closing a put does: it weighs the vector, cuts the rest, places the vector and commits.
+use Rattle.std.specs.Prelude.{ℕ, ◌≡◌, ◌+◌, ◌<◌, ◌≤◌, List, [], ◌∷◌, ◌++◌, length, filter, Option, Some, Result, Ok, Err, IfOk, ◌⊎◌}
+use Rattle.tape_base.specs.declared.geometries.Geometry.{Geometry}
+use Rattle.tape_base.specs.Blocks.{blocks_of}
+use Rattle.tape_base.specs.Digest.{digest_of}
+use Rattle.tape_base.specs.Geometry.{budget_of}
+use Rattle.ats_disk.specs.Device.{State as Device}
+use Rattle.fragment_table.specs.Table.{TableRow, made_row, total_length}
+use Rattle.alternate_vector.specs.Alternates.{Stored, vector_size}
+use Rattle.cache_model.specs.declared.record.Rec.{Rec}
+use Rattle.cache_model.specs.State.{Row, State, alternates_of}
+use Rattle.cache_model.specs.Kept.{Kept, state_of, with_records}
+use Rattle.cache_model.specs.Verdict.{live_vector_of}
+use Rattle.cache_model.specs.Permit.{Commit, DeviceRead, Done, End, Fails, Faulted, Finish, Fragment, Intent, Permit, Reason, Stays, TooLarge, Weigh, Work, is_cleanup}
+use Rattle.cache_model.specs.Vectors.{AreVectors}
+use Rattle.cache_model.specs.Legal.{MayGrow}
+use Rattle.stripe_core.specs.declared.refusal.Refusal.{Refusal}
+use Rattle.stripe_core.specs.declared.refusal.Refusal.TheVariants as refusal
+use Rattle.stripe_core.specs.Covers.{AreSeen, Covers, Spends}
+use Rattle.stripe_vectors.specs.declared.spelling.Spelled.{Spelled}
+use Rattle.stripe_vectors.specs.Reading.{IsCollision}
+use Rattle.stripe_vectors.specs.Spelled.{IsSpelled}
+use Rattle.stripe_write.specs.declared.weighing.Vectors.{Vectors}
+use Rattle.stripe_write.specs.declared.writer.Writer.{Writer}
+
+-- ---- several things that are asked, one behind the other
+
+-- what is left behind them when the last came to this end, or an earlier one failed
+abbrev pub work_behind : List Intent → Option Reason → End → Work
+work_behind rest why Stays = record { intents = rest; refused = why }
+work_behind rest why Done = record { intents = rest; refused = why }
+work_behind rest why (Fails reason) = record { intents = filter is_cleanup rest; refused = Some reason }
+
+-- all of what is asked first is done, or fails
+abbrev pub SpendsAll : Permit → State → List Intent → List Rec → End → Type 0
+SpendsAll p s asked added e = (rest : List Intent) (why : Option Reason) → MayGrow p s (record { intents = asked ++ rest; refused = why }) added (work_behind rest why e)
+
+-- ---- what is gathered and in no fragment
+
+-- the row of the last fragment, where there is a rest
+abbrev pub rest_rows : List ℕ → List TableRow
+rest_rows [] = []
+rest_rows (byte ∷ bytes) = made_row (length (byte ∷ bytes)) (digest_of (byte ∷ bytes)).0 ∷ []
+
+-- the fragments of a put when it closes
+abbrev pub rows_at_close : Writer → List TableRow
+rows_at_close w = w.table.rows ++ rest_rows w.gathered.items
+
+-- the rest is cut, where there is one
+abbrev pub rest_intents : Writer → List ℕ → List Intent
+rest_intents w [] = []
+rest_intents w (byte ∷ bytes) = Fragment w.put (length w.table.rows + 1) (byte ∷ bytes) ∷ []
+
+-- what closing is asked
+abbrev pub close_intents : Writer → List Intent
+close_intents w =
+    Weigh w.put (length w.gathered.items) ∷ (rest_intents w w.gathered.items ++ Finish w.put (length (rows_at_close w)) ∷ Commit w.put ∷ [])
+
+-- the alternate that a put stands for when it closes
+abbrev pub alternate_at_close : Writer → Stored
+alternate_at_close w = record {
+  put = w.put;
+  pin = w.pin;
+  length = total_length (rows_at_close w);
+  request = w.request;
+  response = w.response;
+  table = rows_at_close w;
+}
+
+-- ---- the vector that the put is to have
+
+-- the bytes of the vector of the put's alternate alone
+abbrev pub size_at_close : Writer → ℕ
+size_at_close w = vector_size (alternate_at_close w ∷ [])
+
+-- it is spelled from some list, and alone
+pub record AreSpelled (g : Geometry) (w : Writer) (v : Vectors) : Type 0 where
+  pub fits : blocks_of (size_at_close w) ≤ budget_of g
+  pub alone : IsSpelled g [] (alternate_at_close w) v.alone
+  pub merged : (m : Spelled) → v.merged ≡ Some m → blocks_of (length m.bytes.items) ≤ budget_of g
+
+-- while the key's vector is live, what it lists was read and spelled
+abbrev pub IsReadFor : State → Writer → Vectors → Type 0
+IsReadFor s w v = (row : Row) → live_vector_of s w.key ≡ Some row
+    → (m : Spelled) × (v.merged ≡ Some m) × IsSpelled s.geometry (alternates_of s w.key) (alternate_at_close w) m
+
+-- ---- how weighing ends
+
+abbrev pub weigh_end : Writer → Result Vectors Refusal → End
+weigh_end w (Ok vectors) = Done
+weigh_end w (Err (refusal.VectorTooLarge bytes)) = Fails (TooLarge w.put bytes)
+weigh_end w (Err (refusal.DeviceFault count)) = Fails (Faulted count)
+weigh_end w (Err _) = Stays
+
+-- the vector of the new alternate is a piece; or is none; or the device refused to give the earlier
+-- one; or memory is wanting
+abbrev pub WeighsWhere : State → Writer → Result Vectors Refusal → Type 0
+WeighsWhere s w (Ok vectors) = AreSpelled s.geometry w vectors
+WeighsWhere s w (Err (refusal.VectorTooLarge bytes)) = (bytes ≡ size_at_close w) × (budget_of s.geometry < blocks_of bytes)
+WeighsWhere s w (Err (refusal.DeviceFault count)) = Unit {0}
+WeighsWhere s w (Err (refusal.Memory e)) = Unit {0}
+WeighsWhere s w (Err _) = ⊥
+
+-- what it makes of the records, of which the last state is known
+pub record Weighs (p : Permit) (old new : Kept) (w : Writer) (result : Result Vectors Refusal) : Type 0 where
+  pub added : List Rec
+  pub adds : new ≡ with_records old added
+  pub does : Spends p (state_of old) (Weigh w.put (length w.gathered.items)) added (weigh_end w result)
+  pub told : IfOk result (λ v. AreVectors (state_of old) → IsReadFor (state_of new) w v ⊎ IsCollision p (state_of old) w.key)
+
+-- what the device gave, and what came of it in any step that covers the call
+pub record WeighsAsAsked (before after : Device) (old new : Kept) (w : Writer) (result : Result Vectors Refusal) : Type 0 where
+  pub reads : List DeviceRead
+  pub seen : AreSeen (state_of old).geometry after reads
+  pub does : (p : Permit) → Covers p before.faults after.faults reads → Weighs p old new w result

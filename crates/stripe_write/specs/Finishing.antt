@@ -1,0 +1,85 @@
+-- How a put whose fragments are all cut is finished: its vector is placed, and it is committed.
+use Rattle.std.specs.Prelude.{ℕ, ◌≡◌, ◌<◌, ◌≤◌, ◌-◌, Bool, true, false, List, [], ◌∷◌, length, Option, Some, None, IsSome, is_some, unwrap_or, Result, Ok, Err}
+use Rattle.fragment_table.specs.Table.{total_length}
+use Rattle.cache_model.specs.declared.record.Rec.{Rec}
+use Rattle.cache_model.specs.State.{State, fragment_piece, list_of_put, live_row_of}
+use Rattle.cache_model.specs.Kept.{Kept, state_of, with_records}
+use Rattle.cache_model.specs.Verdict.{cause_of_piece, live_vector_of}
+use Rattle.cache_model.specs.Permit.{Commit, Done, End, Exhausted, Fails, Faulted, Finish, Intent, Lost, Permit, Stays}
+use Rattle.cache_model.specs.Legal.{vector_length, vector_payload}
+use Rattle.cache_model.specs.Room.{greatest_pin}
+use Rattle.stripe_core.specs.declared.refusal.Refusal.{Refusal}
+use Rattle.stripe_core.specs.declared.refusal.Refusal.TheVariants as refusal
+use Rattle.stripe_core.specs.Covers.{Covers}
+use Rattle.stripe_vectors.specs.declared.spelling.Spelled.{Spelled}
+use Rattle.stripe_write.specs.declared.finishing.Receipt.{Receipt}
+use Rattle.stripe_write.specs.declared.weighing.Vectors.{Vectors}
+use Rattle.stripe_write.specs.declared.writer.Writer.{Writer}
+use Rattle.stripe_write.specs.Closing.{IsReadFor, SpendsAll}
+
+-- ---- which vector is placed
+
+-- the one with what the key's vector lists, while that is live
+abbrev pub picked : Vectors → Bool → Spelled
+picked v true = unwrap_or v.merged v.alone
+picked v false = v.alone
+
+abbrev pub vector_now : State → Writer → Vectors → Spelled
+vector_now s w v = picked v (is_some (live_vector_of s w.key))
+
+abbrev pub bytes_now : State → Writer → Vectors → ℕ
+bytes_now s w v = length (vector_now s w v).bytes.items
+
+-- it is the vector that the records give the put
+pub record IsCurrent (s : State) (w : Writer) (spelled : Spelled) : Type 0 where
+  pub payload : spelled.bytes.items ≡ vector_payload s w.put
+  pub size : length spelled.bytes.items ≡ vector_length s w.put
+  pub pin : spelled.pin ≡ greatest_pin (list_of_put s w.put)
+
+-- ---- fragments that are not live any more
+
+-- the fragments up to an index are live
+abbrev pub AreLive : State → Writer → ℕ → Type 0
+AreLive s w last = (index : ℕ) → 0 < index → index ≤ last → IsSome (live_row_of s (fragment_piece w.key w.put index))
+
+-- the first that is not live, where there is one
+abbrev pub IsFirstLost : State → Writer → Option ℕ → Type 0
+IsFirstLost s w None = AreLive s w (length w.table.rows)
+IsFirstLost s w (Some index) = (0 < index) × (index ≤ length w.table.rows) × AreLive s w (index - 1) × (live_row_of s (fragment_piece w.key w.put index) ≡ None)
+
+-- ---- how it ends
+
+abbrev pub finish_intents : Writer → List Intent
+finish_intents w = Finish w.put (length w.table.rows) ∷ Commit w.put ∷ []
+
+abbrev pub finish_end : Writer → Result Receipt Refusal → End
+finish_end w (Ok receipt) = Done
+finish_end w (Err (refusal.Lost index why)) = Fails (Lost w.put index)
+finish_end w (Err (refusal.DeviceFault count)) = Fails (Faulted count)
+finish_end w (Err (refusal.Exhausted number)) = Fails Exhausted
+finish_end w (Err _) = Stays
+
+-- the put was complete, of so many fragments and bytes
+pub record IsReceiptOf (w : Writer) (receipt : Receipt) : Type 0 where
+  pub put : receipt.put ≡ w.put
+  pub bytes : receipt.length ≡ total_length w.table.rows
+  pub fragments : receipt.fragments ≡ length w.table.rows
+
+-- which answers may come: of a lost fragment with the cause that the records have
+abbrev pub FinishesWhere : State → Writer → Result Receipt Refusal → Type 0
+FinishesWhere s w (Ok receipt) = IsReceiptOf w receipt
+FinishesWhere s w (Err (refusal.Lost index why)) = why ≡ cause_of_piece s (fragment_piece w.key w.put index)
+FinishesWhere s w (Err (refusal.DeviceFault count)) = Unit {0}
+FinishesWhere s w (Err (refusal.Exhausted number)) = Unit {0}
+FinishesWhere s w (Err _) = ⊥
+
+-- what it makes of the records
+pub record Finishes (p : Permit) (old new : Kept) (w : Writer) (result : Result Receipt Refusal) : Type 0 where
+  pub added : List Rec
+  pub adds : new ≡ with_records old added
+  pub does : SpendsAll p (state_of old) (finish_intents w) added (finish_end w result)
+
+-- where no insert goes on and the key's vector is the one that was read
+abbrev pub FinishesAsRead : ℕ → ℕ → Kept → Kept → Writer → Vectors → Result Receipt Refusal → Type 0
+FinishesAsRead before after old new w v result =
+    (p : Permit) → Covers p before after [] → (state_of old).displaced ≡ [] → IsReadFor (state_of old) w v → Finishes p old new w result

@@ -1,0 +1,54 @@
+-- What a put's vector is spelled from: what was read of the key's vector, and the put's own alternate.
+use Rattle.std.specs.Prelude.{ℕ, ◌≡◌, ◌<◌, ◌≤◌, List, [], ◌∷◌, Option, Some, None, Result, Ok, Err}
+use Rattle.tape_base.specs.declared.geometries.Geometry.{Geometry}
+use Rattle.tape_base.specs.Blocks.{blocks_of}
+use Rattle.tape_base.specs.Geometry.{budget_of}
+use Rattle.alternate_vector.specs.Alternates.{Stored}
+use Rattle.cache_model.specs.declared.cause.Cause.TheVariants as cause
+use Rattle.cache_model.specs.declared.record.Rec.{Rec}
+use Rattle.cache_model.specs.declared.record.Rec.TheVariants as rec
+use Rattle.cache_model.specs.State.{State}
+use Rattle.stripe_core.specs.declared.refusal.Refusal.{Refusal}
+use Rattle.stripe_core.specs.declared.refusal.Refusal.TheVariants as refusal
+use Rattle.stripe_vectors.specs.declared.reading.KeyVector.{KeyVector}
+use Rattle.stripe_vectors.specs.declared.reading.KeyVector.TheVariants as found
+use Rattle.stripe_vectors.specs.declared.spelling.Spelled.{Spelled}
+use Rattle.stripe_vectors.specs.Spelled.{IsSpelled}
+use Rattle.stripe_write.specs.declared.weighing.Vectors.{Vectors}
+use Rattle.stripe_write.specs.declared.writer.Writer.{Writer}
+use Rattle.stripe_write.specs.Closing.{alternate_at_close, size_at_close}
+
+-- the device's count of faults, where it refused to give the vector
+abbrev pub fault_in : KeyVector → Option ℕ
+fault_in (found.Trouble (cause.DeviceFault count)) = Some count
+fault_in _ = None
+
+-- what the vector lists, where it was read
+abbrev pub list_in : KeyVector → Option (List Stored)
+list_in (found.Read list) = Some list
+list_in _ = None
+
+-- a new alternate is spelled with what a vector lists, where that was read
+abbrev pub IsSpelledWith : Geometry → Option (List Stored) → Stored → Option Spelled → Type 0
+IsSpelledWith g (Some list) new (Some spelled) = IsSpelled g list new spelled
+IsSpelledWith g (Some list) new None = ⊥
+IsSpelledWith g None new (Some spelled) = ⊥
+IsSpelledWith g None new None = Unit {0}
+
+-- the put's alternate alone is a piece; it is spelled, and with what was read
+pub record AreSpelledFrom (g : Geometry) (list : Option (List Stored)) (w : Writer) (v : Vectors) : Type 0 where
+  pub fits : blocks_of (size_at_close w) ≤ budget_of g
+  pub alone : IsSpelled g [] (alternate_at_close w) v.alone
+  pub merged : IsSpelledWith g list (alternate_at_close w) v.merged
+
+-- it is a piece; or is none; or memory is wanting
+abbrev pub FitsWhere : State → Option (List Stored) → Writer → Result Vectors Refusal → Type 0
+FitsWhere s list w (Ok vectors) = AreSpelledFrom s.geometry list w vectors
+FitsWhere s list w (Err (refusal.VectorTooLarge bytes)) = (bytes ≡ size_at_close w) × (budget_of s.geometry < blocks_of bytes)
+FitsWhere s list w (Err (refusal.Memory e)) = Unit {0}
+FitsWhere s list w (Err _) = ⊥
+
+-- the put is given up where it is none
+abbrev pub fit_adds : Writer → Result Vectors Refusal → List Rec
+fit_adds w (Err (refusal.VectorTooLarge bytes)) = rec.Aborted w.put w.key ∷ []
+fit_adds w _ = []

@@ -1,0 +1,143 @@
+// Writers close.
+ghost use Rattle.std.specs.Prelude.{◌≡◌, ◌+◌, ◌≤◌, ◌<◌, true, IfOk, OnOk, OnErr};
+ghost use Rattle.cache_model.specs.Legal.{IsQuiet, is_writing};
+ghost use Rattle.stripe_core.specs.Stripe.{IsStill, IsStripe, kept_in, room_for, seen_in, state_in, units_in};
+ghost use Rattle.stripe_write.specs.Writers.{IsWriterOf};
+ghost use Rattle.stripe_write.specs.Writes.{SameWriter};
+ghost use Rattle.stripe_write.specs.Closing.{AreSpelled};
+ghost use Rattle.stripe_write.specs.Closes.{ClosesAsAsked, ClosesWhere, EndsAsAsked, EndsWhere, SealsWhere, is_sealed_by};
+
+use crate::Writer;
+use crate::finishing::{Receipt, finish};
+use crate::resting::cut_rest;
+use crate::weighing::{Vectors, weigh};
+use crate::writing::is_open;
+use ats_disk::Disk;
+use cache_chronicle::Chronicle;
+use cache_model::steps_tell;
+use dir_table::Directory;
+use std::alloc::AllocError;
+use stripe_core::{Refusal, Stripe};
+
+// The calls that closing makes at most: a vector is read, the rest is cut, there is a flush, the put's
+// vector is placed, and the put ends.
+const CALLS: u32 = 5;
+
+/// Closes a put: what is gathered is its last fragment, and its vector is placed, with the alternates
+/// that the key had and that its request does not match. Where a fragment is lost, or the vector is no
+/// piece, the put is given up. A writer that the device refuses may be closed again or given up.
+pub fn close_write<D: Disk, R: Directory + Drop, C: Chronicle>(
+    stripe: &mut Stripe<D, R, C>,
+    writer: &mut Writer,
+) -> Result<Receipt, Refusal>
+    requires stripe { IsStripe D.Disk R.Directory C.Chronicle stripe.old }
+    requires quiet { IsQuiet (state_in C.Chronicle stripe.old) }
+    requires writer { IsWriterOf (state_in C.Chronicle stripe.old) writer.old }
+    ensures stripe { IsStripe D.Disk R.Directory C.Chronicle stripe.new }
+    ensures quiet { IsQuiet (state_in C.Chronicle stripe.new) }
+    ensures closes { ClosesWhere (state_in C.Chronicle stripe.old) (state_in C.Chronicle stripe.new) writer.old result }
+    ensures does { ClosesAsAsked (seen_in D.Disk R.Directory stripe.old).device.faults (seen_in D.Disk R.Directory stripe.new).device.faults
+        (kept_in C.Chronicle stripe.old) (kept_in C.Chronicle stripe.new) writer.old result }
+    ensures writer { IsWriterOf (state_in C.Chronicle stripe.new) writer.new }
+    ensures seals { SealsWhere writer.old writer.new result }
+    ensures later { (seen_in D.Disk R.Directory stripe.old).device.faults ≤ (seen_in D.Disk R.Directory stripe.new).device.faults }
+{
+    if !is_open(stripe, writer.put) {
+        return Err(Refusal::NoSuchWriter);
+    }
+    match make_memory(stripe, writer) {
+        Ok(()) => close_open(stripe, writer),
+        Err(e) => Err(Refusal::Memory(e)),
+    }
+}
+
+// Makes memory for all that closing does.
+fn make_memory<D: Disk, R: Directory + Drop, C: Chronicle>(
+    stripe: &mut Stripe<D, R, C>,
+    writer: &mut Writer,
+) -> Result<(), AllocError>
+    requires stripe { IsStripe D.Disk R.Directory C.Chronicle stripe.old }
+    requires open { is_writing (state_in C.Chronicle stripe.old) writer.old.put ≡ true }
+    ensures stripe { IsStripe D.Disk R.Directory C.Chronicle stripe.new }
+    ensures records { kept_in C.Chronicle stripe.new ≡ kept_in C.Chronicle stripe.old }
+    ensures still { IsStill (seen_in D.Disk R.Directory stripe.old).device (seen_in D.Disk R.Directory stripe.new).device }
+    ensures units { OnOk result (5 ≤ units_in stripe.new) }
+    ensures row { OnOk result (0 < room_for writer.old.put stripe.new.actors) }
+    ensures table { OnOk result (0 < writer.new.table.room) }
+    ensures same { SameWriter writer.old writer.new }
+{
+    stripe.prepare(Some(writer.put), CALLS)?;
+    writer.table.reserve(1)
+}
+
+// Closes an open put for which memory is made.
+fn close_open<D: Disk, R: Directory + Drop, C: Chronicle>(
+    stripe: &mut Stripe<D, R, C>,
+    writer: &mut Writer,
+) -> Result<Receipt, Refusal>
+    requires stripe { IsStripe D.Disk R.Directory C.Chronicle stripe.old }
+    requires quiet { IsQuiet (state_in C.Chronicle stripe.old) }
+    requires writer { IsWriterOf (state_in C.Chronicle stripe.old) writer.old }
+    requires open { is_writing (state_in C.Chronicle stripe.old) writer.old.put ≡ true }
+    requires units { 5 ≤ units_in stripe.old }
+    requires row { 0 < room_for writer.old.put stripe.old.actors }
+    requires table { 0 < writer.old.table.room }
+    ensures stripe { IsStripe D.Disk R.Directory C.Chronicle stripe.new }
+    ensures quiet { IsQuiet (state_in C.Chronicle stripe.new) }
+    ensures closes { ClosesWhere (state_in C.Chronicle stripe.old) (state_in C.Chronicle stripe.new) writer.old result }
+    ensures does { ClosesAsAsked (seen_in D.Disk R.Directory stripe.old).device.faults (seen_in D.Disk R.Directory stripe.new).device.faults
+        (kept_in C.Chronicle stripe.old) (kept_in C.Chronicle stripe.new) writer.old result }
+    ensures writer { IsWriterOf (state_in C.Chronicle stripe.new) writer.new }
+    ensures seals { SealsWhere writer.old writer.new result }
+    ensures later { (seen_in D.Disk R.Directory stripe.old).device.faults ≤ (seen_in D.Disk R.Directory stripe.new).device.faults }
+{
+    // The law tells that weighing leaves no insert that goes on.
+    steps_tell();
+    match weigh(stripe, writer) {
+        Ok(vectors) => end(stripe, writer, &vectors),
+        Err(why) => {
+            writer.sealed = is_sealed_by(&why, writer.sealed);
+            Err(why)
+        }
+    }
+}
+
+// Whether a writer takes no more bytes behind a refusal, where it took some before or none.
+fn is_sealed_by(why: &Refusal, sealed: bool) -> bool
+    ensures { result ≡ is_sealed_by why.now sealed }
+{
+    match why {
+        Refusal::DeviceFault { .. } => true,
+        _ => sealed,
+    }
+}
+
+// Cuts the rest and finishes. From here on the writer takes no more bytes.
+fn end<D: Disk, R: Directory + Drop, C: Chronicle>(
+    stripe: &mut Stripe<D, R, C>,
+    writer: &mut Writer,
+    vectors: &Vectors,
+) -> Result<Receipt, Refusal>
+    requires stripe { IsStripe D.Disk R.Directory C.Chronicle stripe.old }
+    requires quiet { IsQuiet (state_in C.Chronicle stripe.old) }
+    requires writer { IsWriterOf (state_in C.Chronicle stripe.old) writer.old }
+    requires open { is_writing (state_in C.Chronicle stripe.old) writer.old.put ≡ true }
+    requires spelled { AreSpelled (state_in C.Chronicle stripe.old).geometry writer.old vectors.now }
+    requires units { 4 ≤ units_in stripe.old }
+    requires row { 0 < room_for writer.old.put stripe.old.actors }
+    requires table { 0 < writer.old.table.room }
+    ensures stripe { IsStripe D.Disk R.Directory C.Chronicle stripe.new }
+    ensures quiet { IsQuiet (state_in C.Chronicle stripe.new) }
+    ensures ends { EndsWhere (state_in C.Chronicle stripe.new) writer.old result }
+    ensures does { EndsAsAsked (seen_in D.Disk R.Directory stripe.old).device.faults (seen_in D.Disk R.Directory stripe.new).device.faults
+        (kept_in C.Chronicle stripe.old) (kept_in C.Chronicle stripe.new) writer.old vectors.now result }
+    ensures writer { IsWriterOf (state_in C.Chronicle stripe.new) writer.new }
+    ensures sealed { writer.new.sealed ≡ true }
+    ensures later { (seen_in D.Disk R.Directory stripe.old).device.faults ≤ (seen_in D.Disk R.Directory stripe.new).device.faults }
+{
+    writer.sealed = true;
+    match cut_rest(stripe, writer) {
+        Ok(()) => finish(stripe, writer, vectors),
+        Err(why) => Err(why),
+    }
+}

@@ -1,0 +1,247 @@
+// How a put whose fragments are all cut is finished.
+ghost use Rattle.std.specs.Prelude.{◌≡◌, ◌+◌, ◌≤◌, ◌<◌, [], ◌∷◌, true, length, is_some, None, Some, IfOk, OnOk, OnErr};
+ghost use Rattle.tape_base.specs.Blocks.{blocks_of};
+ghost use Rattle.tape_base.specs.Geometry.{budget_of};
+ghost use Rattle.cache_model.specs.Kept.{with_records};
+ghost use Rattle.cache_model.specs.Legal.{IsQuiet, is_writing};
+ghost use Rattle.cache_model.specs.Room.{has_room};
+ghost use Rattle.cache_model.specs.State.{fragment_piece, live_row_of};
+ghost use Rattle.cache_model.specs.Verdict.{cause_of_piece};
+ghost use Rattle.cache_model.specs.declared.record.Rec.TheVariants as rec;
+ghost use Rattle.stripe_core.specs.declared.refusal.Refusal.TheVariants as refusal;
+ghost use Rattle.stripe_core.specs.Acts.{CommitsAsAsked, IsCommitting, committed_record};
+ghost use Rattle.stripe_core.specs.Place.{MakesRoomAsAsked, room_adds};
+ghost use Rattle.stripe_core.specs.Stripe.{Answers, IsStripe, kept_in, seen_in, state_in, units_in};
+ghost use Rattle.stripe_write.specs.Writers.{IsWriterOf};
+ghost use Rattle.stripe_write.specs.Closing.{AreSpelled};
+ghost use Rattle.stripe_write.specs.Finishing.{AreLive, FinishesAsRead, FinishesWhere, IsFirstLost, IsReceiptOf, bytes_now, picked, vector_now};
+
+use crate::Writer;
+use crate::weighing::Vectors;
+use ats_disk::Disk;
+use cache_chronicle::Chronicle;
+use dir_table::Directory;
+use stripe_core::{Refusal, Stripe};
+use stripe_vectors::{Spelled, live_vector};
+use tape_base::PieceId;
+
+/// What came of a put that was closed.
+#[derive(Clone, Copy, Debug, PartialEq, Eq)]
+pub struct Receipt {
+    pub put: u64,
+    /// The bytes of its body.
+    pub length: u64,
+    pub fragments: u32,
+}
+
+impl Vectors {
+    // The one with what the key's vector lists, while that is live.
+    fn pick(&self, live: bool) -> &Spelled
+        ensures { result.now ≡ picked self.now live }
+    {
+        match &self.merged {
+            Some(merged) if live => merged,
+            _ => &self.alone,
+        }
+    }
+}
+
+// The vector that is placed now.
+fn current<'a, D: Disk, R: Directory + Drop, C: Chronicle>(
+    stripe: &Stripe<D, R, C>,
+    writer: &Writer,
+    vectors: &'a Vectors,
+) -> &'a Spelled
+    requires { IsStripe D.Disk R.Directory C.Chronicle stripe.now }
+    ensures { result.now ≡ vector_now (state_in C.Chronicle stripe.now) writer.now vectors.now }
+{
+    vectors.pick(live_vector(stripe, writer.key).is_some())
+}
+
+// Finishes a put, behind a flush where its vector has no room, unless a fragment is lost.
+pub(crate) fn finish<D: Disk, R: Directory + Drop, C: Chronicle>(
+    stripe: &mut Stripe<D, R, C>,
+    writer: &Writer,
+    vectors: &Vectors,
+) -> Result<Receipt, Refusal>
+    requires stripe { IsStripe D.Disk R.Directory C.Chronicle stripe.old }
+    requires quiet { IsQuiet (state_in C.Chronicle stripe.old) }
+    requires writer { IsWriterOf (state_in C.Chronicle stripe.old) writer.now }
+    requires open { is_writing (state_in C.Chronicle stripe.old) writer.now.put ≡ true }
+    requires cut { writer.now.gathered.items ≡ [] }
+    requires spelled { AreSpelled (state_in C.Chronicle stripe.old).geometry writer.now vectors.now }
+    requires units { 3 ≤ units_in stripe.old }
+    ensures stripe { IsStripe D.Disk R.Directory C.Chronicle stripe.new }
+    ensures quiet { IsQuiet (state_in C.Chronicle stripe.new) }
+    ensures finishes { FinishesWhere (state_in C.Chronicle stripe.new) writer.now result }
+    ensures does { FinishesAsRead (seen_in D.Disk R.Directory stripe.old).device.faults (seen_in D.Disk R.Directory stripe.new).device.faults
+        (kept_in C.Chronicle stripe.old) (kept_in C.Chronicle stripe.new) writer.now vectors.now result }
+    ensures later { (seen_in D.Disk R.Directory stripe.old).device.faults ≤ (seen_in D.Disk R.Directory stripe.new).device.faults }
+    ensures writer { IsWriterOf (state_in C.Chronicle stripe.new) writer.now }
+{
+    match make_room(stripe, writer, vectors) {
+        Ok(()) => end(stripe, writer, vectors),
+        Err(why) => Err(why),
+    }
+}
+
+// Ends a put for whose vector there is room.
+fn end<D: Disk, R: Directory + Drop, C: Chronicle>(
+    stripe: &mut Stripe<D, R, C>,
+    writer: &Writer,
+    vectors: &Vectors,
+) -> Result<Receipt, Refusal>
+    requires stripe { IsStripe D.Disk R.Directory C.Chronicle stripe.old }
+    requires quiet { IsQuiet (state_in C.Chronicle stripe.old) }
+    requires writer { IsWriterOf (state_in C.Chronicle stripe.old) writer.now }
+    requires open { is_writing (state_in C.Chronicle stripe.old) writer.now.put ≡ true }
+    requires cut { writer.now.gathered.items ≡ [] }
+    requires spelled { AreSpelled (state_in C.Chronicle stripe.old).geometry writer.now vectors.now }
+    requires room { has_room (state_in C.Chronicle stripe.old) (bytes_now (state_in C.Chronicle stripe.old) writer.now vectors.now) ≡ true }
+    requires units { 2 ≤ units_in stripe.old }
+    ensures stripe { IsStripe D.Disk R.Directory C.Chronicle stripe.new }
+    ensures quiet { IsQuiet (state_in C.Chronicle stripe.new) }
+    ensures finishes { FinishesWhere (state_in C.Chronicle stripe.new) writer.now result }
+    ensures does { FinishesAsRead (seen_in D.Disk R.Directory stripe.old).device.faults (seen_in D.Disk R.Directory stripe.new).device.faults
+        (kept_in C.Chronicle stripe.old) (kept_in C.Chronicle stripe.new) writer.now vectors.now result }
+    ensures later { (seen_in D.Disk R.Directory stripe.old).device.faults ≤ (seen_in D.Disk R.Directory stripe.new).device.faults }
+    ensures writer { IsWriterOf (state_in C.Chronicle stripe.new) writer.now }
+{
+    match first_lost(stripe, writer) {
+        Some(index) => Err(lose(stripe, writer, index)),
+        None => complete(stripe, writer, vectors),
+    }
+}
+
+// Flushes where the vector has no room.
+fn make_room<D: Disk, R: Directory + Drop, C: Chronicle>(
+    stripe: &mut Stripe<D, R, C>,
+    writer: &Writer,
+    vectors: &Vectors,
+) -> Result<(), Refusal>
+    requires stripe { IsStripe D.Disk R.Directory C.Chronicle stripe.old }
+    requires quiet { IsQuiet (state_in C.Chronicle stripe.old) }
+    requires spelled { AreSpelled (state_in C.Chronicle stripe.old).geometry writer.now vectors.now }
+    requires units { 1 ≤ units_in stripe.old }
+    ensures stripe { IsStripe D.Disk R.Directory C.Chronicle stripe.new }
+    ensures adds { Answers result (λ r. kept_in C.Chronicle stripe.new
+        ≡ with_records (kept_in C.Chronicle stripe.old) (room_adds (state_in C.Chronicle stripe.old) (bytes_now (state_in C.Chronicle stripe.old) writer.now vectors.now) r)) ⊥ }
+    ensures does { Answers result (MakesRoomAsAsked (state_in C.Chronicle stripe.old) (bytes_now (state_in C.Chronicle stripe.old) writer.now vectors.now)
+        (seen_in D.Disk R.Directory stripe.old).device.faults (seen_in D.Disk R.Directory stripe.new).device.faults) ⊥ }
+    ensures room { OnOk result (has_room (state_in C.Chronicle stripe.new) (bytes_now (state_in C.Chronicle stripe.new) writer.now vectors.now) ≡ true) }
+    ensures later { (seen_in D.Disk R.Directory stripe.old).device.faults ≤ (seen_in D.Disk R.Directory stripe.new).device.faults }
+    ensures unit { units_in stripe.old ≤ units_in stripe.new + 1 }
+{
+    let bytes = current(stripe, writer, vectors).bytes.len() as u32;
+    stripe.make_room(bytes)
+}
+
+// The first fragment that is not live any more.
+fn first_lost<D: Disk, R: Directory + Drop, C: Chronicle>(
+    stripe: &Stripe<D, R, C>,
+    writer: &Writer,
+) -> Option<u32>
+    requires { IsStripe D.Disk R.Directory C.Chronicle stripe.now }
+    ensures { IsFirstLost (state_in C.Chronicle stripe.now) writer.now result }
+{
+    'fragments: for index in 1..writer.table.len() + 1 {
+        let id = PieceId {
+            first: writer.key,
+            put: writer.put,
+            index,
+        };
+        if stripe.whereabouts(id).is_none() {
+            return Some(index);
+        }
+    }
+    None
+}
+
+// Gives the put up whose fragment is lost.
+fn lose<D: Disk, R: Directory + Drop, C: Chronicle>(
+    stripe: &mut Stripe<D, R, C>,
+    writer: &Writer,
+    index: u32,
+) -> Refusal
+    requires stripe { IsStripe D.Disk R.Directory C.Chronicle stripe.old }
+    requires quiet { IsQuiet (state_in C.Chronicle stripe.old) }
+    requires writer { IsWriterOf (state_in C.Chronicle stripe.old) writer.now }
+    requires open { is_writing (state_in C.Chronicle stripe.old) writer.now.put ≡ true }
+    requires lost { live_row_of (state_in C.Chronicle stripe.old) (fragment_piece writer.now.key writer.now.put index) ≡ None }
+    requires units { 1 ≤ units_in stripe.old }
+    ensures stripe { IsStripe D.Disk R.Directory C.Chronicle stripe.new }
+    ensures quiet { IsQuiet (state_in C.Chronicle stripe.new) }
+    ensures lost { result ≡ refusal.Lost index (cause_of_piece (state_in C.Chronicle stripe.new) (fragment_piece writer.now.key writer.now.put index)) }
+    ensures adds { kept_in C.Chronicle stripe.new ≡ with_records (kept_in C.Chronicle stripe.old) (rec.Aborted writer.now.put writer.now.key ∷ []) }
+    ensures still { (seen_in D.Disk R.Directory stripe.new).device ≡ (seen_in D.Disk R.Directory stripe.old).device }
+    ensures writer { IsWriterOf (state_in C.Chronicle stripe.new) writer.now }
+{
+    let id = PieceId {
+        first: writer.key,
+        put: writer.put,
+        index,
+    };
+    let cause = stripe.chronicle().why_piece(id);
+    stripe.give_up(writer.put, writer.key);
+    Refusal::Lost { index, cause }
+}
+
+// Places the vector, for which there is room, and commits.
+fn complete<D: Disk, R: Directory + Drop, C: Chronicle>(
+    stripe: &mut Stripe<D, R, C>,
+    writer: &Writer,
+    vectors: &Vectors,
+) -> Result<Receipt, Refusal>
+    requires stripe { IsStripe D.Disk R.Directory C.Chronicle stripe.old }
+    requires quiet { IsQuiet (state_in C.Chronicle stripe.old) }
+    requires writer { IsWriterOf (state_in C.Chronicle stripe.old) writer.now }
+    requires open { is_writing (state_in C.Chronicle stripe.old) writer.now.put ≡ true }
+    requires cut { writer.now.gathered.items ≡ [] }
+    requires spelled { AreSpelled (state_in C.Chronicle stripe.old).geometry writer.now vectors.now }
+    requires room { has_room (state_in C.Chronicle stripe.old) (bytes_now (state_in C.Chronicle stripe.old) writer.now vectors.now) ≡ true }
+    requires whole { AreLive (state_in C.Chronicle stripe.old) writer.now (length writer.now.table.rows) }
+    requires units { 2 ≤ units_in stripe.old }
+    ensures stripe { IsStripe D.Disk R.Directory C.Chronicle stripe.new }
+    ensures quiet { IsQuiet (state_in C.Chronicle stripe.new) }
+    ensures finishes { FinishesWhere (state_in C.Chronicle stripe.new) writer.now result }
+    ensures does { FinishesAsRead (seen_in D.Disk R.Directory stripe.old).device.faults (seen_in D.Disk R.Directory stripe.new).device.faults
+        (kept_in C.Chronicle stripe.old) (kept_in C.Chronicle stripe.new) writer.now vectors.now result }
+    ensures later { (seen_in D.Disk R.Directory stripe.old).device.faults ≤ (seen_in D.Disk R.Directory stripe.new).device.faults }
+    ensures writer { IsWriterOf (state_in C.Chronicle stripe.new) writer.now }
+{
+    let spelled = current(stripe, writer, vectors);
+    let id = PieceId {
+        first: writer.key,
+        put: writer.put,
+        index: 0,
+    };
+    match stripe.place_piece(id, spelled.pin, 0, &spelled.bytes) {
+        Ok(_) => Ok(commit(stripe, writer)),
+        Err(why) => Err(why),
+    }
+}
+
+// Commits the put whose vector was placed.
+fn commit<D: Disk, R: Directory + Drop, C: Chronicle>(
+    stripe: &mut Stripe<D, R, C>,
+    writer: &Writer,
+) -> Receipt
+    requires stripe { IsStripe D.Disk R.Directory C.Chronicle stripe.old }
+    requires committing { IsCommitting (state_in C.Chronicle stripe.old) writer.now.put writer.now.key }
+    requires unit { 1 ≤ units_in stripe.old }
+    ensures stripe { IsStripe D.Disk R.Directory C.Chronicle stripe.new }
+    ensures quiet { IsQuiet (state_in C.Chronicle stripe.new) }
+    ensures adds { kept_in C.Chronicle stripe.new
+        ≡ with_records (kept_in C.Chronicle stripe.old) (committed_record (state_in C.Chronicle stripe.old) writer.now.put writer.now.key ∷ []) }
+    ensures does { CommitsAsAsked (state_in C.Chronicle stripe.old) writer.now.put writer.now.key }
+    ensures receipt { IsReceiptOf writer.now result }
+    ensures still { (seen_in D.Disk R.Directory stripe.new).device ≡ (seen_in D.Disk R.Directory stripe.old).device }
+    ensures writer { IsWriterOf (state_in C.Chronicle stripe.new) writer.now }
+{
+    stripe.commit(writer.put, writer.key);
+    Receipt {
+        put: writer.put,
+        length: writer.table.total(),
+        fragments: writer.table.len(),
+    }
+}

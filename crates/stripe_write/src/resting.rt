@@ -1,0 +1,54 @@
+// The rest that a writer gathered, which fills no fragment, is cut when the writer closes.
+ghost use Rattle.std.specs.Prelude.{◌≡◌, ◌+◌, ◌≤◌, ◌<◌, [], true, OnOk, OnErr};
+ghost use Rattle.cache_model.specs.Kept.{with_records};
+ghost use Rattle.cache_model.specs.Legal.{IsQuiet, is_writing};
+ghost use Rattle.stripe_core.specs.Stripe.{Answers, IsStripe, kept_in, room_for, seen_in, state_in, units_in};
+ghost use Rattle.stripe_write.specs.Closing.{rows_at_close};
+ghost use Rattle.stripe_write.specs.Resting.{RestsAsAsked, rest_adds};
+ghost use Rattle.stripe_write.specs.Writers.{IsWriterOf};
+ghost use Rattle.stripe_write.specs.Writes.{SameButBytes, SameWriter};
+
+use crate::Writer;
+use crate::writing::cut;
+use ats_disk::Disk;
+use cache_chronicle::Chronicle;
+use dir_table::Directory;
+use stripe_core::{Refusal, Stripe};
+
+/// Cuts what a sealed writer has gathered, where there is some. Memory for it is made before.
+pub(crate) fn cut_rest<D: Disk, R: Directory + Drop, C: Chronicle>(
+    stripe: &mut Stripe<D, R, C>,
+    writer: &mut Writer,
+) -> Result<(), Refusal>
+    requires stripe { IsStripe D.Disk R.Directory C.Chronicle stripe.old }
+    requires quiet { IsQuiet (state_in C.Chronicle stripe.old) }
+    requires writer { IsWriterOf (state_in C.Chronicle stripe.old) writer.old }
+    requires open { is_writing (state_in C.Chronicle stripe.old) writer.old.put ≡ true }
+    requires sealed { writer.old.sealed ≡ true }
+    requires unit { 1 ≤ units_in stripe.old }
+    requires row { 0 < room_for writer.old.put stripe.old.actors }
+    requires table { 0 < writer.old.table.room }
+    ensures stripe { IsStripe D.Disk R.Directory C.Chronicle stripe.new }
+    ensures quiet { IsQuiet (state_in C.Chronicle stripe.new) }
+    ensures later { (seen_in D.Disk R.Directory stripe.old).device.faults ≤ (seen_in D.Disk R.Directory stripe.new).device.faults }
+    ensures unit { units_in stripe.old ≤ units_in stripe.new + 1 }
+    // Memory is not wanting, and no other refusal comes.
+    ensures adds { Answers result (λ r. kept_in C.Chronicle stripe.new
+        ≡ with_records (kept_in C.Chronicle stripe.old) (rest_adds (state_in C.Chronicle stripe.old) writer.old r)) ⊥ }
+    ensures does { Answers result (RestsAsAsked (state_in C.Chronicle stripe.old) (seen_in D.Disk R.Directory stripe.old).device.faults
+        (seen_in D.Disk R.Directory stripe.new).device.faults writer.old) ⊥ }
+    ensures writer { IsWriterOf (state_in C.Chronicle stripe.new) writer.new }
+    ensures open { OnOk result (is_writing (state_in C.Chronicle stripe.new) writer.new.put ≡ true) }
+    ensures rows { OnOk result (writer.new.table.rows ≡ rows_at_close writer.old) }
+    ensures empty { OnOk result (writer.new.gathered.items ≡ []) }
+    ensures rest { SameButBytes writer.old writer.new }
+    ensures same { OnErr result (SameWriter writer.old writer.new) }
+{
+    if writer.gathered.is_empty() {
+        return Ok(());
+    }
+    match cut(stripe, writer) {
+        Ok(_) => Ok(()),
+        Err(refusal) => Err(refusal),
+    }
+}

@@ -1,0 +1,192 @@
+// What is weighed before a put closes: the vector that it is to have.
+ghost use Rattle.std.specs.Prelude.{◌≡◌, ◌+◌, ◌<◌, ◌≤◌, [], ◌∷◌, true, IfOk, OnOk, nat_le, length};
+ghost use Rattle.tape_base.specs.Blocks.{blocks_of};
+ghost use Rattle.tape_base.specs.Geometry.{budget_of};
+ghost use Rattle.fragment_table.specs.Table.{total_length};
+ghost use Rattle.alternate_vector.specs.Alternates.{stored_of, vector_size};
+ghost use Rattle.cache_model.specs.Kept.{with_records};
+ghost use Rattle.cache_model.specs.Legal.{IsQuiet, is_writing, most_fragments};
+ghost use Rattle.stripe_core.specs.Stripe.{IsStripe, kept_in, room_for, seen_in, state_in, units_in};
+ghost use Rattle.stripe_vectors.specs.Spelled.{IsSpelled};
+ghost use Rattle.stripe_write.specs.Writers.{IsWriterOf};
+ghost use Rattle.stripe_write.specs.Closing.{WeighsAsAsked, WeighsWhere, alternate_at_close, rows_at_close};
+ghost use Rattle.stripe_write.specs.Weighing.{FitsWhere, IsSpelledWith, fault_in, fit_adds, list_in};
+
+use crate::Writer;
+use alternate_vector::{Alternate, Vector};
+use ats_disk::Disk;
+use cache_chronicle::Chronicle;
+use cache_model::Cause;
+use dir_table::Directory;
+use fragment_table::FragTable;
+use std::alloc::{AllocError, Global};
+use stripe_core::{Refusal, Stripe};
+use stripe_vectors::{KeyVector, Spelled, read_is_listed, read_vector, spell};
+use tape_base::{Digest, Geometry};
+
+const BLOCK: usize = 512;
+
+const HEADER: usize = 128;
+
+/// The vector that a put is to have: with what the key's vector listed, where that was read, and with
+/// the put's own alternate alone.
+#[derive(Debug, Drop)]
+pub struct Vectors {
+    pub(crate) merged: Option<Spelled>,
+    pub(crate) alone: Spelled,
+}
+
+// Reads the key's vector and spells the put's own, and gives the put up where that is no piece.
+pub(crate) fn weigh<D: Disk, R: Directory + Drop, C: Chronicle>(
+    stripe: &mut Stripe<D, R, C>,
+    writer: &Writer,
+) -> Result<Vectors, Refusal>
+    requires stripe { IsStripe D.Disk R.Directory C.Chronicle stripe.old }
+    requires quiet { IsQuiet (state_in C.Chronicle stripe.old) }
+    requires writer { IsWriterOf (state_in C.Chronicle stripe.old) writer.now }
+    requires open { is_writing (state_in C.Chronicle stripe.old) writer.now.put ≡ true }
+    requires units { 2 ≤ units_in stripe.old }
+    ensures stripe { IsStripe D.Disk R.Directory C.Chronicle stripe.new }
+    ensures quiet { IsQuiet (state_in C.Chronicle stripe.new) }
+    ensures weighs { WeighsWhere (state_in C.Chronicle stripe.old) writer.now result }
+    ensures does { WeighsAsAsked (seen_in D.Disk R.Directory stripe.old).device (seen_in D.Disk R.Directory stripe.new).device
+        (kept_in C.Chronicle stripe.old) (kept_in C.Chronicle stripe.new) writer.now result }
+    ensures later { (seen_in D.Disk R.Directory stripe.old).device.faults ≤ (seen_in D.Disk R.Directory stripe.new).device.faults }
+    ensures writer { IsWriterOf (state_in C.Chronicle stripe.new) writer.now }
+    ensures puts { OnOk result ((state_in C.Chronicle stripe.new).puts ≡ (state_in C.Chronicle stripe.old).puts) }
+    ensures geometry { OnOk result ((state_in C.Chronicle stripe.new).geometry ≡ (state_in C.Chronicle stripe.old).geometry) }
+    ensures row { OnOk result (room_for writer.now.put stripe.new.actors ≡ room_for writer.now.put stripe.old.actors) }
+    ensures unit { OnOk result (units_in stripe.old ≤ units_in stripe.new + 1) }
+{
+    // The law tells that what was read is what the key has.
+    read_is_listed();
+    let found = read_vector(stripe, writer.key)?;
+    match fault_in(&found) {
+        Some(count) => Err(Refusal::DeviceFault { count }),
+        None => fit(stripe, writer, list_in(found)),
+    }
+}
+
+fn fault_in(found: &KeyVector) -> Option<u64>
+    ensures { result ≡ fault_in found.now }
+{
+    match found {
+        KeyVector::Trouble(Cause::DeviceFault { count }) => Some(*count),
+        _ => None,
+    }
+}
+
+fn list_in(found: KeyVector) -> Option<Vector>
+    ensures { result ≡ list_in found }
+{
+    match found {
+        KeyVector::Read(list) => Some(list),
+        KeyVector::Absent | KeyVector::Trouble(_) => None,
+    }
+}
+
+// Spells the put's vector where its own alternate alone is a piece, and gives the put up where not.
+fn fit<D: Disk, R: Directory + Drop, C: Chronicle>(
+    stripe: &mut Stripe<D, R, C>,
+    writer: &Writer,
+    list: Option<Vector>,
+) -> Result<Vectors, Refusal>
+    requires stripe { IsStripe D.Disk R.Directory C.Chronicle stripe.old }
+    requires quiet { IsQuiet (state_in C.Chronicle stripe.old) }
+    requires writer { IsWriterOf (state_in C.Chronicle stripe.old) writer.now }
+    requires open { is_writing (state_in C.Chronicle stripe.old) writer.now.put ≡ true }
+    requires units { 1 ≤ units_in stripe.old }
+    ensures stripe { IsStripe D.Disk R.Directory C.Chronicle stripe.new }
+    ensures quiet { IsQuiet (state_in C.Chronicle stripe.new) }
+    ensures fits { FitsWhere (state_in C.Chronicle stripe.old) list writer.now result }
+    ensures adds { kept_in C.Chronicle stripe.new ≡ with_records (kept_in C.Chronicle stripe.old) (fit_adds writer.now result) }
+    ensures writer { IsWriterOf (state_in C.Chronicle stripe.new) writer.now }
+    ensures same { OnOk result (stripe.new ≡ stripe.old) }
+    ensures still { (seen_in D.Disk R.Directory stripe.new).device ≡ (seen_in D.Disk R.Directory stripe.old).device }
+{
+    let alternate = alternate_of(stripe.geometry(), writer)?;
+    let bytes = alternate.size_alone();
+    if !is_piece(stripe.geometry(), bytes) {
+        stripe.give_up(writer.put, writer.key);
+        return Err(Refusal::VectorTooLarge {
+            bytes: bytes as u64,
+        });
+    }
+    let vectors = spell_both(stripe.alloc(), stripe.geometry(), list, &alternate)?;
+    Ok(vectors)
+}
+
+// The alternate that a put stands for when it closes.
+fn alternate_of(g: &Geometry, writer: &Writer) -> Result<Alternate, AllocError>
+    requires few { length writer.now.gathered.items < g.now.fragment }
+    requires more { 0 < length writer.now.gathered.items → length writer.now.table.rows < most_fragments }
+    ensures stored { IfOk result (λ a. stored_of a ≡ alternate_at_close writer.now) }
+    ensures length { IfOk result (λ a. a.length ≡ total_length a.table.rows) }
+{
+    let table = table_of(g, writer)?;
+    Ok(Alternate {
+        put: writer.put,
+        pin: writer.pin,
+        length: table.total(),
+        request: writer.request.copy()?,
+        response: writer.response.copy()?,
+        table,
+    })
+}
+
+// The fragments of a put when it closes: those that are cut, and what is gathered.
+fn table_of(g: &Geometry, writer: &Writer) -> Result<FragTable, AllocError>
+    requires few { length writer.now.gathered.items < g.now.fragment }
+    requires more { 0 < length writer.now.gathered.items → length writer.now.table.rows < most_fragments }
+    ensures { IfOk result (λ table. table.rows ≡ rows_at_close writer.now) }
+{
+    // The length of a fragment is read for what it tells of the width of the rest.
+    let _fragment = g.fragment;
+    let mut table = writer.table.copy()?;
+    if !writer.gathered.is_empty() {
+        let digest = Digest::of(&writer.gathered);
+        table.push(writer.gathered.len() as u32, digest.0)?;
+    }
+    Ok(table)
+}
+
+// Whether a payload of so many bytes is a piece.
+fn is_piece(g: &Geometry, bytes: usize) -> bool
+    ensures { result ≡ nat_le (blocks_of bytes) (budget_of g.now) }
+{
+    bytes <= g.agg as usize / 2 * BLOCK - HEADER
+}
+
+// Spells the vector of a new alternate, which is a piece, alone and with what was read.
+fn spell_both(
+    alloc: Global,
+    g: &Geometry,
+    list: Option<Vector>,
+    new: &Alternate,
+) -> Result<Vectors, AllocError>
+    requires length { new.now.length ≡ total_length new.now.table.rows }
+    requires fits { blocks_of (vector_size (stored_of new.now ∷ [])) ≤ budget_of g.now }
+    ensures alone { IfOk result (λ v. IsSpelled g.now [] (stored_of new.now) v.alone) }
+    ensures merged { IfOk result (λ v. IsSpelledWith g.now list (stored_of new.now) v.merged) }
+{
+    Ok(Vectors {
+        merged: spell_with(alloc, g, list, new)?,
+        alone: spell(alloc, g, &Vector::new(alloc), new)?,
+    })
+}
+
+fn spell_with(
+    alloc: Global,
+    g: &Geometry,
+    list: Option<Vector>,
+    new: &Alternate,
+) -> Result<Option<Spelled>, AllocError>
+    requires length { new.now.length ≡ total_length new.now.table.rows }
+    requires fits { blocks_of (vector_size (stored_of new.now ∷ [])) ≤ budget_of g.now }
+    ensures { IfOk result (IsSpelledWith g.now list (stored_of new.now)) }
+{
+    match list {
+        Some(list) => Ok(Some(spell(alloc, g, &list, new)?)),
+        None => Ok(None),
+    }
+}
