@@ -1,0 +1,233 @@
+-- What a reader is given, and that it was read on as asked.
+use Rattle.std.proofs.Common.{◌≡◌, ℕ, ◌<◌, ◌≤◌, List, [], ◌∷◌, ◌++◌, refl, sym, ◌∙◌, ap, subst, arith, inl, inr, ◌⊎◌, true, false, take}
+use Rattle.std.specs.declared.alloc.AllocError.{AllocError}
+use Rattle.std.specs.Prelude.{Option, Some, None, Result, Ok, Err, IfOk, is_some, option_and_then, option_map, unwrap_or}
+use Rattle.tape_base.specs.declared.digests.Digest.{Digest}
+use Rattle.tape_base.specs.declared.pieces.PieceId.{PieceId}
+use Rattle.ats_disk.specs.Device.{State as Device}
+use Rattle.fragment_table.specs.Table.{Table, TableRow}
+use Rattle.cache_model.specs.declared.cause.Cause.{Cause}
+use Rattle.cache_model.specs.declared.answer.NextAnswer.{NextAnswer}
+use Rattle.cache_model.specs.declared.answer.NextAnswer.TheVariants as next
+use Rattle.cache_model.specs.declared.record.Rec.{Rec}
+use Rattle.cache_model.specs.State.{ReaderRow, Row, State, live_row_of}
+use Rattle.cache_model.specs.Verdict.{cause_of_piece, next_piece, next_row, reader_verdict, verdict_at_end, verdict_of_fragment}
+use Rattle.cache_model.specs.Permit.{Done, Permit, ReadOn}
+use Rattle.cache_model.specs.Legal.{Does, DoesReadOn, IsQuiet, IsRead, IsReadWhereLive, IsReading, ReadTrouble, Trouble, answer_record, digest_in, live_next}
+use Rattle.cache_model.proofs.Answered.{end_gives_none}
+use Rattle.cache_model.proofs.Found.{no_truth}
+use Rattle.stripe_core.specs.declared.refusal.Found.{Found}
+use Rattle.stripe_core.specs.declared.refusal.Found.TheVariants as found
+use Rattle.stripe_core.specs.Covers.{AreSeen, Covers}
+use Rattle.stripe_core.specs.Find.{IsDocumentOf, cause_records}
+use Rattle.stripe_read.specs.declared.reader.Reader.{Reader}
+use Rattle.stripe_read.specs.declared.reading.NextPiece.{NextPiece}
+use Rattle.stripe_read.specs.declared.reading.NextPiece.TheVariants as piece
+use Rattle.stripe_read.specs.Readers.{IsReaderOf, as_row, row_by, rows_in}
+use Rattle.stripe_read.specs.Fetches.{Fetches, IsFetched, IsOther}
+use Rattle.stripe_read.specs.Nexts.{Gives, GoesOn, HasNext, IsFragment, ReadsOn, listed_in, listed_length, next_behind, noted, read_adds, trouble_with}
+use Rattle.stripe_read.proofs.Staying.{is_gave}
+
+-- ---- verdicts
+
+verdict_live : (s : State) (r : ReaderRow) (entry : TableRow) (row : Row) → next_row s r ≡ Some entry → live_row_of s (next_piece r) ≡ Some row → reader_verdict s r ≡ next.Gave r.next entry.length
+verdict_live s r entry row cut live =
+    ap (λ o. unwrap_or (option_map (verdict_of_fragment s r) o) (verdict_at_end s r r.table)) cut
+    ∙ ap (λ o. unwrap_or (option_map (λ (x : Row). next.Gave r.next entry.length) o) (next.Broke (cause_of_piece s (next_piece r)))) live
+
+verdict_lost : (s : State) (r : ReaderRow) (entry : TableRow) → next_row s r ≡ Some entry → live_row_of s (next_piece r) ≡ None → reader_verdict s r ≡ next.Broke (cause_of_piece s (next_piece r))
+verdict_lost s r entry cut gone =
+    ap (λ o. unwrap_or (option_map (verdict_of_fragment s r) o) (verdict_at_end s r r.table)) cut
+    ∙ ap (λ o. unwrap_or (option_map (λ (x : Row). next.Gave r.next entry.length) o) (next.Broke (cause_of_piece s (next_piece r)))) gone
+
+verdict_end : (s : State) (r : ReaderRow) → next_row s r ≡ None → reader_verdict s r ≡ verdict_at_end s r r.table
+verdict_end s r none = ap (λ o. unwrap_or (option_map (verdict_of_fragment s r) o) (verdict_at_end s r r.table)) none
+
+next_live : (s : State) (r : ReaderRow) (entry : TableRow) → next_row s r ≡ Some entry → live_next s r ≡ live_row_of s (next_piece r)
+next_live s r entry cut = ap (option_and_then (λ (x : TableRow). live_row_of s (next_piece r))) cut
+
+next_none : (s : State) (r : ReaderRow) → next_row s r ≡ None → live_next s r ≡ None
+next_none s r none = ap (option_and_then (λ (x : TableRow). live_row_of s (next_piece r))) none
+
+-- ---- it was read on
+
+reads_on : (p : Permit) (s : State) (r : Reader) (own : IsReaderOf s r) (before : List Rec) (answer : NextAnswer) → IsQuiet s → IsReading p s (row_by own.actor r) before answer
+    → Does p s (ReadOn r.reader) (before ++ answer_record r.reader answer ∷ []) Done
+reads_on p s r own before answer quiet right = DoesReadOn.reads_on answer (record { r = row_by own.actor r; before = before; quiet = quiet; reading = own.found; right = right; is = refl })
+
+pub either : (a b : ℕ) → ((a ≤ b) ⊎ (b < a))
+either a b = grind arith
+
+is_read : (p : Permit) (s : State) (row : Row) (size : ℕ) (into : List ℕ) → IsDocumentOf p s row size into → IsRead p s row
+is_read p s row size into h = by (either s.cursor row.place)
+  where
+    by : ((s.cursor ≤ row.place) ⊎ (row.place < s.cursor)) → IsRead p s row
+    by (inl above) = IsRead.buffered above
+    by (inr below) = IsRead.given h.bytes (h.given below) h.digest
+
+no_trouble : (o : Option Row) (index size : ℕ) → trouble_with o (piece.Piece index size) ≡ []
+no_trouble None index size = refl
+no_trouble (Some row) index size = refl
+
+not_missing : (size : ℕ) (why : Cause) → found.Found size ≡ found.Missing why → ⊥
+not_missing size why h = cc
+
+-- a fragment that is given
+module _ (p : Permit) (s : State) (r : Reader) (entry : TableRow) (size : ℕ) (into : List ℕ) (cut : next_row s (as_row r) ≡ Some entry) where
+  given_adds : read_adds s r (piece.Piece r.next size) ≡ answer_record r.reader (next.Gave r.next entry.length) ∷ []
+  given_adds =
+      ap (λ recs. recs ++ answer_record r.reader (next.Gave r.next (listed_length s r)) ∷ []) (no_trouble (live_next s (as_row r)) r.next size)
+      ∙ ap (λ o. answer_record r.reader (next.Gave r.next (unwrap_or (option_map (λ (x : TableRow). x.length) o) 0)) ∷ []) cut
+
+  given_does : (listed : Option Digest) (o : Option Row) (own : IsReaderOf s r) → IsQuiet s → live_row_of s (next_piece (as_row r)) ≡ o → IsFetched p s (next_piece (as_row r)) o listed (found.Found size) into
+      → Does p s (ReadOn r.reader) (read_adds s r (piece.Piece r.next size)) Done
+  given_does listed None own quiet live h = absurd (not_missing size (cause_of_piece s (next_piece (as_row r))) h)
+  given_does listed (Some row) own quiet live h =
+      let mine : ReaderRow = row_by own.actor r in
+      let was : IsReadWhereLive p s (live_next s mine) = subst (IsReadWhereLive p s) (sym (next_live s mine entry cut ∙ live)) (is_read p s row size into h.0) in
+      subst (λ recs. Does p s (ReadOn r.reader) recs Done) (sym given_adds)
+      (reads_on p s r own [] (next.Gave r.next entry.length) quiet (subst (IsReading p s mine []) (verdict_live s mine entry row cut live) (IsReading.verdict was)))
+
+  given_is : (listed : Option Digest) (o : Option Row) → listed ≡ listed_in r (digest_in entry) → live_row_of s (next_piece (as_row r)) ≡ o → IsFetched p s (next_piece (as_row r)) o listed (found.Found size) into
+      → IsFragment p s r r.next size into
+  given_is listed None is live h = absurd (not_missing size (cause_of_piece s (next_piece (as_row r))) h)
+  given_is listed (Some row) is live h = record {
+    entry = entry;
+    row = row;
+    index_is = refl;
+    cut = cut;
+    live = live;
+    document = h.0;
+    listed = subst (λ d. Rattle.stripe_read.specs.Fetches.IsListedAs s row d (take size into)) is h.1;
+  }
+
+-- a fragment that is not
+listed_by : (t : Option Table) (digest kept : Digest) → option_map (λ (x : Table). digest) t ≡ Some kept → (is_some (option_map (λ (x : Table). x.rows) t) ≡ true) × (digest ≡ kept)
+listed_by None digest kept h = (cc, cc)
+listed_by (Some table) digest kept h = (refl, cc)
+
+other_trouble : (p : Permit) (s : State) (r : Reader) (actor : ℕ) (row : Row) (entry : TableRow) (why : Cause) → IsOther p s row (listed_in r (digest_in entry)) why
+    → ReadTrouble p s (row_by actor r) row entry (cause_records row why) why
+other_trouble p s r actor row entry why x =
+    let is = listed_by r.table (digest_in entry) x.kept x.listed_is in
+    let same : why ≡ Rattle.cache_model.specs.Legal.damage_cause row (digest_in entry) x.other = x.why_is ∙ ap (λ d. Rattle.cache_model.specs.Legal.damage_cause row d x.other) (sym is.1) in
+    subst (λ (y : Cause). ReadTrouble p s (row_by actor r) row entry (cause_records row y) y) (sym same)
+    (ReadTrouble.mismatched x.other is.0 (record {
+      bytes = x.bytes;
+      given = x.given;
+      whole = x.whole;
+      digest = x.digest;
+      differ = λ e. x.differ (sym is.1 ∙ ap (λ d. let new : Digest = record { 0 = d } in new) e);
+    }))
+
+module _ (p : Permit) (s : State) (r : Reader) (entry : TableRow) (why : Cause) (into : List ℕ) (cut : next_row s (as_row r) ≡ Some entry) where
+  broken_adds : (o : Option Row) → live_row_of s (next_piece (as_row r)) ≡ o → read_adds s r (piece.Broken why) ≡ trouble_with o (piece.Broken why) ++ answer_record r.reader (next.Broke why) ∷ []
+  broken_adds o live = ap (λ x. trouble_with x (piece.Broken why) ++ answer_record r.reader (next.Broke why) ∷ []) (next_live s (as_row r) entry cut ∙ live)
+
+  broken_reading : (own : IsReaderOf s r) (o : Option Row) → live_row_of s (next_piece (as_row r)) ≡ o → IsFetched p s (next_piece (as_row r)) o (listed_in r (digest_in entry)) (found.Missing why) into
+      → IsReading p s (row_by own.actor r) (trouble_with o (piece.Broken why)) (next.Broke why)
+  broken_reading own None gone h =
+      let mine : ReaderRow = row_by own.actor r in
+      let is : cause_of_piece s (next_piece mine) ≡ why = cc in
+      subst (IsReading p s mine []) (verdict_lost s mine entry cut gone ∙ ap next.Broke is)
+      (IsReading.verdict (subst (IsReadWhereLive p s) (sym (next_live s mine entry cut ∙ gone)) tt))
+  broken_reading own (Some row) live (inl trouble) = IsReading.trouble entry row (cause_records row why) why cut live (ReadTrouble.troubled (cause_records row why) why trouble)
+  broken_reading own (Some row) live (inr other) = IsReading.trouble entry row (cause_records row why) why cut live (other_trouble p s r own.actor row entry why other)
+
+  broken_does : (own : IsReaderOf s r) → IsQuiet s → IsFetched p s (next_piece (as_row r)) (live_row_of s (next_piece (as_row r))) (listed_in r (digest_in entry)) (found.Missing why) into
+      → Does p s (ReadOn r.reader) (read_adds s r (piece.Broken why)) Done
+  broken_does own quiet h =
+      let o : Option Row = live_row_of s (next_piece (as_row r)) in
+      subst (λ recs. Does p s (ReadOn r.reader) recs Done) (sym (broken_adds o refl)) (reads_on p s r own (trouble_with o (piece.Broken why)) (next.Broke why) quiet (broken_reading own o refl h))
+
+-- ---- what the device gave
+
+module _ (s : State) (old new newer : Device) (r : Reader) (id : PieceId) (listed : Option Digest) (cut : ℕ) (digest : Digest) (into : List ℕ)
+    (has : HasNext s r cut digest) (quiet : IsQuiet s) (id_is : id ≡ next_piece (as_row r)) (listed_is : listed ≡ listed_in r digest) (newer_is : newer ≡ new) where
+  is_listed : listed ≡ listed_in r (digest_in has.row)
+  is_listed = listed_is ∙ ap (listed_in r) (sym has.digest_is)
+
+  fetched : (answer : Found) (f : Fetches s old new id listed answer into) (p : Permit) → Covers p old.faults newer.faults f.reads
+      → IsFetched p s (next_piece (as_row r)) (live_row_of s (next_piece (as_row r))) (listed_in r (digest_in has.row)) answer into
+  fetched answer f p covers =
+      subst (λ d. IsFetched p s (next_piece (as_row r)) (live_row_of s (next_piece (as_row r))) d answer into) is_listed
+      (subst (λ i. IsFetched p s i (live_row_of s i) listed answer into) id_is
+      (f.answers p (subst (λ (x : Device). Covers p old.faults x.faults f.reads) newer_is covers)))
+
+  pub piece_reads : (size : ℕ) → Fetches s old new id listed (found.Found size) into → ReadsOn s old newer r (piece.Piece r.next size) into
+  piece_reads size f = record {
+    reads = f.reads;
+    seen = subst (λ (x : Device). AreSeen s.geometry x f.reads) (sym newer_is) f.seen;
+    does = λ p covers own. given_does p s r has.row size into has.found (listed_in r (digest_in has.row)) (live_row_of s (next_piece (as_row r))) own quiet refl (fetched (found.Found size) f p covers);
+    gives = λ p covers. given_is p s r has.row size into has.found (listed_in r (digest_in has.row)) (live_row_of s (next_piece (as_row r))) refl refl (fetched (found.Found size) f p covers);
+  }
+
+  pub broken_reads : (why : Cause) → Fetches s old new id listed (found.Missing why) into → ReadsOn s old newer r (piece.Broken why) into
+  broken_reads why f = record {
+    reads = f.reads;
+    seen = subst (λ (x : Device). AreSeen s.geometry x f.reads) (sym newer_is) f.seen;
+    does = λ p covers own. broken_does p s r has.row why into has.found own quiet (fetched (found.Missing why) f p covers);
+    gives = λ p covers. tt;
+  }
+
+-- ---- behind the last fragment
+
+end_is_no_piece : (s : State) (r : ReaderRow) (t : Option (List TableRow)) (answer : NextPiece) → noted 0 answer ≡ verdict_at_end s r t → is_gave (noted 0 answer) ≡ false
+end_is_no_piece s r t (piece.Piece index size) is = absurd (end_gives_none s r t index 0 (sym is))
+end_is_no_piece s r t (piece.End n) is = refl
+end_is_no_piece s r t (piece.NotYet cut) is = refl
+end_is_no_piece s r t (piece.Broken why) is = refl
+
+gives_none : (p : Permit) (s : State) (r : Reader) (answer : NextPiece) (into : List ℕ) → is_gave (noted 0 answer) ≡ false → Gives p s r answer into
+gives_none p s r (piece.Piece index size) into h = no_truth h
+gives_none p s r (piece.End n) into h = tt
+gives_none p s r (piece.NotYet cut) into h = tt
+gives_none p s r (piece.Broken why) into h = tt
+
+stays_there : (answer : NextPiece) (n : ℕ) → is_gave (noted 0 answer) ≡ false → n ≡ next_behind n answer
+stays_there (piece.Piece index size) n h = no_truth h
+stays_there (piece.End k) n h = refl
+stays_there (piece.NotYet cut) n h = refl
+stays_there (piece.Broken why) n h = refl
+
+module _ (s : State) (r : Reader) (answer : NextPiece) (none : next_row s (as_row r) ≡ None) (is : noted 0 answer ≡ verdict_at_end s (as_row r) (rows_in r)) where
+  pub no_piece : is_gave (noted 0 answer) ≡ false
+  no_piece = end_is_no_piece s (as_row r) (rows_in r) answer is
+
+  pub stop_adds : read_adds s r answer ≡ answer_record r.reader (noted 0 answer) ∷ []
+  stop_adds =
+      ap (λ o. trouble_with o answer ++ answer_record r.reader (noted (listed_length s r) answer) ∷ []) (next_none s (as_row r) none)
+      ∙ ap (λ o. answer_record r.reader (noted (unwrap_or (option_map (λ (x : TableRow). x.length) o) 0) answer) ∷ []) none
+
+  stop_does : (p : Permit) (own : IsReaderOf s r) → IsQuiet s → Does p s (ReadOn r.reader) (read_adds s r answer) Done
+  stop_does p own quiet =
+      let mine : ReaderRow = row_by own.actor r in
+      let verdict : reader_verdict s mine ≡ noted 0 answer = verdict_end s mine none ∙ sym is in
+      subst (λ recs. Does p s (ReadOn r.reader) recs Done) (sym stop_adds)
+      (reads_on p s r own [] (noted 0 answer) quiet (subst (IsReading p s mine []) verdict (IsReading.verdict (subst (IsReadWhereLive p s) (sym (next_none s mine none)) tt))))
+
+  pub stop_reads : (old new : Device) (into : List ℕ) → IsQuiet s → ReadsOn s old new r answer into
+  stop_reads old new into quiet = record {
+    reads = [];
+    seen = tt;
+    does = λ p covers own. stop_does p own quiet;
+    gives = λ p covers. gives_none p s r answer into no_piece;
+  }
+
+  pub stop_goes : GoesOn r answer r
+  stop_goes = record { reader = refl; key = refl; put = refl; table = refl; next = stays_there answer r.next no_piece }
+
+-- ---- behind the memory that was made first
+
+pub reads_prepared : (s t : State) (old older new : Device) (r : Reader) (answer : NextPiece) (into : List ℕ) → t ≡ s → older.faults ≡ old.faults → ReadsOn t older new r answer into → ReadsOn s old new r answer into
+reads_prepared s t old older new r answer into same faults h = record {
+  reads = h.reads;
+  seen = subst (λ (x : State). AreSeen x.geometry new h.reads) same h.seen;
+  does = λ p covers. subst (λ (x : State). IsReaderOf x r → Does p x (ReadOn r.reader) (read_adds x r answer) Done) same (h.does p (subst (λ n. Covers p n new.faults h.reads) (sym faults) covers));
+  gives = λ p covers. subst (λ (x : State). Gives p x r answer into) same (h.gives p (subst (λ n. Covers p n new.faults h.reads) (sym faults) covers));
+}
+
+pub given_prepared : (s t : State) (old older new : Device) (r : Reader) (answer : Result NextPiece AllocError) (into : List ℕ) → t ≡ s → older.faults ≡ old.faults
+    → IfOk answer (λ a. ReadsOn t older new r a into) → IfOk answer (λ a. ReadsOn s old new r a into)
+given_prepared s t old older new r (Ok answer) into same faults h = reads_prepared s t old older new r answer into same faults h
+given_prepared s t old older new r (Err e) into same faults h = tt

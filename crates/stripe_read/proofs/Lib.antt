@@ -1,0 +1,7 @@
+mod Following
+mod Staying
+mod Comparing
+mod Giving
+mod Looking
+mod Beginning
+mod Choosing

@@ -1,0 +1,15 @@
+use Rattle.std.proofs.Common.{◌∙◌, ap, refl}
+use Rattle.cache_model.specs.Kept.{with_records}
+use Rattle.stripe_core.specs.Stripe.{kept_in, state_in}
+use Rattle.stripe_read.proofs.Comparing.{unlike_adds, unlike_place}
+use Rattle.stripe_read.proofs.fetching.compare.Goals as goal
+
+pub returns-in-Some-clause-adds : goal.returns-in-Some-clause-adds
+returns-in-Some-clause-adds g c =
+    let s = state_in g.C.Chronicle c.args.stripe.now in
+    let u = c.in-Some.field-0 in
+    c.mark_damaged.ensures.adds u.place (unlike_place s c.args.id c.args.listed _ u c.in-Some.ensures.some)
+    ∙ ap (with_records (kept_in g.C.Chronicle c.args.stripe.now)) (unlike_adds s c.args.id c.args.listed _ u c.in-Some.ensures.some)
+
+pub returns-in-None-clause-compares : goal.returns-in-None-clause-compares
+returns-in-None-clause-compares g c = (refl, λ row live kept written listed. c.in-None.ensures.none refl row live kept written listed)

@@ -1,0 +1,35 @@
+use Rattle.std.proofs.Common.{◌≡◌, sym, subst, take}
+use Rattle.cache_model.specs.State.{live_row_of}
+use Rattle.cache_model.specs.Kept.{state_of, with_records}
+use Rattle.stripe_core.specs.Find.{Finds, find_adds}
+use Rattle.stripe_core.specs.Stripe.{kept_in, seen_in, state_in}
+use Rattle.stripe_read.specs.Fetches.{Fetches, IsCompared}
+use Rattle.stripe_read.proofs.Staying.{found_same}
+use Rattle.stripe_read.proofs.Comparing.{compared, found_size, missing}
+use Rattle.stripe_read.proofs.fetching.fetch.Goals as goal
+
+pub compare-requires-clause-within : goal.compare-requires-clause-within
+compare-requires-clause-within g c =
+    let s = state_in g.C.Chronicle c.args.stripe.now in
+    let old = (seen_in g.D.Disk g.R.Directory c.args.stripe.now).device in
+    let new = (seen_in g.D.Disk g.R.Directory c.find_piece.new.self).device in
+    found_size s old new c.args.id c.in-Found.size c.find_piece.new.into (subst (λ f. Finds s old new c.args.id f c.find_piece.new.into) c.in-Found.is c.in_ok-size.ensures.finds)
+
+pub returns-in-Found-clause-fetches : goal.returns-in-Found-clause-fetches
+returns-in-Found-clause-fetches g c =
+    let s = state_in g.C.Chronicle c.args.stripe.now in
+    let old = (seen_in g.D.Disk g.R.Directory c.args.stripe.now).device in
+    let new = (seen_in g.D.Disk g.R.Directory c.find_piece.new.self).device in
+    let into = c.find_piece.new.into in
+    let same = found_same (kept_in g.C.Chronicle c.args.stripe.now) (kept_in g.C.Chronicle c.find_piece.new.self) (live_row_of s c.args.id) c.in-Found.size
+    (subst (λ f. kept_in g.C.Chronicle c.find_piece.new.self ≡ with_records (kept_in g.C.Chronicle c.args.stripe.now) (find_adds s c.args.id f)) c.in-Found.is c.in_ok-size.ensures.adds) in
+    subst (λ d. Fetches s old d c.args.id c.args.listed c.compare.result into) (sym c.compare.ensures.still)
+    (compared s old new c.args.id c.args.listed c.in-Found.size into c.compare.result (subst (λ f. Finds s old new c.args.id f into) c.in-Found.is c.in_ok-size.ensures.finds)
+    (subst (λ k. IsCompared (state_of k) c.args.id c.args.listed c.in-Found.size (take c.in-Found.size into) c.compare.result) same c.compare.ensures.compares))
+
+pub returns-in-Missing-clause-fetches : goal.returns-in-Missing-clause-fetches
+returns-in-Missing-clause-fetches g c =
+    let s = state_in g.C.Chronicle c.args.stripe.now in
+    let old = (seen_in g.D.Disk g.R.Directory c.args.stripe.now).device in
+    let new = (seen_in g.D.Disk g.R.Directory c.find_piece.new.self).device in
+    missing s old new c.args.id c.args.listed c.in-Missing.why c.find_piece.new.into (subst (λ f. Finds s old new c.args.id f c.find_piece.new.into) c.in-Missing.is c.in_ok-size.ensures.finds)

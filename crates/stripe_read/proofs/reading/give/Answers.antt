@@ -1,0 +1,47 @@
+use Rattle.std.proofs.Common.{subst, refl}
+use Rattle.cache_model.specs.State.{live_row_of}
+use Rattle.stripe_core.specs.Stripe.{kept_in, seen_in, state_in}
+use Rattle.stripe_read.specs.Fetches.{Fetches}
+use Rattle.stripe_read.proofs.Giving.{broken_reads, piece_reads}
+use Rattle.stripe_read.proofs.Staying.{broken_behind, given_open, given_reader, leaves_open, leaves_reader}
+use Rattle.stripe_read.proofs.reading.give.Goals as goal
+
+pub returns-in-Found-clause-reads : goal.returns-in-Found-clause-reads
+returns-in-Found-clause-reads g c =
+    let s = state_in g.C.Chronicle c.args.stripe.now in
+    let old = (seen_in g.D.Disk g.R.Directory c.args.stripe.now).device in
+    let new = (seen_in g.D.Disk g.R.Directory c.fetch.new.stripe).device in
+    let newer = (seen_in g.D.Disk g.R.Directory c.note.new.self).device in
+    piece_reads s old new newer c.args.reader.now c.next_piece.result c.listed_digest-listed.result c.args.cut c.args.digest c.fetch.new.into c.requires.next c.requires.quiet c.next_piece.ensures c.listed_digest-listed.ensures c.note.ensures.still
+    c.in-Found.size (subst (λ f. Fetches s old new c.next_piece.result c.listed_digest-listed.result f c.fetch.new.into) c.in-Found.is c.in_ok-size.ensures.fetches)
+
+pub returns-in-Found-clause-reader : goal.returns-in-Found-clause-reader
+returns-in-Found-clause-reader g c =
+    given_open (kept_in g.C.Chronicle c.args.stripe.now) (kept_in g.C.Chronicle c.fetch.new.stripe) (kept_in g.C.Chronicle c.note.new.self) (live_row_of (state_in g.C.Chronicle c.args.stripe.now) c.next_piece.result) _
+    c.args.reader.now _ c.args.cut c.in_ok-size.ensures.adds c.note.ensures.adds (record { reader = refl; key = refl; put = refl; table = refl; next = refl }) c.requires.reader
+
+pub returns-in-Found-clause-keeps : goal.returns-in-Found-clause-keeps
+returns-in-Found-clause-keeps g c = λ own.
+    given_reader (kept_in g.C.Chronicle c.args.stripe.now) (kept_in g.C.Chronicle c.fetch.new.stripe) (kept_in g.C.Chronicle c.note.new.self) (live_row_of (state_in g.C.Chronicle c.args.stripe.now) c.next_piece.result) _
+    c.args.reader.now _ c.args.cut c.in_ok-size.ensures.adds c.note.ensures.adds (record { reader = refl; key = refl; put = refl; table = refl; next = refl }) own
+
+pub returns-in-Missing-clause-reads : goal.returns-in-Missing-clause-reads
+returns-in-Missing-clause-reads g c =
+    let s = state_in g.C.Chronicle c.args.stripe.now in
+    let old = (seen_in g.D.Disk g.R.Directory c.args.stripe.now).device in
+    let new = (seen_in g.D.Disk g.R.Directory c.fetch.new.stripe).device in
+    let newer = (seen_in g.D.Disk g.R.Directory c.note-in-Missing.new.self).device in
+    broken_reads s old new newer c.args.reader.now c.next_piece.result c.listed_digest-listed.result c.args.cut c.args.digest c.fetch.new.into c.requires.next c.requires.quiet c.next_piece.ensures c.listed_digest-listed.ensures c.note-in-Missing.ensures.still
+    c.in-Missing.why (subst (λ f. Fetches s old new c.next_piece.result c.listed_digest-listed.result f c.fetch.new.into) c.in-Missing.is c.in_ok-size.ensures.fetches)
+
+pub returns-in-Missing-clause-reader : goal.returns-in-Missing-clause-reader
+returns-in-Missing-clause-reader g c =
+    leaves_open (state_in g.C.Chronicle c.args.stripe.now) (state_in g.C.Chronicle c.note-in-Missing.new.self) c.args.reader.now
+    (broken_behind (kept_in g.C.Chronicle c.args.stripe.now) (kept_in g.C.Chronicle c.fetch.new.stripe) (kept_in g.C.Chronicle c.note-in-Missing.new.self) (live_row_of (state_in g.C.Chronicle c.args.stripe.now) c.next_piece.result) _
+    c.args.reader.now.reader c.in-Missing.why c.in_ok-size.ensures.adds c.note-in-Missing.ensures.adds) c.requires.reader
+
+pub returns-in-Missing-clause-keeps : goal.returns-in-Missing-clause-keeps
+returns-in-Missing-clause-keeps g c = λ own.
+    leaves_reader (state_in g.C.Chronicle c.args.stripe.now) (state_in g.C.Chronicle c.note-in-Missing.new.self) c.args.reader.now
+    (broken_behind (kept_in g.C.Chronicle c.args.stripe.now) (kept_in g.C.Chronicle c.fetch.new.stripe) (kept_in g.C.Chronicle c.note-in-Missing.new.self) (live_row_of (state_in g.C.Chronicle c.args.stripe.now) c.next_piece.result) _
+    c.args.reader.now.reader c.in-Missing.why c.in_ok-size.ensures.adds c.note-in-Missing.ensures.adds) own

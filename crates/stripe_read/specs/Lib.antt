@@ -1,0 +1,4 @@
+pub mod Readers
+pub mod Lookups
+pub mod Fetches
+pub mod Nexts

@@ -1,0 +1,93 @@
+-- What a reader is given, and what is recorded.
+use Rattle.std.specs.Prelude.{ℕ, ◌≡◌, ◌+◌, List, [], ◌∷◌, ◌++◌, take, Option, Some, None, option_map, unwrap_or}
+use Rattle.tape_base.specs.declared.digests.Digest.{Digest}
+use Rattle.ats_disk.specs.Device.{State as Device}
+use Rattle.fragment_table.specs.Table.{Table, TableRow}
+use Rattle.cache_model.specs.declared.answer.NextAnswer.{NextAnswer}
+use Rattle.cache_model.specs.declared.answer.NextAnswer.TheVariants as next
+use Rattle.cache_model.specs.declared.record.Rec.{Rec}
+use Rattle.cache_model.specs.State.{Row, State, live_row_of}
+use Rattle.cache_model.specs.Verdict.{next_piece, next_row}
+use Rattle.cache_model.specs.Permit.{DeviceRead, Done, Permit, ReadOn}
+use Rattle.cache_model.specs.Legal.{Does, answer_record, digest_in, live_next}
+use Rattle.stripe_core.specs.Covers.{AreSeen, Covers}
+use Rattle.stripe_core.specs.Find.{IsDocumentOf, cause_records}
+use Rattle.stripe_read.specs.declared.reader.Reader.{Reader}
+use Rattle.stripe_read.specs.declared.reading.NextPiece.{NextPiece}
+use Rattle.stripe_read.specs.declared.reading.NextPiece.TheVariants as piece
+use Rattle.stripe_read.specs.Readers.{IsReaderOf, as_row}
+use Rattle.stripe_read.specs.Fetches.{IsListedAs}
+
+-- the row of the fragment that it takes next has this length and this digest
+pub record HasNext (s : State) (r : Reader) (length : ℕ) (digest : Digest) : Type 0 where
+  pub row : TableRow
+  pub found : next_row s (as_row r) ≡ Some row
+  pub length_is : row.length ≡ length
+  pub digest_is : digest_in row ≡ digest
+
+-- the digest that is listed, where it hit something
+abbrev pub listed_in : Reader → Digest → Option Digest
+listed_in r digest = option_map (λ (t : Table). digest) r.table
+
+-- ---- records
+
+-- an answer as it is recorded, where the fragment is listed with that length
+abbrev pub noted : ℕ → NextPiece → NextAnswer
+noted listed (piece.Piece index length) = next.Gave index listed
+noted listed (piece.End length) = next.Ended length
+noted listed (piece.NotYet cut) = next.Waited cut
+noted listed (piece.Broken why) = next.Broke why
+
+-- the length with which the fragment that it takes next is listed
+abbrev pub listed_length : State → Reader → ℕ
+listed_length s r = unwrap_or (option_map (λ (row : TableRow). row.length) (next_row s (as_row r))) 0
+
+-- the record of what kept the next fragment, where it is live, from being given
+abbrev pub trouble_with : Option Row → NextPiece → List Rec
+trouble_with None answer = []
+trouble_with (Some row) (piece.Broken why) = cause_records row why
+trouble_with (Some row) _ = []
+
+abbrev pub read_adds : State → Reader → NextPiece → List Rec
+read_adds s r answer = trouble_with (live_next s (as_row r)) answer ++ answer_record r.reader (noted (listed_length s r) answer) ∷ []
+
+-- ---- what it is given
+
+-- the fragment that it takes next is live, and this is its payload: of bytes that have the recorded
+-- digest, and where it hit something and they were written out, the one that is listed
+pub record IsFragment (p : Permit) (s : State) (r : Reader) (index size : ℕ) (into : List ℕ) : Type 0 where
+  pub entry : TableRow
+  pub row : Row
+  pub index_is : index ≡ r.next
+  pub cut : next_row s (as_row r) ≡ Some entry
+  pub live : live_row_of s (next_piece (as_row r)) ≡ Some row
+  pub document : IsDocumentOf p s row size into
+  pub listed : IsListedAs s row (listed_in r (digest_in entry)) (take size into)
+
+abbrev pub Gives : Permit → State → Reader → NextPiece → List ℕ → Type 0
+Gives p s r (piece.Piece index size) into = IsFragment p s r index size into
+Gives p s r (piece.End length) into = Unit {0}
+Gives p s r (piece.NotYet cut) into = Unit {0}
+Gives p s r (piece.Broken why) into = Unit {0}
+
+-- what the device gave, and in any step that covers the call: it was read on as asked, where the reader
+-- has the fragments of the records; and what it is given
+pub record ReadsOn (s : State) (old new : Device) (r : Reader) (answer : NextPiece) (into : List ℕ) : Type 0 where
+  pub reads : List DeviceRead
+  pub seen : AreSeen s.geometry new reads
+  pub does : (p : Permit) → Covers p old.faults new.faults reads → IsReaderOf s r → Does p s (ReadOn r.reader) (read_adds s r answer) Done
+  pub gives : (p : Permit) → Covers p old.faults new.faults reads → Gives p s r answer into
+
+-- ---- where it is then
+
+abbrev pub next_behind : ℕ → NextPiece → ℕ
+next_behind index (piece.Piece given length) = index + 1
+next_behind index _ = index
+
+-- behind a fragment that it was given, and else as it was
+pub record GoesOn (old : Reader) (answer : NextPiece) (new : Reader) : Type 0 where
+  pub reader : new.reader ≡ old.reader
+  pub key : new.key ≡ old.key
+  pub put : new.put ≡ old.put
+  pub table : new.table ≡ old.table
+  pub next : new.next ≡ next_behind old.next answer

@@ -1,0 +1,36 @@
+// Readers are closed.
+ghost use Rattle.std.specs.Prelude.{◌≡◌, [], ◌∷◌, IfErr, OnOk};
+ghost use Rattle.cache_model.specs.declared.record.Rec.TheVariants as rec;
+ghost use Rattle.cache_model.specs.Kept.{with_records};
+ghost use Rattle.cache_model.specs.Legal.{IsQuiet};
+ghost use Rattle.stripe_core.specs.Stripe.{IsStripe, kept_in, state_in};
+ghost use Rattle.stripe_read.specs.Readers.{ClosesAsAsked, IsOpenReader};
+
+use crate::Reader;
+use ats_disk::Disk;
+use cache_chronicle::Chronicle;
+use dir_table::Directory;
+use std::alloc::AllocError;
+use stripe_core::Stripe;
+
+/// Closes a reader. Where memory is wanting it gives the reader back.
+pub fn close_read<D: Disk, R: Directory + Drop, C: Chronicle>(
+    stripe: &mut Stripe<D, R, C>,
+    reader: Reader,
+) -> Result<(), (AllocError, Reader)>
+    requires stripe { IsStripe D.Disk R.Directory C.Chronicle stripe.old }
+    requires quiet { IsQuiet (state_in C.Chronicle stripe.old) }
+    requires reader { IsOpenReader (state_in C.Chronicle stripe.old) reader }
+    ensures stripe { IsStripe D.Disk R.Directory C.Chronicle stripe.new }
+    ensures quiet { IsQuiet (state_in C.Chronicle stripe.new) }
+    ensures adds { OnOk result (kept_in C.Chronicle stripe.new ≡ with_records (kept_in C.Chronicle stripe.old) (rec.ReadClosed reader.reader ∷ [])) }
+    ensures does { ClosesAsAsked (state_in C.Chronicle stripe.old) reader }
+    ensures err { IfErr result (λ e. kept_in C.Chronicle stripe.new ≡ kept_in C.Chronicle stripe.old) }
+    ensures back { IfErr result (λ e. e.1 ≡ reader) }
+{
+    if let Err(e) = stripe.prepare(None, 1) {
+        return Err((e, reader));
+    }
+    stripe.end_read(reader.reader);
+    Ok(())
+}

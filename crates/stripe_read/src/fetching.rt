@@ -1,0 +1,147 @@
+// How the fragment that a reader takes next is read.
+ghost use Rattle.std.specs.Prelude.{◌≡◌, ◌+◌, ◌-◌, ◌*◌, ◌≤◌, IfOk, IfSome, OnErr, None, length, option_map, slice_get, take};
+ghost use Rattle.tape_base.specs.Geometry.{budget_of};
+ghost use Rattle.cache_model.specs.Kept.{with_records};
+ghost use Rattle.cache_model.specs.Legal.{most_fragments};
+ghost use Rattle.cache_model.specs.Verdict.{next_row};
+ghost use Rattle.open_directory.specs.Directory.{table_row};
+ghost use Rattle.stripe_core.specs.Find.{find_adds};
+ghost use Rattle.stripe_core.specs.Stripe.{IsStripe, kept_in, seen_in, state_in, units_in};
+ghost use Rattle.stripe_read.specs.Readers.{IsOpenReader, as_row};
+ghost use Rattle.stripe_read.specs.Fetches.{Fetches, IsAsListed, IsCompared, IsUnlike};
+
+use crate::Reader;
+use ats_disk::Disk;
+use cache_chronicle::Chronicle;
+use cache_model::Cause;
+use dir_table::Directory;
+use fragment_table::FragTable;
+use std::alloc::AllocError;
+use stripe_core::{Found, Stripe};
+use tape_base::{Digest, PieceId};
+
+// The length and the digest of the fragment that a reader takes next, where it is cut.
+pub(crate) fn next_row<D: Disk, R: Directory + Drop, C: Chronicle>(
+    stripe: &Stripe<D, R, C>,
+    reader: &Reader,
+) -> Option<(u32, Digest)>
+    requires stripe { IsStripe D.Disk R.Directory C.Chronicle stripe.now }
+    requires reader { IsOpenReader (state_in C.Chronicle stripe.now) reader.now }
+    ensures row { result ≡ option_map table_row (next_row (state_in C.Chronicle stripe.now) (as_row reader.now)) }
+    ensures few { IfSome result (λ row. reader.now.next ≤ most_fragments) }
+{
+    match &reader.table {
+        Some(table) => listed_row(table, reader.next),
+        None => followed_row(stripe, reader),
+    }
+}
+
+fn listed_row(table: &FragTable, index: u32) -> Option<(u32, Digest)>
+    requires { 1 ≤ index }
+    ensures row { result ≡ option_map table_row (slice_get table.now.rows (index - 1)) }
+    ensures few { IfSome result (λ row. index ≤ most_fragments) }
+{
+    if table.len() < index {
+        return None;
+    }
+    let (length, digest) = table.row(index);
+    Some((length, Digest(digest)))
+}
+
+fn followed_row<D: Disk, R: Directory + Drop, C: Chronicle>(
+    stripe: &Stripe<D, R, C>,
+    reader: &Reader,
+) -> Option<(u32, Digest)>
+    requires stripe { IsStripe D.Disk R.Directory C.Chronicle stripe.now }
+    requires reader { IsOpenReader (state_in C.Chronicle stripe.now) reader.now }
+    requires follows { reader.now.table ≡ None }
+    ensures row { result ≡ option_map table_row (next_row (state_in C.Chronicle stripe.now) (as_row reader.now)) }
+    ensures few { IfSome result (λ row. reader.now.next ≤ most_fragments) }
+{
+    let directory = stripe.open_directory();
+    // It is asked for what its answer tells of the directory.
+    let _writers = directory.writers();
+    directory.row(reader.put, reader.next)
+}
+
+// Reads a fragment to the front of `into`. One that the device gave, and that is not the one that a
+// table lists, is recorded as damaged, and its entry goes.
+pub(crate) fn fetch<D: Disk, R: Directory + Drop, C: Chronicle>(
+    stripe: &mut Stripe<D, R, C>,
+    id: PieceId,
+    listed: Option<Digest>,
+    into: &mut [u8],
+) -> Result<Found, AllocError>
+    requires stripe { IsStripe D.Disk R.Directory C.Chronicle stripe.old }
+    requires units { 2 ≤ units_in stripe.old }
+    requires into { length into.old ≡ 512 * budget_of (state_in C.Chronicle stripe.old).geometry }
+    ensures stripe { IsStripe D.Disk R.Directory C.Chronicle stripe.new }
+    ensures adds { IfOk result (λ found. kept_in C.Chronicle stripe.new
+        ≡ with_records (kept_in C.Chronicle stripe.old) (find_adds (state_in C.Chronicle stripe.old) id found)) }
+    ensures fetches { IfOk result (λ found. Fetches (state_in C.Chronicle stripe.old) (seen_in D.Disk R.Directory stripe.old).device
+        (seen_in D.Disk R.Directory stripe.new).device id listed found into.new) }
+    ensures err { OnErr result (kept_in C.Chronicle stripe.new ≡ kept_in C.Chronicle stripe.old) }
+    ensures later { (seen_in D.Disk R.Directory stripe.old).device.faults ≤ (seen_in D.Disk R.Directory stripe.new).device.faults }
+    ensures unit { units_in stripe.old ≤ units_in stripe.new + 2 }
+{
+    match stripe.find_piece(id, into)? {
+        Found::Found { length: size } => Ok(compare(stripe, id, listed, size, into)),
+        Found::Missing(why) => Ok(Found::Missing(why)),
+    }
+}
+
+// What was found is given, unless it is not what is listed.
+fn compare<D: Disk, R: Directory + Drop, C: Chronicle>(
+    stripe: &mut Stripe<D, R, C>,
+    id: PieceId,
+    listed: Option<Digest>,
+    size: u32,
+    into: &[u8],
+) -> Found
+    requires stripe { IsStripe D.Disk R.Directory C.Chronicle stripe.old }
+    requires unit { 1 ≤ units_in stripe.old }
+    requires within { size ≤ length into.now }
+    ensures stripe { IsStripe D.Disk R.Directory C.Chronicle stripe.new }
+    ensures adds { kept_in C.Chronicle stripe.new ≡ with_records (kept_in C.Chronicle stripe.old) (find_adds (state_in C.Chronicle stripe.old) id result) }
+    ensures compares { IsCompared (state_in C.Chronicle stripe.old) id listed size (take size into.now) result }
+    ensures still { (seen_in D.Disk R.Directory stripe.new).device ≡ (seen_in D.Disk R.Directory stripe.old).device }
+    ensures unit { units_in stripe.old ≤ units_in stripe.new + 1 }
+{
+    match mismatch(stripe, id, listed, &into[..size as usize]) {
+        Some(Unlike { place, kept, found }) => {
+            stripe.mark_damaged(id, kept, found);
+            Found::Missing(Cause::Damaged { place, kept, found })
+        }
+        None => Found::Found { length: size },
+    }
+}
+
+// Two digests of a piece that differ: the one that a table lists, and the one that it has.
+#[derive(Clone, Copy, Debug)]
+struct Unlike {
+    place: u64,
+    kept: Digest,
+    found: Digest,
+}
+
+// Tells of a payload that is not the one that is listed. What is still in the buffer came from no device,
+// and is as it was placed.
+fn mismatch<D: Disk, R: Directory + Drop, C: Chronicle>(
+    stripe: &Stripe<D, R, C>,
+    id: PieceId,
+    listed: Option<Digest>,
+    payload: &[u8],
+) -> Option<Unlike>
+    requires { IsStripe D.Disk R.Directory C.Chronicle stripe.now }
+    ensures some { IfSome result (IsUnlike (state_in C.Chronicle stripe.now) id listed payload.now) }
+    ensures none { result ≡ None → IsAsListed (state_in C.Chronicle stripe.now) id listed payload.now }
+{
+    let kept = listed?;
+    let place = stripe.whereabouts(id)?;
+    let found = Digest::of(payload);
+    if place < stripe.cursor() && found != kept {
+        Some(Unlike { place, kept, found })
+    } else {
+        None
+    }
+}

@@ -1,0 +1,16 @@
+//! Readers on a stripe: they open, are given one fragment after the other, and are closed.
+#![tactic(auto)]
+
+mod closing;
+mod fetching;
+mod opening;
+mod reader;
+mod reading;
+
+pub use closing::close_read;
+pub use opening::{Opened, open_read};
+pub use reader::Reader;
+pub use reading::{NextPiece, read_next};
+
+#[cfg(test)]
+mod tests;

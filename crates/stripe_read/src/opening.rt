@@ -1,0 +1,209 @@
+// Readers open.
+ghost use Rattle.std.specs.Prelude.{◌≡◌, ◌+◌, ◌≤◌, [], ◌∷◌, Some, None, IfOk, IsOk, OnErr, option_map};
+ghost use Rattle.cache_model.specs.declared.record.Rec.TheVariants as rec;
+ghost use Rattle.cache_model.specs.Kept.{with_records};
+ghost use Rattle.cache_model.specs.Legal.{IsQuiet};
+ghost use Rattle.cache_model.specs.State.{last_match};
+ghost use Rattle.stripe_core.specs.Acts.{IsFollowable};
+ghost use Rattle.stripe_core.specs.Stripe.{IsStill, IsStripe, kept_in, seen_in, state_in, units_in};
+ghost use Rattle.stripe_read.specs.Readers.{IsOpenReader};
+ghost use Rattle.stripe_read.specs.Lookups.{HasTable, IfReader, IsChosen, LooksUp, Opens, Tells, answer_in, answer_of, lookup_adds, open_adds, opened_as, otherwise};
+
+use crate::Reader;
+use alternate_vector::{Fields, Vector};
+use ats_disk::Disk;
+use cache_chronicle::Chronicle;
+use cache_model::{Cause, ReadAnswer};
+use dir_table::Directory;
+use fragment_table::FragTable;
+use std::alloc::AllocError;
+use stripe_core::Stripe;
+use stripe_vectors::{KeyVector, read_is_listed, read_vector};
+use tape_base::{Actor, Key};
+
+/// What came of a lookup.
+#[derive(Debug, Drop)]
+pub enum Opened {
+    /// A stored alternate, whose body has so many bytes.
+    Hit {
+        reader: Reader,
+        put: u64,
+        length: u64,
+    },
+    /// An open writer, which the reader follows.
+    Follow {
+        reader: Reader,
+        put: u64,
+    },
+    /// There is nothing to read, for this cause.
+    Miss(Cause),
+}
+
+// What is found for a request, before its reader is open.
+#[derive(Debug, Drop)]
+enum Looked {
+    Hit(Chosen),
+    Follow { put: u64 },
+    Miss(Cause),
+}
+
+// The alternate that answers a request: its put, and its fragments.
+#[derive(Debug, Drop)]
+struct Chosen {
+    put: u64,
+    table: FragTable,
+}
+
+/// Looks a key up: a stored alternate that matches the request, or else an open writer, or else the
+/// cause. It opens the reader of what it finds.
+pub fn open_read<D: Disk, R: Directory + Drop, C: Chronicle>(
+    stripe: &mut Stripe<D, R, C>,
+    actor: Actor,
+    key: Key,
+    request: Fields,
+) -> Result<Opened, AllocError>
+    requires stripe { IsStripe D.Disk R.Directory C.Chronicle stripe.old }
+    requires quiet { IsQuiet (state_in C.Chronicle stripe.old) }
+    ensures stripe { IsStripe D.Disk R.Directory C.Chronicle stripe.new }
+    ensures quiet { IsQuiet (state_in C.Chronicle stripe.new) }
+    ensures adds { IfOk result (λ opened. kept_in C.Chronicle stripe.new
+        ≡ with_records (kept_in C.Chronicle stripe.old) (open_adds (state_in C.Chronicle stripe.old) actor key request (answer_in opened))) }
+    ensures opens { IfOk result (Opens (state_in C.Chronicle stripe.old) (state_in C.Chronicle stripe.new) (seen_in D.Disk R.Directory stripe.old).device
+        (seen_in D.Disk R.Directory stripe.new).device actor key request) }
+    ensures reader { IfOk result (IfReader (IsOpenReader (state_in C.Chronicle stripe.new))) }
+    ensures tells { IfOk result (Tells (state_in C.Chronicle stripe.old).next_reader) }
+    ensures err { OnErr result (kept_in C.Chronicle stripe.new ≡ kept_in C.Chronicle stripe.old) }
+    ensures later { (seen_in D.Disk R.Directory stripe.old).device.faults ≤ (seen_in D.Disk R.Directory stripe.new).device.faults }
+{
+    stripe.prepare(None, 2)?;
+    let looked = look_up(stripe, key, &request)?;
+    begin(stripe, actor, key, request, looked)
+}
+
+// What answers a request.
+fn look_up<D: Disk, R: Directory + Drop, C: Chronicle>(
+    stripe: &mut Stripe<D, R, C>,
+    key: Key,
+    request: &Fields,
+) -> Result<Looked, AllocError>
+    requires { IsStripe D.Disk R.Directory C.Chronicle stripe.old }
+    ensures stripe { IsStripe D.Disk R.Directory C.Chronicle stripe.new }
+    ensures adds { IfOk result (λ looked. kept_in C.Chronicle stripe.new
+        ≡ with_records (kept_in C.Chronicle stripe.old) (lookup_adds (state_in C.Chronicle stripe.old) key (answer_of looked))) }
+    ensures looks { IfOk result (LooksUp (state_in C.Chronicle stripe.old) (seen_in D.Disk R.Directory stripe.old).device
+        (seen_in D.Disk R.Directory stripe.new).device key request.now) }
+    ensures follows { IfOk result (λ looked. IsFollowable (state_in C.Chronicle stripe.new) (answer_of looked)) }
+    ensures err { OnErr result (kept_in C.Chronicle stripe.new ≡ kept_in C.Chronicle stripe.old) }
+    ensures later { (seen_in D.Disk R.Directory stripe.old).device.faults ≤ (seen_in D.Disk R.Directory stripe.new).device.faults }
+    ensures unit { units_in stripe.old ≤ units_in stripe.new + 1 }
+{
+    match read_vector(stripe, key)? {
+        KeyVector::Trouble(why) => Ok(Looked::Miss(why)),
+        KeyVector::Absent => Ok(look_further(stripe, key, request)),
+        KeyVector::Read(list) => {
+            read_is_listed();
+            match choose(&list, request)? {
+                Some(chosen) => Ok(Looked::Hit(chosen)),
+                None => Ok(look_further(stripe, key, request)),
+            }
+        }
+    }
+}
+
+// The alternate of a list that answers a request.
+fn choose(list: &Vector, request: &Fields) -> Result<Option<Chosen>, AllocError>
+    ensures { IfOk result (IsChosen (last_match request.now list.now)) }
+{
+    match list.choose(request) {
+        Some(place) => {
+            let alternate = list.get(place);
+            Ok(Some(Chosen {
+                put: alternate.put,
+                table: alternate.table.copy()?,
+            }))
+        }
+        None => Ok(None),
+    }
+}
+
+// The writer to follow where no alternate answers, or the cause.
+fn look_further<D: Disk, R: Directory + Drop, C: Chronicle>(
+    stripe: &Stripe<D, R, C>,
+    key: Key,
+    request: &Fields,
+) -> Looked
+    requires { IsStripe D.Disk R.Directory C.Chronicle stripe.now }
+    ensures answer { answer_of result ≡ otherwise (state_in C.Chronicle stripe.now) key request.now }
+    ensures table { HasTable (state_in C.Chronicle stripe.now) key request.now result }
+    ensures follows { IsFollowable (state_in C.Chronicle stripe.now) (answer_of result) }
+{
+    match stripe.open_directory().follow(key, request) {
+        Some(put) => Looked::Follow { put },
+        None => Looked::Miss(stripe.chronicle().why(key)),
+    }
+}
+
+// Records the answer, and opens its reader.
+fn begin<D: Disk, R: Directory + Drop, C: Chronicle>(
+    stripe: &mut Stripe<D, R, C>,
+    actor: Actor,
+    key: Key,
+    request: Fields,
+    looked: Looked,
+) -> Result<Opened, AllocError>
+    requires stripe { IsStripe D.Disk R.Directory C.Chronicle stripe.old }
+    requires unit { 1 ≤ units_in stripe.old }
+    requires follows { IsFollowable (state_in C.Chronicle stripe.old) (answer_of looked) }
+    ensures stripe { IsStripe D.Disk R.Directory C.Chronicle stripe.new }
+    ensures adds { IfOk result (λ opened. kept_in C.Chronicle stripe.new ≡ with_records (kept_in C.Chronicle stripe.old)
+        (rec.ReadOpened (state_in C.Chronicle stripe.old).next_reader actor key request (answer_of looked) ∷ [])) }
+    ensures opens { IfOk result (λ opened. opened ≡ opened_as (state_in C.Chronicle stripe.old).next_reader key looked) }
+    ensures memory { IsOk result }
+    ensures still { IsStill (seen_in D.Disk R.Directory stripe.old).device (seen_in D.Disk R.Directory stripe.new).device }
+{
+    let reader = stripe.start_read(actor, key, request, looked.answer())?;
+    Ok(looked.opened(reader, key))
+}
+
+impl Looked {
+    // As it is recorded.
+    fn answer(&self) -> ReadAnswer
+        ensures { result ≡ answer_of self.now }
+    {
+        match self {
+            Looked::Hit(chosen) => ReadAnswer::Hit { put: chosen.put },
+            Looked::Follow { put } => ReadAnswer::Follow { put: *put },
+            Looked::Miss(why) => ReadAnswer::Miss(*why),
+        }
+    }
+
+    // With the number of its reader.
+    fn opened(self, reader: u64, key: Key) -> Opened
+        ensures { result ≡ opened_as reader key self }
+    {
+        match self {
+            Looked::Hit(chosen) => Opened::Hit {
+                put: chosen.put,
+                length: chosen.table.total(),
+                reader: Reader {
+                    reader,
+                    key,
+                    put: chosen.put,
+                    table: Some(chosen.table),
+                    next: 1,
+                },
+            },
+            Looked::Follow { put } => Opened::Follow {
+                put,
+                reader: Reader {
+                    reader,
+                    key,
+                    put,
+                    table: None,
+                    next: 1,
+                },
+            },
+            Looked::Miss(why) => Opened::Miss(why),
+        }
+    }
+}

@@ -1,0 +1,213 @@
+// A reader is given the next fragment, or told why there is none.
+ghost use Rattle.std.specs.Prelude.{◌≡◌, ◌*◌, ◌≤◌, ℕ, List, Some, None, IfOk, OnErr, length};
+ghost use Rattle.tape_base.specs.Geometry.{budget_of};
+ghost use Rattle.fragment_table.specs.Table.{TableRow};
+ghost use Rattle.cache_model.specs.Kept.{with_records};
+ghost use Rattle.cache_model.specs.Legal.{IsQuiet, most_fragments};
+ghost use Rattle.cache_model.specs.Verdict.{next_piece, next_row, verdict_at_end};
+ghost use Rattle.open_directory.specs.Directory.{table_row};
+ghost use Rattle.stripe_core.specs.Stripe.{IsStripe, kept_in, seen_in, state_in, units_in};
+ghost use Rattle.stripe_read.specs.Readers.{IsOpenReader, IsReaderOf, as_row, rows_in};
+ghost use Rattle.stripe_read.specs.Nexts.{GoesOn, HasNext, ReadsOn, listed_in, noted, read_adds};
+
+use crate::Reader;
+use crate::fetching::{fetch, next_row};
+use ats_disk::Disk;
+use cache_chronicle::Chronicle;
+use cache_model::{Cause, NextAnswer};
+use dir_table::Directory;
+use open_directory::PutState;
+use std::alloc::AllocError;
+use stripe_core::{Found, Stripe};
+use tape_base::{Digest, PieceId};
+
+/// What a reader is given.
+#[derive(Clone, Copy, Debug, PartialEq, Eq)]
+pub enum NextPiece {
+    /// A fragment, by its index from 1, of so many bytes.
+    Piece { index: u32, length: u32 },
+    /// All was given; the body has so many bytes.
+    End { length: u64 },
+    /// All of the fragments cut so far were given, and the writer is open.
+    NotYet { cut: u32 },
+    Broken(Cause),
+}
+
+/// Reads the next fragment to the front of `into`, or says why there is none.
+pub fn read_next<D: Disk, R: Directory + Drop, C: Chronicle>(
+    stripe: &mut Stripe<D, R, C>,
+    reader: &mut Reader,
+    into: &mut [u8],
+) -> Result<NextPiece, AllocError>
+    requires stripe { IsStripe D.Disk R.Directory C.Chronicle stripe.old }
+    requires quiet { IsQuiet (state_in C.Chronicle stripe.old) }
+    requires reader { IsOpenReader (state_in C.Chronicle stripe.old) reader.old }
+    requires into { length into.old ≡ 512 * budget_of (state_in C.Chronicle stripe.old).geometry }
+    ensures stripe { IsStripe D.Disk R.Directory C.Chronicle stripe.new }
+    ensures quiet { IsQuiet (state_in C.Chronicle stripe.new) }
+    ensures adds { IfOk result (λ answer. kept_in C.Chronicle stripe.new
+        ≡ with_records (kept_in C.Chronicle stripe.old) (read_adds (state_in C.Chronicle stripe.old) reader.old answer)) }
+    ensures reads { IfOk result (λ answer. ReadsOn (state_in C.Chronicle stripe.old) (seen_in D.Disk R.Directory stripe.old).device
+        (seen_in D.Disk R.Directory stripe.new).device reader.old answer into.new) }
+    ensures goes { IfOk result (λ answer. GoesOn reader.old answer reader.new) }
+    ensures reader { IsOpenReader (state_in C.Chronicle stripe.new) reader.new }
+    ensures keeps { IsReaderOf (state_in C.Chronicle stripe.old) reader.old → IsReaderOf (state_in C.Chronicle stripe.new) reader.new }
+    ensures err { OnErr result (kept_in C.Chronicle stripe.new ≡ kept_in C.Chronicle stripe.old) }
+    ensures same { OnErr result (reader.new ≡ reader.old) }
+    ensures later { (seen_in D.Disk R.Directory stripe.old).device.faults ≤ (seen_in D.Disk R.Directory stripe.new).device.faults }
+{
+    stripe.prepare(None, 3)?;
+    match next_row(stripe, reader) {
+        Some((cut, digest)) => give(stripe, reader, cut, digest, into),
+        None => Ok(stop(stripe, reader)),
+    }
+}
+
+// Gives the next fragment, which was cut with that many bytes.
+fn give<D: Disk, R: Directory + Drop, C: Chronicle>(
+    stripe: &mut Stripe<D, R, C>,
+    reader: &mut Reader,
+    cut: u32,
+    digest: Digest,
+    into: &mut [u8],
+) -> Result<NextPiece, AllocError>
+    requires stripe { IsStripe D.Disk R.Directory C.Chronicle stripe.old }
+    requires quiet { IsQuiet (state_in C.Chronicle stripe.old) }
+    requires units { 3 ≤ units_in stripe.old }
+    requires reader { IsOpenReader (state_in C.Chronicle stripe.old) reader.old }
+    requires next { HasNext (state_in C.Chronicle stripe.old) reader.old cut digest }
+    requires few { reader.old.next ≤ most_fragments }
+    requires into { length into.old ≡ 512 * budget_of (state_in C.Chronicle stripe.old).geometry }
+    ensures stripe { IsStripe D.Disk R.Directory C.Chronicle stripe.new }
+    ensures quiet { IsQuiet (state_in C.Chronicle stripe.new) }
+    ensures adds { IfOk result (λ answer. kept_in C.Chronicle stripe.new
+        ≡ with_records (kept_in C.Chronicle stripe.old) (read_adds (state_in C.Chronicle stripe.old) reader.old answer)) }
+    ensures reads { IfOk result (λ answer. ReadsOn (state_in C.Chronicle stripe.old) (seen_in D.Disk R.Directory stripe.old).device
+        (seen_in D.Disk R.Directory stripe.new).device reader.old answer into.new) }
+    ensures goes { IfOk result (λ answer. GoesOn reader.old answer reader.new) }
+    ensures reader { IsOpenReader (state_in C.Chronicle stripe.new) reader.new }
+    ensures keeps { IsReaderOf (state_in C.Chronicle stripe.old) reader.old → IsReaderOf (state_in C.Chronicle stripe.new) reader.new }
+    ensures err { OnErr result (kept_in C.Chronicle stripe.new ≡ kept_in C.Chronicle stripe.old) }
+    ensures same { OnErr result (reader.new ≡ reader.old) }
+    ensures later { (seen_in D.Disk R.Directory stripe.old).device.faults ≤ (seen_in D.Disk R.Directory stripe.new).device.faults }
+{
+    let listed = listed_digest(reader, digest);
+    let index = reader.next;
+    match fetch(stripe, reader.next_piece(), listed, into)? {
+        Found::Found { length: size } => {
+            stripe.note(reader.reader, NextAnswer::Gave { index, length: cut });
+            reader.next = index + 1;
+            Ok(NextPiece::Piece {
+                index,
+                length: size,
+            })
+        }
+        Found::Missing(why) => {
+            stripe.note(reader.reader, NextAnswer::Broke(why));
+            Ok(NextPiece::Broken(why))
+        }
+    }
+}
+
+// Says why no fragment comes, where all that is cut was given.
+fn stop<D: Disk, R: Directory + Drop, C: Chronicle>(
+    stripe: &mut Stripe<D, R, C>,
+    reader: &Reader,
+) -> NextPiece
+    requires stripe { IsStripe D.Disk R.Directory C.Chronicle stripe.old }
+    requires quiet { IsQuiet (state_in C.Chronicle stripe.old) }
+    requires unit { 1 ≤ units_in stripe.old }
+    requires reader { IsOpenReader (state_in C.Chronicle stripe.old) reader.now }
+    requires none { next_row (state_in C.Chronicle stripe.old) (as_row reader.now) ≡ None }
+    ensures stripe { IsStripe D.Disk R.Directory C.Chronicle stripe.new }
+    ensures quiet { IsQuiet (state_in C.Chronicle stripe.new) }
+    ensures adds { kept_in C.Chronicle stripe.new
+        ≡ with_records (kept_in C.Chronicle stripe.old) (read_adds (state_in C.Chronicle stripe.old) reader.now result) }
+    ensures reads { (into : List ℕ) → ReadsOn (state_in C.Chronicle stripe.old) (seen_in D.Disk R.Directory stripe.old).device
+        (seen_in D.Disk R.Directory stripe.new).device reader.now result into }
+    ensures goes { GoesOn reader.now result reader.now }
+    ensures reader { IsOpenReader (state_in C.Chronicle stripe.new) reader.now }
+    ensures keeps { IsReaderOf (state_in C.Chronicle stripe.old) reader.now → IsReaderOf (state_in C.Chronicle stripe.new) reader.now }
+    ensures still { (seen_in D.Disk R.Directory stripe.new).device ≡ (seen_in D.Disk R.Directory stripe.old).device }
+{
+    let answer = at_end(stripe, reader);
+    stripe.note(reader.reader, answer.noted(0));
+    answer
+}
+
+// How the body stands behind its last fragment.
+fn at_end<D: Disk, R: Directory + Drop, C: Chronicle>(
+    stripe: &Stripe<D, R, C>,
+    reader: &Reader,
+) -> NextPiece
+    requires stripe { IsStripe D.Disk R.Directory C.Chronicle stripe.now }
+    requires reader { IsOpenReader (state_in C.Chronicle stripe.now) reader.now }
+    ensures { noted 0 result ≡ verdict_at_end (state_in C.Chronicle stripe.now) (as_row reader.now) (rows_in reader.now) }
+{
+    match &reader.table {
+        Some(table) => NextPiece::End {
+            length: table.total(),
+        },
+        None => how_put_stands(stripe, reader),
+    }
+}
+
+fn how_put_stands<D: Disk, R: Directory + Drop, C: Chronicle>(
+    stripe: &Stripe<D, R, C>,
+    reader: &Reader,
+) -> NextPiece
+    requires stripe { IsStripe D.Disk R.Directory C.Chronicle stripe.now }
+    requires reader { IsOpenReader (state_in C.Chronicle stripe.now) reader.now }
+    requires follows { reader.now.table ≡ None }
+    ensures { noted 0 result ≡ verdict_at_end (state_in C.Chronicle stripe.now) (as_row reader.now) None }
+{
+    let directory = stripe.open_directory();
+    // It is asked for what its answer tells of the directory.
+    let _writers = directory.writers();
+    match directory.put_state(reader.put) {
+        Some(PutState::Open { cut }) => NextPiece::NotYet { cut },
+        Some(PutState::Committed { length, .. }) => NextPiece::End { length },
+        Some(PutState::Aborted { .. }) => NextPiece::Broken(Cause::Aborted { writer: reader.put }),
+        None => unreachable!(),
+    }
+}
+
+// The digest that a fragment's payload is compared with: none where the reader follows a writer.
+fn listed_digest(reader: &Reader, digest: Digest) -> Option<Digest>
+    ensures { result ≡ listed_in reader.now digest }
+{
+    match &reader.table {
+        Some(_) => Some(digest),
+        None => None,
+    }
+}
+
+impl Reader {
+    // The fragment that it takes next.
+    fn next_piece(&self) -> PieceId
+        ensures { result ≡ next_piece (as_row self.now) }
+    {
+        PieceId {
+            first: self.key,
+            put: self.put,
+            index: self.next,
+        }
+    }
+}
+
+impl NextPiece {
+    // As it is recorded, where the fragment is listed with that length.
+    fn noted(&self, listed: u32) -> NextAnswer
+        ensures { result ≡ noted listed self.now }
+    {
+        match self {
+            NextPiece::Piece { index, .. } => NextAnswer::Gave {
+                index: *index,
+                length: listed,
+            },
+            NextPiece::End { length } => NextAnswer::Ended { length: *length },
+            NextPiece::NotYet { cut } => NextAnswer::Waited { cut: *cut },
+            NextPiece::Broken(why) => NextAnswer::Broke(*why),
+        }
+    }
+}
