@@ -8,3 +8,4 @@ mod Roomed
 mod WeighingReads
 mod WeighingFits
 mod LastSteps
+mod Owning

@@ -5,4 +5,5 @@ pub mod Weighing
 pub mod Resting
 pub mod Finishing
 pub mod Closes
+pub mod Others
 pub mod Removals

@@ -2,6 +2,7 @@
 ghost use Rattle.std.specs.Prelude.{◌≡◌, ◌+◌, ◌≤◌, ◌<◌, true, IfOk, OnOk, OnErr};
 ghost use Rattle.cache_model.specs.Legal.{IsQuiet, is_writing};
 ghost use Rattle.stripe_core.specs.Stripe.{IsStill, IsStripe, kept_in, room_for, seen_in, state_in, units_in};
+ghost use Rattle.stripe_write.specs.Others.{AddsOfPut};
 ghost use Rattle.stripe_write.specs.Writers.{IsWriterOf};
 ghost use Rattle.stripe_write.specs.Writes.{SameWriter};
 ghost use Rattle.stripe_write.specs.Closing.{AreSpelled};
@@ -41,6 +42,7 @@ pub fn close_write<D: Disk, R: Directory + Drop, C: Chronicle>(
     ensures writer { IsWriterOf (state_in C.Chronicle stripe.new) writer.new }
     ensures seals { SealsWhere writer.old writer.new result }
     ensures later { (seen_in D.Disk R.Directory stripe.old).device.faults ≤ (seen_in D.Disk R.Directory stripe.new).device.faults }
+    ensures own { AddsOfPut writer.old.put (kept_in C.Chronicle stripe.old) (kept_in C.Chronicle stripe.new) }
 {
     if !is_open(stripe, writer.put) {
         return Err(Refusal::NoSuchWriter);
@@ -90,6 +92,7 @@ fn close_open<D: Disk, R: Directory + Drop, C: Chronicle>(
     ensures writer { IsWriterOf (state_in C.Chronicle stripe.new) writer.new }
     ensures seals { SealsWhere writer.old writer.new result }
     ensures later { (seen_in D.Disk R.Directory stripe.old).device.faults ≤ (seen_in D.Disk R.Directory stripe.new).device.faults }
+    ensures own { AddsOfPut writer.old.put (kept_in C.Chronicle stripe.old) (kept_in C.Chronicle stripe.new) }
 {
     // The law tells that weighing leaves no insert that goes on.
     steps_tell();
@@ -134,6 +137,7 @@ fn end<D: Disk, R: Directory + Drop, C: Chronicle>(
     ensures writer { IsWriterOf (state_in C.Chronicle stripe.new) writer.new }
     ensures sealed { writer.new.sealed ≡ true }
     ensures later { (seen_in D.Disk R.Directory stripe.old).device.faults ≤ (seen_in D.Disk R.Directory stripe.new).device.faults }
+    ensures own { AddsOfPut writer.old.put (kept_in C.Chronicle stripe.old) (kept_in C.Chronicle stripe.new) }
 {
     writer.sealed = true;
     match cut_rest(stripe, writer) {

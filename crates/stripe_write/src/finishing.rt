@@ -12,6 +12,7 @@ ghost use Rattle.stripe_core.specs.declared.refusal.Refusal.TheVariants as refus
 ghost use Rattle.stripe_core.specs.Acts.{CommitsAsAsked, IsCommitting, committed_record};
 ghost use Rattle.stripe_core.specs.Place.{MakesRoomAsAsked, room_adds};
 ghost use Rattle.stripe_core.specs.Stripe.{Answers, IsStripe, kept_in, seen_in, state_in, units_in};
+ghost use Rattle.stripe_write.specs.Others.{AddsOfPut};
 ghost use Rattle.stripe_write.specs.Writers.{IsWriterOf};
 ghost use Rattle.stripe_write.specs.Closing.{AreSpelled};
 ghost use Rattle.stripe_write.specs.Finishing.{AreLive, FinishesAsRead, FinishesWhere, IsFirstLost, IsReceiptOf, bytes_now, picked, vector_now};
@@ -78,6 +79,7 @@ pub(crate) fn finish<D: Disk, R: Directory + Drop, C: Chronicle>(
         (kept_in C.Chronicle stripe.old) (kept_in C.Chronicle stripe.new) writer.now vectors.now result }
     ensures later { (seen_in D.Disk R.Directory stripe.old).device.faults ≤ (seen_in D.Disk R.Directory stripe.new).device.faults }
     ensures writer { IsWriterOf (state_in C.Chronicle stripe.new) writer.now }
+    ensures own { AddsOfPut writer.now.put (kept_in C.Chronicle stripe.old) (kept_in C.Chronicle stripe.new) }
 {
     match make_room(stripe, writer, vectors) {
         Ok(()) => end(stripe, writer, vectors),
@@ -106,6 +108,7 @@ fn end<D: Disk, R: Directory + Drop, C: Chronicle>(
         (kept_in C.Chronicle stripe.old) (kept_in C.Chronicle stripe.new) writer.now vectors.now result }
     ensures later { (seen_in D.Disk R.Directory stripe.old).device.faults ≤ (seen_in D.Disk R.Directory stripe.new).device.faults }
     ensures writer { IsWriterOf (state_in C.Chronicle stripe.new) writer.now }
+    ensures own { AddsOfPut writer.now.put (kept_in C.Chronicle stripe.old) (kept_in C.Chronicle stripe.new) }
 {
     match first_lost(stripe, writer) {
         Some(index) => Err(lose(stripe, writer, index)),
@@ -208,6 +211,7 @@ fn complete<D: Disk, R: Directory + Drop, C: Chronicle>(
         (kept_in C.Chronicle stripe.old) (kept_in C.Chronicle stripe.new) writer.now vectors.now result }
     ensures later { (seen_in D.Disk R.Directory stripe.old).device.faults ≤ (seen_in D.Disk R.Directory stripe.new).device.faults }
     ensures writer { IsWriterOf (state_in C.Chronicle stripe.new) writer.now }
+    ensures own { AddsOfPut writer.now.put (kept_in C.Chronicle stripe.old) (kept_in C.Chronicle stripe.new) }
 {
     let spelled = current(stripe, writer, vectors);
     let id = PieceId {

@@ -3,6 +3,7 @@
 
 mod closing;
 mod finishing;
+mod laws;
 mod removal;
 mod resting;
 mod weighing;
@@ -11,6 +12,7 @@ mod writing;
 
 pub use closing::close_write;
 pub use finishing::Receipt;
+pub use laws::{others_stay, writers_stay, writes_are_own};
 pub use removal::{Removal, remove};
 pub use writer::Writer;
 pub use writing::{abort_write, open_write, write};

@@ -8,6 +8,7 @@ ghost use Rattle.cache_model.specs.Kept.{with_records};
 ghost use Rattle.cache_model.specs.Legal.{IsQuiet, is_writing, most_fragments};
 ghost use Rattle.stripe_core.specs.Stripe.{IsStripe, kept_in, room_for, seen_in, state_in, units_in};
 ghost use Rattle.stripe_vectors.specs.Spelled.{IsSpelled};
+ghost use Rattle.stripe_write.specs.Others.{AddsOfPut};
 ghost use Rattle.stripe_write.specs.Writers.{IsWriterOf};
 ghost use Rattle.stripe_write.specs.Closing.{WeighsAsAsked, WeighsWhere, alternate_at_close, rows_at_close};
 ghost use Rattle.stripe_write.specs.Weighing.{FitsWhere, IsSpelledWith, fault_in, fit_adds, list_in};
@@ -57,6 +58,7 @@ pub(crate) fn weigh<D: Disk, R: Directory + Drop, C: Chronicle>(
     ensures geometry { OnOk result ((state_in C.Chronicle stripe.new).geometry ≡ (state_in C.Chronicle stripe.old).geometry) }
     ensures row { OnOk result (room_for writer.now.put stripe.new.actors ≡ room_for writer.now.put stripe.old.actors) }
     ensures unit { OnOk result (units_in stripe.old ≤ units_in stripe.new + 1) }
+    ensures own { AddsOfPut writer.now.put (kept_in C.Chronicle stripe.old) (kept_in C.Chronicle stripe.new) }
 {
     // The law tells that what was read is what the key has.
     read_is_listed();

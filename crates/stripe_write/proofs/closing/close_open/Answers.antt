@@ -4,6 +4,7 @@ use Rattle.stripe_write.specs.declared.writer.Writer.{Writer}
 use Rattle.stripe_write.specs.Writers.{IsWriterOf}
 use Rattle.stripe_write.specs.Closes.{SealsWhere}
 use Rattle.stripe_write.specs.Closing.{AreSpelled}
+use Rattle.stripe_write.proofs.Owning.{then_owns}
 use Rattle.stripe_write.proofs.LastSteps.{refused_closes, refused_own, refused_seals, refused_where, weighed_closes}
 use Rattle.stripe_write.proofs.closing.close_open.Goals as goal
 
@@ -36,3 +37,7 @@ pub returns-in-Err-clause-seals : goal.returns-in-Err-clause-seals
 returns-in-Err-clause-seals g c =
     subst (λ b. SealsWhere c.args.writer.now (used c.args.writer.now b) (Err c.in-Err.why)) (sym c.is_sealed_by-writer.ensures)
     (refused_seals (state_in g.C.Chronicle c.args.stripe.now) c.args.writer.now c.in-Err.why c.in-Err.ensures.weighs)
+
+pub returns-in-Ok-clause-own : goal.returns-in-Ok-clause-own
+returns-in-Ok-clause-own g c =
+    then_owns c.args.writer.now.put (kept_in g.C.Chronicle c.args.stripe.now) (kept_in g.C.Chronicle c.weigh.new.stripe) (kept_in g.C.Chronicle c.end.new.stripe) c.weigh.ensures.own c.end.ensures.own

@@ -3,6 +3,8 @@ use Rattle.cache_model.specs.Kept.{state_of}
 use Rattle.stripe_core.specs.declared.refusal.Refusal.TheVariants as refusal
 use Rattle.stripe_core.specs.Stripe.{kept_in, state_in}
 use Rattle.stripe_write.specs.Writers.{IsWriterOf}
+use Rattle.stripe_write.specs.Others.{AddsOfPut}
+use Rattle.stripe_write.proofs.Owning.{owns_none}
 use Rattle.stripe_write.proofs.Gathering.{same_writer}
 use Rattle.stripe_write.proofs.LastSteps.{closes_same, wanting_closes}
 use Rattle.stripe_write.proofs.closing.close_write.Goals as goal
@@ -26,3 +28,14 @@ returns-in-Ok-clause-does g c =
     let same = c.make_memory.ensures.same in
     closes_same (kept_in g.C.Chronicle c.args.stripe.now) (kept_in g.C.Chronicle c.make_memory.new.stripe) (kept_in g.C.Chronicle c.close_open.new.stripe) _ _ _ c.args.writer.now c.make_memory.new.writer c.close_open.result
     c.make_memory.ensures.records c.make_memory.ensures.still.faults (record { put = same.put; key = same.key; gathered = same.gathered; rows = same.rows }) c.close_open.ensures.does
+
+pub returns-then-not-is_open-clause-own : goal.returns-then-not-is_open-clause-own
+returns-then-not-is_open-clause-own g c = owns_none c.args.writer.now.put (kept_in g.C.Chronicle c.args.stripe.now) (kept_in g.C.Chronicle c.args.stripe.now) refl
+
+pub returns-in-Err-clause-own : goal.returns-in-Err-clause-own
+returns-in-Err-clause-own g c = owns_none c.args.writer.now.put (kept_in g.C.Chronicle c.args.stripe.now) (kept_in g.C.Chronicle c.make_memory.new.stripe) c.make_memory.ensures.records
+
+pub returns-in-Ok-clause-own : goal.returns-in-Ok-clause-own
+returns-in-Ok-clause-own g c =
+    subst (λ k. AddsOfPut c.args.writer.now.put k (kept_in g.C.Chronicle c.close_open.new.stripe)) c.make_memory.ensures.records
+    (subst (λ n. AddsOfPut n (kept_in g.C.Chronicle c.make_memory.new.stripe) (kept_in g.C.Chronicle c.close_open.new.stripe)) c.make_memory.ensures.same.put c.close_open.ensures.own)

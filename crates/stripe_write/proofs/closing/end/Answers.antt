@@ -1,6 +1,9 @@
 use Rattle.std.proofs.Common.{◌≡◌, refl}
 use Rattle.stripe_core.specs.Stripe.{kept_in, state_in}
 use Rattle.stripe_write.specs.declared.writer.Writer.{Writer}
+use Rattle.std.proofs.Common.{subst}
+use Rattle.stripe_write.specs.Others.{AddsOfPut}
+use Rattle.stripe_write.proofs.Owning.{owns_no_rest, owns_rest, then_owns}
 use Rattle.stripe_write.proofs.LastSteps.{IsSealed, cut_same, keeps_rest, no_rest_ends, rest_then_finish, sealed_same, sealed_writer, spelled_same, then_same}
 use Rattle.stripe_write.proofs.closing.end.Goals as goal
 
@@ -32,3 +35,17 @@ returns-in-Err-clause-does g c =
     let sealed : Writer = record { put = w.put; key = w.key; request = w.request; response = w.response; pin = w.pin; gathered = w.gathered; table = w.table; sealed = Rattle.std.proofs.Common.true } in
     no_rest_ends (kept_in g.C.Chronicle c.args.stripe.now) (kept_in g.C.Chronicle c.cut_rest.new.stripe) _ _ w sealed c.args.vectors.now c.in-Err.why
     (record { put = refl; key = refl; request = refl; response = refl; pin = refl; gathered = refl; rows = refl; sealed = refl }) c.in-Err.ensures.adds c.in-Err.ensures.does
+
+pub returns-in-Ok-clause-own : goal.returns-in-Ok-clause-own
+returns-in-Ok-clause-own g c =
+    let w = c.args.writer.now in
+    let sealed : Writer = record { put = w.put; key = w.key; request = w.request; response = w.response; pin = w.pin; gathered = w.gathered; table = w.table; sealed = Rattle.std.proofs.Common.true } in
+    then_owns w.put (kept_in g.C.Chronicle c.args.stripe.now) (kept_in g.C.Chronicle c.cut_rest.new.stripe) (kept_in g.C.Chronicle c.finish.new.stripe)
+    (owns_rest (kept_in g.C.Chronicle c.args.stripe.now) (kept_in g.C.Chronicle c.cut_rest.new.stripe) sealed c.in-Ok.field-0 c.in-Ok.ensures.adds)
+    (subst (λ n. AddsOfPut n (kept_in g.C.Chronicle c.cut_rest.new.stripe) (kept_in g.C.Chronicle c.finish.new.stripe)) c.cut_rest.ensures.rest.put c.finish.ensures.own)
+
+pub returns-in-Err-clause-own : goal.returns-in-Err-clause-own
+returns-in-Err-clause-own g c =
+    let w = c.args.writer.now in
+    let sealed : Writer = record { put = w.put; key = w.key; request = w.request; response = w.response; pin = w.pin; gathered = w.gathered; table = w.table; sealed = Rattle.std.proofs.Common.true } in
+    owns_no_rest (kept_in g.C.Chronicle c.args.stripe.now) (kept_in g.C.Chronicle c.cut_rest.new.stripe) sealed c.in-Err.why c.in-Err.ensures.adds

@@ -1,7 +1,8 @@
-use Rattle.std.proofs.Common.{◌≡◌, ◌≤◌, ◌∙◌, ap, subst, arith, true, false}
+use Rattle.std.proofs.Common.{refl, ◌≡◌, ◌≤◌, ◌∙◌, ap, subst, arith, true, false}
 use Rattle.ats_disk.specs.Device.{State as Device}
 use Rattle.stripe_core.specs.Stripe.{kept_in, state_in}
 use Rattle.stripe_vectors.specs.declared.spelling.Spelled.{Spelled}
+use Rattle.stripe_write.proofs.Owning.{owns, owns_no_vector, owns_vector, then_owns}
 use Rattle.stripe_write.proofs.Completing.{completes, is_closing, refused_finishes, refused_writer, vector_for, vector_of_put}
 use Rattle.stripe_write.proofs.finishing.complete.Goals as goal
 
@@ -37,3 +38,13 @@ returns-in-Ok-clause-does g c =
 pub returns-in-Err-clause-writer : goal.returns-in-Err-clause-writer
 returns-in-Err-clause-writer g c =
     refused_writer (kept_in g.C.Chronicle c.args.stripe.now) (kept_in g.C.Chronicle c.place_piece.new.self) c.args.writer.now c.current-spelled.result.now.pin c.deref.result.now c.in-Err.why c.in-Err.ensures.adds c.requires.writer
+
+pub returns-in-Err-clause-own : goal.returns-in-Err-clause-own
+returns-in-Err-clause-own g c =
+    owns_no_vector c.args.writer.now.put (kept_in g.C.Chronicle c.args.stripe.now) (kept_in g.C.Chronicle c.place_piece.new.self) c.args.writer.now.key c.current-spelled.result.now.pin c.deref.result.now c.in-Err.why c.in-Err.ensures.adds
+
+pub returns-in-Ok-clause-own : goal.returns-in-Ok-clause-own
+returns-in-Ok-clause-own g c =
+    then_owns c.args.writer.now.put (kept_in g.C.Chronicle c.args.stripe.now) (kept_in g.C.Chronicle c.place_piece.new.self) (kept_in g.C.Chronicle c.commit.new.stripe)
+    (owns_vector c.args.writer.now.put (kept_in g.C.Chronicle c.args.stripe.now) (kept_in g.C.Chronicle c.place_piece.new.self) c.args.writer.now.key c.current-spelled.result.now.pin c.deref.result.now c.in-Ok.field-0 c.in-Ok.ensures.adds)
+    (owns c.args.writer.now.put (kept_in g.C.Chronicle c.place_piece.new.self) (kept_in g.C.Chronicle c.commit.new.stripe) _ c.commit.ensures.adds (refl, tt))

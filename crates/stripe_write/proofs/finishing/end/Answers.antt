@@ -1,6 +1,8 @@
 use Rattle.std.proofs.Common.{subst}
 use Rattle.stripe_core.specs.Stripe.{kept_in, state_in}
 use Rattle.stripe_write.specs.Finishing.{IsFirstLost}
+use Rattle.std.proofs.Common.{refl}
+use Rattle.stripe_write.proofs.Owning.{owns}
 use Rattle.stripe_write.proofs.Completing.{is_closing}
 use Rattle.stripe_write.proofs.Roomed.{loses}
 use Rattle.stripe_write.proofs.finishing.end.Goals as goal
@@ -11,3 +13,6 @@ returns-in-Some-clause-does g c =
     let w = c.args.writer.now in
     loses (kept_in g.C.Chronicle c.args.stripe.now) (kept_in g.C.Chronicle c.lose.new.stripe) _ _ w c.args.vectors.now (is_closing s w c.requires.quiet c.requires.open c.requires.writer c.requires.cut) c.in-Some.index _ c.lose.result
     c.requires.spelled c.requires.room (subst (IsFirstLost s w) c.in-Some.is c.first_lost.ensures) c.lose.ensures.lost c.lose.ensures.adds
+
+pub returns-in-Some-clause-own : goal.returns-in-Some-clause-own
+returns-in-Some-clause-own g c = owns c.args.writer.now.put (kept_in g.C.Chronicle c.args.stripe.now) (kept_in g.C.Chronicle c.lose.new.stripe) _ c.lose.ensures.adds (refl, tt)

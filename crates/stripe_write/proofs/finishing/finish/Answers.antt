@@ -1,5 +1,6 @@
 use Rattle.stripe_core.specs.Stripe.{kept_in, state_in}
 use Rattle.stripe_write.specs.Finishing.{bytes_now}
+use Rattle.stripe_write.proofs.Owning.{owns_no_room, owns_room, then_owns}
 use Rattle.stripe_write.proofs.Completing.{is_closing}
 use Rattle.stripe_write.proofs.Roomed.{behind_room, no_room_ends, no_room_writer, roomed_writer}
 use Rattle.stripe_write.proofs.finishing.finish.Goals as goal
@@ -28,3 +29,15 @@ pub returns-in-Err-clause-writer : goal.returns-in-Err-clause-writer
 returns-in-Err-clause-writer g c =
     let s = state_in g.C.Chronicle c.args.stripe.now in
     no_room_writer (kept_in g.C.Chronicle c.args.stripe.now) (kept_in g.C.Chronicle c.make_room.new.stripe) (bytes_now s c.args.writer.now c.args.vectors.now) c.args.writer.now c.in-Err.why c.in-Err.ensures.adds c.requires.writer
+
+pub returns-in-Ok-clause-own : goal.returns-in-Ok-clause-own
+returns-in-Ok-clause-own g c =
+    let s = state_in g.C.Chronicle c.args.stripe.now in
+    then_owns c.args.writer.now.put (kept_in g.C.Chronicle c.args.stripe.now) (kept_in g.C.Chronicle c.make_room.new.stripe) (kept_in g.C.Chronicle c.end.new.stripe)
+    (owns_room c.args.writer.now.put (kept_in g.C.Chronicle c.args.stripe.now) (kept_in g.C.Chronicle c.make_room.new.stripe) (bytes_now s c.args.writer.now c.args.vectors.now) c.in-Ok.field-0 c.in-Ok.ensures.adds)
+    c.end.ensures.own
+
+pub returns-in-Err-clause-own : goal.returns-in-Err-clause-own
+returns-in-Err-clause-own g c =
+    let s = state_in g.C.Chronicle c.args.stripe.now in
+    owns_no_room c.args.writer.now.put (kept_in g.C.Chronicle c.args.stripe.now) (kept_in g.C.Chronicle c.make_room.new.stripe) (bytes_now s c.args.writer.now c.args.vectors.now) c.in-Err.why c.in-Err.ensures.adds

@@ -4,6 +4,7 @@ use Rattle.cache_model.specs.Kept.{state_of}
 use Rattle.stripe_core.specs.Stripe.{kept_in, seen_in, state_in}
 use Rattle.stripe_write.specs.Writers.{IsWriterOf}
 use Rattle.stripe_write.specs.Weighing.{FitsWhere}
+use Rattle.stripe_write.proofs.Owning.{owns_fit, owns_none, owns_read, then_owns}
 use Rattle.stripe_write.proofs.Gathering.{still_writer}
 use Rattle.stripe_write.proofs.WeighingFits.{faults, wants, weighs, weighs_where}
 use Rattle.stripe_write.proofs.WeighingReads.{same_pending, same_puts, still_writing}
@@ -84,3 +85,16 @@ returns-in-None-clause-geometry g c =
     let mid = kept_in g.C.Chronicle c.read_vector.new.stripe in
     on_ok c.fit.result (c.fit.new.stripe ≡ c.read_vector.new.stripe) _
     (λ stays. ap (λ t. (state_in g.C.Chronicle t).geometry) stays ∙ (same_puts old mid c.args.writer.now.key c.in_ok-found.found c.in_ok-found.ensures.adds).geometry) c.fit.ensures.same
+
+pub returns-in_err-found-clause-own : goal.returns-in_err-found-clause-own
+returns-in_err-found-clause-own g c = owns_none c.args.writer.now.put (kept_in g.C.Chronicle c.args.stripe.now) (kept_in g.C.Chronicle c.read_vector.new.stripe) c.in_err-found.ensures.err
+
+pub returns-in-Some-clause-own : goal.returns-in-Some-clause-own
+returns-in-Some-clause-own g c =
+    owns_read c.args.writer.now.put (kept_in g.C.Chronicle c.args.stripe.now) (kept_in g.C.Chronicle c.read_vector.new.stripe) c.args.writer.now.key c.in_ok-found.found c.in_ok-found.ensures.adds
+
+pub returns-in-None-clause-own : goal.returns-in-None-clause-own
+returns-in-None-clause-own g c =
+    then_owns c.args.writer.now.put (kept_in g.C.Chronicle c.args.stripe.now) (kept_in g.C.Chronicle c.read_vector.new.stripe) (kept_in g.C.Chronicle c.fit.new.stripe)
+    (owns_read c.args.writer.now.put (kept_in g.C.Chronicle c.args.stripe.now) (kept_in g.C.Chronicle c.read_vector.new.stripe) c.args.writer.now.key c.in_ok-found.found c.in_ok-found.ensures.adds)
+    (owns_fit (kept_in g.C.Chronicle c.read_vector.new.stripe) (kept_in g.C.Chronicle c.fit.new.stripe) c.args.writer.now c.fit.result c.fit.ensures.adds)

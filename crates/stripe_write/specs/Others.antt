@@ -1,0 +1,55 @@
+-- What the calls of one writer leave of other writers, and of readers.
+use Rattle.std.specs.Prelude.{ℕ, ◌≡◌, List, Result}
+use Rattle.std.specs.List.{AllByRecursion}
+use Rattle.cache_model.specs.declared.record.Rec.{Rec}
+use Rattle.cache_model.specs.declared.record.Rec.TheVariants as rec
+use Rattle.cache_model.specs.State.{State, put_of}
+use Rattle.cache_model.specs.Kept.{Kept, state_of, with_records}
+use Rattle.stripe_write.specs.declared.writer.Writer.{Writer}
+use Rattle.stripe_core.specs.declared.refusal.Refusal.{Refusal}
+use Rattle.stripe_write.specs.Writers.{IsWriterOf}
+use Rattle.stripe_write.specs.Writes.{write_adds}
+
+-- the record speaks of no other put and of no reader, and begins no session
+abbrev pub IsOfPut : ℕ → Rec → Type 0
+IsOfPut put (rec.Formatted geometry) = ⊥
+IsOfPut put (rec.Began cursor floor) = Unit {0}
+IsOfPut put (rec.Placed piece place blocks digest pin) = Unit {0}
+IsOfPut put (rec.Displaced piece segment live) = Unit {0}
+IsOfPut put (rec.Damaged piece place kept found) = Unit {0}
+IsOfPut put (rec.WriteOpened actor q key request response pin) = q ≡ put
+IsOfPut put (rec.Cut q index length digest) = q ≡ put
+IsOfPut put (rec.Committed q key length) = q ≡ put
+IsOfPut put (rec.Aborted q key) = q ≡ put
+IsOfPut put (rec.Removed q key) = Unit {0}
+IsOfPut put (rec.ReadOpened reader actor key request answer) = ⊥
+IsOfPut put (rec.Gave reader index length) = ⊥
+IsOfPut put (rec.Ended reader length) = ⊥
+IsOfPut put (rec.Waited reader cut) = ⊥
+IsOfPut put (rec.Broke reader why) = ⊥
+IsOfPut put (rec.ReadClosed reader) = ⊥
+IsOfPut put (rec.Fault count) = Unit {0}
+
+-- records of one put alone were added
+pub record AddsOfPut (put : ℕ) (old new : Kept) : Type 0 where
+  pub added : List Rec
+  pub adds : new ≡ with_records old added
+  pub own : AllByRecursion (IsOfPut put) added
+
+-- other puts, all readers, and the geometry are as they were
+pub record LeavesOthers (put : ℕ) (s t : State) : Type 0 where
+  pub puts : (q : ℕ) → (q ≡ put → ⊥) → put_of t q ≡ put_of s q
+  pub readers : t.readers ≡ s.readers
+  pub geometry : t.geometry ≡ s.geometry
+
+-- records of one put alone leave them so
+abbrev pub OthersStay : Type 0
+OthersStay = (put : ℕ) (old new : Kept) → AddsOfPut put old new → LeavesOthers put (state_of old) (state_of new)
+
+-- and so they leave the writers of other puts
+abbrev pub WritersStay : Type 0
+WritersStay = (put : ℕ) (s t : State) (w : Writer) → LeavesOthers put s t → (w.put ≡ put → ⊥) → IsWriterOf s w → IsWriterOf t w
+
+-- the records of a write are its put's own
+abbrev pub WritesAreOwn : Type 0
+WritesAreOwn = (s : State) (w : Writer) (bytes : List ℕ) (result : Result ℕ Refusal) → AllByRecursion (IsOfPut w.put) (write_adds s w bytes result)
