@@ -1,0 +1,2 @@
+mod Having
+mod Numbers
