@@ -1,9 +1,9 @@
 // Readers are closed.
-ghost use Rattle.std.specs.Prelude.{◌≡◌, [], ◌∷◌, IfErr, OnOk};
+ghost use Rattle.std.specs.Prelude.{◌≡◌, ◌≤◌, [], ◌∷◌, IfErr, OnOk};
 ghost use Rattle.cache_model.specs.declared.record.Rec.TheVariants as rec;
 ghost use Rattle.cache_model.specs.Kept.{with_records};
 ghost use Rattle.cache_model.specs.Legal.{IsQuiet};
-ghost use Rattle.stripe_core.specs.Stripe.{IsStripe, kept_in, state_in};
+ghost use Rattle.stripe_core.specs.Stripe.{IsStripe, kept_in, seen_in, state_in};
 ghost use Rattle.stripe_read.specs.Readers.{ClosesAsAsked, IsOpenReader};
 
 use crate::Reader;
@@ -27,6 +27,7 @@ pub fn close_read<D: Disk, R: Directory + Drop, C: Chronicle>(
     ensures does { ClosesAsAsked (state_in C.Chronicle stripe.old) reader }
     ensures err { IfErr result (λ e. kept_in C.Chronicle stripe.new ≡ kept_in C.Chronicle stripe.old) }
     ensures back { IfErr result (λ e. e.1 ≡ reader) }
+    ensures later { (seen_in D.Disk R.Directory stripe.old).device.faults ≤ (seen_in D.Disk R.Directory stripe.new).device.faults }
 {
     if let Err(e) = stripe.prepare(None, 1) {
         return Err((e, reader));

@@ -23,7 +23,7 @@ use Rattle.stripe_core.specs.Place.{CutsAsAsked, fragment_adds, room_records}
 use Rattle.stripe_core.specs.Stripe.{Answers}
 use Rattle.stripe_write.specs.declared.writer.Writer.{Writer}
 use Rattle.stripe_write.specs.Writers.{IsAllCut, IsAtHand, IsWriterOf}
-use Rattle.stripe_write.specs.Writes.{IsReady, SameWriter, WritesAsAsked, cut_adds, cuts_fragment, gathered_with, is_cut, left_of, next_id, next_start, write_adds}
+use Rattle.stripe_write.specs.Writes.{IsCutting, IsReady, SameWriter, WritesAsAsked, WritesWhere, cut_adds, cuts_fragment, gathered_with, is_cut, left_of, next_id, next_start, write_adds}
 use Rattle.stripe_write.proofs.Ended.{open_put}
 
 -- ---- a writer that is as it was, or has gathered more
@@ -158,6 +158,18 @@ took_does kept kept1 before before1 after w w' bytes n placed e f same g h = λ 
     (subst (λ k. CutsAsAsked (state_of k) before1 after (next_id w) w.pin (next_start w) w'.gathered.items (Ok placed)) e
     (same_cuts (state_of kept1) before1 after w w' (Ok placed) same h))) in
     subst (λ recs. Spends p s (cuts_fragment w (gathered_with w bytes n)) recs Done) (ap (λ b. if b then cut_adds s w (gathered_with w bytes n) else []) (sym cut)) (mine p covers)
+
+-- a cut is refused where the fragment has gathered
+pub refused_where : (s : State) (w : Writer) (bytes : List ℕ) (why : Refusal) (P : Result Placed Stop → Type 0) → Answers {X = Placed} (Err why) P (Unit {0}) → IsCutting s w bytes → WritesWhere s w bytes (Err why)
+refused_where s w bytes (refusal.DeviceFault count) P h cutting = cutting
+refused_where s w bytes (refusal.Exhausted number) P h cutting = cutting
+refused_where s w bytes (refusal.Memory e) P h cutting = cutting.taking
+refused_where s w bytes refusal.TooManyWriters P h cutting = absurd h
+refused_where s w bytes refusal.TooManyFragments P h cutting = absurd h
+refused_where s w bytes (refusal.VectorTooLarge size) P h cutting = absurd h
+refused_where s w bytes (refusal.Lost index why) P h cutting = absurd h
+refused_where s w bytes refusal.Sealed P h cutting = absurd h
+refused_where s w bytes refusal.NoSuchWriter P h cutting = absurd h
 
 -- ---- a cut that could not be made leaves the puts
 

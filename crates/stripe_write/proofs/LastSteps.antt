@@ -39,11 +39,11 @@ use Rattle.stripe_write.specs.declared.finishing.Receipt.{Receipt}
 use Rattle.stripe_write.specs.declared.weighing.Vectors.{Vectors}
 use Rattle.stripe_write.specs.declared.writer.Writer.{Writer}
 use Rattle.stripe_write.specs.Writers.{IsAtHand, IsWriterOf}
-use Rattle.stripe_write.specs.Writes.{SameButBytes, next_id, next_start}
+use Rattle.stripe_write.specs.Writes.{SameButBytes, SameWriter, next_id, next_start}
 use Rattle.stripe_write.specs.Closing.{AreSpelled, IsReadFor, SpendsAll, Weighs, WeighsAsAsked, WeighsWhere, alternate_at_close, close_intents, rest_intents, rest_rows, rows_at_close, weigh_end, work_behind}
 use Rattle.stripe_write.specs.Resting.{RestsAsAsked, rest_adds, rest_records}
 use Rattle.stripe_write.specs.Finishing.{FinishesAsRead, FinishesWhere, finish_end, finish_intents}
-use Rattle.stripe_write.specs.Closes.{Closes, ClosesAsAsked, ClosesWhere, EndsAsAsked, EndsWhere, SealsWhere, Spent, close_end, end_intents, is_sealed_by}
+use Rattle.stripe_write.specs.Closes.{Closes, ClosesAsAsked, ClosesWhere, EndsAsAsked, EndsWhere, IsRested, SealsWhere, Spent, close_end, end_intents, is_sealed_by}
 use Rattle.stripe_write.proofs.Cutting.{cut_state, next_no_vector}
 use Rattle.ats_disk.specs.Device.{State as Device}
 use Rattle.stripe_write.proofs.Completing.{nothing_more}
@@ -480,3 +480,13 @@ refused_own s t w refusal.TooManyWriters h own = own
 refused_own s t w refusal.TooManyFragments h own = own
 refused_own s t w refusal.Sealed h own = own
 refused_own s t w refusal.NoSuchWriter h own = own
+
+-- ---- what a writer has at hand once it was closed
+
+pub rested_same : (w same new : Writer) → SameWriter w same → IsRested same new → IsRested w new
+rested_same w same new is (inl keeps) = inl (record { put = keeps.put ∙ is.put; gathered = keeps.gathered ∙ is.gathered; rows = keeps.rows ∙ is.rows })
+rested_same w same new is (inr cuts) = inr (record {
+  put = cuts.put ∙ is.put;
+  empty = cuts.empty;
+  rows = cuts.rows ∙ (ap (λ (rows : List TableRow). rows ++ rest_rows same.gathered.items) is.rows ∙ ap (λ bytes. w.table.rows ++ rest_rows bytes) is.gathered);
+})

@@ -1,11 +1,11 @@
-mod Ended
-mod Cutting
+pub mod Ended
+pub mod Cutting
 mod Gathering
 mod LastCut
-mod Spending
-mod Completing
+pub mod Spending
+pub mod Completing
 mod Roomed
 mod WeighingReads
 mod WeighingFits
-mod LastSteps
-mod Owning
+pub mod LastSteps
+pub mod Owning

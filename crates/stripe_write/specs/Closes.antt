@@ -93,6 +93,22 @@ SealsWhere old new (Err (refusal.Exhausted number)) = new.sealed ≡ true
 SealsWhere old new (Err (refusal.Memory e)) = new.sealed ≡ old.sealed
 SealsWhere old new _ = Unit {0}
 
+-- the writer of the same put, with what it had cut and gathered
+pub record KeepsRest (old new : Writer) : Type 0 where
+  pub put : new.put ≡ old.put
+  pub gathered : new.gathered.items ≡ old.gathered.items
+  pub rows : new.table.rows ≡ old.table.rows
+
+-- the same, once what it had gathered is cut
+pub record CutsRest (old new : Writer) : Type 0 where
+  pub put : new.put ≡ old.put
+  pub empty : new.gathered.items ≡ []
+  pub rows : new.table.rows ≡ rows_at_close old
+
+-- what a writer has at hand once it was closed
+abbrev pub IsRested : Writer → Writer → Type 0
+IsRested old new = KeepsRest old new ⊎ CutsRest old new
+
 -- while the vector is weighed only the device seals
 abbrev pub is_sealed_by : Refusal → Bool → Bool
 is_sealed_by (refusal.DeviceFault count) sealed = true

@@ -87,14 +87,20 @@ pub record GathersAsAsked (g : Geometry) (old : Writer) (bytes : List ℕ) (n : 
 abbrev pub IsTaking : State → Writer → Type 0
 IsTaking s w = (is_writing s w.put ≡ true) × (w.sealed ≡ false)
 
+-- with these bytes the next fragment has gathered, and there may be one more
+pub record IsCutting (s : State) (w : Writer) (bytes : List ℕ) : Type 0 where
+  pub taking : IsTaking s w
+  pub few : length w.table.rows < most_fragments
+  pub full : is_cut s.geometry w (taken_of s.geometry w bytes) ≡ true
+
 -- when each answer comes; a fragment more is begun only where there may be one more
 abbrev pub WritesWhere : State → Writer → List ℕ → Result ℕ Refusal → Type 0
 WritesWhere s w bytes (Ok n) = IsTaking s w × (n ≡ taken_of s.geometry w bytes) × (0 < length bytes → length w.table.rows < most_fragments)
 WritesWhere s w bytes (Err refusal.NoSuchWriter) = is_writing s w.put ≡ false
 WritesWhere s w bytes (Err refusal.Sealed) = (is_writing s w.put ≡ true) × (w.sealed ≡ true)
 WritesWhere s w bytes (Err refusal.TooManyFragments) = IsTaking s w × (0 < length bytes) × (length w.table.rows ≡ most_fragments)
-WritesWhere s w bytes (Err (refusal.DeviceFault count)) = IsTaking s w
-WritesWhere s w bytes (Err (refusal.Exhausted number)) = IsTaking s w
+WritesWhere s w bytes (Err (refusal.DeviceFault count)) = IsCutting s w bytes
+WritesWhere s w bytes (Err (refusal.Exhausted number)) = IsCutting s w bytes
 WritesWhere s w bytes (Err (refusal.Memory e)) = IsTaking s w
 WritesWhere s w bytes (Err _) = ⊥
 

@@ -6,7 +6,7 @@ ghost use Rattle.stripe_write.specs.Others.{AddsOfPut};
 ghost use Rattle.stripe_write.specs.Writers.{IsWriterOf};
 ghost use Rattle.stripe_write.specs.Writes.{SameWriter};
 ghost use Rattle.stripe_write.specs.Closing.{AreSpelled};
-ghost use Rattle.stripe_write.specs.Closes.{ClosesAsAsked, ClosesWhere, EndsAsAsked, EndsWhere, SealsWhere, is_sealed_by};
+ghost use Rattle.stripe_write.specs.Closes.{ClosesAsAsked, ClosesWhere, EndsAsAsked, EndsWhere, IsRested, SealsWhere, is_sealed_by};
 
 use crate::Writer;
 use crate::finishing::{Receipt, finish};
@@ -41,6 +41,7 @@ pub fn close_write<D: Disk, R: Directory + Drop, C: Chronicle>(
         (kept_in C.Chronicle stripe.old) (kept_in C.Chronicle stripe.new) writer.old result }
     ensures writer { IsWriterOf (state_in C.Chronicle stripe.new) writer.new }
     ensures seals { SealsWhere writer.old writer.new result }
+    ensures rested { IsRested writer.old writer.new }
     ensures later { (seen_in D.Disk R.Directory stripe.old).device.faults ≤ (seen_in D.Disk R.Directory stripe.new).device.faults }
     ensures own { AddsOfPut writer.old.put (kept_in C.Chronicle stripe.old) (kept_in C.Chronicle stripe.new) }
 {
@@ -91,6 +92,7 @@ fn close_open<D: Disk, R: Directory + Drop, C: Chronicle>(
         (kept_in C.Chronicle stripe.old) (kept_in C.Chronicle stripe.new) writer.old result }
     ensures writer { IsWriterOf (state_in C.Chronicle stripe.new) writer.new }
     ensures seals { SealsWhere writer.old writer.new result }
+    ensures rested { IsRested writer.old writer.new }
     ensures later { (seen_in D.Disk R.Directory stripe.old).device.faults ≤ (seen_in D.Disk R.Directory stripe.new).device.faults }
     ensures own { AddsOfPut writer.old.put (kept_in C.Chronicle stripe.old) (kept_in C.Chronicle stripe.new) }
 {
@@ -136,6 +138,7 @@ fn end<D: Disk, R: Directory + Drop, C: Chronicle>(
         (kept_in C.Chronicle stripe.old) (kept_in C.Chronicle stripe.new) writer.old vectors.now result }
     ensures writer { IsWriterOf (state_in C.Chronicle stripe.new) writer.new }
     ensures sealed { writer.new.sealed ≡ true }
+    ensures rested { IsRested writer.old writer.new }
     ensures later { (seen_in D.Disk R.Directory stripe.old).device.faults ≤ (seen_in D.Disk R.Directory stripe.new).device.faults }
     ensures own { AddsOfPut writer.old.put (kept_in C.Chronicle stripe.old) (kept_in C.Chronicle stripe.new) }
 {

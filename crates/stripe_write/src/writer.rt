@@ -1,4 +1,6 @@
 // What is at hand of a put while it is written.
+ghost use Rattle.std.specs.Prelude.{◌≡◌};
+
 use alternate_vector::Fields;
 use fragment_table::FragTable;
 use tape_base::Key;
@@ -15,4 +17,13 @@ pub struct Writer {
     pub(crate) table: FragTable,
     /// It was closed in vain, and takes no more bytes.
     pub(crate) sealed: bool,
+}
+
+impl Writer {
+    /// The number of its put.
+    pub fn put(&self) -> u64
+        ensures { result ≡ self.now.put }
+    {
+        self.put
+    }
 }

@@ -1,4 +1,4 @@
-use Rattle.std.proofs.Common.{Bool, Err, sym, subst}
+use Rattle.std.proofs.Common.{Bool, Err, sym, subst, refl, inl}
 use Rattle.stripe_core.specs.Stripe.{kept_in, seen_in, state_in}
 use Rattle.stripe_write.specs.declared.writer.Writer.{Writer}
 use Rattle.stripe_write.specs.Writers.{IsWriterOf}
@@ -41,3 +41,6 @@ returns-in-Err-clause-seals g c =
 pub returns-in-Ok-clause-own : goal.returns-in-Ok-clause-own
 returns-in-Ok-clause-own g c =
     then_owns c.args.writer.now.put (kept_in g.C.Chronicle c.args.stripe.now) (kept_in g.C.Chronicle c.weigh.new.stripe) (kept_in g.C.Chronicle c.end.new.stripe) c.weigh.ensures.own c.end.ensures.own
+
+pub returns-in-Err-clause-rested : goal.returns-in-Err-clause-rested
+returns-in-Err-clause-rested g c = inl (record { put = refl; gathered = refl; rows = refl })

@@ -1,4 +1,4 @@
-use Rattle.std.proofs.Common.{sym, subst, refl}
+use Rattle.std.proofs.Common.{sym, subst, refl, inl}
 use Rattle.cache_model.specs.Kept.{state_of}
 use Rattle.stripe_core.specs.declared.refusal.Refusal.TheVariants as refusal
 use Rattle.stripe_core.specs.Stripe.{kept_in, state_in}
@@ -6,7 +6,7 @@ use Rattle.stripe_write.specs.Writers.{IsWriterOf}
 use Rattle.stripe_write.specs.Others.{AddsOfPut}
 use Rattle.stripe_write.proofs.Owning.{owns_none}
 use Rattle.stripe_write.proofs.Gathering.{same_writer}
-use Rattle.stripe_write.proofs.LastSteps.{closes_same, wanting_closes}
+use Rattle.stripe_write.proofs.LastSteps.{closes_same, rested_same, wanting_closes}
 use Rattle.stripe_write.proofs.closing.close_write.Goals as goal
 
 pub close_open-requires-clause-writer : goal.close_open-requires-clause-writer
@@ -39,3 +39,12 @@ pub returns-in-Ok-clause-own : goal.returns-in-Ok-clause-own
 returns-in-Ok-clause-own g c =
     subst (λ k. AddsOfPut c.args.writer.now.put k (kept_in g.C.Chronicle c.close_open.new.stripe)) c.make_memory.ensures.records
     (subst (λ n. AddsOfPut n (kept_in g.C.Chronicle c.make_memory.new.stripe) (kept_in g.C.Chronicle c.close_open.new.stripe)) c.make_memory.ensures.same.put c.close_open.ensures.own)
+
+pub returns-then-not-is_open-clause-rested : goal.returns-then-not-is_open-clause-rested
+returns-then-not-is_open-clause-rested g c = inl (record { put = refl; gathered = refl; rows = refl })
+
+pub returns-in-Err-clause-rested : goal.returns-in-Err-clause-rested
+returns-in-Err-clause-rested g c = let same = c.make_memory.ensures.same in inl (record { put = same.put; gathered = same.gathered; rows = same.rows })
+
+pub returns-in-Ok-clause-rested : goal.returns-in-Ok-clause-rested
+returns-in-Ok-clause-rested g c = rested_same c.args.writer.now c.make_memory.new.writer c.close_open.new.writer c.make_memory.ensures.same c.close_open.ensures.rested

@@ -1,4 +1,4 @@
-use Rattle.std.proofs.Common.{◌≡◌, refl}
+use Rattle.std.proofs.Common.{◌≡◌, refl, inl, inr}
 use Rattle.stripe_core.specs.Stripe.{kept_in, state_in}
 use Rattle.stripe_write.specs.declared.writer.Writer.{Writer}
 use Rattle.std.proofs.Common.{subst}
@@ -49,3 +49,9 @@ returns-in-Err-clause-own g c =
     let w = c.args.writer.now in
     let sealed : Writer = record { put = w.put; key = w.key; request = w.request; response = w.response; pin = w.pin; gathered = w.gathered; table = w.table; sealed = Rattle.std.proofs.Common.true } in
     owns_no_rest (kept_in g.C.Chronicle c.args.stripe.now) (kept_in g.C.Chronicle c.cut_rest.new.stripe) sealed c.in-Err.why c.in-Err.ensures.adds
+
+pub returns-in-Ok-clause-rested : goal.returns-in-Ok-clause-rested
+returns-in-Ok-clause-rested g c = inr (record { put = c.cut_rest.ensures.rest.put; empty = c.in-Ok.ensures.empty; rows = c.in-Ok.ensures.rows })
+
+pub returns-in-Err-clause-rested : goal.returns-in-Err-clause-rested
+returns-in-Err-clause-rested g c = let same = c.in-Err.ensures.same in inl (record { put = same.put; gathered = same.gathered; rows = same.rows })

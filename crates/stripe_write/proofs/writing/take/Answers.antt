@@ -4,9 +4,9 @@ use Rattle.cache_model.specs.Legal.{is_writing}
 use Rattle.stripe_core.specs.Stripe.{kept_in, seen_in, state_in}
 use Rattle.stripe_write.specs.Writers.{IsWriterOf}
 use Rattle.stripe_write.specs.declared.writer.Writer.{Writer}
-use Rattle.stripe_write.specs.Writes.{next_id, next_start}
+use Rattle.stripe_write.specs.Writes.{next_id, next_start, taken_of}
 use Rattle.tape_base.specs.declared.geometries.Geometry.{Geometry}
-use Rattle.stripe_write.proofs.Gathering.{cut_now, few_gathered, gathered_length, is_ready, left_cut, more_writer, same_writer, took_adds, took_does, SameButGathered, back, failed_puts, still_writer, taken_back}
+use Rattle.stripe_write.proofs.Gathering.{cut_now, few_gathered, gathered_length, is_ready, left_cut, more_writer, same_writer, took_adds, took_does, SameButGathered, back, failed_puts, still_writer, refused_where, taken_back}
 use Rattle.stripe_write.proofs.writing.take.Goals as goal
 
 pub overflow_sub-room : goal.overflow_sub-room
@@ -113,3 +113,15 @@ returns-in-Ok-clause-gathers g c =
       sealed = c.in-Ok.ensures.rest.sealed;
       gathered = c.in-Ok.ensures.empty ∙ sym (left_cut s.geometry w c.args.bytes.now n (cut_now s.geometry w n (omega (arith, few, fragment, c.len-before.ensures, c.min-taken.ensures, c.if-taken-room.false))));
     }
+
+pub returns-in-Err-clause-writes : goal.returns-in-Err-clause-writes
+returns-in-Err-clause-writes g c =
+    let s = state_in g.C.Chronicle c.args.stripe.now in
+    let w = c.args.writer.now in
+    let few = few_gathered s w c.requires.open c.requires.writer in
+    let fragment = ap (λ (x : Geometry). x.fragment) c.geometry.ensures in
+    refused_where s w c.args.bytes.now c.in-Err.refusal _ c.in-Err.ensures.does (record {
+      taking = (c.requires.open, c.requires.unsealed);
+      few = c.requires.few;
+      full = cut_now s.geometry w (taken_of s.geometry w c.args.bytes.now) (omega (arith, few, fragment, c.len-before.ensures, c.min-taken.ensures, c.if-taken-room.false));
+    })
