@@ -1,0 +1,119 @@
+-- What stands stays what its writer took where the puts that it stands for stay or go on.
+use Rattle.std.proofs.Common.{◌≡◌, ℕ, ◌≤◌, List, [], ◌∷◌, ◌++◌, length, sym, ◌∙◌, ap, subst, arith, inl, inr}
+use Rattle.std.specs.Prelude.{Option, Some, None, find, ◌==◌}
+use Rattle.std.specs.List.{AllByRecursion}
+use Rattle.fragment_table.specs.Table.{TableRow}
+use Rattle.alternate_vector.specs.Alternates.{Stored}
+use Rattle.cache_model.specs.State.{State, Row, PutRow, ReaderRow, put_of}
+use Rattle.cache_model.proofs.Rows.{ArePart, done, keep, skip}
+use Rattle.script_run.specs.Run.{Stream}
+use Rattle.script_run.specs.Own.{AreListedOf, AreOwn, AreOwnPuts, IsListedOf, IsOwnFragment, IsOwnPut, IsOwnReader, IsOwnRow, IsTableOf, IsTableOfHit}
+
+-- ---- lists
+
+pub all_part : (P : Row → Type 0) {some all : List Row} → ArePart some all → AllByRecursion P all → AllByRecursion P some
+all_part P done each = tt
+all_part P (keep p) each = (each.0, all_part P p each.1)
+all_part P (skip p) each = all_part P p each.1
+
+pub all_as : {X : Type 0} (P Q : X → Type 0) → ((x : X) → P x → Q x) → (xs : List X) → AllByRecursion P xs → AllByRecursion Q xs
+all_as P Q f [] each = tt
+all_as P Q f (x ∷ xs) each = (f x each.0, all_as P Q f xs each.1)
+
+pub all_append : {X : Type 0} (P : X → Type 0) (xs ys : List X) → AllByRecursion P xs → AllByRecursion P ys → AllByRecursion P (xs ++ ys)
+all_append P [] ys front back = back
+all_append P (x ∷ xs) ys front back = (front.0, all_append P xs ys front.1 back)
+
+-- ---- from one state to another
+
+-- the put goes on from what it had cut
+pub record GoesOn (t : State) (put : ℕ) (w : PutRow) : Type 0 where
+  pub now : PutRow
+  pub found : put_of t put ≡ Some now
+  pub more : length w.cuts ≤ length now.cuts
+
+-- the tables of complete puts stay, and each put goes on
+pub record Carries (s t : State) : Type 0 where
+  pub geometry : t.geometry ≡ s.geometry
+  pub tables : (put : ℕ) (table : List TableRow) → IsTableOf s put table → IsTableOf t put table
+  pub puts : (put : ℕ) (w : PutRow) → put_of s put ≡ Some w → GoesOn t put w
+
+module _ (s t : State) (c : Carries s t) where
+  pub listed_carried : (o : Option (List Stored)) → AreListedOf s o → AreListedOf t o
+  listed_carried None listed = tt
+  listed_carried (Some list) listed = all_as (IsListedOf s) (IsListedOf t) (λ a l. c.tables a.put a.table l) list listed
+
+  fragment_carried : (streams : ℕ → Stream) (row : Row) → IsOwnFragment s streams row → IsOwnFragment t streams row
+  fragment_carried streams row f =
+      let on : GoesOn t row.id.put f.w = c.puts row.id.put f.w f.found in
+      record { w = on.now; found = on.found; cut = omega (arith, f.cut, on.more); digest = rw c.geometry f.digest }
+
+  pub row_carried : (streams : ℕ → Stream) (row : Row) → IsOwnRow s streams row → IsOwnRow t streams row
+  row_carried streams row own = (λ fragment. fragment_carried streams row (own.0 fragment), listed_carried row.alternates own.1)
+
+  hit_carried : (r : ReaderRow) (o : Option (List TableRow)) → IsTableOfHit s r o → IsTableOfHit t r o
+  hit_carried r None h = tt
+  hit_carried r (Some table) h = c.tables r.put table h
+
+  pub reader_carried : s.next_reader ≤ t.next_reader → (r : ReaderRow) → IsOwnReader s r → IsOwnReader t r
+  reader_carried on r own = record { begun = omega (arith, own.begun, on); table = hit_carried r r.table own.table }
+
+  pub readers_carried : s.next_reader ≤ t.next_reader → (readers : List ReaderRow) → AllByRecursion (IsOwnReader s) readers → AllByRecursion (IsOwnReader t) readers
+  readers_carried on readers each = all_as (IsOwnReader s) (IsOwnReader t) (reader_carried on) readers each
+
+  pub rows_carried : (streams : ℕ → Stream) (rows : List Row) → AllByRecursion (IsOwnRow s streams) rows → AllByRecursion (IsOwnRow t streams) rows
+  rows_carried streams rows each = all_as (IsOwnRow s streams) (IsOwnRow t streams) (row_carried streams) rows each
+
+-- a put stays as it was
+pub put_stays : (s t : State) (streams : ℕ → Stream) (w : PutRow) → t.geometry ≡ s.geometry → s.next_put ≤ t.next_put → IsOwnPut s streams w → IsOwnPut t streams w
+put_stays s t streams w same on p = record {
+  begun = omega (arith, p.begun, on);
+  cuts = rw same p.cuts;
+  whole = p.whole;
+  full = λ is_open unsealed. rw same (p.full is_open unsealed);
+}
+
+-- ---- states that differ in nothing that puts, tables and readers stand for
+
+pub record AreAlike (s t : State) : Type 0 where
+  pub geometry : t.geometry ≡ s.geometry
+  pub next_put : t.next_put ≡ s.next_put
+  pub puts : t.puts ≡ s.puts
+  pub pending : t.pending ≡ s.pending
+  pub rows : ArePart t.rows s.rows
+  pub readers : t.readers ≡ s.readers
+  pub next_reader : t.next_reader ≡ s.next_reader
+
+found_alike : (s t : State) (put : ℕ) (w : PutRow) → t.puts ≡ s.puts → put_of s put ≡ Some w → put_of t put ≡ Some w
+found_alike s t put w same found = ap (find (λ (p : PutRow). p.put == put)) same ∙ found
+
+table_alike : (s t : State) → t.puts ≡ s.puts → t.pending ≡ s.pending → (put : ℕ) (table : List TableRow) → IsTableOf s put table → IsTableOf t put table
+table_alike s t puts pending put table h = record {
+  w = h.w;
+  found = found_alike s t put h.w puts h.found;
+  cuts = h.cuts;
+  complete = elim h.complete [ inl closed ↦ inl closed | inr waits ↦ inr (pending ∙ waits) ];
+}
+
+pub same_carries : (s t : State) → t.geometry ≡ s.geometry → t.puts ≡ s.puts → t.pending ≡ s.pending → Carries s t
+same_carries s t geometry puts pending = record {
+  geometry = geometry;
+  tables = table_alike s t puts pending;
+  puts = λ put w found. record { now = w; found = found_alike s t put w puts found; more = omega arith };
+}
+
+pub alike_carries : (s t : State) → AreAlike s t → Carries s t
+alike_carries s t a = same_carries s t a.geometry a.puts a.pending
+
+pub puts_stay : (s t : State) (streams : ℕ → Stream) → t.geometry ≡ s.geometry → t.next_put ≡ s.next_put → t.puts ≡ s.puts → AreOwnPuts s streams → AreOwnPuts t streams
+puts_stay s t streams geometry next puts own put w found =
+    put_stays s t streams w geometry (omega (arith, next)) (own put w (found_alike t s put w (sym puts) found))
+
+pub own_alike : (s t : State) (streams : ℕ → Stream) → AreAlike s t → AreOwn s streams → AreOwn t streams
+own_alike s t streams a own =
+    let c : Carries s t = alike_carries s t a in
+    record {
+      puts = puts_stay s t streams a.geometry a.next_put a.puts own.puts;
+      rows = all_part (IsOwnRow t streams) a.rows (rows_carried s t c streams s.rows own.rows);
+      readers = subst (AllByRecursion (IsOwnReader t)) (sym a.readers) (readers_carried s t c (omega (arith, a.next_reader)) s.readers own.readers);
+    }

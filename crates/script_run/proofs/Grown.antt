@@ -1,0 +1,222 @@
+-- Each group of records leaves what stands that of what writers took, where the fragments that are cut
+-- are those of that.
+use Rattle.std.proofs.Common.{◌≡◌, ℕ, ◌≤◌, List, [], ◌∷◌, ◌++◌, length, refl, sym, subst, arith, Bool, true, false}
+use Rattle.std.specs.Prelude.{Option, cond, filter}
+use Rattle.tape_base.specs.declared.geometries.Geometry.{Geometry}
+use Rattle.fragment_table.specs.Table.{TableRow, total_length}
+use Rattle.alternate_vector.specs.Field.{Field}
+use Rattle.tape_base.specs.declared.keys.Key.{Key}
+use Rattle.cache_model.specs.declared.answer.NextAnswer.{NextAnswer}
+use Rattle.cache_model.specs.declared.answer.NextAnswer.TheVariants as next
+use Rattle.cache_model.specs.declared.answer.ReadAnswer.{ReadAnswer}
+use Rattle.cache_model.specs.declared.cause.Cause.{Cause}
+use Rattle.cache_model.specs.declared.record.Rec.{Rec}
+use Rattle.cache_model.specs.declared.record.Rec.TheVariants as rec
+use Rattle.cache_model.specs.State.{State, Row, PutRow, ReaderRow, after_all, state_after}
+use Rattle.cache_model.specs.Permit.{Permit, Intent, Flush, Write, Fragment, Overflow, Weigh, Finish, Commit, GiveUp, Remove, Look, ReadOn, ReadAll, StopReading, End, Stays, Done, Fails, Work, Reason, is_cleanup, work_after}
+use Rattle.cache_model.specs.Legal
+use Rattle.cache_model.specs.Legal.{Advances, Does, MayGrow, nothing, more, IsWriting, aborted_record, answer_record}
+use Rattle.cache_model.proofs.Steps.{after_all-append}
+use Rattle.script_run.specs.Run.{Stream}
+use Rattle.script_run.specs.Own.{rows_from}
+use Rattle.script_run.proofs.Carried.{same_carries}
+use Rattle.script_run.proofs.Held.{IsHeld, IsPlain, held_aborted, held_plain}
+use Rattle.script_run.proofs.Opened.{held_opened, held_read_opened, verdict_own}
+use Rattle.script_run.proofs.Placed.{IsPiece, held_committed, held_fragment, held_vector}
+
+-- ---- what is asked fits what writers took
+
+-- a fragment is that of its index, and a vector is placed once all is cut
+abbrev pub Fits : ℕ → (ℕ → Stream) → Intent → Type 0
+Fits fragment streams (Fragment put index payload) = IsPiece fragment streams put index payload
+Fits fragment streams (Finish put fragments) = total_length (rows_from fragment (streams put).bytes 1 fragments) ≡ length (streams put).bytes
+Fits fragment streams _ = Unit {0}
+
+-- a fragment that is cut has no more bytes than it may have
+abbrev pub IsSmall : ℕ → Intent → Type 0
+IsSmall fragment (Fragment put index payload) = length payload ≤ fragment
+IsSmall fragment _ = Unit {0}
+
+-- all that is asked fits, as far as it comes to it
+abbrev pub AllFit : ℕ → (ℕ → Stream) → List Intent → Type 0
+AllFit fragment streams [] = Unit {0}
+AllFit fragment streams (i ∷ is) = IsSmall fragment i → Fits fragment streams i × AllFit fragment streams is
+
+cleanup_fits : (fragment : ℕ) (streams : ℕ → Stream) (i : Intent) → is_cleanup i ≡ true → Fits fragment streams i
+cleanup_fits fragment streams (Fragment put index payload) e = absurd cc
+cleanup_fits fragment streams (Finish put fragments) e = absurd cc
+cleanup_fits fragment streams Flush e = tt
+cleanup_fits fragment streams (Write actor key request response pin) e = tt
+cleanup_fits fragment streams (Overflow put) e = tt
+cleanup_fits fragment streams (Weigh put rest) e = tt
+cleanup_fits fragment streams (Commit put) e = tt
+cleanup_fits fragment streams (GiveUp put) e = tt
+cleanup_fits fragment streams (Remove key) e = tt
+cleanup_fits fragment streams (Look actor key request) e = tt
+cleanup_fits fragment streams (ReadOn reader) e = tt
+cleanup_fits fragment streams (ReadAll reader) e = tt
+cleanup_fits fragment streams (StopReading reader) e = tt
+
+cleanups_by : (fragment : ℕ) (streams : ℕ → Stream) (i : Intent) (is : List Intent) (b : Bool) → is_cleanup i ≡ b → AllFit fragment streams is → AllFit fragment streams (cond b (i ∷ is) is)
+cleanups_by fragment streams i is true e fits = λ small. (cleanup_fits fragment streams i e, fits)
+cleanups_by fragment streams i is false e fits = fits
+
+-- what a refusal leaves fits
+cleanups_fit : (fragment : ℕ) (streams : ℕ → Stream) (is : List Intent) → AllFit fragment streams (filter is_cleanup is)
+cleanups_fit fragment streams [] = tt
+cleanups_fit fragment streams (i ∷ is) = cleanups_by fragment streams i (filter is_cleanup is) (is_cleanup i) refl (cleanups_fit fragment streams is)
+
+-- ---- groups
+
+module _ (g : Geometry) (streams : ℕ → Stream) where
+  -- records that change no put
+  abbrev AllPlain : List Rec → Type 0
+  AllPlain [] = Unit {0}
+  AllPlain (r ∷ recs) = IsPlain r × AllPlain recs
+
+  plain : (s : State) (recs : List Rec) → AllPlain recs → IsHeld g streams s → IsHeld g streams (after_all s recs)
+  plain s [] p h = h
+  plain s (r ∷ recs) p h = plain (state_after s r) recs p.1 (held_plain g streams s r p.0 h)
+
+  adds : (s : State) (added other : List Rec) → added ≡ other → AllPlain other → IsHeld g streams s → IsHeld g streams (after_all s added)
+  adds s added other is p h = plain s added (subst AllPlain (sym is) p) h
+
+  aborts : (s : State) (put : ℕ) (w : PutRow) (added : List Rec) → added ≡ aborted_record w ∷ [] → IsWriting s put w → IsHeld g streams s → IsHeld g streams (after_all s added)
+  aborts s put w added is writing h = subst (λ xs. IsHeld g streams (after_all s xs)) (sym is) (held_aborted g streams s put w writing h)
+
+  roomed : (p : Permit) (s : State) (bytes : ℕ) (added : List Rec) (e : End) → Legal.MakesRoom p s bytes added e → IsHeld g streams s → IsHeld g streams (after_all s added)
+  roomed p s bytes added e (Legal.MakesRoom.flushes x m) h = adds s added _ m.is (tt, tt) h
+  roomed p s bytes added e (Legal.MakesRoom.stops count x m) h = adds s added _ m.is (tt, tt) h
+  roomed p s bytes added e (Legal.MakesRoom.exhausted x q is) h = adds s added [] is tt h
+
+  opens : (s : State) (actor : ℕ) (key : Key) (request response : List Field) (pin : ℕ) (added : List Rec) → Legal.MayOpenWrite s actor key request response pin added → IsHeld g streams s → IsHeld g streams (after_all s added)
+  opens s actor key request response pin added m h =
+      subst (λ xs. IsHeld g streams (after_all s xs)) (sym m.is) (held_opened g streams s m.who key request response pin m.quiet h)
+
+  -- ---- readers
+
+  trouble_plain : (p : Permit) (s : State) (row : Row) (before : List Rec) (why : Cause) → Legal.Trouble p s row before why → AllPlain before
+  trouble_plain p s row before why (Legal.Trouble.faulted count w m) = (tt, tt)
+  trouble_plain p s row before why (Legal.Trouble.damaged found d) = (tt, tt)
+
+  looked : (p : Permit) (s : State) (actor : ℕ) (key : Key) (request : List Field) (added : List Rec) (m : Legal.MayLook p s actor key request added) (before : List Rec) (answer : ReadAnswer)
+      → Legal.IsLookup p s key request before answer → IsHeld g streams s → IsHeld g streams (after_all s (before ++ rec.ReadOpened s.next_reader m.who key request answer ∷ []))
+  looked p s actor key request added m before answer (Legal.IsLookup.verdict r) h =
+      let t : State = state_after s (rec.ReadOpened s.next_reader m.who key request answer) in
+      held_read_opened g streams s m.who key request answer (verdict_own s t streams m.who.0 key request (omega arith) (same_carries s t refl refl refl) h.own) h
+  looked p s actor key request added m before answer (Legal.IsLookup.trouble row b why live trouble) h =
+      let t : State = after_all s before in
+      let same : t.next_reader ≡ s.next_reader = trouble_reader trouble in
+      subst (IsHeld g streams) (sym (after_all-append s before (rec.ReadOpened s.next_reader m.who key request answer ∷ [])))
+      (subst (λ n. IsHeld g streams (state_after t (rec.ReadOpened n m.who key request answer))) same
+      (held_read_opened g streams t m.who key request answer tt (plain s before (trouble_plain p s row before why trouble) h)))
+    where
+      trouble_reader : {row : Row} {before : List Rec} {why : Cause} → Legal.Trouble p s row before why → (after_all s before).next_reader ≡ s.next_reader
+      trouble_reader (Legal.Trouble.faulted count w m) = refl
+      trouble_reader (Legal.Trouble.damaged found d) = refl
+
+  fragment_plain : (p : Permit) (s : State) (r : ReaderRow) (row : Row) (entry : TableRow) (before : List Rec) (why : Cause) → Legal.ReadTrouble p s r row entry before why → AllPlain before
+  fragment_plain p s r row entry before why (Legal.ReadTrouble.troubled b c t) = trouble_plain p s row before why t
+  fragment_plain p s r row entry before why (Legal.ReadTrouble.mismatched found hit m) = (tt, tt)
+
+  reading_plain : (p : Permit) (s : State) (r : ReaderRow) (before : List Rec) (answer : NextAnswer) → Legal.IsReading p s r before answer → AllPlain before
+  reading_plain p s r before answer (Legal.IsReading.verdict x) = tt
+  reading_plain p s r before answer (Legal.IsReading.trouble entry row b why n live t) = fragment_plain p s r row entry before why t
+
+  answer_plain : (reader : ℕ) (answer : NextAnswer) → IsPlain (answer_record reader answer)
+  answer_plain reader (next.Gave index length) = tt
+  answer_plain reader (next.Ended length) = tt
+  answer_plain reader (next.Waited cut) = tt
+  answer_plain reader (next.Broke why) = tt
+
+  plain_append : (a b : List Rec) → AllPlain a → AllPlain b → AllPlain (a ++ b)
+  plain_append [] b p q = q
+  plain_append (r ∷ a) b p q = (p.0, plain_append a b p.1 q)
+
+  reads : (p : Permit) (s : State) (reader : ℕ) (answer : NextAnswer) (added : List Rec) → Legal.MayReadOn p s reader answer added → IsHeld g streams s → IsHeld g streams (after_all s added)
+  reads p s reader answer added m h = adds s added _ m.is (plain_append m.before _ (reading_plain p s m.r m.before answer m.right) (answer_plain reader answer, tt)) h
+
+  -- ---- each group
+
+  pub held_group : (p : Permit) (s : State) (i : Intent) (added : List Rec) (e : End) → Fits g.fragment streams i → IsHeld g streams s → Does p s i added e → IsHeld g streams (after_all s added)
+  held_group p s Flush added e fits h (Legal.DoesFlush.empty q f is) = adds s added [] is tt h
+  held_group p s Flush added e fits h (Legal.DoesFlush.flushes m) = adds s added _ m.is (tt, tt) h
+  held_group p s Flush added e fits h (Legal.DoesFlush.stops count m) = adds s added _ m.is (tt, tt) h
+  held_group p s Flush added e fits h (Legal.DoesFlush.exhausted q f b is) = adds s added [] is tt h
+  held_group p s (Write actor key request response pin) added e fits h (Legal.DoesWrite.opens m) = opens s actor key request response pin added m h
+  held_group p s (Write actor key request response pin) added e fits h (Legal.DoesWrite.many q m is) = adds s added [] is tt h
+  held_group p s (Write actor key request response pin) added e fits h (Legal.DoesWrite.exhausted q m l is) = adds s added [] is tt h
+  held_group p s (Fragment put index payload) added e fits h (Legal.DoesFragment.places d m) = held_fragment g streams p s put index payload added fits m h
+  held_group p s (Fragment put index payload) added e fits h (Legal.DoesFragment.rooms w n m) = roomed p s _ added e m h
+  held_group p s (Fragment put index payload) added e fits h (Legal.DoesFragment.exhausted w x n q) = adds s added [] q.is tt h
+  held_group p s (Overflow put) added e fits h (Legal.DoesOverflow.aborts w q l is) = aborts s put w added is q h
+  held_group p s (Weigh put rest) added e fits h (Legal.DoesWeigh.weighs w q r f is) = adds s added [] is tt h
+  held_group p s (Weigh put rest) added e fits h (Legal.DoesWeigh.too_large w q r f is) = aborts s put w added is q h
+  held_group p s (Weigh put rest) added e fits h (Legal.DoesWeigh.damaged w row found q live d is) = adds s added _ is (tt, tt) h
+  held_group p s (Weigh put rest) added e fits h (Legal.DoesWeigh.faulted w row count q live r m is) = adds s added _ is (tt, tt) h
+  held_group p s (Finish put fragments) added e fits h (Legal.DoesFinish.places d m) = held_vector g streams p s put fragments added fits m h
+  held_group p s (Finish put fragments) added e fits h (Legal.DoesFinish.rooms w c m) = roomed p s _ added e m h
+  held_group p s (Finish put fragments) added e fits h (Legal.DoesFinish.exhausted w x c l q) = adds s added [] q.is tt h
+  held_group p s (Finish put fragments) added e fits h (Legal.DoesFinish.loses w index d m is) = aborts s put w added is m.cut.writing h
+  held_group p s (Commit put) added e fits h (Legal.DoesCommit.commits w f o q is) =
+      subst (λ xs. IsHeld g streams (after_all s xs)) (sym is) (held_committed g streams s put (total_length w.cuts) w f q h)
+  held_group p s (GiveUp put) added e fits h (Legal.DoesGiveUp.aborts w q is) = aborts s put w added is q h
+  held_group p s (GiveUp put) added e fits h (Legal.DoesGiveUp.over q o is) = adds s added [] is tt h
+  held_group p s (Remove key) added e fits h (Legal.DoesRemove.removes row q l is) = adds s added _ is (tt, tt) h
+  held_group p s (Remove key) added e fits h (Legal.DoesRemove.absent q l is) = adds s added [] is tt h
+  held_group p s (Look actor key request) added e fits h (Legal.DoesLook.looks m) =
+      subst (λ xs. IsHeld g streams (after_all s xs)) (sym m.is) (looked p s actor key request added m m.before m.answer m.right h)
+  held_group p s (ReadOn reader) added e fits h (Legal.DoesReadOn.reads_on answer m) = reads p s reader answer added m h
+  held_group p s (ReadAll reader) added e fits h (Legal.DoesReadAll.reads_on answer x m y) = reads p s reader answer added m h
+  held_group p s (ReadAll reader) added e fits h (Legal.DoesReadAll.has_none q x is y) = adds s added [] is tt h
+  held_group p s (StopReading reader) added e fits h (Legal.DoesStopReading.closes r q l is) = adds s added _ is (tt, tt) h
+  held_group p s (StopReading reader) added e fits h (Legal.DoesStopReading.closed q l is) = adds s added [] is tt h
+
+  -- ---- along a step
+
+  -- what is asked first may be cut
+  small_fragment : (p : Permit) (s : State) (put index : ℕ) (payload : List ℕ) (added : List Rec) (e : End) → Legal.DoesFragment p s put index payload added e → length payload ≤ s.geometry.fragment
+  small_fragment p s put index payload added e (Legal.DoesFragment.places d m) = m.cut.small
+  small_fragment p s put index payload added e (Legal.DoesFragment.rooms w n m) = n.small
+  small_fragment p s put index payload added e (Legal.DoesFragment.exhausted w x n q) = n.small
+
+  is_small : (p : Permit) (s : State) (i : Intent) (added : List Rec) (e : End) → s.geometry ≡ g → Does p s i added e → IsSmall g.fragment i
+  is_small p s (Fragment put index payload) added e same does =
+      subst (λ (x : Geometry). length payload ≤ x.fragment) same (small_fragment p s put index payload added e does)
+  is_small p s Flush added e same does = tt
+  is_small p s (Write actor key request response pin) added e same does = tt
+  is_small p s (Overflow put) added e same does = tt
+  is_small p s (Weigh put rest) added e same does = tt
+  is_small p s (Finish put fragments) added e same does = tt
+  is_small p s (Commit put) added e same does = tt
+  is_small p s (GiveUp put) added e same does = tt
+  is_small p s (Remove key) added e same does = tt
+  is_small p s (Look actor key request) added e same does = tt
+  is_small p s (ReadOn reader) added e same does = tt
+  is_small p s (ReadAll reader) added e same does = tt
+  is_small p s (StopReading reader) added e same does = tt
+
+  left_fit : (i : Intent) (is : List Intent) (why : Option Reason) (e : End) → AllFit g.fragment streams (i ∷ is) → AllFit g.fragment streams is → AllFit g.fragment streams (work_after i is why e).intents
+  left_fit i is why Stays all rest = all
+  left_fit i is why Done all rest = rest
+  left_fit i is why (Fails reason) all rest = cleanups_fit g.fragment streams is
+
+  record IsOn (s : State) (w : Work) : Type 0 where
+    held : IsHeld g streams s
+    fits : AllFit g.fragment streams w.intents
+
+  advanced : (p : Permit) (s : State) (is : List Intent) (why : Option Reason) (added : List Rec) (between : Work) → AllFit g.fragment streams is → IsHeld g streams s → Advances p s is why added between
+      → IsOn (after_all s added) between
+  advanced p s [] why added between fits h a = absurd a
+  advanced p s (i ∷ is) why added between fits h a =
+      let now = fits (is_small p s i added a.0 h.geometry a.1) in
+      record {
+        held = held_group p s i added a.0 now.0 h a.1;
+        fits = subst (λ (w : Work). AllFit g.fragment streams w.intents) (sym a.2) (left_fit i is why a.0 fits now.1);
+      }
+
+  pub held_grown : {p : Permit} {s : State} {w after : Work} {recs : List Rec} → AllFit g.fragment streams w.intents → IsHeld g streams s → MayGrow p s w recs after → IsHeld g streams (after_all s recs)
+  held_grown fits h nothing = h
+  held_grown {p} {s} {w} fits h (more {rest = tail} added between one others) =
+      let on : IsOn (after_all s added) between = advanced p s w.intents w.refused added between fits h one in
+      subst (IsHeld g streams) (sym (after_all-append s added tail)) (held_grown on.fits on.held others)

@@ -1,0 +1,191 @@
+-- What each record makes of what stands.
+use Rattle.std.proofs.Common.{◌≡◌, ℕ, ◌+◌, ◌≤◌, List, [], ◌∷◌, length, refl, sym, ◌∙◌, ap, subst, arith, inl, inr, Bool, true, false}
+use Rattle.std.specs.Prelude.{Some, if◌then◌else◌, cond, find, not, ◌==◌}
+use Rattle.std.specs.List.{AllByRecursion}
+use Rattle.tape_base.specs.declared.geometries.Geometry.{Geometry}
+use Rattle.fragment_table.specs.Table.{TableRow, total_length}
+use Rattle.cache_model.specs.declared.record.Rec.{Rec}
+use Rattle.cache_model.specs.declared.record.Rec.TheVariants as rec
+use Rattle.cache_model.specs.State.{State, PutRow, ReaderRow, Open, Closed, GivenUp, change_reader, put_of, state_after, vector_piece, with_writing, without_reader}
+use Rattle.cache_model.specs.Legal.{IsQuiet, IsWriting}
+use Rattle.cache_model.proofs.Found.{none_is, number_of, same_some}
+use Rattle.cache_model.proofs.Rows.{part_all, part-filter}
+use Rattle.script_run.specs.Run.{Stream}
+use Rattle.script_run.specs.Own.{AreOwn, AreOwnPuts, IsOwnPut, IsOwnReader, IsOwnRow, IsTableOf}
+use Rattle.script_run.proofs.Carried.{AreAlike, Carries, GoesOn, own_alike, put_stays, puts_stay, readers_carried, rows_carried, same_carries}
+use Rattle.script_run.proofs.Changed.{Changes, Was, changed, changed_from, changed_to, either, found_as, other_stays}
+
+-- a put whose vector was placed last has cut all that its writer took
+abbrev pub IsPendingWhole : State → (ℕ → Stream) → Type 0
+IsPendingWhole s streams = (put : ℕ) (w : PutRow) → put_of s put ≡ Some w → s.pending ≡ Some (vector_piece w.key put) → total_length w.cuts ≡ length (streams w.put).bytes
+
+-- what holds before and behind each group of records
+pub record IsHeld (g : Geometry) (streams : ℕ → Stream) (s : State) : Type 0 where
+  pub geometry : s.geometry ≡ g
+  pub own : AreOwn s streams
+  pub displaced : s.displaced ≡ []
+  pub pending : IsPendingWhole s streams
+
+pub quiet_whole : (s : State) (streams : ℕ → Stream) → IsQuiet s → IsPendingWhole s streams
+quiet_whole s streams quiet put w found waits = none_is (sym quiet ∙ waits)
+
+-- ---- states alike
+
+pub held_alike : (g : Geometry) (streams : ℕ → Stream) (s t : State) → AreAlike s t → t.displaced ≡ [] → IsHeld g streams s → IsHeld g streams t
+held_alike g streams s t a none h = record {
+  geometry = a.geometry ∙ h.geometry;
+  own = own_alike s t streams a h.own;
+  displaced = none;
+  pending = λ put w found waits. h.pending put w (ap (find (λ (p : PutRow). p.put == put)) (sym a.puts) ∙ found) (sym a.pending ∙ waits);
+}
+
+-- readers that have gone on or were closed
+pub held_readers : (g : Geometry) (streams : ℕ → Stream) (s : State) (readers : List ReaderRow) (next : ℕ) → s.next_reader ≤ next
+    → (let t : State = record s { readers = readers; next_reader = next } in AllByRecursion (IsOwnReader t) readers)
+    → IsHeld g streams s → IsHeld g streams (record s { readers = readers; next_reader = next })
+held_readers g streams s readers next on each h =
+    let t : State = record s { readers = readers; next_reader = next } in
+    let c : Carries s t = same_carries s t refl refl refl in
+    record {
+      geometry = h.geometry;
+      own = record {
+        puts = puts_stay s t streams refl refl refl h.own.puts;
+        rows = rows_carried s t c streams s.rows h.own.rows;
+        readers = each;
+      };
+      displaced = h.displaced;
+      pending = h.pending;
+    }
+
+moved_by : (s : State) (r : ReaderRow) (next : ℕ) (b : Bool) → IsOwnReader s r → IsOwnReader s (if b then record r { next = next } else r)
+moved_by s r next true own = record { begun = own.begun; table = own.table }
+moved_by s r next false own = own
+
+readers_moved : (s : State) (reader next : ℕ) (readers : List ReaderRow) → AllByRecursion (IsOwnReader s) readers → AllByRecursion (IsOwnReader s) (change_reader reader next readers)
+readers_moved s reader next [] each = tt
+readers_moved s reader next (r ∷ readers) each = (moved_by s r next (r.reader == reader) each.0, readers_moved s reader next readers each.1)
+
+left_by : (s : State) (r : ReaderRow) (readers : List ReaderRow) (b : Bool) → IsOwnReader s r → AllByRecursion (IsOwnReader s) readers → AllByRecursion (IsOwnReader s) (cond b (r ∷ readers) readers)
+left_by s r readers true own each = (own, each)
+left_by s r readers false own each = each
+
+readers_left : (s : State) (reader : ℕ) (readers : List ReaderRow) → AllByRecursion (IsOwnReader s) readers → AllByRecursion (IsOwnReader s) (without_reader reader readers)
+readers_left s reader [] each = tt
+readers_left s reader (r ∷ readers) each = left_by s r (without_reader reader readers) (not (r.reader == reader)) each.0 (readers_left s reader readers each.1)
+
+-- the record changes no put, places nothing, opens nothing and commits nothing
+abbrev pub IsPlain : Rec → Type 0
+IsPlain (rec.Began cursor floor) = Unit {0}
+IsPlain (rec.Damaged piece place kept found) = Unit {0}
+IsPlain (rec.Removed put key) = Unit {0}
+IsPlain (rec.Gave reader index length) = Unit {0}
+IsPlain (rec.Ended reader length) = Unit {0}
+IsPlain (rec.Waited reader cut) = Unit {0}
+IsPlain (rec.Broke reader why) = Unit {0}
+IsPlain (rec.ReadClosed reader) = Unit {0}
+IsPlain (rec.Fault count) = Unit {0}
+IsPlain _ = ⊥
+
+alike_with : (s t : State) → t.geometry ≡ s.geometry → t.next_put ≡ s.next_put → t.puts ≡ s.puts → t.pending ≡ s.pending → Rattle.cache_model.proofs.Rows.ArePart t.rows s.rows → t.readers ≡ s.readers → t.next_reader ≡ s.next_reader → AreAlike s t
+alike_with s t g n p q r d m = record { geometry = g; next_put = n; puts = p; pending = q; rows = r; readers = d; next_reader = m }
+
+pub held_plain : (g : Geometry) (streams : ℕ → Stream) (s : State) (r : Rec) → IsPlain r → IsHeld g streams s → IsHeld g streams (state_after s r)
+held_plain g streams s (rec.Formatted geometry) p h = absurd p
+held_plain g streams s (rec.Began cursor floor) p h = held_alike g streams s _ (alike_with s _ refl refl refl refl (part_all s.rows) refl refl) h.displaced h
+held_plain g streams s (rec.Placed piece place blocks digest pin) p h = absurd p
+held_plain g streams s (rec.Displaced piece segment live) p h = absurd p
+held_plain g streams s (rec.Damaged piece place kept found) p h = held_alike g streams s _ (alike_with s _ refl refl refl refl (part-filter _ s.rows) refl refl) h.displaced h
+held_plain g streams s (rec.WriteOpened actor put key request response pin) p h = absurd p
+held_plain g streams s (rec.Cut put index length digest) p h = absurd p
+held_plain g streams s (rec.Committed put key length) p h = absurd p
+held_plain g streams s (rec.Aborted put key) p h = absurd p
+held_plain g streams s (rec.Removed put key) p h = held_alike g streams s _ (alike_with s _ refl refl refl refl (part-filter _ s.rows) refl refl) h.displaced h
+held_plain g streams s (rec.ReadOpened reader actor key request answer) p h = absurd p
+held_plain g streams s (rec.Gave reader index length) p h =
+    let t : State = state_after s (rec.Gave reader index length) in
+    held_readers g streams s (change_reader reader (index + 1) s.readers) s.next_reader (omega arith)
+    (readers_moved t reader (index + 1) s.readers (readers_carried s t (same_carries s t refl refl refl) (omega arith) s.readers h.own.readers)) h
+held_plain g streams s (rec.Ended reader length) p h = h
+held_plain g streams s (rec.Waited reader cut) p h = h
+held_plain g streams s (rec.Broke reader why) p h = h
+held_plain g streams s (rec.ReadClosed reader) p h =
+    let t : State = state_after s (rec.ReadClosed reader) in
+    held_readers g streams s (without_reader reader s.readers) s.next_reader (omega arith)
+    (readers_left t reader s.readers (readers_carried s t (same_carries s t refl refl refl) (omega arith) s.readers h.own.readers)) h
+held_plain g streams s (rec.Fault count) p h = held_alike g streams s _ (alike_with s _ refl refl refl refl (part_all s.rows) refl refl) h.displaced h
+
+-- ---- a put changes
+
+-- the put that is open is changed, and cuts nothing less
+pub record IsChange (s : State) (put : ℕ) (f : PutRow → PutRow) (w : PutRow) : Type 0 where
+  pub number : (p : PutRow) → (f p).put ≡ p.put
+  pub more : (p : PutRow) → length p.cuts ≤ length (f p).cuts
+  pub writing : IsWriting s put w
+
+with_puts : (s : State) (puts : List PutRow) → State
+with_puts s puts = record s { puts = puts }
+
+module _ (s t : State) (put : ℕ) (f : PutRow → PutRow) (w : PutRow) (ch : IsChange s put f w) (c : Changes s t put f) where
+  goes_on : (n : ℕ) (x : PutRow) → put_of s n ≡ Some x → GoesOn t n x
+  goes_on n x found = record {
+    now = changed put f x;
+    found = changed_to s t put f n x c found;
+    more = either (λ (y : PutRow). length x.cuts ≤ length y.cuts) put f x (λ e. ch.more x) (omega arith);
+  }
+
+  -- what is complete is another put
+  other_complete : (n : ℕ) (x : PutRow) → put_of s n ≡ Some x → x.writing ≡ Closed → x.put ≡ put → ⊥
+  other_complete n x found closed here =
+      let same : x ≡ w = same_some x w (put_of s put) (found_as s n put x found here) ch.writing.found in
+      let is_open : x.writing ≡ Open = ap (λ (p : PutRow). p.writing) same ∙ ch.writing.is_open in
+      cc
+
+  table_stays : (n : ℕ) (table : List TableRow) → IsTableOf s n table → IsTableOf t n table
+  table_stays n table h = elim h.complete [
+    | inl closed ↦ (
+        let stays : changed put f h.w ≡ h.w = other_stays put f h.w (other_complete n h.w h.found closed) in
+        record { w = h.w; found = changed_to s t put f n h.w c h.found ∙ ap Some stays; cuts = h.cuts; complete = inl closed })
+    | inr waits ↦ none_is (sym ch.writing.quiet ∙ waits)
+  ]
+
+  pub change_carries : t.geometry ≡ s.geometry → Carries s t
+  change_carries geometry = record { geometry = geometry; tables = table_stays; puts = goes_on }
+
+  pub change_puts : (streams : ℕ → Stream) → t.geometry ≡ s.geometry → s.next_put ≤ t.next_put → IsOwnPut t streams (f w) → AreOwnPuts s streams → AreOwnPuts t streams
+  change_puts streams geometry next new own n x found =
+      let was : Was (put_of s n) (changed put f) x = changed_from s t put f n x c found in
+      let old : IsOwnPut t streams was.old = put_stays s t streams was.old geometry next (own n was.old was.found) in
+      subst (IsOwnPut t streams) (sym was.is)
+      (either (IsOwnPut t streams) put f was.old
+      (λ here. subst (λ (p : PutRow). IsOwnPut t streams (f p)) (same_some w was.old (put_of s put) ch.writing.found (found_as s n put was.old was.found here)) new) old)
+
+  -- where nothing else is changed
+  pub change_own : (streams : ℕ → Stream) → t.geometry ≡ s.geometry → t.next_put ≡ s.next_put → t.rows ≡ s.rows → t.readers ≡ s.readers → t.next_reader ≡ s.next_reader
+      → IsOwnPut t streams (f w) → AreOwn s streams → AreOwn t streams
+  change_own streams geometry next rows readers next_reader new own =
+      let k : Carries s t = change_carries geometry in
+      record {
+        puts = change_puts streams geometry (omega (arith, next)) new own.puts;
+        rows = subst (AllByRecursion (IsOwnRow t streams)) (sym rows) (rows_carried s t k streams s.rows own.rows);
+        readers = subst (AllByRecursion (IsOwnReader t)) (sym readers) (readers_carried s t k (omega (arith, next_reader)) s.readers own.readers);
+      }
+
+-- an open put is given up
+pub held_aborted : (g : Geometry) (streams : ℕ → Stream) (s : State) (put : ℕ) (w : PutRow) → IsWriting s put w → IsHeld g streams s → IsHeld g streams (state_after s (rec.Aborted w.put w.key))
+held_aborted g streams s put w writing h =
+    let t : State = state_after s (rec.Aborted w.put w.key) in
+    let number : w.put ≡ put = number_of s put w writing.found in
+    let here : IsWriting s w.put w = subst (λ n. IsWriting s n w) (sym number) writing in
+    let p : IsOwnPut s streams w = h.own.puts put w writing.found in
+    let new : IsOwnPut t streams (with_writing GivenUp w) = record {
+      begun = p.begun;
+      cuts = p.cuts;
+      whole = λ closed. absurd cc;
+      full = λ is_open unsealed. absurd cc;
+    } in
+    record {
+      geometry = h.geometry;
+      own = change_own s t w.put (with_writing GivenUp) w (record { number = λ p. refl; more = λ p. omega arith; writing = here }) (record { puts = refl; keeps = λ p. refl }) streams refl refl refl refl refl new h.own;
+      displaced = h.displaced;
+      pending = quiet_whole t streams writing.quiet;
+    }

@@ -1,0 +1,15 @@
+pub mod Finding
+pub mod Changed
+pub mod Cuts
+pub mod Carried
+pub mod Reading
+pub mod Held
+pub mod Listed
+pub mod Opened
+pub mod Placed
+pub mod Grown
+pub mod Streams
+pub mod Fitting
+pub mod Ended
+pub mod Stepping
+pub mod OnlyReading

@@ -1,0 +1,97 @@
+-- What is read of a session's pieces is what was put.
+use Rattle.std.proofs.Common.{◌≡◌, ℕ, ◌+◌, ◌-◌, ◌*◌, ◌<◌, ◌≤◌, List, [], ◌∷◌, length, take, refl, sym, ◌∙◌, ap, subst, arith, inl, inr, ◌⊎◌, Bool, true, false, eqb-true}
+use Rattle.std.specs.Prelude.{min, Option, Some, None, if◌then◌else◌, option_and_then, slice_get, unwrap_or}
+use Rattle.std.proofs.Math.Nat.{mul-le-mul_left, mul_comm}
+use Rattle.std.proofs.lemmas.List.{take_all}
+use Rattle.tape_base.specs.declared.geometries.Geometry.{Geometry}
+use Rattle.tape_base.specs.declared.pieces.PieceId.{PieceId}
+use Rattle.tape_base.proofs.DigestLaw.{digests_tell_lem}
+use Rattle.doc_header.specs.Reading.{extent_of}
+use Rattle.doc_header.proofs.ReadingLaws.{payload_told}
+use Rattle.fragment_table.specs.Table.{TableRow, total_length}
+use Rattle.cache_model.specs.State.{State, Row, PutRow, ReaderRow, after_all, is_live, live_row_of, only_live, reader_of, row_of}
+use Rattle.cache_model.specs.Verdict.{next_piece, next_row}
+use Rattle.cache_model.specs.Permit.{Permit}
+use Rattle.cache_model.specs.Legal.{IsQuiet, format_records}
+use Rattle.cache_model.proofs.Found.{none_is, number_of}
+use Rattle.stripe_core.specs.Find.{IsDocumentOf}
+use Rattle.script_run.specs.Run.{Stream}
+use Rattle.script_run.specs.Own.{AreOwn, IsOtherFragment, IsOwnFragment, IsOwnPut, IsOwnReader, IsOwnRow, IsTableOf, IsTableOfHit, fragment_doc, fragment_document, piece_of}
+use Rattle.script_run.proofs.Cuts.{total_cuts}
+use Rattle.script_run.proofs.Finding.{found_reader, found_row, own_piece}
+
+pub formats_own : (s : State) (geometry : Geometry) (streams : ℕ → Stream) → AreOwn (after_all s (format_records geometry)) streams
+formats_own s geometry streams = record { puts = λ put w found. none_is found; rows = tt; readers = tt }
+
+-- ---- a fragment that was read
+
+live_by : (row first : Row) (b : Bool) → (if b then Some first else None) ≡ Some row → first ≡ row
+live_by row first true h = cc
+live_by row first false h = none_is h
+
+live_found : (s : State) (row : Row) (o : Option Row) → option_and_then (only_live s) o ≡ Some row → o ≡ Some row
+live_found s row None h = none_is h
+live_found s row (Some first) h = ap Some (live_by row first (is_live s first) h)
+
+record IsLiveRow (s : State) (streams : ℕ → Stream) (id : PieceId) (row : Row) : Type 0 where
+  own : IsOwnRow s streams row
+  piece : row.id ≡ id
+
+live_row : (s : State) (streams : ℕ → Stream) (id : PieceId) (row : Row) → AreOwn s streams → live_row_of s id ≡ Some row → IsLiveRow s streams id row
+live_row s streams id row own live =
+    let found : row_of s id ≡ Some row = live_found s row (row_of s id) live in
+    record { own = found_row (IsOwnRow s streams) id s.rows row own.rows found; piece = own_piece id s.rows row found }
+
+pub read_is_own : (p : Permit) (s : State) (streams : ℕ → Stream) (r : ReaderRow) (row : Row) (size : ℕ) (into : List ℕ) → AreOwn s streams → 0 < r.next
+    → live_row_of s (next_piece r) ≡ Some row → IsDocumentOf p s row size into
+    → (take size into ≡ piece_of s.geometry.fragment (streams r.put).bytes r.next) ⊎ IsOtherFragment p s streams
+read_is_own p s streams r row size into own some live d =
+    let l : IsLiveRow s streams (next_piece r) row = live_row s streams (next_piece r) row own live in
+    let index : row.id.index ≡ r.next = ap (λ (i : PieceId). i.index) l.piece in
+    let fragment : 0 < row.id.index = omega (arith, index, some) in
+    let f : IsOwnFragment s streams row = l.own.0 fragment in
+    let payload : List ℕ = piece_of s.geometry.fragment (streams row.id.put).bytes row.id.index in
+    let same_payload : payload ≡ piece_of s.geometry.fragment (streams r.put).bytes r.next =
+    ap (λ (i : PieceId). piece_of s.geometry.fragment (streams i.put).bytes i.index) l.piece in
+    elim (digests_tell_lem (take (extent_of d.bytes) d.bytes) (fragment_document s row payload) (sym d.digest ∙ f.digest)) [
+      | inl same ↦ inl (d.payload ∙ (payload_told d.bytes (fragment_doc s row) payload same ∙ same_payload))
+      | inr collide ↦ inr (record { row = row; bytes = d.bytes; live = subst (λ i. live_row_of s i ≡ Some row) (sym l.piece) live; fragment = fragment; given = d.given; collide = collide })
+    ]
+
+-- ---- all that a table lists
+
+some_is : {X Y : Type 0} {x : X} → Some x ≡ None → Y
+some_is h = cc
+
+past : (table : List TableRow) (i : ℕ) → slice_get table i ≡ None → length table ≤ i
+past [] i h = omega arith
+past (row ∷ rows) Rattle.std.proofs.Common.zero h = some_is h
+past (row ∷ rows) (Rattle.std.proofs.Common.suc i) h = let rest : length rows ≤ i = past rows i h in omega arith
+
+record IsWhole (s : State) (streams : ℕ → Stream) (put : ℕ) (table : List TableRow) : Type 0 where
+  total : length (streams put).bytes ≤ length table * s.geometry.fragment
+
+closed_by : (s : State) (streams : ℕ → Stream) (put : ℕ) (table : List TableRow) → IsQuiet s → AreOwn s streams → IsTableOf s put table → IsWhole s streams put table
+closed_by s streams put table quiet own t =
+    let w : PutRow = t.w in
+    let p : IsOwnPut s streams w = own.puts put w t.found in
+    let number : w.put ≡ put = number_of s put w t.found in
+    let whole : total_length w.cuts ≡ length (streams w.put).bytes = elim t.complete [ inl closed ↦ p.whole closed | inr pending ↦ none_is (sym quiet ∙ pending) ] in
+    let most : total_length w.cuts ≡ min (length w.cuts * s.geometry.fragment) (length (streams w.put).bytes) = total_cuts s.geometry.fragment (streams w.put).bytes w.cuts p.cuts in
+    let within : length (streams w.put).bytes ≤ length w.cuts * s.geometry.fragment = omega (arith, whole, most) in
+    record {
+      total = subst (λ n. length (streams n).bytes ≤ length table * s.geometry.fragment) number
+          (subst (λ (rows : List TableRow). length (streams w.put).bytes ≤ length rows * s.geometry.fragment) t.cuts within);
+    }
+
+pub all_is_given : (s : State) (streams : ℕ → Stream) (reader : ℕ) (r : ReaderRow) (table : List TableRow) → AreOwn s streams → IsQuiet s → 0 < r.next
+    → reader_of s reader ≡ Some r → r.table ≡ Some table → next_row s r ≡ None
+    → take ((r.next - 1) * s.geometry.fragment) (streams r.put).bytes ≡ (streams r.put).bytes
+all_is_given s streams reader r table own quiet some found hit none =
+    let o : IsOwnReader s r = found_reader (IsOwnReader s) reader s.readers r own.readers found in
+    let t : IsTableOf s r.put table = subst (IsTableOfHit s r) hit o.table in
+    let w : IsWhole s streams r.put table = closed_by s streams r.put table quiet own t in
+    let all : length table ≤ r.next - 1 = past table (r.next - 1) (subst (λ (o : Option (List TableRow)). slice_get (unwrap_or o (Rattle.cache_model.specs.Verdict.cuts_of s r.put)) (r.next - 1) ≡ None) hit none) in
+    let below : s.geometry.fragment * length table ≤ s.geometry.fragment * (r.next - 1) = mul-le-mul_left s.geometry.fragment all in
+    take_all ((r.next - 1) * s.geometry.fragment) (streams r.put).bytes
+    (omega (arith, w.total, below, mul_comm s.geometry.fragment (length table), mul_comm s.geometry.fragment (r.next - 1)))

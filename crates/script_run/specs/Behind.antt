@@ -1,0 +1,156 @@
+-- What a line makes of what stands between the lines.
+use Rattle.std.specs.Prelude.{ℕ, Bool, true, false, if◌then◌else◌, List, [], ◌∷◌, ◌++◌, length, take, Option, Some, None, is_some}
+use Rattle.tape_base.specs.declared.geometries.BadGeometry.{BadGeometry}
+use Rattle.tape_base.specs.Limits.{first_refusal}
+use Rattle.cache_model.specs.declared.record.Rec.{Rec}
+use Rattle.cache_model.specs.State.{State, after_all, nothing_yet, reader_of}
+use Rattle.cache_model.specs.Permit.{Reason, Exhausted, Faulted}
+use Rattle.cache_model.specs.Legal.{is_writing}
+use Rattle.script_lang.specs.declared.step.Step.{Step}
+use Rattle.script_lang.specs.declared.step.Step.TheVariants as step
+use Rattle.script_lang.specs.declared.line.LineAnswer.{LineAnswer}
+use Rattle.script_lang.specs.declared.line.LineAnswer.TheVariants as line
+use Rattle.script_lang.specs.Grammar.{reading_of}
+use Rattle.actor_table.specs.Table.{number_of, with_actor}
+use Rattle.script_run.specs.Run.{Run, Stream, Holding, Writes, Reads, no_stream, with_value, writer_of, held_by, actor_of}
+use Rattle.script_run.specs.Turn.{Turn}
+use Rattle.script_run.specs.Answers.{took_of}
+
+-- ---- streams
+
+abbrev pub Streams : Type 0
+Streams = ℕ → Stream
+
+abbrev pub with_bytes : Streams → ℕ → List ℕ → Streams
+with_bytes streams put bytes = with_value streams put (record { bytes = bytes; sealed = false })
+
+-- a writer that took so many of these bytes
+abbrev pub fed : Stream → List ℕ → ℕ → Stream
+fed stream body n = record { bytes = stream.bytes ++ take n body; sealed = stream.sealed }
+
+-- of a line that is not refused all bytes are taken
+abbrev pub taken_of : Run → State → List ℕ → Option Reason → ℕ → ℕ
+taken_of run t body None put = length body
+taken_of run t body (Some why) put = took_of run t put
+
+-- a sealed writer takes none
+abbrev pub streams_fed : Run → State → List ℕ → Option Reason → ℕ → Streams
+streams_fed run t body why put =
+    if (run.streams put).sealed then run.streams
+    else with_value run.streams put (fed (run.streams put) body (taken_of run t body why put))
+
+-- a writer that the device, or the end of the tape, kept from closing is sealed
+abbrev pub seals : Option Reason → Bool
+seals (Some Exhausted) = true
+seals (Some (Faulted count)) = true
+seals _ = false
+
+abbrev pub sealed_by : Option Reason → Stream → Stream
+sealed_by why stream = if seals why then record { bytes = stream.bytes; sealed = true } else stream
+
+abbrev pub streams_closed : Run → Option Reason → ℕ → Streams
+streams_closed run why put = with_value run.streams put (sealed_by why (run.streams put))
+
+-- with what a step gives to the actor's put, where it has one
+abbrev pub of_put : Run → Option ℕ → (ℕ → Streams) → Streams
+of_put run None f = run.streams
+of_put run (Some put) f = f put
+
+-- an actor opens a writer where it has nothing
+abbrev pub streams_opened : Run → State → Option Holding → Streams
+streams_opened run s None = with_value run.streams s.next_put no_stream
+streams_opened run s (Some holding) = run.streams
+
+abbrev pub streams_behind : Run → State → State → Turn → Step → Streams
+streams_behind run s t turn (step.Put key body request response) = with_bytes run.streams s.next_put body
+streams_behind run s t turn (step.OpenWrite actor key pin request response) = streams_opened run s (held_by run actor)
+streams_behind run s t turn (step.Feed actor body) = of_put run (writer_of run actor) (streams_fed run t body turn.refused)
+streams_behind run s t turn (step.Close actor) = of_put run (writer_of run actor) (streams_closed run turn.refused)
+streams_behind run s t turn _ = run.streams
+
+-- ---- what actors have
+
+-- an open writer
+abbrev pub writer_at : State → ℕ → Option Holding
+writer_at t put = if is_writing t put then Some (Writes put) else None
+
+-- an open reader
+abbrev pub reader_at : State → ℕ → Option Holding
+reader_at t reader = if is_some (reader_of t reader) then Some (Reads reader) else None
+
+-- what was held, where it is still open
+abbrev pub still_open : State → Option Holding → Option Holding
+still_open t None = None
+still_open t (Some (Writes put)) = writer_at t put
+still_open t (Some (Reads reader)) = reader_at t reader
+
+-- what an actor had, or else what it opened
+abbrev pub or_else : Option Holding → Option Holding → Option Holding
+or_else None opened = opened
+or_else (Some holding) opened = Some holding
+
+-- what the actor of a step has behind it
+abbrev pub holds_behind : Run → State → State → Step → List ℕ → Option Holding
+holds_behind run s t (step.OpenWrite actor key pin request response) name = or_else (held_by run name) (writer_at t s.next_put)
+holds_behind run s t (step.OpenRead actor key request) name = or_else (held_by run name) (reader_at t s.next_reader)
+holds_behind run s t _ name = still_open t (held_by run name)
+
+abbrev pub held_behind : Run → State → State → Step → Option (List ℕ) → ℕ → Option Holding
+held_behind run s t step None = run.held
+held_behind run s t step (Some name) = with_value run.held (number_of run.actors name) (holds_behind run s t step name)
+
+abbrev pub actors_behind : List (List ℕ) → Option (List ℕ) → List (List ℕ)
+actors_behind actors None = actors
+actors_behind actors (Some name) = with_actor actors name
+
+-- ---- steps
+
+abbrev pub fault_of : Option State → List ℕ
+fault_of None = []
+fault_of (Some s) = s.fault ∷ []
+
+-- the counts of all devices, once the last one is given back
+abbrev pub counts_of : Run → List ℕ
+counts_of run = run.ended ++ fault_of run.state
+
+-- a format ends the session before it, with its writers and readers, and attaches the device of its name
+abbrev pub formatted : Run → List ℕ → List Rec → Run
+formatted run name added = record {
+  state = Some (after_all nothing_yet added);
+  streams = λ put. no_stream;
+  actors = run.actors;
+  held = λ actor. None;
+  ended = counts_of run;
+  names = run.names ++ name ∷ [];
+}
+
+abbrev pub after_format : Run → List ℕ → List Rec → Option BadGeometry → Run
+after_format run name added (Some bad) = run
+after_format run name added None = formatted run name added
+
+abbrev pub in_session : Run → State → State → Turn → Step → Run
+in_session run s t turn step = record {
+  state = Some t;
+  streams = streams_behind run s t turn step;
+  actors = actors_behind run.actors (actor_of step);
+  held = held_behind run s t step (actor_of step);
+  ended = run.ended;
+  names = run.names;
+}
+
+abbrev pub behind : Run → Turn → Option State → Step → Run
+behind run turn state (step.Format name segments buckets content agg reach fragment generation) =
+    after_format run name turn.added (first_refusal segments buckets content agg reach fragment)
+behind run turn (Some s) step = in_session run s (after_all s turn.added) turn step
+behind run turn None step = run
+
+abbrev pub after_step : Run → Turn → Step → Run
+after_step run turn step = behind run turn run.state step
+
+abbrev pub after_reading : Run → Turn → LineAnswer → Run
+after_reading run turn (line.Step s) = after_step run turn s
+after_reading run turn line.Nothing = run
+after_reading run turn (line.Bad fault) = run
+
+abbrev pub after_line : Run → Turn → List ℕ → Run
+after_line run turn bytes = after_reading run turn (reading_of bytes)

@@ -1,0 +1,54 @@
+-- The bytes that lines give are those that were put.
+use Rattle.std.specs.Prelude.{ℕ, ◌≡◌, ◌-◌, ◌*◌, ◌<◌, ◌⊎◌, List, take, Some, None, Bool, true, false}
+use Rattle.tape_base.specs.declared.geometries.Geometry.{Geometry}
+use Rattle.fragment_table.specs.Table.{TableRow}
+use Rattle.cache_model.specs.State.{State, Row, ReaderRow, after_all, live_row_of, reader_of}
+use Rattle.cache_model.specs.Verdict.{next_piece, next_row}
+use Rattle.cache_model.specs.declared.record.Rec.{Rec}
+use Rattle.cache_model.specs.Permit.{End, Intent, Look, Permit, ReadAll, ReadOn, StopReading}
+use Rattle.cache_model.specs.Legal.{Does, IsQuiet, IsStep, format_records}
+use Rattle.cache_model.specs.Vectors.{AreTold}
+use Rattle.stripe_core.specs.Find.{IsDocumentOf}
+use Rattle.script_lang.specs.declared.step.Step.{Step}
+use Rattle.script_run.specs.Run.{Run, Stream}
+use Rattle.script_run.specs.Asked.{asked}
+use Rattle.script_run.specs.Turn.{Turn}
+use Rattle.script_run.specs.Behind.{streams_behind}
+use Rattle.script_run.specs.Own.{AreOwn, AreWriting, IsOtherFragment, piece_of}
+
+-- behind a format nothing was put
+abbrev pub FormatsOwn : Type 0
+FormatsOwn = (s : State) (geometry : Geometry) (streams : ℕ → Stream) → AreOwn (after_all s (format_records geometry)) streams
+
+-- what stands belongs to what writers took, behind each line as before it, where each put that an actor
+-- writes is open before it
+abbrev pub StepsOwn : Type 0
+StepsOwn = (run : Run) (s : State) (turn : Turn) (step : Step) → AreTold s → IsQuiet s → AreOwn s run.streams → AreWriting run s
+    → IsStep turn.device s (asked run s step) turn.added turn.refused
+    → AreOwn (after_all s turn.added) (streams_behind run s (after_all s turn.added) turn step)
+
+-- the payload of a fragment that was read is that part of what the writer of its put took, or two
+-- documents of one SHA-256 are shown
+abbrev pub ReadIsOwn : Type 0
+ReadIsOwn = (p : Permit) (s : State) (streams : ℕ → Stream) (r : ReaderRow) (row : Row) (size : ℕ) (into : List ℕ) → AreOwn s streams → 0 < r.next
+    → live_row_of s (next_piece r) ≡ Some row → IsDocumentOf p s row size into
+    → (take size into ≡ piece_of s.geometry.fragment (streams r.put).bytes r.next) ⊎ IsOtherFragment p s streams
+
+-- a reader that hit something and was given all that its table lists was given all that was put
+abbrev pub AllIsGiven : Type 0
+AllIsGiven = (s : State) (streams : ℕ → Stream) (reader : ℕ) (r : ReaderRow) (table : List TableRow) → AreOwn s streams → IsQuiet s → 0 < r.next
+    → reader_of s reader ≡ Some r → r.table ≡ Some table → next_row s r ≡ None
+    → take ((r.next - 1) * s.geometry.fragment) (streams r.put).bytes ≡ (streams r.put).bytes
+
+-- what only reads
+abbrev pub is_reading : Intent → Bool
+is_reading (Look actor key request) = true
+is_reading (ReadOn reader) = true
+is_reading (ReadAll reader) = true
+is_reading (StopReading reader) = true
+is_reading _ = false
+
+-- what stands belongs to what writers took, behind each group of records that only reads as before it
+abbrev pub ReadsOwn : Type 0
+ReadsOwn = (p : Permit) (s : State) (streams : ℕ → Stream) (i : Intent) (added : List Rec) (e : End) → is_reading i ≡ true → AreOwn s streams
+    → Does p s i added e → AreOwn (after_all s added) streams

@@ -1,0 +1,109 @@
+-- What the pieces, the puts, the vectors and the readers of a session have to do with the bytes that
+-- its writers took.
+use Rattle.std.specs.Prelude.{ℕ, zero, suc, ◌≡◌, ◌-◌, ◌*◌, ◌<◌, ◌≤◌, ◌⊎◌, ◌++◌, ◌+◌, false, true, List, [], ◌∷◌, length, take, drop, Option, Some, None}
+use Rattle.std.specs.List.{AllByRecursion}
+use Rattle.tape_base.specs.Digest.{Collide, digest_of}
+use Rattle.doc_header.specs.declared.documents.Doc.{Doc}
+use Rattle.doc_header.specs.Document.{digest_of_document, header_bytes}
+use Rattle.doc_header.specs.Reading.{extent_of}
+use Rattle.fragment_table.specs.Table.{TableRow, made_row, total_length}
+use Rattle.alternate_vector.specs.Alternates.{Stored}
+use Rattle.cache_model.specs.State.{State, Row, PutRow, ReaderRow, Open, Closed, live_row_of, put_of, vector_piece}
+use Rattle.cache_model.specs.Permit.{Permit}
+use Rattle.cache_model.specs.Legal.{IsGiven, IsWritten, is_writing}
+use Rattle.script_run.specs.Run.{Run, Stream, writer_of}
+
+-- the fragment of this index, from 1, of a body that is cut into fragments of so many bytes
+abbrev pub piece_of : ℕ → List ℕ → ℕ → List ℕ
+piece_of fragment body index = take fragment (drop ((index - 1) * fragment) body)
+
+-- the rows of the first fragments of a body, so many from this index on
+abbrev pub rows_from : ℕ → List ℕ → ℕ → ℕ → List TableRow
+rows_from fragment body index zero = []
+rows_from fragment body index (suc count) =
+    made_row (length (piece_of fragment body index)) (digest_of (piece_of fragment body index)).0 ∷ rows_from fragment body (index + 1) count
+
+-- what a put has cut are the first fragments of what its writer took, none of them empty
+pub record AreCuts (fragment : ℕ) (body : List ℕ) (cuts : List TableRow) : Type 0 where
+  pub rows : cuts ≡ rows_from fragment body 1 (length cuts)
+  pub within : total_length cuts ≤ length body
+  pub none_empty : (index : ℕ) → 0 < index → index ≤ length cuts → 0 < length (piece_of fragment body index)
+
+-- a put has begun, where it is complete it has cut all of that, and where it may be fed it has cut
+-- whole fragments alone
+pub record IsOwnPut (s : State) (streams : ℕ → Stream) (w : PutRow) : Type 0 where
+  pub begun : w.put < s.next_put
+  pub cuts : AreCuts s.geometry.fragment (streams w.put).bytes w.cuts
+  pub whole : w.writing ≡ Closed → total_length w.cuts ≡ length (streams w.put).bytes
+  pub full : w.writing ≡ Open → (streams w.put).sealed ≡ false → total_length w.cuts ≡ length w.cuts * s.geometry.fragment
+
+-- each put by its number
+abbrev pub AreOwnPuts : State → (ℕ → Stream) → Type 0
+AreOwnPuts s streams = (put : ℕ) (w : PutRow) → put_of s put ≡ Some w → IsOwnPut s streams w
+
+-- the document as which a fragment was placed
+abbrev pub fragment_doc : State → Row → Doc
+fragment_doc s row = record { id = row.id; place = row.place; generation = s.geometry.generation; pin = row.pin; start = (row.id.index - 1) * s.geometry.fragment }
+
+-- a fragment stands as the document of that part of what its writer took
+pub record IsOwnFragment (s : State) (streams : ℕ → Stream) (row : Row) : Type 0 where
+  pub w : PutRow
+  pub found : put_of s row.id.put ≡ Some w
+  pub cut : row.id.index ≤ length w.cuts
+  pub digest : row.digest ≡ digest_of_document (fragment_doc s row) (piece_of s.geometry.fragment (streams row.id.put).bytes row.id.index)
+
+-- a table is that of all that a complete put has cut, or of one whose vector was placed last
+pub record IsTableOf (s : State) (put : ℕ) (table : List TableRow) : Type 0 where
+  pub w : PutRow
+  pub found : put_of s put ≡ Some w
+  pub cuts : w.cuts ≡ table
+  pub complete : (w.writing ≡ Closed) ⊎ (s.pending ≡ Some (vector_piece w.key put))
+
+abbrev pub IsListedOf : State → Stored → Type 0
+IsListedOf s a = IsTableOf s a.put a.table
+
+abbrev pub AreListedOf : State → Option (List Stored) → Type 0
+AreListedOf s None = Unit {0}
+AreListedOf s (Some list) = AllByRecursion (IsListedOf s) list
+
+-- each alternate that a vector lists is that of a complete put
+abbrev pub AreAlternates : State → Row → Type 0
+AreAlternates s row = AreListedOf s row.alternates
+
+-- a fragment, or a vector
+abbrev pub IsOwnRow : State → (ℕ → Stream) → Row → Type 0
+IsOwnRow s streams row = (0 < row.id.index → IsOwnFragment s streams row) × AreAlternates s row
+
+abbrev pub IsTableOfHit : State → ReaderRow → Option (List TableRow) → Type 0
+IsTableOfHit s r None = Unit {0}
+IsTableOfHit s r (Some table) = IsTableOf s r.put table
+
+-- a reader has begun, and where it hit something it has the table of a complete put
+pub record IsOwnReader (s : State) (r : ReaderRow) : Type 0 where
+  pub begun : r.reader < s.next_reader
+  pub table : IsTableOfHit s r r.table
+
+pub record AreOwn (s : State) (streams : ℕ → Stream) : Type 0 where
+  pub puts : AreOwnPuts s streams
+  pub rows : AllByRecursion (IsOwnRow s streams) s.rows
+  pub readers : AllByRecursion (IsOwnReader s) s.readers
+
+-- each put that an actor writes is open
+abbrev pub AreWriting : Run → State → Type 0
+AreWriting run s = (name : List ℕ) (put : ℕ) → writer_of run name ≡ Some put → is_writing s put ≡ true
+
+-- ---- what is shown where SHA-256 fails
+
+-- the bytes of the document as which a fragment was placed, up to the end of its payload
+abbrev pub fragment_document : State → Row → List ℕ → List ℕ
+fragment_document s row payload = header_bytes (fragment_doc s row) payload ++ payload
+
+-- the document as which a live fragment was placed, and other bytes that were read for it, have one
+-- SHA-256
+pub record IsOtherFragment (p : Permit) (s : State) (streams : ℕ → Stream) : Type 0 where
+  pub row : Row
+  pub bytes : List ℕ
+  pub live : live_row_of s row.id ≡ Some row
+  pub fragment : 0 < row.id.index
+  pub given : IsWritten s row → IsGiven p s row bytes
+  pub collide : Collide (take (extent_of bytes) bytes) (fragment_document s row (piece_of s.geometry.fragment (streams row.id.put).bytes row.id.index))

@@ -1,0 +1,79 @@
+-- What stands between two lines of a script.
+use Rattle.std.specs.Prelude.{ℕ, ◌==◌, Bool, false, if◌then◌else◌, List, [], drop, Option, Some, None, option_and_then}
+use Rattle.actor_table.specs.Table.{number_of}
+use Rattle.script_lang.specs.declared.step.Step.{Step}
+use Rattle.script_lang.specs.declared.step.Step.TheVariants as step
+use Rattle.fragment_table.specs.Table.{total_length}
+use Rattle.cache_model.specs.State.{State}
+use Rattle.cache_model.specs.Verdict.{cuts_of}
+
+-- what an actor has: the writer of a put, or a reader
+pub data Holding : Type 0 where
+  Writes : (put : ℕ) → Holding
+  Reads : (reader : ℕ) → Holding
+
+-- what the writer of a put took; a sealed one takes no more
+pub record Stream : Type 0 where
+  pub bytes : List ℕ
+  pub sealed : Bool
+
+pub record Run : Type 0 where
+  -- what the records of the session stand for, where there is a session
+  pub state : Option State
+  -- of each put of the session, what its writer took
+  pub streams : ℕ → Stream
+  -- the actors, in the order of their first steps
+  pub actors : List (List ℕ)
+  -- what each actor has, by its number
+  pub held : ℕ → Option Holding
+  -- of each device that was given back, its count at the last fault that was told
+  pub ended : List ℕ
+  -- the name of each device that was attached
+  pub names : List (List ℕ)
+
+abbrev pub no_stream : Stream
+no_stream = record { bytes = []; sealed = false }
+
+abbrev pub fresh : Run
+fresh = record { state = None; streams = λ put. no_stream; actors = []; held = λ actor. None; ended = []; names = [] }
+
+-- a function with another value at one number
+abbrev pub with_value : {X : Type 0} → (ℕ → X) → ℕ → X → ℕ → X
+with_value f n x m = if m == n then x else f m
+
+-- ---- actors
+
+-- the name of the actor of a step
+abbrev pub actor_of : Step → Option (List ℕ)
+actor_of (step.OpenWrite actor object pin request response) = Some actor
+actor_of (step.Feed actor body) = Some actor
+actor_of (step.Close actor) = Some actor
+actor_of (step.Abort actor) = Some actor
+actor_of (step.OpenRead actor object request) = Some actor
+actor_of (step.Next actor) = Some actor
+actor_of (step.Done actor) = Some actor
+actor_of _ = None
+
+-- ---- what an actor has
+
+abbrev pub held_by : Run → List ℕ → Option Holding
+held_by run name = run.held (number_of run.actors name)
+
+abbrev pub put_in : Holding → Option ℕ
+put_in (Writes put) = Some put
+put_in (Reads reader) = None
+
+abbrev pub reader_in : Holding → Option ℕ
+reader_in (Writes put) = None
+reader_in (Reads reader) = Some reader
+
+-- the put that an actor writes, and the reader with which it reads
+abbrev pub writer_of : Run → List ℕ → Option ℕ
+writer_of run name = option_and_then put_in (held_by run name)
+
+abbrev pub reader_by : Run → List ℕ → Option ℕ
+reader_by run name = option_and_then reader_in (held_by run name)
+
+-- the bytes of a put that are in no fragment yet
+abbrev pub gathered_of : Run → State → ℕ → List ℕ
+gathered_of run s put = drop (total_length (cuts_of s put)) (run.streams put).bytes

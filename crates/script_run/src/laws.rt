@@ -1,0 +1,34 @@
+// Laws of the bytes that lines give. These functions do nothing when they run.
+ghost use Rattle.script_run.specs.Laws.{AllIsGiven, FormatsOwn, ReadIsOwn, ReadsOwn, StepsOwn};
+
+use cache_model::writer_is_ended;
+
+/// Behind a format nothing was put.
+pub fn formats_own()
+    ensures { FormatsOwn }
+{}
+
+/// What stands belongs to what writers took, behind each line as before it, where each put that an actor
+/// writes is open before it.
+pub fn steps_own()
+    ensures { StepsOwn }
+{
+    // A whole put leaves no open put.
+    writer_is_ended();
+}
+
+/// The payload of a fragment that was read is that part of what the writer of its put took, or two
+/// documents of one SHA-256 are shown.
+pub fn read_is_own()
+    ensures { ReadIsOwn }
+{}
+
+/// A reader that hit something and was given all that its table lists was given all that was put.
+pub fn all_is_given()
+    ensures { AllIsGiven }
+{}
+
+/// And so it does behind each group of records that only reads.
+pub fn reads_own()
+    ensures { ReadsOwn }
+{}

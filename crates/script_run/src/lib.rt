@@ -1,0 +1,7 @@
+//! What the lines of a script do to a cache and answer: definitions over the records of its sessions,
+//! and their laws.
+#![tactic(auto)]
+
+mod laws;
+
+pub use laws::{all_is_given, formats_own, read_is_own, reads_own, steps_own};
