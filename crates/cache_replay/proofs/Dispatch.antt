@@ -1,0 +1,121 @@
+-- Lines on a session leave the bay as it is.
+use Rattle.std.proofs.Common.{◌≡◌, ℕ, List, [], refl, sym, ◌∙◌, subst, inl, inr}
+use Rattle.std.specs.Prelude.{IfErr, IfOk, OnErr, Option, Some, None, Result, Ok, Err}
+use Rattle.std.proofs.lemmas.List.{append-nil}
+use Rattle.ats_disk.specs.declared.device.Disk.{Ghosts as DiskGhosts}
+use Rattle.dir_table.specs.declared.directory.Directory.{Ghosts as DirectoryGhosts}
+use Rattle.cache_chronicle.specs.declared.chronicle.Chronicle.{Ghosts as ChronicleGhosts}
+use Rattle.cache_model.specs.State.{State}
+use Rattle.script_lang.specs.declared.step.Step.{Step}
+use Rattle.script_lang.specs.declared.step.Step.TheVariants as step
+use Rattle.script_lang.specs.declared.answer.StepAnswer.{StepAnswer}
+use Rattle.script_run.specs.Run.{Run}
+use Rattle.script_run.specs.Turn.{Turn}
+use Rattle.script_run.specs.Behind.{behind}
+use Rattle.cache_replay.specs.declared.session.Session.{Session}
+use Rattle.cache_replay.specs.declared.stop.Stop.{Stop}
+use Rattle.cache_replay.specs.declared.stop.Stop.TheVariants.{NoCache, BayFault, Memory}
+use Rattle.cache_replay.specs.Plays.{Deals, DeviceEnds, DeviceMoves, HasReached, IsLeft, Ledger, Plays, StepEnds, StepMoves, stays}
+use Rattle.cache_replay.specs.Stop.{IsSessionStop, NeedsSession, StopsStep}
+
+-- what a run says of devices
+pub record SameDevices (run new : Run) : Type 0 where
+  pub ended : new.ended ≡ run.ended
+  pub names : new.names ≡ run.names
+
+same : (run : Run) → SameDevices run run
+same run = record { ended = refl; names = refl }
+
+-- a line on a session, where there is one, says nothing new of them
+pub same_devices : (run : Run) (turn : Turn) (state : Option State) (step : Step) → NeedsSession step → SameDevices run (behind run turn state step)
+same_devices run turn state (step.Format name segments buckets content agg reach fragment generation) needs = absurd needs
+same_devices run turn (Some s) (step.Put key body request response) needs = record { ended = refl; names = refl }
+same_devices run turn None (step.Put key body request response) needs = same run
+same_devices run turn (Some s) (step.Get key request) needs = record { ended = refl; names = refl }
+same_devices run turn None (step.Get key request) needs = same run
+same_devices run turn (Some s) (step.OpenWrite actor key pin request response) needs = record { ended = refl; names = refl }
+same_devices run turn None (step.OpenWrite actor key pin request response) needs = same run
+same_devices run turn (Some s) (step.Feed actor body) needs = record { ended = refl; names = refl }
+same_devices run turn None (step.Feed actor body) needs = same run
+same_devices run turn (Some s) (step.Close actor) needs = record { ended = refl; names = refl }
+same_devices run turn None (step.Close actor) needs = same run
+same_devices run turn (Some s) (step.Abort actor) needs = record { ended = refl; names = refl }
+same_devices run turn None (step.Abort actor) needs = same run
+same_devices run turn (Some s) (step.OpenRead actor key request) needs = record { ended = refl; names = refl }
+same_devices run turn None (step.OpenRead actor key request) needs = same run
+same_devices run turn (Some s) (step.Next actor) needs = record { ended = refl; names = refl }
+same_devices run turn None (step.Next actor) needs = same run
+same_devices run turn (Some s) (step.Done actor) needs = record { ended = refl; names = refl }
+same_devices run turn None (step.Done actor) needs = same run
+same_devices run turn (Some s) (step.Remove key) needs = record { ended = refl; names = refl }
+same_devices run turn None (step.Remove key) needs = same run
+same_devices run turn (Some s) step.Flush needs = record { ended = refl; names = refl }
+same_devices run turn None step.Flush needs = same run
+
+-- so no device comes back and none is attached
+pub no_deals : (ledger : Ledger) → Deals ledger ledger [] []
+no_deals ledger = record {
+  back = record { devices = []; returned = sym (append-nil ledger.returned); reached = tt };
+  attached = sym (append-nil ledger.names);
+}
+
+module _ {D R C : Type 0} (disk : DiskGhosts D) (directory : DirectoryGhosts R) (chronicle : ChronicleGhosts C) where
+  moves : (run : Run) (step : Step) (new : Session D R C) (said : StepAnswer) (ledger : Ledger) → NeedsSession step → StepMoves disk directory chronicle run step new said
+      → DeviceMoves disk directory chronicle run step new said ledger ledger
+  moves run step new said ledger needs m =
+      let devices = same_devices run m.turn run.state step needs in
+      record {
+        moves = m;
+        counts = [];
+        ended = devices.ended ∙ sym (append-nil run.ended);
+        names = [];
+        named = devices.names ∙ sym (append-nil run.names);
+        deals = no_deals ledger;
+      }
+
+  pub ends : (run : Run) (step : Step) (new : Session D R C) (said : StepAnswer) (before now : Ledger) → now ≡ before → NeedsSession step → StepEnds disk directory chronicle run step new said
+      → DeviceEnds disk directory chronicle run step new said before now
+  ends run step new said before now is needs (inl m) = inl (subst (λ n. DeviceMoves disk directory chronicle run step new said before n) (sym is) (moves run step new said before needs m))
+  ends run step new said before now is needs (inr shows) = inr shows
+
+-- why a line on a session ends the run
+pub stops : (run : Run) (step : Step) (before now : ℕ) (why : Stop) → NeedsSession step → IsSessionStop run why → StopsStep run step before now why
+stops run step before now NoCache needs is = (needs, is)
+stops run step before now BayFault needs is = absurd is
+stops run step before now Memory needs is = tt
+
+-- what is no format works on a session
+pub needs_session : (s : Step) → ((name : List ℕ) (segments buckets content agg reach fragment generation : ℕ) → s ≡ step.Format name segments buckets content agg reach fragment generation → ⊥) → NeedsSession s
+needs_session (step.Format name segments buckets content agg reach fragment generation) h = absurd (h name segments buckets content agg reach fragment generation refl)
+needs_session (step.Put key body request response) h = tt
+needs_session (step.Get key request) h = tt
+needs_session (step.OpenWrite actor key pin request response) h = tt
+needs_session (step.Feed actor body) h = tt
+needs_session (step.Close actor) h = tt
+needs_session (step.Abort actor) h = tt
+needs_session (step.OpenRead actor key request) h = tt
+needs_session (step.Next actor) h = tt
+needs_session (step.Done actor) h = tt
+needs_session (step.Remove key) h = tt
+needs_session step.Flush h = tt
+
+-- ---- whatever a line answers
+
+module _ {D R C : Type 0} (disk : DiskGhosts D) (directory : DirectoryGhosts R) (chronicle : ChronicleGhosts C) where
+  pub all_ends : (result : Result StepAnswer Stop) (s : Step) (old new : Session D R C) (ledger : Ledger) → NeedsSession s
+      → IfOk result (λ said. (run : Run) → Plays disk directory chronicle run old → StepEnds disk directory chronicle run s new said)
+      → IfOk result (λ said. (run : Run) → Plays disk directory chronicle run old → DeviceEnds disk directory chronicle run s new said ledger ledger)
+  all_ends (Ok said) s old new ledger needs h = λ run plays. ends disk directory chronicle run s new said ledger ledger refl needs (h run plays)
+  all_ends (Err why) s old new ledger needs h = tt
+
+  pub all_left : (result : Result StepAnswer Stop) (old new : Session D R C) (ledger : Ledger)
+      → OnErr result ((run : Run) → Plays disk directory chronicle run old → HasReached disk directory chronicle run new)
+      → IfErr result (λ why. (run : Run) → Plays disk directory chronicle run old → IsLeft disk directory chronicle run new ledger ledger why)
+  all_left (Ok said) old new ledger h = tt
+  all_left (Err why) old new ledger h = λ run plays. stays (h run plays) refl
+
+  pub all_stops : (result : Result StepAnswer Stop) (s : Step) (old : Session D R C) (before now : ℕ) → NeedsSession s
+      → IfErr result (λ why. (run : Run) → Plays disk directory chronicle run old → IsSessionStop run why)
+      → IfErr result (λ why. (run : Run) → Plays disk directory chronicle run old → StopsStep run s before now why)
+  all_stops (Ok said) s old before now needs h = tt
+  all_stops (Err why) s old before now needs h = λ run plays. stops run s before now why needs (h run plays)

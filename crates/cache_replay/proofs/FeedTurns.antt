@@ -1,0 +1,136 @@
+-- A writer that is fed, between two writes.
+use Rattle.std.proofs.Common.{◌≡◌, ℕ, ◌+◌, ◌<◌, ◌≤◌, List, sym, subst, arith, true, length, drop, take, ◌-◌, Err}
+use Rattle.std.specs.Prelude.{Option, Some, None}
+use Rattle.std.proofs.lemmas.List.{drop-drop, length-drop, take_all}
+use Rattle.ats_disk.specs.declared.device.Disk.{Ghosts as DiskGhosts}
+use Rattle.dir_table.specs.declared.directory.Directory.{Ghosts as DirectoryGhosts}
+use Rattle.cache_chronicle.specs.declared.chronicle.Chronicle.{Ghosts as ChronicleGhosts}
+use Rattle.cache_model.specs.Kept.{Kept, with_records}
+use Rattle.cache_model.specs.Legal.{IsQuiet, is_writing}
+use Rattle.stripe_core.specs.declared.stripe.Stripe.{Stripe}
+use Rattle.stripe_core.specs.declared.refusal.Refusal.{Refusal}
+use Rattle.stripe_core.specs.Stripe.{IsStripe, kept_in, seen_in, state_in}
+use Rattle.stripe_write.specs.declared.writer.Writer.{Writer}
+use Rattle.stripe_write.specs.Writers.{IsWriterOf}
+use Rattle.stripe_write.specs.Writes.{SameWriter, WritesAsAsked, WritesWhere, write_adds}
+use Rattle.cache_replay.proofs.FeedRounds.{Cuts, Wrote, cut_or_all, cuts, few, within}
+use Rattle.cache_replay.proofs.FeedEnds.{Ends, then_ends}
+use Rattle.cache_replay.proofs.FeedWhole.{last_ends}
+use Rattle.cache_replay.proofs.FeedRefused.{refused_ends}
+
+-- however it ends with what is left, so it ends with all
+abbrev pub Onward : (before mid : ℕ) (old now : Kept) (w v : Writer) (bytes : List ℕ) (taken : ℕ) → Type 0
+Onward before mid old now w v bytes taken =
+    (after : ℕ) (new : Kept) (end : Writer) (more : ℕ) (why : Option Refusal) → mid ≤ after
+    → Ends mid after now new v end (drop taken bytes) more why → Ends before after old new w end bytes (taken + more) why
+
+pub record Turned {D R C : Type 0} (disk : DiskGhosts D) (directory : DirectoryGhosts R) (chronicle : ChronicleGhosts C) (first now : Stripe D R C) (w v : Writer) (bytes : List ℕ) (taken : ℕ) : Type 0 where
+  pub stripe : IsStripe disk directory chronicle now
+  pub quiet : IsQuiet (state_in chronicle now)
+  pub writer : IsWriterOf (state_in chronicle now) v
+  pub writing : is_writing (state_in chronicle now) v.put ≡ true
+  pub within : taken ≤ length bytes
+  pub later : (seen_in disk directory first).device.faults ≤ (seen_in disk directory now).device.faults
+  pub onward : Onward (seen_in disk directory first).device.faults (seen_in disk directory now).device.faults (kept_in chronicle first) (kept_in chronicle now) w v bytes taken
+
+pub none_yet : (before : ℕ) (old : Kept) (w : Writer) (bytes : List ℕ) → Onward before before old old w w bytes 0
+none_yet before old w bytes = λ after new end more why later ends. subst (λ m. Ends before after old new w end bytes m why) (sym (zero_more more)) ends
+  where
+    zero_more : (k : ℕ) → 0 + k ≡ k
+    zero_more k = omega arith
+
+-- a write that left bytes over
+pub one_more : (before mid next : ℕ) (old now then_ : Kept) (w v u : Writer) (bytes : List ℕ) (taken n : ℕ) → mid ≤ next → n < length (drop taken bytes)
+    → Wrote mid next now then_ v u (drop taken bytes) n → Onward before mid old now w v bytes taken → Onward before next old then_ w u bytes (taken + n)
+one_more before mid next old now then_ w v u bytes taken n later left h onward = λ after new end more why le ends.
+    let cut = cut_or_all mid next now then_ v u (drop taken bytes) n h left in
+    let rest : Ends next after then_ new u end (drop n (drop taken bytes)) more why =
+    subst (λ xs. Ends next after then_ new u end xs more why) (sym (drop-drop n taken bytes)) ends in
+    subst (λ m. Ends before after old new w end bytes m why) (sum taken n more)
+    (onward after new end (n + more) why (omega (arith, later, le))
+    (then_ends mid next after now then_ new v u end (drop taken bytes) n h (cuts mid next now then_ v u (drop taken bytes) n h cut) cut later le more why rest))
+  where
+    sum : (a b c : ℕ) → a + (b + c) ≡ (a + b) + c
+    sum a b c = omega arith
+
+-- ---- a stripe between two writes
+
+module _ {D R C : Type 0} (disk : DiskGhosts D) (directory : DirectoryGhosts R) (chronicle : ChronicleGhosts C) (first now next : Stripe D R C) (w v u : Writer) (bytes : List ℕ) (taken : ℕ)
+    (turned : Turned disk directory chronicle first now w v bytes taken) where
+  abbrev before : ℕ
+  before = (seen_in disk directory first).device.faults
+
+  abbrev mid : ℕ
+  mid = (seen_in disk directory now).device.faults
+
+  abbrev after : ℕ
+  after = (seen_in disk directory next).device.faults
+
+  abbrev left : List ℕ
+  left = drop taken bytes
+
+  abbrev Writes : ℕ → Type 0
+  Writes n = Wrote mid after (kept_in chronicle now) (kept_in chronicle next) v u left n
+
+  -- what is left, as the code names it
+  abbrev part : List ℕ
+  part = take (length bytes - taken) (drop taken bytes)
+
+  part_is : part ≡ left
+  part_is = let cut : length left ≡ length bytes - taken = length-drop taken bytes in take_all (length bytes - taken) left (omega (arith, cut))
+
+  pub wrote : (n : ℕ) → Wrote mid after (kept_in chronicle now) (kept_in chronicle next) v u part n → Writes n
+  wrote n h = subst (λ xs. Wrote mid after (kept_in chronicle now) (kept_in chronicle next) v u xs n) part_is h
+
+  left_size : length left + taken ≡ length bytes
+  left_size = let cut : length left ≡ length bytes - taken = length-drop taken bytes in let in_time : taken ≤ length bytes = turned.within in omega (arith, cut, in_time)
+
+  -- what a write takes is no more than what is left, and something where it leaves some
+  pub bounds : (n : ℕ) → Writes n → taken + n ≤ length bytes
+  bounds n h = let most : n ≤ length left = (within mid after (kept_in chronicle now) (kept_in chronicle next) v u left n h).0 in omega (arith, most, left_size)
+
+  leaves_some : (n : ℕ) → Writes n → (taken + n ≡ length bytes → ⊥) → n < length left
+  leaves_some n h other = below n taken (length bytes) (length left) (bounds n h) other left_size
+    where
+      below : (k m b c : ℕ) → m + k ≤ b → (m + k ≡ b → ⊥) → c + m ≡ b → k < c
+      below k m b c le ne sum = omega (arith, le, ne, sum)
+
+  pub some_taken : (n : ℕ) → Writes n → (taken + n ≡ length bytes → ⊥) → 0 < n
+  some_taken n h other =
+      let cut = cut_or_all mid after (kept_in chronicle now) (kept_in chronicle next) v u left n h (leaves_some n h other) in
+      let full = (cuts mid after (kept_in chronicle now) (kept_in chronicle next) v u left n h cut).full in
+      let less = few mid after (kept_in chronicle now) (kept_in chronicle next) v u left n h in
+      omega (arith, full, less)
+
+  pub all_ends : (n : ℕ) → Writes n → taken + n ≡ length bytes → mid ≤ after → Ends before after (kept_in chronicle first) (kept_in chronicle next) w u bytes (taken + n) None
+  all_ends n h whole later =
+      turned.onward after (kept_in chronicle next) u n None later
+      (last_ends mid after (kept_in chronicle now) (kept_in chronicle next) v u left n h (omega (arith, whole, left_size)))
+
+  pub fails_ends : (why : Refusal) → kept_in chronicle next ≡ with_records (kept_in chronicle now) (write_adds (state_in chronicle now) v part (Err why)) → WritesWhere (state_in chronicle now) v part (Err why)
+      → WritesAsAsked (state_in chronicle now) mid after v part (Err why) → SameWriter v u → mid ≤ after → Ends before after (kept_in chronicle first) (kept_in chronicle next) w u bytes taken (Some why)
+  fails_ends why adds where_ does same later =
+      subst (λ m. Ends before after (kept_in chronicle first) (kept_in chronicle next) w u bytes m (Some why)) (no_more taken)
+      (turned.onward after (kept_in chronicle next) u 0 (Some why) later
+      (refused_ends mid after (kept_in chronicle now) (kept_in chronicle next) v u left turned.writer turned.writing same why
+      (subst (λ xs. kept_in chronicle next ≡ with_records (kept_in chronicle now) (write_adds (state_in chronicle now) v xs (Err why))) part_is adds)
+      (subst (λ xs. WritesWhere (state_in chronicle now) v xs (Err why)) part_is where_)
+      (subst (λ xs. WritesAsAsked (state_in chronicle now) mid after v xs (Err why)) part_is does)))
+    where
+      no_more : (k : ℕ) → k + 0 ≡ k
+      no_more k = omega arith
+
+  pub goes_on : (n : ℕ) → Writes n → (taken + n ≡ length bytes → ⊥) → IsStripe disk directory chronicle next → IsQuiet (state_in chronicle next) → mid ≤ after → Turned disk directory chronicle first next w u bytes (taken + n)
+  goes_on n h other stripe quiet later =
+      let some : n < length left = leaves_some n h other in
+      let cut = cut_or_all mid after (kept_in chronicle now) (kept_in chronicle next) v u left n h some in
+      let c : Cuts (kept_in chronicle now) (kept_in chronicle next) v u n = cuts mid after (kept_in chronicle now) (kept_in chronicle next) v u left n h cut in
+      record {
+        stripe = stripe;
+        quiet = quiet;
+        writer = h.next_own;
+        writing = subst (λ q. is_writing (state_in chronicle next) q ≡ true) (sym h.gathers.put) c.stands.writing;
+        within = bounds n h;
+        later = let earlier : before ≤ mid = turned.later in omega (arith, earlier, later);
+        onward = one_more before mid after (kept_in chronicle first) (kept_in chronicle now) (kept_in chronicle next) w v u bytes taken n later some h turned.onward;
+      }

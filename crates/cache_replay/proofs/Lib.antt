@@ -1,0 +1,30 @@
+mod Frames
+mod Dispatch
+mod Plain
+mod PlainTurns
+mod OnSession
+mod Formats
+pub mod ReaderFrames
+pub mod ReaderLines
+mod DoneLine
+mod NextLine
+mod OpenLine
+mod CutBodies
+mod FeedRounds
+mod FeedEnds
+mod FeedWhole
+mod FeedRefused
+mod FeedTurns
+mod Lines
+mod WriterSteps
+mod Fed
+mod Endings
+mod Closings
+mod Openings
+mod WholeReads
+mod WholeGets
+mod WholeLines
+mod PutEnds
+mod PutLine
+mod PutWhole
+mod PutOpens

@@ -1,0 +1,558 @@
+-- What a line on an actor's writer makes of the actors, and of the run.
+use Rattle.std.proofs.Common.{◌≡◌, ℕ, ◌+◌, ◌*◌, ◌<◌, ◌≤◌, List, [], ◌∷◌, ◌++◌, length, refl, sym, ◌∙◌, ap, subst, arith, Bool, true, false, cond, ◌⊎◌, inl, inr}
+use Rattle.std.specs.Prelude.{Option, Some, None, IfSome, ◌==◌, find, if◌then◌else◌, option_and_then, option_map, unwrap_or, is_some, Result, Ok, Err, IfOk}
+use Rattle.std.proofs.lemmas.Bool.{eqb-true, eq-eqb}
+use Rattle.cache_model.specs.State.{PutRow, State, after_all, put_of, reader_of}
+use Rattle.cache_model.specs.Verdict.{is_open}
+use Rattle.stripe_actors.specs.Actors.{FallBelow, put_numbers}
+use Rattle.cache_model.specs.Vectors.{AreTold, StepsTell}
+use Rattle.cache_model.specs.Legal.{IsQuiet, MayGrow, is_writing, nothing}
+use Rattle.cache_model.specs.Permit.{Intent, to_do}
+use Rattle.tape_base.specs.declared.keys.Key.{Key}
+use Rattle.alternate_vector.specs.Field.{Field}
+use Rattle.stripe_write.specs.declared.writer.Writer.{Writer}
+use Rattle.stripe_write.specs.Writers.{IsWriterOf}
+use Rattle.stripe_write.specs.Others.{AddsOfPut, LeavesOthers, OthersStay}
+use Rattle.actor_table.specs.Table.{Seen, number_of, with_actor}
+use Rattle.tape_base.specs.Geometry.{budget_of}
+use Rattle.std.specs.Global.{Vec}
+use Rattle.std.proofs.lemmas.List.{length-append}
+use Rattle.ats_disk.specs.declared.device.Disk.{Ghosts as DiskGhosts}
+use Rattle.dir_table.specs.declared.directory.Directory.{Ghosts as DirectoryGhosts}
+use Rattle.cache_chronicle.specs.declared.chronicle.Chronicle.{Ghosts as ChronicleGhosts}
+use Rattle.stripe_core.specs.Stripe.{IsStripe, kept_in, state_in}
+use Rattle.cache_replay.specs.declared.session.Part.{Part}
+use Rattle.script_lang.specs.declared.step.Step.{Step}
+use Rattle.script_lang.specs.declared.step.Step.TheVariants as step
+use Rattle.script_lang.specs.declared.answer.StepAnswer.{StepAnswer}
+use Rattle.script_lang.specs.declared.answer.StepAnswer.TheVariants as answer
+use Rattle.script_run.specs.Run.{Run, Reads, Stream, Writes, held_by, no_stream, put_in, with_value, writer_of}
+use Rattle.script_run.specs.Run.{Holding as Held}
+use Rattle.script_run.specs.Asked.{asked}
+use Rattle.script_run.specs.Turn.{Turn, no_turn}
+use Rattle.script_run.specs.Answers.{busy, idle, session_said, step_answer, step_said}
+use Rattle.script_run.specs.Behind.{after_step, behind, holds_behind, in_session, of_put, or_else, reader_at, still_open, streams_behind, streams_closed, streams_fed, streams_opened, writer_at}
+use Rattle.script_run.specs.Own.{AreOwn, AreWriting}
+use Rattle.script_run.specs.Takes.{SessionTakes, Shows, StepShows, StepTakes, Takes}
+use Rattle.script_run.specs.Laws.{StepsOwn}
+use Rattle.cache_replay.specs.declared.session.Holding.{Holding}
+use Rattle.cache_replay.specs.declared.session.Holding.TheVariants as holding
+use Rattle.cache_replay.specs.Session.{AreApart, AreHeld, Differ, IsActive, IsHeld, LeavesBut}
+use Rattle.cache_replay.specs.Plays.{IsHeldAs, IsStreamOf, PlaysIn}
+use Rattle.cache_replay.specs.WriterLines.{Closes, Feeds, GivesUp, Opens, HasNoWriter, IsLeft, IsPlayed, OpenDoes, PartEnds, PartPlays, TakesWriter, WriterDoes, WriterEnds, WriterLine, WriterMoves, held_in, slots_at, step_of, writes_in}
+use Rattle.cache_replay.proofs.Frames.{Changed, IsElse, OthersElse, SameStreams, all_held, all_held_as}
+
+-- ---- what the actors have
+
+-- it is the writer of that put, or that reader
+abbrev pub IsMine : Option ℕ → Option ℕ → Holding → Type 0
+IsMine put reader (holding.Writer w) = put ≡ Some w.put
+IsMine put reader (holding.Reader r) = reader ≡ Some r.reader
+
+differs : (put reader : Option ℕ) (a b : Holding) → IsMine put reader a → IsElse put reader b → Differ a b
+differs put reader (holding.Writer w) (holding.Writer v) mine other = λ same. other (mine ∙ ap (λ (n : ℕ). Some n) same)
+differs put reader (holding.Reader r) (holding.Reader q) mine other = λ same. other (mine ∙ ap (λ (n : ℕ). Some n) same)
+differs put reader (holding.Writer w) (holding.Reader r) mine other = tt
+differs put reader (holding.Reader r) (holding.Writer w) mine other = tt
+
+swapped : (a b : Holding) → Differ a b → Differ b a
+swapped (holding.Writer w) (holding.Writer v) d = λ same. d (sym same)
+swapped (holding.Reader r) (holding.Reader q) d = λ same. d (sym same)
+swapped (holding.Writer w) (holding.Reader r) d = tt
+swapped (holding.Reader r) (holding.Writer w) d = tt
+
+-- a number of its own, or that one
+abbrev At : (slots : ℕ → Option Holding) → ℕ → ℕ → Option Holding → Holding → Type 0
+At slots n m x a = ((m ≡ n) × (x ≡ Some a)) ⊎ (((m == n) ≡ false) × (slots m ≡ Some a))
+
+at_by : (slots : ℕ → Option Holding) (n m : ℕ) (x : Option Holding) (a : Holding) (b : Bool) → (m == n) ≡ b → (if b then x else slots m) ≡ Some a → At slots n m x a
+at_by slots n m x a true e is = inl (eqb-true m n e, is)
+at_by slots n m x a false e is = inr (e, is)
+
+apart_by : (put reader : Option ℕ) (slots : ℕ → Option Holding) (n m k : ℕ) (x : Option Holding) (a b : Holding) → OthersElse slots n put reader → ((h : Holding) → x ≡ Some h → IsMine put reader h) → AreApart slots
+    → (m ≡ k → ⊥) → At slots n m x a → At slots n k x b → Differ a b
+apart_by put reader slots n m k x a b others mine apart differ (inl at) (inl too) = absurd (differ (at.0 ∙ sym too.0))
+apart_by put reader slots n m k x a b others mine apart differ (inl at) (inr too) = differs put reader a b (mine a at.1) (others k b too.0 too.1)
+apart_by put reader slots n m k x a b others mine apart differ (inr at) (inl too) = swapped b a (differs put reader b a (mine b too.1) (others m a at.0 at.1))
+apart_by put reader slots n m k x a b others mine apart differ (inr at) (inr too) = apart m k a b differ at.1 too.1
+
+-- no two actors have the same behind a line, where the one has nothing that another has
+pub all_apart : (put reader : Option ℕ) (slots new : ℕ → Option Holding) (n : ℕ) (x : Option Holding) → Changed slots new n x → OthersElse slots n put reader
+    → ((h : Holding) → x ≡ Some h → IsMine put reader h) → AreApart slots → AreApart new
+all_apart put reader slots new n x changed others mine apart = λ m k a b differ at too.
+    apart_by put reader slots n m k x a b others mine apart differ (at_by slots n m x a (m == n) refl (sym (changed m) ∙ at)) (at_by slots n k x b (k == n) refl (sym (changed k) ∙ too))
+
+else_by : (w : Writer) (h : Holding) → Differ (holding.Writer w) h → IsElse (Some w.put) None h
+else_by w (holding.Writer v) d = λ same. let is : w.put ≡ v.put = cc in d is
+else_by w (holding.Reader r) d = λ same. cc
+
+not_same : (m n : ℕ) → (m == n) ≡ false → n ≡ m → ⊥
+not_same m n nope is = let yea : (m == n) ≡ true = eq-eqb m n (sym is) in cc
+
+-- no other actor has the writer of the same put
+pub others_else : (slots : ℕ → Option Holding) (n : ℕ) (w : Writer) → AreApart slots → slots n ≡ Some (holding.Writer w) → OthersElse slots n (Some w.put) None
+others_else slots n w apart mine = λ m h nope is. else_by w h (apart n m (holding.Writer w) h (not_same m n nope) mine is)
+
+pub leaves_but : (put : ℕ) (s t : State) → LeavesOthers put s t → LeavesBut (Some put) None s t
+leaves_but put s t leaves = record {
+  puts = λ q other. leaves.puts q (λ same. other (ap (λ (n : ℕ). Some n) (sym same)));
+  readers = λ n other. ap (Rattle.std.specs.Prelude.find (λ (r : Rattle.cache_model.specs.State.ReaderRow). r.reader == n)) leaves.readers;
+  geometry = leaves.geometry;
+}
+
+-- the writer that is left is open
+held_left : (t : State) (put : ℕ) (left : Option Writer) → IsLeft t put left → IfSome (held_in left) (IsHeld t)
+held_left t put None h = tt
+held_left t put (Some w) h = (ap (is_writing t) h.0 ∙ h.1, h.2)
+
+mine_left : (t : State) (put : ℕ) (left : Option Writer) → IsLeft t put left → (h : Holding) → held_in left ≡ Some h → IsMine (Some put) None h
+mine_left t put None left h is = cc
+mine_left t put (Some w) left h is =
+    let same : holding.Writer w ≡ h = cc in
+    subst (IsMine (Some put) None) same (ap (λ (n : ℕ). Some n) (sym left.0))
+
+-- what the actors have behind a line on a writer
+pub record HeldBehind (t : State) (new : ℕ → Option Holding) : Type 0 where
+  pub held : AreHeld t new
+  pub apart : AreApart new
+
+pub held_behind : (s t : State) (slots new : ℕ → Option Holding) (n put : ℕ) (left : Option Writer) → LeavesOthers put s t → Changed slots new n (held_in left)
+    → OthersElse slots n (Some put) None → IsLeft t put left → AreHeld s slots → AreApart slots → HeldBehind t new
+held_behind s t slots new n put left leaves changed others is held apart = record {
+  held = all_held (Some put) None s t slots new n (held_in left) (leaves_but put s t leaves) changed others held (held_left t put left is);
+  apart = all_apart (Some put) None slots new n (held_in left) changed others (mine_left t put left is) apart;
+}
+
+-- ---- the next put
+
+unheard_by : (b : Bool) (row : PutRow) (rest : Option PutRow) → b ≡ false → rest ≡ None → cond b (Some row) rest ≡ None
+unheard_by true row rest free none = let clash : true ≡ false = free in cc
+unheard_by false row rest free none = none
+
+not_at : (m q : ℕ) → m < q → (m == q) ≡ false
+not_at m q less = by (m == q) refl
+  where
+    by : (b : Bool) → (m == q) ≡ b → b ≡ false
+    by true e = let same : m ≡ q = eqb-true m q e in absurd (omega (arith, same, less))
+    by false e = refl
+
+unheard : (high q : ℕ) (puts : List PutRow) → FallBelow high (put_numbers puts) → high ≤ q → find (λ (p : PutRow). p.put == q) puts ≡ None
+unheard high q [] fall above = refl
+unheard high q (row ∷ puts) fall above =
+    unheard_by (row.put == q) row (find (λ (p : PutRow). p.put == q) puts) (not_at row.put q (omega (arith, fall.0, above))) (unheard row.put q puts fall.1 (omega (arith, fall.0, above)))
+
+-- no put has the next number yet
+pub next_is_free : (s : State) → FallBelow s.next_put (put_numbers s.puts) → is_writing s s.next_put ≡ false
+next_is_free s fall = ap (λ (o : Option PutRow). unwrap_or (option_map is_open o) false) (unheard s.next_put s.next_put s.puts fall (omega arith))
+
+-- so no actor writes it
+pub free_of : (s : State) (h : Holding) → is_writing s s.next_put ≡ false → IsHeld s h → IsElse (Some s.next_put) None h
+free_of s (holding.Writer w) free held = λ same.
+    let is : s.next_put ≡ w.put = cc in
+    let clash : true ≡ false = sym held.0 ∙ (ap (is_writing s) (sym is) ∙ free) in cc
+free_of s (holding.Reader r) free held = λ same. cc
+
+held_some_at : (s : State) (o : Option Holding) (h : Holding) → o ≡ Some h → IfSome o (IsHeld s) → IsHeld s h
+held_some_at s o h is held = subst (λ x. IfSome x (IsHeld s)) is held
+
+pub others_are_older : (s : State) (slots : ℕ → Option Holding) (n : ℕ) → FallBelow s.next_put (put_numbers s.puts) → AreHeld s slots → OthersElse slots n (Some s.next_put) None
+others_are_older s slots n fall held = λ m h nope is. free_of s h (next_is_free s fall) (held_some_at s (slots m) h is (held m))
+
+-- ---- the steps of a line on a writer
+
+pub takes_is : (line : WriterLine) (run : Run) (turn : Turn) (name : List ℕ) (s : State) → run.state ≡ Some s → SessionTakes run s turn (step_of line name) → StepTakes run turn (step_of line name)
+takes_is (Feeds body) run turn name s h takes = subst (λ o. Takes run turn o (step.Feed name body)) (sym h) takes
+takes_is Closes run turn name s h takes = subst (λ o. Takes run turn o (step.Close name)) (sym h) takes
+takes_is GivesUp run turn name s h takes = subst (λ o. Takes run turn o (step.Abort name)) (sym h) takes
+takes_is (Opens key pin request response) run turn name s h takes = subst (λ o. Takes run turn o (step.OpenWrite name key pin request response)) (sym h) takes
+
+pub after_is : (line : WriterLine) (run : Run) (turn : Turn) (name : List ℕ) (s : State) → run.state ≡ Some s → after_step run turn (step_of line name) ≡ in_session run s (after_all s turn.added) turn (step_of line name)
+after_is (Feeds body) run turn name s h = ap (λ o. behind run turn o (step.Feed name body)) h
+after_is Closes run turn name s h = ap (λ o. behind run turn o (step.Close name)) h
+after_is GivesUp run turn name s h = ap (λ o. behind run turn o (step.Abort name)) h
+after_is (Opens key pin request response) run turn name s h = ap (λ o. behind run turn o (step.OpenWrite name key pin request response)) h
+
+pub says_is : (line : WriterLine) (run : Run) (turn : Turn) (name : List ℕ) (s : State) → run.state ≡ Some s → step_answer run turn (step_of line name) ≡ session_said run s (after_all s turn.added) turn (step_of line name)
+says_is (Feeds body) run turn name s h = ap (λ o. step_said run turn o (step.Feed name body)) h
+says_is Closes run turn name s h = ap (λ o. step_said run turn o (step.Close name)) h
+says_is GivesUp run turn name s h = ap (λ o. step_said run turn o (step.Abort name)) h
+says_is (Opens key pin request response) run turn name s h = ap (λ o. step_said run turn o (step.OpenWrite name key pin request response)) h
+
+pub shows_is : (line : WriterLine) (run : Run) (name : List ℕ) (s : State) → run.state ≡ Some s → Shows run s (asked run s (step_of line name)) → StepShows run run.state (step_of line name)
+shows_is line run name s h shows = subst (λ o. StepShows run o (step_of line name)) (sym h) shows
+
+-- what the actor has behind it, and what the others have
+held_at_name : (run : Run) (held : ℕ → Option Held) (n : ℕ) (name : List ℕ) (x : Option Held) → held ≡ with_value run.held (number_of run.actors name) x → n ≡ number_of run.actors name → held n ≡ x
+held_at_name run held n name x is at = ap (λ (f : ℕ → Option Held). f n) is ∙ ap (λ (b : Bool). if b then x else run.held n) (eq-eqb n (number_of run.actors name) at)
+
+held_of_others : (run : Run) (held : ℕ → Option Held) (n m : ℕ) (name : List ℕ) (x : Option Held) → held ≡ with_value run.held (number_of run.actors name) x → n ≡ number_of run.actors name → (m == n) ≡ false → held m ≡ run.held m
+held_of_others run held n m name x is at nope = ap (λ (f : ℕ → Option Held). f m) is ∙ ap (λ (b : Bool). if b then x else run.held m) (ap (λ k. m == k) (sym at) ∙ nope)
+
+held_is : (line : WriterLine) (run : Run) (s t : State) (turn : Turn) (name : List ℕ)
+    → (in_session run s t turn (step_of line name)).held ≡ with_value run.held (number_of run.actors name) (holds_behind run s t (step_of line name) name)
+held_is (Feeds body) run s t turn name = refl
+held_is Closes run s t turn name = refl
+held_is GivesUp run s t turn name = refl
+held_is (Opens key pin request response) run s t turn name = refl
+
+held_here : (line : WriterLine) (run : Run) (s t : State) (turn : Turn) (name : List ℕ) (n : ℕ) → n ≡ number_of run.actors name
+    → (in_session run s t turn (step_of line name)).held n ≡ holds_behind run s t (step_of line name) name
+held_here line run s t turn name n is = held_at_name run _ n name _ (held_is line run s t turn name) is
+
+held_there : (line : WriterLine) (run : Run) (s t : State) (turn : Turn) (name : List ℕ) (n m : ℕ) → n ≡ number_of run.actors name → (m == n) ≡ false
+    → (in_session run s t turn (step_of line name)).held m ≡ run.held m
+held_there line run s t turn name n m is nope = held_of_others run _ n m name _ (held_is line run s t turn name) is nope
+
+-- of the streams that of the put alone is another
+same_with : (streams : ℕ → Stream) (put q : ℕ) (x : Stream) → (Some put ≡ Some q → ⊥) → with_value streams put x q ≡ streams q
+same_with streams put q x other = by (q == put) refl
+  where
+    by : (b : Bool) → (q == put) ≡ b → (if b then x else streams q) ≡ streams q
+    by true e = absurd (other (ap (λ (n : ℕ). Some n) (sym (eqb-true q put e))))
+    by false e = refl
+
+same_fed : (streams : ℕ → Stream) (put q : ℕ) (x : Stream) (b : Bool) → (Some put ≡ Some q → ⊥) → (if b then streams else with_value streams put x) q ≡ streams q
+same_fed streams put q x true other = refl
+same_fed streams put q x false other = same_with streams put q x other
+
+abbrev writes : Run → Option Held → Option ℕ
+writes run o = option_and_then put_in o
+
+-- the put of a line: that of the actor's writer, or the next one
+abbrev pub IsPutOf : Run → State → WriterLine → List ℕ → ℕ → Type 0
+IsPutOf run s (Feeds body) name put = held_by run name ≡ Some (Writes put)
+IsPutOf run s Closes name put = held_by run name ≡ Some (Writes put)
+IsPutOf run s GivesUp name put = held_by run name ≡ Some (Writes put)
+IsPutOf run s (Opens key pin request response) name put = (held_by run name ≡ None) × (s.next_put ≡ put)
+
+same_streams : (line : WriterLine) (run : Run) (s t : State) (turn : Turn) (name : List ℕ) (put : ℕ) → IsPutOf run s line name put
+    → SameStreams (Some put) run (in_session run s t turn (step_of line name))
+same_streams (Feeds body) run s t turn name put held = λ q other.
+    subst (λ o. of_put run (writes run o) (streams_fed run t body turn.refused) q ≡ run.streams q) (sym held) (same_fed run.streams put q _ (run.streams put).sealed other)
+same_streams Closes run s t turn name put held = λ q other.
+    subst (λ o. of_put run (writes run o) (streams_closed run turn.refused) q ≡ run.streams q) (sym held) (same_with run.streams put q _ other)
+same_streams GivesUp run s t turn name put held = λ q other. refl
+same_streams (Opens key pin request response) run s t turn name put held = λ q other.
+    subst (λ o. streams_opened run s o q ≡ run.streams q) (sym held.0) (same_with run.streams s.next_put q no_stream (λ e. other (ap (λ (n : ℕ). Some n) (sym held.1) ∙ e)))
+
+-- ---- the run behind a line on a writer
+
+here_left : (run : Run) (t : State) (n : ℕ) (left : Option Writer) → run.held n ≡ writes_in left → IfSome left (λ v. IsStreamOf (run.streams v.put) v) → IsHeldAs run t n (held_in left)
+here_left run t n None held stream = held
+here_left run t n (Some v) held stream = (held, stream)
+
+pub is_played : (run : Run) (name : List ℕ) (s : State) (slots : ℕ → Option Holding) (n : ℕ) (w : Writer) → n ≡ number_of run.actors name → slots n ≡ Some (holding.Writer w) → PlaysIn run s slots
+    → IsPlayed run name s w
+is_played run name s slots n w is mine plays =
+    let here : IsHeldAs run s n (Some (holding.Writer w)) = subst (IsHeldAs run s n) mine (plays.held n) in
+    record { held = ap run.held (sym is) ∙ here.0; stream = here.1; told = plays.told }
+
+-- ---- what writers have open
+
+writes_by : (run : Run) (s : State) (n put : ℕ) (o : Option Holding) → IfSome o (IsHeld s) → IsHeldAs run s n o → option_and_then put_in (run.held n) ≡ Some put → is_writing s put ≡ true
+writes_by run s n put None held said_ has = let none : option_and_then put_in (run.held n) ≡ None = ap (writes run) said_ in cc
+writes_by run s n put (Some (holding.Reader r)) held said_ has = let none : option_and_then put_in (run.held n) ≡ None = ap (writes run) said_.0 in cc
+writes_by run s n put (Some (holding.Writer w)) held said_ has =
+    let some : option_and_then put_in (run.held n) ≡ Some w.put = ap (writes run) said_.0 in
+    let same : w.put ≡ put = cc in
+    ap (is_writing s) (sym same) ∙ held.0
+
+-- each put that an actor writes is open
+pub are_writing : (run : Run) (s : State) (slots : ℕ → Option Holding) → AreHeld s slots → PlaysIn run s slots → AreWriting run s
+are_writing run s slots held plays = λ name put has. writes_by run s (number_of run.actors name) put (slots (number_of run.actors name)) (held (number_of run.actors name)) (plays.held (number_of run.actors name)) has
+
+-- it plays what is left
+pub plays_on : (own : StepsOwn) (tell : StepsTell) (line : WriterLine) (run : Run) (name : List ℕ) (s t : State) (slots new : ℕ → Option Holding) (n put : ℕ) (left : Option Writer) (said : StepAnswer)
+    → n ≡ number_of run.actors name → IsQuiet s → IsPutOf run s line name put → LeavesOthers put s t → Changed slots new n (held_in left) → OthersElse slots n (Some put) None → AreHeld s slots → PlaysIn run s slots
+    → (moves : WriterMoves run name s t line left said) → PlaysIn (in_session run s (after_all s moves.turn.added) moves.turn (step_of line name)) t new
+plays_on own tell line run name s t slots new n put left said is quiet of leaves changed others held plays moves =
+    let st : Step = step_of line name in
+    let turn = moves.turn in
+    let told : AreTold (after_all s turn.added) = tell turn.device s (asked run s st) turn.added turn.refused plays.told moves.takes.legal in
+    let owned : AreOwn (after_all s turn.added) (streams_behind run s (after_all s turn.added) turn st) = own run s turn st plays.told quiet plays.own (are_writing run s slots held plays) moves.takes.legal in
+    subst (λ x. PlaysIn (in_session run s x turn st) t new) moves.state (record {
+      state = refl;
+      told = subst AreTold (sym moves.state) told;
+      own = subst (λ x. AreOwn x (streams_behind run s x turn st)) (sym moves.state) owned;
+      held = all_held_as (Some put) None run (in_session run s t turn st) s t slots new n (held_in left) (leaves_but put s t leaves) (same_streams line run s t turn name put of)
+          (λ m nope. held_there line run s t turn name n m is nope) changed others plays.held
+          (here_left (in_session run s t turn st) t n left (held_here line run s t turn name n is ∙ moves.held) moves.stream);
+    })
+
+-- ---- a line that has no writer
+
+-- a line on a writer that is there
+abbrev pub IsOnWriter : WriterLine → Type 0
+IsOnWriter (Opens key pin request response) = ⊥
+IsOnWriter (Feeds body) = Unit {0}
+IsOnWriter Closes = Unit {0}
+IsOnWriter GivesUp = Unit {0}
+
+no_writer : (line : WriterLine) (run : Run) (s t : State) (turn : Turn) (name : List ℕ) → IsOnWriter line → writer_of run name ≡ None → (asked run s (step_of line name) ≡ []) × (streams_behind run s t turn (step_of line name) ≡ run.streams)
+    × (session_said run s t turn (step_of line name) ≡ idle)
+no_writer (Opens key pin request response) run s t turn name on none = absurd on
+no_writer (Feeds body) run s t turn name on none = (
+  ap (λ o. Rattle.script_run.specs.Asked.if_has o (Rattle.script_run.specs.Asked.feeding run s body)) none,
+  ap (λ o. Rattle.script_run.specs.Behind.of_put run o (Rattle.script_run.specs.Behind.streams_fed run t body turn.refused)) none,
+  ap (λ o. Rattle.script_run.specs.Answers.if_has o (Rattle.script_run.specs.Answers.feed_said run t body turn.refused)) none,
+)
+no_writer Closes run s t turn name on none = (
+  ap (λ o. Rattle.script_run.specs.Asked.if_has o (Rattle.script_run.specs.Asked.closing run s)) none,
+  ap (λ o. Rattle.script_run.specs.Behind.of_put run o (Rattle.script_run.specs.Behind.streams_closed run turn.refused)) none,
+  ap (λ o. Rattle.script_run.specs.Answers.if_has o (λ put. Rattle.script_run.specs.Answers.said t None turn.refused (Rattle.script_run.specs.Answers.put_said t put))) none,
+)
+no_writer GivesUp run s t turn name on none = (
+  ap (λ o. Rattle.script_run.specs.Asked.if_has o (λ put. Rattle.cache_model.specs.Permit.GiveUp put ∷ [])) none,
+  refl,
+  ap (λ o. Rattle.script_run.specs.Answers.if_has o Rattle.script_lang.specs.declared.answer.StepAnswer.TheVariants.Aborted) none,
+)
+
+-- what a reader, or nothing, is in the run
+none_written : (run : Run) (s : State) (n : ℕ) (o : Option Holding) → HasNoWriter o → IsHeldAs run s n o → (option_and_then put_in (run.held n) ≡ None) × (still_open s (run.held n) ≡ run.held n)
+none_written run s n None nope h = (ap (writes run) h, ap (still_open s) h ∙ sym h)
+none_written run s n (Some (holding.Writer w)) nope h = absurd nope
+none_written run s n (Some (holding.Reader r)) nope h =
+    (ap (writes run) h.0, ap (still_open s) h.0 ∙ (ap (λ o. if is_some o then Some (Reads r.reader) else None) h.1.found ∙ sym h.0))
+
+pub record Idles (line : WriterLine) (run : Run) (name : List ℕ) (s : State) (new : ℕ → Option Holding) (said : StepAnswer) : Type 0 where
+  pub takes : SessionTakes run s no_turn (step_of line name)
+  pub plays : PlaysIn (in_session run s s no_turn (step_of line name)) s new
+  pub says : session_said run s s no_turn (step_of line name) ≡ said
+
+given_none : (line : WriterLine) (run : Run) (s : State) (name : List ℕ) (turn : Turn) → turn.given ≡ [] → Rattle.script_run.specs.Takes.GivesOwn run s turn (step_of line name)
+given_none (Feeds body) run s name turn h = h
+given_none Closes run s name turn h = h
+given_none GivesUp run s name turn h = h
+given_none (Opens key pin request response) run s name turn h = h
+
+-- a line that does nothing leaves what its actor has
+holds_same : (line : WriterLine) (run : Run) (s : State) (name : List ℕ) → IsOnWriter line → still_open s (held_by run name) ≡ held_by run name → holds_behind run s s (step_of line name) name ≡ held_by run name
+holds_same (Opens key pin request response) run s name on h = absurd on
+holds_same (Feeds body) run s name on h = h
+holds_same Closes run s name on h = h
+holds_same GivesUp run s name on h = h
+
+held_same : (line : WriterLine) (run : Run) (s : State) (name : List ℕ) (n m : ℕ) (b : Bool) → (m == n) ≡ b → n ≡ number_of run.actors name → holds_behind run s s (step_of line name) name ≡ held_by run name
+    → (in_session run s s no_turn (step_of line name)).held m ≡ run.held m
+held_same line run s name n m true e is still =
+    let at : m ≡ n = eqb-true m n e in
+    held_here line run s s no_turn name m (at ∙ is) ∙ (still ∙ ap run.held (sym (at ∙ is)))
+held_same line run s name n m false e is still = held_there line run s s no_turn name n m is e
+
+as_same : (run later : Run) (s : State) (n : ℕ) (o : Option Holding) → later.held n ≡ run.held n → later.streams ≡ run.streams → IsHeldAs run s n o → IsHeldAs later s n o
+as_same run later s n None held streams h = held ∙ h
+as_same run later s n (Some (holding.Writer w)) held streams h = (held ∙ h.0, subst (λ (f : ℕ → Stream). IsStreamOf (f w.put) w) (sym streams) h.1)
+as_same run later s n (Some (holding.Reader r)) held streams h = (held ∙ h.0, h.1)
+
+-- a line that asks nothing, changes no stream, and leaves its actor what it has
+idle_by : (line : WriterLine) (run : Run) (name : List ℕ) (s : State) (slots new : ℕ → Option Holding) (n : ℕ) (said : StepAnswer) → n ≡ number_of run.actors name → IsQuiet s
+    → asked run s (step_of line name) ≡ [] → streams_behind run s s no_turn (step_of line name) ≡ run.streams → session_said run s s no_turn (step_of line name) ≡ said
+    → holds_behind run s s (step_of line name) name ≡ held_by run name → ((m : ℕ) → new m ≡ slots m) → PlaysIn run s slots → Idles line run name s new said
+idle_by line run name s slots new n said is quiet none streams says holds same plays =
+    let st : Step = step_of line name in
+    record {
+      takes = record {
+        plain = refl;
+        legal = record {
+          grows = subst (λ (asks : List Intent). MayGrow no_turn.device s (to_do asks) [] (record { intents = []; refused = None })) (sym none) nothing;
+          quiet = quiet;
+        };
+        own = given_none line run s name no_turn refl;
+      };
+      plays = record {
+        state = refl;
+        told = plays.told;
+        own = subst (AreOwn s) (sym streams) plays.own;
+        held = λ m. subst (IsHeldAs (in_session run s s no_turn st) s m) (sym (same m))
+            (as_same run (in_session run s s no_turn st) s m (slots m) (held_same line run s name n m (m == n) refl is holds) streams (plays.held m));
+      };
+      says = says;
+    }
+
+pub idles : (line : WriterLine) (run : Run) (name : List ℕ) (s : State) (slots new : ℕ → Option Holding) (n : ℕ) → IsOnWriter line → n ≡ number_of run.actors name → IsQuiet s → HasNoWriter (slots n)
+    → ((m : ℕ) → new m ≡ slots m) → PlaysIn run s slots → Idles line run name s new idle
+idles line run name s slots new n on is quiet nope same plays =
+    let none = none_written run s n (slots n) nope (plays.held n) in
+    let by = no_writer line run s s no_turn name on (ap (λ k. option_and_then put_in (run.held k)) (sym is) ∙ none.0) in
+    idle_by line run name s slots new n idle is quiet by.0 by.1 by.2
+    (holds_same line run s name on (ap (λ k. still_open s (run.held k)) (sym is) ∙ (none.1 ∙ ap run.held is))) same plays
+
+-- an actor that has something opens nothing
+busy_by : (run : Run) (name : List ℕ) (s : State) (key : Key) (pin : ℕ) (request response : List Field) (slots new : ℕ → Option Holding) (n : ℕ) (h : Held) → held_by run name ≡ Some h → n ≡ number_of run.actors name → IsQuiet s
+    → ((m : ℕ) → new m ≡ slots m) → PlaysIn run s slots → Idles (Opens key pin request response) run name s new busy
+busy_by run name s key pin request response slots new n h has is quiet same plays =
+    idle_by (Opens key pin request response) run name s slots new n busy is quiet (ap (λ o. Rattle.script_run.specs.Asked.if_free o (Rattle.cache_model.specs.Permit.Write (number_of run.actors name) key request response pin ∷ [])) has) (ap (λ o. streams_opened run s o) has)
+    (ap (λ o. Rattle.script_run.specs.Answers.if_free o (answer.Writer s.next_put)) has) (ap (λ o. or_else o (writer_at s s.next_put)) has ∙ sym has) same plays
+
+held_some : (run : Run) (s : State) (n : ℕ) (h : Holding) → IsHeldAs run s n (Some h) → (x : Held) × (run.held n ≡ Some x)
+held_some run s n (holding.Writer w) said_ = (Writes w.put, said_.0)
+held_some run s n (holding.Reader r) said_ = (Reads r.reader, said_.0)
+
+pub busies : (run : Run) (name : List ℕ) (s : State) (key : Key) (pin : ℕ) (request response : List Field) (slots new : ℕ → Option Holding) (n : ℕ) (h : Holding) → slots n ≡ Some h → n ≡ number_of run.actors name → IsQuiet s
+    → ((m : ℕ) → new m ≡ slots m) → PlaysIn run s slots → Idles (Opens key pin request response) run name s new busy
+busies run name s key pin request response slots new n h has is quiet same plays =
+    let x = held_some run s n h (subst (IsHeldAs run s n) has (plays.held n)) in
+    busy_by run name s key pin request response slots new n x.0 (ap run.held (sym is) ∙ x.1) is quiet same plays
+
+names_is : (line : WriterLine) (run : Run) (s t : State) (turn : Turn) (name : List ℕ) (names : List (List ℕ)) → with_actor run.actors name ≡ names → (in_session run s t turn (step_of line name)).actors ≡ names
+names_is (Feeds body) run s t turn name names h = h
+names_is Closes run s t turn name names h = h
+names_is GivesUp run s t turn name names h = h
+names_is (Opens key pin request response) run s t turn name names h = h
+
+-- ---- a part, and its actors
+
+module _ {D R C : Type 0} (disk : DiskGhosts D) (directory : DirectoryGhosts R) (chronicle : ChronicleGhosts C) (stay : OthersStay) (part new : Part D R C) (actors last : Seen Holding) (n : ℕ) where
+  abbrev s : State
+  s = state_in chronicle part.stripe
+
+  abbrev t : State
+  t = state_in chronicle new.stripe
+
+  pub active_by : (put : ℕ) (left : Option Writer) → IsActive disk directory chronicle part (slots_at actors) → OthersElse (slots_at actors) n (Some put) None → Changed (slots_at actors) (slots_at last) n (held_in left)
+      → IsStripe disk directory chronicle new.stripe → IsQuiet t → new.page ≡ part.page → AddsOfPut put (kept_in chronicle part.stripe) (kept_in chronicle new.stripe) → IsLeft t put left
+      → IsActive disk directory chronicle new (slots_at last)
+  active_by put left old others changed stripe quiet page adds is =
+      let leaves : LeavesOthers put s t = stay put (kept_in chronicle part.stripe) (kept_in chronicle new.stripe) adds in
+      let behind = held_behind s t (slots_at actors) (slots_at last) n put left leaves changed others is old.held old.apart in
+      record {
+        part = record {
+          stripe = stripe;
+          quiet = quiet;
+          page = ap (λ (p : Vec ℕ). length p.items) page ∙ (old.part.page ∙ ap (λ g. 512 * budget_of g) (sym leaves.geometry));
+        };
+        held = behind.held;
+        apart = behind.apart;
+      }
+
+  pub moves_by : (own : StepsOwn) (tell : StepsTell) (line : WriterLine) (run : Run) (name : List ℕ) (put : ℕ) (left : Option Writer) (said : StepAnswer) → n ≡ number_of actors.names name
+      → IsActive disk directory chronicle part (slots_at actors) → IsPutOf run s line name put → OthersElse (slots_at actors) n (Some put) None → Changed (slots_at actors) (slots_at last) n (held_in left)
+      → AddsOfPut put (kept_in chronicle part.stripe) (kept_in chronicle new.stripe) → last.names ≡ with_actor actors.names name → PartPlays chronicle run part actors
+      → WriterEnds run name s t line left said → PartEnds chronicle run (step_of line name) new last said
+  moves_by own tell line run name put left said is old of others changed adds names plays (inl moves) =
+      let at : n ≡ number_of run.actors name = is ∙ ap (λ (all : List (List ℕ)). number_of all name) (sym plays.names) in
+      let on = plays_on own tell line run name s t (slots_at actors) (slots_at last) n put left said at old.part.quiet of (stay put (kept_in chronicle part.stripe) (kept_in chronicle new.stripe) adds) changed others
+      old.held plays.at moves in
+      let after = after_is line run moves.turn name s plays.at.state in
+      inl (record {
+        turn = moves.turn;
+        takes = takes_is line run moves.turn name s plays.at.state moves.takes;
+        plays = subst (λ r. PartPlays chronicle r new last) (sym after) (record { names = names_is line run s (after_all s moves.turn.added) moves.turn name last.names (ap (λ (all : List (List ℕ)). with_actor all name) plays.names ∙ sym names); at = on });
+        says = says_is line run moves.turn name s plays.at.state ∙ (ap (λ x. session_said run s x moves.turn (step_of line name)) (sym moves.state) ∙ moves.says);
+      })
+  moves_by own tell line run name put left said is old of others changed adds names plays (inr shows) = inr (shows_is line run name s plays.at.state shows)
+
+  put_played : (line : WriterLine) (run : Run) (name : List ℕ) (w : Writer) → IsOnWriter line → IsPlayed run name s w → IsPutOf run s line name w.put
+  put_played (Feeds body) run name w on played = played.held
+  put_played Closes run name w on played = played.held
+  put_played GivesUp run name w on played = played.held
+  put_played (Opens key pin request response) run name w on played = absurd on
+
+  pub ends_by : (own : StepsOwn) (tell : StepsTell) (line : WriterLine) (name : List ℕ) (w : Writer) (left : Option Writer) (answer : Option StepAnswer) (said : StepAnswer) → IsOnWriter line → answer ≡ Some said
+      → n ≡ number_of actors.names name
+      → IsActive disk directory chronicle part (slots_at actors) → slots_at actors n ≡ Some (holding.Writer w) → Changed (slots_at actors) (slots_at last) n (held_in left)
+      → AddsOfPut w.put (kept_in chronicle part.stripe) (kept_in chronicle new.stripe) → last.names ≡ with_actor actors.names name
+      → WriterDoes s t line w left answer → (run : Run) → PartPlays chronicle run part actors → PartEnds chronicle run (step_of line name) new last said
+  ends_by own tell line name w left None said on answered is old mine changed adds names does = λ run plays. cc
+  ends_by own tell line name w left (Some other) said on answered is old mine changed adds names does = λ run plays.
+      let same : other ≡ said = cc in
+      let at : n ≡ number_of run.actors name = is ∙ ap (λ (all : List (List ℕ)). number_of all name) (sym plays.names) in
+      let played = is_played run name s (slots_at actors) n w at mine plays.at in
+      moves_by own tell line run name w.put left said is old (put_played line run name w on played) (others_else (slots_at actors) n w old.apart mine) changed adds names plays
+      (subst (WriterEnds run name s t line left) same (does run name played))
+
+  -- an actor that has nothing opens a writer
+  pub opens_by : (own : StepsOwn) (tell : StepsTell) (name : List ℕ) (key : Key) (pin : ℕ) (request response : List Field) (left : Option Writer) (answer : Option StepAnswer) (said : StepAnswer) → answer ≡ Some said
+      → n ≡ number_of actors.names name → IsActive disk directory chronicle part (slots_at actors) → slots_at actors n ≡ None → Changed (slots_at actors) (slots_at last) n (held_in left)
+      → AddsOfPut s.next_put (kept_in chronicle part.stripe) (kept_in chronicle new.stripe) → last.names ≡ with_actor actors.names name
+      → OpenDoes s t n (Opens key pin request response) left answer → (run : Run) → PartPlays chronicle run part actors → PartEnds chronicle run (step.OpenWrite name key pin request response) new last said
+  opens_by own tell name key pin request response left None said answered is old free changed adds names does = λ run plays. cc
+  opens_by own tell name key pin request response left (Some other) said answered is old free changed adds names does = λ run plays.
+      let same : other ≡ said = cc in
+      let at : n ≡ number_of run.actors name = is ∙ ap (λ (all : List (List ℕ)). number_of all name) (sym plays.names) in
+      let none : held_by run name ≡ None = ap run.held (sym at) ∙ subst (IsHeldAs run s n) free (plays.at.held n) in
+      moves_by own tell (Opens key pin request response) run name s.next_put left said is old (none, refl)
+      (others_are_older s (slots_at actors) n old.part.stripe.actors.puts_fall old.held) changed adds names plays
+      (inl (subst (WriterMoves run name s t (Opens key pin request response) left) same (does run name none at)))
+
+  -- an actor that has something opens none
+  pub busy_in : (name : List ℕ) (key : Key) (pin : ℕ) (request response : List Field) (h : Holding) → n ≡ number_of actors.names name → IsActive disk directory chronicle part (slots_at actors) → slots_at actors n ≡ Some h
+      → ((m : ℕ) → slots_at last m ≡ slots_at actors m) → last.names ≡ with_actor actors.names name → (run : Run) → PartPlays chronicle run part actors
+      → PartEnds chronicle run (step.OpenWrite name key pin request response) part last busy
+  busy_in name key pin request response h is old has same names = λ run plays.
+      let line : WriterLine = Opens key pin request response in
+      let at : n ≡ number_of run.actors name = is ∙ ap (λ (all : List (List ℕ)). number_of all name) (sym plays.names) in
+      let none = busies run name s key pin request response (slots_at actors) (slots_at last) n h has at old.part.quiet same plays.at in
+      inl (record {
+        turn = no_turn;
+        takes = takes_is line run no_turn name s plays.at.state none.takes;
+        plays = subst (λ r. PartPlays chronicle r part last) (sym (after_is line run no_turn name s plays.at.state))
+            (record { names = names_is line run s s no_turn name last.names (ap (λ (all : List (List ℕ)). with_actor all name) plays.names ∙ sym names); at = none.plays });
+        says = says_is line run no_turn name s plays.at.state ∙ none.says;
+      })
+
+  -- an actor that has no writer
+  pub idles_by : (line : WriterLine) (name : List ℕ) → IsOnWriter line → n ≡ number_of actors.names name → IsActive disk directory chronicle part (slots_at actors) → HasNoWriter (slots_at actors n)
+      → ((m : ℕ) → slots_at last m ≡ slots_at actors m) → last.names ≡ with_actor actors.names name → (run : Run) → PartPlays chronicle run part actors → PartEnds chronicle run (step_of line name) part last idle
+  idles_by line name on is old nope same names = λ run plays.
+      let at : n ≡ number_of run.actors name = is ∙ ap (λ (all : List (List ℕ)). number_of all name) (sym plays.names) in
+      let none = idles line run name s (slots_at actors) (slots_at last) n on at old.part.quiet nope same plays.at in
+      inl (record {
+        turn = no_turn;
+        takes = takes_is line run no_turn name s plays.at.state none.takes;
+        plays = subst (λ r. PartPlays chronicle r part last) (sym (after_is line run no_turn name s plays.at.state))
+            (record { names = names_is line run s s no_turn name last.names (ap (λ (all : List (List ℕ)). with_actor all name) plays.names ∙ sym names); at = none.plays });
+        says = says_is line run no_turn name s plays.at.state ∙ none.says;
+      })
+
+-- the slots are those of before, and so they are all that holds of them
+pub same_active : {D R C : Type 0} (disk : DiskGhosts D) (directory : DirectoryGhosts R) (chronicle : ChronicleGhosts C) (part : Part D R C) (slots new : ℕ → Option Holding) → ((m : ℕ) → new m ≡ slots m)
+    → IsActive disk directory chronicle part slots → IsActive disk directory chronicle part new
+same_active disk directory chronicle part slots new same old = record {
+  part = old.part;
+  held = λ m. subst (λ o. IfSome o (IsHeld (state_in chronicle part.stripe))) (sym (same m)) (old.held m);
+  apart = λ m k a b differ at too. old.apart m k a b differ (sym (same m) ∙ at) (sym (same k) ∙ too);
+}
+
+-- names do not become more than one more
+pub one_more : (names : List (List ℕ)) (name : List ℕ) → length (with_actor names name) ≤ length names + 1
+one_more names name = by (number_of names name == length names + 1)
+  where
+    by : (b : Bool) → length (if b then names ++ name ∷ [] else names) ≤ length names + 1
+    by true = subst (λ k. k ≤ length names + 1) (sym (length-append names (name ∷ []))) (omega arith)
+    by false = omega arith
+
+-- ---- what a function over them has at hand
+
+pub held_writer : (s : State) (slots : ℕ → Option Holding) (n : ℕ) (w : Writer) → AreHeld s slots → slots n ≡ Some (holding.Writer w) → (is_writing s w.put ≡ true) × IsWriterOf s w
+held_writer s slots n w held mine = held_some_at s (slots n) (holding.Writer w) mine (held n)
+
+pub ends_if : {E : Type 0} (result : Result StepAnswer E) (answer : Option StepAnswer) (P : StepAnswer → Type 0) → IfOk result (λ said. answer ≡ Some said) → ((said : StepAnswer) → answer ≡ Some said → P said) → IfOk result P
+ends_if (Ok said) answer P h ends = ends said h
+ends_if (Err e) answer P h ends = tt
+
+-- the writer that an actor has, also once it is numbered
+pub taken_writer : (actors numbered taken : Seen Holding) (n : ℕ) (w : Writer) → ((m : ℕ) → slots_at numbered m ≡ slots_at actors m) → TakesWriter numbered taken n (Some w) → slots_at actors n ≡ Some (holding.Writer w)
+taken_writer actors numbered taken n w same takes = sym (same n) ∙ takes.0
+
+pub no_taken : (actors numbered taken : Seen Holding) (n : ℕ) → ((m : ℕ) → slots_at numbered m ≡ slots_at actors m) → TakesWriter numbered taken n None → HasNoWriter (slots_at actors n)
+no_taken actors numbered taken n same takes = subst HasNoWriter (same n) takes.0
+
+pub none_changed : (actors numbered taken : Seen Holding) (n : ℕ) → ((m : ℕ) → slots_at numbered m ≡ slots_at actors m) → TakesWriter numbered taken n None → (m : ℕ) → slots_at taken m ≡ slots_at actors m
+none_changed actors numbered taken n same takes = λ m. takes.1 m ∙ same m
+
+pub given_back : (actors numbered taken last : Seen Holding) (n : ℕ) (w : Writer) (left : Option Writer) → ((m : ℕ) → slots_at numbered m ≡ slots_at actors m) → TakesWriter numbered taken n (Some w)
+    → ((m : ℕ) → slots_at last m ≡ (if m == n then held_in left else slots_at taken m)) → Changed (slots_at actors) (slots_at last) n (held_in left)
+given_back actors numbered taken last n w left same takes back = λ m. back m ∙ by m (m == n) refl
+  where
+    by : (m : ℕ) (b : Bool) → (m == n) ≡ b → (if b then held_in left else slots_at taken m) ≡ (if b then held_in left else slots_at actors m)
+    by m true e = refl
+    by m false e = takes.1 m ∙ (ap (λ (c : Bool). if c then None else slots_at numbered m) e ∙ same m)
+
+pub given_new : (actors numbered last : Seen Holding) (n : ℕ) (left : Option Writer) → ((m : ℕ) → slots_at numbered m ≡ slots_at actors m)
+    → ((m : ℕ) → slots_at last m ≡ (if m == n then held_in left else slots_at numbered m)) → Changed (slots_at actors) (slots_at last) n (held_in left)
+given_new actors numbered last n left same back = λ m. back m ∙ by m (m == n)
+  where
+    by : (m : ℕ) (b : Bool) → (if b then held_in left else slots_at numbered m) ≡ (if b then held_in left else slots_at actors m)
+    by m true = refl
+    by m false = same m

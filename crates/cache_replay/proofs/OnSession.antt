@@ -1,0 +1,178 @@
+-- A call of a stripe as a line on a session.
+use Rattle.std.proofs.Common.{◌≡◌, ℕ, ◌≤◌, refl, arith, sym, ◌∙◌, ap, subst, inl, true, Result, Ok, Err}
+use Rattle.std.specs.Prelude.{Option, Some, None, IfSome, IfOk, OnErr, option_and_then}
+use Rattle.ats_disk.specs.declared.device.Disk.{Ghosts as DiskGhosts}
+use Rattle.dir_table.specs.declared.directory.Directory.{Ghosts as DirectoryGhosts}
+use Rattle.cache_chronicle.specs.declared.chronicle.Chronicle.{Ghosts as ChronicleGhosts}
+use Rattle.tape_base.specs.declared.keys.Key.{Key}
+use Rattle.cache_model.specs.State.{State, after_all}
+use Rattle.cache_model.specs.Legal.{IsQuiet, is_writing}
+use Rattle.cache_model.specs.Vectors.{AreTold, StepsTell}
+use Rattle.stripe_core.specs.Stripe.{seen_in, state_in}
+use Rattle.script_lang.specs.declared.step.Step.{Step}
+use Rattle.script_lang.specs.declared.step.Step.TheVariants as step
+use Rattle.script_lang.specs.declared.answer.StepAnswer.{StepAnswer}
+use Rattle.script_run.specs.Run.{Run, put_in}
+use Rattle.script_run.specs.Turn.{Turn}
+use Rattle.script_run.specs.Answers.{session_said, step_said}
+use Rattle.script_run.specs.Behind.{behind, fault_of, streams_behind}
+use Rattle.script_run.specs.Own.{AreOwn, AreWriting}
+use Rattle.script_run.specs.Takes.{SessionTakes, Takes}
+use Rattle.script_run.specs.Laws.{StepsOwn}
+use Rattle.cache_replay.specs.declared.session.Session.{Session}
+use Rattle.cache_replay.specs.declared.session.Part.{Part}
+use Rattle.cache_replay.specs.declared.session.Holding.{Holding}
+use Rattle.cache_replay.specs.declared.stop.Stop.{Stop}
+use Rattle.cache_replay.specs.declared.session.Holding.TheVariants as holding
+use Rattle.cache_replay.specs.Session.{AreHeld, IsActive, IsAt, IsHeld, IsPart, IsSession, LeavesBut, names_in, return_of, slots_in}
+use Rattle.cache_replay.specs.Plays.{AreReached, IsHeldAs, Plays, PlaysAt, PlaysIn, StepEnds, StepMoves}
+use Rattle.cache_replay.specs.Plain.{Plainly}
+use Rattle.cache_replay.proofs.Frames.{some_is}
+use Rattle.cache_replay.proofs.Plain.{none_else, still_held, still_plays}
+
+-- ---- each put that an actor writes is open
+
+writes_at : (run : Run) (s : State) (n put : ℕ) (o : Option Holding) → IsHeldAs run s n o → IfSome o (IsHeld s) → option_and_then put_in (run.held n) ≡ Some put → is_writing s put ≡ true
+writes_at run s n put None holds held is = let no : None ≡ Some put = ap (option_and_then put_in) (sym holds) ∙ is in cc no
+writes_at run s n put (Some (holding.Writer w)) holds held is =
+    let e : Some w.put ≡ Some put = ap (option_and_then put_in) (sym holds.0) ∙ is in
+    subst (λ q. is_writing s q ≡ true) (some_is ℕ w.put put e) held.0
+writes_at run s n put (Some (holding.Reader r)) holds held is = let no : None ≡ Some put = ap (option_and_then put_in) (sym holds.0) ∙ is in cc no
+
+pub are_writing : (run : Run) (s : State) (slots : ℕ → Option Holding) → PlaysIn run s slots → AreHeld s slots → AreWriting run s
+are_writing run s slots plays held = λ name put is.
+    let n : ℕ = Rattle.actor_table.specs.Table.number_of run.actors name in
+    writes_at run s n put (slots n) (plays.held n) (held n) is
+
+-- ---- behind a line
+
+pub told_behind : (tell : StepsTell) (run : Run) (s t : State) (turn : Turn) (step : Step) → SessionTakes run s turn step → after_all s turn.added ≡ t → AreTold s → AreTold t
+told_behind tell run s t turn step takes is told = subst AreTold is (tell turn.device s (Rattle.script_run.specs.Asked.asked run s step) turn.added turn.refused told takes.legal)
+
+pub own_behind : (own : StepsOwn) (run : Run) (s t : State) (turn : Turn) (step : Step) (slots : ℕ → Option Holding) → SessionTakes run s turn step → after_all s turn.added ≡ t → IsQuiet s → AreHeld s slots → PlaysIn run s slots
+    → AreOwn t (streams_behind run s (after_all s turn.added) turn step)
+own_behind own run s t turn step slots takes is quiet held plays =
+    subst (λ u. AreOwn u (streams_behind run s (after_all s turn.added) turn step)) is
+    (own run s turn step plays.told quiet plays.own (are_writing run s slots plays held) takes.legal)
+
+module _ {D R C : Type 0} (disk : DiskGhosts D) (directory : DirectoryGhosts R) (chronicle : ChronicleGhosts C) where
+  -- ---- a session that has a cache
+
+  pub active : (session : Session D R C) (part : Part D R C) → session.part ≡ Some part → IsSession disk directory chronicle session → IsActive disk directory chronicle part (slots_in session)
+  active session part is h = subst (λ p. IsAt disk directory chronicle p (slots_in session)) is h
+
+  pub playing : (run : Run) (session : Session D R C) (part : Part D R C) → session.part ≡ Some part → Plays disk directory chronicle run session → PlaysIn run (state_in chronicle part.stripe) (slots_in session)
+  playing run session part is h = subst (λ p. PlaysAt disk directory chronicle run p (slots_in session)) is h.at
+
+  -- ---- lines
+
+  -- where there is a session a line is as its records say
+  pub moves : (run : Run) (s : State) (turn : Turn) (step : Step) (new : Session D R C) (said : StepAnswer) → run.state ≡ Some s → Takes run turn (Some s) step → step_said run turn (Some s) step ≡ said
+      → Plays disk directory chronicle (behind run turn (Some s) step) new → StepMoves disk directory chronicle run step new said
+  moves run s turn step new said state takes says plays = record {
+    turn = turn;
+    takes = subst (λ o. Takes run turn o step) (sym state) takes;
+    plays = subst (λ o. Plays disk directory chronicle (behind run turn o step) new) (sym state) plays;
+    says = subst (λ o. step_said run turn o step ≡ said) (sym state) says;
+  }
+
+  -- ---- lines without an actor that leave all puts and readers
+
+  pub line_session : (session : Session D R C) (old new : Part D R C) → session.part ≡ Some old → LeavesBut None None (state_in chronicle old.stripe) (state_in chronicle new.stripe)
+      → IsSession disk directory chronicle session → IsPart disk directory chronicle new → IsActive disk directory chronicle new (slots_in session)
+  line_session session old new is leaves h part =
+      let a = active session old is h in
+      record { part = part; held = still_held None None (state_in chronicle old.stripe) (state_in chronicle new.stripe) (slots_in session) leaves (none_else (slots_in session)) a.held; apart = a.apart }
+
+  -- behind a call that lowers no count the device has counted so far
+  pub reached : (run : Run) (old new : Part D R C) → run.state ≡ Some (state_in chronicle old.stripe) → IsPart disk directory chronicle old
+      → (seen_in disk directory old.stripe).device.faults ≤ (seen_in disk directory new.stripe).device.faults → AreReached (fault_of run.state) (return_of disk directory chronicle (Some new))
+  reached run old new state h later = subst (λ o. AreReached (fault_of o) (return_of disk directory chronicle (Some new))) (sym state) (omega (arith, h.stripe.pieces.faults, later), tt)
+
+  -- what a removal or a flush is for a session
+  pub line_plays : (tell : StepsTell) (owns : StepsOwn) (run : Run) (session new : Session D R C) (old part : Part D R C) (turn : Turn) (step : Step) → session.part ≡ Some old
+      → new.part ≡ Some part → names_in new ≡ names_in session → ((n : ℕ) → slots_in new n ≡ slots_in session n)
+      → LeavesBut None None (state_in chronicle old.stripe) (state_in chronicle part.stripe) → IsSession disk directory chronicle session → Plays disk directory chronicle run session
+      → (takes : SessionTakes run (state_in chronicle old.stripe) turn step) → after_all (state_in chronicle old.stripe) turn.added ≡ state_in chronicle part.stripe
+      → (later : Run) → later.actors ≡ run.actors → later.streams ≡ run.streams → later.held ≡ run.held → later.state ≡ Some (after_all (state_in chronicle old.stripe) turn.added)
+      → streams_behind run (state_in chronicle old.stripe) (after_all (state_in chronicle old.stripe) turn.added) turn step ≡ run.streams
+      → Plays disk directory chronicle later new
+  line_plays tell owns run session new old part turn step is now names slots leaves h plays takes behind later actors streams held state same =
+      let s : State = state_in chronicle old.stripe in
+      let t : State = state_in chronicle part.stripe in
+      let a = active session old is h in
+      let p = playing run session old is plays in
+      let own : AreOwn t later.streams = subst (AreOwn t) (sym streams) (subst (AreOwn t) same (own_behind owns run s t turn step (slots_in session) takes behind a.part.quiet a.held p)) in
+      let here : PlaysIn later t (slots_in session) = still_plays None None run later s t (slots_in session) leaves (none_else (slots_in session)) (λ q no. ap (λ (f : ℕ → Rattle.script_run.specs.Run.Stream). f q) streams)
+      (λ m. ap (λ (f : ℕ → Option Rattle.script_run.specs.Run.Holding). f m) held) (state ∙ ap Some behind) (told_behind tell run s t turn step takes behind p.told) own p in
+      record {
+        names = actors ∙ (plays.names ∙ sym names);
+        at = subst (λ o. PlaysAt disk directory chronicle later o (slots_in new)) (sym now) (record {
+          state = here.state;
+          told = here.told;
+          own = here.own;
+          held = λ n. subst (IsHeldAs later t n) (sym (slots n)) (here.held n);
+        });
+      }
+
+-- ---- lines that are one call and have no actor
+
+-- what a line makes of a run where there is a session, and what it leaves
+pub record IsPlain (step : Step) : Type 0 where
+  pub takes : (run : Run) (s : State) (turn : Turn) → SessionTakes run s turn step → Takes run turn (Some s) step
+  pub says : (run : Run) (s : State) (turn : Turn) → step_said run turn (Some s) step ≡ session_said run s (after_all s turn.added) turn step
+  pub actors : (run : Run) (s : State) (turn : Turn) → (behind run turn (Some s) step).actors ≡ run.actors
+  pub streams : (run : Run) (s : State) (turn : Turn) → (behind run turn (Some s) step).streams ≡ run.streams
+  pub held : (run : Run) (s : State) (turn : Turn) → (behind run turn (Some s) step).held ≡ run.held
+  pub state : (run : Run) (s : State) (turn : Turn) → (behind run turn (Some s) step).state ≡ Some (after_all s turn.added)
+  pub same : (run : Run) (s t : State) (turn : Turn) → streams_behind run s t turn step ≡ run.streams
+
+pub remove_plain : (key : Key) → IsPlain (step.Remove key)
+remove_plain key = record {
+  takes = λ run s turn t. t;
+  says = λ run s turn. refl;
+  actors = λ run s turn. refl;
+  streams = λ run s turn. refl;
+  held = λ run s turn. refl;
+  state = λ run s turn. refl;
+  same = λ run s t turn. refl;
+}
+
+pub flush_plain : IsPlain step.Flush
+flush_plain = record {
+  takes = λ run s turn t. t;
+  says = λ run s turn. refl;
+  actors = λ run s turn. refl;
+  streams = λ run s turn. refl;
+  held = λ run s turn. refl;
+  state = λ run s turn. refl;
+  same = λ run s t turn. refl;
+}
+
+module _ {D R C : Type 0} (disk : DiskGhosts D) (directory : DirectoryGhosts R) (chronicle : ChronicleGhosts C) where
+  plain_ends : (tell : StepsTell) (owns : StepsOwn) (session new : Session D R C) (old part : Part D R C) (step : Step) (said : StepAnswer) → IsPlain step → session.part ≡ Some old → new.part ≡ Some part
+      → names_in new ≡ names_in session → ((n : ℕ) → slots_in new n ≡ slots_in session n) → LeavesBut None None (state_in chronicle old.stripe) (state_in chronicle part.stripe)
+      → IsSession disk directory chronicle session → ((run : Run) → Plainly run step (state_in chronicle old.stripe) (state_in chronicle part.stripe) said)
+      → (run : Run) → Plays disk directory chronicle run session → StepEnds disk directory chronicle run step new said
+  plain_ends tell owns session new old part step said plain is now names slots leaves h ends run plays =
+      let s : State = state_in chronicle old.stripe in
+      let e = ends run in
+      let p = playing disk directory chronicle run session old is plays in
+      inl (moves disk directory chronicle run s e.turn step new said p.state (plain.takes run s e.turn e.takes)
+      (plain.says run s e.turn ∙ (ap (λ u. session_said run s u e.turn step) e.behind ∙ e.says))
+      (line_plays disk directory chronicle tell owns run session new old part e.turn step is now names slots leaves h plays e.takes e.behind (behind run e.turn (Some s) step)
+      (plain.actors run s e.turn) (plain.streams run s e.turn) (plain.held run s e.turn) (plain.state run s e.turn) (plain.same run s (after_all s e.turn.added) e.turn)))
+
+  pub line_ends : (tell : StepsTell) (owns : StepsOwn) (session new : Session D R C) (old part : Part D R C) (step : Step) (result : Result StepAnswer Stop) → IsPlain step → session.part ≡ Some old → new.part ≡ Some part
+      → names_in new ≡ names_in session → ((n : ℕ) → slots_in new n ≡ slots_in session n) → LeavesBut None None (state_in chronicle old.stripe) (state_in chronicle part.stripe)
+      → IsSession disk directory chronicle session → IfOk result (λ said. (run : Run) → Plainly run step (state_in chronicle old.stripe) (state_in chronicle part.stripe) said)
+      → IfOk result (λ said. (run : Run) → Plays disk directory chronicle run session → StepEnds disk directory chronicle run step new said)
+  line_ends tell owns session new old part step (Ok said) plain is now names slots leaves h ends = plain_ends tell owns session new old part step said plain is now names slots leaves h ends
+  line_ends tell owns session new old part step (Err why) plain is now names slots leaves h ends = tt
+
+  pub line_reached : (session : Session D R C) (old part : Part D R C) (result : Result StepAnswer Stop) → session.part ≡ Some old → IsSession disk directory chronicle session
+      → (seen_in disk directory old.stripe).device.faults ≤ (seen_in disk directory part.stripe).device.faults
+      → OnErr result ((run : Run) → Plays disk directory chronicle run session → AreReached (fault_of run.state) (return_of disk directory chronicle (Some part)))
+  line_reached session old part (Ok said) is h later = tt
+  line_reached session old part (Err why) is h later = λ run plays.
+      reached disk directory chronicle run old part (playing disk directory chronicle run session old is plays).state (active disk directory chronicle session old is h).part later

@@ -1,0 +1,273 @@
+-- A body that is fed to a new writer, which is then closed.
+use Rattle.std.proofs.Common.{◌≡◌, ℕ, ◌+◌, ◌≤◌, List, [], ◌∷◌, ◌++◌, length, refl, sym, ◌∙◌, ap, subst, arith, true, false, inl, inr, Ok, Err, Result}
+use Rattle.std.specs.Prelude.{Option, Some, None, option_map, unwrap_or, filter}
+use Rattle.std.specs.List.{AllByRecursion}
+use Rattle.std.proofs.lemmas.List.{append-nil, append_assoc, length-append}
+use Rattle.tape_base.specs.declared.keys.Key.{Key}
+use Rattle.fragment_table.specs.Table.{TableRow, total_length}
+use Rattle.cache_model.specs.declared.cause.Cause.{Cause}
+use Rattle.cache_model.specs.declared.cause.Cause.TheVariants as cause
+use Rattle.cache_model.specs.declared.record.Rec.{Rec}
+use Rattle.cache_model.specs.State.{PutRow, State, after_all, fragment_piece, put_of}
+use Rattle.cache_model.specs.Kept.{Kept, state_of, with_records}
+use Rattle.cache_model.specs.Verdict.{cause_of_piece, cuts_of}
+use Rattle.cache_model.specs.Permit.{Commit, Exhausted, Fails, Faulted, Finish, Intent, Lost, ManyFragments, Permit, Reason, TooLarge, Weigh, Work, is_cleanup, to_do}
+use Rattle.cache_model.specs.Legal.{Advances, MayGrow, is_writing, more, nothing}
+use Rattle.cache_model.specs.Vectors.{AreTold, GroupsTell}
+use Rattle.cache_model.proofs.Steps.{after_all-append, grows_on}
+use Rattle.stripe_core.specs.declared.refusal.Refusal.{Refusal}
+use Rattle.stripe_core.specs.declared.refusal.Refusal.TheVariants as refusal
+use Rattle.stripe_vectors.specs.Reading.{IsCollision}
+use Rattle.stripe_write.specs.declared.finishing.Receipt.{Receipt}
+use Rattle.stripe_write.specs.declared.writer.Writer.{Writer}
+use Rattle.stripe_write.specs.Writers.{IsAtHand, IsWriterOf}
+use Rattle.stripe_write.specs.Closes.{Closes, ClosesAsAsked, ClosesWhere, IsComplete}
+use Rattle.stripe_write.specs.Closing.{SpendsAll, close_intents, rest_intents, rest_rows, rows_at_close}
+use Rattle.stripe_write.proofs.Ended.{open_put}
+use Rattle.script_lang.specs.declared.answer.StepAnswer.TheVariants as answer
+use Rattle.script_lang.specs.declared.answer.Refused.TheVariants as refused
+use Rattle.script_run.specs.Asked.{body_intents, count_with, feed_intents, rest_behind, whole_fragments}
+use Rattle.script_run.specs.Asked.{close_intents as closing_of, rest_intents as resting_of}
+use Rattle.script_run.specs.Answers.{put_said, said}
+use Rattle.cache_replay.specs.Feeding.{FeedsAsAsked, FeedsWhere, Feeds, IsCutUp, feed_end}
+use Rattle.cache_replay.specs.Putting.{Fills, FillsAsAsked, FillsWhere, IsFresh, IsOver, ShowsBody, left_behind, receipt_answer}
+use Rattle.cache_replay.proofs.Endings.{AreClosing, EndsInCommit, IsEnded, ended_along, key_of, rows_then}
+
+-- ---- vectors and puts may be kept along the way
+
+pub told_along : GroupsTell → {p : Permit} {s : State} {w after : Work} {recs : List Rec} → MayGrow p s w recs after → AreTold s → AreTold (after_all s recs)
+told_along tells nothing told = told
+told_along tells {p} {s} {w} {after} (more {rest = rest} added between one others) told =
+    subst AreTold (sym (after_all-append s added rest)) (told_along tells others (told_first tells p s w.intents w.refused added between one told))
+  where
+    told_first : GroupsTell → (p : Permit) (s : State) (is : List Intent) (why : Option Reason) (added : List Rec) (between : Work) → Advances p s is why added between → AreTold s → AreTold (after_all s added)
+    told_first tells p s [] why added between h told = absurd h
+    told_first tells p s (i ∷ is) why added between h told = tells p s i added h.0 told h.1
+
+-- ---- what closing is asked
+
+same_rest : (w : Writer) (bytes : List ℕ) → resting_of w.put (length w.table.rows) bytes ≡ rest_intents w bytes
+same_rest w [] = refl
+same_rest w (byte ∷ bytes) = refl
+
+same_count : (w : Writer) (bytes : List ℕ) → count_with (length w.table.rows) bytes ≡ length (w.table.rows ++ rest_rows bytes)
+same_count w [] = sym (ap length (append-nil w.table.rows))
+same_count w (byte ∷ bytes) = sym (length-append w.table.rows (rest_rows (byte ∷ bytes)))
+
+same_closing : (w : Writer) → closing_of w.put (length w.table.rows) w.gathered.items ≡ close_intents w
+same_closing w =
+    ap (λ is. Weigh w.put (length w.gathered.items) ∷ (is ++ Finish w.put (count_with (length w.table.rows) w.gathered.items) ∷ Commit w.put ∷ [])) (same_rest w w.gathered.items)
+    ∙ ap (λ n. Weigh w.put (length w.gathered.items) ∷ (rest_intents w w.gathered.items ++ Finish w.put n ∷ Commit w.put ∷ [])) (same_count w w.gathered.items)
+
+abbrev closes_of : Writer → List ℕ → ℕ → List Intent
+closes_of w bytes n = Weigh w.put (length w.gathered.items) ∷ (rest_intents w bytes ++ Finish w.put n ∷ Commit w.put ∷ [])
+
+all_closing : (w : Writer) (bytes : List ℕ) (n : ℕ) → AreClosing w.put (closes_of w bytes n) × EndsInCommit w.put (closes_of w bytes n)
+all_closing w [] n = ((refl, (refl, (refl, tt))), refl)
+all_closing w (byte ∷ bytes) n = ((refl, (refl, (refl, (refl, tt)))), refl)
+
+rows_closed : (w : Writer) (bytes : List ℕ) (n : ℕ) (rows : List TableRow) → rows_then (closes_of w bytes n) rows ≡ rows ++ rest_rows bytes
+rows_closed w [] n rows = sym (append-nil rows)
+rows_closed w (byte ∷ bytes) n rows = refl
+
+pub closing_is_work : (put cut : ℕ) (bytes : List ℕ) (rest : List Intent) → filter is_cleanup (closing_of put cut bytes ++ rest) ≡ filter is_cleanup rest
+closing_is_work put cut [] rest = refl
+closing_is_work put cut (byte ∷ bytes) rest = refl
+
+-- ---- what is told of a put that was closed
+
+lost_by : (t : State) (put index : ℕ) (o : Option PutRow) (key : Key) → option_map (λ (p : PutRow). p.key) o ≡ Some key
+    → unwrap_or (option_map (λ (w : PutRow). cause_of_piece t (fragment_piece w.key put index)) o) cause.NeverPut ≡ cause_of_piece t (fragment_piece key put index)
+lost_by t put index None key h = cc
+lost_by t put index (Some row) key h = let same : row.key ≡ key = cc in ap (λ k. cause_of_piece t (fragment_piece k put index)) same
+
+module _ (p : Permit) (old new : Kept) (w : Writer) (own : IsWriterOf (state_of old) w) (writing : is_writing (state_of old) w.put ≡ true) where
+  abbrev s : State
+  s = state_of old
+
+  abbrev t : State
+  t = state_of new
+
+  abbrev at_hand : (row : PutRow) × (put_of s w.put ≡ Some row) × IsAtHand s.geometry row w
+  at_hand = let o = open_put (put_of s w.put) writing in (o.0, o.1, own o.0 o.1 o.2)
+
+  cuts_are : cuts_of s w.put ≡ w.table.rows
+  cuts_are = ap (λ (o : Option PutRow). unwrap_or (option_map (λ (x : PutRow). x.cuts) o) []) at_hand.1 ∙ at_hand.2.cuts_are
+
+  key_is : key_of s w.put ≡ Some w.key
+  key_is = ap (λ (o : Option PutRow). option_map (λ (x : PutRow). x.key) o) at_hand.1 ∙ ap (λ k. let o : Option Key = Some k in o) at_hand.2.key_is
+
+  ended : (added : List Rec) (why : Option Reason) → new ≡ with_records old added → MayGrow p s (to_do (close_intents w ++ [])) added (record { intents = []; refused = why })
+      → IsEnded why t w.put (rows_at_close w) (Some w.key)
+  ended added why adds grows =
+      let all = all_closing w w.gathered.items (length (rows_at_close w)) in
+      let plain : MayGrow p s (to_do (close_intents w)) added (record { intents = []; refused = why }) = subst (λ is. MayGrow p s (to_do is) added (record { intents = []; refused = why })) (append-nil (close_intents w)) grows in
+      let there : IsEnded why (after_all s added) w.put (rows_then (close_intents w) (cuts_of s w.put)) (key_of s w.put) = ended_along plain w.put (close_intents w) why refl refl all.0 all.1 in
+      let rows : rows_then (close_intents w) (cuts_of s w.put) ≡ rows_at_close w = ap (rows_then (close_intents w)) cuts_are ∙ rows_closed w w.gathered.items (length (rows_at_close w)) w.table.rows in
+      let state : t ≡ after_all s added = ap state_of adds ∙ after_all-append old.base old.since added in
+      subst (λ x. IsEnded why x w.put (rows_at_close w) (Some w.key)) (sym state)
+      (subst (λ r. IsEnded why (after_all s added) w.put r (Some w.key)) rows (subst (λ k. IsEnded why (after_all s added) w.put (rows_then (close_intents w) (cuts_of s w.put)) k) key_is there))
+
+  -- the answer to a put that is complete
+  complete_said : (receipt : Receipt) → IsComplete w receipt → IsEnded None t w.put (rows_at_close w) (Some w.key) → put_said t w.put ≡ receipt_answer (Ok receipt)
+  complete_said receipt whole end =
+      ap (λ (rows : List TableRow). answer.Put w.put (total_length rows) (length rows)) end.1
+      ∙ (ap (λ q. answer.Put q (total_length (rows_at_close w)) (length (rows_at_close w))) (sym whole.put)
+      ∙ (ap (λ n. answer.Put receipt.put n (length (rows_at_close w))) (sym whole.bytes) ∙ ap (answer.Put receipt.put receipt.length) (sym whole.fragments)))
+
+  lost_said : (index : ℕ) (why : Cause) → why ≡ cause_of_piece t (fragment_piece w.key w.put index) → IsEnded (Some (Lost w.put index)) t w.put (rows_at_close w) (Some w.key)
+      → said t None (Some (Lost w.put index)) (put_said t w.put) ≡ receipt_answer (Err (refusal.Lost index why))
+  lost_said index why is end = ap (λ c. answer.Refused (refused.Lost index c) None) (lost_by t w.put index (put_of t w.put) w.key end.1 ∙ sym is)
+
+-- ---- the pieces of a whole body
+
+module _ (p : Permit) (old mid new : Kept) (w v : Writer) (body : List ℕ) (tells : GroupsTell) (fresh : IsFresh w) (number : v.put ≡ w.put)
+    (cut : IsCutUp (state_of old).geometry.fragment w body v) (own_mid : IsWriterOf (state_of mid) v) (writing_mid : is_writing (state_of mid) v.put ≡ true) where
+  abbrev before : State
+  before = state_of old
+
+  abbrev f : ℕ
+  f = before.geometry.fragment
+
+  rows_are : length v.table.rows ≡ whole_fragments f body
+  rows_are =
+      cut.fragments ∙ (ap (λ (rows : List TableRow). length rows + whole_fragments f (w.gathered.items ++ body)) fresh.rows
+      ∙ (none_more (whole_fragments f (w.gathered.items ++ body)) ∙ ap (λ xs. whole_fragments f (xs ++ body)) fresh.gathered))
+    where
+      none_more : (k : ℕ) → 0 + k ≡ k
+      none_more k = omega arith
+
+  rest_is : v.gathered.items ≡ rest_behind f body
+  rest_is = cut.rest ∙ ap (λ xs. rest_behind f (xs ++ body)) fresh.gathered
+
+  closes_are : close_intents v ≡ closing_of w.put (whole_fragments f body) (rest_behind f body)
+  closes_are =
+      sym (same_closing v) ∙ (ap (λ q. closing_of q (length v.table.rows) v.gathered.items) number
+      ∙ (ap (λ n. closing_of w.put n v.gathered.items) rows_are ∙ ap (closing_of w.put (whole_fragments f body)) rest_is))
+
+  feeds_are : feed_intents f w.put (length w.table.rows) (w.gathered.items ++ body) ≡ feed_intents f w.put 0 body
+  feeds_are = ap (λ (rows : List TableRow). feed_intents f w.put (length rows) (w.gathered.items ++ body)) fresh.rows ∙ ap (λ xs. feed_intents f w.put 0 (xs ++ body)) fresh.gathered
+
+  all_are : (rest : List Intent) → feed_intents f w.put (length w.table.rows) (w.gathered.items ++ body) ++ (close_intents v ++ rest) ≡ body_intents f w.put body ++ rest
+  all_are rest =
+      ap (λ is. is ++ (close_intents v ++ rest)) feeds_are ∙ (ap (λ is. feed_intents f w.put 0 body ++ (is ++ rest)) closes_are
+      ∙ sym (append_assoc (feed_intents f w.put 0 body) (closing_of w.put (whole_fragments f body) (rest_behind f body)) rest))
+
+  module _ (fed : Feeds p old mid w body None) where
+    state_mid : state_of mid ≡ after_all before fed.added
+    state_mid = ap state_of fed.adds ∙ after_all-append old.base old.since fed.added
+
+    pub fed_grows : (rest : List Intent) → MayGrow p before (to_do (body_intents f w.put body ++ rest)) fed.added (to_do (close_intents v ++ rest))
+    fed_grows rest = subst (λ is. MayGrow p before (to_do is) fed.added (to_do (close_intents v ++ rest))) (all_are rest) (fed.does (close_intents v ++ rest) None)
+
+    pub fed_told : AreTold before → AreTold (state_of mid)
+    fed_told told = subst AreTold (sym state_mid) (told_along tells (fed_grows []) told)
+
+    pub shown : IsCollision p (state_of mid) v.key → ShowsBody p before w.put body
+    shown other = record { added = fed.added; left = λ rest. to_do (close_intents v ++ rest); key = v.key; grows = fed_grows; other = subst (λ x. IsCollision p x v.key) state_mid other }
+
+    both_grow : (b : List Rec) (why : Option Reason) (rest : List Intent) → MayGrow p (state_of mid) (to_do (close_intents v ++ rest)) b (left_behind rest why) → MayGrow p before (to_do (body_intents f w.put body ++ rest)) (fed.added ++ b) (left_behind rest why)
+    both_grow b why rest h = grows_on (fed_grows rest) (subst (λ x. MayGrow p x (to_do (close_intents v ++ rest)) b (left_behind rest why)) state_mid h)
+
+    adds_both : (b : List Rec) → new ≡ with_records mid b → new ≡ with_records old (fed.added ++ b)
+    adds_both b adds = adds ∙ (ap (λ k. with_records k b) fed.adds ∙ ap (λ recs. let k : Kept = record { base = old.base; since = recs } in k) (append_assoc old.since fed.added b))
+
+    filled : (result : Result Receipt Refusal) (why : Option Reason) (b : List Rec) → new ≡ with_records mid b → ((rest : List Intent) → MayGrow p (state_of mid) (to_do (close_intents v ++ rest)) b (left_behind rest why))
+        → said (state_of new) None why (put_said (state_of new) v.put) ≡ receipt_answer result → IsOver (state_of new) v.put why → Fills p old new w body result
+    filled result why b adds grows says over = record {
+      added = fed.added ++ b;
+      why = why;
+      adds = adds_both b adds;
+      grows = λ rest. both_grow b why rest (grows rest);
+      says = subst (λ q. said (state_of new) None why (put_said (state_of new) q) ≡ receipt_answer result) number says;
+      over = subst (λ q. IsOver (state_of new) q why) number over;
+    }
+
+    pub closed_fills : (result : Result Receipt Refusal) → Closes p mid new v result → ClosesWhere (state_of mid) (state_of new) v result → ((e : Rattle.std.specs.declared.alloc.AllocError.AllocError) → result ≡ Err (refusal.Memory e) → ⊥)
+        → Fills p old new w body result
+    closed_fills (Ok receipt) c where_ memory =
+        let grows : (rest : List Intent) → MayGrow p (state_of mid) (to_do (close_intents v ++ rest)) c.added (left_behind rest None) = λ rest. c.does rest None in
+        let end : IsEnded None (state_of new) v.put (rows_at_close v) (Some v.key) = ended p mid new v own_mid writing_mid c.added None c.adds (c.does [] None) in
+        filled (Ok receipt) None c.added c.adds grows (complete_said p mid new v own_mid writing_mid receipt where_.1 end) end.0
+    closed_fills (Err (refusal.VectorTooLarge bytes)) c where_ memory = filled (Err (refusal.VectorTooLarge bytes)) (Some (TooLarge v.put bytes)) c.added c.adds (λ rest. c.does rest None) refl tt
+    closed_fills (Err (refusal.Lost index why)) c where_ memory =
+        let end : IsEnded (Some (Lost v.put index)) (state_of new) v.put (rows_at_close v) (Some v.key) = ended p mid new v own_mid writing_mid c.added (Some (Lost v.put index)) c.adds (c.does [] None) in
+        filled (Err (refusal.Lost index why)) (Some (Lost v.put index)) c.added c.adds (λ rest. c.does rest None) (lost_said p mid new v own_mid writing_mid index why where_.1 end) end.0
+    closed_fills (Err (refusal.DeviceFault count)) c where_ memory = filled (Err (refusal.DeviceFault count)) (Some (Faulted count)) c.added c.adds (λ rest. c.does rest None) refl tt
+    closed_fills (Err (refusal.Exhausted number_)) c where_ memory = filled (Err (refusal.Exhausted number_)) (Some Exhausted) c.added c.adds (λ rest. c.does rest None) refl tt
+    closed_fills (Err (refusal.Memory e)) c where_ memory = absurd (memory e refl)
+    closed_fills (Err refusal.NoSuchWriter) c where_ memory = let clash : true ≡ false = sym writing_mid ∙ where_ in cc
+    closed_fills (Err refusal.TooManyWriters) c where_ memory = absurd where_
+    closed_fills (Err refusal.TooManyFragments) c where_ memory = absurd where_
+    closed_fills (Err refusal.Sealed) c where_ memory = absurd where_
+
+-- ---- all is fed, and the writer closed
+
+module _ (before mid after : ℕ) (old now new : Kept) (w v : Writer) (body : List ℕ) (tells : GroupsTell) (fresh : IsFresh w) (number : v.put ≡ w.put)
+    (cut : IsCutUp (state_of old).geometry.fragment w body v) (own_mid : IsWriterOf (state_of now) v) (writing_mid : is_writing (state_of now) v.put ≡ true)
+    (fed : FeedsAsAsked before mid old now w body None) (earlier : before ≤ mid) (later : mid ≤ after) where
+  closed_asks : (result : Result Receipt Refusal) → ClosesAsAsked mid after now new v result → ClosesWhere (state_of now) (state_of new) v result
+      → ((e : Rattle.std.specs.declared.alloc.AllocError.AllocError) → result ≡ Err (refusal.Memory e) → ⊥) → FillsAsAsked before after old new w body result
+  closed_asks result closes where_ memory = record {
+    reads = closes.reads;
+    does = λ p covers told.
+        let here : Feeds p old now w body None = fed.does p (record { plain = covers.plain; from = covers.from; upto = omega (arith, later, covers.upto); knows = tt }) in
+        elim (closes.does p (record { plain = covers.plain; from = omega (arith, earlier, covers.from); upto = covers.upto; knows = covers.knows }) (fed_told p old now new w v body tells fresh number cut own_mid writing_mid here told)) [
+          | inl c ↦ inl (closed_fills p old now new w v body tells fresh number cut own_mid writing_mid here result c where_ memory)
+          | inr other ↦ inr (shown p old now new w v body tells fresh number cut own_mid writing_mid here other)
+        ];
+  }
+
+  pub closes_fill : (result : Result Receipt Refusal) → ClosesAsAsked mid after now new v result → ClosesWhere (state_of now) (state_of new) v result → FillsWhere before after old new w body result
+  closes_fill (Err (refusal.Memory e)) closes where_ = tt
+  closes_fill (Ok receipt) closes where_ = closed_asks (Ok receipt) closes where_ (λ e h. cc)
+  closes_fill (Err (refusal.VectorTooLarge bytes)) closes where_ = closed_asks (Err (refusal.VectorTooLarge bytes)) closes where_ (λ e h. cc)
+  closes_fill (Err (refusal.Lost index why)) closes where_ = closed_asks (Err (refusal.Lost index why)) closes where_ (λ e h. cc)
+  closes_fill (Err (refusal.DeviceFault count)) closes where_ = closed_asks (Err (refusal.DeviceFault count)) closes where_ (λ e h. cc)
+  closes_fill (Err (refusal.Exhausted number_)) closes where_ = closed_asks (Err (refusal.Exhausted number_)) closes where_ (λ e h. cc)
+  closes_fill (Err refusal.NoSuchWriter) closes where_ = let clash : true ≡ false = sym writing_mid ∙ where_ in cc
+  closes_fill (Err refusal.TooManyWriters) closes where_ = absurd where_
+  closes_fill (Err refusal.TooManyFragments) closes where_ = absurd where_
+  closes_fill (Err refusal.Sealed) closes where_ = absurd where_
+
+-- ---- a write is refused
+
+module _ (before after : ℕ) (old new : Kept) (w : Writer) (body : List ℕ) (fresh : IsFresh w) where
+  abbrev fragment : ℕ
+  fragment = (state_of old).geometry.fragment
+
+  feed_is : feed_intents fragment w.put (length w.table.rows) (w.gathered.items ++ body) ≡ feed_intents fragment w.put 0 body
+  feed_is = ap (λ (rows : List TableRow). feed_intents fragment w.put (length rows) (w.gathered.items ++ body)) fresh.rows ∙ ap (λ xs. feed_intents fragment w.put 0 (xs ++ body)) fresh.gathered
+
+  fails : (result : Refusal) (why : Reason) → FeedsAsAsked before after old new w body (Some result) → feed_end w.put (Some result) ≡ Fails why
+      → said (state_of new) None (Some why) (put_said (state_of new) w.put) ≡ receipt_answer (Err result) → IsOver (state_of new) w.put (Some why) → FillsAsAsked before after old new w body (Err result)
+  fails result why fed end says over = record {
+    reads = [];
+    does = λ p covers told.
+        let here : Feeds p old new w body (Some result) = fed.does p covers in
+        let closing : List Intent = closing_of w.put (whole_fragments fragment body) (rest_behind fragment body) in
+        let does : SpendsAll p (state_of old) (feed_intents fragment w.put 0 body) here.added (Fails why) =
+        subst (λ is. SpendsAll p (state_of old) is here.added (Fails why)) feed_is (subst (λ e. SpendsAll p (state_of old) (feed_intents fragment w.put (length w.table.rows) (w.gathered.items ++ body)) here.added e) end here.does) in
+        inl (record {
+          added = here.added;
+          why = Some why;
+          adds = here.adds;
+          grows = λ rest.
+              subst (λ is. MayGrow p (state_of old) (to_do is) here.added (left_behind rest (Some why))) (sym (append_assoc (feed_intents fragment w.put 0 body) closing rest))
+              (subst (λ is. MayGrow p (state_of old) (to_do (feed_intents fragment w.put 0 body ++ (closing ++ rest))) here.added (record { intents = is; refused = Some why }))
+              (closing_is_work w.put (whole_fragments fragment body) (rest_behind fragment body) rest) (does (closing ++ rest) None));
+          says = says;
+          over = over;
+        });
+  }
+
+  pub refused_fill : (why : Refusal) → FeedsWhere before after old new w body (Some why) → FillsWhere before after old new w body (Err why)
+  refused_fill refusal.TooManyFragments fed = fails refusal.TooManyFragments (ManyFragments w.put) fed refl refl tt
+  refused_fill (refusal.DeviceFault count) fed = fails (refusal.DeviceFault count) (Faulted count) fed refl refl tt
+  refused_fill (refusal.Exhausted number) fed = fails (refusal.Exhausted number) Exhausted fed refl refl tt
+  refused_fill (refusal.Memory e) fed = tt
+  refused_fill refusal.Sealed fed = let clash : true ≡ false = sym fed.0 ∙ fresh.unsealed in cc
+  refused_fill refusal.TooManyWriters fed = absurd fed
+  refused_fill refusal.NoSuchWriter fed = absurd fed
+  refused_fill (refusal.VectorTooLarge size) fed = absurd fed
+  refused_fill (refusal.Lost index cause_) fed = absurd fed

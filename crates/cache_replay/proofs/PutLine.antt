@@ -1,0 +1,135 @@
+-- A whole put as a line on a session.
+use Rattle.std.proofs.Common.{◌≡◌, ℕ, List, [], refl, sym, ◌∙◌, ap, subst, Bool, true, false, ◌⊎◌, inl, inr, Result, Ok, Err}
+use Rattle.std.specs.Prelude.{Option, Some, None, IfOk, ◌==◌, if◌then◌else◌}
+use Rattle.std.proofs.lemmas.Bool.{eqb-true}
+use Rattle.ats_disk.specs.declared.device.Disk.{Ghosts as DiskGhosts}
+use Rattle.dir_table.specs.declared.directory.Directory.{Ghosts as DirectoryGhosts}
+use Rattle.cache_chronicle.specs.declared.chronicle.Chronicle.{Ghosts as ChronicleGhosts}
+use Rattle.tape_base.specs.declared.keys.Key.{Key}
+use Rattle.alternate_vector.specs.Field.{Field}
+use Rattle.cache_model.specs.State.{State, after_all}
+use Rattle.cache_model.specs.Kept.{Kept, state_of}
+use Rattle.cache_model.specs.Permit.{Permit}
+use Rattle.cache_model.specs.Vectors.{AreTold, StepsTell}
+use Rattle.stripe_core.specs.declared.refusal.Refusal.{Refusal}
+use Rattle.stripe_core.specs.declared.refusal.Refusal.TheVariants as refusal
+use Rattle.stripe_core.specs.Stripe.{state_in}
+use Rattle.stripe_write.specs.declared.finishing.Receipt.{Receipt}
+use Rattle.script_lang.specs.declared.step.Step.TheVariants as step
+use Rattle.script_lang.specs.declared.answer.StepAnswer.{StepAnswer}
+use Rattle.script_run.specs.Run.{Run, Stream}
+use Rattle.script_run.specs.Answers.{session_said}
+use Rattle.script_run.specs.Behind.{in_session, with_bytes}
+use Rattle.script_run.specs.Laws.{StepsOwn}
+use Rattle.script_run.specs.Takes.{StepShows}
+use Rattle.cache_replay.specs.declared.session.Session.{Session}
+use Rattle.cache_replay.specs.declared.session.Part.{Part}
+use Rattle.cache_replay.specs.declared.session.Holding.{Holding}
+use Rattle.cache_replay.specs.declared.stop.Stop.{Stop}
+use Rattle.cache_replay.specs.Session.{IsActive, IsHeld, IsPart, IsSession, LeavesBut, names_in, slots_in}
+use Rattle.cache_replay.specs.Plays.{Plays, PlaysAt, PlaysIn, StepEnds}
+use Rattle.cache_replay.specs.Plain.{Plainly}
+use Rattle.cache_replay.specs.Putting.{PutsAsAsked, PutsWhere, receipt_answer}
+use Rattle.cache_replay.specs.WriterLines.{closed_answer}
+use Rattle.cache_replay.proofs.Frames.{some_is, state_behind}
+use Rattle.cache_replay.proofs.Lines.{free_of, next_is_free}
+use Rattle.cache_replay.proofs.OnSession.{active, moves, own_behind, playing, told_behind}
+use Rattle.cache_replay.proofs.Plain.{AllElse, still_held, still_plays}
+use Rattle.cache_replay.proofs.WholeReads.{call_covered, call_permit}
+
+-- ---- what a put is for a cache
+
+abbrev Ends : Run → (s t : State) → Key → List ℕ → (request response : List Field) → StepAnswer → Type 0
+Ends run s t key body request response said = Plainly run (step.Put key body request response) s t said ⊎ StepShows run (Some s) (step.Put key body request response)
+
+module _ (before after : ℕ) (k new : Kept) (key : Key) (body : List ℕ) (request response : List Field) (run : Run) (told : AreTold (state_of k)) where
+  asked_puts : (result : Result Receipt Refusal) (said : StepAnswer) → receipt_answer result ≡ said → PutsAsAsked before after k new key body request response result
+      → Ends run (state_of k) (state_of new) key body request response said
+  asked_puts result said is puts =
+      let p : Permit = call_permit before after puts.reads in
+      elim (puts.does p (call_covered before after puts.reads) told) [
+        | inl x ↦ inl (record {
+          turn = record { added = x.added; refused = x.why; device = p; given = [] };
+          takes = record { plain = refl; legal = x.step; own = refl };
+          behind = sym (state_behind k new x.added x.adds);
+          says = x.says ∙ is;
+        })
+        | inr shows ↦ inr (record { device = p; added = shows.added; left = shows.left; grows = shows.grows; other = inl (shows.key, shows.other) })
+      ]
+
+  -- a put that is answered
+  pub puts : (result : Result Receipt Refusal) (said : StepAnswer) → closed_answer result ≡ Some said → PutsWhere before after k new key body request response result
+      → Ends run (state_of k) (state_of new) key body request response said
+  puts (Ok receipt) said is h = asked_puts (Ok receipt) said (some_is StepAnswer (receipt_answer (Ok receipt)) said is) h
+  puts (Err (refusal.Memory e)) said is h = cc is
+  puts (Err refusal.TooManyWriters) said is h = asked_puts (Err refusal.TooManyWriters) said (some_is StepAnswer (receipt_answer (Err refusal.TooManyWriters)) said is) h
+  puts (Err refusal.TooManyFragments) said is h = asked_puts (Err refusal.TooManyFragments) said (some_is StepAnswer (receipt_answer (Err refusal.TooManyFragments)) said is) h
+  puts (Err (refusal.VectorTooLarge bytes)) said is h = asked_puts (Err (refusal.VectorTooLarge bytes)) said (some_is StepAnswer (receipt_answer (Err (refusal.VectorTooLarge bytes))) said is) h
+  puts (Err (refusal.Lost index why)) said is h = asked_puts (Err (refusal.Lost index why)) said (some_is StepAnswer (receipt_answer (Err (refusal.Lost index why))) said is) h
+  puts (Err refusal.Sealed) said is h = asked_puts (Err refusal.Sealed) said (some_is StepAnswer (receipt_answer (Err refusal.Sealed)) said is) h
+  puts (Err (refusal.Exhausted number)) said is h = asked_puts (Err (refusal.Exhausted number)) said (some_is StepAnswer (receipt_answer (Err (refusal.Exhausted number))) said is) h
+  puts (Err (refusal.DeviceFault count)) said is h = asked_puts (Err (refusal.DeviceFault count)) said (some_is StepAnswer (receipt_answer (Err (refusal.DeviceFault count))) said is) h
+  puts (Err refusal.NoSuchWriter) said is h = asked_puts (Err refusal.NoSuchWriter) said (some_is StepAnswer (receipt_answer (Err refusal.NoSuchWriter)) said is) h
+
+-- ---- no actor has anything to do with it
+
+-- of the streams only that of the new put is another
+other_stream : (streams : ℕ → Stream) (put q : ℕ) (body : List ℕ) → (Some put ≡ Some q → ⊥) → with_bytes streams put body q ≡ streams q
+other_stream streams put q body other = by (q == put) refl
+  where
+    by : (b : Bool) → (q == put) ≡ b → (if b then record { bytes = body; sealed = false } else streams q) ≡ streams q
+    by true e = absurd (other (ap Some (sym (eqb-true q put e))))
+    by false e = refl
+
+module _ {D R C : Type 0} (disk : DiskGhosts D) (directory : DirectoryGhosts R) (chronicle : ChronicleGhosts C) where
+  -- no actor writes the next put
+  none_writes : (part : Part D R C) (slots : ℕ → Option Holding) → IsActive disk directory chronicle part slots → AllElse slots (Some (state_in chronicle part.stripe).next_put) None
+  none_writes part slots a = λ m h is.
+      let s : State = state_in chronicle part.stripe in
+      free_of s h (next_is_free s a.part.stripe.actors.puts_fall) (subst (λ o. Rattle.std.specs.Prelude.IfSome o (IsHeld s)) is (a.held m))
+
+  pub put_session : (session : Session D R C) (old new : Part D R C) → session.part ≡ Some old → LeavesBut (Some (state_in chronicle old.stripe).next_put) None (state_in chronicle old.stripe) (state_in chronicle new.stripe)
+      → IsSession disk directory chronicle session → IsPart disk directory chronicle new → IsActive disk directory chronicle new (slots_in session)
+  put_session session old new is leaves h part =
+      let s : State = state_in chronicle old.stripe in
+      let a = active disk directory chronicle session old is h in
+      record { part = part; held = still_held (Some s.next_put) None s (state_in chronicle new.stripe) (slots_in session) leaves (none_writes old (slots_in session) a) a.held; apart = a.apart }
+
+  put_plays : (tell : StepsTell) (owns : StepsOwn) (run : Run) (session : Session D R C) (old part : Part D R C) (key : Key) (body : List ℕ) (request response : List Field) (said : StepAnswer) → session.part ≡ Some old
+      → LeavesBut (Some (state_in chronicle old.stripe).next_put) None (state_in chronicle old.stripe) (state_in chronicle part.stripe) → IsSession disk directory chronicle session → Plays disk directory chronicle run session
+      → (x : Plainly run (step.Put key body request response) (state_in chronicle old.stripe) (state_in chronicle part.stripe) said)
+      → PlaysIn (in_session run (state_in chronicle old.stripe) (after_all (state_in chronicle old.stripe) x.turn.added) x.turn (step.Put key body request response)) (state_in chronicle part.stripe) (slots_in session)
+  put_plays tell owns run session old part key body request response said is leaves h plays x =
+      let s : State = state_in chronicle old.stripe in
+      let t : State = state_in chronicle part.stripe in
+      let a = active disk directory chronicle session old is h in
+      let p = playing disk directory chronicle run session old is plays in
+      let later : Run = in_session run s (after_all s x.turn.added) x.turn (step.Put key body request response) in
+      still_plays (Some s.next_put) None run later s t (slots_in session) leaves (none_writes old (slots_in session) a) (λ q other. other_stream run.streams s.next_put q body other) (λ m. refl) (ap Some x.behind)
+      (told_behind tell run s t x.turn (step.Put key body request response) x.takes x.behind p.told)
+      (own_behind owns run s t x.turn (step.Put key body request response) (slots_in session) x.takes x.behind a.part.quiet a.held p) p
+
+  put_moves : (tell : StepsTell) (owns : StepsOwn) (session new : Session D R C) (old part : Part D R C) (key : Key) (body : List ℕ) (request response : List Field) (said : StepAnswer) → session.part ≡ Some old → new.part ≡ Some part
+      → names_in new ≡ names_in session → slots_in new ≡ slots_in session → LeavesBut (Some (state_in chronicle old.stripe).next_put) None (state_in chronicle old.stripe) (state_in chronicle part.stripe)
+      → IsSession disk directory chronicle session → ((run : Run) → AreTold (state_in chronicle old.stripe) → Ends run (state_in chronicle old.stripe) (state_in chronicle part.stripe) key body request response said)
+      → (run : Run) → Plays disk directory chronicle run session → StepEnds disk directory chronicle run (step.Put key body request response) new said
+  put_moves tell owns session new old part key body request response said is now names slots leaves h ends run plays =
+      let s : State = state_in chronicle old.stripe in
+      let p = playing disk directory chronicle run session old is plays in
+      elim (ends run p.told) [
+        | inl x ↦
+            let later : Run = in_session run s (after_all s x.turn.added) x.turn (step.Put key body request response) in
+            inl (moves disk directory chronicle run s x.turn (step.Put key body request response) new said p.state x.takes (ap (λ u. session_said run s u x.turn (step.Put key body request response)) x.behind ∙ x.says) (record {
+              names = plays.names ∙ sym names;
+              at = subst (λ o. PlaysAt disk directory chronicle later o (slots_in new)) (sym now)
+                  (subst (PlaysIn later (state_in chronicle part.stripe)) (sym slots) (put_plays tell owns run session old part key body request response said is leaves h plays x));
+            }))
+        | inr shows ↦ inr (subst (λ o. StepShows run o (step.Put key body request response)) (sym p.state) shows)
+      ]
+
+  pub put_ends : (tell : StepsTell) (owns : StepsOwn) (session new : Session D R C) (old part : Part D R C) (key : Key) (body : List ℕ) (request response : List Field) (result : Result StepAnswer Stop) → session.part ≡ Some old → new.part ≡ Some part
+      → names_in new ≡ names_in session → slots_in new ≡ slots_in session → LeavesBut (Some (state_in chronicle old.stripe).next_put) None (state_in chronicle old.stripe) (state_in chronicle part.stripe)
+      → IsSession disk directory chronicle session → IfOk result (λ said. (run : Run) → AreTold (state_in chronicle old.stripe) → Ends run (state_in chronicle old.stripe) (state_in chronicle part.stripe) key body request response said)
+      → IfOk result (λ said. (run : Run) → Plays disk directory chronicle run session → StepEnds disk directory chronicle run (step.Put key body request response) new said)
+  put_ends tell owns session new old part key body request response (Ok said) is now names slots leaves h ends = put_moves tell owns session new old part key body request response said is now names slots leaves h ends
+  put_ends tell owns session new old part key body request response (Err why) is now names slots leaves h ends = tt

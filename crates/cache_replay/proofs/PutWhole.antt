@@ -1,0 +1,127 @@
+-- A put that is opened, fed, closed, and given up where it is still open.
+use Rattle.std.proofs.Common.{◌≡◌, ℕ, ◌≤◌, List, [], ◌∷◌, ◌++◌, refl, sym, ◌∙◌, ap, subst, arith, true, false, inl, inr, Ok, Err, Result}
+use Rattle.std.specs.Prelude.{Option, Some, None}
+use Rattle.std.proofs.lemmas.List.{append_assoc}
+use Rattle.tape_base.specs.declared.keys.Key.{Key}
+use Rattle.cache_model.specs.declared.record.Rec.{Rec}
+use Rattle.cache_model.specs.State.{State, after_all}
+use Rattle.cache_model.specs.Kept.{Kept, state_of, with_records}
+use Rattle.cache_model.specs.Permit.{Done, Exhausted, Faulted, GiveUp, Lost, ManyFragments, ManyWriters, Permit, Reason, TooLarge, Work}
+use Rattle.cache_model.specs.Legal.{Does, MayGrow, is_writing}
+use Rattle.cache_model.proofs.Steps.{after_all-append, grows_by, grows_on}
+use Rattle.stripe_core.specs.declared.refusal.Refusal.{Refusal}
+use Rattle.stripe_core.specs.declared.refusal.Refusal.TheVariants as refusal
+use Rattle.stripe_write.specs.declared.finishing.Receipt.{Receipt}
+use Rattle.stripe_write.specs.declared.writer.Writer.{Writer}
+use Rattle.stripe_write.specs.Writes.{AbortsAsAsked, AbortsWhere, abort_adds}
+use Rattle.stripe_write.proofs.Completing.{nothing_more}
+use Rattle.script_run.specs.Answers.{put_said, said}
+use Rattle.cache_replay.specs.Putting.{BodyEnds, BodyEndsAsAsked, BodyEndsWhere, Fills, FillsAsAsked, FillsWhere, IsOver, ShowsBody, ShowsVector, ending_intents, left_behind, receipt_answer, unless_memory}
+
+-- ---- one behind the other
+
+pub state_is : (old new : Kept) (added : List Rec) → new ≡ with_records old added → state_of new ≡ after_all (state_of old) added
+state_is old new added adds = ap state_of adds ∙ after_all-append old.base old.since added
+
+pub both_add : (old mid new : Kept) (a b : List Rec) → mid ≡ with_records old a → new ≡ with_records mid b → new ≡ with_records old (a ++ b)
+both_add old mid new a b first then_ =
+    then_ ∙ (ap (λ k. with_records k b) first ∙ ap (λ recs. let k : Kept = record { base = old.base; since = recs } in k) (append_assoc old.since a b))
+
+-- ---- the put is given up, where it is still open
+
+abbrev pub cleaned : ℕ → Option Reason → Work
+cleaned put why = record { intents = GiveUp put ∷ []; refused = why }
+
+left_is : (put : ℕ) (why : Option Reason) → left_behind (GiveUp put ∷ []) why ≡ cleaned put why
+left_is put None = refl
+left_is put (Some why) = refl
+
+gives_up : (p : Permit) (t : State) (put : ℕ) (why : Option Reason) (added : List Rec) → Does p t (GiveUp put) added Done
+    → MayGrow p t (left_behind (GiveUp put ∷ []) why) added (record { intents = []; refused = why })
+gives_up p t put why added does =
+    subst (λ w. MayGrow p t w added (record { intents = []; refused = why })) (sym (left_is put why))
+    (grows_by p t (cleaned put why) (record { intents = []; refused = why }) added (Done, does, refl))
+
+-- what was said of a put that is still open is said behind it too
+says_still : (t u : State) (put : ℕ) (why : Option Reason) (result : Result Receipt Refusal) → is_writing t put ≡ true → IsOver t put why
+    → said t None why (put_said t put) ≡ receipt_answer result → said u None why (put_said u put) ≡ receipt_answer result
+says_still t u put None result open_ over_ says = let clash : true ≡ false = sym open_ ∙ over_ in cc
+says_still t u put (Some (Lost q index)) result open_ over_ says = let clash : true ≡ false = sym open_ ∙ over_ in cc
+says_still t u put (Some ManyWriters) result open_ over_ says = says
+says_still t u put (Some Exhausted) result open_ over_ says = says
+says_still t u put (Some (ManyFragments q)) result open_ over_ says = says
+says_still t u put (Some (TooLarge q bytes)) result open_ over_ says = says
+says_still t u put (Some (Faulted count)) result open_ over_ says = says
+
+module _ (p : Permit) (old mid new : Kept) (w : Writer) (body : List ℕ) (result : Result Receipt Refusal) (recs : List Rec)
+    (adds : new ≡ with_records mid recs) (does : Does p (state_of mid) (GiveUp w.put) recs Done) where
+  ends_with : (fills : Fills p old mid w body result) → said (state_of new) None fills.why (put_said (state_of new) w.put) ≡ receipt_answer result
+      → BodyEnds p old new w.put body result
+  ends_with fills says = record {
+    added = fills.added ++ recs;
+    why = fills.why;
+    adds = both_add old mid new fills.added recs fills.adds adds;
+    grows = grows_on (fills.grows (GiveUp w.put ∷ []))
+        (subst (λ x. MayGrow p x (left_behind (GiveUp w.put ∷ []) fills.why) recs (record { intents = []; refused = fills.why }))
+        (state_is old mid fills.added fills.adds) (gives_up p (state_of mid) w.put fills.why recs does));
+    says = says;
+  }
+
+shows_ends : (p : Permit) (s : State) (put : ℕ) (body : List ℕ) → ShowsBody p s put body → ShowsVector p s (ending_intents s put body)
+shows_ends p s put body shows =
+    record { added = shows.added; left = shows.left (GiveUp put ∷ []); key = shows.key; grows = shows.grows (GiveUp put ∷ []); other = shows.other }
+
+module _ (before mid after : ℕ) (old now new : Kept) (w : Writer) (body : List ℕ) (key : Key) (later : mid ≤ after) where
+  abbrev Ending : Result Receipt Refusal → Type 0
+  Ending result = (p : Permit) → Fills p old now w body result → BodyEnds p old new w.put body result
+
+  ends_asks : (result : Result Receipt Refusal) → FillsAsAsked before mid old now w body result → Ending result → BodyEndsAsAsked before after old new w.put body result
+  ends_asks result fills ending = record {
+    reads = fills.reads;
+    does = λ p covers told.
+        elim (fills.does p (record { plain = covers.plain; from = covers.from; upto = omega (arith, later, covers.upto); knows = covers.knows }) told) [
+          | inl here ↦ inl (ending p here)
+          | inr shows ↦ inr (shows_ends p (state_of old) w.put body shows)
+        ];
+  }
+
+  ends_where : (result : Result Receipt Refusal) → FillsWhere before mid old now w body result → Ending result → BodyEndsWhere before after old new w.put body result
+  ends_where (Err (refusal.Memory e)) fills ending = tt
+  ends_where (Ok receipt) fills ending = ends_asks (Ok receipt) fills ending
+  ends_where (Err (refusal.VectorTooLarge bytes)) fills ending = ends_asks (Err (refusal.VectorTooLarge bytes)) fills ending
+  ends_where (Err (refusal.Lost index why)) fills ending = ends_asks (Err (refusal.Lost index why)) fills ending
+  ends_where (Err (refusal.DeviceFault count)) fills ending = ends_asks (Err (refusal.DeviceFault count)) fills ending
+  ends_where (Err (refusal.Exhausted number)) fills ending = ends_asks (Err (refusal.Exhausted number)) fills ending
+  ends_where (Err refusal.NoSuchWriter) fills ending = ends_asks (Err refusal.NoSuchWriter) fills ending
+  ends_where (Err refusal.TooManyWriters) fills ending = ends_asks (Err refusal.TooManyWriters) fills ending
+  ends_where (Err refusal.TooManyFragments) fills ending = ends_asks (Err refusal.TooManyFragments) fills ending
+  ends_where (Err refusal.Sealed) fills ending = ends_asks (Err refusal.Sealed) fills ending
+
+  same_says : new ≡ now → (why : Option Reason) (result : Result Receipt Refusal) → said (state_of now) None why (put_said (state_of now) w.put) ≡ receipt_answer result
+      → said (state_of new) None why (put_said (state_of new) w.put) ≡ receipt_answer result
+  same_says same why result says = subst (λ (k : Kept). said (state_of k) None why (put_said (state_of k) w.put) ≡ receipt_answer result) (sym same) says
+
+  body_ends : (end : Result ℕ Refusal) (result : Result Receipt Refusal) → FillsWhere before mid old now w body result → new ≡ with_records now (abort_adds key end)
+      → AbortsWhere (state_of now) w.put end → AbortsAsAsked (state_of now) w.put key end → BodyEndsWhere before after old new w.put body (unless_memory end result)
+  body_ends (Ok number) result fills adds where_ does =
+      ends_where result fills (λ p here. ends_with p old now new w body result (abort_adds key (Ok number)) adds (does p) here
+      (says_still (state_of now) (state_of new) w.put here.why result where_.1 here.over here.says))
+  body_ends (Err refusal.NoSuchWriter) result fills adds where_ does =
+      ends_where result fills (λ p here. ends_with p old now new w body result [] adds (does p) here (same_says (adds ∙ nothing_more now) here.why result here.says))
+  body_ends (Err (refusal.Memory e)) result fills adds where_ does = tt
+  body_ends (Err (refusal.VectorTooLarge bytes)) result fills adds where_ does = absurd where_
+  body_ends (Err (refusal.Lost index why)) result fills adds where_ does = absurd where_
+  body_ends (Err (refusal.DeviceFault count)) result fills adds where_ does = absurd where_
+  body_ends (Err (refusal.Exhausted number)) result fills adds where_ does = absurd where_
+  body_ends (Err refusal.TooManyWriters) result fills adds where_ does = absurd where_
+  body_ends (Err refusal.TooManyFragments) result fills adds where_ does = absurd where_
+  body_ends (Err refusal.Sealed) result fills adds where_ does = absurd where_
+
+-- the same, where the writer that is given up is the one that was fed
+pub body_ends_at : (before mid after : ℕ) (old now new : Kept) (w v : Writer) (body : List ℕ) (end : Result ℕ Refusal) (result answer : Result Receipt Refusal) → mid ≤ after
+    → v.put ≡ w.put → FillsWhere before mid old now w body result → new ≡ with_records now (abort_adds v.key end)
+    → AbortsWhere (state_of now) v.put end → AbortsAsAsked (state_of now) v.put v.key end → answer ≡ unless_memory end result → BodyEndsWhere before after old new w.put body answer
+body_ends_at before mid after old now new w v body end result answer later number fills adds where_ does is =
+    subst (BodyEndsWhere before after old new w.put body) (sym is)
+    (body_ends before mid after old now new w body v.key later end result fills adds
+    (subst (λ q. AbortsWhere (state_of now) q end) number where_) (subst (λ q. AbortsAsAsked (state_of now) q v.key end) number does))

@@ -1,0 +1,371 @@
+-- A line of a reader, from what its calls did.
+use Rattle.std.proofs.Common.{◌≡◌, ℕ, ◌*◌, List, [], ◌∷◌, length, refl, sym, ◌∙◌, ap, subst, Bool, true, false}
+use Rattle.std.specs.Prelude.{Option, Some, None, IfSome, ◌==◌, if◌then◌else◌, option_map, option_and_then}
+use Rattle.std.proofs.lemmas.Bool.{eqb-true, eq-eqb}
+use Rattle.ats_disk.specs.declared.device.Disk.{Ghosts as DiskGhosts}
+use Rattle.dir_table.specs.declared.directory.Directory.{Ghosts as DirectoryGhosts}
+use Rattle.cache_chronicle.specs.declared.chronicle.Chronicle.{Ghosts as ChronicleGhosts}
+use Rattle.actor_table.specs.Table.{Seen, number_of, with_actor}
+use Rattle.cache_model.specs.State.{State, after_all, reader_of}
+use Rattle.tape_base.specs.Geometry.{budget_of}
+use Rattle.cache_model.specs.Permit.{Done, Intent, Permit, to_do}
+use Rattle.cache_model.specs.Legal.{Does, IsQuiet, IsStep, MayGrow, is_writing, nothing}
+use Rattle.cache_model.specs.declared.record.Rec.{Rec}
+use Rattle.cache_model.proofs.Steps.{grows_by}
+use Rattle.cache_model.specs.Vectors.{AreTold, GroupsTell}
+use Rattle.stripe_core.specs.Stripe.{IsStripe, state_in}
+use Rattle.stripe_read.specs.declared.reader.Reader.{Reader}
+use Rattle.stripe_read.specs.Readers.{IsOpenReader, IsReaderOf}
+use Rattle.script_lang.specs.declared.step.Step.{Step}
+use Rattle.script_lang.specs.declared.answer.StepAnswer.{StepAnswer}
+use Rattle.script_run.specs.Run.{Run, Reads, Writes, Stream, actor_of, held_by, put_in, reader_by, reader_in, with_value}
+use Rattle.script_run.specs.Turn.{Turn}
+use Rattle.script_run.specs.Asked.{asked}
+use Rattle.script_run.specs.Answers.{session_said}
+use Rattle.script_run.specs.Behind.{actors_behind, held_behind, holds_behind, in_session, still_open, streams_behind}
+use Rattle.script_run.specs.Laws.{StepsOwn}
+use Rattle.script_run.specs.Own.{AreOwn, AreWriting}
+use Rattle.script_run.specs.Takes.{GivesOwn}
+use Rattle.cache_replay.specs.declared.session.Part.{Part}
+use Rattle.cache_replay.specs.declared.session.Holding.{Holding}
+use Rattle.cache_replay.specs.declared.session.Holding.TheVariants as holding
+use Rattle.cache_replay.specs.Session.{AreApart, AreHeld, Differ, IsActive, IsHeld, IsPart, LeavesBut}
+use Rattle.cache_replay.specs.Plays.{IsHeldAs, IsStreamOf, PlaysIn}
+use Rattle.cache_replay.specs.ReaderLines.{PartMoves, PlaysPart, as_held, reader_held, slots_of, without_reader}
+use Rattle.cache_replay.proofs.Frames.{Changed, IsElse, OthersElse, all_held, all_held_as}
+
+-- ---- the actors behind a line
+
+-- the records of one reader, and what the actors have behind them
+pub record Goes (reader : ℕ) (s t : State) (slots new : ℕ → Option Holding) (n : ℕ) (has : Option Reader) : Type 0 where
+  pub leaves : LeavesBut None (Some reader) s t
+  pub changed : Changed slots new n (as_held has)
+  pub others : OthersElse slots n None (Some reader)
+  pub number : IfSome has (λ r. r.reader ≡ reader)
+
+not_both : (b : Bool) → b ≡ true → b ≡ false → ⊥
+not_both b t f = let e : true ≡ false = sym t ∙ f in cc
+
+pub none_some : {X : Type 0} (x : X) → None ≡ Some x → ⊥
+none_some x e = cc
+
+pub some_same : {X : Type 0} (x y : X) → Some x ≡ Some y → x ≡ y
+some_same x y e = cc
+
+-- no other actor has the reader that an actor has
+else_reader : (r : Reader) (h : Holding) → Differ (holding.Reader r) h → IsElse None (Some r.reader) h
+else_reader r (holding.Writer w) d = λ e. none_some w.put e
+else_reader r (holding.Reader q) d = λ e. d (some_same r.reader q.reader e)
+
+pub apart_else : (slots : ℕ → Option Holding) (n : ℕ) (r : Reader) → AreApart slots → slots n ≡ Some (holding.Reader r) → OthersElse slots n None (Some r.reader)
+apart_else slots n r apart has = λ m h other is.
+    else_reader r h (apart n m (holding.Reader r) h (λ e. not_both (m == n) (eq-eqb m n (sym e)) other) has is)
+
+differ_back : (a b : Holding) → Differ a b → Differ b a
+differ_back (holding.Writer w) (holding.Writer v) d = λ e. d (sym e)
+differ_back (holding.Writer w) (holding.Reader r) d = tt
+differ_back (holding.Reader r) (holding.Writer w) d = tt
+differ_back (holding.Reader r) (holding.Reader q) d = λ e. d (sym e)
+
+mine_reader : (reader : ℕ) (r : Reader) (b : Holding) → r.reader ≡ reader → IsElse None (Some reader) b → Differ (holding.Reader r) b
+mine_reader reader r (holding.Writer w) is other = tt
+mine_reader reader r (holding.Reader q) is other = λ e. other (ap Some (sym is ∙ e))
+
+mine_differs : (reader : ℕ) (has : Option Reader) (a b : Holding) → IfSome has (λ r. r.reader ≡ reader) → as_held has ≡ Some a → IsElse None (Some reader) b → Differ a b
+mine_differs reader None a b number is other = absurd (none_some a is)
+mine_differs reader (Some r) a b number is other = subst (λ h. Differ h b) (some_same (holding.Reader r) a is) (mine_reader reader r b number other)
+
+apart_at : (reader : ℕ) (slots new : ℕ → Option Holding) (n : ℕ) (has : Option Reader) (m k : ℕ) (a b : Holding) (here there : Bool) → (m == n) ≡ here → (k == n) ≡ there
+    → OthersElse slots n None (Some reader) → IfSome has (λ r. r.reader ≡ reader) → AreApart slots → (m ≡ k → ⊥)
+    → (if here then as_held has else slots m) ≡ Some a → (if there then as_held has else slots k) ≡ Some b → Differ a b
+apart_at reader slots new n has m k a b true true e f others number apart ne ma kb = absurd (ne (eqb-true m n e ∙ sym (eqb-true k n f)))
+apart_at reader slots new n has m k a b true false e f others number apart ne ma kb = mine_differs reader has a b number ma (others k b f kb)
+apart_at reader slots new n has m k a b false true e f others number apart ne ma kb = differ_back b a (mine_differs reader has b a number kb (others m a e ma))
+apart_at reader slots new n has m k a b false false e f others number apart ne ma kb = apart m k a b ne ma kb
+
+pub goes_apart : (reader : ℕ) (s t : State) (slots new : ℕ → Option Holding) (n : ℕ) (has : Option Reader) → Goes reader s t slots new n has → AreApart slots → AreApart new
+goes_apart reader s t slots new n has g apart = λ m k a b ne ma kb.
+    apart_at reader slots new n has m k a b (m == n) (k == n) refl refl g.others g.number apart ne (sym (g.changed m) ∙ ma) (sym (g.changed k) ∙ kb)
+
+open_held : (t : State) (has : Option Reader) → IfSome has (IsOpenReader t) → IfSome (as_held has) (IsHeld t)
+open_held t None h = h
+open_held t (Some r) h = h
+
+pub goes_held : (reader : ℕ) (s t : State) (slots new : ℕ → Option Holding) (n : ℕ) (has : Option Reader) → Goes reader s t slots new n has → AreHeld s slots → IfSome has (IsOpenReader t) → AreHeld t new
+goes_held reader s t slots new n has g held mine = all_held None (Some reader) s t slots new n (as_held has) g.leaves g.changed g.others held (open_held t has mine)
+
+-- ---- and for the run
+
+abbrev pub as_run : Option Reader → Option Rattle.script_run.specs.Run.Holding
+as_run has = option_map (λ (r : Reader). Reads r.reader) has
+
+has_as : (later : Run) (t : State) (n : ℕ) (has : Option Reader) → later.held n ≡ as_run has → IfSome has (IsReaderOf t) → IsHeldAs later t n (as_held has)
+has_as later t n None held own = held
+has_as later t n (Some r) held own = (held, own)
+
+with_other : {X : Type 0} (f : ℕ → X) (n m : ℕ) (x : X) → (m == n) ≡ false → with_value f n x m ≡ f m
+with_other f n m x e = ap (λ (b : Bool). if b then x else f m) e
+
+with_here : {X : Type 0} (f : ℕ → X) (n m : ℕ) (x : X) → m ≡ n → with_value f n x m ≡ x
+with_here f n m x e = ap (λ (b : Bool). if b then x else f m) (eq-eqb m n e)
+
+held_is : (run : Run) (s t : State) (step : Step) (name : List ℕ) → actor_of step ≡ Some name
+    → held_behind run s t step (actor_of step) ≡ with_value run.held (number_of run.actors name) (holds_behind run s t step name)
+held_is run s t step name is = ap (held_behind run s t step) is
+
+pub plays_behind : (run : Run) (s t : State) (turn : Turn) (step : Step) (name : List ℕ) (n reader : ℕ) (slots new : ℕ → Option Holding) (has : Option Reader)
+    → actor_of step ≡ Some name → n ≡ number_of run.actors name
+    → streams_behind run s (after_all s turn.added) turn step ≡ run.streams
+    → holds_behind run s (after_all s turn.added) step name ≡ as_run has
+    → t ≡ after_all s turn.added → AreTold (after_all s turn.added) → AreOwn (after_all s turn.added) (streams_behind run s (after_all s turn.added) turn step) → IfSome has (IsReaderOf t)
+    → PlaysIn run s slots → Goes reader s t slots new n has
+    → PlaysIn (in_session run s (after_all s turn.added) turn step) t new
+plays_behind run s t turn step name n reader slots new has actor number streams holds behind told own mine plays g =
+    let later : Run = in_session run s (after_all s turn.added) turn step in
+    let held_at : later.held ≡ with_value run.held (number_of run.actors name) (holds_behind run s (after_all s turn.added) step name) = held_is run s (after_all s turn.added) step name actor in
+    record {
+      state = ap Some (sym behind);
+      told = subst AreTold (sym behind) told;
+      own = subst (λ u. AreOwn u later.streams) (sym behind) own;
+      held = all_held_as None (Some reader) run later s t slots new n (as_held has) g.leaves
+          (λ q h. ap (λ (f : ℕ → Stream). f q) streams)
+          (λ m other. ap (λ (f : ℕ → Option Rattle.script_run.specs.Run.Holding). f m) held_at
+          ∙ with_other run.held (number_of run.actors name) m (holds_behind run s (after_all s turn.added) step name) (ap (λ (k : ℕ). m == k) (sym number) ∙ other))
+          g.changed g.others plays.held
+          (has_as later t n has (ap (λ (f : ℕ → Option Rattle.script_run.specs.Run.Holding). f n) held_at ∙ (with_here run.held (number_of run.actors name) n (holds_behind run s (after_all s turn.added) step name) number ∙ holds)) mine);
+    }
+
+-- each put that an actor writes is open
+writing_at : (run : Run) (s : State) (n put : ℕ) (o : Option Holding) → IsHeldAs run s n o → IfSome o (IsHeld s) → option_and_then put_in (run.held n) ≡ Some put → is_writing s put ≡ true
+writing_at run s n put None own held is = absurd (none_some put (sym (ap (option_and_then put_in) own) ∙ is))
+writing_at run s n put (Some (holding.Writer w)) own held is =
+    subst (λ q. is_writing s q ≡ true) (some_same w.put put (sym (ap (option_and_then put_in) own.0) ∙ is)) held.0
+writing_at run s n put (Some (holding.Reader r)) own held is = absurd (none_some put (sym (ap (option_and_then put_in) own.0) ∙ is))
+
+pub are_writing : (run : Run) (s : State) (slots : ℕ → Option Holding) → AreHeld s slots → ((m : ℕ) → IsHeldAs run s m (slots m)) → AreWriting run s
+are_writing run s slots held own = λ name put is.
+    writing_at run s (number_of run.actors name) put (slots (number_of run.actors name)) (own (number_of run.actors name)) (held (number_of run.actors name)) is
+
+-- what a line did that was asked one thing
+abbrev pub line_turn : Permit → List Rec → List ℕ → Turn
+line_turn device added given = record { added = added; refused = None; device = device; given = given }
+
+-- a line that does nothing
+abbrev pub still_permit : Permit
+still_permit = record { packed = false; faults_before = 0; faults = 0; reads = [] }
+
+abbrev pub still_turn : Turn
+still_turn = record { added = []; refused = None; device = still_permit; given = [] }
+
+as_before : (run later : Run) (s : State) (m : ℕ) (o : Option Holding) → later.held m ≡ run.held m → later.streams ≡ run.streams → IsHeldAs run s m o → IsHeldAs later s m o
+as_before run later s m None held streams own = held ∙ own
+as_before run later s m (Some (holding.Writer w)) held streams own = (held ∙ own.0, subst (λ (f : ℕ → Stream). IsStreamOf (f w.put) w) (sym streams) own.1)
+as_before run later s m (Some (holding.Reader r)) held streams own = (held ∙ own.0, own.1)
+
+with_same : {X : Type 0} (f : ℕ → X) (n m : ℕ) (b : Bool) → (m == n) ≡ b → (if b then f n else f m) ≡ f m
+with_same f n m true e = ap f (sym (eqb-true m n e))
+with_same f n m false e = refl
+
+plays_still : (run : Run) (s : State) (step : Step) (name : List ℕ) (slots new : ℕ → Option Holding) → actor_of step ≡ Some name
+    → streams_behind run s s still_turn step ≡ run.streams → holds_behind run s s step name ≡ held_by run name → ((m : ℕ) → new m ≡ slots m)
+    → PlaysIn run s slots → PlaysIn (in_session run s s still_turn step) s new
+plays_still run s step name slots new actor streams holds same plays =
+    let later : Run = in_session run s s still_turn step in
+    let n : ℕ = number_of run.actors name in
+    record {
+      state = refl;
+      told = plays.told;
+      own = subst (AreOwn s) (sym streams) plays.own;
+      held = λ m. subst (IsHeldAs later s m) (sym (same m)) (as_before run later s m (slots m)
+          (ap (λ (f : ℕ → Option Rattle.script_run.specs.Run.Holding). f m) (held_is run s s step name actor)
+          ∙ (ap (λ (x : Option Rattle.script_run.specs.Run.Holding). with_value run.held n x m) holds ∙ with_same run.held n m (m == n) refl)) streams (plays.held m));
+    }
+
+names_are : (run : Run) (s t : State) (turn : Turn) (step : Step) (name : List ℕ) (before after : List (List ℕ)) → actor_of step ≡ Some name → run.actors ≡ before → after ≡ with_actor before name
+    → (in_session run s t turn step).actors ≡ after
+names_are run s t turn step name before after actor is new = ap (actors_behind run.actors) actor ∙ (ap (λ names. with_actor names name) is ∙ sym new)
+
+module _ {D R C : Type 0} (disk : DiskGhosts D) (directory : DirectoryGhosts R) (chronicle : ChronicleGhosts C) where
+  -- what is known of a line that was asked one thing
+  pub record IsLine (run : Run) (old new : Part D R C) (before after : Seen Holding) (step : Step) (name : List ℕ) (n : ℕ) (i : Intent) (device : Permit) (added : List Rec) (given : List ℕ) : Type 0 where
+    pub actor : actor_of step ≡ Some name
+    pub number : n ≡ number_of before.names name
+    pub names : after.names ≡ with_actor before.names name
+    pub streams : streams_behind run (state_in chronicle old.stripe) (after_all (state_in chronicle old.stripe) added) (line_turn device added given) step ≡ run.streams
+    pub behind : state_in chronicle new.stripe ≡ after_all (state_in chronicle old.stripe) added
+    pub quiet : IsQuiet (state_in chronicle new.stripe)
+    pub plain : device.packed ≡ false
+    pub asks : asked run (state_in chronicle old.stripe) step ≡ i ∷ []
+    pub does : Does device (state_in chronicle old.stripe) i added Done
+    pub gives : GivesOwn run (state_in chronicle old.stripe) (line_turn device added given) step
+
+  pub line_moves : (tell : GroupsTell) (own : StepsOwn) (run : Run) (old new : Part D R C) (before after : Seen Holding) (step : Step) (name : List ℕ) (n : ℕ) (i : Intent) (device : Permit) (added : List Rec) (given : List ℕ)
+      (reader : ℕ) (has : Option Reader) (said : StepAnswer)
+      → IsLine run old new before after step name n i device added given
+      → holds_behind run (state_in chronicle old.stripe) (after_all (state_in chronicle old.stripe) added) step name ≡ as_run has
+      → IfSome has (IsReaderOf (state_in chronicle new.stripe))
+      → IsActive disk directory chronicle old (slots_of before)
+      → PlaysPart disk directory chronicle run old before
+      → Goes reader (state_in chronicle old.stripe) (state_in chronicle new.stripe) (slots_of before) (slots_of after) n has
+      → session_said run (state_in chronicle old.stripe) (after_all (state_in chronicle old.stripe) added) (line_turn device added given) step ≡ said
+      → PartMoves disk directory chronicle run (state_in chronicle old.stripe) step new after said
+  line_moves tell own run old new before after step name n i device added given reader has said line holds mine active plays g says =
+      let s : State = state_in chronicle old.stripe in
+      let turn : Turn = line_turn device added given in
+      let legal : IsStep device s (asked run s step) added None = record {
+        grows = subst (λ is. MayGrow device s (to_do is) added (record { intents = []; refused = None })) (sym line.asks) (grows_by device s (to_do (i ∷ [])) (record { intents = []; refused = None }) added (Done, line.does, refl));
+        quiet = subst IsQuiet line.behind line.quiet;
+      } in
+      record {
+        turn = turn;
+        takes = record { plain = line.plain; legal = legal; own = line.gives };
+        plays = record {
+          names = names_are run s (after_all s added) turn step name before.names after.names line.actor plays.names line.names;
+          inside = plays_behind run s (state_in chronicle new.stripe) turn step name n reader (slots_of before) (slots_of after) has
+              line.actor (line.number ∙ ap (λ names. number_of names name) (sym plays.names)) line.streams holds line.behind
+              (tell device s i added Done plays.inside.told line.does)
+              (own run s turn step plays.inside.told active.part.quiet plays.inside.own (are_writing run s (slots_of before) active.held plays.inside.held) legal) mine plays.inside g;
+        };
+        says = says;
+      }
+
+  -- ---- the session behind a line
+
+  pub part_behind : (old new : Part D R C) → IsPart disk directory chronicle old → IsStripe disk directory chronicle new.stripe → IsQuiet (state_in chronicle new.stripe)
+      → length new.page.items ≡ length old.page.items → (state_in chronicle new.stripe).geometry ≡ (state_in chronicle old.stripe).geometry → IsPart disk directory chronicle new
+  part_behind old new part stripe quiet page geometry = record {
+    stripe = stripe;
+    quiet = quiet;
+    page = page ∙ (part.page ∙ ap (λ g. 512 * budget_of g) (sym geometry));
+  }
+
+  pub goes_active : (old new : Part D R C) (slots later : ℕ → Option Holding) (n reader : ℕ) (has : Option Reader) → IsActive disk directory chronicle old slots → IsPart disk directory chronicle new
+      → Goes reader (state_in chronicle old.stripe) (state_in chronicle new.stripe) slots later n has → IfSome has (IsOpenReader (state_in chronicle new.stripe))
+      → IsActive disk directory chronicle new later
+  goes_active old new slots later n reader has active part g mine = record {
+    part = part;
+    held = goes_held reader (state_in chronicle old.stripe) (state_in chronicle new.stripe) slots later n has g active.held mine;
+    apart = goes_apart reader (state_in chronicle old.stripe) (state_in chronicle new.stripe) slots later n has g active.apart;
+  }
+
+  -- where no actor has anything else
+  pub same_active : (part : Part D R C) (slots later : ℕ → Option Holding) → ((m : ℕ) → later m ≡ slots m) → IsActive disk directory chronicle part slots → IsActive disk directory chronicle part later
+  same_active part slots later same active = record {
+    part = active.part;
+    held = λ m. subst (λ o. IfSome o (IsHeld (state_in chronicle part.stripe))) (sym (same m)) (active.held m);
+    apart = λ m k a b ne ma kb. active.apart m k a b ne (sym (same m) ∙ ma) (sym (same k) ∙ kb);
+  }
+
+  -- ---- a line that does nothing
+
+  pub still_moves : (run : Run) (part : Part D R C) (before after : Seen Holding) (step : Step) (name : List ℕ) (n : ℕ) (said : StepAnswer)
+      → actor_of step ≡ Some name → n ≡ number_of before.names name → after.names ≡ with_actor before.names name → ((m : ℕ) → slots_of after m ≡ slots_of before m)
+      → asked run (state_in chronicle part.stripe) step ≡ []
+      → GivesOwn run (state_in chronicle part.stripe) still_turn step
+      → streams_behind run (state_in chronicle part.stripe) (state_in chronicle part.stripe) still_turn step ≡ run.streams
+      → holds_behind run (state_in chronicle part.stripe) (state_in chronicle part.stripe) step name ≡ held_by run name
+      → session_said run (state_in chronicle part.stripe) (state_in chronicle part.stripe) still_turn step ≡ said
+      → IsQuiet (state_in chronicle part.stripe)
+      → PlaysPart disk directory chronicle run part before
+      → PartMoves disk directory chronicle run (state_in chronicle part.stripe) step part after said
+  still_moves run part before after step name n said actor number names same nothing_asked own streams holds says quiet plays =
+      let s : State = state_in chronicle part.stripe in
+      record {
+        turn = still_turn;
+        takes = record {
+          plain = refl;
+          legal = record { grows = subst (λ is. MayGrow still_turn.device s (to_do is) [] (record { intents = []; refused = None })) (sym nothing_asked) nothing; quiet = quiet };
+          own = own;
+        };
+        plays = record {
+          names = names_are run s s still_turn step name before.names after.names actor plays.names names;
+          inside = plays_still run s step name (slots_of before) (slots_of after) actor streams holds same plays.inside;
+        };
+        says = says;
+      }
+
+-- ---- what is taken and given back
+
+reader_is : (o : Option Holding) (r : Reader) → Some r ≡ reader_held o → o ≡ Some (holding.Reader r)
+reader_is None r e = absurd (none_some r (sym e))
+reader_is (Some (holding.Writer w)) r e = absurd (none_some r (sym e))
+reader_is (Some (holding.Reader q)) r e = ap (λ (x : Reader). Some (holding.Reader x)) (sym (some_same r q e))
+
+-- the actor had the reader, and has nothing
+pub record Took (before after : ℕ → Option Holding) (n : ℕ) (r : Reader) : Type 0 where
+  pub had : before n ≡ Some (holding.Reader r)
+  pub left : Changed before after n None
+
+pub took : (before mid after : ℕ → Option Holding) (n : ℕ) (r : Reader) → ((m : ℕ) → mid m ≡ before m) → ((m : ℕ) → after m ≡ (if m == n then without_reader (mid n) else mid m))
+    → Some r ≡ reader_held (mid n) → Took before after n r
+took before mid after n r same left is =
+    let had : mid n ≡ Some (holding.Reader r) = reader_is (mid n) r is in
+    record {
+      had = sym (same n) ∙ had;
+      left = λ m. left m ∙ (ap (λ (o : Option Holding). if m == n then without_reader o else mid m) had ∙ ap (λ (o : Option Holding). if m == n then None else o) (same m));
+    }
+
+twice : {X : Type 0} (b : Bool) (x y z : X) → (if b then x else (if b then y else z)) ≡ (if b then x else z)
+twice true x y z = refl
+twice false x y z = refl
+
+-- it is given one again
+pub given_back : (before mid after : ℕ → Option Holding) (n : ℕ) (x : Option Holding) → Changed before mid n None → ((m : ℕ) → after m ≡ (if m == n then x else mid m)) → Changed before after n x
+given_back before mid after n x left set = λ m. set m ∙ (ap (λ (o : Option Holding). if m == n then x else o) (left m) ∙ twice (m == n) x None (before m))
+
+without_none : (o : Option Holding) → None ≡ reader_held o → without_reader o ≡ o
+without_none None e = refl
+without_none (Some (holding.Writer w)) e = refl
+without_none (Some (holding.Reader r)) e = absurd (none_some r e)
+
+-- where it has no reader, nothing changes
+pub not_taken : (before mid after : ℕ → Option Holding) (n : ℕ) → ((m : ℕ) → mid m ≡ before m) → ((m : ℕ) → after m ≡ (if m == n then without_reader (mid n) else mid m))
+    → None ≡ reader_held (mid n) → (m : ℕ) → after m ≡ before m
+not_taken before mid after n same left none = λ m.
+    left m ∙ (ap (λ (o : Option Holding). if m == n then o else mid m) (without_none (mid n) none) ∙ (with_same mid n m (m == n) refl ∙ same m))
+
+-- ---- what the run says of an actor
+
+no_reader : (run : Run) (s : State) (n : ℕ) (o : Option Holding) → None ≡ reader_held o → IsHeldAs run s n o → option_and_then reader_in (run.held n) ≡ None
+no_reader run s n None e own = rw own refl
+no_reader run s n (Some (holding.Writer w)) e own = let held : run.held n ≡ Some (Writes w.put) = own.0 in rw held refl
+no_reader run s n (Some (holding.Reader r)) e own = absurd (none_some r e)
+
+open_still : (run : Run) (s : State) (n : ℕ) (o : Option Holding) → IsHeldAs run s n o → IfSome o (IsHeld s) → still_open s (run.held n) ≡ run.held n
+open_still run s n None own held = rw own refl
+open_still run s n (Some (holding.Writer w)) own held =
+    let is : run.held n ≡ Some (Writes w.put) = own.0 in
+    let open_yet : is_writing s w.put ≡ true = held.0 in
+    rw is (rw open_yet refl)
+open_still run s n (Some (holding.Reader r)) own held =
+    let is : run.held n ≡ Some (Reads r.reader) = own.0 in
+    let found : reader_of s r.reader ≡ Some held.row = held.found in
+    rw is (rw found refl)
+
+module _ {D R C : Type 0} (disk : DiskGhosts D) (directory : DirectoryGhosts R) (chronicle : ChronicleGhosts C) where
+  held_there : (run : Run) (actors : Seen Holding) (name : List ℕ) (n : ℕ) → run.actors ≡ actors.names → n ≡ number_of actors.names name → held_by run name ≡ run.held n
+  held_there run actors name n names number = ap run.held (ap (λ all. number_of all name) names ∙ sym number)
+
+  -- the run says of an actor what it has
+  pub held_reader : (run : Run) (part : Part D R C) (actors : Seen Holding) (name : List ℕ) (n : ℕ) (r : Reader) → n ≡ number_of actors.names name → slots_of actors n ≡ Some (holding.Reader r)
+      → PlaysPart disk directory chronicle run part actors → (held_by run name ≡ Some (Reads r.reader)) × IsReaderOf (state_in chronicle part.stripe) r
+  held_reader run part actors name n r number is plays =
+      let own : IsHeldAs run (state_in chronicle part.stripe) n (Some (holding.Reader r)) = subst (IsHeldAs run (state_in chronicle part.stripe) n) is (plays.inside.held n) in
+      (held_there run actors name n plays.names number ∙ own.0, own.1)
+
+  pub reads_none : (run : Run) (part : Part D R C) (actors : Seen Holding) (name : List ℕ) (n : ℕ) → n ≡ number_of actors.names name → None ≡ reader_held (slots_of actors n)
+      → PlaysPart disk directory chronicle run part actors → reader_by run name ≡ None
+  reads_none run part actors name n number none plays =
+      ap (option_and_then reader_in) (held_there run actors name n plays.names number) ∙ no_reader run (state_in chronicle part.stripe) n (slots_of actors n) none (plays.inside.held n)
+
+  pub holds_none : (run : Run) (part : Part D R C) (actors : Seen Holding) (name : List ℕ) (n : ℕ) → n ≡ number_of actors.names name → slots_of actors n ≡ None
+      → PlaysPart disk directory chronicle run part actors → held_by run name ≡ None
+  holds_none run part actors name n number none plays =
+      held_there run actors name n plays.names number ∙ subst (IsHeldAs run (state_in chronicle part.stripe) n) none (plays.inside.held n)
+
+  pub still_held : (run : Run) (part : Part D R C) (actors : Seen Holding) (name : List ℕ) (n : ℕ) → n ≡ number_of actors.names name → IsActive disk directory chronicle part (slots_of actors)
+      → PlaysPart disk directory chronicle run part actors → still_open (state_in chronicle part.stripe) (held_by run name) ≡ held_by run name
+  still_held run part actors name n number active plays =
+      let there : held_by run name ≡ run.held n = held_there run actors name n plays.names number in
+      ap (still_open (state_in chronicle part.stripe)) there
+      ∙ (open_still run (state_in chronicle part.stripe) n (slots_of actors n) (plays.inside.held n) (active.held n) ∙ sym there)

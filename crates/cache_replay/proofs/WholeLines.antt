@@ -1,0 +1,207 @@
+-- The line of a whole read.
+use Rattle.std.proofs.Common.{◌≡◌, ℕ, ◌+◌, ◌-◌, ◌*◌, ◌≤◌, min, take, drop, length, length-append, length-drop, length-take, List, [], ◌∷◌, ◌++◌, refl, sym, ◌∙◌, ap, subst, Bool, true, false, inl, inr, arith}
+use Rattle.std.specs.Prelude.{Option, Some, None, IfSome, if◌then◌else◌}
+use Rattle.std.specs.List.{AllByRecursion, filter}
+use Rattle.ats_disk.specs.declared.device.Disk.{Ghosts as DiskGhosts}
+use Rattle.dir_table.specs.declared.directory.Directory.{Ghosts as DirectoryGhosts}
+use Rattle.cache_chronicle.specs.declared.chronicle.Chronicle.{Ghosts as ChronicleGhosts}
+use Rattle.tape_base.specs.Geometry.{budget_of}
+use Rattle.tape_base.specs.declared.keys.Key.{Key}
+use Rattle.alternate_vector.specs.Field.{Field}
+use Rattle.cache_model.specs.declared.record.Rec.{Rec}
+use Rattle.cache_model.specs.State.{ReaderRow, State, after_all, reader_of}
+use Rattle.cache_model.specs.Kept.{Kept, state_of}
+use Rattle.cache_model.specs.Permit.{Done, End, Fails, Intent, Permit, Reason, Stays, Work, is_cleanup, work_after}
+use Rattle.cache_model.specs.Legal.{Advances, IsQuiet, MayGrow, more, nothing}
+use Rattle.cache_model.specs.Vectors.{AreTold, StepsTell}
+use Rattle.cache_model.proofs.Found.{none_is}
+use Rattle.cache_model.proofs.Steps.{after_all-append}
+use Rattle.std.specs.Vec.{with_items}
+use Rattle.stripe_core.specs.declared.stripe.Stripe.{Stripe}
+use Rattle.stripe_core.specs.Stripe.{IsStripe, seen_in, state_in}
+use Rattle.stripe_read.specs.Readers.{IsOpenReader}
+use Rattle.script_lang.specs.declared.step.Step.TheVariants as step
+use Rattle.script_lang.specs.declared.answer.StepAnswer.{StepAnswer}
+use Rattle.script_run.specs.Run.{Run, Stream}
+use Rattle.script_run.specs.Asked.{get_intents}
+use Rattle.script_run.specs.Turn.{Turn}
+use Rattle.script_run.specs.Answers.{step_said}
+use Rattle.script_run.specs.Behind.{behind, fault_of, in_session}
+use Rattle.script_run.specs.Laws.{ReadsOwn, is_reading}
+use Rattle.script_run.specs.Own.{AreOwn}
+use Rattle.script_run.specs.Takes.{StepShows, Takes}
+use Rattle.cache_replay.specs.declared.session.Session.{Session}
+use Rattle.cache_replay.specs.declared.session.Part.{Part}
+use Rattle.cache_replay.specs.declared.session.Holding.{Holding}
+use Rattle.cache_replay.specs.declared.session.Holding.TheVariants as holding
+use Rattle.cache_replay.specs.declared.getting.Got.{Got}
+use Rattle.cache_replay.specs.Session.{AreHeld, IsActive, IsAt, IsHeld, IsPart, IsSession, LeavesBut, names_in, return_of, slots_in}
+use Rattle.cache_replay.specs.Plays.{AreReached, HasReached, IsHeldAs, Plays, PlaysAt, PlaysIn, StepEnds}
+use Rattle.cache_replay.specs.Getting.{Gets, GetsAsAsked, LineEnds, given_in, got_answer}
+use Rattle.cache_replay.proofs.Frames.{IsElse, held_as_stays, held_stays}
+use Rattle.cache_replay.proofs.WholeReads.{call_covered, call_permit, state_behind}
+
+-- ---- what stands belongs to what writers took behind the whole read
+
+abbrev Reading : Intent → Type 0
+Reading i = is_reading i ≡ true
+
+kept_by : (b : Bool) (i : Intent) (is : List Intent) → Reading i → AllByRecursion Reading is → AllByRecursion Reading (if b then i ∷ is else is)
+kept_by true i is h k = (h, k)
+kept_by false i is h k = k
+
+cleanup_reads : (is : List Intent) → AllByRecursion Reading is → AllByRecursion Reading (filter is_cleanup is)
+cleanup_reads [] h = tt
+cleanup_reads (i ∷ is) h = kept_by (is_cleanup i) i (filter is_cleanup is) h.0 (cleanup_reads is h.1)
+
+left_reads : (i : Intent) (is : List Intent) (why : Option Reason) (e : End) → AllByRecursion Reading (i ∷ is) → AllByRecursion Reading (work_after i is why e).intents
+left_reads i is why Stays h = h
+left_reads i is why Done h = h.1
+left_reads i is why (Fails reason) h = cleanup_reads is h.1
+
+record OwnLeft (streams : ℕ → Stream) (t : State) (w : Work) : Type 0 where
+  own : AreOwn t streams
+  reads : AllByRecursion Reading w.intents
+
+one_own : (owns : ReadsOwn) (streams : ℕ → Stream) (p : Permit) (s : State) (is : List Intent) (why : Option Reason) (added : List Rec) (between : Work) → Advances p s is why added between
+    → AllByRecursion Reading is → AreOwn s streams → OwnLeft streams (after_all s added) between
+one_own owns streams p s [] why added between h reads own = absurd h
+one_own owns streams p s (i ∷ is) why added between h reads own = record {
+  own = owns p s streams i added h.0 reads.0 own h.1;
+  reads = subst (λ (w : Work). AllByRecursion Reading w.intents) (sym h.2) (left_reads i is why h.0 reads);
+}
+
+all_own : (owns : ReadsOwn) (streams : ℕ → Stream) {p : Permit} {s : State} {w after : Work} {added : List Rec} → MayGrow p s w added after → AllByRecursion Reading w.intents → AreOwn s streams → AreOwn (after_all s added) streams
+all_own owns streams nothing reads own = own
+all_own owns streams {p} {s} {w} (more {rest = rest} added between one others) reads own =
+    let first : OwnLeft streams (after_all s added) between = one_own owns streams p s w.intents w.refused added between one reads own in
+    subst (λ t. AreOwn t streams) (sym (after_all-append s added rest)) (all_own owns streams others first.reads first.own)
+
+-- ---- what actors have
+
+not_next : (s : State) (n : ℕ) (h : Holding) → reader_of s n ≡ None → IsHeld s h → IsElse None (Some n) h
+not_next s n (holding.Writer w) none held = λ e. none_is e
+not_next s n (holding.Reader r) none held = λ e.
+    let own : IsOpenReader s r = held in
+    none_is (sym none ∙ (ap (λ (o : Option ℕ). reader_at o) e ∙ own.found))
+  where
+    reader_at : Option ℕ → Option ReaderRow
+    reader_at (Some m) = reader_of s m
+    reader_at None = None
+
+one_held : (s t : State) (n : ℕ) (o : Option Holding) → LeavesBut None (Some n) s t → reader_of s n ≡ None → IfSome o (IsHeld s) → IfSome o (IsHeld t)
+one_held s t n None leaves none held = held
+one_held s t n (Some h) leaves none held = held_stays None (Some n) s t h leaves (not_next s n h none held) held
+
+one_held_as : (run new : Run) (s t : State) (n m : ℕ) (o : Option Holding) → LeavesBut None (Some n) s t → reader_of s n ≡ None → new.streams ≡ run.streams → new.held ≡ run.held → IfSome o (IsHeld s)
+    → IsHeldAs run s m o → IsHeldAs new t m o
+one_held_as run new s t n m None leaves none streams same held own = ap (λ (f : ℕ → Option Rattle.script_run.specs.Run.Holding). f m) same ∙ own
+one_held_as run new s t n m (Some h) leaves none streams same held own =
+    held_as_stays None (Some n) run new s t m h leaves (λ q other. ap (λ (f : ℕ → Stream). f q) streams) (ap (λ (f : ℕ → Option Rattle.script_run.specs.Run.Holding). f m) same) (not_next s n h none held) own
+
+pub line_ends : (owns : ReadsOwn) (tell : StepsTell) (run : Run) (before after n : ℕ) (k k2 : Kept) (key : Key) (request : List Field) (slots : ℕ → Option Holding) (got : Got) (said : StepAnswer)
+    → GetsAsAsked before after k k2 key request got → said ≡ got_answer got → LeavesBut None (Some n) (state_of k) (state_of k2) → reader_of (state_of k) n ≡ None → AreHeld (state_of k) slots
+    → PlaysIn run (state_of k) slots → LineEnds run (state_of k) (state_of k2) key request slots said
+line_ends owns tell run before after n k k2 key request slots got said gets is leaves none held plays =
+    let p : Permit = call_permit before after gets.reads in
+    elim (gets.does p run (call_covered before after gets.reads) plays.told plays.own) [
+      | inl x ↦ inl (moves p refl x)
+      | inr shows ↦ inr shows
+    ]
+  where
+    moves : (p : Permit) → p.packed ≡ false → Gets p k k2 run key request got → Rattle.cache_replay.specs.Getting.LineGets run (state_of k) (state_of k2) key request slots said
+    moves p plain x =
+        let turn : Turn = record { added = x.added; refused = None; device = p; given = given_in got } in
+        let there : state_of k2 ≡ after_all (state_of k) x.added = state_behind k k2 x.added x.adds in
+        let later : Run = in_session run (state_of k) (after_all (state_of k) x.added) turn (step.Get key request) in
+        record {
+          turn = turn;
+          takes = record { plain = plain; legal = x.step; own = x.body };
+          plays = record {
+            state = ap Some (sym there);
+            told = subst AreTold (sym there) (tell p (state_of k) (get_intents (state_of k) key request) x.added None plays.told x.step);
+            own = subst (λ t. AreOwn t run.streams) (sym there) (all_own owns run.streams x.step.grows (refl, (refl, (refl, tt))) plays.own);
+            held = λ m. one_held_as run later (state_of k) (state_of k2) n m (slots m) leaves none refl refl (held m) (plays.held m);
+          };
+          says = x.says ∙ sym is;
+        }
+
+-- what was written over a list leaves it as long as it was
+refilled : (n : ℕ) (xs ws : List ℕ) → length xs ≡ n → length (take n (ws ++ drop (length ws) xs)) ≡ length xs
+refilled n xs ws h =
+    let rest : List ℕ = drop (length ws) xs in
+    let taken : length (take n (ws ++ rest)) ≡ min n (length (ws ++ rest)) = length-take n (ws ++ rest) in
+    let both : length (ws ++ rest) ≡ length ws + length rest = length-append ws rest in
+    let dropped : length rest ≡ length xs - length ws = length-drop (length ws) xs in
+    omega (arith, taken, both, dropped, h)
+
+module _ {D R C : Type 0} (disk : DiskGhosts D) (directory : DirectoryGhosts R) (chronicle : ChronicleGhosts C) where
+  pub page_part : (old new : Part D R C) → IsPart disk directory chronicle old → IsStripe disk directory chronicle new.stripe → IsQuiet (state_in chronicle new.stripe)
+      → length new.page.items ≡ length old.page.items → (state_in chronicle new.stripe).geometry ≡ (state_in chronicle old.stripe).geometry → IsPart disk directory chronicle new
+  page_part old new part stripe quiet page geometry = record {
+    stripe = stripe;
+    quiet = quiet;
+    page = page ∙ (part.page ∙ ap (λ g. 512 * budget_of g) (sym geometry));
+  }
+
+  pub part_active : (old new : Part D R C) (n : ℕ) (slots : ℕ → Option Holding) → IsPart disk directory chronicle new → LeavesBut None (Some n) (state_in chronicle old.stripe) (state_in chronicle new.stripe)
+      → reader_of (state_in chronicle old.stripe) n ≡ None → IsActive disk directory chronicle old slots → IsActive disk directory chronicle new slots
+  part_active old new n slots part leaves none active = record {
+    part = part;
+    held = λ m. one_held (state_in chronicle old.stripe) (state_in chronicle new.stripe) n (slots m) leaves none (active.held m);
+    apart = active.apart;
+  }
+
+  -- the part behind a call that read to its page
+  pub read_active : (old : Part D R C) (stripe : Stripe D R C) (page : List ℕ) (n : ℕ) (slots : ℕ → Option Holding) → IsPart disk directory chronicle old → IsStripe disk directory chronicle stripe → IsQuiet (state_in chronicle stripe)
+      → LeavesBut None (Some n) (state_in chronicle old.stripe) (state_in chronicle stripe) → reader_of (state_in chronicle old.stripe) n ≡ None
+      → IsActive disk directory chronicle old slots → IsActive disk directory chronicle (record { stripe = stripe; page = with_items old.page page }) slots
+  read_active old stripe page n slots part whole quiet leaves none active =
+      let new : Part D R C = record { stripe = stripe; page = with_items old.page page } in
+      part_active old new n slots (page_part old new part whole quiet (refilled old.page.len old.page.items page (sym old.page.ok.0)) leaves.geometry) leaves none active
+
+  pub active_of : (session : Session D R C) (part : Part D R C) → session.part ≡ Some part → IsSession disk directory chronicle session → IsActive disk directory chronicle part (slots_in session)
+  active_of session part is h = subst (λ o. IsAt disk directory chronicle o (slots_in session)) is h
+
+  plays_of : (run : Run) (session : Session D R C) (part : Part D R C) → session.part ≡ Some part → Plays disk directory chronicle run session → PlaysIn run (state_in chronicle part.stripe) (slots_in session)
+  plays_of run session part is plays = subst (λ o. PlaysAt disk directory chronicle run o (slots_in session)) is plays.at
+
+  pub session_ends : (run : Run) (old new : Session D R C) (part part2 : Part D R C) (key : Key) (request : List Field) (said : StepAnswer) → old.part ≡ Some part → new.part ≡ Some part2 → names_in new ≡ names_in old
+      → ((m : ℕ) → slots_in new m ≡ slots_in old m) → Plays disk directory chronicle run old → IsActive disk directory chronicle part (slots_in old)
+      → ((slots : ℕ → Option Holding) → AreHeld (state_in chronicle part.stripe) slots → PlaysIn run (state_in chronicle part.stripe) slots → LineEnds run (state_in chronicle part.stripe) (state_in chronicle part2.stripe) key request slots said)
+      → StepEnds disk directory chronicle run (step.Get key request) new said
+  session_ends run old new part part2 key request said was is names slots plays active ends =
+      let inside : PlaysIn run (state_in chronicle part.stripe) (slots_in old) = plays_of run old part was plays in
+      elim (ends (slots_in old) active.held inside) [
+        | inl m ↦ inl (record {
+          turn = m.turn;
+          takes = subst (λ st. Takes run m.turn st (step.Get key request)) (sym inside.state) m.takes;
+          plays = subst (λ st. Plays disk directory chronicle (behind run m.turn st (step.Get key request)) new) (sym inside.state)
+              (record {
+                names = plays.names ∙ sym names;
+                at = subst (λ o. PlaysAt disk directory chronicle (in_session run (state_in chronicle part.stripe) (after_all (state_in chronicle part.stripe) m.turn.added) m.turn (step.Get key request)) o (slots_in new)) (sym is)
+                    (record { state = m.plays.state; told = m.plays.told; own = m.plays.own; held = λ n. subst (IsHeldAs (in_session run (state_in chronicle part.stripe) (after_all (state_in chronicle part.stripe) m.turn.added) m.turn (step.Get key request)) (state_in chronicle part2.stripe) n) (sym (slots n)) (m.plays.held n) });
+              });
+          says = subst (λ st. step_said run m.turn st (step.Get key request) ≡ said) (sym inside.state) m.says;
+        })
+        | inr shows ↦ inr (subst (λ st. StepShows run st (step.Get key request)) (sym inside.state) shows)
+      ]
+
+  -- its device has counted as far as was told
+  pub session_reached : (run : Run) (old new : Session D R C) (part part2 : Part D R C) → old.part ≡ Some part → new.part ≡ Some part2 → Plays disk directory chronicle run old
+      → (state_in chronicle part.stripe).fault ≤ (seen_in disk directory part.stripe).device.faults
+      → (seen_in disk directory part.stripe).device.faults ≤ (seen_in disk directory part2.stripe).device.faults → HasReached disk directory chronicle run new
+  session_reached run old new part part2 was is plays told rises =
+      let inside : PlaysIn run (state_in chronicle part.stripe) (slots_in old) = plays_of run old part was plays in
+      subst (λ st. AreReached (fault_of st) (return_of disk directory chronicle new.part)) (sym inside.state)
+      (subst (λ o. AreReached ((state_in chronicle part.stripe).fault ∷ []) (return_of disk directory chronicle o)) (sym is) (omega (arith, told, rises), tt))
+
+  pub none_reached : (run : Run) (old new : Session D R C) → old.part ≡ None → new.part ≡ None → Plays disk directory chronicle run old → HasReached disk directory chronicle run new
+  none_reached run old new was is plays =
+      let inside : PlaysAt disk directory chronicle run None (slots_in old) = subst (λ o. PlaysAt disk directory chronicle run o (slots_in old)) was plays.at in
+      subst (λ st. AreReached (fault_of st) (return_of disk directory chronicle new.part)) (sym inside.state) (subst (λ o. AreReached [] (return_of disk directory chronicle o)) (sym is) tt)
+
+  pub none_plays : (run : Run) (old : Session D R C) → old.part ≡ None → Plays disk directory chronicle run old → run.state ≡ None
+  none_plays run old was plays =
+      let inside : PlaysAt disk directory chronicle run None (slots_in old) = subst (λ o. PlaysAt disk directory chronicle run o (slots_in old)) was plays.at in
+      inside.state

@@ -1,0 +1,171 @@
+-- What a line asks of a writer, and what it leaves of it.
+use Rattle.std.proofs.Common.{◌≡◌, ℕ, List, [], ◌∷◌, drop, refl, sym, ◌∙◌, ap, subst, arith, Bool, true, false, inl, inr, append-nil}
+use Rattle.std.specs.Prelude.{Option, Some, None, IfSome, ◌==◌, if◌then◌else◌, option_and_then, option_map, unwrap_or, filter}
+use Rattle.fragment_table.specs.Table.{TableRow, total_length}
+use Rattle.cache_model.specs.declared.record.Rec.{Rec}
+use Rattle.cache_model.specs.declared.record.Rec.TheVariants as rec
+use Rattle.cache_model.specs.State.{PutRow, State, after_all, put_of}
+use Rattle.cache_model.specs.Kept.{Kept, state_of, with_records}
+use Rattle.cache_model.specs.Verdict.{cuts_of}
+use Rattle.cache_model.specs.Permit.{Done, End, Exhausted, Fails, Faulted, GiveUp, Intent, Lost, ManyFragments, Permit, Reason, Stays, TooLarge, is_cleanup, to_do, work_after}
+use Rattle.cache_model.specs.Legal.{Does, IsQuiet, IsStep, MayGrow, is_writing}
+use Rattle.cache_model.specs.StepLaws.{WriterIsEnded}
+use Rattle.cache_model.proofs.Steps.{after_all-append, grows_by}
+use Rattle.stripe_core.specs.declared.refusal.Refusal.{Refusal}
+use Rattle.stripe_core.specs.declared.refusal.Refusal.TheVariants as refusal
+use Rattle.stripe_core.specs.Covers.{Covers}
+use Rattle.stripe_write.specs.declared.writer.Writer.{Writer}
+use Rattle.stripe_write.specs.Writers.{IsWriterOf}
+use Rattle.stripe_write.specs.Writes.{AbortsAsAsked, AbortsWhere, abort_adds}
+use Rattle.stripe_write.specs.Others.{AddsOfPut}
+use Rattle.stripe_write.specs.Closing.{SpendsAll}
+use Rattle.stripe_write.proofs.Ended.{open_put}
+use Rattle.script_lang.specs.declared.answer.StepAnswer.TheVariants as answer
+use Rattle.script_run.specs.Run.{Run, Writes, gathered_of, put_in, writer_of}
+use Rattle.script_run.specs.Asked.{asked}
+use Rattle.script_run.specs.Answers.{session_said}
+use Rattle.script_run.specs.Behind.{still_open}
+use Rattle.cache_replay.specs.WriterLines.{Closes, Feeds, GivesUp, IsPlayed, WriterDoes, WriterEnds, WriterLine, WriterMoves, refused_answer, step_of, writes_in}
+
+-- ---- records that were added
+
+pub state_with : (old new : Kept) (added : List Rec) → new ≡ with_records old added → state_of new ≡ after_all (state_of old) added
+state_with old new added adds = ap state_of adds ∙ after_all-append old.base old.since added
+
+pub nothing_with : (k : Kept) → with_records k [] ≡ k
+nothing_with k = ap (λ (recs : List Rec). let x : Kept = record { base = k.base; since = recs } in x) (append-nil k.since)
+
+-- ---- the put of an actor
+
+pub has_put : (run : Run) (name : List ℕ) (s : State) (w : Writer) → IsPlayed run name s w → writer_of run name ≡ Some w.put
+has_put run name s w played = ap (option_and_then put_in) played.held
+
+pub cuts_at : (s : State) (w : Writer) → is_writing s w.put ≡ true → IsWriterOf s w → cuts_of s w.put ≡ w.table.rows
+cuts_at s w writing own =
+    let o = open_put (put_of s w.put) writing in
+    ap (λ (r : Option PutRow). unwrap_or (option_map (λ (p : PutRow). p.cuts) r) []) o.1 ∙ (own o.0 o.1 o.2).cuts_are
+
+pub gathered_at : (run : Run) (name : List ℕ) (s : State) (w : Writer) → IsPlayed run name s w → is_writing s w.put ≡ true → IsWriterOf s w → gathered_of run s w.put ≡ w.gathered.items
+gathered_at run name s w played writing own =
+    ap (λ (rows : List TableRow). drop (total_length rows) (run.streams w.put).bytes) (cuts_at s w writing own) ∙ sym played.stream.gathered
+
+-- ---- a put is given up
+
+ended_at : (t : State) (put : ℕ) → is_writing t put ≡ false → still_open t (Some (Writes put)) ≡ None
+ended_at t put none = ap (λ (b : Bool). if b then Some (Writes put) else None) none
+
+gives_up : (law : WriterIsEnded) (old new : Kept) (w : Writer) (put : ℕ) → IsQuiet (state_of new) → new ≡ with_records old (rec.Aborted put w.key ∷ []) → put ≡ w.put
+    → ((p : Permit) → Does p (state_of old) (GiveUp w.put) (rec.Aborted put w.key ∷ []) Done) → WriterDoes (state_of old) (state_of new) GivesUp w None (Some (answer.Aborted put))
+gives_up law old new w put quiet adds is does = λ run name played.
+    let s : State = state_of old in
+    let t : State = state_of new in
+    let p : Permit = record { packed = false; faults_before = 0; faults = 0; reads = [] } in
+    let added : List Rec = rec.Aborted put w.key ∷ [] in
+    let there = state_with old new added adds in
+    let legal : IsStep p s (GiveUp w.put ∷ []) added None = record { grows = grows_by p s (to_do (GiveUp w.put ∷ [])) (record { intents = []; refused = None }) added (Done, does p, refl); quiet = subst IsQuiet there quiet } in
+    let has = has_put run name s w played in
+    inl (record {
+      turn = record { added = added; refused = None; device = p; given = [] };
+      takes = record {
+        plain = refl;
+        legal = subst (λ (asks : List Intent). IsStep p s asks added None) (sym (ap (λ o. Rattle.script_run.specs.Asked.if_has o (λ n. GiveUp n ∷ [])) has)) legal;
+        own = refl;
+      };
+      state = there;
+      held = ap (still_open t) played.held ∙ ended_at t w.put (ap (λ x. is_writing x w.put) there ∙ law p s (GiveUp w.put ∷ []) added None w.put refl legal);
+      stream = tt;
+      says = ap (λ o. Rattle.script_run.specs.Answers.if_has o answer.Aborted) has ∙ ap answer.Aborted (sym is);
+    })
+
+pub aborted : (law : WriterIsEnded) (old new : Kept) (w : Writer) (put : ℕ) → IsQuiet (state_of new) → new ≡ with_records old (abort_adds w.key (Rattle.std.specs.Prelude.Ok put))
+    → AbortsWhere (state_of old) w.put (Rattle.std.specs.Prelude.Ok put) → AbortsAsAsked (state_of old) w.put w.key (Rattle.std.specs.Prelude.Ok put)
+    → WriterDoes (state_of old) (state_of new) GivesUp w None (Some (answer.Aborted put))
+aborted law old new w put quiet adds where_ does = gives_up law old new w put quiet adds where_.0 does
+
+pub not_aborted : (s t : State) (w : Writer) (why : Refusal) → is_writing s w.put ≡ true → AbortsWhere s w.put (Rattle.std.specs.Prelude.Err why) → WriterDoes s t GivesUp w None (refused_answer why None)
+not_aborted s t w (refusal.Memory e) writing h = tt
+not_aborted s t w refusal.NoSuchWriter writing h = let clash : true ≡ false = sym writing ∙ h in cc
+not_aborted s t w (refusal.DeviceFault count) writing h = absurd h
+not_aborted s t w (refusal.Exhausted number) writing h = absurd h
+not_aborted s t w refusal.TooManyWriters writing h = absurd h
+not_aborted s t w refusal.TooManyFragments writing h = absurd h
+not_aborted s t w (refusal.VectorTooLarge size) writing h = absurd h
+not_aborted s t w (refusal.Lost index why) writing h = absurd h
+not_aborted s t w refusal.Sealed writing h = absurd h
+
+pub owns_abort : (old new : Kept) (w : Writer) (put : ℕ) → put ≡ w.put → new ≡ with_records old (rec.Aborted put w.key ∷ []) → AddsOfPut w.put old new
+owns_abort old new w put is adds = record { added = rec.Aborted put w.key ∷ []; adds = adds; own = (is, tt) }
+
+pub owns_no_abort : (old new : Kept) (w : Writer) → new ≡ with_records old [] → AddsOfPut w.put old new
+owns_no_abort old new w adds = record { added = []; adds = adds; own = tt }
+
+-- ---- a writer that is left where its put is open
+
+-- what is left of a writer, where its put is open
+abbrev pub LeftOpen : State → Writer → Option Writer → Type 0
+LeftOpen t w left = left ≡ (if is_writing t w.put then Some w else None)
+
+held_by_open : (t : State) (put : ℕ) (w : Writer) (left : Option Writer) (b : Bool) → w.put ≡ put → is_writing t put ≡ b → left ≡ (if b then Some w else None)
+    → (if b then Some (Writes put) else None) ≡ writes_in left
+held_by_open t put w left true is e l = ap (λ (n : ℕ). Some (Writes n)) (sym is) ∙ ap writes_in (sym l)
+held_by_open t put w left false is e l = ap writes_in (sym l)
+
+pub held_open : (t : State) (put : ℕ) (w : Writer) (left : Option Writer) → w.put ≡ put → LeftOpen t w left → still_open t (Some (Writes put)) ≡ writes_in left
+held_open t put w left is l =
+    held_by_open t put w left (is_writing t put) is refl (l ∙ ap (λ n. if is_writing t n then Some w else None) is)
+
+stream_by : (P : Writer → Type 0) (w : Writer) (left : Option Writer) (b : Bool) → left ≡ (if b then Some w else None) → (b ≡ true → P w) → IfSome left P
+stream_by P w left true l h = subst (λ o. IfSome o P) (sym l) (h refl)
+stream_by P w left false l h = subst (λ o. IfSome o P) (sym l) tt
+
+-- what holds of it where its put is open holds of the one that is left
+pub of_left : (P : Writer → Type 0) (t : State) (w : Writer) (left : Option Writer) → LeftOpen t w left → (is_writing t w.put ≡ true → P w) → IfSome left P
+of_left P t w left l h = by (is_writing t w.put) refl
+  where
+    by : (b : Bool) → is_writing t w.put ≡ b → IfSome left P
+    by b e = stream_by P w left b (l ∙ ap (λ (c : Bool). if c then Some w else None) e) (λ yea. h (e ∙ yea))
+
+left_by : (t : State) (put : ℕ) (w : Writer) (left : Option Writer) (b : Bool) → w.put ≡ put → is_writing t put ≡ b → IsWriterOf t w → left ≡ (if b then Some w else None)
+    → Rattle.cache_replay.specs.WriterLines.IsLeft t put left
+left_by t put w left true is e own l = subst (Rattle.cache_replay.specs.WriterLines.IsLeft t put) (sym l) (is, e, own)
+left_by t put w left false is e own l = subst (Rattle.cache_replay.specs.WriterLines.IsLeft t put) (sym l) tt
+
+pub is_left : (t : State) (put : ℕ) (w : Writer) (left : Option Writer) → w.put ≡ put → IsWriterOf t w → LeftOpen t w left → Rattle.cache_replay.specs.WriterLines.IsLeft t put left
+is_left t put w left is own l = left_by t put w left (is_writing t put) is refl own (l ∙ ap (λ n. if is_writing t n then Some w else None) is)
+
+-- ---- what was asked of a writer was spent
+
+-- a permit that covers a call that reads nothing, or this
+abbrev pub permit_of : ℕ → ℕ → List Rattle.cache_model.specs.Permit.DeviceRead → Permit
+permit_of before after reads = record { packed = false; faults_before = before; faults = after; reads = reads }
+
+all_among : (before reads : List Rattle.cache_model.specs.Permit.DeviceRead) → Rattle.std.specs.List.AllByRecursion (λ r. Rattle.cache_model.specs.Permit.IsAmong r reads) reads
+    → (more : Rattle.cache_model.specs.Permit.DeviceRead) → Rattle.std.specs.List.AllByRecursion (λ r. Rattle.cache_model.specs.Permit.IsAmong r (more ∷ reads)) reads
+all_among before reads h more = weaker reads reads more h
+  where
+    weaker : (some all : List Rattle.cache_model.specs.Permit.DeviceRead) (more : Rattle.cache_model.specs.Permit.DeviceRead) → Rattle.std.specs.List.AllByRecursion (λ r. Rattle.cache_model.specs.Permit.IsAmong r all) some
+        → Rattle.std.specs.List.AllByRecursion (λ r. Rattle.cache_model.specs.Permit.IsAmong r (more ∷ all)) some
+    weaker [] all more h = tt
+    weaker (r ∷ some) all more h = (inr h.0, weaker some all more h.1)
+
+knows : (reads : List Rattle.cache_model.specs.Permit.DeviceRead) → Rattle.std.specs.List.AllByRecursion (λ r. Rattle.cache_model.specs.Permit.IsAmong r reads) reads
+knows [] = tt
+knows (r ∷ reads) = (inl refl, all_among [] reads (knows reads) r)
+
+pub covers_own : (before after : ℕ) (reads : List Rattle.cache_model.specs.Permit.DeviceRead) → Covers (permit_of before after reads) before after reads
+covers_own before after reads = record { plain = refl; from = omega arith; upto = omega arith; knows = knows reads }
+
+-- why less was done, by how it ended
+abbrev pub reason_of : End → Option Reason
+reason_of Stays = None
+reason_of Done = None
+reason_of (Fails reason) = Some reason
+
+-- a whole step
+pub whole_step : (p : Permit) (s : State) (asks : List Intent) (added : List Rec) (e : End) → SpendsAll p s asks added e → IsQuiet (after_all s added) → IsStep p s asks added (reason_of e)
+whole_step p s asks added e spends quiet = record { grows = by e spends; quiet = quiet }
+  where
+    by : (e : End) → SpendsAll p s asks added e → MayGrow p s (to_do asks) added (record { intents = []; refused = reason_of e })
+    by Stays h = subst (λ (is : List Intent). MayGrow p s (to_do is) added (record { intents = []; refused = None })) (append-nil asks) (h [] None)
+    by Done h = subst (λ (is : List Intent). MayGrow p s (to_do is) added (record { intents = []; refused = None })) (append-nil asks) (h [] None)
+    by (Fails reason) h = subst (λ (is : List Intent). MayGrow p s (to_do is) added (record { intents = []; refused = Some reason })) (append-nil asks) (h [] None)

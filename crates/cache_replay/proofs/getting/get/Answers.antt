@@ -1,0 +1,49 @@
+use Rattle.std.proofs.Common.{[]}
+use Rattle.stripe_core.specs.Stripe.{kept_in, seen_in, state_in}
+use Rattle.cache_replay.specs.declared.getting.Got.TheVariants as got
+use Rattle.cache_replay.proofs.ReaderFrames.{kept_leaves, open_leaves}
+use Rattle.cache_replay.proofs.WholeGets.{began, follow_answered, gets_as_asked, hit_gets, hit_under, leaves_closed, miss_answered, nobody}
+use Rattle.cache_replay.proofs.getting.get.Goals as goal
+
+pub returns-in-Hit-clause-gets : goal.returns-in-Hit-clause-gets
+returns-in-Hit-clause-gets g c =
+    let k = kept_in g.C.Chronicle c.args.stripe.now in
+    hit_gets (seen_in g.D.Disk g.R.Directory c.args.stripe.now).device.faults (seen_in g.D.Disk g.R.Directory c.open_read.new.stripe).device.faults (seen_in g.D.Disk g.R.Directory c.read_whole.new.stripe).device.faults
+    k (kept_in g.C.Chronicle c.open_read.new.stripe) (kept_in g.C.Chronicle c.read_whole.new.stripe) c.args.key c.args.request c.in-Hit.reader c.read_whole.result c.read_whole.ensures.quiet
+    (hit_under c.reads_own.ensures k (kept_in g.C.Chronicle c.open_read.new.stripe) (seen_in g.D.Disk g.R.Directory c.args.stripe.now).device (seen_in g.D.Disk g.R.Directory c.open_read.new.stripe).device
+    c.args.key c.args.request c.open_read.ensures.later c.in-Hit.reader c.in-Hit.put c.in-Hit.length (rw c.in-Hit.is at c.in_ok-reader.ensures.adds) (rw c.in-Hit.is at c.in_ok-reader.ensures.opens) (rw c.in-Hit.is at c.in_ok-reader.ensures.tells))
+    c.read_whole.ensures.answers
+
+pub returns-in-Hit-clause-leaves : goal.returns-in-Hit-clause-leaves
+returns-in-Hit-clause-leaves g c =
+    let s = state_in g.C.Chronicle c.args.stripe.now in
+    leaves_closed s (state_in g.C.Chronicle c.open_read.new.stripe) (state_in g.C.Chronicle c.read_whole.new.stripe) c.in-Hit.reader.reader (rw c.in-Hit.is at c.in_ok-reader.ensures.tells).0
+    (kept_leaves _ (kept_in g.C.Chronicle c.args.stripe.now) (kept_in g.C.Chronicle c.open_read.new.stripe) _ c.in_ok-reader.ensures.adds (open_leaves s nobody c.args.key c.args.request _)) c.read_whole.ensures.leaves
+
+pub returns-in_ok-close-in-Follow-clause-gets : goal.returns-in_ok-close-in-Follow-clause-gets
+returns-in_ok-close-in-Follow-clause-gets g c =
+    let k = kept_in g.C.Chronicle c.args.stripe.now in
+    gets_as_asked (seen_in g.D.Disk g.R.Directory c.args.stripe.now).device.faults (seen_in g.D.Disk g.R.Directory c.close.new.stripe).device.faults k (kept_in g.C.Chronicle c.close.new.stripe) c.args.key c.args.request
+    (got.Follow c.in-Follow.put) c.close.ensures.quiet
+    (c.in_ok-close-in-Follow.ensures.answers (began k c.args.key c.args.request (seen_in g.D.Disk g.R.Directory c.args.stripe.now).device.faults) [] _
+    (follow_answered c.reads_own.ensures k (kept_in g.C.Chronicle c.open_read.new.stripe) (seen_in g.D.Disk g.R.Directory c.args.stripe.now).device (seen_in g.D.Disk g.R.Directory c.open_read.new.stripe).device
+    c.args.key c.args.request c.open_read.ensures.later c.in-Follow.reader c.in-Follow.put (rw c.in-Follow.is at c.in_ok-reader.ensures.adds) c.open_read.ensures.quiet (rw c.in-Follow.is at c.in_ok-reader.ensures.opens)
+    (rw c.in-Follow.is at c.in_ok-reader.ensures.tells)))
+
+pub returns-in_ok-close-in-Follow-clause-leaves : goal.returns-in_ok-close-in-Follow-clause-leaves
+returns-in_ok-close-in-Follow-clause-leaves g c =
+    let s = state_in g.C.Chronicle c.args.stripe.now in
+    leaves_closed s (state_in g.C.Chronicle c.open_read.new.stripe) (state_in g.C.Chronicle c.close.new.stripe) c.in-Follow.reader.reader (rw c.in-Follow.is at c.in_ok-reader.ensures.tells).0
+    (kept_leaves _ (kept_in g.C.Chronicle c.args.stripe.now) (kept_in g.C.Chronicle c.open_read.new.stripe) _ c.in_ok-reader.ensures.adds (open_leaves s nobody c.args.key c.args.request _)) c.close.ensures.leaves
+
+pub returns-in-Miss-clause-gets : goal.returns-in-Miss-clause-gets
+returns-in-Miss-clause-gets g c =
+    let k = kept_in g.C.Chronicle c.args.stripe.now in
+    gets_as_asked (seen_in g.D.Disk g.R.Directory c.args.stripe.now).device.faults (seen_in g.D.Disk g.R.Directory c.open_read.new.stripe).device.faults k (kept_in g.C.Chronicle c.open_read.new.stripe) c.args.key c.args.request
+    (got.Miss c.in-Miss.why) c.open_read.ensures.quiet
+    (miss_answered c.reads_own.ensures k (kept_in g.C.Chronicle c.open_read.new.stripe) (seen_in g.D.Disk g.R.Directory c.args.stripe.now).device (seen_in g.D.Disk g.R.Directory c.open_read.new.stripe).device
+    c.args.key c.args.request c.open_read.ensures.later c.in-Miss.why (rw c.in-Miss.is at c.in_ok-reader.ensures.adds) c.open_read.ensures.quiet c.requires.stripe.actors.readers_fall (rw c.in-Miss.is at c.in_ok-reader.ensures.opens))
+
+pub returns-in-Miss-clause-leaves : goal.returns-in-Miss-clause-leaves
+returns-in-Miss-clause-leaves g c =
+    kept_leaves _ (kept_in g.C.Chronicle c.args.stripe.now) (kept_in g.C.Chronicle c.open_read.new.stripe) _ c.in_ok-reader.ensures.adds (open_leaves (state_in g.C.Chronicle c.args.stripe.now) nobody c.args.key c.args.request _)

@@ -1,0 +1,28 @@
+use Rattle.std.proofs.Common.{[], ◌∷◌, subst, sym, ap, ◌∙◌}
+use Rattle.cache_model.specs.Permit.{StopReading}
+use Rattle.stripe_core.specs.Stripe.{kept_in, seen_in}
+use Rattle.script_run.specs.Answers.{broken_said}
+use Rattle.script_lang.specs.declared.answer.StepAnswer.TheVariants as answer
+use Rattle.cache_replay.specs.Getting.{IsAnswered}
+use Rattle.cache_replay.proofs.WholeReads.{answered_as}
+use Rattle.cache_replay.proofs.getting.read_to_end.Goals as goal
+
+pub returns-in-End-clause-answers : goal.returns-in-End-clause-answers
+returns-in-End-clause-answers g c = λ b under.
+    answered_as b (seen_in g.D.Disk g.R.Directory c.read_more.new.stripe).device.faults (kept_in g.C.Chronicle c.read_more.new.stripe) _ c.args.reader.now.reader c.read_more.new.body.items
+    (answer.Got c.loop-body.reader.put c.in-End.length c.read_more.new.body.items) (answer.Got c.args.put c.in-End.length c.read_more.new.body.items)
+    (c.read_more.ensures.number ∙ c.loop-body.invariant.number) (ap (λ n. answer.Got n c.in-End.length c.read_more.new.body.items) (c.loop-body.invariant.put ∙ sym c.requires.put))
+    ((rw c.in-End.is at c.in_ok-read_more.ensures.comes) b (c.loop-body.invariant.under b under))
+
+pub returns-in-NotYet-clause-answers : goal.returns-in-NotYet-clause-answers
+returns-in-NotYet-clause-answers g c = λ b under.
+    answered_as b (seen_in g.D.Disk g.R.Directory c.read_more.new.stripe).device.faults (kept_in g.C.Chronicle c.read_more.new.stripe) _ c.args.reader.now.reader []
+    (answer.Follow c.loop-body.reader.put) (answer.Follow c.args.put)
+    (c.read_more.ensures.number ∙ c.loop-body.invariant.number) (ap (λ n. answer.Follow n) (c.loop-body.invariant.put ∙ sym c.requires.put))
+    ((rw c.in-NotYet.is at c.in_ok-read_more.ensures.comes) b (c.loop-body.invariant.under b under))
+
+pub returns-in-Broken-clause-answers : goal.returns-in-Broken-clause-answers
+returns-in-Broken-clause-answers g c = λ b under.
+    subst (λ n. IsAnswered b (seen_in g.D.Disk g.R.Directory c.read_more.new.stripe).device.faults (kept_in g.C.Chronicle c.read_more.new.stripe) (StopReading n ∷ []) [] (broken_said c.in-Broken.why))
+    (c.read_more.ensures.number ∙ c.loop-body.invariant.number)
+    ((rw c.in-Broken.is at c.in_ok-read_more.ensures.comes) b (c.loop-body.invariant.under b under))

@@ -1,0 +1,26 @@
+use Rattle.std.proofs.Common.{◌≡◌, ◌*◌, ◌≤◌, [], true, length, is_some, Some, None}
+use Rattle.tape_base.specs.Geometry.{budget_of}
+use Rattle.cache_model.specs.Legal.{IsQuiet}
+use Rattle.stripe_core.specs.Stripe.{IsStripe, kept_in, seen_in, state_in}
+use Rattle.stripe_read.specs.Readers.{IsOpenReader}
+use Rattle.cache_replay.specs.Session.{LeavesBut}
+use Rattle.cache_replay.specs.Getting.{Began, IsUnderway, rows_left}
+use Rattle.cache_replay.proofs.getting.read_to_end.Given as goal
+
+abbrev pub invariant-loop-body : goal.invariant-loop-body
+invariant-loop-body g l = record {
+  stripe : IsStripe g.D.Disk g.R.Directory g.C.Chronicle l.stripe;
+  quiet : IsQuiet (state_in g.C.Chronicle l.stripe);
+  reader : IsOpenReader (state_in g.C.Chronicle l.stripe) l.reader;
+  number : l.reader.reader ≡ l.fn.reader.reader;
+  put : l.reader.put ≡ l.fn.reader.put;
+  hit : is_some l.reader.table ≡ true;
+  page : length l.page ≡ 512 * budget_of (state_in g.C.Chronicle l.stripe).geometry;
+  under : (b : Began) → IsUnderway b (seen_in g.D.Disk g.R.Directory l.fn.stripe).device.faults (kept_in g.C.Chronicle l.fn.stripe) l.fn.reader []
+      → IsUnderway b (seen_in g.D.Disk g.R.Directory l.stripe).device.faults (kept_in g.C.Chronicle l.stripe) l.reader l.body.items;
+  leaves : LeavesBut None (Some l.fn.reader.reader) (state_in g.C.Chronicle l.fn.stripe) (state_in g.C.Chronicle l.stripe);
+  later : (seen_in g.D.Disk g.R.Directory l.fn.stripe).device.faults ≤ (seen_in g.D.Disk g.R.Directory l.stripe).device.faults;
+}
+
+abbrev pub decreases-loop-body : goal.decreases-loop-body
+decreases-loop-body g l = rows_left l.reader

@@ -1,0 +1,16 @@
+use Rattle.std.proofs.Common.{refl}
+use Rattle.cache_replay.proofs.OnSession.{line_ends, line_reached, line_session, remove_plain}
+use Rattle.cache_replay.proofs.plain_lines.remove_line.Goals as goal
+
+pub returns-in-Some-clause-session : goal.returns-in-Some-clause-session
+returns-in-Some-clause-session g c =
+    line_session g.D.Disk g.R.Directory g.C.Chronicle c.args.session.now c.in-Some.part c.remove_from.new.part c.in-Some.is c.remove_from.ensures.leaves c.requires.session c.remove_from.ensures.part
+
+pub returns-in-Some-clause-ends : goal.returns-in-Some-clause-ends
+returns-in-Some-clause-ends g c =
+    line_ends g.D.Disk g.R.Directory g.C.Chronicle c.steps_tell.ensures c.steps_own.ensures c.args.session.now _ c.in-Some.part c.remove_from.new.part _ c.remove_from.result (remove_plain c.args.key)
+    c.in-Some.is refl refl (λ n. refl) c.remove_from.ensures.leaves c.requires.session c.remove_from.ensures.ends
+
+pub returns-in-Some-clause-reached : goal.returns-in-Some-clause-reached
+returns-in-Some-clause-reached g c =
+    line_reached g.D.Disk g.R.Directory g.C.Chronicle c.args.session.now c.in-Some.part c.remove_from.new.part c.remove_from.result c.in-Some.is c.requires.session c.remove_from.ensures.later

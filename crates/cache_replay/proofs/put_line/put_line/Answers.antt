@@ -1,0 +1,17 @@
+use Rattle.std.proofs.Common.{refl}
+use Rattle.cache_replay.proofs.OnSession.{line_reached}
+use Rattle.cache_replay.proofs.PutLine.{put_ends, put_session}
+use Rattle.cache_replay.proofs.put_line.put_line.Goals as goal
+
+pub returns-in-Some-clause-session : goal.returns-in-Some-clause-session
+returns-in-Some-clause-session g c =
+    put_session g.D.Disk g.R.Directory g.C.Chronicle c.args.session.now c.in-Some.part c.put_in.new.part c.in-Some.is c.put_in.ensures.leaves c.requires.session c.put_in.ensures.part
+
+pub returns-in-Some-clause-ends : goal.returns-in-Some-clause-ends
+returns-in-Some-clause-ends g c =
+    put_ends g.D.Disk g.R.Directory g.C.Chronicle c.steps_tell.ensures c.steps_own.ensures c.args.session.now _ c.in-Some.part c.put_in.new.part c.args.key c.args.body.now c.args.request c.args.response c.put_in.result
+    c.in-Some.is refl refl refl c.put_in.ensures.leaves c.requires.session c.put_in.ensures.ends
+
+pub returns-in-Some-clause-reached : goal.returns-in-Some-clause-reached
+returns-in-Some-clause-reached g c =
+    line_reached g.D.Disk g.R.Directory g.C.Chronicle c.args.session.now c.in-Some.part c.put_in.new.part c.put_in.result c.in-Some.is c.requires.session c.put_in.ensures.later

@@ -1,0 +1,34 @@
+use Rattle.std.proofs.Common.{refl}
+use Rattle.tape_base.specs.declared.actors.Actor.{Actor}
+use Rattle.stripe_core.specs.Stripe.{kept_in, seen_in}
+use Rattle.cache_replay.proofs.PutOpens.{is_fresh, leaves_opened, puts_opened, puts_refused}
+use Rattle.cache_replay.proofs.putting.put.Goals as goal
+
+abbrev nobody : Actor
+nobody = record { 0 = 0 }
+
+pub put_open-requires-clause-fresh : goal.put_open-requires-clause-fresh
+put_open-requires-clause-fresh g c =
+    let opened = c.in-Ok.ensures in
+    is_fresh (kept_in g.C.Chronicle c.args.stripe.now) (kept_in g.C.Chronicle c.open_write.new.stripe) nobody c.args.key c.args.request c.args.response c.in-Ok.writer
+    opened.adds opened.does.0 opened.writer opened.empty opened.unsealed
+
+pub returns-in-Ok-clause-puts : goal.returns-in-Ok-clause-puts
+returns-in-Ok-clause-puts g c =
+    let opened = c.in-Ok.ensures in
+    puts_opened (kept_in g.C.Chronicle c.args.stripe.now) (kept_in g.C.Chronicle c.open_write.new.stripe) nobody c.args.key c.args.request c.args.response c.in-Ok.writer opened.adds
+    (seen_in g.D.Disk g.R.Directory c.args.stripe.now).device.faults (seen_in g.D.Disk g.R.Directory c.open_write.new.stripe).device.faults (seen_in g.D.Disk g.R.Directory c.put_open.new.stripe).device.faults
+    (kept_in g.C.Chronicle c.put_open.new.stripe) c.args.body.now c.groups_tell.ensures refl c.put_open.ensures.quiet opened.does c.open_write.ensures.later c.put_open.result c.put_open.ensures.ends
+
+pub returns-in-Ok-clause-leaves : goal.returns-in-Ok-clause-leaves
+returns-in-Ok-clause-leaves g c =
+    let opened = c.in-Ok.ensures in
+    leaves_opened (kept_in g.C.Chronicle c.args.stripe.now) (kept_in g.C.Chronicle c.open_write.new.stripe) nobody c.args.key c.args.request c.args.response c.in-Ok.writer opened.adds
+    (kept_in g.C.Chronicle c.put_open.new.stripe) c.others_stay.ensures opened.does.0 c.put_open.ensures.own
+
+pub returns-in-Err-clause-puts : goal.returns-in-Err-clause-puts
+returns-in-Err-clause-puts g c =
+    let refused = c.in-Err.ensures in
+    puts_refused (seen_in g.D.Disk g.R.Directory c.args.stripe.now).device.faults (seen_in g.D.Disk g.R.Directory c.open_write.new.stripe).device.faults
+    (kept_in g.C.Chronicle c.args.stripe.now) (kept_in g.C.Chronicle c.open_write.new.stripe) nobody c.args.key c.args.body.now c.args.request c.args.response refl
+    refused.err c.open_write.ensures.quiet c.requires.stripe.actors.puts_fall c.in-Err.why refused.does

@@ -1,0 +1,32 @@
+use Rattle.std.proofs.Common.{Some, sym, subst}
+use Rattle.stripe_core.specs.Stripe.{kept_in, seen_in, state_in}
+use Rattle.stripe_read.specs.Nexts.{read_adds}
+use Rattle.cache_replay.specs.ReaderLines.{NextEnds}
+use Rattle.cache_replay.proofs.NextLine.{next_ends, reads_within}
+use Rattle.cache_replay.proofs.ReaderFrames.{kept_leaves, read_leaves}
+use Rattle.cache_replay.proofs.reader_lines.read_to.Goals as goal
+
+pub piece_said-requires : goal.piece_said-requires
+piece_said-requires g c =
+    reads_within (state_in g.C.Chronicle c.args.stripe.now) (seen_in g.D.Disk g.R.Directory c.args.stripe.now).device (seen_in g.D.Disk g.R.Directory c.read_next.new.stripe).device
+    c.args.reader.now c.in_ok-piece.piece c.read_next.new.into c.in_ok-piece.ensures.reads
+
+pub returns-in_err-piece_said-clause-leaves : goal.returns-in_err-piece_said-clause-leaves
+returns-in_err-piece_said-clause-leaves g c =
+    kept_leaves (Some c.args.reader.now.reader) (kept_in g.C.Chronicle c.args.stripe.now) (kept_in g.C.Chronicle c.read_next.new.stripe)
+    (read_adds (state_in g.C.Chronicle c.args.stripe.now) c.args.reader.now c.in_ok-piece.piece) c.in_ok-piece.ensures.adds
+    (read_leaves (state_in g.C.Chronicle c.args.stripe.now) c.args.reader.now c.in_ok-piece.piece)
+
+pub returns-clause-leaves : goal.returns-clause-leaves
+returns-clause-leaves g c =
+    kept_leaves (Some c.args.reader.now.reader) (kept_in g.C.Chronicle c.args.stripe.now) (kept_in g.C.Chronicle c.read_next.new.stripe)
+    (read_adds (state_in g.C.Chronicle c.args.stripe.now) c.args.reader.now c.in_ok-piece.piece) c.in_ok-piece.ensures.adds
+    (read_leaves (state_in g.C.Chronicle c.args.stripe.now) c.args.reader.now c.in_ok-piece.piece)
+
+pub returns-clause-ends : goal.returns-clause-ends
+returns-clause-ends g c = λ run owned reader.
+    subst (NextEnds run (state_in g.C.Chronicle c.args.stripe.now) (state_in g.C.Chronicle c.read_next.new.stripe) c.args.reader.now c.read_next.new.reader)
+    (sym c.in_ok-piece_said.ensures)
+    (next_ends c.read_is_own.ensures (kept_in g.C.Chronicle c.args.stripe.now) (kept_in g.C.Chronicle c.read_next.new.stripe)
+    (seen_in g.D.Disk g.R.Directory c.args.stripe.now).device (seen_in g.D.Disk g.R.Directory c.read_next.new.stripe).device
+    c.args.reader.now c.read_next.new.reader c.in_ok-piece.piece c.read_next.new.into c.in_ok-piece.ensures.adds c.in_ok-piece.ensures.reads c.in_ok-piece.ensures.keeps c.requires.reader.first run owned reader)

@@ -1,0 +1,17 @@
+use Rattle.std.proofs.Common.{ap, arith, sym, ◌+◌}
+use Rattle.cache_replay.specs.Plays.{ledger_of}
+use Rattle.cache_replay.proofs.Dispatch.{all_ends, all_left, all_stops, needs_session}
+use Rattle.cache_replay.proofs.stepping.step.Goals as goal
+
+pub returns-in_default : goal.returns-in_default
+returns-in_default g c =
+    let needs = needs_session c.args.step (λ name a b d e f h i is. c.in_default.not-Format name a b d e f h i is) in
+    record {
+      session = c.in_session.ensures.session;
+      ends = all_ends _ _ _ c.in_session.result c.args.step c.args.session.now c.in_session.new.session (ledger_of g.B.Bay c.args.bay.now) needs c.in_session.ensures.ends;
+      left = all_left _ _ _ c.in_session.result c.args.session.now c.in_session.new.session (ledger_of g.B.Bay c.args.bay.now) c.in_session.ensures.reached;
+      stop = all_stops _ _ _ c.in_session.result c.args.step c.args.session.now (g.B.Bay.faults c.args.bay.now) (g.B.Bay.faults c.args.bay.now) needs c.in_session.ensures.stop;
+      out = ap (λ n. g.B.Bay.out c.args.bay.now + n) (sym c.in_session.ensures.devices);
+      names = c.in_session.ensures.names;
+      later = omega arith;
+    }

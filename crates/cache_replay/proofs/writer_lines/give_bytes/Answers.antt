@@ -1,0 +1,15 @@
+use Rattle.std.proofs.Common.{sym, subst}
+use Rattle.stripe_core.specs.Stripe.{kept_in, state_in}
+use Rattle.cache_replay.specs.WriterLines.{Feeds, WriterDoes}
+use Rattle.cache_replay.proofs.WriterSteps.{is_left}
+use Rattle.cache_replay.proofs.Fed.{feeds_line}
+use Rattle.cache_replay.proofs.writer_lines.give_bytes.Goals as goal
+
+pub returns-clause-left : goal.returns-clause-left
+returns-clause-left g c = is_left (state_in g.C.Chronicle c.feed-taken.new.stripe) c.args.writer.put c.feed-taken.new.writer c.keep_open.result c.feed-taken.ensures.fed.put c.feed-taken.ensures.writer c.keep_open.ensures
+
+pub returns-clause-does : goal.returns-clause-does
+returns-clause-does g c =
+    subst (WriterDoes (state_in g.C.Chronicle c.args.stripe.now) (state_in g.C.Chronicle c.feed-taken.new.stripe) (Feeds c.args.body.now) c.args.writer c.keep_open.result) (sym c.fed_answer.ensures)
+    (feeds_line (kept_in g.C.Chronicle c.args.stripe.now) (kept_in g.C.Chronicle c.feed-taken.new.stripe) _ _ c.args.writer c.feed-taken.new.writer c.args.body.now c.feed-taken.result.taken c.keep_open.result
+    c.requires.quiet c.feed-taken.ensures.quiet c.requires.writing c.requires.writer c.feed-taken.ensures.fed c.feed-taken.ensures.most c.keep_open.ensures c.feed-taken.result.refused c.feed-taken.ensures.feeds c.feed-taken.ensures.taken)

@@ -1,0 +1,9 @@
+pub mod Session
+pub mod Plays
+pub mod Stop
+pub mod Feeding
+pub mod Putting
+pub mod Getting
+pub mod Plain
+pub mod ReaderLines
+pub mod WriterLines

@@ -1,0 +1,132 @@
+-- What a session is for the run that it serves, and what a line makes of it.
+use Rattle.std.specs.Prelude.{ℕ, ◌≡◌, ◌≤◌, ◌⊎◌, List, [], ◌∷◌, ◌++◌, length, drop, Option, Some, None}
+use Rattle.ats_disk.specs.Bay.{Return}
+use Rattle.ats_disk.specs.declared.bay.Bay.{Ghosts as BayGhosts}
+use Rattle.ats_disk.specs.declared.device.Disk.{Ghosts as DiskGhosts}
+use Rattle.dir_table.specs.declared.directory.Directory.{Ghosts as DirectoryGhosts}
+use Rattle.cache_chronicle.specs.declared.chronicle.Chronicle.{Ghosts as ChronicleGhosts}
+use Rattle.fragment_table.specs.Table.{total_length}
+use Rattle.cache_model.specs.State.{State}
+use Rattle.cache_model.specs.Vectors.{AreTold}
+use Rattle.stripe_core.specs.Stripe.{state_in}
+use Rattle.stripe_write.specs.declared.writer.Writer.{Writer}
+use Rattle.stripe_read.specs.Readers.{IsReaderOf}
+use Rattle.script_lang.specs.declared.step.Step.{Step}
+use Rattle.script_lang.specs.declared.answer.StepAnswer.{StepAnswer}
+use Rattle.script_run.specs.Run.{Run, Stream, Writes, Reads}
+use Rattle.script_run.specs.Turn.{Turn}
+use Rattle.script_run.specs.Answers.{step_answer}
+use Rattle.script_run.specs.Behind.{after_step, fault_of}
+use Rattle.script_run.specs.Own.{AreOwn}
+use Rattle.script_run.specs.Takes.{StepShows, StepTakes}
+use Rattle.cache_replay.specs.declared.session.Session.{Session}
+use Rattle.cache_replay.specs.declared.session.Part.{Part}
+use Rattle.cache_replay.specs.declared.session.Holding.{Holding}
+use Rattle.cache_replay.specs.declared.session.Holding.TheVariants as holding
+use Rattle.cache_replay.specs.declared.stop.Stop.{Stop}
+use Rattle.cache_replay.specs.declared.stop.Stop.TheVariants.{Memory}
+use Rattle.cache_replay.specs.Session.{IsSession, names_in, return_of, slots_in}
+
+-- ---- a session beside a run
+
+-- a writer cut and gathered what it took, and is sealed where it is to be
+pub record IsStreamOf (stream : Stream) (w : Writer) : Type 0 where
+  pub gathered : w.gathered.items ≡ drop (total_length w.table.rows) stream.bytes
+  pub within : total_length w.table.rows ≤ length stream.bytes
+  pub sealed : w.sealed ≡ stream.sealed
+
+-- an actor has what the run says
+abbrev pub IsHeldAs : Run → State → ℕ → Option Holding → Type 0
+IsHeldAs run s n None = run.held n ≡ None
+IsHeldAs run s n (Some (holding.Writer w)) = (run.held n ≡ Some (Writes w.put)) × IsStreamOf (run.streams w.put) w
+IsHeldAs run s n (Some (holding.Reader r)) = (run.held n ≡ Some (Reads r.reader)) × IsReaderOf s r
+
+-- the records are those of a legal history, and what stands belongs to what writers took
+pub record PlaysIn (run : Run) (s : State) (slots : ℕ → Option Holding) : Type 0 where
+  pub state : run.state ≡ Some s
+  pub told : AreTold s
+  pub own : AreOwn s run.streams
+  pub held : (n : ℕ) → IsHeldAs run s n (slots n)
+
+pub record PlaysNone (run : Run) : Type 0 where
+  pub state : run.state ≡ None
+  pub held : (n : ℕ) → run.held n ≡ None
+
+-- no count that was told of a device is above the one with which it comes back
+abbrev pub AreReached : List ℕ → List Return → Type 0
+AreReached [] [] = Unit {0}
+AreReached [] (device ∷ devices) = ⊥
+AreReached (count ∷ counts) [] = ⊥
+AreReached (count ∷ counts) (device ∷ devices) = (count ≤ device.faults) × AreReached counts devices
+
+module _ {D R C : Type 0} (disk : DiskGhosts D) (directory : DirectoryGhosts R) (chronicle : ChronicleGhosts C) where
+  abbrev pub PlaysAt : Run → Option (Part D R C) → (ℕ → Option Holding) → Type 0
+  PlaysAt run None slots = PlaysNone run
+  PlaysAt run (Some part) slots = PlaysIn run (state_in chronicle part.stripe) slots
+
+  -- a session as the run has it, as long as no two documents of one SHA-256 were shown
+  pub record Plays (run : Run) (session : Session D R C) : Type 0 where
+    pub names : run.actors ≡ names_in session
+    pub at : PlaysAt run session.part (slots_in session)
+
+  -- its device has counted as far as was told
+  abbrev pub HasReached : Run → Session D R C → Type 0
+  HasReached run session = AreReached (fault_of run.state) (return_of disk directory chronicle session.part)
+
+  -- a session as the run has it has a device that counted so far
+  abbrev pub PlaysReach : Type 0
+  PlaysReach = (run : Run) (session : Session D R C) → IsSession disk directory chronicle session → Plays run session → HasReached run session
+
+  -- ---- a line
+
+  -- a step did what it must, and this is its answer
+  pub record StepMoves (run : Run) (step : Step) (new : Session D R C) (said : StepAnswer) : Type 0 where
+    pub turn : Turn
+    pub takes : StepTakes run turn step
+    pub plays : Plays (after_step run turn step) new
+    pub says : step_answer run turn step ≡ said
+
+  -- so it is, or two documents of one SHA-256 are shown
+  abbrev pub StepEnds : Run → Step → Session D R C → StepAnswer → Type 0
+  StepEnds run step new said = StepMoves run step new said ⊎ StepShows run run.state step
+
+-- ---- devices
+
+-- devices came back, with counts that none of these exceeds
+pub record ComeBack (old new : List Return) (counts : List ℕ) : Type 0 where
+  pub devices : List Return
+  pub returned : new ≡ old ++ devices
+  pub reached : AreReached counts devices
+
+-- what a bay tells: the names of the devices that were attached, and the devices that came back
+pub record Ledger : Type 0 where
+  pub names : List (List ℕ)
+  pub returned : List Return
+
+abbrev pub ledger_of : {B D : Type 0} → BayGhosts B D → B → Ledger
+ledger_of bay b = record { names = bay.names b; returned = bay.returned b }
+
+-- devices came back, with counts that none of these exceeds, and these are the names of those that were attached
+pub record Deals (old new : Ledger) (counts : List ℕ) (names : List (List ℕ)) : Type 0 where
+  pub back : ComeBack old.returned new.returned counts
+  pub attached : new.names ≡ old.names ++ names
+
+-- A step did what it must, this is its answer, the devices of what it ended came back, and its own was attached.
+pub record DeviceMoves {D R C : Type 0} (disk : DiskGhosts D) (directory : DirectoryGhosts R) (chronicle : ChronicleGhosts C) (run : Run) (step : Step) (new : Session D R C) (said : StepAnswer) (before now : Ledger) : Type 0 where
+  pub moves : StepMoves disk directory chronicle run step new said
+  pub counts : List ℕ
+  pub ended : (after_step run moves.turn step).ended ≡ run.ended ++ counts
+  pub names : List (List ℕ)
+  pub named : (after_step run moves.turn step).names ≡ run.names ++ names
+  pub deals : Deals before now counts names
+
+-- What a line leaves that ended the run for this reason: the session's device and the bay as they were; or, of a format
+-- that wanted memory once its device was attached, both devices came back, that of the session first, and there is no
+-- session.
+pub data IsLeft {D R C : Type 0} (disk : DiskGhosts D) (directory : DirectoryGhosts R) (chronicle : ChronicleGhosts C) (run : Run) (new : Session D R C) (before now : Ledger) (why : Stop) : Type 0 where
+  stays : HasReached disk directory chronicle run new → now ≡ before → IsLeft disk directory chronicle run new before now why
+  ended : (name : List ℕ) → new.part ≡ None → Deals before now (fault_of run.state ++ 0 ∷ []) (name ∷ []) → why ≡ Memory → IsLeft disk directory chronicle run new before now why
+
+abbrev pub DeviceEnds : {D R C : Type 0} → DiskGhosts D → DirectoryGhosts R → ChronicleGhosts C → Run → Step → Session D R C → StepAnswer → (before now : Ledger) → Type 0
+DeviceEnds disk directory chronicle run step new said before now =
+    DeviceMoves disk directory chronicle run step new said before now ⊎ StepShows run run.state step

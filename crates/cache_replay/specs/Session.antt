@@ -1,0 +1,90 @@
+-- What holds of a session between lines, whatever its device gave.
+use Rattle.std.specs.Prelude.{ℕ, ◌≡◌, ◌*◌, ⊤, true, List, [], ◌∷◌, length, Option, Some, None, IfSome}
+use Rattle.tape_base.specs.Geometry.{budget_of}
+use Rattle.ats_disk.specs.Bay.{Return, return_with}
+use Rattle.ats_disk.specs.declared.device.Disk.{Ghosts as DiskGhosts}
+use Rattle.dir_table.specs.declared.directory.Directory.{Ghosts as DirectoryGhosts}
+use Rattle.cache_chronicle.specs.declared.chronicle.Chronicle.{Ghosts as ChronicleGhosts}
+use Rattle.cache_model.specs.State.{State, put_of, reader_of}
+use Rattle.cache_model.specs.Legal.{IsQuiet, is_writing}
+use Rattle.stripe_core.specs.Stripe.{IsStripe, seen_in, state_in}
+use Rattle.stripe_write.specs.Writers.{IsWriterOf}
+use Rattle.stripe_read.specs.Readers.{IsOpenReader}
+use Rattle.actor_table.specs.Table.{slot_of}
+use Rattle.cache_replay.specs.declared.session.Session.{Session}
+use Rattle.cache_replay.specs.declared.session.Part.{Part}
+use Rattle.cache_replay.specs.declared.session.Holding.{Holding}
+use Rattle.cache_replay.specs.declared.session.Holding.TheVariants as holding
+
+-- ---- what actors have
+
+-- what an actor has is open
+abbrev pub IsHeld : State → Holding → Type 0
+IsHeld s (holding.Writer w) = (is_writing s w.put ≡ true) × IsWriterOf s w
+IsHeld s (holding.Reader r) = IsOpenReader s r
+
+abbrev pub AreHeld : State → (ℕ → Option Holding) → Type 0
+AreHeld s slots = (n : ℕ) → IfSome (slots n) (IsHeld s)
+
+-- two of them are writers of two puts, or two readers, or one of each
+abbrev pub Differ : Holding → Holding → Type 0
+Differ (holding.Writer w) (holding.Writer v) = w.put ≡ v.put → ⊥
+Differ (holding.Reader r) (holding.Reader q) = r.reader ≡ q.reader → ⊥
+Differ _ _ = ⊤
+
+-- no two actors have the same
+abbrev pub AreApart : (ℕ → Option Holding) → Type 0
+AreApart slots = (m n : ℕ) (a b : Holding) → (m ≡ n → ⊥) → slots m ≡ Some a → slots n ≡ Some b → Differ a b
+
+-- ---- a session
+
+-- the names of the actors, and what each has by its number
+abbrev pub names_in : {D R C : Type 0} → Session D R C → List (List ℕ)
+names_in session = session.actors.names
+
+abbrev pub slots_in : {D R C : Type 0} → Session D R C → ℕ → Option Holding
+slots_in session n = slot_of session.actors.slots n
+
+-- how many devices it has
+abbrev pub parts_of : {X : Type 0} → Option X → ℕ
+parts_of None = 0
+parts_of (Some x) = 1
+
+abbrev pub devices_of : {D R C : Type 0} → Session D R C → ℕ
+devices_of session = parts_of session.part
+
+module _ {D R C : Type 0} (disk : DiskGhosts D) (directory : DirectoryGhosts R) (chronicle : ChronicleGhosts C) where
+  abbrev pub state_of_part : Part D R C → State
+  state_of_part part = state_in chronicle part.stripe
+
+  -- its stripe, and a page that takes any piece
+  pub record IsPart (part : Part D R C) : Type 0 where
+    pub stripe : IsStripe disk directory chronicle part.stripe
+    pub quiet : IsQuiet (state_in chronicle part.stripe)
+    pub page : length part.page.items ≡ 512 * budget_of (state_in chronicle part.stripe).geometry
+
+  pub record IsActive (p : Part D R C) (slots : ℕ → Option Holding) : Type 0 where
+    pub part : IsPart p
+    pub held : AreHeld (state_in chronicle p.stripe) slots
+    pub apart : AreApart slots
+
+  -- without a cache no actor has anything
+  abbrev pub IsAt : Option (Part D R C) → (ℕ → Option Holding) → Type 0
+  IsAt None slots = (n : ℕ) → slots n ≡ None
+  IsAt (Some part) slots = IsActive part slots
+
+  abbrev pub IsSession : Session D R C → Type 0
+  IsSession session = IsAt session.part (slots_in session)
+
+  -- the device of a session, as it would be given back
+  abbrev pub return_of : Option (Part D R C) → List Return
+  return_of None = []
+  return_of (Some part) = return_with (seen_in disk directory part.stripe).device.faults ∷ []
+
+-- ---- what a call leaves
+
+-- all puts but one and all readers but one are as they were
+pub record LeavesBut (put reader : Option ℕ) (s t : State) : Type 0 where
+  pub puts : (q : ℕ) → (put ≡ Some q → ⊥) → put_of t q ≡ put_of s q
+  pub readers : (n : ℕ) → (reader ≡ Some n → ⊥) → reader_of t n ≡ reader_of s n
+  pub geometry : t.geometry ≡ s.geometry

@@ -1,0 +1,145 @@
+-- What a line makes of an actor's writer, and then of a session's part and its actors.
+use Rattle.std.specs.Prelude.{ℕ, ◌≡◌, ◌==◌, ◌⊎◌, true, if◌then◌else◌, List, Option, Some, None, IfSome, Result, Ok, Err}
+use Rattle.cache_chronicle.specs.declared.chronicle.Chronicle.{Ghosts as ChronicleGhosts}
+use Rattle.tape_base.specs.declared.keys.Key.{Key}
+use Rattle.alternate_vector.specs.Field.{Field}
+use Rattle.cache_model.specs.State.{State, after_all}
+use Rattle.cache_model.specs.Vectors.{AreTold}
+use Rattle.cache_model.specs.Legal.{is_writing}
+use Rattle.stripe_core.specs.declared.refusal.Refusal.{Refusal}
+use Rattle.stripe_core.specs.declared.refusal.Refusal.TheVariants as refusal
+use Rattle.stripe_core.specs.Stripe.{state_in}
+use Rattle.stripe_write.specs.declared.finishing.Receipt.{Receipt}
+use Rattle.stripe_write.specs.declared.writer.Writer.{Writer}
+use Rattle.stripe_write.specs.Writers.{IsWriterOf}
+use Rattle.actor_table.specs.Table.{Seen, number_of, slot_of}
+use Rattle.script_lang.specs.declared.step.Step.{Step}
+use Rattle.script_lang.specs.declared.step.Step.TheVariants as step
+use Rattle.script_lang.specs.declared.answer.StepAnswer.{StepAnswer}
+use Rattle.script_lang.specs.declared.answer.StepAnswer.TheVariants as answer
+use Rattle.script_run.specs.Run.{Run, Writes, held_by}
+use Rattle.script_run.specs.Asked.{asked}
+use Rattle.script_run.specs.Turn.{Turn}
+use Rattle.script_run.specs.Answers.{session_said, step_answer}
+use Rattle.script_run.specs.Behind.{after_step, holds_behind, streams_behind}
+use Rattle.script_run.specs.Takes.{SessionTakes, Shows, StepShows, StepTakes}
+use Rattle.cache_replay.specs.declared.session.Part.{Part}
+use Rattle.cache_replay.specs.declared.session.Holding.{Holding}
+use Rattle.cache_replay.specs.declared.session.Holding.TheVariants as holding
+use Rattle.cache_replay.specs.Plays.{IsStreamOf, PlaysIn}
+use Rattle.cache_replay.specs.Putting.{refusal_answer}
+
+-- ---- answers
+
+-- a refusal as a line tells it; of want of memory none does
+abbrev pub refused_answer : Refusal → Option ℕ → Option StepAnswer
+refused_answer (refusal.Memory e) took = None
+refused_answer refusal.TooManyWriters took = Some (refusal_answer refusal.TooManyWriters took)
+refused_answer refusal.TooManyFragments took = Some (refusal_answer refusal.TooManyFragments took)
+refused_answer (refusal.VectorTooLarge bytes) took = Some (refusal_answer (refusal.VectorTooLarge bytes) took)
+refused_answer (refusal.Lost index why) took = Some (refusal_answer (refusal.Lost index why) took)
+refused_answer refusal.Sealed took = Some (refusal_answer refusal.Sealed took)
+refused_answer (refusal.Exhausted number) took = Some (refusal_answer (refusal.Exhausted number) took)
+refused_answer (refusal.DeviceFault count) took = Some (refusal_answer (refusal.DeviceFault count) took)
+refused_answer refusal.NoSuchWriter took = Some (refusal_answer refusal.NoSuchWriter took)
+
+-- of a line of so many bytes, of which so many were taken
+abbrev pub fed_answer : (size taken : ℕ) → Option Refusal → Option StepAnswer
+fed_answer size taken None = Some (answer.Took size)
+fed_answer size taken (Some why) = refused_answer why (Some taken)
+
+-- ---- lines
+
+-- what is asked of a writer, or for one
+pub data WriterLine : Type 0 where
+  Feeds : (body : List ℕ) → WriterLine
+  Closes : WriterLine
+  GivesUp : WriterLine
+  Opens : (key : Key) (pin : ℕ) (request response : List Field) → WriterLine
+
+abbrev pub step_of : WriterLine → List ℕ → Step
+step_of (Feeds body) name = step.Feed name body
+step_of Closes name = step.Close name
+step_of GivesUp name = step.Abort name
+step_of (Opens key pin request response) name = step.OpenWrite name key pin request response
+
+-- ---- a writer
+
+-- it is what the run says that the actor has
+pub record IsPlayed (run : Run) (name : List ℕ) (s : State) (w : Writer) : Type 0 where
+  pub held : held_by run name ≡ Some (Writes w.put)
+  pub stream : IsStreamOf (run.streams w.put) w
+  pub told : AreTold s
+
+-- what the actor is left with
+abbrev pub held_in : Option Writer → Option Holding
+held_in None = None
+held_in (Some w) = Some (holding.Writer w)
+
+abbrev pub writes_in : Option Writer → Option Rattle.script_run.specs.Run.Holding
+writes_in None = None
+writes_in (Some w) = Some (Writes w.put)
+
+-- a writer that is left writes the same put, which is open
+abbrev pub IsLeft : State → ℕ → Option Writer → Type 0
+IsLeft t put None = Unit {0}
+IsLeft t put (Some w) = (w.put ≡ put) × (is_writing t put ≡ true) × IsWriterOf t w
+
+-- a line did what it must: this writer is left, and this is its answer
+pub record WriterMoves (run : Run) (name : List ℕ) (s t : State) (line : WriterLine) (left : Option Writer) (said : StepAnswer) : Type 0 where
+  pub turn : Turn
+  pub takes : SessionTakes run s turn (step_of line name)
+  pub state : t ≡ after_all s turn.added
+  pub held : holds_behind run s t (step_of line name) name ≡ writes_in left
+  pub stream : IfSome left (λ v. IsStreamOf (streams_behind run s t turn (step_of line name) v.put) v)
+  pub says : session_said run s t turn (step_of line name) ≡ said
+
+-- so it is, or two documents of one SHA-256 are shown
+abbrev pub WriterEnds : Run → List ℕ → State → State → WriterLine → Option Writer → StepAnswer → Type 0
+WriterEnds run name s t line left said = WriterMoves run name s t line left said ⊎ Shows run s (asked run s (step_of line name))
+
+-- where memory is wanting nothing is answered
+abbrev pub WriterDoes : State → State → WriterLine → Writer → Option Writer → Option StepAnswer → Type 0
+WriterDoes s t line w left None = Unit {0}
+WriterDoes s t line w left (Some said) = (run : Run) (name : List ℕ) → IsPlayed run name s w → WriterEnds run name s t line left said
+
+-- the same of a line that asks for a writer, of an actor that has nothing
+abbrev pub OpenDoes : State → State → ℕ → WriterLine → Option Writer → Option StepAnswer → Type 0
+OpenDoes s t n line left None = Unit {0}
+OpenDoes s t n line left (Some said) = (run : Run) (name : List ℕ) → held_by run name ≡ None → n ≡ number_of run.actors name → WriterMoves run name s t line left said
+
+-- what came of a writer that was closed
+abbrev pub closed_answer : Result Receipt Refusal → Option StepAnswer
+closed_answer (Ok receipt) = Some (answer.Put receipt.put receipt.length receipt.fragments)
+closed_answer (Err why) = refused_answer why None
+
+-- ---- a part, and its actors
+
+abbrev pub slots_at : Seen Holding → ℕ → Option Holding
+slots_at actors n = slot_of actors.slots n
+
+-- no writer
+abbrev pub HasNoWriter : Option Holding → Type 0
+HasNoWriter None = Unit {0}
+HasNoWriter (Some (holding.Writer w)) = ⊥
+HasNoWriter (Some (holding.Reader r)) = Unit {0}
+
+-- the writer that an actor had is taken; where it had none, it has what it had
+abbrev pub TakesWriter : Seen Holding → Seen Holding → ℕ → Option Writer → Type 0
+TakesWriter old new n None = HasNoWriter (slots_at old n) × ((m : ℕ) → slots_at new m ≡ slots_at old m)
+TakesWriter old new n (Some w) = (slots_at old n ≡ Some (holding.Writer w)) × ((m : ℕ) → slots_at new m ≡ (if m == n then None else slots_at old m))
+
+module _ {D R C : Type 0} (chronicle : ChronicleGhosts C) where
+  -- they are what the run has
+  pub record PartPlays (run : Run) (part : Part D R C) (actors : Seen Holding) : Type 0 where
+    pub names : run.actors ≡ actors.names
+    pub at : PlaysIn run (state_in chronicle part.stripe) (slots_at actors)
+
+  pub record PartMoves (run : Run) (step : Step) (part : Part D R C) (actors : Seen Holding) (said : StepAnswer) : Type 0 where
+    pub turn : Turn
+    pub takes : StepTakes run turn step
+    pub plays : PartPlays (after_step run turn step) part actors
+    pub says : step_answer run turn step ≡ said
+
+  abbrev pub PartEnds : Run → Step → Part D R C → Seen Holding → StepAnswer → Type 0
+  PartEnds run step part actors said = PartMoves run step part actors said ⊎ StepShows run run.state step

@@ -1,0 +1,245 @@
+// Sessions begin, formats give them devices, and the devices come back.
+ghost use Rattle.std.specs.Prelude.{◌≡◌, ◌+◌, ◌-◌, ◌*◌, ◌<◌, ◌≤◌, ◌++◌, ◌∷◌, [], ℕ, None, Some, length, IfOk, IfErr, OnOk, OnErr};
+ghost use Rattle.tape_base.specs.Geometry.{budget_of};
+ghost use Rattle.tape_base.specs.Limits.{first_refusal};
+ghost use Rattle.ats_disk.specs.Bay.{IsAttached};
+ghost use Rattle.script_lang.specs.declared.step.Step.TheVariants as step;
+ghost use Rattle.cache_model.specs.Legal.{format_records};
+ghost use Rattle.stripe_core.specs.Stripe.{seen_in};
+ghost use Rattle.script_run.specs.Run.{Run, fresh};
+ghost use Rattle.script_run.specs.Answers.{number_of_bad};
+ghost use Rattle.script_run.specs.Behind.{fault_of, formatted};
+ghost use Rattle.cache_replay.specs.Session.{IsSession, devices_of, names_in, parts_of, return_of, slots_in};
+ghost use Rattle.cache_replay.specs.Plays.{ComeBack, Deals, DeviceMoves, HasReached, IsLeft, Plays, PlaysReach, ledger_of};
+ghost use Rattle.cache_replay.specs.Stop.{IsFormatStop};
+
+use crate::session::{Cache, Part, Session};
+use crate::stop::Stop;
+use actor_table::Actors;
+use ats_disk::{Bay, BayFault, Disk};
+use cache_chronicle::{Chronicle, FullChronicle};
+use cache_model::formats_tell;
+use dir_table::{Directory, ListDirectory};
+use script_lang::{Refused, StepAnswer};
+use script_run::formats_own;
+use std::alloc::{AllocError, Global};
+use std::mem;
+use stripe_core::Stripe;
+use tape_base::{BadGeometry, Geometry, floor_of};
+
+/// A session in which nothing was formatted yet.
+pub fn begin<D: Disk>(alloc: Global) -> Cache<D>
+    ensures session { IsSession D.Disk ⟦<ListDirectory as Directory>⟧ ⟦<FullChronicle as Chronicle>⟧ result }
+    ensures plays { Plays D.Disk ⟦<ListDirectory as Directory>⟧ ⟦<FullChronicle as Chronicle>⟧ fresh result }
+    ensures devices { devices_of result ≡ 0 }
+    ensures names { names_in result ≡ [] }
+{
+    Session {
+        alloc,
+        actors: Actors::new(alloc),
+        part: None,
+    }
+}
+
+/// A session's device has counted as far as the run was told.
+pub fn plays_reach<D: Disk, R: Directory + Drop, C: Chronicle>()
+    ensures { PlaysReach D.Disk R.Directory C.Chronicle }
+{}
+
+/// Gives the session's device back.
+pub fn close<B: Bay>(session: Cache<B::Dev>, bay: &mut B)
+    requires held { devices_of session ≤ B.out bay.old }
+    ensures back { (run : Run) → HasReached B.Dev.Disk ⟦<ListDirectory as Directory>⟧ ⟦<FullChronicle as Chronicle>⟧ run session
+        → ComeBack (B.returned bay.old) (B.returned bay.new) (fault_of run.state) }
+    ensures out { B.out bay.new + devices_of session ≡ B.out bay.old }
+    ensures names { B.names bay.new ≡ B.names bay.old }
+    ensures faults { B.faults bay.new ≡ B.faults bay.old }
+{
+    let Session { part, .. } = session;
+    give_back(bay, part);
+}
+
+// Gives back the device of a cache, where there is one.
+fn give_back<B: Bay, R: Directory + Drop, C: Chronicle + Drop>(
+    bay: &mut B,
+    part: Option<Part<B::Dev, R, C>>,
+)
+    requires held { parts_of part ≤ B.out bay.old }
+    ensures back { B.returned bay.new ≡ B.returned bay.old ++ return_of B.Dev.Disk R.Directory C.Chronicle part }
+    ensures out { B.out bay.new + parts_of part ≡ B.out bay.old }
+    ensures names { B.names bay.new ≡ B.names bay.old }
+    ensures faults { B.faults bay.new ≡ B.faults bay.old }
+{
+    match part {
+        Some(part) => bay.give_back(into_disk(part)),
+        None => {}
+    }
+}
+
+fn into_disk<D: Disk, R: Directory + Drop, C: Chronicle + Drop>(part: Part<D, R, C>) -> D
+    ensures { D.state result ≡ (seen_in D.Disk R.Directory part.stripe).device }
+{
+    let Part { stripe, .. } = part;
+    let (disk, _chronicle) = stripe.into_parts();
+    disk
+}
+
+fn number_of(bad: BadGeometry) -> u32
+    ensures { result ≡ number_of_bad bad }
+{
+    match bad {
+        BadGeometry::Segments => 1,
+        BadGeometry::Buckets => 2,
+        BadGeometry::Agg => 3,
+        BadGeometry::Content => 4,
+        BadGeometry::Reach => 5,
+        BadGeometry::Fragment => 6,
+    }
+}
+
+// As many bytes as any piece has.
+fn make_page(alloc: Global, geometry: &Geometry) -> Result<Vec<u8>, AllocError>
+    ensures { IfOk result (λ page. length page.items ≡ 512 * budget_of geometry.now) }
+{
+    let bytes = 512 * (geometry.agg as usize / 2);
+    vec![in alloc; 0; bytes]
+}
+
+// Attaches a device.
+fn attach<B: Bay>(alloc: Global, bay: &mut B, name: &[u8], blocks: u64) -> Result<B::Dev, Stop>
+    ensures device { IfOk result (λ device. IsAttached blocks (B.Dev.state device)) }
+    ensures names { OnOk result (B.names bay.new ≡ B.names bay.old ++ name.now ∷ []) }
+    ensures out { OnOk result (B.out bay.new ≡ B.out bay.old + 1) }
+    ensures refused { OnErr result ((B.names bay.new ≡ B.names bay.old) × (B.out bay.new ≡ B.out bay.old)) }
+    ensures returned { B.returned bay.new ≡ B.returned bay.old }
+    ensures stop { IfErr result (IsFormatStop (B.faults bay.old) (B.faults bay.new)) }
+    ensures later { B.faults bay.old ≤ B.faults bay.new }
+{
+    match bay.attach(alloc, name, blocks) {
+        Ok(device) => Ok(device),
+        Err(BayFault::Failed { .. }) => Err(Stop::BayFault),
+        Err(BayFault::Memory(_)) => Err(Stop::Memory),
+    }
+}
+
+// Ends the session, and gives its device back.
+fn end<B: Bay>(session: &mut Cache<B::Dev>, bay: &mut B)
+    requires held { devices_of session.old ≤ B.out bay.old }
+    ensures part { session.new.part ≡ None }
+    ensures slots { (n : ℕ) → slots_in session.new n ≡ None }
+    ensures names { names_in session.new ≡ names_in session.old }
+    ensures back { B.returned bay.new ≡ B.returned bay.old
+        ++ return_of B.Dev.Disk ⟦<ListDirectory as Directory>⟧ ⟦<FullChronicle as Chronicle>⟧ session.old.part }
+    ensures out { B.out bay.new + devices_of session.old ≡ B.out bay.old }
+    ensures attached { B.names bay.new ≡ B.names bay.old }
+    ensures faults { B.faults bay.new ≡ B.faults bay.old }
+{
+    session.actors.clear();
+    let part = mem::replace(&mut session.part, None);
+    give_back(bay, part);
+}
+
+/// `format NAME S B N A R F G`: the session before it ends, and one begins on the device of that name.
+pub(crate) fn format_line<B: Bay>(
+    session: &mut Cache<B::Dev>,
+    bay: &mut B,
+    name: &[u8],
+    segments: u32,
+    buckets: u32,
+    content: u64,
+    agg: u32,
+    reach: u64,
+    fragment: u32,
+    generation: u64,
+) -> Result<StepAnswer, Stop>
+    requires session { IsSession B.Dev.Disk ⟦<ListDirectory as Directory>⟧ ⟦<FullChronicle as Chronicle>⟧ session.old }
+    requires held { devices_of session.old ≤ B.out bay.old }
+    ensures session { IsSession B.Dev.Disk ⟦<ListDirectory as Directory>⟧ ⟦<FullChronicle as Chronicle>⟧ session.new }
+    ensures ends { IfOk result (λ said. (run : Run) → Plays B.Dev.Disk ⟦<ListDirectory as Directory>⟧ ⟦<FullChronicle as Chronicle>⟧ run session.old
+        → DeviceMoves B.Dev.Disk ⟦<ListDirectory as Directory>⟧ ⟦<FullChronicle as Chronicle>⟧ run
+        (step.Format name.now segments buckets content agg reach fragment generation) session.new said
+        (ledger_of B.Bay bay.old) (ledger_of B.Bay bay.new)) }
+    ensures left { IfErr result (λ why. (run : Run) → Plays B.Dev.Disk ⟦<ListDirectory as Directory>⟧ ⟦<FullChronicle as Chronicle>⟧ run session.old
+        → IsLeft B.Dev.Disk ⟦<ListDirectory as Directory>⟧ ⟦<FullChronicle as Chronicle>⟧ run session.new (ledger_of B.Bay bay.old) (ledger_of B.Bay bay.new) why) }
+    ensures stop { IfErr result (λ stop. (first_refusal segments buckets content agg reach fragment ≡ None) × IsFormatStop (B.faults bay.old) (B.faults bay.new) stop) }
+    ensures out { B.out bay.new + devices_of session.old ≡ B.out bay.old + devices_of session.new }
+    ensures names { names_in session.new ≡ names_in session.old }
+    ensures later { B.faults bay.old ≤ B.faults bay.new }
+{
+    match Geometry::check(segments, buckets, content, agg, reach, fragment, generation) {
+        Err(bad) => Ok(StepAnswer::Refused {
+            why: Refused::Geometry {
+                number: number_of(bad),
+            },
+            took: None,
+        }),
+        Ok(geometry) => {
+            format(session, bay, name, geometry)?;
+            Ok(StepAnswer::Formatted {
+                serial: 1,
+                cursor: geometry.content,
+                floor: floor_of(&geometry, geometry.content),
+            })
+        }
+    }
+}
+
+// Begins a session on the device of that name.
+fn format<B: Bay>(
+    session: &mut Cache<B::Dev>,
+    bay: &mut B,
+    name: &[u8],
+    geometry: Geometry,
+) -> Result<(), Stop>
+    requires session { IsSession B.Dev.Disk ⟦<ListDirectory as Directory>⟧ ⟦<FullChronicle as Chronicle>⟧ session.old }
+    requires held { devices_of session.old ≤ B.out bay.old }
+    ensures session { IsSession B.Dev.Disk ⟦<ListDirectory as Directory>⟧ ⟦<FullChronicle as Chronicle>⟧ session.new }
+    ensures plays { OnOk result ((run : Run) → Plays B.Dev.Disk ⟦<ListDirectory as Directory>⟧ ⟦<FullChronicle as Chronicle>⟧ run session.old
+        → Plays B.Dev.Disk ⟦<ListDirectory as Directory>⟧ ⟦<FullChronicle as Chronicle>⟧ (formatted run name.now (format_records geometry)) session.new) }
+    ensures deals { OnOk result ((run : Run) → Plays B.Dev.Disk ⟦<ListDirectory as Directory>⟧ ⟦<FullChronicle as Chronicle>⟧ run session.old
+        → Deals (ledger_of B.Bay bay.old) (ledger_of B.Bay bay.new) (fault_of run.state) (name.now ∷ [])) }
+    ensures left { IfErr result (λ why. (run : Run) → Plays B.Dev.Disk ⟦<ListDirectory as Directory>⟧ ⟦<FullChronicle as Chronicle>⟧ run session.old
+        → IsLeft B.Dev.Disk ⟦<ListDirectory as Directory>⟧ ⟦<FullChronicle as Chronicle>⟧ run session.new (ledger_of B.Bay bay.old) (ledger_of B.Bay bay.new) why) }
+    ensures stop { IfErr result (IsFormatStop (B.faults bay.old) (B.faults bay.new)) }
+    ensures out { B.out bay.new + devices_of session.old ≡ B.out bay.old + devices_of session.new }
+    ensures names { names_in session.new ≡ names_in session.old }
+    ensures later { B.faults bay.old ≤ B.faults bay.new }
+{
+    formats_tell();
+    formats_own();
+    let alloc = session.alloc;
+    let page = make_page(alloc, &geometry)?;
+    let disk = attach(alloc, bay, name, geometry.content)?;
+    match Stripe::format(alloc, disk, FullChronicle::new(alloc), geometry) {
+        Ok(stripe) => {
+            start(session, bay, Part { stripe, page });
+            Ok(())
+        }
+        Err((_, disk, _)) => {
+            end(session, bay);
+            bay.give_back(disk);
+            Err(Stop::Memory)
+        }
+    }
+}
+
+// Puts another cache in the place of the session's, whose device it gives back.
+fn start<B: Bay>(
+    session: &mut Cache<B::Dev>,
+    bay: &mut B,
+    part: Part<B::Dev, ListDirectory, FullChronicle>,
+)
+    requires held { devices_of session.old ≤ B.out bay.old }
+    ensures part { session.new.part ≡ Some part }
+    ensures slots { (n : ℕ) → slots_in session.new n ≡ None }
+    ensures names { names_in session.new ≡ names_in session.old }
+    ensures back { B.returned bay.new ≡ B.returned bay.old
+        ++ return_of B.Dev.Disk ⟦<ListDirectory as Directory>⟧ ⟦<FullChronicle as Chronicle>⟧ session.old.part }
+    ensures out { B.out bay.new + devices_of session.old ≡ B.out bay.old }
+    ensures attached { B.names bay.new ≡ B.names bay.old }
+    ensures faults { B.faults bay.new ≡ B.faults bay.old }
+{
+    session.actors.clear();
+    let before = mem::replace(&mut session.part, Some(part));
+    give_back(bay, before);
+}

@@ -1,0 +1,261 @@
+// Whole bodies are read.
+ghost use Rattle.std.specs.Prelude.{ℕ, List, Option, ◌≡◌, ◌*◌, ◌+◌, ◌^◌, ◌<◌, ◌≤◌, [], ◌∷◌, true, length, is_some, Some, None, IfOk, IfErr, OnErr, OnOk};
+ghost use Rattle.tape_base.specs.Geometry.{budget_of};
+ghost use Rattle.cache_model.specs.Legal.{IsQuiet};
+ghost use Rattle.cache_model.specs.Permit.{StopReading};
+ghost use Rattle.stripe_core.specs.Stripe.{IsStripe, kept_in, seen_in, state_in};
+ghost use Rattle.stripe_read.specs.Readers.{IsOpenReader};
+ghost use Rattle.script_lang.specs.declared.answer.StepAnswer.{StepAnswer};
+ghost use Rattle.script_lang.specs.declared.step.Step.TheVariants as step;
+ghost use Rattle.script_run.specs.Run.{Run};
+ghost use Rattle.cache_replay.specs.declared.session.Holding.{Holding};
+ghost use Rattle.cache_replay.specs.Session.{AreHeld, IsActive, IsPart, IsSession, LeavesBut, devices_of, names_in};
+ghost use Rattle.cache_replay.specs.Plays.{HasReached, Plays, PlaysIn, StepEnds};
+ghost use Rattle.cache_replay.specs.Stop.{IsSessionStop};
+ghost use Rattle.cache_replay.specs.Getting.{Began, ComesOf, GetsAsAsked, IsAnswered, IsNearer, IsUnderway, LineEnds, given_in, got_answer};
+
+use crate::answers::{broken_said, miss_said};
+use crate::session::{Part, Session};
+use crate::stop::Stop;
+use alternate_vector::Fields;
+use ats_disk::Disk;
+use cache_chronicle::Chronicle;
+use cache_model::{Cause, steps_tell};
+use dir_table::Directory;
+use script_lang::{ByteList, StepAnswer};
+use script_run::{all_is_given, read_is_own, reads_own};
+use std::alloc::{AllocError, Global};
+use stripe_core::Stripe;
+use stripe_read::{NextPiece, Opened, Reader, close_read, open_read, read_next};
+use tape_base::{Actor, Key};
+
+/// What a whole read gave.
+#[derive(Debug, Drop)]
+pub(crate) enum Got {
+    Whole {
+        put: u64,
+        length: u64,
+        body: Vec<u8>,
+    },
+    Broken(Cause),
+    Follow {
+        put: u64,
+    },
+    Miss(Cause),
+}
+
+/// Looks a key up, and where a stored alternate is hit reads it to its end.
+pub(crate) fn get<D: Disk, R: Directory + Drop, C: Chronicle>(
+    alloc: Global,
+    stripe: &mut Stripe<D, R, C>,
+    page: &mut [u8],
+    key: Key,
+    request: Fields,
+) -> Result<Got, AllocError>
+    requires stripe { IsStripe D.Disk R.Directory C.Chronicle stripe.old }
+    requires quiet { IsQuiet (state_in C.Chronicle stripe.old) }
+    requires page { length page.old ≡ 512 * budget_of (state_in C.Chronicle stripe.old).geometry }
+    ensures stripe { IsStripe D.Disk R.Directory C.Chronicle stripe.new }
+    ensures quiet { IsQuiet (state_in C.Chronicle stripe.new) }
+    ensures gets { IfOk result (GetsAsAsked (seen_in D.Disk R.Directory stripe.old).device.faults (seen_in D.Disk R.Directory stripe.new).device.faults
+        (kept_in C.Chronicle stripe.old) (kept_in C.Chronicle stripe.new) key request) }
+    ensures leaves { LeavesBut None (Some (state_in C.Chronicle stripe.old).next_reader) (state_in C.Chronicle stripe.old) (state_in C.Chronicle stripe.new) }
+    ensures later { (seen_in D.Disk R.Directory stripe.old).device.faults ≤ (seen_in D.Disk R.Directory stripe.new).device.faults }
+{
+    reads_own();
+    match open_read(stripe, Actor(0), key, request)? {
+        Opened::Hit { reader, put, .. } => read_whole(alloc, stripe, page, reader, put),
+        Opened::Follow { reader, put } => {
+            close(stripe, reader)?;
+            Ok(Got::Follow { put })
+        }
+        Opened::Miss(why) => Ok(Got::Miss(why)),
+    }
+}
+
+// Reads what a reader hit to its end, and closes the reader.
+fn read_whole<D: Disk, R: Directory + Drop, C: Chronicle>(
+    alloc: Global,
+    stripe: &mut Stripe<D, R, C>,
+    page: &mut [u8],
+    reader: Reader,
+    put: u64,
+) -> Result<Got, AllocError>
+    requires stripe { IsStripe D.Disk R.Directory C.Chronicle stripe.old }
+    requires quiet { IsQuiet (state_in C.Chronicle stripe.old) }
+    requires reader { IsOpenReader (state_in C.Chronicle stripe.old) reader }
+    requires hit { is_some reader.table ≡ true }
+    requires put { put ≡ reader.put }
+    requires page { length page.old ≡ 512 * budget_of (state_in C.Chronicle stripe.old).geometry }
+    ensures stripe { IsStripe D.Disk R.Directory C.Chronicle stripe.new }
+    ensures quiet { IsQuiet (state_in C.Chronicle stripe.new) }
+    ensures answers { IfOk result (λ got. (b : Began) → IsUnderway b (seen_in D.Disk R.Directory stripe.old).device.faults (kept_in C.Chronicle stripe.old) reader []
+        → IsAnswered b (seen_in D.Disk R.Directory stripe.new).device.faults (kept_in C.Chronicle stripe.new) [] (given_in got) (got_answer got)) }
+    ensures leaves { LeavesBut None (Some reader.reader) (state_in C.Chronicle stripe.old) (state_in C.Chronicle stripe.new) }
+    ensures later { (seen_in D.Disk R.Directory stripe.old).device.faults ≤ (seen_in D.Disk R.Directory stripe.new).device.faults }
+{
+    let mut reader = reader;
+    match read_to_end(alloc, stripe, page, &mut reader, put) {
+        Ok(got) => {
+            close(stripe, reader)?;
+            Ok(got)
+        }
+        Err(e) => Err(e),
+    }
+}
+
+// Reads what a reader hit to its end.
+fn read_to_end<D: Disk, R: Directory + Drop, C: Chronicle>(
+    alloc: Global,
+    stripe: &mut Stripe<D, R, C>,
+    page: &mut [u8],
+    reader: &mut Reader,
+    put: u64,
+) -> Result<Got, AllocError>
+    requires stripe { IsStripe D.Disk R.Directory C.Chronicle stripe.old }
+    requires quiet { IsQuiet (state_in C.Chronicle stripe.old) }
+    requires reader { IsOpenReader (state_in C.Chronicle stripe.old) reader.old }
+    requires hit { is_some reader.old.table ≡ true }
+    requires put { put ≡ reader.old.put }
+    requires page { length page.old ≡ 512 * budget_of (state_in C.Chronicle stripe.old).geometry }
+    ensures stripe { IsStripe D.Disk R.Directory C.Chronicle stripe.new }
+    ensures quiet { IsQuiet (state_in C.Chronicle stripe.new) }
+    ensures reader { IsOpenReader (state_in C.Chronicle stripe.new) reader.new }
+    ensures number { reader.new.reader ≡ reader.old.reader }
+    ensures answers { IfOk result (λ got. (b : Began) → IsUnderway b (seen_in D.Disk R.Directory stripe.old).device.faults (kept_in C.Chronicle stripe.old) reader.old []
+        → IsAnswered b (seen_in D.Disk R.Directory stripe.new).device.faults (kept_in C.Chronicle stripe.new) (StopReading reader.old.reader ∷ []) (given_in got) (got_answer got)) }
+    ensures leaves { LeavesBut None (Some reader.old.reader) (state_in C.Chronicle stripe.old) (state_in C.Chronicle stripe.new) }
+    ensures later { (seen_in D.Disk R.Directory stripe.old).device.faults ≤ (seen_in D.Disk R.Directory stripe.new).device.faults }
+{
+    let mut body = Vec::new(alloc);
+    loop {
+        match read_more(stripe, page, reader, &mut body)? {
+            NextPiece::Piece { .. } => {}
+            NextPiece::End { length } => return Ok(Got::Whole { put, length, body }),
+            NextPiece::NotYet { .. } => return Ok(Got::Follow { put }),
+            NextPiece::Broken(why) => return Ok(Got::Broken(why)),
+        }
+    }
+}
+
+// Reads the next fragment, and appends it to the body.
+fn read_more<D: Disk, R: Directory + Drop, C: Chronicle>(
+    stripe: &mut Stripe<D, R, C>,
+    page: &mut [u8],
+    reader: &mut Reader,
+    body: &mut Vec<u8>,
+) -> Result<NextPiece, AllocError>
+    requires stripe { IsStripe D.Disk R.Directory C.Chronicle stripe.old }
+    requires quiet { IsQuiet (state_in C.Chronicle stripe.old) }
+    requires reader { IsOpenReader (state_in C.Chronicle stripe.old) reader.old }
+    requires hit { is_some reader.old.table ≡ true }
+    requires page { length page.old ≡ 512 * budget_of (state_in C.Chronicle stripe.old).geometry }
+    ensures stripe { IsStripe D.Disk R.Directory C.Chronicle stripe.new }
+    ensures quiet { IsQuiet (state_in C.Chronicle stripe.new) }
+    ensures reader { IsOpenReader (state_in C.Chronicle stripe.new) reader.new }
+    ensures number { reader.new.reader ≡ reader.old.reader }
+    ensures put { reader.new.put ≡ reader.old.put }
+    ensures table { reader.new.table ≡ reader.old.table }
+    ensures comes { IfOk result (λ next. (b : Began) → IsUnderway b (seen_in D.Disk R.Directory stripe.old).device.faults (kept_in C.Chronicle stripe.old) reader.old body.old.items
+        → ComesOf b (seen_in D.Disk R.Directory stripe.new).device.faults (kept_in C.Chronicle stripe.new) reader.old.put reader.new body.new.items next) }
+    ensures nearer { IfOk result (λ next. IsNearer reader.old next reader.new) }
+    ensures leaves { LeavesBut None (Some reader.old.reader) (state_in C.Chronicle stripe.old) (state_in C.Chronicle stripe.new) }
+    ensures later { (seen_in D.Disk R.Directory stripe.old).device.faults ≤ (seen_in D.Disk R.Directory stripe.new).device.faults }
+{
+    read_is_own();
+    all_is_given();
+    reads_own();
+    match read_next(stripe, reader, page)? {
+        NextPiece::Piece { index, length } => {
+            body.extend_from_slice(&page[..length as usize])?;
+            Ok(NextPiece::Piece { index, length })
+        }
+        NextPiece::End { length } => Ok(NextPiece::End { length }),
+        NextPiece::NotYet { cut } => Ok(NextPiece::NotYet { cut }),
+        NextPiece::Broken(why) => Ok(NextPiece::Broken(why)),
+    }
+}
+
+// Closes a reader.
+fn close<D: Disk, R: Directory + Drop, C: Chronicle>(
+    stripe: &mut Stripe<D, R, C>,
+    reader: Reader,
+) -> Result<(), AllocError>
+    requires stripe { IsStripe D.Disk R.Directory C.Chronicle stripe.old }
+    requires quiet { IsQuiet (state_in C.Chronicle stripe.old) }
+    requires reader { IsOpenReader (state_in C.Chronicle stripe.old) reader }
+    ensures stripe { IsStripe D.Disk R.Directory C.Chronicle stripe.new }
+    ensures quiet { IsQuiet (state_in C.Chronicle stripe.new) }
+    ensures answers { OnOk result ((b : Began) (given : List ℕ) (said : StepAnswer)
+        → IsAnswered b (seen_in D.Disk R.Directory stripe.old).device.faults (kept_in C.Chronicle stripe.old) (StopReading reader.reader ∷ []) given said
+        → IsAnswered b (seen_in D.Disk R.Directory stripe.new).device.faults (kept_in C.Chronicle stripe.new) [] given said) }
+    ensures leaves { LeavesBut None (Some reader.reader) (state_in C.Chronicle stripe.old) (state_in C.Chronicle stripe.new) }
+    ensures later { (seen_in D.Disk R.Directory stripe.old).device.faults ≤ (seen_in D.Disk R.Directory stripe.new).device.faults }
+{
+    match close_read(stripe, reader) {
+        Ok(()) => Ok(()),
+        Err((e, _reader)) => Err(e),
+    }
+}
+
+/// Reads a whole body, in a line.
+pub(crate) fn get_line<D: Disk, R: Directory + Drop, C: Chronicle>(
+    session: &mut Session<D, R, C>,
+    key: Key,
+    request: Fields,
+) -> Result<StepAnswer, Stop>
+    requires session { IsSession D.Disk R.Directory C.Chronicle session.old }
+    ensures session { IsSession D.Disk R.Directory C.Chronicle session.new }
+    ensures ends { IfOk result (λ said. (run : Run) → Plays D.Disk R.Directory C.Chronicle run session.old
+        → StepEnds D.Disk R.Directory C.Chronicle run (step.Get key request) session.new said) }
+    ensures reached { OnErr result ((run : Run) → Plays D.Disk R.Directory C.Chronicle run session.old → HasReached D.Disk R.Directory C.Chronicle run session.new) }
+    ensures stop { IfErr result (λ stop. (run : Run) → Plays D.Disk R.Directory C.Chronicle run session.old → IsSessionStop run stop) }
+    ensures devices { devices_of session.new ≡ devices_of session.old }
+    ensures names { length (names_in session.new) ≤ length (names_in session.old) + 1 }
+{
+    match &mut session.part {
+        Some(part) => match get_in_part(session.alloc, part, key, request) {
+            Ok(said) => Ok(said),
+            Err(e) => Err(Stop::from(e)),
+        },
+        None => Err(Stop::NoCache),
+    }
+}
+
+// Reads it, where there is a cache.
+fn get_in_part<D: Disk, R: Directory + Drop, C: Chronicle>(
+    alloc: Global,
+    part: &mut Part<D, R, C>,
+    key: Key,
+    request: Fields,
+) -> Result<StepAnswer, AllocError>
+    requires part { IsPart D.Disk R.Directory C.Chronicle part.old }
+    ensures active { (slots : ℕ → Option Holding) → IsActive D.Disk R.Directory C.Chronicle part.old slots → IsActive D.Disk R.Directory C.Chronicle part.new slots }
+    ensures ends { IfOk result (λ said. (run : Run) (slots : ℕ → Option Holding) → AreHeld (state_in C.Chronicle part.old.stripe) slots
+        → PlaysIn run (state_in C.Chronicle part.old.stripe) slots
+        → LineEnds run (state_in C.Chronicle part.old.stripe) (state_in C.Chronicle part.new.stripe) key request slots said) }
+    ensures later { (seen_in D.Disk R.Directory part.old.stripe).device.faults ≤ (seen_in D.Disk R.Directory part.new.stripe).device.faults }
+{
+    reads_own();
+    steps_tell();
+    match get(alloc, &mut part.stripe, &mut part.page, key, request) {
+        Ok(got) => Ok(said_of(got)),
+        Err(e) => Err(e),
+    }
+}
+
+// As it is answered.
+fn said_of(got: Got) -> StepAnswer
+    ensures { result ≡ got_answer got }
+{
+    match got {
+        Got::Whole { put, length, body } => StepAnswer::Got {
+            put,
+            length,
+            bytes: ByteList::new(body),
+        },
+        Got::Broken(why) => broken_said(why),
+        Got::Follow { put } => StepAnswer::Follow { put },
+        Got::Miss(why) => miss_said(why),
+    }
+}

@@ -1,0 +1,20 @@
+//! Sessions: the steps of a script on a cache, whose device comes from a bay.
+#![tactic(auto)]
+
+mod answers;
+mod beginning;
+mod feeding;
+mod getting;
+mod plain_lines;
+mod put_line;
+mod putting;
+mod reader_lines;
+mod session;
+mod stepping;
+mod stop;
+mod writer_lines;
+
+pub use beginning::{begin, close, plays_reach};
+pub use session::{Cache, Session};
+pub use stepping::step;
+pub use stop::Stop;

@@ -1,0 +1,73 @@
+// The line of a whole put.
+ghost use Rattle.std.specs.Prelude.{◌≡◌, ◌≤◌, ◌⊎◌, Some, None, IfOk, IfErr, OnErr};
+ghost use Rattle.cache_model.specs.Vectors.{AreTold};
+ghost use Rattle.stripe_core.specs.Stripe.{seen_in, state_in};
+ghost use Rattle.script_lang.specs.declared.step.Step.TheVariants as step;
+ghost use Rattle.script_run.specs.Run.{Run};
+ghost use Rattle.script_run.specs.Takes.{StepShows};
+ghost use Rattle.cache_replay.specs.Session.{IsPart, IsSession, LeavesBut, devices_of, names_in};
+ghost use Rattle.cache_replay.specs.Plays.{HasReached, Plays, StepEnds};
+ghost use Rattle.cache_replay.specs.Plain.{Plainly};
+ghost use Rattle.cache_replay.specs.Stop.{IsSessionStop};
+
+use crate::answers::closed_answer;
+use crate::putting::put;
+use crate::session::{Part, Session};
+use crate::stop::Stop;
+use alternate_vector::Fields;
+use ats_disk::Disk;
+use cache_chronicle::Chronicle;
+use cache_model::steps_tell;
+use dir_table::Directory;
+use script_lang::StepAnswer;
+use script_run::steps_own;
+use tape_base::Key;
+
+/// Puts a whole body, in a line.
+pub(crate) fn put_line<D: Disk, R: Directory + Drop, C: Chronicle>(
+    session: &mut Session<D, R, C>,
+    key: Key,
+    body: &[u8],
+    request: Fields,
+    response: Fields,
+) -> Result<StepAnswer, Stop>
+    requires session { IsSession D.Disk R.Directory C.Chronicle session.old }
+    ensures session { IsSession D.Disk R.Directory C.Chronicle session.new }
+    ensures ends { IfOk result (λ said. (run : Run) → Plays D.Disk R.Directory C.Chronicle run session.old
+        → StepEnds D.Disk R.Directory C.Chronicle run (step.Put key body.now request response) session.new said) }
+    ensures reached { OnErr result ((run : Run) → Plays D.Disk R.Directory C.Chronicle run session.old → HasReached D.Disk R.Directory C.Chronicle run session.new) }
+    ensures stop { IfErr result (λ stop. (run : Run) → Plays D.Disk R.Directory C.Chronicle run session.old → IsSessionStop run stop) }
+    ensures devices { devices_of session.new ≡ devices_of session.old }
+    ensures names { names_in session.new ≡ names_in session.old }
+{
+    // The laws tell what stands behind a line.
+    steps_tell();
+    steps_own();
+    match &mut session.part {
+        Some(part) => put_in(part, key, body, request, response),
+        None => Err(Stop::NoCache),
+    }
+}
+
+// Puts it, where there is a cache.
+fn put_in<D: Disk, R: Directory + Drop, C: Chronicle>(
+    part: &mut Part<D, R, C>,
+    key: Key,
+    body: &[u8],
+    request: Fields,
+    response: Fields,
+) -> Result<StepAnswer, Stop>
+    requires part { IsPart D.Disk R.Directory C.Chronicle part.old }
+    ensures part { IsPart D.Disk R.Directory C.Chronicle part.new }
+    ensures leaves { LeavesBut (Some (state_in C.Chronicle part.old.stripe).next_put) None (state_in C.Chronicle part.old.stripe) (state_in C.Chronicle part.new.stripe) }
+    ensures ends { IfOk result (λ said. (run : Run) → AreTold (state_in C.Chronicle part.old.stripe)
+        → Plainly run (step.Put key body.now request response) (state_in C.Chronicle part.old.stripe) (state_in C.Chronicle part.new.stripe) said
+        ⊎ StepShows run (Some (state_in C.Chronicle part.old.stripe)) (step.Put key body.now request response)) }
+    ensures stop { IfErr result (λ stop. stop ≡ Stop.Memory) }
+    ensures later { (seen_in D.Disk R.Directory part.old.stripe).device.faults ≤ (seen_in D.Disk R.Directory part.new.stripe).device.faults }
+{
+    match closed_answer(put(&mut part.stripe, key, body, request, response)) {
+        Some(said) => Ok(said),
+        None => Err(Stop::Memory),
+    }
+}

@@ -1,0 +1,109 @@
+// Whole bodies are put.
+ghost use Rattle.std.specs.Prelude.{◌≡◌, ◌≤◌, Some, None, true};
+ghost use Rattle.cache_model.specs.Legal.{IsQuiet, is_writing};
+ghost use Rattle.stripe_core.specs.Stripe.{IsStripe, kept_in, seen_in, state_in};
+ghost use Rattle.stripe_write.specs.Others.{AddsOfPut};
+ghost use Rattle.stripe_write.specs.Writers.{IsWriterOf};
+ghost use Rattle.cache_replay.specs.Session.{LeavesBut};
+ghost use Rattle.cache_replay.specs.Putting.{BodyEndsWhere, FillsWhere, IsFresh, PutsWhere, unless_memory};
+
+use crate::feeding::feed;
+use alternate_vector::Fields;
+use ats_disk::Disk;
+use cache_chronicle::Chronicle;
+use cache_model::groups_tell;
+use dir_table::Directory;
+use stripe_core::{Refusal, Stripe};
+use stripe_write::{Receipt, Writer, abort_write, close_write, open_write, others_stay};
+use tape_base::{Actor, Key};
+
+/// Puts a body whole, and gives the put up where that is refused.
+pub(crate) fn put<D: Disk, R: Directory + Drop, C: Chronicle>(
+    stripe: &mut Stripe<D, R, C>,
+    key: Key,
+    body: &[u8],
+    request: Fields,
+    response: Fields,
+) -> Result<Receipt, Refusal>
+    requires stripe { IsStripe D.Disk R.Directory C.Chronicle stripe.old }
+    requires quiet { IsQuiet (state_in C.Chronicle stripe.old) }
+    ensures stripe { IsStripe D.Disk R.Directory C.Chronicle stripe.new }
+    ensures quiet { IsQuiet (state_in C.Chronicle stripe.new) }
+    ensures puts { PutsWhere (seen_in D.Disk R.Directory stripe.old).device.faults (seen_in D.Disk R.Directory stripe.new).device.faults
+        (kept_in C.Chronicle stripe.old) (kept_in C.Chronicle stripe.new) key body.now request response result }
+    ensures leaves { LeavesBut (Some (state_in C.Chronicle stripe.old).next_put) None (state_in C.Chronicle stripe.old) (state_in C.Chronicle stripe.new) }
+    ensures later { (seen_in D.Disk R.Directory stripe.old).device.faults ≤ (seen_in D.Disk R.Directory stripe.new).device.faults }
+{
+    // The laws tell that other puts and all readers stay, and that what the records keep may be kept when the
+    // put is open.
+    others_stay();
+    groups_tell();
+    match open_write(stripe, Actor(0), key, request, response, 0) {
+        Ok(mut writer) => put_open(stripe, &mut writer, body),
+        Err(why) => Err(why),
+    }
+}
+
+// Puts a body with its new writer, and gives the put up where that is still open.
+fn put_open<D: Disk, R: Directory + Drop, C: Chronicle>(
+    stripe: &mut Stripe<D, R, C>,
+    writer: &mut Writer,
+    body: &[u8],
+) -> Result<Receipt, Refusal>
+    requires stripe { IsStripe D.Disk R.Directory C.Chronicle stripe.old }
+    requires quiet { IsQuiet (state_in C.Chronicle stripe.old) }
+    requires writer { IsWriterOf (state_in C.Chronicle stripe.old) writer.old }
+    requires writing { is_writing (state_in C.Chronicle stripe.old) writer.old.put ≡ true }
+    requires fresh { IsFresh writer.old }
+    ensures stripe { IsStripe D.Disk R.Directory C.Chronicle stripe.new }
+    ensures quiet { IsQuiet (state_in C.Chronicle stripe.new) }
+    ensures ends { BodyEndsWhere (seen_in D.Disk R.Directory stripe.old).device.faults (seen_in D.Disk R.Directory stripe.new).device.faults
+        (kept_in C.Chronicle stripe.old) (kept_in C.Chronicle stripe.new) writer.old.put body.now result }
+    ensures own { AddsOfPut writer.old.put (kept_in C.Chronicle stripe.old) (kept_in C.Chronicle stripe.new) }
+    ensures later { (seen_in D.Disk R.Directory stripe.old).device.faults ≤ (seen_in D.Disk R.Directory stripe.new).device.faults }
+{
+    let result = fill(stripe, writer, body);
+    let end = abort_write(stripe, writer);
+    unless_memory(end, result)
+}
+
+// The result, unless memory was wanting at the end.
+fn unless_memory(
+    end: Result<u64, Refusal>,
+    filled: Result<Receipt, Refusal>,
+) -> Result<Receipt, Refusal>
+    ensures { result ≡ unless_memory end filled }
+{
+    match end {
+        Err(Refusal::Memory(e)) => Err(Refusal::Memory(e)),
+        _ => filled,
+    }
+}
+
+// Feeds all of a body to the new writer of an open put, and closes it.
+fn fill<D: Disk, R: Directory + Drop, C: Chronicle>(
+    stripe: &mut Stripe<D, R, C>,
+    writer: &mut Writer,
+    body: &[u8],
+) -> Result<Receipt, Refusal>
+    requires stripe { IsStripe D.Disk R.Directory C.Chronicle stripe.old }
+    requires quiet { IsQuiet (state_in C.Chronicle stripe.old) }
+    requires writer { IsWriterOf (state_in C.Chronicle stripe.old) writer.old }
+    requires writing { is_writing (state_in C.Chronicle stripe.old) writer.old.put ≡ true }
+    requires fresh { IsFresh writer.old }
+    ensures stripe { IsStripe D.Disk R.Directory C.Chronicle stripe.new }
+    ensures quiet { IsQuiet (state_in C.Chronicle stripe.new) }
+    ensures writer { IsWriterOf (state_in C.Chronicle stripe.new) writer.new }
+    ensures put { writer.new.put ≡ writer.old.put }
+    ensures fills { FillsWhere (seen_in D.Disk R.Directory stripe.old).device.faults (seen_in D.Disk R.Directory stripe.new).device.faults
+        (kept_in C.Chronicle stripe.old) (kept_in C.Chronicle stripe.new) writer.old body.now result }
+    ensures own { AddsOfPut writer.old.put (kept_in C.Chronicle stripe.old) (kept_in C.Chronicle stripe.new) }
+    ensures later { (seen_in D.Disk R.Directory stripe.old).device.faults ≤ (seen_in D.Disk R.Directory stripe.new).device.faults }
+{
+    // The law tells that vectors and puts may be kept when the writer closes.
+    groups_tell();
+    match feed(stripe, writer, body).refused {
+        None => close_write(stripe, writer),
+        Some(why) => Err(why),
+    }
+}

@@ -1,0 +1,114 @@
+// The steps of a script, whatever they are.
+ghost use Rattle.std.specs.Prelude.{◌≡◌, ◌+◌, ◌-◌, ◌^◌, ◌<◌, ◌≤◌, length, IfOk, IfErr, OnErr};
+ghost use Rattle.script_lang.specs.declared.step.Step.TheVariants as step;
+ghost use Rattle.script_run.specs.Run.{Run};
+ghost use Rattle.cache_replay.specs.Session.{IsSession, devices_of, names_in};
+ghost use Rattle.cache_replay.specs.Plays.{DeviceEnds, HasReached, IsLeft, Plays, StepEnds, ledger_of};
+ghost use Rattle.cache_replay.specs.Stop.{IsSessionStop, NeedsSession, StopsStep};
+
+use crate::beginning::format_line;
+use crate::getting::get_line;
+use crate::plain_lines::{flush_line, remove_line};
+use crate::put_line::put_line;
+use crate::reader_lines::{done_line, next_line, open_read_line};
+use crate::session::{Cache, Session};
+use crate::stop::Stop;
+use crate::writer_lines::{abort_line, close_line, data_line, open_write_line};
+use ats_disk::{Bay, Disk};
+use cache_chronicle::{Chronicle, FullChronicle};
+use dir_table::{Directory, ListDirectory};
+use script_lang::{Step, StepAnswer};
+
+/// Does a step, and says what came of it.
+pub fn step<B: Bay>(
+    session: &mut Cache<B::Dev>,
+    bay: &mut B,
+    step: Step,
+) -> Result<StepAnswer, Stop>
+    requires session { IsSession B.Dev.Disk ⟦<ListDirectory as Directory>⟧ ⟦<FullChronicle as Chronicle>⟧ session.old }
+    requires held { devices_of session.old ≤ B.out bay.old }
+    requires few { length (names_in session.old) < 2 ^ 32 - 1 }
+    ensures session { IsSession B.Dev.Disk ⟦<ListDirectory as Directory>⟧ ⟦<FullChronicle as Chronicle>⟧ session.new }
+    ensures ends { IfOk result (λ said. (run : Run) → Plays B.Dev.Disk ⟦<ListDirectory as Directory>⟧ ⟦<FullChronicle as Chronicle>⟧ run session.old
+        → DeviceEnds B.Dev.Disk ⟦<ListDirectory as Directory>⟧ ⟦<FullChronicle as Chronicle>⟧ run step session.new said
+        (ledger_of B.Bay bay.old) (ledger_of B.Bay bay.new)) }
+    ensures left { IfErr result (λ why. (run : Run) → Plays B.Dev.Disk ⟦<ListDirectory as Directory>⟧ ⟦<FullChronicle as Chronicle>⟧ run session.old
+        → IsLeft B.Dev.Disk ⟦<ListDirectory as Directory>⟧ ⟦<FullChronicle as Chronicle>⟧ run session.new (ledger_of B.Bay bay.old) (ledger_of B.Bay bay.new) why) }
+    ensures stop { IfErr result (λ stop. (run : Run) → Plays B.Dev.Disk ⟦<ListDirectory as Directory>⟧ ⟦<FullChronicle as Chronicle>⟧ run session.old
+        → StopsStep run step (B.faults bay.old) (B.faults bay.new) stop) }
+    ensures out { B.out bay.new + devices_of session.old ≡ B.out bay.old + devices_of session.new }
+    ensures names { length (names_in session.new) ≤ length (names_in session.old) + 1 }
+    ensures later { B.faults bay.old ≤ B.faults bay.new }
+{
+    match step {
+        Step::Format {
+            name,
+            segments,
+            buckets,
+            content,
+            agg,
+            reach,
+            fragment,
+            generation,
+        } => format_line(
+            session,
+            bay,
+            name.bytes(),
+            segments,
+            buckets,
+            content,
+            agg,
+            reach,
+            fragment,
+            generation,
+        ),
+        other => in_session(session, other),
+    }
+}
+
+// Does a step that works on a session.
+fn in_session<D: Disk, R: Directory + Drop, C: Chronicle>(
+    session: &mut Session<D, R, C>,
+    step: Step,
+) -> Result<StepAnswer, Stop>
+    requires session { IsSession D.Disk R.Directory C.Chronicle session.old }
+    requires few { length (names_in session.old) < 2 ^ 32 - 1 }
+    requires needs { NeedsSession step }
+    ensures session { IsSession D.Disk R.Directory C.Chronicle session.new }
+    ensures ends { IfOk result (λ said. (run : Run) → Plays D.Disk R.Directory C.Chronicle run session.old
+        → StepEnds D.Disk R.Directory C.Chronicle run step session.new said) }
+    ensures reached { OnErr result ((run : Run) → Plays D.Disk R.Directory C.Chronicle run session.old → HasReached D.Disk R.Directory C.Chronicle run session.new) }
+    ensures stop { IfErr result (λ stop. (run : Run) → Plays D.Disk R.Directory C.Chronicle run session.old → IsSessionStop run stop) }
+    ensures devices { devices_of session.new ≡ devices_of session.old }
+    ensures names { length (names_in session.new) ≤ length (names_in session.old) + 1 }
+{
+    match step {
+        Step::Put {
+            object,
+            body,
+            request,
+            response,
+        } => put_line(session, object, body.bytes(), request, response),
+        Step::Get { object, request } => get_line(session, object, request),
+        Step::OpenWrite {
+            actor,
+            object,
+            pin,
+            request,
+            response,
+        } => open_write_line(session, actor.bytes(), object, pin, request, response),
+        Step::Feed { actor, body } => data_line(session, actor.bytes(), body.bytes()),
+        Step::Close { actor } => close_line(session, actor.bytes()),
+        Step::Abort { actor } => abort_line(session, actor.bytes()),
+        Step::OpenRead {
+            actor,
+            object,
+            request,
+        } => open_read_line(session, actor.bytes(), object, request),
+        Step::Next { actor } => next_line(session, actor.bytes()),
+        Step::Done { actor } => done_line(session, actor.bytes()),
+        Step::Remove { object } => remove_line(session, object),
+        Step::Flush => flush_line(session),
+        Step::Format { .. } => Err(Stop::NoCache),
+    }
+}
