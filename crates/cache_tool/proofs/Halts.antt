@@ -1,18 +1,23 @@
 -- How a step that is not answered ends a run.
-use Rattle.std.proofs.Common.{ℕ, List, ◌++◌, Option, Some, None, Result, Ok, Err, refl, sym, ◌∙◌, ap, append-nil, append_assoc}
+use Rattle.std.proofs.Common.{ℕ, List, ◌++◌, Option, Some, None, Result, Ok, Err, refl, sym, ◌∙◌, ap, append-nil, append_assoc, inl, inr, ◌⊎◌}
 use Rattle.std.specs.Prelude.{OnOk, IfOk, IfErr}
 use Rattle.std.specs.Io.KnownBytes.{Appends, Keeps}
 use Rattle.std.proofs.KnownBytes.{Appends-trans}
 use Rattle.ats_disk.specs.declared.device.Disk.{Ghosts as DiskGhosts}
-use Rattle.first_chronicle.specs.declared.chronicle.Chronicle.{Ghosts as ChronicleGhosts}
-use Rattle.first_lang.specs.declared.step.Step.{Step}
-use Rattle.first_lang.specs.declared.answer.StepAnswer.{StepAnswer}
-use Rattle.first_lang.specs.Texts.{answer_line}
-use Rattle.cache_tool.specs.declared.tape.Tape.{Tape}
+use Rattle.dir_table.specs.declared.directory.Directory.{Ghosts as DirectoryGhosts}
+use Rattle.cache_chronicle.specs.declared.chronicle.Chronicle.{Ghosts as ChronicleGhosts}
+use Rattle.script_lang.specs.declared.step.Step.{Step}
+use Rattle.script_lang.specs.declared.answer.StepAnswer.{StepAnswer}
+use Rattle.script_lang.specs.Texts.{answer_line}
+use Rattle.script_run.specs.Run.{Run}
+use Rattle.cache_replay.specs.declared.session.Session.{Session}
+use Rattle.cache_replay.specs.declared.session.Part.{Part}
+use Rattle.cache_replay.specs.declared.session.Holding.{Holding}
+use Rattle.script_run.specs.Behind.{fault_of}
+use Rattle.cache_replay.specs.Session.{IsSession, IsAt, return_of, slots_in}
+use Rattle.cache_replay.specs.Plays.{DeviceMoves, HasReached, Ledger, Plays, PlaysAt, AreReached}
 use Rattle.cache_tool.specs.declared.run.Halt.{Halt}
 use Rattle.cache_tool.specs.declared.run.Halt.TheVariants.{Stop, WriteFault, Memory}
-use Rattle.cache_tool.specs.Run.{Run}
-use Rattle.cache_tool.specs.Session.{Ledger, DeviceMoves}
 use Rattle.cache_tool.specs.Story.{SendsFront, SendsAnswers, Counts}
 use Rattle.cache_tool.specs.Halt.{Halts, IsUnwritten}
 
@@ -28,13 +33,34 @@ pub IfErr-map : {T E : Type 0} (r : Result T E) (P Q : E → Type 0) → ((e : E
 IfErr-map (Ok x) P Q f h = tt
 IfErr-map (Err e) P Q f h = f e h
 
-module _ {D C : Type 0} (disk : DiskGhosts D) (chronicle : ChronicleGhosts C) where
-  pub unwritten_halts : (run : Run) (step : Step) (session : Option (Tape D C)) (said : StepAnswer) (before now : Ledger) (old new : Option (List ℕ)) (sink bay : Counts)
-      → DeviceMoves disk chronicle run step session said before now → (halt : Halt) → IsUnwritten old new sink.before sink.now (answer_line said) halt
-      → Halts disk chronicle run step session before now old new sink bay halt
+pub either-map : {A B S : Type 0} → (A → B) → A ⊎ S → B ⊎ S
+either-map f (inl a) = inl (f a)
+either-map f (inr s) = inr s
+
+pub either-both : {A B S T : Type 0} → (A → B) → (S → T) → A ⊎ S → B ⊎ T
+either-both f g (inl a) = inl (f a)
+either-both f g (inr s) = inr (g s)
+
+pub either-then : {A B S : Type 0} → (A → B ⊎ S) → A ⊎ S → B ⊎ S
+either-then f (inl a) = f a
+either-then f (inr s) = inr s
+
+module _ {D R C : Type 0} (disk : DiskGhosts D) (directory : DirectoryGhosts R) (chronicle : ChronicleGhosts C) where
+  pub unwritten_halts : (run : Run) (step : Step) (session : Session D R C) (said : StepAnswer) (before now : Ledger) (old new : Option (List ℕ)) (sink bay : Counts)
+      → DeviceMoves disk directory chronicle run step session said before now → (halt : Halt) → IsUnwritten old new sink.before sink.now (answer_line said) halt
+      → Halts disk directory chronicle run step session before now old new sink bay halt
   unwritten_halts run step session said before now old new sink bay moves WriteFault h = (record { said = said; done = moves; text = h.0 }, h.1)
   unwritten_halts run step session said before now old new sink bay moves Memory h = record { said = said; done = moves; text = h }
   unwritten_halts run step session said before now old new sink bay moves (Stop why) h = absurd h
+
+  reaches : (run : Run) (part : Option (Part D R C)) (slots : ℕ → Option Holding) → IsAt disk directory chronicle part slots → PlaysAt disk directory chronicle run part slots
+      → AreReached (fault_of run.state) (return_of disk directory chronicle part)
+  reaches run None slots is at = rw at.state tt
+  reaches run (Some part) slots is at = rw at.state (is.part.stripe.pieces.faults, tt)
+
+  -- the device of a session has counted as far as was told
+  pub plays_reach : (session : Session D R C) → IsSession disk directory chronicle session → (run : Run) → Plays disk directory chronicle run session → HasReached disk directory chronicle run session
+  plays_reach session is run plays = reaches run session.part (slots_in session) is plays.at
 
 -- ---- the text so far
 

@@ -1,6 +1,3 @@
-pub mod Tapes
-pub mod Moves
-pub mod Formats
 pub mod Runs
 pub mod Stories
 pub mod Halts

@@ -1,7 +1,11 @@
 -- One more line.
 use Rattle.std.proofs.Common.{◌≡◌, ℕ, List, [], ◌∷◌, ◌++◌, refl, sym, ◌∙◌, ap, append_assoc, append-nil}
-use Rattle.cache_tool.specs.Run.{Run, Turn, LineTakes, after_line, line_text, IsRun, run_after, output_of, AreReached}
 use Rattle.ats_disk.specs.Bay.{Return}
+use Rattle.script_run.specs.Run.{Run}
+use Rattle.script_run.specs.Turn.{Turn}
+use Rattle.script_run.specs.Behind.{after_line}
+use Rattle.script_run.specs.Takes.{LineTakes, line_text, IsRun, run_after, output_of}
+use Rattle.cache_replay.specs.Plays.{AreReached}
 
 module _ (line : List ℕ) (turn : Turn) where
   pub IsRun-more : (run : Run) (lines : List (List ℕ)) (turns : List Turn) → IsRun run lines turns → LineTakes (run_after run lines turns) turn line → IsRun run (lines ++ line ∷ []) (turns ++ turn ∷ [])

@@ -5,14 +5,18 @@ use Rattle.edge_io.specs.declared.reader.TheConstants.{MAX_LINE_BYTES}
 use Rattle.edge_io.specs.Lines.{lines_of}
 use Rattle.edge_io.specs.LineReader.{AnswersKnown}
 use Rattle.ats_disk.specs.Bay.{Return}
-use Rattle.first_lang.specs.declared.line.LineAnswer.TheVariants as line
-use Rattle.first_lang.specs.declared.step.Step.{Step}
-use Rattle.first_lang.specs.declared.answer.StepAnswer.{StepAnswer}
-use Rattle.first_lang.specs.Grammar.{reading_of}
-use Rattle.first_lang.specs.Texts.{answer_line}
-use Rattle.cache_tool.specs.Run.{Run, Turn, no_turn, fresh, LineTakes, StepTakes, after_line, after_step, step_answer, line_text, run_after}
-use Rattle.cache_tool.specs.Session.{ComeBack, Ledger, Deals}
-use Rattle.cache_tool.specs.Story.{Story, AreShort, IsBehind, IsNext, GoesOn, Owes}
+use Rattle.script_lang.specs.declared.line.LineAnswer.TheVariants as line
+use Rattle.script_lang.specs.declared.step.Step.{Step}
+use Rattle.script_lang.specs.declared.answer.StepAnswer.{StepAnswer}
+use Rattle.script_lang.specs.Grammar.{reading_of}
+use Rattle.script_lang.specs.Texts.{answer_line}
+use Rattle.script_run.specs.Run.{Run, fresh}
+use Rattle.script_run.specs.Turn.{Turn, no_turn}
+use Rattle.script_run.specs.Answers.{step_answer}
+use Rattle.script_run.specs.Behind.{after_line, after_step}
+use Rattle.script_run.specs.Takes.{LineTakes, StepTakes, StepShows, line_text, run_after}
+use Rattle.cache_replay.specs.Plays.{ComeBack, Ledger, Deals}
+use Rattle.cache_tool.specs.Story.{Story, AreShort, IsBehind, IsNext, GoesOn, Owes, Shown}
 use Rattle.cache_tool.proofs.Runs.{IsRun-more, run_after-more, output_of-more, AreReached-append}
 
 -- ---- the bytes of a line
@@ -102,8 +106,23 @@ module _ (first taken_first taken : Option (List ℕ)) (ledger_first ledger : Le
         line_more turn Text (λ run. Deals ledger_first ledger' run.ended run.names) Plays' (rw asks takes)
         (λ out appends. rw (asks, says) (text out appends)) (rw asks deals_all) (rw asks plays)
 
-    pub step_owes : (Text : List ℕ → Type 0) (Plays' Behind : Run → Type 0) → ((out : List ℕ) → Appends taken_first taken out → Text (out ++ answer_line said))
-        → Plays' (after_step here turn step) → Behind (after_step here turn step) → Story first unread' given' Text (Owes ledger_first ledger' Plays') Behind
-    step_owes Text Plays' Behind text plays behind =
-        line_more turn Text (Owes ledger_first ledger' Plays') Behind (rw asks takes)
-        (λ out appends. rw (asks, says) (text out appends)) (rw asks (record { deals = deals_all; plays = plays })) (rw asks behind)
+    pub step_owes : (Text : List ℕ → Type 0) (Reached Devices Behind : Run → Type 0) → ((out : List ℕ) → Appends taken_first taken out → Text (out ++ answer_line said))
+        → Reached (after_step here turn step) → ((run : Run) → Owes ledger_first ledger' Reached run → Devices run) → Behind (after_step here turn step) → Story first unread' given' Text Devices Behind
+    step_owes Text Reached Devices Behind text reached owed behind =
+        line_more turn Text Devices Behind (rw asks takes)
+        (λ out appends. rw (asks, says) (text out appends)) (rw asks (owed (after_step here turn step) (record { deals = deals_all; reached = reached }))) (rw asks behind)
+
+  -- a step that shows two documents of one SHA-256
+  pub step_shows : (step : Step) → reading_of bytes ≡ line.Step step → StepShows here here.state step → Shown first
+  step_shows step asks shows = record {
+    unread = unread;
+    given = given;
+    lines = story.lines;
+    turns = story.turns;
+    taken = story.taken;
+    counted = story.counted;
+    legal = story.legal;
+    bytes = bytes;
+    next = IsNext-known given unread unread' bytes known;
+    shows = rw asks shows;
+  }

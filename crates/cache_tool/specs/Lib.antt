@@ -1,8 +1,3 @@
-pub mod Tape
-pub mod Found
-pub mod Run
-pub mod Session
-pub mod Stop
 pub mod Lines
 pub mod Story
 pub mod Ending

@@ -2,7 +2,7 @@
 use Rattle.std.specs.Prelude.{◌≡◌, ℕ, List, Option, Some, None, Ok, Err}
 use Rattle.edge_io.specs.declared.reader.LineReader.{LineReader}
 use Rattle.edge_io.specs.LineReader.{Answer, Next}
-use Rattle.first_lang.specs.Grammar.{reading_of}
+use Rattle.script_lang.specs.Grammar.{reading_of}
 use Rattle.cache_tool.specs.declared.lines.Reading.{Reading}
 use Rattle.cache_tool.specs.declared.lines.Reading.TheVariants.{Line, End, Fault, Memory}
 

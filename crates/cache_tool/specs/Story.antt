@@ -4,17 +4,20 @@ use Rattle.std.specs.Io.KnownBytes.{Appends}
 use Rattle.edge_io.specs.Causes.{Rose}
 use Rattle.edge_io.specs.declared.reader.TheConstants.{MAX_LINE_BYTES, MAX_LINES}
 use Rattle.edge_io.specs.Lines.{lines_of, IsTooLong, IsTooMany, GivesLine}
-use Rattle.first_lang.specs.declared.line.BadLine.{BadLine}
-use Rattle.first_lang.specs.declared.line.LineAnswer.TheVariants as line
-use Rattle.first_lang.specs.declared.step.Step.{Step}
-use Rattle.first_lang.specs.declared.answer.LastLine.{LastLine}
-use Rattle.first_lang.specs.declared.answer.LastLine.TheVariants as last
-use Rattle.first_lang.specs.declared.answer.StepAnswer.{StepAnswer}
-use Rattle.first_lang.specs.Texts.{answer_line}
-use Rattle.first_lang.specs.Grammar.{reading_of}
-use Rattle.cache_tool.specs.Run.{Run, Turn, fresh, IsRun, run_after, output_of}
-use Rattle.cache_tool.specs.Session.{Ledger, Deals}
-use Rattle.cache_tool.specs.Stop.{IsUnfitPut, NeedsSession, Attaches}
+use Rattle.script_lang.specs.declared.line.BadLine.{BadLine}
+use Rattle.script_lang.specs.declared.line.LineAnswer.TheVariants as line
+use Rattle.script_lang.specs.declared.step.Step.{Step}
+use Rattle.script_lang.specs.declared.last.LastLine.{LastLine}
+use Rattle.script_lang.specs.declared.last.LastLine.TheVariants as last
+use Rattle.script_lang.specs.declared.answer.StepAnswer.{StepAnswer}
+use Rattle.script_lang.specs.Texts.{answer_line}
+use Rattle.script_lang.specs.Grammar.{reading_of}
+use Rattle.script_run.specs.Run.{Run, fresh}
+use Rattle.script_run.specs.Turn.{Turn}
+use Rattle.script_run.specs.Behind.{counts_of}
+use Rattle.script_run.specs.Takes.{IsRun, run_after, output_of, LineShows}
+use Rattle.cache_replay.specs.Plays.{Ledger, Deals}
+use Rattle.cache_replay.specs.Stop.{NeedsSession, Attaches}
 
 -- no line is longer than a line may be
 abbrev pub AreShort : List (List ℕ) → Type 0
@@ -58,11 +61,11 @@ abbrev pub IsTooManyAt : ℕ → Option (List ℕ) → Type 0
 IsTooManyAt given None = ⊤
 IsTooManyAt given (Some unread) = IsTooMany given unread
 
--- a line is not in the grammar, or its body does not fit the session
-pub record IsBadLine (run : Run) (given : ℕ) (unread : Option (List ℕ)) (fault : BadLine) : Type 0 where
+-- a line is not in the grammar
+pub record IsBadLine (given : ℕ) (unread : Option (List ℕ)) (fault : BadLine) : Type 0 where
   pub bytes : List ℕ
   pub next : IsNext given unread bytes
-  pub bad : (reading_of bytes ≡ line.Bad fault) ⊎ ((step : Step) × (reading_of bytes ≡ line.Step step) × IsUnfitPut run.state step fault)
+  pub bad : reading_of bytes ≡ line.Bad fault
 
 -- a line needs a session, and there is none
 pub record LacksCache (run : Run) (given : ℕ) (unread : Option (List ℕ)) : Type 0 where
@@ -93,7 +96,7 @@ counts before now = record { before = before; now = now }
 -- why a run ends with this last line, behind so many lines
 abbrev pub Because : (source bay : Counts) → Option (List ℕ) → ℕ → Run → LastLine → Type 0
 Because source bay unread given run last.Usage = ⊥
-Because source bay unread given run (last.BadScript number fault) = (number ≡ given + 1) × IsBadLine run given unread fault
+Because source bay unread given run (last.BadScript number fault) = (number ≡ given + 1) × IsBadLine given unread fault
 Because source bay unread given run last.ReadFault = Rose source.before source.now
 Because source bay unread given run last.BayFault = MeetsBayFault given unread bay.before bay.now
 Because source bay unread given run (last.LineTooLong number) = (number ≡ given + 1) × IsTooLongAt given unread
@@ -119,12 +122,37 @@ pub record SendsFront (old new : Option (List ℕ)) (text : List ℕ) : Type 0 w
   pub split : text ≡ front ++ rest
   pub appends : Appends old new front
 
+-- ---- between two lines
+
 -- the run goes on: it attached the devices of its lines, those that it ended came back, and the session plays the run
 abbrev pub GoesOn : (first taken_first : Option (List ℕ)) → Ledger → (unread : Option (List ℕ)) → ℕ → (taken : Option (List ℕ)) → Ledger → (Run → Type 0) → Type 0
 GoesOn first taken_first ledger_first unread given taken ledger Plays =
     Story first unread given (Appends taken_first taken) (λ run. Deals ledger_first ledger run.ended run.names) Plays
 
--- what a session owes once the run has ended: its devices were attached, those that it ended came back, and it plays the run
-pub record Owes (ledger_first ledger : Ledger) (Plays : Run → Type 0) (run : Run) : Type 0 where
+-- behind lines that did what they must, the next one shows two documents of one SHA-256
+pub record Shown (first : Option (List ℕ)) : Type 0 where
+  pub unread : Option (List ℕ)
+  pub given : ℕ
+  pub lines : List (List ℕ)
+  pub turns : List Turn
+  pub taken : IsBehind first lines unread
+  pub counted : given ≡ length lines
+  pub legal : IsRun fresh lines turns
+  pub bytes : List ℕ
+  pub next : IsNext given unread bytes
+  pub shows : LineShows (run_after fresh lines turns) bytes
+
+-- what a session owes once the run has ended: its devices were attached, those that it ended came back, and its own has
+-- counted as far as was told
+pub record Owes (ledger_first ledger : Ledger) (Reached : Run → Type 0) (run : Run) : Type 0 where
   pub deals : Deals ledger_first ledger run.ended run.names
-  pub plays : Plays run
+  pub reached : Reached run
+
+-- a format that wanted memory attached a device of some name, and gave it back behind that of the session
+pub record GaveBack (ledger_first ledger : Ledger) (run : Run) : Type 0 where
+  pub name : List ℕ
+  pub deals : Deals ledger_first ledger (counts_of run ++ 0 ∷ []) (run.names ++ name ∷ [])
+
+-- what is owed where memory was wanting, by a session that has so many devices
+abbrev pub OwesOrGave : (ledger_first ledger : Ledger) → ℕ → (Run → Type 0) → Run → Type 0
+OwesOrGave ledger_first ledger devices Reached run = Owes ledger_first ledger Reached run ⊎ ((devices ≡ 0) × GaveBack ledger_first ledger run)

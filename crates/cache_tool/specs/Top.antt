@@ -3,14 +3,15 @@ use Rattle.std.specs.Prelude.{◌≡◌, ℕ, ◌⊎◌, List, [], ◌∷◌, �
 use Rattle.std.specs.declared.string.String.{String}
 use Rattle.std.specs.Io.KnownBytes.{Appends, IsAtEnd}
 use Rattle.edge_io.specs.Causes.{Rose}
-use Rattle.first_lang.specs.declared.answer.LastLine.{LastLine}
-use Rattle.first_lang.specs.declared.answer.LastLine.TheVariants as last
-use Rattle.first_lang.specs.Texts.{last_line}
+use Rattle.script_lang.specs.declared.last.LastLine.{LastLine}
+use Rattle.script_lang.specs.declared.last.LastLine.TheVariants as last
+use Rattle.script_lang.specs.Texts.{last_line}
+use Rattle.script_run.specs.Run.{Run}
+use Rattle.script_run.specs.Behind.{counts_of}
+use Rattle.cache_replay.specs.Plays.{Ledger, Deals}
 use Rattle.cache_tool.specs.declared.top.Status.{Status}
 use Rattle.cache_tool.specs.declared.top.Status.TheVariants as status
-use Rattle.cache_tool.specs.Run.{Run, counts_of}
-use Rattle.cache_tool.specs.Session.{Ledger, Deals}
-use Rattle.cache_tool.specs.Story.{Because, Counts, SendsFront, SendsAnswers}
+use Rattle.cache_tool.specs.Story.{Because, Counts, SendsFront, SendsAnswers, Shown, GaveBack}
 use Rattle.cache_tool.specs.Ending.{StoryUpTo}
 
 -- the one word `replay`
@@ -56,6 +57,10 @@ WentOut old new sink before text = Appends old new (before ++ text) ⊎ CutOff o
 abbrev pub DevicesBack : Ledger → Ledger → Run → Type 0
 DevicesBack before now run = Deals before now (counts_of run) run.names
 
+-- so it is, or a format that wanted memory gave back one device more
+abbrev pub DevicesWanting : Ledger → Ledger → Run → Type 0
+DevicesWanting before now run = DevicesBack before now run ⊎ GaveBack before now run
+
 -- a run that ended early: the answers of the lines before went out, and behind them the last line or a front of it
 pub record EndsEarly (first old new : Option (List ℕ)) (source sink bay : Counts) (before now : Ledger) (s : Status) : Type 0 where
   pub why : LastLine
@@ -69,5 +74,10 @@ abbrev pub Concludes : (first old new : Option (List ℕ)) → (source sink bay 
 Concludes first old new source sink bay before now status.Done = StoryUpTo first (Appends old new) (DevicesBack before now) (λ unread given run. IsAtEnd unread)
 Concludes first old new source sink bay before now status.Usage = WentOut old new sink [] (last_line last.Usage) × (now ≡ before)
 Concludes first old new source sink bay before now status.WriteFault = StoryUpTo first (SendsFront old new) (DevicesBack before now) (λ unread given run. Rose sink.before sink.now)
-Concludes first old new source sink bay before now status.OutOfMemory = StoryUpTo first (SendsAnswers old new) (DevicesBack before now) (λ unread given run. ⊤)
+Concludes first old new source sink bay before now status.OutOfMemory = StoryUpTo first (SendsAnswers old new) (DevicesWanting before now) (λ unread given run. ⊤)
 Concludes first old new source sink bay before now s = EndsEarly first old new source sink bay before now s
+
+-- so it is, or a line of the script showed two documents of one SHA-256; with the status Usage no line was read
+abbrev pub ConcludesOrShows : (first old new : Option (List ℕ)) → (source sink bay : Counts) → (before now : Ledger) → Status → Type 0
+ConcludesOrShows first old new source sink bay before now status.Usage = Concludes first old new source sink bay before now status.Usage
+ConcludesOrShows first old new source sink bay before now s = Concludes first old new source sink bay before now s ⊎ Shown first

@@ -2,7 +2,7 @@
 ghost use Rattle.cache_tool.specs.Lines.{Reads};
 
 use edge_io::{LineFault, LineReader, Source};
-use first_lang::{LineAnswer, read_line};
+use script_lang::{LineAnswer, read_line};
 use std::alloc::Global;
 
 /// What the next line of a script is.

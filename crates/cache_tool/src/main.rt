@@ -1,13 +1,9 @@
 //! Runs the scripts of a disk cache: the top call, and the program over it.
 #![tactic(auto)]
 
-mod device;
 mod host;
 mod lines;
 mod run;
-mod session;
-mod steps;
-mod tape;
 #[cfg(test)]
 mod tests;
 mod top;

@@ -1,23 +1,24 @@
 // The lines of a script, one after the other.
-ghost use Rattle.std.specs.Prelude.{◌≡◌, ◌+◌, ◌<◌, ◌≤◌, ℕ, List, Option, None, OnOk, IfErr};
+ghost use Rattle.std.specs.Prelude.{◌≡◌, ◌+◌, ◌<◌, ◌≤◌, ◌⊎◌, ℕ, List, [], length, Option, OnOk, IfErr};
 ghost use Rattle.std.specs.Io.KnownBytes.{Appends, Keeps};
 ghost use Rattle.edge_io.specs.Causes.{Rose};
 ghost use Rattle.edge_io.specs.LineReader.{unread, lines_given, source_of};
-ghost use Rattle.first_lang.specs.Texts.{answer_line};
-ghost use Rattle.cache_tool.specs.Run.{Run};
-ghost use Rattle.cache_tool.specs.Session.{Plays, AreTapes, Ledger, ledger_of, held};
-ghost use Rattle.cache_tool.specs.Story.{GoesOn, Owes, SendsFront, counts};
+ghost use Rattle.script_lang.specs.Texts.{answer_line};
+ghost use Rattle.script_run.specs.Run.{Run, fresh};
+ghost use Rattle.script_run.specs.Takes.{StepShows};
+ghost use Rattle.cache_replay.specs.Session.{IsSession, devices_of, names_in};
+ghost use Rattle.cache_replay.specs.Plays.{HasReached, Ledger, Plays, ledger_of};
+ghost use Rattle.cache_tool.specs.Story.{GoesOn, Owes, OwesOrGave, SendsFront, Shown, counts};
 ghost use Rattle.cache_tool.specs.Halt.{IsUnwritten, Written, Halts, last_of, ending_of};
-ghost use Rattle.cache_tool.specs.Ending.{Ends};
+ghost use Rattle.cache_tool.specs.Ending.{Ends, IsOfRun};
 
-use crate::device::Session;
 use crate::lines::{Reading, next_reading};
-use crate::session::Stop;
-use crate::steps::answer;
 use ats_disk::{Bay, Disk};
+use cache_chronicle::{Chronicle, FullChronicle};
+use cache_replay::{Cache, Stop, step};
+use dir_table::{Directory, ListDirectory};
 use edge_io::{LineFault, LineReader, MAX_LINES, Sink, Source};
-use first_chronicle::{Chronicle, FullChronicle};
-use first_lang::{LastLine, LineAnswer, Step, StepAnswer, answer_text};
+use script_lang::{LastLine, LineAnswer, Step, StepAnswer, answer_text};
 use std::alloc::Global;
 
 /// How a run of lines ends.
@@ -45,10 +46,11 @@ fn write_answer<K: Sink>(alloc: Global, sink: &mut K, said: &StepAnswer) -> Resu
     ensures failed { IfErr result (IsUnwritten (K.taken sink.old) (K.taken sink.new) (K.faults sink.old) (K.faults sink.new) (answer_line said.now)) }
     ensures later { K.faults sink.old ≤ K.faults sink.new }
 {
-    let Ok(text) = answer_text(alloc, said) else {
+    let mut text = Vec::new(alloc);
+    let Ok(()) = answer_text(said, &mut text) else {
         return Err(Halt::Memory);
     };
-    match sink.write_all(text.as_bytes()) {
+    match sink.write_all(&text) {
         Ok(()) => Ok(()),
         Err(_) => Err(Halt::WriteFault),
     }
@@ -59,28 +61,29 @@ fn take_step<K: Sink, B: Bay>(
     alloc: Global,
     sink: &mut K,
     bay: &mut B,
-    session: &mut Session<B::Dev>,
-    step: &Step,
+    session: &mut Cache<B::Dev>,
+    asked: Step,
 ) -> Result<(), Halt>
-    requires held { held session.old ≤ B.out bay.old }
-    requires tapes { AreTapes B.Dev.Disk ⟦<FullChronicle as Chronicle>⟧ session.old }
-    ensures done { OnOk result ((run : Run) → Plays B.Dev.Disk ⟦<FullChronicle as Chronicle>⟧ run session.old
-        → Written B.Dev.Disk ⟦<FullChronicle as Chronicle>⟧ run step.now session.new (ledger_of B.Bay bay.old) (ledger_of B.Bay bay.new)
-        (Appends (K.taken sink.old) (K.taken sink.new))) }
-    ensures halted { IfErr result (λ halt. (run : Run) → Plays B.Dev.Disk ⟦<FullChronicle as Chronicle>⟧ run session.old
-        → Halts B.Dev.Disk ⟦<FullChronicle as Chronicle>⟧ run step.now session.new (ledger_of B.Bay bay.old) (ledger_of B.Bay bay.new)
+    requires session { IsSession B.Dev.Disk ⟦<ListDirectory as Directory>⟧ ⟦<FullChronicle as Chronicle>⟧ session.old }
+    requires held { devices_of session.old ≤ B.out bay.old }
+    requires few { length (names_in session.old) ≤ MAX_LINES }
+    ensures done { OnOk result ((run : Run) → Plays B.Dev.Disk ⟦<ListDirectory as Directory>⟧ ⟦<FullChronicle as Chronicle>⟧ run session.old
+        → Written B.Dev.Disk ⟦<ListDirectory as Directory>⟧ ⟦<FullChronicle as Chronicle>⟧ run asked session.new (ledger_of B.Bay bay.old) (ledger_of B.Bay bay.new)
+        (Appends (K.taken sink.old) (K.taken sink.new)) ⊎ StepShows run run.state asked) }
+    ensures halted { IfErr result (λ halt. (run : Run) → Plays B.Dev.Disk ⟦<ListDirectory as Directory>⟧ ⟦<FullChronicle as Chronicle>⟧ run session.old
+        → Halts B.Dev.Disk ⟦<ListDirectory as Directory>⟧ ⟦<FullChronicle as Chronicle>⟧ run asked session.new (ledger_of B.Bay bay.old) (ledger_of B.Bay bay.new)
         (K.taken sink.old) (K.taken sink.new) (counts (K.faults sink.old) (K.faults sink.new))
-        (counts (B.faults bay.old) (B.faults bay.new)) halt) }
-    ensures tapes { AreTapes B.Dev.Disk ⟦<FullChronicle as Chronicle>⟧ session.new }
-    ensures out { B.out bay.new + held session.old ≡ B.out bay.old + held session.new }
+        (counts (B.faults bay.old) (B.faults bay.new)) halt ⊎ StepShows run run.state asked) }
+    ensures session { IsSession B.Dev.Disk ⟦<ListDirectory as Directory>⟧ ⟦<FullChronicle as Chronicle>⟧ session.new }
+    ensures names { length (names_in session.new) ≤ length (names_in session.old) + 1 }
+    ensures out { B.out bay.new + devices_of session.old ≡ B.out bay.old + devices_of session.new }
     ensures sink_later { K.faults sink.old ≤ K.faults sink.new }
     ensures bay_later { B.faults bay.old ≤ B.faults bay.new }
 {
-    let said = match answer(alloc, bay, session, step) {
-        Ok(said) => said,
-        Err(why) => return Err(Halt::Stop(why)),
-    };
-    write_answer(alloc, sink, &said)
+    match step(session, bay, asked) {
+        Ok(said) => write_answer(alloc, sink, &said),
+        Err(why) => Err(Halt::Stop(why)),
+    }
 }
 
 /// The last line that a fault of the reader asks for.
@@ -100,7 +103,6 @@ fn ending_of(line: u64, halt: Halt) -> Ending
 {
     match halt {
         Halt::Stop(Stop::NoCache) => Ending::Stopped(LastLine::NoCache { line }),
-        Halt::Stop(Stop::BadLine(fault)) => Ending::Stopped(LastLine::BadScript { line, fault }),
         Halt::Stop(Stop::BayFault) => Ending::Stopped(LastLine::BayFault),
         Halt::Stop(Stop::Memory) | Halt::Memory => Ending::OutOfMemory,
         Halt::WriteFault => Ending::WriteFault,
@@ -113,26 +115,31 @@ fn line<S: Source, K: Sink, B: Bay>(
     reader: &mut LineReader<'_, S>,
     sink: &mut K,
     bay: &mut B,
-    session: &mut Session<B::Dev>,
+    session: &mut Cache<B::Dev>,
 ) -> Result<(), Ending>
-    requires held { held session.old ≤ B.out bay.old }
-    requires tapes { AreTapes B.Dev.Disk ⟦<FullChronicle as Chronicle>⟧ session.old }
+    requires session { IsSession B.Dev.Disk ⟦<ListDirectory as Directory>⟧ ⟦<FullChronicle as Chronicle>⟧ session.old }
+    requires held { devices_of session.old ≤ B.out bay.old }
+    requires few { length (names_in session.old) ≤ lines_given reader.old }
     ensures goes { OnOk result ((first told : Option (List ℕ)) (back : Ledger)
         → GoesOn first told back (unread S.left reader.old) (lines_given reader.old) (K.taken sink.old) (ledger_of B.Bay bay.old)
-        (λ run. Plays B.Dev.Disk ⟦<FullChronicle as Chronicle>⟧ run session.old)
+        (λ run. Plays B.Dev.Disk ⟦<ListDirectory as Directory>⟧ ⟦<FullChronicle as Chronicle>⟧ run session.old)
         → GoesOn first told back (unread S.left reader.new) (lines_given reader.new) (K.taken sink.new) (ledger_of B.Bay bay.new)
-        (λ run. Plays B.Dev.Disk ⟦<FullChronicle as Chronicle>⟧ run session.new)) }
+        (λ run. Plays B.Dev.Disk ⟦<ListDirectory as Directory>⟧ ⟦<FullChronicle as Chronicle>⟧ run session.new) ⊎ Shown first) }
     ensures ends { IfErr result (λ ending. (first told : Option (List ℕ)) (back : Ledger)
         → GoesOn first told back (unread S.left reader.old) (lines_given reader.old) (K.taken sink.old) (ledger_of B.Bay bay.old)
-        (λ run. Plays B.Dev.Disk ⟦<FullChronicle as Chronicle>⟧ run session.old)
+        (λ run. Plays B.Dev.Disk ⟦<ListDirectory as Directory>⟧ ⟦<FullChronicle as Chronicle>⟧ run session.old)
         → Ends first told (K.taken sink.new) (counts (S.faults (source_of reader.old).now) (S.faults (source_of reader.new).now))
         (counts (K.faults sink.old) (K.faults sink.new)) (counts (B.faults bay.old) (B.faults bay.new))
-        (Owes back (ledger_of B.Bay bay.new) (λ run. Plays B.Dev.Disk ⟦<FullChronicle as Chronicle>⟧ run session.new)) ending) }
+        (Owes back (ledger_of B.Bay bay.new) (λ run. HasReached B.Dev.Disk ⟦<ListDirectory as Directory>⟧ ⟦<FullChronicle as Chronicle>⟧ run session.new))
+        (OwesOrGave back (ledger_of B.Bay bay.new) (devices_of session.new) (λ run. HasReached B.Dev.Disk ⟦<ListDirectory as Directory>⟧ ⟦<FullChronicle as Chronicle>⟧ run session.new))
+        ending ⊎ Shown first) }
+    ensures begun { IfErr result IsOfRun }
     ensures nearer { OnOk result ((lines_given reader.old < MAX_LINES) × (lines_given reader.new ≡ lines_given reader.old + 1)) }
+    ensures session { IsSession B.Dev.Disk ⟦<ListDirectory as Directory>⟧ ⟦<FullChronicle as Chronicle>⟧ session.new }
+    ensures few { OnOk result (length (names_in session.new) ≤ lines_given reader.new) }
     ensures source { (source_of reader.new).ghost_name ≡ (source_of reader.old).ghost_name }
+    ensures out { B.out bay.new + devices_of session.old ≡ B.out bay.old + devices_of session.new }
     ensures source_later { S.faults (source_of reader.old).now ≤ S.faults (source_of reader.new).now }
-    ensures tapes { AreTapes B.Dev.Disk ⟦<FullChronicle as Chronicle>⟧ session.new }
-    ensures out { B.out bay.new + held session.old ≡ B.out bay.old + held session.new }
     ensures sink_later { K.faults sink.old ≤ K.faults sink.new }
     ensures bay_later { B.faults bay.old ≤ B.faults bay.new }
 {
@@ -145,7 +152,9 @@ fn line<S: Source, K: Sink, B: Bay>(
             line: reader.lines_given(),
             fault,
         })),
-        Reading::Line(LineAnswer::Step(step)) => match take_step(alloc, sink, bay, session, &step) {
+        Reading::Line(LineAnswer::Step(asked)) => match take_step(
+            alloc, sink, bay, session, asked,
+        ) {
             Ok(()) => Ok(()),
             Err(halt) => Err(ending_of(reader.lines_given(), halt)),
         },
@@ -158,17 +167,22 @@ pub(crate) fn run_lines<S: Source, K: Sink, B: Bay>(
     reader: &mut LineReader<'_, S>,
     sink: &mut K,
     bay: &mut B,
-    session: &mut Session<B::Dev>,
+    session: &mut Cache<B::Dev>,
 ) -> Ending
     requires given { lines_given reader.old ≡ 0 }
-    requires none { session.old ≡ None }
+    requires session { IsSession B.Dev.Disk ⟦<ListDirectory as Directory>⟧ ⟦<FullChronicle as Chronicle>⟧ session.old }
+    requires fresh { Plays B.Dev.Disk ⟦<ListDirectory as Directory>⟧ ⟦<FullChronicle as Chronicle>⟧ fresh session.old }
+    requires none { devices_of session.old ≡ 0 }
+    requires names { names_in session.old ≡ [] }
     ensures ends { Ends (unread S.left reader.old) (K.taken sink.old) (K.taken sink.new)
         (counts (S.faults (source_of reader.old).now) (S.faults (source_of reader.new).now))
         (counts (K.faults sink.old) (K.faults sink.new)) (counts (B.faults bay.old) (B.faults bay.new))
-        (Owes (ledger_of B.Bay bay.old) (ledger_of B.Bay bay.new) (λ run. Plays B.Dev.Disk ⟦<FullChronicle as Chronicle>⟧ run session.new))
-        result }
+        (Owes (ledger_of B.Bay bay.old) (ledger_of B.Bay bay.new) (λ run. HasReached B.Dev.Disk ⟦<ListDirectory as Directory>⟧ ⟦<FullChronicle as Chronicle>⟧ run session.new))
+        (OwesOrGave (ledger_of B.Bay bay.old) (ledger_of B.Bay bay.new) (devices_of session.new) (λ run. HasReached B.Dev.Disk ⟦<ListDirectory as Directory>⟧ ⟦<FullChronicle as Chronicle>⟧ run session.new))
+        result ⊎ Shown (unread S.left reader.old) }
+    ensures begun { IsOfRun result }
     ensures source { (source_of reader.new).ghost_name ≡ (source_of reader.old).ghost_name }
-    ensures out { B.out bay.new ≡ B.out bay.old + held session.new }
+    ensures out { B.out bay.new ≡ B.out bay.old + devices_of session.new }
     ensures source_later { S.faults (source_of reader.old).now ≤ S.faults (source_of reader.new).now }
     ensures sink_later { K.faults sink.old ≤ K.faults sink.new }
     ensures bay_later { B.faults bay.old ≤ B.faults bay.new }

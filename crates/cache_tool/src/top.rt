@@ -1,18 +1,17 @@
 // The top call: words, a script, and what came of it.
 ghost use Rattle.std.specs.Prelude.{◌≡◌, ◌≤◌, ◌↔◌, ◌⊎◌, [], IsTrue};
 ghost use Rattle.std.specs.Io.KnownBytes.{Keeps};
-ghost use Rattle.first_lang.specs.Texts.{last_line, usage_line};
-ghost use Rattle.cache_tool.specs.Run.{counts_of};
-ghost use Rattle.cache_tool.specs.Session.{ledger_of};
-ghost use Rattle.cache_tool.specs.Story.{counts};
-ghost use Rattle.cache_tool.specs.Ending.{Ends};
-ghost use Rattle.cache_tool.specs.Top.{IsReplay, WentOut, DevicesBack, status_of, exit_code, Concludes};
+ghost use Rattle.script_lang.specs.Texts.{last_line, usage_line};
+ghost use Rattle.cache_replay.specs.Plays.{ledger_of};
+ghost use Rattle.cache_tool.specs.Story.{Shown, counts};
+ghost use Rattle.cache_tool.specs.Ending.{Ends, IsOfRun};
+ghost use Rattle.cache_tool.specs.Top.{IsReplay, WentOut, DevicesBack, DevicesWanting, status_of, exit_code, ConcludesOrShows};
 
-use crate::device::close;
 use crate::run::{Ending, run_lines};
 use ats_disk::Bay;
+use cache_replay::{begin, close};
 use edge_io::{LineBuffer, LineReader, Sink, Source};
-use first_lang::{LastLine, last_line_text, usage_text};
+use script_lang::{LastLine, last_line_text, usage_text};
 use std::alloc::Global;
 
 /// What came of a run.
@@ -105,7 +104,8 @@ fn replay<S: Source, K: Sink, B: Bay>(
 ) -> Ending
     ensures ends { Ends (S.left source.old) (K.taken sink.old) (K.taken sink.new) (counts (S.faults source.old) (S.faults source.new))
         (counts (K.faults sink.old) (K.faults sink.new)) (counts (B.faults bay.old) (B.faults bay.new))
-        (DevicesBack (ledger_of B.Bay bay.old) (ledger_of B.Bay bay.new)) result }
+        (DevicesBack (ledger_of B.Bay bay.old) (ledger_of B.Bay bay.new)) (DevicesWanting (ledger_of B.Bay bay.old) (ledger_of B.Bay bay.new)) result ⊎ Shown (S.left source.old) }
+    ensures begun { IsOfRun result }
     ensures out { B.out bay.new ≡ B.out bay.old }
     ensures source_later { S.faults source.old ≤ S.faults source.new }
     ensures sink_later { K.faults sink.old ≤ K.faults sink.new }
@@ -115,10 +115,10 @@ fn replay<S: Source, K: Sink, B: Bay>(
         return Ending::OutOfMemory;
     };
     let mut reader = LineReader::with_buffer(source, buffer);
-    let mut session = None;
+    let mut session = begin(alloc);
     let ending = run_lines(alloc, &mut reader, sink, bay, &mut session);
     let _source = reader.into_source();
-    close(bay, session);
+    close(session, bay);
     ending
 }
 
@@ -130,7 +130,7 @@ pub fn cache_main<S: Source, K: Sink, B: Bay>(
     sink: &mut K,
     bay: &mut B,
 ) -> Status
-    ensures concludes { Concludes (S.left source.old) (K.taken sink.old) (K.taken sink.new) (counts (S.faults source.old) (S.faults source.new))
+    ensures concludes { ConcludesOrShows (S.left source.old) (K.taken sink.old) (K.taken sink.new) (counts (S.faults source.old) (S.faults source.new))
         (counts (K.faults sink.old) (K.faults sink.new)) (counts (B.faults bay.old) (B.faults bay.new))
         (ledger_of B.Bay bay.old) (ledger_of B.Bay bay.new) result }
     ensures usage { (result ≡ Status.Usage) ↔ (IsReplay words.now → ⊥) }

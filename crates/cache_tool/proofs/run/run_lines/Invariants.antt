@@ -1,18 +1,21 @@
--- The story goes on from the first line, and the counts only rise.
-use Rattle.std.proofs.Common.{◌≡◌, ◌+◌, ◌-◌, ◌≤◌}
+-- The story goes on from the first line, or two documents were shown; the session holds together, and the counts only rise.
+use Rattle.std.proofs.Common.{◌≡◌, ◌+◌, ◌-◌, ◌≤◌, ◌⊎◌, length}
 use Rattle.edge_io.specs.declared.reader.TheConstants.{MAX_LINES}
 use Rattle.edge_io.specs.LineReader.{unread, lines_given, source_of}
-use Rattle.cache_tool.specs.Session.{Plays, AreTapes, ledger_of, held}
-use Rattle.cache_tool.specs.Story.{GoesOn}
-use Rattle.first_chronicle.specs.contracts.full.FullChronicleChronicle.TheImpl.{ghosts}
+use Rattle.dir_table.specs.contracts.list.ListDirectoryDirectory.TheImpl.{ghosts as listed}
+use Rattle.cache_chronicle.specs.contracts.full.FullChronicleChronicle.TheImpl.{ghosts as chronicled}
+use Rattle.cache_replay.specs.Session.{IsSession, devices_of, names_in}
+use Rattle.cache_replay.specs.Plays.{Plays, ledger_of}
+use Rattle.cache_tool.specs.Story.{GoesOn, Shown}
 use Rattle.cache_tool.proofs.run.run_lines.Given as goal
 
 abbrev pub invariant-lines : goal.invariant-lines
 invariant-lines g l = record {
   goes : GoesOn (unread g.S.Source.left l.initial.reader) (g.K.Sink.taken l.initial.sink) (ledger_of g.B.Bay l.initial.bay) (unread g.S.Source.left l.reader) (lines_given l.reader) (g.K.Sink.taken l.sink) (ledger_of g.B.Bay l.bay)
-      (λ run. Plays g.B.Dev.Disk ghosts run l.session);
-  tapes : AreTapes g.B.Dev.Disk ghosts l.session;
-  out : g.B.Bay.out l.bay ≡ g.B.Bay.out l.initial.bay + held l.session;
+      (λ run. Plays g.B.Dev.Disk listed chronicled run l.session) ⊎ Shown (unread g.S.Source.left l.initial.reader);
+  session : IsSession g.B.Dev.Disk listed chronicled l.session;
+  few : length (names_in l.session) ≤ lines_given l.reader;
+  out : g.B.Bay.out l.bay ≡ g.B.Bay.out l.initial.bay + devices_of l.session;
   source : (source_of l.reader).ghost_name ≡ (source_of l.initial.reader).ghost_name;
   source_later : g.S.Source.faults (source_of l.initial.reader).now ≤ g.S.Source.faults (source_of l.reader).now;
   sink_later : g.K.Sink.faults l.initial.sink ≤ g.K.Sink.faults l.sink;
