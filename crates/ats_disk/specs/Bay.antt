@@ -2,12 +2,13 @@
 use Rattle.std.specs.Prelude.{◌≡◌, ℕ, ◌≤◌}
 use Rattle.ats_disk.specs.Device.{State}
 
--- a device that was given back
+-- a device that was given back: its count of faults, and how far it could be trusted to the end
 pub record Return : Type 0 where
   pub faults : ℕ
+  pub trust : ℕ
 
-abbrev pub return_with : ℕ → Return
-return_with faults = record { faults = faults }
+abbrev pub return_of_device : State → Return
+return_of_device device = record { faults = device.faults; trust = device.trust }
 
 -- a device as it is attached: not smaller than was asked, and without faults
 pub record IsAttached (blocks : ℕ) (device : State) : Type 0 where

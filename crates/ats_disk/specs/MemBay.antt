@@ -2,7 +2,7 @@
 use Rattle.std.specs.Prelude.{◌≡◌, ℕ, ◌+◌, ◌==◌, List, [], length, map, replicate, Option, Some, if◌then◌else◌}
 use Rattle.ats_disk.specs.Device.{Image}
 use Rattle.ats_disk.specs.Blocks.{blank}
-use Rattle.ats_disk.specs.Bay.{Return, return_with}
+use Rattle.ats_disk.specs.Bay.{Return}
 use Rattle.ats_disk.specs.declared.mem_bay.MemBay.{MemBay}
 use Rattle.ats_disk.specs.declared.mem_bay.TheConstants.{OWN_BLOCKS}
 
@@ -12,6 +12,10 @@ names_of bay = map (λ name. name.items) bay.names.items
 -- each device that it ever gave was blank
 abbrev pub told_by : MemBay → List (Option Image)
 told_by bay = replicate (length bay.returned.items + bay.out) (Some blank)
+
+-- each device could be trusted to the end
+abbrev pub return_with : ℕ → Return
+return_with faults = record { faults = faults; trust = 1 }
 
 abbrev pub returned_to : MemBay → List Return
 returned_to bay = map return_with bay.returned.items

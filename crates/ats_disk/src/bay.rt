@@ -2,7 +2,7 @@
 ghost use Rattle.std.specs.Prelude.{◌≡◌, ℕ, ◌+◌, ◌<◌, ◌≤◌, ◌++◌, ◌∷◌, [], List, Option, IfOk, OnOk, OnErr, IsErrOf};
 ghost use Rattle.edge_io.specs.Causes.{Rose};
 ghost use Rattle.ats_disk.specs.Device.{Image, told_of};
-ghost use Rattle.ats_disk.specs.Bay.{Return, IsAttached, return_with};
+ghost use Rattle.ats_disk.specs.Bay.{Return, IsAttached, return_of_device};
 
 use crate::Disk;
 use std::alloc::{AllocError, Global};
@@ -57,7 +57,7 @@ pub trait Bay {
     /// Takes a device back; `attach` made the room for that.
     fn give_back(&mut self, device: Self::Dev)
         requires { 0 < out self.old }
-        ensures returned { returned self.new ≡ returned self.old ++ return_with (Self.Dev.state device).faults ∷ [] }
+        ensures returned { returned self.new ≡ returned self.old ++ return_of_device (Self.Dev.state device) ∷ [] }
         ensures names { names self.new ≡ names self.old }
         ensures told { told self.new ≡ told self.old }
         ensures out { out self.new + 1 ≡ out self.old }

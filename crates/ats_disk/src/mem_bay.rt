@@ -52,7 +52,7 @@ impl Bay for MemBay {
     ghost use Rattle.std.specs.Prelude.{◌≡◌, ◌↔◌, ℕ, ◌+◌, ◌<◌, ◌≤◌, ◌++◌, ◌∷◌, [], Contains, IfOk, OnOk, OnErr, IsErrOf};
     ghost use Rattle.edge_io.specs.Causes.{Rose, one_more};
     ghost use Rattle.ats_disk.specs.Device.{told_of};
-    ghost use Rattle.ats_disk.specs.Bay.{IsAttached, return_with};
+    ghost use Rattle.ats_disk.specs.Bay.{IsAttached, return_of_device};
     ghost use Rattle.ats_disk.specs.MemBay.{names_of, told_by, returned_to, attach_calls, fail_numbers, size_for};
     ghost use Rattle.ats_disk.specs.MemDisk.{disk_state, IsFresh};
 
@@ -102,7 +102,7 @@ impl Bay for MemBay {
     fn give_back(&mut self, device: MemDisk)
         requires { 0 < self.old.out }
         ensures returned { returned_to self.new ≡ returned_to self.old
-            ++ return_with (disk_state device).faults ∷ [] }
+            ++ return_of_device (disk_state device) ∷ [] }
         ensures names { names_of self.new ≡ names_of self.old }
         ensures told { told_by self.new ≡ told_by self.old }
         ensures out { self.new.out + 1 ≡ self.old.out }
