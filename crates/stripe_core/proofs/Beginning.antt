@@ -1,9 +1,10 @@
 -- Where the next buffer begins, what may still be read stays held.
-use Rattle.std.proofs.Common.{◌≡◌, ℕ, ◌+◌, ◌<◌, ◌≤◌, List, [], ◌∷◌, sym, ◌∙◌, ap, subst, arith}
+use Rattle.std.proofs.Common.{◌≡◌, ℕ, ◌+◌, ◌<◌, ◌≤◌, ◌⊎◌, List, [], ◌∷◌, sym, ◌∙◌, ap, subst, arith, inl, inr}
 use Rattle.std.specs.Prelude.{map, nat_le}
 use Rattle.std.specs.List.{AllByRecursion}
-use Rattle.tape_base.specs.Place.{floor_of}
-use Rattle.ats_disk.specs.Device.{State as Device}
+use Rattle.tape_base.specs.Place.{floor_of, slot_of}
+use Rattle.ats_disk.specs.Device.{State as Device, IsTold, span}
+use Rattle.doc_header.specs.Reading.{document_digest}
 use Rattle.dir_table.specs.declared.rows.DirRow.{DirRow}
 use Rattle.dir_table.specs.declared.window.Window.{Window}
 use Rattle.dir_table.specs.Wrap.{rows_from}
@@ -15,7 +16,9 @@ use Rattle.cache_model.specs.Tape.{AreRising}
 use Rattle.cache_model.proofs.Laps.{next_above}
 use Rattle.cache_model.proofs.Rows.{rising_ends}
 use Rattle.cache_model.proofs.Sound.{later_began}
-use Rattle.stripe_core.specs.Held.{IsBufferedWhereNew, IsHeld, entry_of, times}
+use Rattle.stripe_core.specs.Records.{IsWrittenOut}
+use Rattle.stripe_core.proofs.Intact.{written_intact}
+use Rattle.stripe_core.specs.Held.{IsBufferedWhereNew, IsHeld, IsIntactWhereWritten, entry_of, times}
 use Rattle.stripe_core.proofs.Entries.{kept, times-filter, times-permutation}
 use Rattle.stripe_core.proofs.Counts.{is_between, later_between}
 use Rattle.stripe_core.proofs.Holding.{AreCounted, counted, end_is, entered, floor_is, next_is, none_behind}
@@ -28,7 +31,7 @@ none_new b low high (row ∷ rows) r h =
     let some : 0 < row.blocks = r.1 in
     (λ above. absurd (omega (arith, ends, some, h, above)), none_new b (row.place + row.blocks) high rows r.2 h)
 
-module _ (s : State) (c new : Seen) (held : IsHeld s c) (begins : BeginsNext c new) (turning : IsTurning new) where
+module _ (s : State) (c new : Seen) (held : IsHeld s c) (out : IsWrittenOut c) (begins : BeginsNext c new) (turning : IsTurning new) where
   abbrev after : State
   after = state_after s (rec.Began (cursor_next s) (floor_next s))
 
@@ -70,6 +73,30 @@ module _ (s : State) (c new : Seen) (held : IsHeld s c) (begins : BeginsNext c n
   counts : AreCounted after new
   counts = record { each = count_at }
 
+  -- a piece that was written before, or that this buffer wrote, is intact
+  was_intact : (row : Row) → IsTold c.device → row.place + row.blocks ≤ place_now s → 0 < row.blocks → IsIntactWhereWritten s c.device.seen row → IsBufferedWhereNew c.buffer row
+      → floor_next s ≤ row.place → ((s.cursor ≤ row.place) ⊎ (row.place < s.cursor)) → document_digest (span c.device.seen (slot_of s.geometry row.place) row.blocks) ≡ row.digest
+  was_intact row told ends some written buffered low (inl above) =
+      subst (λ g. document_digest (span c.device.seen (slot_of g row.place) row.blocks) ≡ row.digest) held.geometry
+      (written_intact c.geometry c.buffer c.device.seen row held.turning.few held.turning.lap (λ j. out.whole j told) (out.written told) some
+      (buffered (let same : c.buffer.cursor ≡ s.cursor = held.cursor in omega (arith, same, above))))
+  was_intact row told ends some written buffered low (inr below) = (written (omega (arith, low, behind)) below).digest
+
+  either_side : (a b : ℕ) → ((a ≤ b) ⊎ (b < a))
+  either_side a b = grind arith
+
+  all_intact : (low : ℕ) (rows : List Row) → IsTold c.device → AreRising low rows (place_now s) → AllByRecursion (IsIntactWhereWritten s c.device.seen) rows
+      → AllByRecursion (IsBufferedWhereNew c.buffer) rows → AllByRecursion (IsIntactWhereWritten after c.device.seen) rows
+  all_intact low [] told rising written buffered = tt
+  all_intact low (row ∷ rows) told rising written buffered =
+      let ends : row.place + row.blocks ≤ place_now s = rising_ends (row.place + row.blocks) rows (place_now s) rising.2 in (
+        λ from below. record {
+          ends = omega (arith, ends, behind);
+          digest = was_intact row told ends rising.1 written.0 buffered.0 from (either_side s.cursor row.place);
+        },
+        all_intact (row.place + row.blocks) rows told rising.2 written.1 buffered.1,
+      )
+
   begun_is_held_here : IsHeld after new
   begun_is_held_here = record {
     turning = turning;
@@ -79,10 +106,12 @@ module _ (s : State) (c new : Seen) (held : IsHeld s c) (begins : BeginsNext c n
     filled = new_filled;
     entered = entered after new counts;
     buffered = none_new new.buffer s.geometry.content (place_now s) s.rows held.sound.rising (omega (arith, new_cursor, behind));
+    intact = subst (λ (d : Device). IsTold d → AllByRecursion (IsIntactWhereWritten after d.seen) s.rows) (sym begins.device)
+        (λ told. all_intact s.geometry.content s.rows told held.sound.rising (held.intact told) held.buffered);
     laps = held.laps;
     faults = subst (λ n. s.fault ≤ n) (sym (ap (λ (d : Device). d.faults) begins.device)) held.faults;
   }
 
-pub begun_is_held : (s : State) (c new : Seen) → IsHeld s c → BeginsNext c new → IsTurning new
+pub begun_is_held : (s : State) (c new : Seen) → IsHeld s c → IsWrittenOut c → BeginsNext c new → IsTurning new
     → IsHeld (state_after s (rec.Began (cursor_next s) (floor_next s))) new
-begun_is_held s c new held begins turning = begun_is_held_here s c new held begins turning
+begun_is_held s c new held out begins turning = begun_is_held_here s c new held out begins turning

@@ -1,5 +1,6 @@
 -- What was read of a live piece, and what it tells.
 use Rattle.std.proofs.Common.{◌≡◌, ℕ, ◌*◌, ◌/◌, ◌<◌, ◌≤◌, List, [], ◌∷◌, refl, sym, ◌∙◌, ap, subst, arith, length, inl, inr, Result, Ok, Err, ◌⊎◌}
+use Rattle.std.proofs.lemmas.Bool.{leb-true}
 use Rattle.ats_disk.proofs.Spans.{span_same}
 use Rattle.std.specs.Prelude.{Some, IsOk, max}
 use Rattle.edge_io.specs.Causes.{Rose}
@@ -13,12 +14,13 @@ use Rattle.cyclone.specs.Cyclone.{Reads, Seen}
 use Rattle.cache_model.specs.declared.cause.Cause.{Cause}
 use Rattle.cache_model.specs.declared.cause.Cause.TheVariants as cause
 use Rattle.cache_model.specs.declared.record.Rec.{Rec}
-use Rattle.cache_model.specs.State.{State, Row, live_row_of, row_in}
+use Rattle.cache_model.specs.State.{State, Row, floor_now, live_row_of, row_in}
 use Rattle.cache_model.specs.Permit.{DeviceRead, IsAmong, Permit}
 use Rattle.cache_model.specs.Legal.{IsGiven, Trouble}
 use Rattle.stripe_core.specs.declared.refusal.Found.{Found}
 use Rattle.stripe_core.specs.declared.refusal.Found.TheVariants as found
-use Rattle.stripe_core.specs.Held.{IsBufferedWhereNew, IsHeld}
+use Rattle.stripe_core.specs.Held.{IsBufferedWhereNew, IsHeld, IsIntactWhereWritten}
+use Rattle.stripe_core.specs.Unharmed.{TellNoDamage}
 use Rattle.stripe_core.specs.Find.{Finds, IsFoundAs, IsJudged, IsRecorded, cause_records, find_adds, judged_records}
 use Rattle.stripe_core.proofs.Candidates.{live_is}
 use Rattle.stripe_core.proofs.Going.{own}
@@ -92,6 +94,19 @@ module _ (s : State) (c new : Seen) (id : PieceId) (row : Row) (bytes into : Lis
     answers = λ p covers. subst (λ o. IsFoundAs p s id o answer into) (sym live) (told_by p answer below covers.knows.0 j);
   }
 
+  -- where the device tells its content, what was read has the recorded digest
+  right_by : ((s.cursor ≤ row.place) ⊎ (row.place < s.cursor)) → IsTold new.device → row.digest ≡ document_digest bytes
+  right_by (inl above) told = own_digest above
+  right_by (inr below) told =
+      let before : IsTold c.device = omega (arith, told, read.keeps.trust) in
+      let found = live_is s (row_in s.rows id) row live in
+      let i = all_found (IsIntactWhereWritten s c.device.seen) id s.rows row (held.intact before) found.0 (leb-true (floor_now s) row.place found.1) below in
+      sym (ap document_digest (read.given (omega (arith, below, held.cursor)) told ∙ ap (λ g. span c.device.seen (slot_of g row.place) row.blocks) held.geometry) ∙ i.digest)
+
+  no_damage_by : (answer : Found) → ((s.cursor ≤ row.place) ⊎ (row.place < s.cursor)) → IsJudged row.place row.digest bytes answer into → IsTold new.device → TellNoDamage (find_adds s id answer)
+  no_damage_by (found.Found size) side j told = rw live tt
+  no_damage_by (found.Missing why) side j told = absurd (j.1 (right_by side told))
+
 either_side : (a b : ℕ) → ((a ≤ b) ⊎ (b < a))
 either_side a b = grind arith
 
@@ -103,6 +118,15 @@ finds_read s c new id place blocks kept bytes into answer held r read j =
     let judged : IsJudged r.row.place r.row.digest bytes answer into =
     subst (λ d. IsJudged r.row.place d bytes answer into) (sym r.digest_is) (subst (λ p. IsJudged p kept bytes answer into) (sym r.place_is) j) in
     finds_by s c new id r.row bytes into held r.live here answer (either_side s.cursor r.row.place) judged
+
+pub finds_no_damage : (s : State) (c new : Seen) (id : PieceId) (place blocks : ℕ) (kept : Digest) (bytes into : List ℕ) (answer : Found) → IsHeld s c
+    → IsRecorded s id place blocks kept → Reads c new place blocks (Ok tt) bytes → IsJudged place kept bytes answer into → IsTold new.device → TellNoDamage (find_adds s id answer)
+finds_no_damage s c new id place blocks kept bytes into answer held r read j told =
+    let here : Reads c new r.row.place r.row.blocks (Ok tt) bytes =
+    subst (λ n. Reads c new r.row.place n (Ok tt) bytes) (sym r.blocks_is) (subst (λ p. Reads c new p blocks (Ok tt) bytes) (sym r.place_is) read) in
+    let judged : IsJudged r.row.place r.row.digest bytes answer into =
+    subst (λ d. IsJudged r.row.place d bytes answer into) (sym r.digest_is) (subst (λ p. IsJudged p kept bytes answer into) (sym r.place_is) j) in
+    no_damage_by s c new id r.row bytes into held r.live here answer (either_side s.cursor r.row.place) judged told
 
 -- ---- a device that refused
 

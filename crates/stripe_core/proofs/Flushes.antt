@@ -1,9 +1,11 @@
 -- A flush, by its records and by what the cyclone did.
-use Rattle.std.proofs.Common.{◌≡◌, ℕ, ◌-◌, ◌<◌, ◌≤◌, List, [], ◌∷◌, refl, arith, Bool, true, false, zero, suc, Result, Ok}
+use Rattle.std.proofs.Common.{◌≡◌, ℕ, ◌-◌, ◌<◌, ◌≤◌, List, [], ◌∷◌, refl, arith, Bool, true, false, zero, suc, length, Result, Ok}
 use Rattle.std.specs.Prelude.{◌==◌, max}
 use Rattle.std.proofs.lemmas.Bool.{le-leb, lt-leb, eq-eqb}
 use Rattle.edge_io.specs.Causes.{Rose}
-use Rattle.ats_disk.specs.Device.{State as Device}
+use Rattle.ats_disk.specs.Device.{State as Device, IsTold}
+use Rattle.edge_io.specs.declared.source.Failed.{Failed}
+use Rattle.stripe_core.specs.Records.{SparesPieces}
 use Rattle.agg_buffer.specs.Buffer.{next_place_of}
 use Rattle.cyclone.specs.Cyclone.{Seen, IsTurning, IsFlushed, SameTape, WritesBuffer}
 use Rattle.cache_model.specs.declared.record.Rec.{Rec}
@@ -70,10 +72,10 @@ fault_does p s before after count quiet some below low lower reached is rose = L
 fault_is_sound : (s : State) (count : ℕ) → IsSound s → IsSound (state_after s (rec.Fault count))
 fault_is_sound s count h = record { from = h.from; lap = h.lap; room = h.room; rising = h.rising; apart = h.apart; known = h.known }
 
-pub fault_is_held : (s : State) (c new : Seen) (count : ℕ) → IsHeld s c → SameTape c new → IsTurning new → c.device.faults ≤ new.device.faults → count ≡ new.device.faults
+pub fault_is_held : (s : State) (c new : Seen) (count : ℕ) → IsHeld s c → SameTape c new → IsTurning new → SparesPieces c new.device → count ≡ new.device.faults
     → IsHeld (state_after s (rec.Fault count)) new
-fault_is_held s c new count held same turning more is =
-    alike_is_held s (state_after s (rec.Fault count)) new (device_may_change s c new held same turning more)
+fault_is_held s c new count held same turning spares is =
+    alike_is_held s (state_after s (rec.Fault count)) new (device_may_change s c new held same turning spares)
     (record { geometry = refl; cursor = refl; filled = refl; rows = refl; sound = fault_is_sound s count held.sound }) (omega (arith, is))
 
 on_device : Seen → Device → Seen
@@ -94,13 +96,16 @@ still_turning c d t same = record {
   entered = t.entered;
 }
 
-pub flushed_is_held : (s : State) (c new : Seen) (result : Result (Unit {0}) Rattle.edge_io.specs.declared.source.Failed.Failed) → IsHeld s c → IsFlushed c new → WritesBuffer c new result → IsTurning new
-    → IsHeld (state_after s (rec.Began (cursor_next s) (floor_next s))) new
-flushed_is_held s c new result held flushed wrote turning =
-    let more : c.device.faults ≤ new.device.faults = wrote.cause.later in
+-- a write of the buffer spares all pieces that may be read, also where it fails
+pub write_spares : (c new : Seen) (result : Result (Unit {0}) Failed) → WritesBuffer c new result → SparesPieces c new.device
+write_spares c new result wrote = record { later = wrote.cause.later; trust = wrote.keeps.trust; others = wrote.others }
+
+pub flushed_is_held : (s : State) (c new : Seen) (result : Result (Unit {0}) Failed) → IsHeld s c → ((block : ℕ) → IsTold new.device → length (new.device.seen block) ≡ 512)
+    → IsFlushed c new → WritesBuffer c new result → IsTurning new → IsHeld (state_after s (rec.Began (cursor_next s) (floor_next s))) new
+flushed_is_held s c new result held whole flushed wrote turning =
     let turns : IsTurning (record c { device = new.device }) = still_turning c new.device held.turning wrote.keeps.size in
-    let moved : IsHeld s (record c { device = new.device }) = device_may_change s c (record c { device = new.device }) held refl turns more in
-    begun_is_held s (record c { device = new.device }) new moved flushed.begins turning
+    let moved : IsHeld s (record c { device = new.device }) = device_may_change s c (record c { device = new.device }) held refl turns (write_spares c new result wrote) in
+    begun_is_held s (record c { device = new.device }) new moved (record { whole = whole; written = flushed.written }) flushed.begins turning
 
 -- the buffer has a block where the next place is not the cursor
 pub some_filled : (s : State) (c : Seen) (next cursor : ℕ) → IsHeld s c → next ≡ next_place_of c.buffer → cursor ≡ c.buffer.cursor → (next - cursor ≡ 0 → ⊥) → 0 < s.filled

@@ -7,15 +7,17 @@ use Rattle.tape_base.specs.declared.pieces.PieceId.{PieceId}
 use Rattle.tape_base.specs.Piece.{key_of_piece, same_piece}
 use Rattle.tape_base.proofs.NameLaws.{same_piece-true}
 use Rattle.std.specs.Prelude.{Result, Ok, Err, OnOk, OnErr}
-use Rattle.ats_disk.specs.Device.{State as Device, Grows}
+use Rattle.ats_disk.specs.Device.{State as Device, Grows, Image, IsTold, SameBut, SameSeen}
+use Rattle.tape_base.specs.Place.{slot_of}
 use Rattle.dir_table.specs.declared.rows.DirRow.{DirRow}
 use Rattle.dir_table.specs.Rows.{row_of_key}
 use Rattle.agg_buffer.specs.Buffer.{filled_of}
 use Rattle.cyclone.specs.Cyclone.{Seen, IsTurning, SameButRoom, SameButRows, SameTape, row_of_piece}
 use Rattle.cache_model.specs.State.{State, Row, floor_now, is_live, live_row_of, only_live, place_now, row_in, without}
 use Rattle.cache_model.specs.Tape.{AreApart, AreRising}
-use Rattle.stripe_core.specs.Held.{IsBufferedWhereNew, IsHeld, IsInLap, entry_of, rows_in_range, same_entry, times}
-use Rattle.stripe_core.specs.Records.{IsAlike, IsWithout}
+use Rattle.stripe_core.specs.Held.{IsBufferedWhereNew, IsHeld, IsInLap, IsIntactWhereWritten, entry_of, rows_in_range, same_entry, times}
+use Rattle.stripe_core.specs.Records.{IsAlike, IsWithout, SparesPieces}
+use Rattle.stripe_core.proofs.Intact.{each_same_intact, each_stays_intact}
 use Rattle.stripe_core.proofs.Entries.{kept, one_more, times-permutation, times-without, same_entry-true}
 use Rattle.stripe_core.proofs.Counts.{is_between, fewer_between}
 use Rattle.stripe_core.proofs.Holding.{counted, end_is, entered, floor_is}
@@ -65,6 +67,13 @@ pub all_left : (P : Row → Type 0) (id : PieceId) (rows : List Row) → AllByRe
 all_left P id [] all = tt
 all_left P id (row ∷ rows) all = left_by P row (without id rows) (not (same_piece row.id id)) all.0 (all_left P id rows all.1)
 
+-- the pieces that are left stay intact
+left_intact : {P : Type 0} (s t : State) (content : Image) (id : PieceId) → IsWithout s t id → (P → AllByRecursion (IsIntactWhereWritten s content) s.rows)
+    → P → AllByRecursion (IsIntactWhereWritten t content) t.rows
+left_intact s t content id gone all p =
+    subst (λ rs. AllByRecursion (IsIntactWhereWritten t content) rs) (sym gone.rows)
+    (each_same_intact s t content (without id s.rows) (sym gone.geometry) (sym gone.cursor) (all_left (IsIntactWhereWritten s content) id s.rows (all p)))
+
 -- ---- a live piece goes
 
 module _ (s t : State) (c new : Seen) (id : PieceId) (row : Row) (held : IsHeld s c) (live : live_row_of s id ≡ Some row) (gone : IsWithout s t id)
@@ -107,6 +116,7 @@ module _ (s t : State) (c new : Seen) (id : PieceId) (row : Row) (held : IsHeld 
     filled = ap (λ (y : Seen). filled_of y.buffer) rest.same ∙ (held.filled ∙ sym gone.filled);
     entered = entered t new (record { each = count_at });
     buffered = rw (gone.rows, ap (λ (y : Seen). y.buffer) rest.same) (all_left (IsBufferedWhereNew c.buffer) id s.rows held.buffered);
+    intact = subst (λ (d : Device). IsTold d → AllByRecursion (IsIntactWhereWritten t d.seen) t.rows) (sym (ap (λ (y : Seen). y.device) rest.same)) (left_intact s t c.device.seen id gone held.intact);
     laps = rw (gone.geometry, gone.rows) (all_left (IsInLap s.geometry) id s.rows held.laps);
     faults = rw (gone.fault, ap (λ (y : Seen). y.device) rest.same) held.faults;
   }
@@ -151,6 +161,7 @@ passed_is_held s t c id held none gone = record {
         rw (gone.geometry, gone.cursor, gone.rows) ((counted s c held.entered).each x ∙ sym (same_live s id x (row_in s.rows id) refl held.sound.apart none));
   });
   buffered = rw gone.rows (all_left (IsBufferedWhereNew c.buffer) id s.rows held.buffered);
+  intact = left_intact s t c.device.seen id gone held.intact;
   laps = rw (gone.geometry, gone.rows) (all_left (IsInLap s.geometry) id s.rows held.laps);
   faults = rw gone.fault held.faults;
 }
@@ -166,12 +177,24 @@ alike_is_held s t c held alike faults = record {
   filled = held.filled ∙ sym alike.filled;
   entered = entered t c (record { each = λ x. rw (alike.geometry, alike.cursor, alike.rows) ((counted s c held.entered).each x) });
   buffered = rw alike.rows held.buffered;
+  intact = λ told.
+      subst (λ rs. AllByRecursion (IsIntactWhereWritten t c.device.seen) rs) (sym alike.rows)
+      (each_same_intact s t c.device.seen s.rows (sym alike.geometry) (sym alike.cursor) (held.intact told));
   laps = rw (alike.geometry, alike.rows) held.laps;
   faults = faults;
 }
 
-pub device_may_change : (s : State) (c new : Seen) → IsHeld s c → SameTape c new → IsTurning new → c.device.faults ≤ new.device.faults → IsHeld s new
-device_may_change s c new held same turning more = record {
+-- what was written out stays intact on a device that changes no more than where the buffer is written
+spared_intact : (s : State) (c : Seen) (device : Device) → IsHeld s c → SparesPieces c device → IsTold device → AllByRecursion (IsIntactWhereWritten s device.seen) s.rows
+spared_intact s c device held spares told =
+    let at : slot_of c.geometry c.buffer.cursor ≡ slot_of s.geometry s.cursor = ap (λ g. slot_of g c.buffer.cursor) held.geometry ∙ ap (slot_of s.geometry) held.cursor in
+    let before : IsTold c.device = omega (arith, told, spares.trust) in
+    each_stays_intact s s.filled c.device.seen device.seen s.rows held.sound.room
+    (subst (λ n. SameBut n s.filled c.device.seen device.seen) at (subst (λ n. SameBut (slot_of c.geometry c.buffer.cursor) n c.device.seen device.seen) held.filled (spares.others told)))
+    (held.intact before)
+
+pub device_may_change : (s : State) (c new : Seen) → IsHeld s c → SameTape c new → IsTurning new → SparesPieces c new.device → IsHeld s new
+device_may_change s c new held same turning spares = record {
   turning = turning;
   sound = held.sound;
   geometry = ap (λ (y : Seen). y.geometry) same ∙ held.geometry;
@@ -179,12 +202,13 @@ device_may_change s c new held same turning more = record {
   filled = ap (λ (y : Seen). filled_of y.buffer) same ∙ held.filled;
   entered = λ x. ap (λ (y : Seen). times x (rows_in_range y)) same ∙ held.entered x;
   buffered = rw (ap (λ (y : Seen). y.buffer) same) held.buffered;
+  intact = spared_intact s c new.device held spares;
   laps = held.laps;
-  faults = let low : s.fault ≤ c.device.faults = held.faults in omega arith;
+  faults = let low : s.fault ≤ c.device.faults = held.faults in omega (arith, low, spares.later);
 }
 
-pub room_may_grow : (s : State) (c new : Seen) → IsHeld s c → SameButRoom c new → IsTurning new → c.device.faults ≤ new.device.faults → IsHeld s new
-room_may_grow s c new held same turning more = record {
+pub room_may_grow : (s : State) (c new : Seen) → IsHeld s c → SameButRoom c new → IsTurning new → SparesPieces c new.device → IsHeld s new
+room_may_grow s c new held same turning spares = record {
   turning = turning;
   sound = held.sound;
   geometry = ap (λ (y : Seen). y.geometry) same.same ∙ held.geometry;
@@ -192,11 +216,19 @@ room_may_grow s c new held same turning more = record {
   filled = ap (λ (y : Seen). filled_of y.buffer) same.same ∙ held.filled;
   entered = λ x. ap (λ (y : Seen). times x (rows_in_range y)) same.same ∙ held.entered x;
   buffered = rw (ap (λ (y : Seen). y.buffer) same.same) held.buffered;
+  intact = spared_intact s c new.device held spares;
   laps = held.laps;
-  faults = let low : s.fault ≤ c.device.faults = held.faults in omega arith;
+  faults = let low : s.fault ≤ c.device.faults = held.faults in omega (arith, low, spares.later);
 }
 
--- making room leaves the count of faults, whether it is found or not
-pub steady : {X E : Type 0} (r : Result X E) (calls blocks : ℕ) (old new : Device) → OnOk r (Grows calls blocks old new) → OnErr r (Grows 0 0 old new) → old.faults ≤ new.faults
-steady (Ok x) calls blocks old new ok err = let same : new.faults ≡ old.faults = ok.faults in omega arith
-steady (Err e) calls blocks old new ok err = let same : new.faults ≡ old.faults = err.faults in omega arith
+-- a device that shows what it showed spares all pieces
+pub shows_same : (c : Seen) (device : Device) → c.device.faults ≤ device.faults → device.trust ≤ c.device.trust → SameSeen c.device device → SparesPieces c device
+shows_same c device later trust same = record { later = later; trust = trust; others = λ told j beside. same told j }
+
+grown : (calls blocks : ℕ) (c : Seen) (device : Device) → Grows calls blocks c.device device → SparesPieces c device
+grown calls blocks c device grows = shows_same c device (let same : device.faults ≡ c.device.faults = grows.faults in omega arith) grows.trust grows.seen
+
+-- and so does one that makes room, whether that is found or not
+pub steady : {X E : Type 0} (r : Result X E) (calls blocks : ℕ) (c : Seen) (device : Device) → OnOk r (Grows calls blocks c.device device) → OnErr r (Grows 0 0 c.device device) → SparesPieces c device
+steady (Ok x) calls blocks c device ok err = grown calls blocks c device ok
+steady (Err e) calls blocks c device ok err = grown 0 0 c device err

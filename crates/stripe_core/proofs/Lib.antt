@@ -1,6 +1,7 @@
 mod Entries
 mod Counts
 mod Holding
+mod Intact
 mod Placements
 mod Beginning
 pub mod Going
@@ -18,3 +19,4 @@ mod Findings
 mod Sparing
 mod Doings
 mod Naming
+pub mod Unharmed

@@ -17,7 +17,7 @@ use Rattle.dir_table.specs.declared.window.Window.{Window}
 use Rattle.dir_table.specs.Rows.{row_of_key}
 use Rattle.dir_table.specs.Displacement.{Displacement, rows_without}
 use Rattle.agg_buffer.specs.Buffer.{Buffer, Adds, blocks_in, bytes_at, filled_of, next_place_of}
-use Rattle.ats_disk.specs.Device.{State as Device}
+use Rattle.ats_disk.specs.Device.{State as Device, IsTold}
 use Rattle.cyclone.specs.Cyclone.{Seen, IsTurning, IsPut}
 use Rattle.cache_model.specs.declared.record.Rec.TheVariants as rec
 use Rattle.cache_model.specs.State.{State, Row, floor_now, place_now, placed_row, row_in, state_after, without}
@@ -25,7 +25,8 @@ use Rattle.cache_model.specs.Tape.{IsSound}
 use Rattle.cache_model.proofs.Laps.{lap-is}
 use Rattle.cache_model.proofs.Sound.{later_placed}
 use Rattle.stripe_core.specs.Records.{IsPlacedAs}
-use Rattle.stripe_core.specs.Held.{IsBuffered, IsBufferedWhereNew, IsHeld, IsInLap, entry_of, same_entry, times}
+use Rattle.stripe_core.specs.Held.{IsBuffered, IsBufferedWhereNew, IsHeld, IsInLap, IsIntactWhereWritten, entry_of, same_entry, times}
+use Rattle.stripe_core.proofs.Intact.{each_same_intact}
 use Rattle.stripe_core.proofs.Entries.{kept, one_more, times-append, times-permutation, same_entry-true}
 use Rattle.stripe_core.proofs.Counts.{is_between, more_between}
 use Rattle.stripe_core.proofs.Holding.{AreCounted, counted, end_is, entered, floor_is, none_behind}
@@ -188,6 +189,10 @@ module _ (s : State) (c new : Seen) (doc : Doc) (payload : List ℕ) (digest : D
   in_lap : IsInLap s.geometry row
   in_lap = record { small = placed.small; within = omega (arith, same_lap, placed.room, held.sound.lap) }
 
+  -- it is in the buffer
+  not_written : IsIntactWhereWritten after c.device.seen row
+  not_written = λ low below. absurd (omega (arith, below))
+
   pub placed_is_held_here : IsHeld after new
   placed_is_held_here = record {
     turning = turning;
@@ -198,6 +203,8 @@ module _ (s : State) (c new : Seen) (doc : Doc) (payload : List ℕ) (digest : D
     entered = entered after new counts;
     buffered = subst (AllByRecursion (IsBufferedWhereNew new.buffer)) (sym rows_are)
         (all_append (IsBufferedWhereNew new.buffer) s.rows row (still_buffered c.buffer new.buffer (document_bytes doc payload) s.rows put.buffer same_cursor held.buffered) own_buffered);
+    intact = subst (λ (d : Device). IsTold d → AllByRecursion (IsIntactWhereWritten after d.seen) after.rows) (sym put.device)
+        (λ told. subst (AllByRecursion (IsIntactWhereWritten after c.device.seen)) (sym rows_are) (all_append (IsIntactWhereWritten after c.device.seen) s.rows row (each_same_intact s after c.device.seen s.rows refl refl (held.intact told)) not_written));
     laps = subst (AllByRecursion (IsInLap s.geometry)) (sym rows_are) (all_append (IsInLap s.geometry) s.rows row held.laps in_lap);
     faults = subst (λ n. s.fault ≤ n) (sym (ap (λ (d : Device). d.faults) put.device)) held.faults;
   }

@@ -22,6 +22,7 @@ fresh_is_held g c device fresh turning = record {
   filled = ap filled_of fresh.buffer;
   entered = λ x. ap (λ rs. times x (filter (λ (r : DirRow). is_in_range c.window r.place) rs)) fresh.rows;
   buffered = tt;
+  intact = λ told. tt;
   laps = tt;
   faults = omega arith;
 }

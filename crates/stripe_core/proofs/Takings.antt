@@ -2,7 +2,7 @@
 use Rattle.std.proofs.Common.{◌≡◌, ℕ, List, [], ◌∷◌, refl, sym, ◌∙◌, ap, subst, Bool, true, false}
 use Rattle.std.specs.Prelude.{IsPermutation, Option, Some, None, option_and_then, option_map, ◌==◌}
 use Rattle.std.specs.Bool.{OnTrue}
-use Rattle.std.proofs.lemmas.Bool.{eqb-true}
+use Rattle.std.proofs.lemmas.Bool.{eq-eqb, eqb-true}
 use Rattle.tape_base.specs.declared.keys.Key.{Key}
 use Rattle.tape_base.specs.declared.pieces.PieceId.{PieceId}
 use Rattle.tape_base.specs.declared.digests.Digest.{Digest}
@@ -16,7 +16,7 @@ use Rattle.cache_model.proofs.Sound.{later_leaves}
 use Rattle.stripe_core.specs.Held.{IsHeld}
 use Rattle.stripe_core.specs.Pieces.{live_place_of}
 use Rattle.stripe_core.specs.Records.{IsWithout}
-use Rattle.stripe_core.proofs.Going.{passed_is_held, taken_is_held}
+use Rattle.stripe_core.proofs.Going.{alike_is_held, passed_is_held, taken_is_held}
 use Rattle.stripe_core.proofs.Lives.{IsLiveAt, live_at, live_has_row}
 
 -- how an entry was taken out
@@ -84,6 +84,33 @@ committed_without s put length key id sound h other = record {
   fault = refl;
   sound = committed_sound s put length key sound;
 }
+
+-- the pieces stay where the key had no vector before
+pub none_earlier : (s : State) (key : Key) (put : ℕ) → None ≡ vector_of s key → without_earlier key put (last_vector s key) s.rows ≡ s.rows
+none_earlier s key put h = by (last_vector s key) h
+  where
+    by : (last : Option LastVector) → None ≡ option_and_then (vector_of_last key) last → without_earlier key put last s.rows ≡ s.rows
+    by None e = refl
+    by (Some (TakenOut old)) e = refl
+    by (Some (Complete old)) e = cc
+
+-- and where that is the put's own
+pub own_earlier : (s : State) (key : Key) (put : ℕ) (id : PieceId) → Some id ≡ vector_of s key → id.put ≡ put → without_earlier key put (last_vector s key) s.rows ≡ s.rows
+own_earlier s key put id h own = by (last_vector s key) h
+  where
+    by : (last : Option LastVector) → Some id ≡ option_and_then (vector_of_last key) last → without_earlier key put last s.rows ≡ s.rows
+    by None e = refl
+    by (Some (TakenOut old)) e = refl
+    by (Some (Complete old)) e =
+        let piece : vector_piece key old ≡ id = cc in
+        let same : old ≡ put = ap (λ (i : PieceId). i.put) piece ∙ own in
+        rw (eq-eqb old put same) refl
+
+pub committed_is_held : (s : State) (c : Seen) (put length : ℕ) (key : Key) → IsHeld s c → without_earlier key put (last_vector s key) s.rows ≡ s.rows
+    → IsHeld (state_after s (rec.Committed put key length)) c
+committed_is_held s c put length key held rows =
+    alike_is_held s (state_after s (rec.Committed put key length)) c held
+    (record { geometry = refl; cursor = refl; filled = refl; rows = rows; sound = committed_sound s put length key held.sound }) held.faults
 
 pub other_put : (a b : ℕ) → (a ≡ b → ⊥) → (a == b) ≡ false
 other_put a b h = by (a == b) refl

@@ -1,17 +1,18 @@
 -- What a cyclone holds of the pieces that the records tell of.
-use Rattle.std.specs.Prelude.{ℕ, ◌≡◌, ◌+◌, ◌≤◌, ◌==◌, ◌&&◌, Bool, if◌then◌else◌, List, [], ◌∷◌, map, filter}
+use Rattle.std.specs.Prelude.{ℕ, ◌≡◌, ◌+◌, ◌<◌, ◌≤◌, ◌==◌, ◌&&◌, Bool, if◌then◌else◌, List, [], ◌∷◌, map, filter}
 use Rattle.std.specs.List.{AllByRecursion}
 use Rattle.tape_base.specs.declared.geometries.Geometry.{Geometry}
 use Rattle.tape_base.specs.Geometry.{budget_of}
 use Rattle.tape_base.specs.Piece.{key_of_piece}
-use Rattle.tape_base.specs.Place.{lap_end_of}
+use Rattle.tape_base.specs.Place.{lap_end_of, slot_of}
+use Rattle.ats_disk.specs.Device.{Image, IsTold, span}
 use Rattle.doc_header.specs.Reading.{document_digest}
 use Rattle.agg_buffer.specs.Buffer.{Buffer, bytes_at, filled_of, IsFilled}
 use Rattle.dir_table.specs.declared.rows.DirRow.{DirRow}
 use Rattle.dir_table.specs.Rows.{row_of_key}
 use Rattle.dir_table.specs.Window.{is_in_range}
 use Rattle.cyclone.specs.Cyclone.{Seen, IsTurning}
-use Rattle.cache_model.specs.State.{State, Row, live_rows}
+use Rattle.cache_model.specs.State.{State, Row, floor_now, live_rows}
 use Rattle.cache_model.specs.Tape.{IsSound}
 
 -- the row under which a directory has a piece
@@ -42,6 +43,15 @@ pub record IsBuffered (b : Buffer) (row : Row) : Type 0 where
 abbrev pub IsBufferedWhereNew : Buffer → Row → Type 0
 IsBufferedWhereNew b row = b.cursor ≤ row.place → IsBuffered b row
 
+-- a piece that was written out ends below the buffer, and stands on the device with its recorded digest
+pub record IsIntact (s : State) (content : Image) (row : Row) : Type 0 where
+  pub ends : row.place + row.blocks ≤ s.cursor
+  pub digest : document_digest (span content (slot_of s.geometry row.place) row.blocks) ≡ row.digest
+
+-- as long as it may be read
+abbrev pub IsIntactWhereWritten : State → Image → Row → Type 0
+IsIntactWhereWritten s content row = floor_now s ≤ row.place → row.place < s.cursor → IsIntact s content row
+
 -- a piece takes at most half a buffer, and stands in one lap
 pub record IsInLap (g : Geometry) (row : Row) : Type 0 where
   pub small : row.blocks ≤ budget_of g
@@ -57,5 +67,6 @@ pub record IsHeld (s : State) (c : Seen) : Type 0 where
   -- the entries in range are those of the live pieces, one each
   pub entered : SameRows (rows_in_range c) (map (entry_of s.geometry) (live_rows s))
   pub buffered : AllByRecursion (IsBufferedWhereNew c.buffer) s.rows
+  pub intact : IsTold c.device → AllByRecursion (IsIntactWhereWritten s c.device.seen) s.rows
   pub laps : AllByRecursion (IsInLap s.geometry) s.rows
   pub faults : s.fault ≤ c.device.faults

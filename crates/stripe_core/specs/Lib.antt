@@ -9,3 +9,4 @@ pub mod Find
 pub mod Named
 pub mod Stripe
 pub mod Acts
+pub mod Unharmed

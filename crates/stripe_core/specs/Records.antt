@@ -5,15 +5,16 @@ use Rattle.tape_base.specs.declared.pieces.PieceId.{PieceId}
 use Rattle.tape_base.specs.declared.digests.Digest.{Digest}
 use Rattle.tape_base.specs.Blocks.{blocks_of}
 use Rattle.tape_base.specs.Geometry.{budget_of}
+use Rattle.tape_base.specs.Place.{slot_of}
 use Rattle.doc_header.specs.declared.documents.Doc.{Doc}
 use Rattle.doc_header.specs.Document.{document_bytes}
 use Rattle.doc_header.specs.Reading.{document_digest}
-use Rattle.agg_buffer.specs.Buffer.{blocks_in}
+use Rattle.agg_buffer.specs.Buffer.{blocks_in, filled_of}
 use Rattle.cyclone.specs.Cyclone.{Seen, IsFresh, IsTurning, IsPut, BeginsNext, SameButRoom, SameButRows, SameTape, row_of_piece}
 use Rattle.cache_model.specs.declared.record.Rec.TheVariants as rec
 use Rattle.cache_model.specs.State.{State, Row, cursor_next, floor_next, live_row_of, nothing_yet, place_now, row_of, after_all, state_after, without}
 use Rattle.cache_model.specs.Legal.{format_records}
-use Rattle.ats_disk.specs.Device.{State as Device}
+use Rattle.ats_disk.specs.Device.{State as Device, IsTold, SameBut, span}
 use Rattle.cache_model.specs.Tape.{IsSound}
 use Rattle.stripe_core.specs.Held.{IsHeld}
 
@@ -32,9 +33,14 @@ PlacedIsHeld = (s : State) (c new : Seen) (doc : Doc) (payload : List ℕ) (dige
     → IsPut false c new doc payload → IsTurning new
     → IsHeld (state_after s (rec.Placed doc.id (place_now s) (blocks_of (length payload)) digest pin)) new
 
+-- the device has what is in the buffer, where it tells its content
+pub record IsWrittenOut (c : Seen) : Type 0 where
+  pub whole : (block : ℕ) → IsTold c.device → length (c.device.seen block) ≡ 512
+  pub written : IsTold c.device → span c.device.seen (slot_of c.geometry c.buffer.cursor) (filled_of c.buffer) ≡ c.buffer.bytes
+
 -- where the next buffer begins, and is recorded, what may still be read is held
 abbrev pub BegunIsHeld : Type 0
-BegunIsHeld = (s : State) (c new : Seen) → IsHeld s c → BeginsNext c new → IsTurning new
+BegunIsHeld = (s : State) (c new : Seen) → IsHeld s c → IsWrittenOut c → BeginsNext c new → IsTurning new
     → IsHeld (state_after s (rec.Began (cursor_next s) (floor_next s))) new
 
 -- a later state whose pieces are those before without one, with the same buffer
@@ -67,9 +73,16 @@ PassedIsHeld = (s t : State) (c : Seen) (id : PieceId) → IsHeld s c → live_r
 abbrev pub AlikeIsHeld : Type 0
 AlikeIsHeld = (s t : State) (c : Seen) → IsHeld s c → IsAlike s t → t.fault ≤ c.device.faults → IsHeld t c
 
--- and so does a device that changes, where its count of faults does not fall
+-- a device that counts no fault less, is trusted no more, and shows what it showed but where the buffer
+-- is written
+pub record SparesPieces (c : Seen) (device : Device) : Type 0 where
+  pub later : c.device.faults ≤ device.faults
+  pub trust : device.trust ≤ c.device.trust
+  pub others : IsTold device → SameBut (slot_of c.geometry c.buffer.cursor) (filled_of c.buffer) c.device.seen device.seen
+
+-- and so does a device that changes no more than that
 abbrev pub DeviceMayChange : Type 0
-DeviceMayChange = (s : State) (c new : Seen) → IsHeld s c → SameTape c new → IsTurning new → c.device.faults ≤ new.device.faults → IsHeld s new
+DeviceMayChange = (s : State) (c new : Seen) → IsHeld s c → SameTape c new → IsTurning new → SparesPieces c new.device → IsHeld s new
 
 -- a cyclone that is fresh holds what a format begins with
 abbrev pub FreshIsHeld : Type 0
@@ -77,4 +90,4 @@ FreshIsHeld = (g : Geometry) (c : Seen) (device : Device) → IsFresh c g device
 
 -- more room changes nothing of what is held
 abbrev pub RoomMayGrow : Type 0
-RoomMayGrow = (s : State) (c new : Seen) → IsHeld s c → SameButRoom c new → IsTurning new → c.device.faults ≤ new.device.faults → IsHeld s new
+RoomMayGrow = (s : State) (c new : Seen) → IsHeld s c → SameButRoom c new → IsTurning new → SparesPieces c new.device → IsHeld s new

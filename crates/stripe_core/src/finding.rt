@@ -4,7 +4,9 @@ ghost use Rattle.tape_base.specs.Geometry.{budget_of};
 ghost use Rattle.doc_header.specs.Reading.{payload_of};
 ghost use Rattle.cyclone.specs.Cyclone.{IsCyclone, IsStored, Reads, SameTape, seen};
 ghost use Rattle.cache_model.specs.Kept.{with_records};
+ghost use Rattle.ats_disk.specs.Device.{IsTold};
 ghost use Rattle.stripe_core.specs.Covers.{Uses};
+ghost use Rattle.stripe_core.specs.Unharmed.{TellNoDamage};
 ghost use Rattle.stripe_core.specs.Find.{Finds, IsJudged, IsRecorded, find_adds, judged_records};
 
 use crate::refusal::Found;
@@ -36,6 +38,8 @@ impl<D: Disk, R: Directory + Drop, C: Chronicle> Pieces<D, R, C> {
             ≡ with_records (kept_of C.Chronicle self.old) (find_adds (state_now C.Chronicle self.old) id result) }
         ensures finds { Finds (state_now C.Chronicle self.old) (seen_of D.Disk R.Directory self.old).device
             (seen_of D.Disk R.Directory self.new).device id result into.new }
+        // A device that tells its content shows each piece as it was placed.
+        ensures unharmed { IsTold (seen_of D.Disk R.Directory self.new).device → TellNoDamage (find_adds (state_now C.Chronicle self.old) id result) }
         ensures uses { Uses 1 0 0 0 (C.room self.old.chronicle) (C.room self.new.chronicle)
             (seen_of D.Disk R.Directory self.old) (seen_of D.Disk R.Directory self.new) }
     {
@@ -55,6 +59,8 @@ impl<D: Disk, R: Directory + Drop, C: Chronicle> Pieces<D, R, C> {
             ≡ with_records (kept_of C.Chronicle self.old) (find_adds (state_now C.Chronicle self.old) id result) }
         ensures finds { Finds (state_now C.Chronicle self.old) (seen_of D.Disk R.Directory self.old).device
             (seen_of D.Disk R.Directory self.new).device id result into.new }
+        // A device that tells its content shows each piece as it was placed.
+        ensures unharmed { IsTold (seen_of D.Disk R.Directory self.new).device → TellNoDamage (find_adds (state_now C.Chronicle self.old) id result) }
         ensures uses { Uses 1 0 0 0 (C.room self.old.chronicle) (C.room self.new.chronicle)
             (seen_of D.Disk R.Directory self.old) (seen_of D.Disk R.Directory self.new) }
     {

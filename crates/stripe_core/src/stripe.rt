@@ -38,6 +38,7 @@ pub struct Stripe<D: Disk, R: Directory + Drop, C: Chronicle> {
 impl<D: Disk, R: Directory + Drop, C: Chronicle> Stripe<D, R, C> {
     ghost use Rattle.stripe_core.specs.Pieces.{live_place_of};
     ghost use Rattle.stripe_core.specs.Stripe.{Answers, HasMemory, IsSpared, IsStill, IsStripe, RowIsMade, alloc_in, flushes_in, kept_in, room_for, seen_in, state_in, units_in};
+    ghost use Rattle.stripe_core.specs.Unharmed.{StaysUnharmed};
 
     /// Begins a session on an empty content area. A refusal gives back the device and the chronicle.
     pub fn format(
@@ -145,6 +146,7 @@ impl<D: Disk, R: Directory + Drop, C: Chronicle> Stripe<D, R, C> {
         requires stripe { IsStripe D.Disk R.Directory C.Chronicle self.old }
         requires quiet { IsQuiet (state_in C.Chronicle self.old) }
         ensures stripe { IsStripe D.Disk R.Directory C.Chronicle self.new }
+        ensures unharmed { StaysUnharmed D.Disk R.Directory C.Chronicle self.old self.new }
         ensures adds { Answers result (λ r. kept_in C.Chronicle self.new
             ≡ with_records (kept_in C.Chronicle self.old) (flush_adds (state_in C.Chronicle self.old) r)) (kept_in C.Chronicle self.new ≡ kept_in C.Chronicle self.old) }
         ensures does { Answers result (DoesAsAsked (state_in C.Chronicle self.old) (seen_in D.Disk R.Directory self.old).device.faults
@@ -172,6 +174,7 @@ impl<D: Disk, R: Directory + Drop, C: Chronicle> Stripe<D, R, C> {
         requires quiet { IsQuiet (state_in C.Chronicle self.old) }
         requires small { blocks_of bytes ≤ budget_of (state_in C.Chronicle self.old).geometry }
         ensures stripe { IsStripe D.Disk R.Directory C.Chronicle self.new }
+        ensures unharmed { StaysUnharmed D.Disk R.Directory C.Chronicle self.old self.new }
         ensures adds { Answers result (λ r. kept_in C.Chronicle self.new
             ≡ with_records (kept_in C.Chronicle self.old) (room_adds (state_in C.Chronicle self.old) bytes r)) (kept_in C.Chronicle self.new ≡ kept_in C.Chronicle self.old) }
         ensures does { Answers result (MakesRoomAsAsked (state_in C.Chronicle self.old) bytes (seen_in D.Disk R.Directory self.old).device.faults
@@ -196,6 +199,7 @@ impl<D: Disk, R: Directory + Drop, C: Chronicle> Stripe<D, R, C> {
         requires stripe { IsStripe D.Disk R.Directory C.Chronicle self.old }
         requires into { length into.old ≡ 512 * budget_of (state_in C.Chronicle self.old).geometry }
         ensures stripe { IsStripe D.Disk R.Directory C.Chronicle self.new }
+        ensures unharmed { StaysUnharmed D.Disk R.Directory C.Chronicle self.old self.new }
         ensures adds { IfOk result (λ found. kept_in C.Chronicle self.new
             ≡ with_records (kept_in C.Chronicle self.old) (find_adds (state_in C.Chronicle self.old) id found)) }
         ensures finds { IfOk result (λ found. Finds (state_in C.Chronicle self.old) (seen_in D.Disk R.Directory self.old).device
@@ -215,6 +219,7 @@ impl<D: Disk, R: Directory + Drop, C: Chronicle> Stripe<D, R, C> {
         requires stripe { IsStripe D.Disk R.Directory C.Chronicle self.old }
         requires open { IfSome put (λ n. is_writing (state_in C.Chronicle self.old) n ≡ true) }
         ensures stripe { IsStripe D.Disk R.Directory C.Chronicle self.new }
+        ensures unharmed { StaysUnharmed D.Disk R.Directory C.Chronicle self.old self.new }
         ensures records { kept_in C.Chronicle self.new ≡ kept_in C.Chronicle self.old }
         ensures units { OnOk result (units ≤ units_in self.new) }
         ensures row { OnOk result (IfSome put (λ n. 0 < room_for n self.new.actors)) }
@@ -230,6 +235,7 @@ impl<D: Disk, R: Directory + Drop, C: Chronicle> Stripe<D, R, C> {
         requires stripe { IsStripe D.Disk R.Directory C.Chronicle self.old }
         requires open { IfSome put (λ n. is_writing (state_in C.Chronicle self.old) n ≡ true) }
         ensures stripe { IsStripe D.Disk R.Directory C.Chronicle self.new }
+        ensures unharmed { StaysUnharmed D.Disk R.Directory C.Chronicle self.old self.new }
         ensures records { kept_in C.Chronicle self.new ≡ kept_in C.Chronicle self.old }
         ensures row { OnOk result (IfSome put (λ n. 0 < room_for n self.new.actors)) }
         ensures units { units_in self.new ≡ units_in self.old }
@@ -253,6 +259,7 @@ impl<D: Disk, R: Directory + Drop, C: Chronicle> Stripe<D, R, C> {
         requires stripe { IsStripe D.Disk R.Directory C.Chronicle self.old }
         requires placing { IsPlacing (state_in C.Chronicle self.old) id pin start payload.now }
         ensures stripe { IsStripe D.Disk R.Directory C.Chronicle self.new }
+        ensures unharmed { StaysUnharmed D.Disk R.Directory C.Chronicle self.old self.new }
         ensures adds { Answers result (λ r. kept_in C.Chronicle self.new
             ≡ with_records (kept_in C.Chronicle self.old) (placing_adds (state_in C.Chronicle self.old) id pin start payload.now r))
             (kept_in C.Chronicle self.new ≡ kept_in C.Chronicle self.old) }
@@ -287,6 +294,7 @@ impl<D: Disk, R: Directory + Drop, C: Chronicle> Stripe<D, R, C> {
         requires kind { id.index ≡ 0 }
         requires vector { IsVectorFor (state_in C.Chronicle self.old) id start payload.now }
         ensures stripe { IsStripe D.Disk R.Directory C.Chronicle self.new }
+        ensures unharmed { StaysUnharmed D.Disk R.Directory C.Chronicle self.old self.new }
         ensures adds { Answers result (λ r. kept_in C.Chronicle self.new
             ≡ with_records (kept_in C.Chronicle self.old) (place_adds (state_in C.Chronicle self.old) id pin start payload.now r)) ⊥ }
         ensures does { Answers result (FinishesAsAsked (state_in C.Chronicle self.old) (seen_in D.Disk R.Directory self.old).device.faults
@@ -312,6 +320,7 @@ impl<D: Disk, R: Directory + Drop, C: Chronicle> Stripe<D, R, C> {
         requires spared { IsSpared (units_in self.old + 1) (flushes_in self.old) (C.room self.old.pieces.chronicle) (seen_in D.Disk R.Directory self.old) }
         requires fragment { IsFragmentOf (state_in C.Chronicle self.old) id pin start payload.now }
         ensures stripe { IsStripe D.Disk R.Directory C.Chronicle self.new }
+        ensures unharmed { StaysUnharmed D.Disk R.Directory C.Chronicle self.old self.new }
         ensures adds { Answers result (λ r. kept_in C.Chronicle self.new
             ≡ with_records (kept_in C.Chronicle self.old) (fragment_adds (state_in C.Chronicle self.old) id pin start payload.now r))
             (kept_in C.Chronicle self.new ≡ kept_in C.Chronicle self.old) }
@@ -341,6 +350,7 @@ impl<D: Disk, R: Directory + Drop, C: Chronicle> Stripe<D, R, C> {
     pub(crate) fn take_unit(&mut self) -> Result<(), AllocError>
         requires { IsStripe D.Disk R.Directory C.Chronicle self.old }
         ensures stripe { IsStripe D.Disk R.Directory C.Chronicle self.new }
+        ensures unharmed { StaysUnharmed D.Disk R.Directory C.Chronicle self.old self.new }
         ensures records { kept_in C.Chronicle self.new ≡ kept_in C.Chronicle self.old }
         ensures spared { OnOk result (IsSpared (units_in self.new + 1) (flushes_in self.new) (C.room self.new.pieces.chronicle) (seen_in D.Disk R.Directory self.new)) }
         ensures actors { self.new.actors ≡ with_room_of_readers (reader_room_of self.new.actors) self.old.actors }
@@ -358,6 +368,7 @@ impl<D: Disk, R: Directory + Drop, C: Chronicle> Stripe<D, R, C> {
     fn make_units(&mut self, units: u32) -> Result<(), AllocError>
         requires { IsStripe D.Disk R.Directory C.Chronicle self.old }
         ensures stripe { IsStripe D.Disk R.Directory C.Chronicle self.new }
+        ensures unharmed { StaysUnharmed D.Disk R.Directory C.Chronicle self.old self.new }
         ensures records { kept_in C.Chronicle self.new ≡ kept_in C.Chronicle self.old }
         ensures units { OnOk result (units ≤ units_in self.new) }
         ensures actors { self.new.actors ≡ with_room_of_readers (reader_room_of self.new.actors) self.old.actors }

@@ -55,7 +55,8 @@ impl<D: Disk, R: Directory + Drop, C: Chronicle> Pieces<D, R, C> {
     {
         match self.chronicle.vector_of(key) {
             Some(earlier) if earlier.put != put => self.take_entry(earlier),
-            _ => {}
+            Some(_) => {}
+            None => {}
         }
     }
 

@@ -7,7 +7,7 @@ use Rattle.stripe_core.specs.Pieces.{kept_of, seen_of, state_now}
 use Rattle.cyclone.specs.Cyclone.{seen}
 use Rattle.ats_disk.specs.Device.{State as Device}
 use Rattle.stripe_core.proofs.Holding.{next_is}
-use Rattle.stripe_core.proofs.Flushes.{empty_does, exhausted_does, fault_does, fault_is_held, flush_does, flushed_is_held, some_filled, state_of-with_record}
+use Rattle.stripe_core.proofs.Flushes.{empty_does, exhausted_does, fault_does, fault_is_held, flush_does, flushed_is_held, some_filled, state_of-with_record, write_spares}
 use Rattle.stripe_core.proofs.pieces.Pieces.flush.Goals as goal
 
 pub returns-then-blocks-eq0-clause-does : goal.returns-then-blocks-eq0-clause-does
@@ -27,14 +27,14 @@ flushed-requires-in-Ok g c =
     let s = state_now g.C.Chronicle c.args.self.now in
     let next = c.next_cursor-next.ensures ∙ next_is s (seen_of g.D.Disk g.R.Directory c.args.self.now) c.requires.pieces in
     let after = ap state_of c.began.ensures.kept ∙ (state_of-with_record (kept_of g.C.Chronicle c.args.self.now) _ ∙ ap (λ n. state_after s (rec.Began n (floor_next s))) next) in
-    subst (λ t. IsHeld t (seen g.D.Disk g.R.Directory c.flush.new.self)) (sym after) (flushed_is_held s (seen_of g.D.Disk g.R.Directory c.args.self.now) (seen g.D.Disk g.R.Directory c.flush.new.self) c.flush.result c.requires.pieces c.in-Ok.ensures.ok c.flush.ensures.device c.flush.ensures.turns)
+    subst (λ t. IsHeld t (seen g.D.Disk g.R.Directory c.flush.new.self)) (sym after) (flushed_is_held s (seen_of g.D.Disk g.R.Directory c.args.self.now) (seen g.D.Disk g.R.Directory c.flush.new.self) c.flush.result c.requires.pieces (g.met.D.Disk.whole_blocks c.flush.new.self.disk) c.in-Ok.ensures.ok c.flush.ensures.device c.flush.ensures.turns)
 
 pub returns-in-Ok-clause-pieces : goal.returns-in-Ok-clause-pieces
 returns-in-Ok-clause-pieces g c =
     let s = state_now g.C.Chronicle c.args.self.now in
     let next = c.next_cursor-next.ensures ∙ next_is s (seen_of g.D.Disk g.R.Directory c.args.self.now) c.requires.pieces in
     let after = ap state_of c.began.ensures.kept ∙ (state_of-with_record (kept_of g.C.Chronicle c.args.self.now) _ ∙ ap (λ n. state_after s (rec.Began n (floor_next s))) next) in
-    subst (λ t. IsHeld t (seen g.D.Disk g.R.Directory c.flush.new.self)) (sym after) (flushed_is_held s (seen_of g.D.Disk g.R.Directory c.args.self.now) (seen g.D.Disk g.R.Directory c.flush.new.self) c.flush.result c.requires.pieces c.in-Ok.ensures.ok c.flush.ensures.device c.flush.ensures.turns)
+    subst (λ t. IsHeld t (seen g.D.Disk g.R.Directory c.flush.new.self)) (sym after) (flushed_is_held s (seen_of g.D.Disk g.R.Directory c.args.self.now) (seen g.D.Disk g.R.Directory c.flush.new.self) c.flush.result c.requires.pieces (g.met.D.Disk.whole_blocks c.flush.new.self.disk) c.in-Ok.ensures.ok c.flush.ensures.device c.flush.ensures.turns)
 
 pub returns-in-Ok-clause-does : goal.returns-in-Ok-clause-does
 returns-in-Ok-clause-does g c p covers =
@@ -49,7 +49,7 @@ returns-in-Err-clause-pieces g c =
     let s = state_now g.C.Chronicle c.args.self.now in
     let after = ap state_of c.fault.ensures.kept ∙ state_of-with_record (kept_of g.C.Chronicle c.args.self.now) _ in
     subst (λ t. IsHeld t (seen g.D.Disk g.R.Directory c.flush.new.self)) (sym after)
-    (fault_is_held s (seen_of g.D.Disk g.R.Directory c.args.self.now) (seen g.D.Disk g.R.Directory c.flush.new.self) c.faults-count.result c.requires.pieces c.in-Err.ensures.err c.flush.ensures.turns c.flush.ensures.device.cause.later (c.faults-count.ensures ∙ ap (λ (d : Device). d.faults) c.disk.ensures))
+    (fault_is_held s (seen_of g.D.Disk g.R.Directory c.args.self.now) (seen g.D.Disk g.R.Directory c.flush.new.self) c.faults-count.result c.requires.pieces c.in-Err.ensures.err c.flush.ensures.turns (write_spares _ _ _ c.flush.ensures.device) (c.faults-count.ensures ∙ ap (λ (d : Device). d.faults) c.disk.ensures))
 
 pub returns-in-Err-clause-does : goal.returns-in-Err-clause-does
 returns-in-Err-clause-does g c p covers =

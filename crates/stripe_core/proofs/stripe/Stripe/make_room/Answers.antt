@@ -1,4 +1,4 @@
-use Rattle.std.proofs.Common.{◌≡◌, ℕ, ◌+◌, Ok, Err, arith, false}
+use Rattle.std.proofs.Common.{◌≡◌, ℕ, ◌+◌, Err, arith, false}
 use Rattle.std.proofs.lemmas.Bool.{lt-leb}
 use Rattle.tape_base.specs.Blocks.{blocks_of}
 use Rattle.cache_model.specs.State.{State}

@@ -1,4 +1,4 @@
-use Rattle.std.proofs.Common.{◌∙◌, ap, ◌≡◌, Ok, Err, sym, subst, arith, length, true}
+use Rattle.std.proofs.Common.{◌∙◌, ap, ◌≡◌, Ok, Err, sym, subst, arith, length, true, refl, [], ◌∷◌}
 use Rattle.std.proofs.lemmas.Bool.{eq-eqb}
 use Rattle.cache_model.specs.Kept.{with_records}
 use Rattle.cache_model.specs.Room.{placed_record}
@@ -7,6 +7,7 @@ use Rattle.tape_base.specs.Piece.{is_vector}
 use Rattle.stripe_core.specs.Place.{FinishesAsAsked, place_adds}
 use Rattle.stripe_core.specs.Pieces.{seen_of}
 use Rattle.stripe_core.specs.Stripe.{Answers, flushes_in, kept_in, seen_in, state_in, units_in}
+use Rattle.stripe_core.proofs.Unharmed.{stays_unharmed-adds}
 use Rattle.stripe_core.proofs.Groups.{vector_group}
 use Rattle.stripe_core.proofs.Sparing.{actors_with, answers_stop, numbered_others, spent_calm, vector_alone, vector_others}
 use Rattle.stripe_core.proofs.Naming.{begun_put, named_behind, named_placed, small_size, vector_new}
@@ -54,3 +55,10 @@ place-requires-clause-new g c =
 
 pub place-requires-clause-size : goal.place-requires-clause-size
 place-requires-clause-size g c = small_size (state_in g.C.Chronicle c.args.self.now) (length c.args.payload.now) c.requires.vector.small
+
+pub returns-in-Ok-clause-unharmed : goal.returns-in-Ok-clause-unharmed
+returns-in-Ok-clause-unharmed g c =
+    let s = state_in g.C.Chronicle c.args.self.now in
+    let kind : is_vector c.args.id ≡ true = eq-eqb c.args.id.index 0 c.requires.kind in
+    stays_unharmed-adds _ _ (kept_in g.C.Chronicle c.args.self.now) _ (placed_record s c.args.id c.args.pin c.args.start (length c.args.payload.now) c.args.payload.now ∷ [])
+    (c.in-Ok.ensures.adds ∙ ap (with_records (kept_in g.C.Chronicle c.args.self.now)) (vector_alone s c.args.id c.args.pin c.args.start c.args.payload.now kind)) c.place.ensures.uses.device.trust (λ told. (refl, tt))

@@ -1,0 +1,46 @@
+-- Whether a piece was told as damaged, on a device that can be trusted.
+use Rattle.std.specs.Prelude.{◌≡◌, ◌≤◌, Bool, true, false, List}
+use Rattle.std.specs.List.{AllByRecursion, list_any}
+use Rattle.ats_disk.specs.Device.{IsTold, State as Device}
+use Rattle.ats_disk.specs.declared.device.Disk.{Ghosts as DiskGhosts}
+use Rattle.dir_table.specs.declared.directory.Directory.{Ghosts as DirectoryGhosts}
+use Rattle.cache_chronicle.specs.declared.chronicle.Chronicle.{Ghosts as ChronicleGhosts}
+use Rattle.cache_model.specs.declared.cause.Cause.{Cause}
+use Rattle.cache_model.specs.declared.cause.Cause.TheVariants as cause
+use Rattle.cache_model.specs.declared.record.Rec.{Rec}
+use Rattle.cache_model.specs.declared.record.Rec.TheVariants as rec
+use Rattle.cache_model.specs.State.{State}
+use Rattle.stripe_core.specs.declared.stripe.Stripe.{Stripe}
+use Rattle.stripe_core.specs.Stripe.{seen_in, state_in}
+
+-- the cause is that the bytes that were read are not those of the piece
+abbrev pub is_damage : Cause → Bool
+is_damage (cause.Damaged place kept found) = true
+is_damage _ = false
+
+-- the record tells a piece as damaged
+abbrev pub tells_damage : Rec → Bool
+tells_damage (rec.Damaged piece place kept found) = true
+tells_damage _ = false
+
+-- none of these records does
+abbrev pub TellNoDamage : List Rec → Type 0
+TellNoDamage recs = AllByRecursion (λ r. tells_damage r ≡ false) recs
+
+-- a piece was told as damaged
+abbrev pub has_damage : State → Bool
+has_damage s = list_any (λ lost. is_damage lost.1) s.lost
+
+-- where the device tells its content, no piece was told as damaged
+pub record IsUnharmed (device : Device) (s : State) : Type 0 where
+  pub unharmed : IsTold device → has_damage s ≡ false
+
+-- a device is trusted no more than before, and where it tells its content no more pieces are told as
+-- damaged
+pub record StayUnharmed (old_device new_device : Device) (s t : State) : Type 0 where
+  pub trust : new_device.trust ≤ old_device.trust
+  pub unharmed : IsUnharmed old_device s → IsUnharmed new_device t
+
+abbrev pub StaysUnharmed : {D R C : Type 0} → DiskGhosts D → DirectoryGhosts R → ChronicleGhosts C → (old new : Stripe D R C) → Type 0
+StaysUnharmed disk directory chronicle old new =
+    StayUnharmed (seen_in disk directory old).device (seen_in disk directory new).device (state_in chronicle old) (state_in chronicle new)
