@@ -21,7 +21,7 @@ use Rattle.stripe_core.proofs.Candidates.{live_is}
 use Rattle.stripe_core.proofs.Going.{own}
 use Rattle.stripe_vectors.proofs.Finding.{own_covers, own_permit}
 use Rattle.stripe_read.specs.declared.fetching.Unlike.{Unlike}
-use Rattle.stripe_read.specs.Fetches.{Fetches, IsCompared, IsFetched, IsListedAs, IsUnlike}
+use Rattle.stripe_read.specs.Fetches.{Fetches, IsCompared, IsFetched, IsListedAs, IsOtherDocument, IsUnlike}
 
 -- ---- how much was found
 
@@ -95,3 +95,23 @@ missing_by p s id (Some row) listed why into h = inl h
 pub missing : (s : State) (old new : Device) (id : PieceId) (listed : Option Digest) (why : Cause) (into : List ℕ)
     → Finds s old new id (found.Missing why) into → Fetches s old new id listed (found.Missing why) into
 missing s old new id listed why into f = record { reads = f.reads; seen = f.seen; answers = λ p covers. missing_by p s id (live_row_of s id) listed why into (f.answers p covers) }
+
+-- ---- the document that the device gave
+
+-- of a payload that is not the one that is listed
+pub unlike_document : (s : State) (old new : Device) (id : PieceId) (listed : Option Digest) (size : ℕ) (into : List ℕ) (u : Unlike)
+    → Finds s old new id (found.Found size) into → IsUnlike s id listed (take size into) u → IsOtherDocument s id listed
+unlike_document s old new id listed size into u f un =
+    let p : Permit = own_permit old.faults new.faults f.reads in
+    let h : IsDocumentOf p s un.row size into = subst (λ o. IsFoundAs p s id o (found.Found size) into) un.live (f.answers p (own_covers old.faults new.faults f.reads)) in
+    record {
+      row = un.row;
+      kept = u.kept;
+      bytes = h.bytes;
+      live = un.live;
+      written = un.written;
+      whole = h.whole;
+      digest = h.digest;
+      listed_is = un.listed_is;
+      differ = λ e. un.differ (e ∙ sym (un.found_is ∙ ap digest_of h.payload));
+    }

@@ -24,8 +24,8 @@ use Rattle.stripe_read.specs.declared.reader.Reader.{Reader}
 use Rattle.stripe_read.specs.declared.reading.NextPiece.{NextPiece}
 use Rattle.stripe_read.specs.declared.reading.NextPiece.TheVariants as piece
 use Rattle.stripe_read.specs.Readers.{IsReaderOf, as_row, row_by, rows_in}
-use Rattle.stripe_read.specs.Fetches.{Fetches, IsFetched, IsOther}
-use Rattle.stripe_read.specs.Nexts.{Gives, GoesOn, HasNext, IsFragment, ReadsOn, listed_in, listed_length, next_behind, noted, read_adds, trouble_with}
+use Rattle.stripe_read.specs.Fetches.{Fetches, IsFetched, IsOther, IsOtherDocument}
+use Rattle.stripe_read.specs.Nexts.{Gives, GoesOn, HasNext, IsFragment, IsOtherNext, ReadsOn, listed_in, listed_length, next_behind, noted, read_adds, trouble_with}
 use Rattle.stripe_read.proofs.Staying.{is_gave}
 
 -- ---- verdicts
@@ -142,15 +142,23 @@ module _ (p : Permit) (s : State) (r : Reader) (entry : TableRow) (why : Cause) 
 
 -- ---- what the device gave
 
+is_listed : (s : State) (r : Reader) (listed : Option Digest) (cut : ℕ) (digest : Digest) (has : HasNext s r cut digest) → listed ≡ listed_in r digest → listed ≡ listed_in r (digest_in has.row)
+is_listed s r listed cut digest has is = is ∙ ap (listed_in r) (sym has.digest_is)
+
+-- another document than the one that is listed was given for the fragment that it takes next
+pub other_next : (s : State) (r : Reader) (id : PieceId) (listed : Option Digest) (cut : ℕ) (digest : Digest) → HasNext s r cut digest → id ≡ next_piece (as_row r) → listed ≡ listed_in r digest → IsOtherDocument s id listed → IsOtherNext s r
+other_next s r id listed cut digest has id_is listed_is other = record {
+  entry = has.row;
+  cut = has.found;
+  other = subst (IsOtherDocument s (next_piece (as_row r))) (is_listed s r listed cut digest has listed_is) (subst (λ i. IsOtherDocument s i listed) id_is other);
+}
+
 module _ (s : State) (old new newer : Device) (r : Reader) (id : PieceId) (listed : Option Digest) (cut : ℕ) (digest : Digest) (into : List ℕ)
     (has : HasNext s r cut digest) (quiet : IsQuiet s) (id_is : id ≡ next_piece (as_row r)) (listed_is : listed ≡ listed_in r digest) (newer_is : newer ≡ new) where
-  is_listed : listed ≡ listed_in r (digest_in has.row)
-  is_listed = listed_is ∙ ap (listed_in r) (sym has.digest_is)
-
   fetched : (answer : Found) (f : Fetches s old new id listed answer into) (p : Permit) → Covers p old.faults newer.faults f.reads
       → IsFetched p s (next_piece (as_row r)) (live_row_of s (next_piece (as_row r))) (listed_in r (digest_in has.row)) answer into
   fetched answer f p covers =
-      subst (λ d. IsFetched p s (next_piece (as_row r)) (live_row_of s (next_piece (as_row r))) d answer into) is_listed
+      subst (λ d. IsFetched p s (next_piece (as_row r)) (live_row_of s (next_piece (as_row r))) d answer into) (is_listed s r listed cut digest has listed_is)
       (subst (λ i. IsFetched p s i (live_row_of s i) listed answer into) id_is
       (f.answers p (subst (λ (x : Device). Covers p old.faults x.faults f.reads) newer_is covers)))
 

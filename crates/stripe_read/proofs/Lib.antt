@@ -5,3 +5,4 @@ mod Giving
 mod Looking
 mod Beginning
 mod Choosing
+mod Harmless

@@ -1,5 +1,5 @@
 -- What is read of the fragment that a reader takes next.
-use Rattle.std.specs.Prelude.{ℕ, ◌≡◌, ◌≢◌, ◌⊎◌, List, take, Option, Some, None}
+use Rattle.std.specs.Prelude.{ℕ, ◌≡◌, ◌≢◌, ◌*◌, ◌⊎◌, List, length, take, Option, Some, None}
 use Rattle.tape_base.specs.declared.digests.Digest.{Digest}
 use Rattle.tape_base.specs.declared.pieces.PieceId.{PieceId}
 use Rattle.tape_base.specs.Digest.{digest_of}
@@ -57,6 +57,19 @@ abbrev pub IsFetched : Permit → State → PieceId → Option Row → Option Di
 IsFetched p s id None listed answer into = answer ≡ found.Missing (cause_of_piece s id)
 IsFetched p s id (Some row) listed (found.Found size) into = IsDocumentOf p s row size into × IsListedAs s row listed (take size into)
 IsFetched p s id (Some row) listed (found.Missing why) into = Trouble p s row (cause_records row why) why ⊎ IsOther p s row listed why
+
+-- the device gave the document of a live piece that was written out, whose payload is not the one that
+-- is listed
+pub record IsOtherDocument (s : State) (id : PieceId) (listed : Option Digest) : Type 0 where
+  pub row : Row
+  pub kept : Digest
+  pub bytes : List ℕ
+  pub live : live_row_of s id ≡ Some row
+  pub written : IsWritten s row
+  pub whole : length bytes ≡ 512 * row.blocks
+  pub digest : row.digest ≡ document_digest bytes
+  pub listed_is : listed ≡ Some kept
+  pub differ : kept ≢ digest_of (payload_of bytes)
 
 -- what the device gave, and what came of it in any step that covers the call
 pub record Fetches (s : State) (old new : Device) (id : PieceId) (listed : Option Digest) (answer : Found) (into : List ℕ) : Type 0 where

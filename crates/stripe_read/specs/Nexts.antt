@@ -16,7 +16,7 @@ use Rattle.stripe_read.specs.declared.reader.Reader.{Reader}
 use Rattle.stripe_read.specs.declared.reading.NextPiece.{NextPiece}
 use Rattle.stripe_read.specs.declared.reading.NextPiece.TheVariants as piece
 use Rattle.stripe_read.specs.Readers.{IsReaderOf, as_row}
-use Rattle.stripe_read.specs.Fetches.{IsListedAs}
+use Rattle.stripe_read.specs.Fetches.{IsListedAs, IsOtherDocument}
 
 -- the row of the fragment that it takes next has this length and this digest
 pub record HasNext (s : State) (r : Reader) (length : ℕ) (digest : Digest) : Type 0 where
@@ -77,6 +77,13 @@ pub record ReadsOn (s : State) (old new : Device) (r : Reader) (answer : NextPie
   pub seen : AreSeen s.geometry new reads
   pub does : (p : Permit) → Covers p old.faults new.faults reads → IsReaderOf s r → Does p s (ReadOn r.reader) (read_adds s r answer) Done
   pub gives : (p : Permit) → Covers p old.faults new.faults reads → Gives p s r answer into
+
+-- the device gave the document of the fragment that it takes next, whose payload is not the one that
+-- the reader's table lists
+pub record IsOtherNext (s : State) (r : Reader) : Type 0 where
+  pub entry : TableRow
+  pub cut : next_row s (as_row r) ≡ Some entry
+  pub other : IsOtherDocument s (next_piece (as_row r)) (listed_in r (digest_in entry))
 
 -- ---- where it is then
 

@@ -1,5 +1,5 @@
 // How the fragment that a reader takes next is read.
-ghost use Rattle.std.specs.Prelude.{◌≡◌, ◌+◌, ◌-◌, ◌*◌, ◌≤◌, IfOk, IfSome, OnErr, None, length, option_map, slice_get, take};
+ghost use Rattle.std.specs.Prelude.{◌≡◌, ◌+◌, ◌-◌, ◌*◌, ◌≤◌, ◌⊎◌, IfOk, IfSome, OnErr, None, length, option_map, slice_get, take};
 ghost use Rattle.tape_base.specs.Geometry.{budget_of};
 ghost use Rattle.cache_model.specs.Kept.{with_records};
 ghost use Rattle.cache_model.specs.Legal.{most_fragments};
@@ -7,8 +7,9 @@ ghost use Rattle.cache_model.specs.Verdict.{next_row};
 ghost use Rattle.open_directory.specs.Directory.{table_row};
 ghost use Rattle.stripe_core.specs.Find.{find_adds};
 ghost use Rattle.stripe_core.specs.Stripe.{IsStripe, kept_in, seen_in, state_in, units_in};
+ghost use Rattle.stripe_core.specs.Unharmed.{StaysUnharmed};
 ghost use Rattle.stripe_read.specs.Readers.{IsOpenReader, as_row};
-ghost use Rattle.stripe_read.specs.Fetches.{Fetches, IsAsListed, IsCompared, IsUnlike};
+ghost use Rattle.stripe_read.specs.Fetches.{Fetches, IsAsListed, IsCompared, IsOtherDocument, IsUnlike};
 
 use crate::Reader;
 use ats_disk::Disk;
@@ -76,6 +77,8 @@ pub(crate) fn fetch<D: Disk, R: Directory + Drop, C: Chronicle>(
     requires units { 2 ≤ units_in stripe.old }
     requires into { length into.old ≡ 512 * budget_of (state_in C.Chronicle stripe.old).geometry }
     ensures stripe { IsStripe D.Disk R.Directory C.Chronicle stripe.new }
+    ensures unharmed { StaysUnharmed D.Disk R.Directory C.Chronicle stripe.old stripe.new ⊎ IsOtherDocument (state_in C.Chronicle stripe.old) id listed }
+    ensures trust { (seen_in D.Disk R.Directory stripe.new).device.trust ≤ (seen_in D.Disk R.Directory stripe.old).device.trust }
     ensures adds { IfOk result (λ found. kept_in C.Chronicle stripe.new
         ≡ with_records (kept_in C.Chronicle stripe.old) (find_adds (state_in C.Chronicle stripe.old) id found)) }
     ensures fetches { IfOk result (λ found. Fetches (state_in C.Chronicle stripe.old) (seen_in D.Disk R.Directory stripe.old).device
@@ -102,6 +105,8 @@ fn compare<D: Disk, R: Directory + Drop, C: Chronicle>(
     requires unit { 1 ≤ units_in stripe.old }
     requires within { size ≤ length into.now }
     ensures stripe { IsStripe D.Disk R.Directory C.Chronicle stripe.new }
+    ensures unharmed { StaysUnharmed D.Disk R.Directory C.Chronicle stripe.old stripe.new
+        ⊎ ((u : Unlike) × IsUnlike (state_in C.Chronicle stripe.old) id listed (take size into.now) u) }
     ensures adds { kept_in C.Chronicle stripe.new ≡ with_records (kept_in C.Chronicle stripe.old) (find_adds (state_in C.Chronicle stripe.old) id result) }
     ensures compares { IsCompared (state_in C.Chronicle stripe.old) id listed size (take size into.now) result }
     ensures still { (seen_in D.Disk R.Directory stripe.new).device ≡ (seen_in D.Disk R.Directory stripe.old).device }

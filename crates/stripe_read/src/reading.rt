@@ -1,5 +1,5 @@
 // A reader is given the next fragment, or told why there is none.
-ghost use Rattle.std.specs.Prelude.{◌≡◌, ◌*◌, ◌≤◌, ℕ, List, Some, None, IfOk, OnErr, length};
+ghost use Rattle.std.specs.Prelude.{◌≡◌, ◌*◌, ◌≤◌, ◌⊎◌, ℕ, List, Some, None, IfOk, OnErr, length};
 ghost use Rattle.tape_base.specs.Geometry.{budget_of};
 ghost use Rattle.fragment_table.specs.Table.{TableRow};
 ghost use Rattle.cache_model.specs.Kept.{with_records};
@@ -7,8 +7,9 @@ ghost use Rattle.cache_model.specs.Legal.{IsQuiet, most_fragments};
 ghost use Rattle.cache_model.specs.Verdict.{next_piece, next_row, verdict_at_end};
 ghost use Rattle.open_directory.specs.Directory.{table_row};
 ghost use Rattle.stripe_core.specs.Stripe.{IsStripe, kept_in, seen_in, state_in, units_in};
+ghost use Rattle.stripe_core.specs.Unharmed.{StaysUnharmed};
 ghost use Rattle.stripe_read.specs.Readers.{IsOpenReader, IsReaderOf, as_row, rows_in};
-ghost use Rattle.stripe_read.specs.Nexts.{GoesOn, HasNext, ReadsOn, listed_in, noted, read_adds};
+ghost use Rattle.stripe_read.specs.Nexts.{GoesOn, HasNext, IsOtherNext, ReadsOn, listed_in, noted, read_adds};
 
 use crate::Reader;
 use crate::fetching::{fetch, next_row};
@@ -44,6 +45,8 @@ pub fn read_next<D: Disk, R: Directory + Drop, C: Chronicle>(
     requires reader { IsOpenReader (state_in C.Chronicle stripe.old) reader.old }
     requires into { length into.old ≡ 512 * budget_of (state_in C.Chronicle stripe.old).geometry }
     ensures stripe { IsStripe D.Disk R.Directory C.Chronicle stripe.new }
+    ensures unharmed { StaysUnharmed D.Disk R.Directory C.Chronicle stripe.old stripe.new ⊎ IsOtherNext (state_in C.Chronicle stripe.old) reader.old }
+    ensures trust { (seen_in D.Disk R.Directory stripe.new).device.trust ≤ (seen_in D.Disk R.Directory stripe.old).device.trust }
     ensures quiet { IsQuiet (state_in C.Chronicle stripe.new) }
     ensures adds { IfOk result (λ answer. kept_in C.Chronicle stripe.new
         ≡ with_records (kept_in C.Chronicle stripe.old) (read_adds (state_in C.Chronicle stripe.old) reader.old answer)) }
@@ -79,6 +82,8 @@ fn give<D: Disk, R: Directory + Drop, C: Chronicle>(
     requires few { reader.old.next ≤ most_fragments }
     requires into { length into.old ≡ 512 * budget_of (state_in C.Chronicle stripe.old).geometry }
     ensures stripe { IsStripe D.Disk R.Directory C.Chronicle stripe.new }
+    ensures unharmed { StaysUnharmed D.Disk R.Directory C.Chronicle stripe.old stripe.new ⊎ IsOtherNext (state_in C.Chronicle stripe.old) reader.old }
+    ensures trust { (seen_in D.Disk R.Directory stripe.new).device.trust ≤ (seen_in D.Disk R.Directory stripe.old).device.trust }
     ensures quiet { IsQuiet (state_in C.Chronicle stripe.new) }
     ensures adds { IfOk result (λ answer. kept_in C.Chronicle stripe.new
         ≡ with_records (kept_in C.Chronicle stripe.old) (read_adds (state_in C.Chronicle stripe.old) reader.old answer)) }
@@ -120,6 +125,7 @@ fn stop<D: Disk, R: Directory + Drop, C: Chronicle>(
     requires reader { IsOpenReader (state_in C.Chronicle stripe.old) reader.now }
     requires none { next_row (state_in C.Chronicle stripe.old) (as_row reader.now) ≡ None }
     ensures stripe { IsStripe D.Disk R.Directory C.Chronicle stripe.new }
+    ensures unharmed { StaysUnharmed D.Disk R.Directory C.Chronicle stripe.old stripe.new }
     ensures quiet { IsQuiet (state_in C.Chronicle stripe.new) }
     ensures adds { kept_in C.Chronicle stripe.new
         ≡ with_records (kept_in C.Chronicle stripe.old) (read_adds (state_in C.Chronicle stripe.old) reader.now result) }

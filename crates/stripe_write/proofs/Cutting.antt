@@ -15,10 +15,13 @@ use Rattle.cache_model.specs.State.{PutRow, State, after_all, change_put, cursor
 use Rattle.cache_model.specs.Kept.{Kept, state_of, with_records}
 use Rattle.cache_model.specs.Legal.{IsQuiet}
 use Rattle.cache_model.specs.Room.{has_room, placed_record}
+use Rattle.cache_model.specs.Verdict.{cuts_of}
 use Rattle.cache_model.proofs.Steps.{after_all-append}
 use Rattle.stripe_actors.proofs.Rows.{find-changed}
 use Rattle.stripe_core.specs.declared.refusal.Placed.{Placed}
-use Rattle.stripe_core.specs.Place.{FragmentAt, IsFragmentOf, IsPlacedAt, PlacesAt, fragment_adds, piece_records, place_adds, placing_adds, room_records, with_room}
+use Rattle.stripe_core.specs.declared.refusal.Refusal.{Refusal}
+use Rattle.stripe_core.specs.Place.{CutsAsAsked, FinishesAsAsked, FragmentAt, IsFragmentOf, IsPlacedAt, PlacesAsAsked, PlacesAt, fragment_adds, piece_records, place_adds, placing_adds, room_records, with_room}
+use Rattle.stripe_core.specs.Stripe.{Answers}
 use Rattle.stripe_write.specs.declared.writer.Writer.{Writer}
 use Rattle.stripe_write.proofs.Ended.{own_number}
 use Rattle.stripe_write.specs.Writers.{IsAllCut, IsAtHand, IsWriterOf}
@@ -137,27 +140,40 @@ cut_writer s t w new placed r is put key request response pin sealed gathered ro
 
 -- ---- what a placing says of the writer's fragment
 
-module _ (s : State) (kept new : Kept) (w : Writer) (n t : ℕ) (p : List ℕ) (placed : Placed) (faults : ℕ)
-    (n_is : n ≡ length w.table.rows) (t_is : t ≡ next_start w) (p_is : p ≡ w.gathered.items) where
+module _ (s : State) (w : Writer) (n t : ℕ) (p : List ℕ) (n_is : n ≡ length w.table.rows) (t_is : t ≡ next_start w) (p_is : p ≡ w.gathered.items) where
   abbrev id : PieceId
   id = record { first = w.key; put = w.put; index = n + 1 }
 
   id_is : id ≡ next_id w
   id_is = ap (λ k. let i : PieceId = record { first = w.key; put = w.put; index = k + 1 } in i) n_is
 
-  pub state_behind : state_of kept ≡ s → new ≡ with_records kept (placing_adds s id w.pin t p (Ok placed))
-      → state_of new ≡ after_all s (fragment_adds s (next_id w) w.pin (next_start w) w.gathered.items (Ok placed))
-  state_behind is h =
-      let there : new ≡ with_records kept (placing_adds s (next_id w) w.pin (next_start w) w.gathered.items (Ok placed)) =
-      h ∙ (ap (λ i. with_records kept (placing_adds s i w.pin t p (Ok placed))) id_is
-      ∙ (ap (λ x. with_records kept (placing_adds s (next_id w) w.pin x p (Ok placed))) t_is ∙ ap (λ x. with_records kept (placing_adds s (next_id w) w.pin (next_start w) x (Ok placed))) p_is)) in
-      let fragment : placing_adds s (next_id w) w.pin (next_start w) w.gathered.items (Ok placed) ≡ fragment_adds s (next_id w) w.pin (next_start w) w.gathered.items (Ok placed) =
-      ap (λ b. if b then place_adds s (next_id w) w.pin (next_start w) w.gathered.items (Ok placed) else fragment_adds s (next_id w) w.pin (next_start w) w.gathered.items (Ok placed)) (next_no_vector w) in
-      ap state_of there ∙ (after_all-append kept.base kept.since (placing_adds s (next_id w) w.pin (next_start w) w.gathered.items (Ok placed))
-      ∙ (ap (λ x. after_all x (placing_adds s (next_id w) w.pin (next_start w) w.gathered.items (Ok placed))) is ∙ ap (after_all s) fragment))
+  -- what is said of the piece that is placed is said of the next fragment
+  at_next : (F : PieceId → ℕ → List ℕ → Type 0) → F id t p → F (next_id w) (next_start w) w.gathered.items
+  at_next F h = subst (F (next_id w) (next_start w)) p_is (subst (λ x. F (next_id w) x p) t_is (subst (λ i. F i t p) id_is h))
 
-  pub digest_is : IsPlacedAt s faults id p (Ok placed) → placed.payload ≡ digest_of w.gathered.items
-  digest_is h =
+  pub kept_behind : (kept new : Kept) (placed : Placed) → new ≡ with_records kept (placing_adds s id w.pin t p (Ok placed))
+      → new ≡ with_records kept (fragment_adds s (next_id w) w.pin (next_start w) w.gathered.items (Ok placed))
+  kept_behind kept new placed h =
+      let there : new ≡ with_records kept (placing_adds s (next_id w) w.pin (next_start w) w.gathered.items (Ok placed)) =
+      at_next (λ i x q. new ≡ with_records kept (placing_adds s i w.pin x q (Ok placed))) h in
+      there ∙ ap (λ b. with_records kept (if b then place_adds s (next_id w) w.pin (next_start w) w.gathered.items (Ok placed) else fragment_adds s (next_id w) w.pin (next_start w) w.gathered.items (Ok placed))) (next_no_vector w)
+
+  pub state_behind : (kept new : Kept) (placed : Placed) → state_of kept ≡ s → new ≡ with_records kept (placing_adds s id w.pin t p (Ok placed))
+      → state_of new ≡ after_all s (fragment_adds s (next_id w) w.pin (next_start w) w.gathered.items (Ok placed))
+  state_behind kept new placed is h =
+      ap state_of (kept_behind kept new placed h) ∙ (after_all-append kept.base kept.since (fragment_adds s (next_id w) w.pin (next_start w) w.gathered.items (Ok placed))
+      ∙ ap (λ x. after_all x (fragment_adds s (next_id w) w.pin (next_start w) w.gathered.items (Ok placed))) is)
+
+  pub cuts_behind : (first faults : ℕ) (r : Result Placed Refusal) → Answers r (PlacesAsAsked s first faults id w.pin t p) (Unit {0})
+      → Answers r (CutsAsAsked s first faults (next_id w) w.pin (next_start w) w.gathered.items) (Unit {0})
+  cuts_behind first faults r h =
+      let there : Answers r (PlacesAsAsked s first faults (next_id w) w.pin (next_start w) w.gathered.items) (Unit {0}) =
+      at_next (λ i x q. Answers r (PlacesAsAsked s first faults i w.pin x q) (Unit {0})) h in
+      subst (λ b. Answers r (λ x. MatchBool b (FinishesAsAsked s first faults (next_id w) w.pin (next_start w) w.gathered.items (length (cuts_of s w.put)) x)
+      (CutsAsAsked s first faults (next_id w) w.pin (next_start w) w.gathered.items x)) (Unit {0})) (next_no_vector w) there
+
+  pub digest_is : (faults : ℕ) (placed : Placed) → IsPlacedAt s faults id p (Ok placed) → placed.payload ≡ digest_of w.gathered.items
+  digest_is faults placed h =
       let there : IsPlacedAt s faults (next_id w) p (Ok placed) = subst (λ i. IsPlacedAt s faults i p (Ok placed)) id_is h in
       let at : FragmentAt s faults p (Ok placed) = subst (λ b. MatchBool b (PlacesAt s p (Ok placed)) (FragmentAt s faults p (Ok placed))) (next_no_vector w) there in
       at.1 ∙ ap digest_of p_is

@@ -18,12 +18,13 @@ use Rattle.stripe_core.specs.declared.refusal.Placed.{Placed}
 use Rattle.stripe_core.specs.declared.refusal.Refusal.{Refusal}
 use Rattle.stripe_core.specs.declared.refusal.Refusal.TheVariants as refusal
 use Rattle.stripe_core.specs.declared.refusal.Stop.{Stop}
+use Rattle.stripe_core.specs.declared.refusal.Stop.TheVariants as stop
 use Rattle.stripe_core.specs.Covers.{Spends}
 use Rattle.stripe_core.specs.Place.{CutsAsAsked, fragment_adds, room_records}
 use Rattle.stripe_core.specs.Stripe.{Answers}
 use Rattle.stripe_write.specs.declared.writer.Writer.{Writer}
 use Rattle.stripe_write.specs.Writers.{IsAllCut, IsAtHand, IsWriterOf}
-use Rattle.stripe_write.specs.Writes.{IsCutting, IsReady, SameWriter, WritesAsAsked, WritesWhere, cut_adds, cuts_fragment, gathered_with, is_cut, left_of, next_id, next_start, write_adds}
+use Rattle.stripe_write.specs.Writes.{IsCutting, IsReady, SameWriter, WritesAsAsked, WritesWhere, cut_adds, cuts_fragment, gathered_with, is_cut, left_of, next_id, next_start, taken_of, write_adds}
 use Rattle.stripe_write.proofs.Ended.{open_put}
 
 -- ---- a writer that is as it was, or has gathered more
@@ -148,16 +149,39 @@ took_adds kept kept1 new w w' bytes n placed e same g cut h =
     ∙ (ap (λ p. with_records kept (fragment_adds (state_of kept) (next_id w) w.pin (next_start w) p (Ok placed))) g
     ∙ ap (λ b. with_records kept (if b then cut_adds (state_of kept) w (gathered_with w bytes n) else [])) (sym cut))))
 
+-- what was asked of the writer that has gathered was asked of the one that took the bytes
+asked_does : (kept kept1 : Kept) (before before1 after : ℕ) (w w' : Writer) (bytes : List ℕ) (n : ℕ) (r : Result Placed Stop) → kept1 ≡ kept → before1 ≡ before → SameButGathered w w' → w'.gathered.items ≡ gathered_with w bytes n
+    → CutsAsAsked (state_of kept1) before1 after (next_id w') w'.pin (next_start w') w'.gathered.items r → CutsAsAsked (state_of kept) before after (next_id w) w.pin (next_start w) (gathered_with w bytes n) r
+asked_does kept kept1 before before1 after w w' bytes n r e f same g h =
+    subst (λ q. CutsAsAsked (state_of kept) before after (next_id w) w.pin (next_start w) q r) g
+    (subst (λ m. CutsAsAsked (state_of kept) m after (next_id w) w.pin (next_start w) w'.gathered.items r) f
+    (subst (λ k. CutsAsAsked (state_of k) before1 after (next_id w) w.pin (next_start w) w'.gathered.items r) e
+    (same_cuts (state_of kept1) before1 after w w' r same h)))
+
 pub took_does : (kept kept1 : Kept) (before before1 after : ℕ) (w w' : Writer) (bytes : List ℕ) (n : ℕ) (placed : Placed) → kept1 ≡ kept → before1 ≡ before → SameButGathered w w' → w'.gathered.items ≡ gathered_with w bytes n
     → CutsAsAsked (state_of kept1) before1 after (next_id w') w'.pin (next_start w') w'.gathered.items (Ok placed) → WritesAsAsked (state_of kept) before after w bytes (Ok n)
 took_does kept kept1 before before1 after w w' bytes n placed e f same g h = λ cut p covers.
     let s : State = state_of kept in
     let mine : CutsAsAsked s before after (next_id w) w.pin (next_start w) (gathered_with w bytes n) (Ok placed) =
-    subst (λ q. CutsAsAsked s before after (next_id w) w.pin (next_start w) q (Ok placed)) g
-    (subst (λ m. CutsAsAsked s m after (next_id w) w.pin (next_start w) w'.gathered.items (Ok placed)) f
-    (subst (λ k. CutsAsAsked (state_of k) before1 after (next_id w) w.pin (next_start w) w'.gathered.items (Ok placed)) e
-    (same_cuts (state_of kept1) before1 after w w' (Ok placed) same h))) in
+    asked_does kept kept1 before before1 after w w' bytes n (Ok placed) e f same g h in
     subst (λ recs. Spends p s (cuts_fragment w (gathered_with w bytes n)) recs Done) (ap (λ b. if b then cut_adds s w (gathered_with w bytes n) else []) (sym cut)) (mine p covers)
+
+-- ---- a cut that was refused
+
+pub refused_does : (kept kept1 : Kept) (before before1 after : ℕ) (w w' : Writer) (bytes : List ℕ) (why : Refusal) → kept1 ≡ kept → before1 ≡ before → SameButGathered w w'
+    → w'.gathered.items ≡ gathered_with w bytes (taken_of (state_of kept).geometry w bytes)
+    → Answers {X = Placed} (Err why) (CutsAsAsked (state_of kept1) before1 after (next_id w') w'.pin (next_start w') w'.gathered.items) (Unit {0}) → WritesAsAsked (state_of kept) before after w bytes (Err why)
+refused_does kept kept1 before before1 after w w' bytes (refusal.DeviceFault count) e f same g h =
+    asked_does kept kept1 before before1 after w w' bytes (taken_of (state_of kept).geometry w bytes) (Err (stop.DeviceFault count)) e f same g h
+refused_does kept kept1 before before1 after w w' bytes (refusal.Exhausted number) e f same g h =
+    asked_does kept kept1 before before1 after w w' bytes (taken_of (state_of kept).geometry w bytes) (Err (stop.Exhausted number)) e f same g h
+refused_does kept kept1 before before1 after w w' bytes (refusal.Memory memory) e f same g h = tt
+refused_does kept kept1 before before1 after w w' bytes refusal.TooManyWriters e f same g h = absurd h
+refused_does kept kept1 before before1 after w w' bytes refusal.TooManyFragments e f same g h = absurd h
+refused_does kept kept1 before before1 after w w' bytes (refusal.VectorTooLarge size) e f same g h = absurd h
+refused_does kept kept1 before before1 after w w' bytes (refusal.Lost index cause) e f same g h = absurd h
+refused_does kept kept1 before before1 after w w' bytes refusal.Sealed e f same g h = absurd h
+refused_does kept kept1 before before1 after w w' bytes refusal.NoSuchWriter e f same g h = absurd h
 
 -- a cut is refused where the fragment has gathered
 pub refused_where : (s : State) (w : Writer) (bytes : List ℕ) (why : Refusal) (P : Result Placed Stop → Type 0) → Answers {X = Placed} (Err why) P (Unit {0}) → IsCutting s w bytes → WritesWhere s w bytes (Err why)

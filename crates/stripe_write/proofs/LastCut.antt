@@ -1,5 +1,5 @@
 -- The rest of a sealed writer is cut.
-use Rattle.std.proofs.Common.{◌≡◌, ℕ, ◌<◌, List, [], ◌∷◌, length, refl, sym, ◌∙◌, ap, arith, true, false, inl, inr, ◌⊎◌, ◌*◌, Ok}
+use Rattle.std.proofs.Common.{◌≡◌, ℕ, ◌<◌, List, [], ◌∷◌, length, refl, sym, ◌∙◌, ap, arith, true, false, inl, inr, ◌⊎◌, ◌*◌, Ok, Err}
 use Rattle.std.specs.Prelude.{option_map, unwrap_or}
 use Rattle.fragment_table.specs.Table.{total_length}
 use Rattle.cache_model.specs.State.{State, after_all, put_of}
@@ -9,10 +9,14 @@ use Rattle.cache_model.specs.Verdict.{is_open}
 use Rattle.cache_model.specs.Legal.{MayGrow, is_writing}
 use Rattle.cache_model.proofs.Steps.{after_all-append}
 use Rattle.stripe_core.specs.declared.refusal.Placed.{Placed}
-use Rattle.stripe_core.specs.Place.{fragment_adds}
+use Rattle.stripe_core.specs.declared.refusal.Refusal.{Refusal}
+use Rattle.stripe_core.specs.declared.refusal.Refusal.TheVariants as refusal
+use Rattle.stripe_core.specs.Covers.{Covers}
+use Rattle.stripe_core.specs.Place.{CutsAsAsked, fragment_adds}
+use Rattle.stripe_core.specs.Stripe.{Answers, HasMemory}
 use Rattle.stripe_write.specs.declared.writer.Writer.{Writer}
 use Rattle.stripe_write.specs.Closing.{SpendsAll, rest_intents}
-use Rattle.stripe_write.specs.Resting.{rest_records}
+use Rattle.stripe_write.specs.Resting.{rest_end, rest_records}
 use Rattle.stripe_write.specs.Writers.{IsAllCut, IsAtHand, IsWriterOf}
 use Rattle.stripe_write.specs.Writes.{IsReady, next_id, next_start}
 use Rattle.stripe_write.proofs.Cutting.{cut_row}
@@ -22,6 +26,21 @@ use Rattle.stripe_write.proofs.Ended.{open_put}
 pub rest_none : (p : Permit) (s : State) (w : Writer) (payload : List ℕ) → length payload ≡ 0 → SpendsAll p s (rest_intents w payload) (rest_records s w payload (Ok tt)) Done
 rest_none p s w [] e = λ rest why. MayGrow.nothing
 rest_none p s w (byte ∷ bytes) e = absurd (omega (arith, e))
+
+-- where the rest is refused, and memory is not wanting, what was asked of it fails
+pub rest_refused : (s : State) (before after : ℕ) (w : Writer) (payload : List ℕ) (why : Refusal) → 0 < length payload → HasMemory {X = Placed} (Err why)
+    → Answers {X = Placed} (Err why) (CutsAsAsked s before after (next_id w) w.pin (next_start w) payload) (Unit {0})
+    → Answers {X = Unit {0}} (Err why) (λ r. (p : Permit) → Covers p before after [] → SpendsAll p s (rest_intents w payload) (rest_records s w payload r) (rest_end r)) ⊥
+rest_refused s before after w [] why some memory h = absurd (omega (arith, some))
+rest_refused s before after w (byte ∷ bytes) (refusal.DeviceFault count) some memory h = h
+rest_refused s before after w (byte ∷ bytes) (refusal.Exhausted number) some memory h = h
+rest_refused s before after w (byte ∷ bytes) (refusal.Memory e) some memory h = memory
+rest_refused s before after w (byte ∷ bytes) refusal.TooManyWriters some memory h = h
+rest_refused s before after w (byte ∷ bytes) refusal.TooManyFragments some memory h = h
+rest_refused s before after w (byte ∷ bytes) (refusal.VectorTooLarge size) some memory h = h
+rest_refused s before after w (byte ∷ bytes) (refusal.Lost index cause) some memory h = h
+rest_refused s before after w (byte ∷ bytes) refusal.Sealed some memory h = h
+rest_refused s before after w (byte ∷ bytes) refusal.NoSuchWriter some memory h = h
 
 not_all_cut : (w : Writer) (P : Type 0) → 0 < length w.gathered.items → IsAllCut w ⊎ P → P
 not_all_cut w P some (inl all) = let none : length w.gathered.items ≡ 0 = ap length all.empty in absurd (omega (arith, some, none))

@@ -3,9 +3,11 @@ use Rattle.cache_model.specs.State.{live_row_of}
 use Rattle.cache_model.specs.Kept.{state_of, with_records}
 use Rattle.stripe_core.specs.Find.{Finds, find_adds}
 use Rattle.stripe_core.specs.Stripe.{kept_in, seen_in, state_in}
-use Rattle.stripe_read.specs.Fetches.{Fetches, IsCompared}
+use Rattle.stripe_read.specs.declared.fetching.Unlike.{Unlike}
+use Rattle.stripe_read.specs.Fetches.{Fetches, IsCompared, IsUnlike}
 use Rattle.stripe_read.proofs.Staying.{found_same}
-use Rattle.stripe_read.proofs.Comparing.{compared, found_size, missing}
+use Rattle.stripe_read.proofs.Comparing.{compared, found_size, missing, unlike_document}
+use Rattle.stripe_read.proofs.Harmless.{behind_unharmed}
 use Rattle.stripe_read.proofs.fetching.fetch.Goals as goal
 
 pub compare-requires-clause-within : goal.compare-requires-clause-within
@@ -33,3 +35,19 @@ returns-in-Missing-clause-fetches g c =
     let old = (seen_in g.D.Disk g.R.Directory c.args.stripe.now).device in
     let new = (seen_in g.D.Disk g.R.Directory c.find_piece.new.self).device in
     missing s old new c.args.id c.args.listed c.in-Missing.why c.find_piece.new.into (subst (λ f. Finds s old new c.args.id f c.find_piece.new.into) c.in-Missing.is c.in_ok-size.ensures.finds)
+
+pub returns-in-Found-clause-unharmed : goal.returns-in-Found-clause-unharmed
+returns-in-Found-clause-unharmed g c =
+    let s = state_in g.C.Chronicle c.args.stripe.now in
+    let found_state = state_in g.C.Chronicle c.find_piece.new.self in
+    let old = (seen_in g.D.Disk g.R.Directory c.args.stripe.now).device in
+    let new = (seen_in g.D.Disk g.R.Directory c.find_piece.new.self).device in
+    let into = c.find_piece.new.into in
+    let size = c.in-Found.size in
+    let same = found_same (kept_in g.C.Chronicle c.args.stripe.now) (kept_in g.C.Chronicle c.find_piece.new.self) (live_row_of s c.args.id) size
+    (subst (λ f. kept_in g.C.Chronicle c.find_piece.new.self ≡ with_records (kept_in g.C.Chronicle c.args.stripe.now) (find_adds s c.args.id f)) c.in-Found.is c.in_ok-size.ensures.adds) in
+    behind_unharmed old new (seen_in g.D.Disk g.R.Directory c.compare.new.stripe).device s found_state (state_in g.C.Chronicle c.compare.new.stripe)
+    (λ (x : (u : Unlike) × IsUnlike found_state c.args.id c.args.listed (take size into) u).
+    unlike_document s old new c.args.id c.args.listed size into x.0 (subst (λ f. Finds s old new c.args.id f into) c.in-Found.is c.in_ok-size.ensures.finds)
+    (subst (λ k. IsUnlike (state_of k) c.args.id c.args.listed (take size into) x.0) same x.1))
+    c.in_ok-size.ensures.unharmed c.compare.ensures.unharmed

@@ -2,7 +2,8 @@ use Rattle.std.proofs.Common.{subst, refl}
 use Rattle.cache_model.specs.State.{live_row_of}
 use Rattle.stripe_core.specs.Stripe.{kept_in, seen_in, state_in}
 use Rattle.stripe_read.specs.Fetches.{Fetches}
-use Rattle.stripe_read.proofs.Giving.{broken_reads, piece_reads}
+use Rattle.stripe_read.proofs.Giving.{broken_reads, other_next, piece_reads}
+use Rattle.stripe_read.proofs.Harmless.{unharmed_behind}
 use Rattle.stripe_read.proofs.Staying.{broken_behind, given_open, given_reader, leaves_open, leaves_reader}
 use Rattle.stripe_read.proofs.reading.give.Goals as goal
 
@@ -45,3 +46,19 @@ returns-in-Missing-clause-keeps g c = λ own.
     leaves_reader (state_in g.C.Chronicle c.args.stripe.now) (state_in g.C.Chronicle c.note-in-Missing.new.self) c.args.reader.now
     (broken_behind (kept_in g.C.Chronicle c.args.stripe.now) (kept_in g.C.Chronicle c.fetch.new.stripe) (kept_in g.C.Chronicle c.note-in-Missing.new.self) (live_row_of (state_in g.C.Chronicle c.args.stripe.now) c.next_piece.result) _
     c.args.reader.now.reader c.in-Missing.why c.in_ok-size.ensures.adds c.note-in-Missing.ensures.adds) own
+
+pub returns-in-Found-clause-unharmed : goal.returns-in-Found-clause-unharmed
+returns-in-Found-clause-unharmed g c =
+    let s = state_in g.C.Chronicle c.args.stripe.now in
+    unharmed_behind (seen_in g.D.Disk g.R.Directory c.args.stripe.now).device (seen_in g.D.Disk g.R.Directory c.fetch.new.stripe).device (seen_in g.D.Disk g.R.Directory c.note.new.self).device
+    s (state_in g.C.Chronicle c.fetch.new.stripe) (state_in g.C.Chronicle c.note.new.self)
+    (other_next s c.args.reader.now c.next_piece.result c.listed_digest-listed.result c.args.cut c.args.digest c.requires.next c.next_piece.ensures c.listed_digest-listed.ensures)
+    c.fetch.ensures.unharmed c.note.ensures.unharmed
+
+pub returns-in-Missing-clause-unharmed : goal.returns-in-Missing-clause-unharmed
+returns-in-Missing-clause-unharmed g c =
+    let s = state_in g.C.Chronicle c.args.stripe.now in
+    unharmed_behind (seen_in g.D.Disk g.R.Directory c.args.stripe.now).device (seen_in g.D.Disk g.R.Directory c.fetch.new.stripe).device (seen_in g.D.Disk g.R.Directory c.note-in-Missing.new.self).device
+    s (state_in g.C.Chronicle c.fetch.new.stripe) (state_in g.C.Chronicle c.note-in-Missing.new.self)
+    (other_next s c.args.reader.now c.next_piece.result c.listed_digest-listed.result c.args.cut c.args.digest c.requires.next c.next_piece.ensures c.listed_digest-listed.ensures)
+    c.fetch.ensures.unharmed c.note-in-Missing.ensures.unharmed

@@ -1,7 +1,9 @@
-use Rattle.std.proofs.Common.{ap}
+use Rattle.std.proofs.Common.{ap, subst}
 use Rattle.cache_model.specs.Kept.{state_of}
 use Rattle.stripe_core.specs.Stripe.{seen_in, state_in}
+use Rattle.stripe_read.specs.Nexts.{IsOtherNext}
 use Rattle.stripe_read.proofs.Giving.{given_prepared, reads_prepared}
+use Rattle.stripe_read.proofs.Harmless.{behind_unharmed}
 use Rattle.stripe_read.proofs.reading.read_next.Goals as goal
 
 pub returns-in-Some-clause-reads : goal.returns-in-Some-clause-reads
@@ -13,3 +15,12 @@ pub returns-in-None-clause-reads : goal.returns-in-None-clause-reads
 returns-in-None-clause-reads g c =
     reads_prepared (state_in g.C.Chronicle c.args.stripe.now) (state_in g.C.Chronicle c.prepare.new.self) (seen_in g.D.Disk g.R.Directory c.args.stripe.now).device (seen_in g.D.Disk g.R.Directory c.prepare.new.self).device
     (seen_in g.D.Disk g.R.Directory c.stop.new.stripe).device c.args.reader.now c.stop.result c.args.into.now (ap state_of c.prepare.ensures.records) c.prepare.ensures.still.faults (c.stop.ensures.reads c.args.into.now)
+
+pub returns-in-Some-clause-unharmed : goal.returns-in-Some-clause-unharmed
+returns-in-Some-clause-unharmed g c =
+    let s = state_in g.C.Chronicle c.args.stripe.now in
+    let prepared = state_in g.C.Chronicle c.prepare.new.self in
+    behind_unharmed (seen_in g.D.Disk g.R.Directory c.args.stripe.now).device (seen_in g.D.Disk g.R.Directory c.prepare.new.self).device (seen_in g.D.Disk g.R.Directory c.give.new.stripe).device
+    s prepared (state_in g.C.Chronicle c.give.new.stripe)
+    (λ (x : IsOtherNext prepared c.args.reader.now). subst (λ t. IsOtherNext t c.args.reader.now) (ap state_of c.prepare.ensures.records) x)
+    c.prepare.ensures.unharmed c.give.ensures.unharmed

@@ -1,9 +1,9 @@
 use Rattle.std.proofs.Common.{◌≡◌, ◌<◌, length, sym, subst, arith}
-use Rattle.stripe_core.specs.Stripe.{kept_in, state_in}
+use Rattle.stripe_core.specs.Stripe.{kept_in, seen_in, state_in}
 use Rattle.stripe_write.specs.Writers.{IsWriterOf}
 use Rattle.stripe_write.specs.Writes.{IsReady, next_id, next_start}
 use Rattle.stripe_write.proofs.Gathering.{failed_puts, still_writer}
-use Rattle.stripe_write.proofs.LastCut.{cut_open, rest_none, rest_ready}
+use Rattle.stripe_write.proofs.LastCut.{cut_open, rest_none, rest_ready, rest_refused}
 use Rattle.stripe_write.proofs.resting.cut_rest.Goals as goal
 
 pub returns-then-is_empty-clause-does : goal.returns-then-is_empty-clause-does
@@ -29,3 +29,10 @@ returns-in-Err-clause-writer g c =
     subst (IsWriterOf (state_in g.C.Chronicle c.cut.new.stripe)) (sym c.in-Err.ensures.same)
     (still_writer (state_in g.C.Chronicle c.args.stripe.now) (state_in g.C.Chronicle c.cut.new.stripe) w
     (failed_puts (kept_in g.C.Chronicle c.args.stripe.now) (kept_in g.C.Chronicle c.cut.new.stripe) (next_id w) w.pin (next_start w) w.gathered.items c.in-Err.refusal c.in-Err.ensures.adds) c.requires.writer)
+
+pub returns-in-Err-clause-does : goal.returns-in-Err-clause-does
+returns-in-Err-clause-does g c =
+    let w = c.args.writer.now in
+    let some : 0 < length w.gathered.items = grind (arith, c.is_empty.ensures, c.if-is_empty.false) in
+    rest_refused (state_in g.C.Chronicle c.args.stripe.now) (seen_in g.D.Disk g.R.Directory c.args.stripe.now).device.faults (seen_in g.D.Disk g.R.Directory c.cut.new.stripe).device.faults w w.gathered.items
+    c.in-Err.refusal some (c.in-Err.ensures.memory c.requires.unit c.requires.row) c.in-Err.ensures.does

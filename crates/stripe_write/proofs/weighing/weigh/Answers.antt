@@ -29,6 +29,10 @@ fit-requires-clause-open g c =
     still_writing (state_in g.C.Chronicle c.args.stripe.now) (state_in g.C.Chronicle c.read_vector.new.stripe) c.args.writer.now.put
     (same_puts (kept_in g.C.Chronicle c.args.stripe.now) (kept_in g.C.Chronicle c.read_vector.new.stripe) c.args.writer.now.key c.in_ok-found.found c.in_ok-found.ensures.adds) c.requires.open
 
+pub fit-requires-clause-quiet : goal.fit-requires-clause-quiet
+fit-requires-clause-quiet g c =
+    same_pending (kept_in g.C.Chronicle c.args.stripe.now) (kept_in g.C.Chronicle c.read_vector.new.stripe) c.args.writer.now.key c.in_ok-found.found c.in_ok-found.ensures.adds ∙ c.requires.quiet
+
 pub returns-in-Some-clause-does : goal.returns-in-Some-clause-does
 returns-in-Some-clause-does g c =
     faults (kept_in g.C.Chronicle c.args.stripe.now) (kept_in g.C.Chronicle c.read_vector.new.stripe) (seen_in g.D.Disk g.R.Directory c.args.stripe.now).device

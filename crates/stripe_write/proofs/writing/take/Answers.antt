@@ -4,9 +4,9 @@ use Rattle.cache_model.specs.Legal.{is_writing}
 use Rattle.stripe_core.specs.Stripe.{kept_in, seen_in, state_in}
 use Rattle.stripe_write.specs.Writers.{IsWriterOf}
 use Rattle.stripe_write.specs.declared.writer.Writer.{Writer}
-use Rattle.stripe_write.specs.Writes.{next_id, next_start, taken_of}
+use Rattle.stripe_write.specs.Writes.{gathered_with, next_id, next_start, taken_of}
 use Rattle.tape_base.specs.declared.geometries.Geometry.{Geometry}
-use Rattle.stripe_write.proofs.Gathering.{cut_now, few_gathered, gathered_length, is_ready, left_cut, more_writer, same_writer, took_adds, took_does, SameButGathered, back, failed_puts, still_writer, refused_where, taken_back}
+use Rattle.stripe_write.proofs.Gathering.{cut_now, few_gathered, gathered_length, is_ready, left_cut, more_writer, same_writer, took_adds, took_does, SameButGathered, back, failed_puts, still_writer, refused_does, refused_where, taken_back}
 use Rattle.stripe_write.proofs.writing.take.Goals as goal
 
 pub overflow_sub-room : goal.overflow_sub-room
@@ -125,3 +125,15 @@ returns-in-Err-clause-writes g c =
       few = c.requires.few;
       full = cut_now s.geometry w (taken_of s.geometry w c.args.bytes.now) (omega (arith, few, fragment, c.len-before.ensures, c.min-taken.ensures, c.if-taken-room.false));
     })
+
+pub returns-in-Err-clause-does : goal.returns-in-Err-clause-does
+returns-in-Err-clause-does g c =
+    let s = state_in g.C.Chronicle c.args.stripe.now in
+    let w = c.args.writer.now in
+    let held : Writer = record { put = w.put; key = w.key; request = w.request; response = w.response; pin = w.pin; gathered = c.extend_from_slice.new.self; table = c.reserve.new.self; sealed = w.sealed } in
+    let fragment = ap (λ (x : Geometry). x.fragment) c.geometry.ensures in
+    let taken : c.min-taken.result ≡ taken_of s.geometry w c.args.bytes.now = omega (arith, fragment, c.len-before.ensures, c.min-taken.ensures) in
+    refused_does (kept_in g.C.Chronicle c.args.stripe.now) (kept_in g.C.Chronicle c.prepare.new.self) (seen_in g.D.Disk g.R.Directory c.args.stripe.now).device.faults (seen_in g.D.Disk g.R.Directory c.prepare.new.self).device.faults
+    (seen_in g.D.Disk g.R.Directory c.cut.new.stripe).device.faults w held c.args.bytes.now c.in-Err.refusal c.prepare.ensures.records c.prepare.ensures.still.faults
+    (record { put = refl; key = refl; request = refl; response = refl; pin = refl; rows = c.reserve.ensures.rows; sealed = refl })
+    (c.in_ok-extend_from_slice.ensures.items ∙ ap (gathered_with w c.args.bytes.now) taken) c.in-Err.ensures.does
