@@ -66,7 +66,7 @@ module _ {D R C : Type 0} (disk : DiskGhosts D) (directory : DirectoryGhosts R) 
       let devices = same_devices run m.turn run.state step needs in
       record {
         moves = m;
-        counts = [];
+        harms = [];
         ended = devices.ended ∙ sym (append-nil run.ended);
         names = [];
         named = devices.names ∙ sym (append-nil run.names);

@@ -1,6 +1,6 @@
 -- What a format makes of a session and its bay.
 use Rattle.std.proofs.Common.{◌≡◌, ℕ, List, [], ◌∷◌, ◌++◌, refl, sym, ◌∙◌, ap, subst, arith}
-use Rattle.std.specs.Prelude.{Option, Some, None}
+use Rattle.std.specs.Prelude.{Some, None}
 use Rattle.std.proofs.lemmas.List.{append-nil, append_assoc}
 use Rattle.tape_base.specs.declared.geometries.Geometry.{Geometry}
 use Rattle.tape_base.specs.declared.geometries.BadGeometry.{BadGeometry}
@@ -15,36 +15,27 @@ use Rattle.cache_model.specs.Legal.{format_records}
 use Rattle.script_lang.specs.declared.step.Step.TheVariants as step
 use Rattle.script_lang.specs.declared.answer.Refused.TheVariants as refused
 use Rattle.script_lang.specs.declared.answer.StepAnswer.TheVariants as answer
-use Rattle.script_run.specs.Run.{Run}
+use Rattle.script_run.specs.Run.{Harm, Run, no_harm}
 use Rattle.script_run.specs.Turn.{Turn, no_turn}
 use Rattle.script_run.specs.Answers.{format_said, number_of_bad}
-use Rattle.script_run.specs.Behind.{after_format, fault_of, formatted}
+use Rattle.script_run.specs.Behind.{after_format, harm_of, formatted}
 use Rattle.script_run.specs.Takes.{FormatTakes}
 use Rattle.cache_replay.specs.declared.session.Session.{Session}
-use Rattle.cache_replay.specs.declared.session.Part.{Part}
-use Rattle.cache_replay.specs.declared.session.Holding.{Holding}
-use Rattle.cache_replay.specs.Session.{IsAt, IsSession, return_of, slots_in}
-use Rattle.cache_replay.specs.Plays.{AreReached, Deals, DeviceMoves, HasReached, Ledger, Plays, PlaysAt}
+use Rattle.cache_replay.specs.Session.{IsSession, return_of}
+use Rattle.cache_replay.specs.Plays.{AreReached, Deals, DeviceMoves, Ledger, Plays}
 use Rattle.cache_replay.proofs.Dispatch.{no_deals}
+use Rattle.cache_replay.proofs.Unharming.{plays_reached}
 
--- ---- counts
+-- ---- what was told of devices
 
 -- one device more, of which nothing was told
-pub reach_more : (counts : List ℕ) (devices : List Return) (d : Return) → AreReached counts devices → AreReached (counts ++ 0 ∷ []) (devices ++ d ∷ [])
-reach_more [] [] d h = (omega arith, tt)
+pub reach_more : (harms : List Harm) (devices : List Return) (d : Return) → AreReached harms devices → AreReached (harms ++ no_harm ∷ []) (devices ++ d ∷ [])
+reach_more [] [] d h = (record { counted = omega arith; unharmed = λ trusted. refl }, tt)
 reach_more [] (x ∷ devices) d h = absurd h
-reach_more (count ∷ counts) [] d h = absurd h
-reach_more (count ∷ counts) (x ∷ devices) d h = (h.0, reach_more counts devices d h.1)
+reach_more (harm ∷ harms) [] d h = absurd h
+reach_more (harm ∷ harms) (x ∷ devices) d h = (h.0, reach_more harms devices d h.1)
 
 module _ {D R C : Type 0} (disk : DiskGhosts D) (directory : DirectoryGhosts R) (chronicle : ChronicleGhosts C) where
-  reached_at : (run : Run) (part : Option (Part D R C)) (slots : ℕ → Option Holding) → IsAt disk directory chronicle part slots → PlaysAt disk directory chronicle run part slots
-      → AreReached (fault_of run.state) (return_of disk directory chronicle part)
-  reached_at run None slots h plays = subst (λ o. AreReached (fault_of o) []) (sym plays.state) tt
-  reached_at run (Some part) slots h plays = subst (λ o. AreReached (fault_of o) (return_of disk directory chronicle (Some part))) (sym plays.state) (h.part.stripe.pieces.faults, tt)
-
-  pub plays_reached : (run : Run) (session : Session D R C) → IsSession disk directory chronicle session → Plays disk directory chronicle run session → HasReached disk directory chronicle run session
-  plays_reached run session h plays = reached_at run session.part (slots_in session) h plays.at
-
   -- ---- formats
 
   -- numbers that are refused change nothing
@@ -58,7 +49,7 @@ module _ {D R C : Type 0} (disk : DiskGhosts D) (directory : DirectoryGhosts R) 
       plays = subst (λ o. Plays disk directory chronicle (after_format run name [] o) session) (sym is) plays;
       says = ap (format_said []) is ∙ ap (λ n. answer.Refused (refused.Geometry n) None) (sym numbered);
     };
-    counts = [];
+    harms = [];
     ended = ap (λ o. (after_format run name [] o).ended) is ∙ sym (append-nil run.ended);
     names = [];
     named = ap (λ o. (after_format run name [] o).names) is ∙ sym (append-nil run.names);
@@ -71,7 +62,7 @@ module _ {D R C : Type 0} (disk : DiskGhosts D) (directory : DirectoryGhosts R) 
   -- a session begins with the geometry of its line
   pub format_done : (run : Run) (name : List ℕ) (segments buckets content agg reach fragment generation : ℕ) (g : Geometry) (floor : ℕ) (new : Session D R C) (before now : Ledger)
       → first_refusal segments buckets content agg reach fragment ≡ None → floor ≡ floor_of g g.content → HasNumbers g segments buckets content agg reach fragment generation
-      → Plays disk directory chronicle (formatted run name (format_records g)) new → Deals before now (fault_of run.state) (name ∷ [])
+      → Plays disk directory chronicle (formatted run name (format_records g)) new → Deals before now (harm_of run.state) (name ∷ [])
       → DeviceMoves disk directory chronicle run (step.Format name segments buckets content agg reach fragment generation) new (answer.Formatted 1 g.content floor) before now
   format_done run name segments buckets content agg reach fragment generation g floor new before now is floored numbers plays deals = record {
     moves = record {
@@ -80,7 +71,7 @@ module _ {D R C : Type 0} (disk : DiskGhosts D) (directory : DirectoryGhosts R) 
       plays = subst (λ o. Plays disk directory chronicle (after_format run name (format_records g) o) new) (sym is) plays;
       says = ap (format_said (format_records g)) is ∙ ap (λ n. answer.Formatted 1 g.content n) (sym floored);
     };
-    counts = fault_of run.state;
+    harms = harm_of run.state;
     ended = ap (λ o. (after_format run name (format_records g) o).ended) is;
     names = name ∷ [];
     named = ap (λ o. (after_format run name (format_records g) o).names) is;
@@ -90,12 +81,12 @@ module _ {D R C : Type 0} (disk : DiskGhosts D) (directory : DirectoryGhosts R) 
   -- a device that was attached in vain came back behind that of the session
   pub format_left : (run : Run) (session : Session D R C) (name : List ℕ) (r0 r1 r2 r3 : List Return) (n0 n1 n2 n3 : List (List ℕ)) (d : Return)
       → IsSession disk directory chronicle session → Plays disk directory chronicle run session → r1 ≡ r0 → r2 ≡ r1 ++ return_of disk directory chronicle session.part → r3 ≡ r2 ++ d ∷ []
-      → n1 ≡ n0 ++ name ∷ [] → n2 ≡ n1 → n3 ≡ n2 → Deals (record { names = n0; returned = r0 }) (record { names = n3; returned = r3 }) (fault_of run.state ++ 0 ∷ []) (name ∷ [])
+      → n1 ≡ n0 ++ name ∷ [] → n2 ≡ n1 → n3 ≡ n2 → Deals (record { names = n0; returned = r0 }) (record { names = n3; returned = r3 }) (harm_of run.state ++ no_harm ∷ []) (name ∷ [])
   format_left run session name r0 r1 r2 r3 n0 n1 n2 n3 d h plays one two three four five six = record {
     back = record {
       devices = return_of disk directory chronicle session.part ++ d ∷ [];
       returned = three ∙ (ap (λ r. r ++ d ∷ []) (two ∙ ap (λ r. r ++ return_of disk directory chronicle session.part) one) ∙ append_assoc r0 (return_of disk directory chronicle session.part) (d ∷ []));
-      reached = reach_more (fault_of run.state) (return_of disk directory chronicle session.part) d (plays_reached run session h plays);
+      reached = reach_more (harm_of run.state) (return_of disk directory chronicle session.part) d (plays_reached disk directory chronicle run session h plays);
     };
     attached = six ∙ (five ∙ four);
   }

@@ -1,3 +1,4 @@
+mod Unharming
 mod Frames
 mod Dispatch
 mod Plain
@@ -6,6 +7,9 @@ mod OnSession
 mod Formats
 pub mod ReaderFrames
 pub mod ReaderLines
+mod OtherNext
+mod ReaderSessions
+mod WriterSessions
 mod DoneLine
 mod NextLine
 mod OpenLine

@@ -1,5 +1,5 @@
 -- An actor reads on.
-use Rattle.std.proofs.Common.{◌≡◌, ℕ, ◌≤◌, List, [], ◌∷◌, ◌++◌, length, take, refl, sym, ◌∙◌, ap, subst, false, inl, inr, arith}
+use Rattle.std.proofs.Common.{◌≡◌, ℕ, ◌≤◌, List, [], ◌∷◌, ◌++◌, length, take, refl, sym, ◌∙◌, ap, subst, false, ◌⊎◌, inl, inr, arith}
 use Rattle.std.specs.Prelude.{Option, Some, None, IfOk, Result, Ok, Err, if◌then◌else◌, ◌==◌, is_some, option_and_then, min}
 use Rattle.std.proofs.lemmas.List.{length-take}
 use Rattle.ats_disk.specs.Device.{State as Device}
@@ -154,6 +154,13 @@ if_then P Q (Ok x) f h = f x h
 if_then P Q (Err e) f h = h
 
 module _ {D R C : Type 0} (disk : DiskGhosts D) (directory : DirectoryGhosts R) (chronicle : ChronicleGhosts C) where
+  -- what is asked is that of the actor's reader
+  next_asks : (run : Run) (part : Part D R C) (before : Seen Holding) (name : List ℕ) (n : ℕ) (r : Reader) → n ≡ number_of before.names name → slots_of before n ≡ Some (holding.Reader r)
+      → PlaysPart disk directory chronicle run part before → asks.asked run (state_in chronicle part.stripe) (step.Next name) ≡ ReadOn r.reader ∷ []
+  next_asks run part before name n r number had plays =
+      let by = held_reader disk directory chronicle run part before name n r number had plays in
+      ap (λ (o : Option ℕ). asks.if_has o (λ reader. ReadOn reader ∷ [])) (ap (option_and_then reader_in) by.0)
+
   pub next_line_ends : (tell : GroupsTell) (own : StepsOwn) (old new : Part D R C) (before after : Seen Holding) (name : List ℕ) (n : ℕ) (r later : Reader) (said : StepAnswer)
       → n ≡ number_of before.names name → after.names ≡ with_actor before.names name → slots_of before n ≡ Some (holding.Reader r)
       → later.reader ≡ r.reader → Goes r.reader (state_in chronicle old.stripe) (state_in chronicle new.stripe) (slots_of before) (slots_of after) n (Some later)
@@ -164,7 +171,7 @@ module _ {D R C : Type 0} (disk : DiskGhosts D) (directory : DirectoryGhosts R) 
       let s : State = state_in chronicle old.stripe in
       let by = held_reader disk directory chronicle run old before name n r number had plays in
       let reads : reader_by run name ≡ Some r.reader = ap (option_and_then reader_in) by.0 in
-      let asked_is : asks.asked run s (step.Next name) ≡ ReadOn r.reader ∷ [] = ap (λ (o : Option ℕ). asks.if_has o (λ reader. ReadOn reader ∷ [])) reads in
+      let asked_is : asks.asked run s (step.Next name) ≡ ReadOn r.reader ∷ [] = next_asks run old before name n r number had plays in
       elim (ends run plays.inside.own by.1) [
         | inl m ↦ inl (line_moves disk directory chronicle tell own run old new before after (step.Next name) name n (ReadOn r.reader) m.device m.added m.given r.reader (Some later) said
             (record {
@@ -183,6 +190,14 @@ module _ {D R C : Type 0} (disk : DiskGhosts D) (directory : DirectoryGhosts R) 
             (ap (λ (o : Option ℕ). says.if_has o (λ reader. says.next_said m.given (told_in m.added))) reads ∙ m.says))
         | inr shown ↦ inr (subst (Shows run s) (sym asked_is) shown)
       ]
+
+  -- more pieces are told as damaged only where two documents of one SHA-256 are shown
+  pub next_line_harms : {X : Type 0} (part : Part D R C) (before : Seen Holding) (name : List ℕ) (n : ℕ) (r : Reader) → n ≡ number_of before.names name → slots_of before n ≡ Some (holding.Reader r)
+      → ((run : Run) → AreOwn (state_in chronicle part.stripe) run.streams → IsReaderOf (state_in chronicle part.stripe) r → X ⊎ Shows run (state_in chronicle part.stripe) (ReadOn r.reader ∷ []))
+      → (run : Run) → PlaysPart disk directory chronicle run part before → X ⊎ Shows run (state_in chronicle part.stripe) (asks.asked run (state_in chronicle part.stripe) (step.Next name))
+  next_line_harms {X} part before name n r number had harms run plays =
+      let by = held_reader disk directory chronicle run part before name n r number had plays in
+      subst (λ is. X ⊎ Shows run (state_in chronicle part.stripe) is) (sym (next_asks run part before name n r number had plays)) (harms run plays.inside.own by.1)
 
   -- an actor without a reader
   pub next_idle : (part : Part D R C) (before after : Seen Holding) (name : List ℕ) (n : ℕ) (said : StepAnswer) → said ≡ says.idle

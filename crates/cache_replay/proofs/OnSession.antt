@@ -9,13 +9,14 @@ use Rattle.cache_model.specs.State.{State, after_all}
 use Rattle.cache_model.specs.Legal.{IsQuiet, is_writing}
 use Rattle.cache_model.specs.Vectors.{AreTold, StepsTell}
 use Rattle.stripe_core.specs.Stripe.{seen_in, state_in}
+use Rattle.stripe_core.specs.Unharmed.{StaysUnharmed}
 use Rattle.script_lang.specs.declared.step.Step.{Step}
 use Rattle.script_lang.specs.declared.step.Step.TheVariants as step
 use Rattle.script_lang.specs.declared.answer.StepAnswer.{StepAnswer}
 use Rattle.script_run.specs.Run.{Run, put_in}
 use Rattle.script_run.specs.Turn.{Turn}
 use Rattle.script_run.specs.Answers.{session_said, step_said}
-use Rattle.script_run.specs.Behind.{behind, fault_of, streams_behind}
+use Rattle.script_run.specs.Behind.{behind, harm_of, streams_behind}
 use Rattle.script_run.specs.Own.{AreOwn, AreWriting}
 use Rattle.script_run.specs.Takes.{SessionTakes, Takes}
 use Rattle.script_run.specs.Laws.{StepsOwn}
@@ -29,6 +30,7 @@ use Rattle.cache_replay.specs.Plays.{AreReached, IsHeldAs, Plays, PlaysAt, Plays
 use Rattle.cache_replay.specs.Plain.{Plainly}
 use Rattle.cache_replay.proofs.Frames.{some_is}
 use Rattle.cache_replay.proofs.Plain.{none_else, still_held, still_plays}
+use Rattle.cache_replay.proofs.Unharming.{part_reached, session_unharmed, unharmed_in}
 
 -- ---- each put that an actor writes is open
 
@@ -84,20 +86,15 @@ module _ {D R C : Type 0} (disk : DiskGhosts D) (directory : DirectoryGhosts R) 
       let a = active session old is h in
       record { part = part; held = still_held None None (state_in chronicle old.stripe) (state_in chronicle new.stripe) (slots_in session) leaves (none_else (slots_in session)) a.held; apart = a.apart }
 
-  -- behind a call that lowers no count the device has counted so far
-  pub reached : (run : Run) (old new : Part D R C) → run.state ≡ Some (state_in chronicle old.stripe) → IsPart disk directory chronicle old
-      → (seen_in disk directory old.stripe).device.faults ≤ (seen_in disk directory new.stripe).device.faults → AreReached (fault_of run.state) (return_of disk directory chronicle (Some new))
-  reached run old new state h later = subst (λ o. AreReached (fault_of o) (return_of disk directory chronicle (Some new))) (sym state) (omega (arith, h.stripe.pieces.faults, later), tt)
-
   -- what a removal or a flush is for a session
   pub line_plays : (tell : StepsTell) (owns : StepsOwn) (run : Run) (session new : Session D R C) (old part : Part D R C) (turn : Turn) (step : Step) → session.part ≡ Some old
       → new.part ≡ Some part → names_in new ≡ names_in session → ((n : ℕ) → slots_in new n ≡ slots_in session n)
-      → LeavesBut None None (state_in chronicle old.stripe) (state_in chronicle part.stripe) → IsSession disk directory chronicle session → Plays disk directory chronicle run session
+      → LeavesBut None None (state_in chronicle old.stripe) (state_in chronicle part.stripe) → StaysUnharmed disk directory chronicle old.stripe part.stripe → IsSession disk directory chronicle session → Plays disk directory chronicle run session
       → (takes : SessionTakes run (state_in chronicle old.stripe) turn step) → after_all (state_in chronicle old.stripe) turn.added ≡ state_in chronicle part.stripe
       → (later : Run) → later.actors ≡ run.actors → later.streams ≡ run.streams → later.held ≡ run.held → later.state ≡ Some (after_all (state_in chronicle old.stripe) turn.added)
       → streams_behind run (state_in chronicle old.stripe) (after_all (state_in chronicle old.stripe) turn.added) turn step ≡ run.streams
       → Plays disk directory chronicle later new
-  line_plays tell owns run session new old part turn step is now names slots leaves h plays takes behind later actors streams held state same =
+  line_plays tell owns run session new old part turn step is now names slots leaves stays h plays takes behind later actors streams held state same =
       let s : State = state_in chronicle old.stripe in
       let t : State = state_in chronicle part.stripe in
       let a = active session old is h in
@@ -113,6 +110,7 @@ module _ {D R C : Type 0} (disk : DiskGhosts D) (directory : DirectoryGhosts R) 
           own = here.own;
           held = λ n. subst (IsHeldAs later t n) (sym (slots n)) (here.held n);
         });
+        unharmed = session_unharmed disk directory chronicle session new old part is now stays plays.unharmed;
       }
 
 -- ---- lines that are one call and have no actor
@@ -152,27 +150,28 @@ flush_plain = record {
 module _ {D R C : Type 0} (disk : DiskGhosts D) (directory : DirectoryGhosts R) (chronicle : ChronicleGhosts C) where
   plain_ends : (tell : StepsTell) (owns : StepsOwn) (session new : Session D R C) (old part : Part D R C) (step : Step) (said : StepAnswer) → IsPlain step → session.part ≡ Some old → new.part ≡ Some part
       → names_in new ≡ names_in session → ((n : ℕ) → slots_in new n ≡ slots_in session n) → LeavesBut None None (state_in chronicle old.stripe) (state_in chronicle part.stripe)
-      → IsSession disk directory chronicle session → ((run : Run) → Plainly run step (state_in chronicle old.stripe) (state_in chronicle part.stripe) said)
+      → StaysUnharmed disk directory chronicle old.stripe part.stripe → IsSession disk directory chronicle session → ((run : Run) → Plainly run step (state_in chronicle old.stripe) (state_in chronicle part.stripe) said)
       → (run : Run) → Plays disk directory chronicle run session → StepEnds disk directory chronicle run step new said
-  plain_ends tell owns session new old part step said plain is now names slots leaves h ends run plays =
+  plain_ends tell owns session new old part step said plain is now names slots leaves stays h ends run plays =
       let s : State = state_in chronicle old.stripe in
       let e = ends run in
       let p = playing disk directory chronicle run session old is plays in
       inl (moves disk directory chronicle run s e.turn step new said p.state (plain.takes run s e.turn e.takes)
       (plain.says run s e.turn ∙ (ap (λ u. session_said run s u e.turn step) e.behind ∙ e.says))
-      (line_plays disk directory chronicle tell owns run session new old part e.turn step is now names slots leaves h plays e.takes e.behind (behind run e.turn (Some s) step)
+      (line_plays disk directory chronicle tell owns run session new old part e.turn step is now names slots leaves stays h plays e.takes e.behind (behind run e.turn (Some s) step)
       (plain.actors run s e.turn) (plain.streams run s e.turn) (plain.held run s e.turn) (plain.state run s e.turn) (plain.same run s (after_all s e.turn.added) e.turn)))
 
   pub line_ends : (tell : StepsTell) (owns : StepsOwn) (session new : Session D R C) (old part : Part D R C) (step : Step) (result : Result StepAnswer Stop) → IsPlain step → session.part ≡ Some old → new.part ≡ Some part
       → names_in new ≡ names_in session → ((n : ℕ) → slots_in new n ≡ slots_in session n) → LeavesBut None None (state_in chronicle old.stripe) (state_in chronicle part.stripe)
-      → IsSession disk directory chronicle session → IfOk result (λ said. (run : Run) → Plainly run step (state_in chronicle old.stripe) (state_in chronicle part.stripe) said)
+      → StaysUnharmed disk directory chronicle old.stripe part.stripe → IsSession disk directory chronicle session → IfOk result (λ said. (run : Run) → Plainly run step (state_in chronicle old.stripe) (state_in chronicle part.stripe) said)
       → IfOk result (λ said. (run : Run) → Plays disk directory chronicle run session → StepEnds disk directory chronicle run step new said)
-  line_ends tell owns session new old part step (Ok said) plain is now names slots leaves h ends = plain_ends tell owns session new old part step said plain is now names slots leaves h ends
-  line_ends tell owns session new old part step (Err why) plain is now names slots leaves h ends = tt
+  line_ends tell owns session new old part step (Ok said) plain is now names slots leaves stays h ends = plain_ends tell owns session new old part step said plain is now names slots leaves stays h ends
+  line_ends tell owns session new old part step (Err why) plain is now names slots leaves stays h ends = tt
 
   pub line_reached : (session : Session D R C) (old part : Part D R C) (result : Result StepAnswer Stop) → session.part ≡ Some old → IsSession disk directory chronicle session
-      → (seen_in disk directory old.stripe).device.faults ≤ (seen_in disk directory part.stripe).device.faults
-      → OnErr result ((run : Run) → Plays disk directory chronicle run session → AreReached (fault_of run.state) (return_of disk directory chronicle (Some part)))
-  line_reached session old part (Ok said) is h later = tt
-  line_reached session old part (Err why) is h later = λ run plays.
-      reached disk directory chronicle run old part (playing disk directory chronicle run session old is plays).state (active disk directory chronicle session old is h).part later
+      → (seen_in disk directory old.stripe).device.faults ≤ (seen_in disk directory part.stripe).device.faults → StaysUnharmed disk directory chronicle old.stripe part.stripe
+      → OnErr result ((run : Run) → Plays disk directory chronicle run session → AreReached (harm_of run.state) (return_of disk directory chronicle (Some part)))
+  line_reached session old part (Ok said) is h later stays = tt
+  line_reached session old part (Err why) is h later stays = λ run plays.
+      let a = active disk directory chronicle session old is h in
+      part_reached disk directory chronicle run old part (playing disk directory chronicle run session old is plays).state (omega (arith, a.part.stripe.pieces.faults, later)) stays.trust (unharmed_in disk directory chronicle session old is plays.unharmed)

@@ -14,6 +14,7 @@ use Rattle.cache_model.specs.Vectors.{AreTold, StepsTell}
 use Rattle.stripe_core.specs.declared.refusal.Refusal.{Refusal}
 use Rattle.stripe_core.specs.declared.refusal.Refusal.TheVariants as refusal
 use Rattle.stripe_core.specs.Stripe.{state_in}
+use Rattle.stripe_core.specs.Unharmed.{StaysUnharmed}
 use Rattle.stripe_write.specs.declared.finishing.Receipt.{Receipt}
 use Rattle.script_lang.specs.declared.step.Step.TheVariants as step
 use Rattle.script_lang.specs.declared.answer.StepAnswer.{StepAnswer}
@@ -35,6 +36,7 @@ use Rattle.cache_replay.proofs.Frames.{some_is, state_behind}
 use Rattle.cache_replay.proofs.Lines.{free_of, next_is_free}
 use Rattle.cache_replay.proofs.OnSession.{active, moves, own_behind, playing, told_behind}
 use Rattle.cache_replay.proofs.Plain.{AllElse, still_held, still_plays}
+use Rattle.cache_replay.proofs.Unharming.{session_unharmed}
 use Rattle.cache_replay.proofs.WholeReads.{call_covered, call_permit}
 
 -- ---- what a put is for a cache
@@ -111,9 +113,9 @@ module _ {D R C : Type 0} (disk : DiskGhosts D) (directory : DirectoryGhosts R) 
 
   put_moves : (tell : StepsTell) (owns : StepsOwn) (session new : Session D R C) (old part : Part D R C) (key : Key) (body : List ℕ) (request response : List Field) (said : StepAnswer) → session.part ≡ Some old → new.part ≡ Some part
       → names_in new ≡ names_in session → slots_in new ≡ slots_in session → LeavesBut (Some (state_in chronicle old.stripe).next_put) None (state_in chronicle old.stripe) (state_in chronicle part.stripe)
-      → IsSession disk directory chronicle session → ((run : Run) → AreTold (state_in chronicle old.stripe) → Ends run (state_in chronicle old.stripe) (state_in chronicle part.stripe) key body request response said)
+      → StaysUnharmed disk directory chronicle old.stripe part.stripe → IsSession disk directory chronicle session → ((run : Run) → AreTold (state_in chronicle old.stripe) → Ends run (state_in chronicle old.stripe) (state_in chronicle part.stripe) key body request response said)
       → (run : Run) → Plays disk directory chronicle run session → StepEnds disk directory chronicle run (step.Put key body request response) new said
-  put_moves tell owns session new old part key body request response said is now names slots leaves h ends run plays =
+  put_moves tell owns session new old part key body request response said is now names slots leaves stays h ends run plays =
       let s : State = state_in chronicle old.stripe in
       let p = playing disk directory chronicle run session old is plays in
       elim (ends run p.told) [
@@ -123,13 +125,14 @@ module _ {D R C : Type 0} (disk : DiskGhosts D) (directory : DirectoryGhosts R) 
               names = plays.names ∙ sym names;
               at = subst (λ o. PlaysAt disk directory chronicle later o (slots_in new)) (sym now)
                   (subst (PlaysIn later (state_in chronicle part.stripe)) (sym slots) (put_plays tell owns run session old part key body request response said is leaves h plays x));
+              unharmed = session_unharmed disk directory chronicle session new old part is now stays plays.unharmed;
             }))
         | inr shows ↦ inr (subst (λ o. StepShows run o (step.Put key body request response)) (sym p.state) shows)
       ]
 
   pub put_ends : (tell : StepsTell) (owns : StepsOwn) (session new : Session D R C) (old part : Part D R C) (key : Key) (body : List ℕ) (request response : List Field) (result : Result StepAnswer Stop) → session.part ≡ Some old → new.part ≡ Some part
       → names_in new ≡ names_in session → slots_in new ≡ slots_in session → LeavesBut (Some (state_in chronicle old.stripe).next_put) None (state_in chronicle old.stripe) (state_in chronicle part.stripe)
-      → IsSession disk directory chronicle session → IfOk result (λ said. (run : Run) → AreTold (state_in chronicle old.stripe) → Ends run (state_in chronicle old.stripe) (state_in chronicle part.stripe) key body request response said)
+      → StaysUnharmed disk directory chronicle old.stripe part.stripe → IsSession disk directory chronicle session → IfOk result (λ said. (run : Run) → AreTold (state_in chronicle old.stripe) → Ends run (state_in chronicle old.stripe) (state_in chronicle part.stripe) key body request response said)
       → IfOk result (λ said. (run : Run) → Plays disk directory chronicle run session → StepEnds disk directory chronicle run (step.Put key body request response) new said)
-  put_ends tell owns session new old part key body request response (Ok said) is now names slots leaves h ends = put_moves tell owns session new old part key body request response said is now names slots leaves h ends
-  put_ends tell owns session new old part key body request response (Err why) is now names slots leaves h ends = tt
+  put_ends tell owns session new old part key body request response (Ok said) is now names slots leaves stays h ends = put_moves tell owns session new old part key body request response said is now names slots leaves stays h ends
+  put_ends tell owns session new old part key body request response (Err why) is now names slots leaves stays h ends = tt

@@ -1,5 +1,5 @@
 -- The line of a whole read.
-use Rattle.std.proofs.Common.{◌≡◌, ℕ, ◌+◌, ◌-◌, ◌*◌, ◌≤◌, min, take, drop, length, length-append, length-drop, length-take, List, [], ◌∷◌, ◌++◌, refl, sym, ◌∙◌, ap, subst, Bool, true, false, inl, inr, arith}
+use Rattle.std.proofs.Common.{◌≡◌, ℕ, ◌+◌, ◌-◌, ◌*◌, ◌≤◌, min, take, drop, length, length-append, length-drop, length-take, List, [], ◌∷◌, ◌++◌, refl, sym, ◌∙◌, ap, subst, Bool, true, false, ◌⊎◌, inl, inr, arith}
 use Rattle.std.specs.Prelude.{Option, Some, None, IfSome, if◌then◌else◌}
 use Rattle.std.specs.List.{AllByRecursion, filter}
 use Rattle.ats_disk.specs.declared.device.Disk.{Ghosts as DiskGhosts}
@@ -18,28 +18,29 @@ use Rattle.cache_model.proofs.Found.{none_is}
 use Rattle.cache_model.proofs.Steps.{after_all-append}
 use Rattle.std.specs.Vec.{with_items}
 use Rattle.stripe_core.specs.declared.stripe.Stripe.{Stripe}
-use Rattle.stripe_core.specs.Stripe.{IsStripe, seen_in, state_in}
+use Rattle.stripe_core.specs.Stripe.{IsStripe, state_in}
+use Rattle.stripe_core.specs.Unharmed.{StaysUnharmed}
 use Rattle.stripe_read.specs.Readers.{IsOpenReader}
 use Rattle.script_lang.specs.declared.step.Step.TheVariants as step
 use Rattle.script_lang.specs.declared.answer.StepAnswer.{StepAnswer}
 use Rattle.script_run.specs.Run.{Run, Stream}
 use Rattle.script_run.specs.Asked.{get_intents}
 use Rattle.script_run.specs.Turn.{Turn}
-use Rattle.script_run.specs.Answers.{step_said}
-use Rattle.script_run.specs.Behind.{behind, fault_of, in_session}
+use Rattle.script_run.specs.Behind.{in_session}
 use Rattle.script_run.specs.Laws.{ReadsOwn, is_reading}
 use Rattle.script_run.specs.Own.{AreOwn}
-use Rattle.script_run.specs.Takes.{StepShows, Takes}
+use Rattle.script_run.specs.Takes.{Shows, StepShows}
 use Rattle.cache_replay.specs.declared.session.Session.{Session}
 use Rattle.cache_replay.specs.declared.session.Part.{Part}
 use Rattle.cache_replay.specs.declared.session.Holding.{Holding}
 use Rattle.cache_replay.specs.declared.session.Holding.TheVariants as holding
 use Rattle.cache_replay.specs.declared.getting.Got.{Got}
-use Rattle.cache_replay.specs.Session.{AreHeld, IsActive, IsAt, IsHeld, IsPart, IsSession, LeavesBut, names_in, return_of, slots_in}
-use Rattle.cache_replay.specs.Plays.{AreReached, HasReached, IsHeldAs, Plays, PlaysAt, PlaysIn, StepEnds}
+use Rattle.cache_replay.specs.Session.{AreHeld, IsActive, IsAt, IsHeld, IsPart, IsSession, LeavesBut, names_in, slots_in}
+use Rattle.cache_replay.specs.Plays.{IsHeldAs, Plays, PlaysIn, StepEnds}
 use Rattle.cache_replay.specs.Getting.{Gets, GetsAsAsked, LineEnds, given_in, got_answer}
 use Rattle.cache_replay.proofs.Frames.{IsElse, held_as_stays, held_stays}
 use Rattle.cache_replay.proofs.WholeReads.{call_covered, call_permit, state_behind}
+use Rattle.cache_replay.proofs.ReaderSessions.{get_on, line_moved, line_shows, part_plays}
 
 -- ---- what stands belongs to what writers took behind the whole read
 
@@ -163,45 +164,29 @@ module _ {D R C : Type 0} (disk : DiskGhosts D) (directory : DirectoryGhosts R) 
   pub active_of : (session : Session D R C) (part : Part D R C) → session.part ≡ Some part → IsSession disk directory chronicle session → IsActive disk directory chronicle part (slots_in session)
   active_of session part is h = subst (λ o. IsAt disk directory chronicle o (slots_in session)) is h
 
-  plays_of : (run : Run) (session : Session D R C) (part : Part D R C) → session.part ≡ Some part → Plays disk directory chronicle run session → PlaysIn run (state_in chronicle part.stripe) (slots_in session)
-  plays_of run session part is plays = subst (λ o. PlaysAt disk directory chronicle run o (slots_in session)) is plays.at
-
   pub session_ends : (run : Run) (old new : Session D R C) (part part2 : Part D R C) (key : Key) (request : List Field) (said : StepAnswer) → old.part ≡ Some part → new.part ≡ Some part2 → names_in new ≡ names_in old
       → ((m : ℕ) → slots_in new m ≡ slots_in old m) → Plays disk directory chronicle run old → IsActive disk directory chronicle part (slots_in old)
+      → ((run : Run) → AreTold (state_in chronicle part.stripe) → AreOwn (state_in chronicle part.stripe) run.streams
+      → StaysUnharmed disk directory chronicle part.stripe part2.stripe ⊎ Shows run (state_in chronicle part.stripe) (get_intents (state_in chronicle part.stripe) key request))
       → ((slots : ℕ → Option Holding) → AreHeld (state_in chronicle part.stripe) slots → PlaysIn run (state_in chronicle part.stripe) slots → LineEnds run (state_in chronicle part.stripe) (state_in chronicle part2.stripe) key request slots said)
       → StepEnds disk directory chronicle run (step.Get key request) new said
-  session_ends run old new part part2 key request said was is names slots plays active ends =
-      let inside : PlaysIn run (state_in chronicle part.stripe) (slots_in old) = plays_of run old part was plays in
-      elim (ends (slots_in old) active.held inside) [
-        | inl m ↦ inl (record {
-          turn = m.turn;
-          takes = subst (λ st. Takes run m.turn st (step.Get key request)) (sym inside.state) m.takes;
-          plays = subst (λ st. Plays disk directory chronicle (behind run m.turn st (step.Get key request)) new) (sym inside.state)
+  session_ends run old new part part2 key request said was is names slots plays active harms ends =
+      let s : State = state_in chronicle part.stripe in
+      let there = part_plays disk directory chronicle run old part was plays in
+      let shows : Shows run s (get_intents s key request) → StepShows run run.state (step.Get key request) = λ shown. line_shows disk directory chronicle run old part (step.Get key request) was plays shown in
+      elim (harms run there.inside.told there.inside.own) [
+        | inr shown ↦ inr (shows shown)
+        | inl stays ↦ elim (ends (slots_in old) active.held there.inside) [
+          | inr shown ↦ inr (shows shown)
+          | inl m ↦ inl (line_moved disk directory chronicle run old new part part2 (step.Get key request) said m.turn (get_on key request) was is plays stays m.takes
               (record {
                 names = plays.names ∙ sym names;
-                at = subst (λ o. PlaysAt disk directory chronicle (in_session run (state_in chronicle part.stripe) (after_all (state_in chronicle part.stripe) m.turn.added) m.turn (step.Get key request)) o (slots_in new)) (sym is)
-                    (record { state = m.plays.state; told = m.plays.told; own = m.plays.own; held = λ n. subst (IsHeldAs (in_session run (state_in chronicle part.stripe) (after_all (state_in chronicle part.stripe) m.turn.added) m.turn (step.Get key request)) (state_in chronicle part2.stripe) n) (sym (slots n)) (m.plays.held n) });
-              });
-          says = subst (λ st. step_said run m.turn st (step.Get key request) ≡ said) (sym inside.state) m.says;
-        })
-        | inr shows ↦ inr (subst (λ st. StepShows run st (step.Get key request)) (sym inside.state) shows)
+                inside = record {
+                  state = m.plays.state;
+                  told = m.plays.told;
+                  own = m.plays.own;
+                  held = λ n. subst (IsHeldAs (in_session run s (after_all s m.turn.added) m.turn (step.Get key request)) (state_in chronicle part2.stripe) n) (sym (slots n)) (m.plays.held n);
+                };
+              }) m.says)
+        ]
       ]
-
-  -- its device has counted as far as was told
-  pub session_reached : (run : Run) (old new : Session D R C) (part part2 : Part D R C) → old.part ≡ Some part → new.part ≡ Some part2 → Plays disk directory chronicle run old
-      → (state_in chronicle part.stripe).fault ≤ (seen_in disk directory part.stripe).device.faults
-      → (seen_in disk directory part.stripe).device.faults ≤ (seen_in disk directory part2.stripe).device.faults → HasReached disk directory chronicle run new
-  session_reached run old new part part2 was is plays told rises =
-      let inside : PlaysIn run (state_in chronicle part.stripe) (slots_in old) = plays_of run old part was plays in
-      subst (λ st. AreReached (fault_of st) (return_of disk directory chronicle new.part)) (sym inside.state)
-      (subst (λ o. AreReached ((state_in chronicle part.stripe).fault ∷ []) (return_of disk directory chronicle o)) (sym is) (omega (arith, told, rises), tt))
-
-  pub none_reached : (run : Run) (old new : Session D R C) → old.part ≡ None → new.part ≡ None → Plays disk directory chronicle run old → HasReached disk directory chronicle run new
-  none_reached run old new was is plays =
-      let inside : PlaysAt disk directory chronicle run None (slots_in old) = subst (λ o. PlaysAt disk directory chronicle run o (slots_in old)) was plays.at in
-      subst (λ st. AreReached (fault_of st) (return_of disk directory chronicle new.part)) (sym inside.state) (subst (λ o. AreReached [] (return_of disk directory chronicle o)) (sym is) tt)
-
-  pub none_plays : (run : Run) (old : Session D R C) → old.part ≡ None → Plays disk directory chronicle run old → run.state ≡ None
-  none_plays run old was plays =
-      let inside : PlaysAt disk directory chronicle run None (slots_in old) = subst (λ o. PlaysAt disk directory chronicle run o (slots_in old)) was plays.at in
-      inside.state

@@ -1,5 +1,5 @@
 -- What a session is for the run that it serves, and what a line makes of it.
-use Rattle.std.specs.Prelude.{ℕ, ◌≡◌, ◌≤◌, ◌⊎◌, List, [], ◌∷◌, ◌++◌, length, drop, Option, Some, None}
+use Rattle.std.specs.Prelude.{ℕ, ◌≡◌, ◌≤◌, ◌⊎◌, false, List, [], ◌∷◌, ◌++◌, length, drop, Option, Some, None}
 use Rattle.ats_disk.specs.Bay.{Return}
 use Rattle.ats_disk.specs.declared.bay.Bay.{Ghosts as BayGhosts}
 use Rattle.ats_disk.specs.declared.device.Disk.{Ghosts as DiskGhosts}
@@ -8,15 +8,16 @@ use Rattle.cache_chronicle.specs.declared.chronicle.Chronicle.{Ghosts as Chronic
 use Rattle.fragment_table.specs.Table.{total_length}
 use Rattle.cache_model.specs.State.{State}
 use Rattle.cache_model.specs.Vectors.{AreTold}
-use Rattle.stripe_core.specs.Stripe.{state_in}
+use Rattle.stripe_core.specs.Stripe.{seen_in, state_in}
+use Rattle.stripe_core.specs.Unharmed.{IsUnharmed}
 use Rattle.stripe_write.specs.declared.writer.Writer.{Writer}
 use Rattle.stripe_read.specs.Readers.{IsReaderOf}
 use Rattle.script_lang.specs.declared.step.Step.{Step}
 use Rattle.script_lang.specs.declared.answer.StepAnswer.{StepAnswer}
-use Rattle.script_run.specs.Run.{Run, Stream, Writes, Reads}
+use Rattle.script_run.specs.Run.{Harm, Run, Stream, Writes, Reads, no_harm}
 use Rattle.script_run.specs.Turn.{Turn}
 use Rattle.script_run.specs.Answers.{step_answer}
-use Rattle.script_run.specs.Behind.{after_step, fault_of}
+use Rattle.script_run.specs.Behind.{after_step, harm_of}
 use Rattle.script_run.specs.Own.{AreOwn}
 use Rattle.script_run.specs.Takes.{StepShows, StepTakes}
 use Rattle.cache_replay.specs.declared.session.Session.{Session}
@@ -52,28 +53,40 @@ pub record PlaysNone (run : Run) : Type 0 where
   pub state : run.state ≡ None
   pub held : (n : ℕ) → run.held n ≡ None
 
--- no count that was told of a device is above the one with which it comes back
-abbrev pub AreReached : List ℕ → List Return → Type 0
+-- what was told of a device that came back: no count above its own, and where it told its content to
+-- the end, no damage
+pub record IsReached (harm : Harm) (device : Return) : Type 0 where
+  pub counted : harm.fault ≤ device.faults
+  pub unharmed : 1 ≤ device.trust → harm.damaged ≡ false
+
+-- so it is of each
+abbrev pub AreReached : List Harm → List Return → Type 0
 AreReached [] [] = Unit {0}
 AreReached [] (device ∷ devices) = ⊥
-AreReached (count ∷ counts) [] = ⊥
-AreReached (count ∷ counts) (device ∷ devices) = (count ≤ device.faults) × AreReached counts devices
+AreReached (harm ∷ harms) [] = ⊥
+AreReached (harm ∷ harms) (device ∷ devices) = IsReached harm device × AreReached harms devices
 
 module _ {D R C : Type 0} (disk : DiskGhosts D) (directory : DirectoryGhosts R) (chronicle : ChronicleGhosts C) where
   abbrev pub PlaysAt : Run → Option (Part D R C) → (ℕ → Option Holding) → Type 0
   PlaysAt run None slots = PlaysNone run
   PlaysAt run (Some part) slots = PlaysIn run (state_in chronicle part.stripe) slots
 
+  abbrev pub IsUnharmedAt : Option (Part D R C) → Type 0
+  IsUnharmedAt None = Unit {0}
+  IsUnharmedAt (Some part) = IsUnharmed (seen_in disk directory part.stripe).device (state_in chronicle part.stripe)
+
   -- a session as the run has it, as long as no two documents of one SHA-256 were shown
   pub record Plays (run : Run) (session : Session D R C) : Type 0 where
     pub names : run.actors ≡ names_in session
     pub at : PlaysAt run session.part (slots_in session)
+    -- of a device that tells its content no piece was told as damaged
+    pub unharmed : IsUnharmedAt session.part
 
-  -- its device has counted as far as was told
+  -- its device is as it was told
   abbrev pub HasReached : Run → Session D R C → Type 0
-  HasReached run session = AreReached (fault_of run.state) (return_of disk directory chronicle session.part)
+  HasReached run session = AreReached (harm_of run.state) (return_of disk directory chronicle session.part)
 
-  -- a session as the run has it has a device that counted so far
+  -- a session as the run has it has a device that is as it was told
   abbrev pub PlaysReach : Type 0
   PlaysReach = (run : Run) (session : Session D R C) → IsSession disk directory chronicle session → Plays run session → HasReached run session
 
@@ -92,11 +105,11 @@ module _ {D R C : Type 0} (disk : DiskGhosts D) (directory : DirectoryGhosts R) 
 
 -- ---- devices
 
--- devices came back, with counts that none of these exceeds
-pub record ComeBack (old new : List Return) (counts : List ℕ) : Type 0 where
+-- devices came back, of which this was told
+pub record ComeBack (old new : List Return) (harms : List Harm) : Type 0 where
   pub devices : List Return
   pub returned : new ≡ old ++ devices
-  pub reached : AreReached counts devices
+  pub reached : AreReached harms devices
 
 -- what a bay tells: the names of the devices that were attached, and the devices that came back
 pub record Ledger : Type 0 where
@@ -106,26 +119,26 @@ pub record Ledger : Type 0 where
 abbrev pub ledger_of : {B D : Type 0} → BayGhosts B D → B → Ledger
 ledger_of bay b = record { names = bay.names b; returned = bay.returned b }
 
--- devices came back, with counts that none of these exceeds, and these are the names of those that were attached
-pub record Deals (old new : Ledger) (counts : List ℕ) (names : List (List ℕ)) : Type 0 where
-  pub back : ComeBack old.returned new.returned counts
+-- devices came back, of which this was told, and these are the names of those that were attached
+pub record Deals (old new : Ledger) (harms : List Harm) (names : List (List ℕ)) : Type 0 where
+  pub back : ComeBack old.returned new.returned harms
   pub attached : new.names ≡ old.names ++ names
 
 -- A step did what it must, this is its answer, the devices of what it ended came back, and its own was attached.
 pub record DeviceMoves {D R C : Type 0} (disk : DiskGhosts D) (directory : DirectoryGhosts R) (chronicle : ChronicleGhosts C) (run : Run) (step : Step) (new : Session D R C) (said : StepAnswer) (before now : Ledger) : Type 0 where
   pub moves : StepMoves disk directory chronicle run step new said
-  pub counts : List ℕ
-  pub ended : (after_step run moves.turn step).ended ≡ run.ended ++ counts
+  pub harms : List Harm
+  pub ended : (after_step run moves.turn step).ended ≡ run.ended ++ harms
   pub names : List (List ℕ)
   pub named : (after_step run moves.turn step).names ≡ run.names ++ names
-  pub deals : Deals before now counts names
+  pub deals : Deals before now harms names
 
 -- What a line leaves that ended the run for this reason: the session's device and the bay as they were; or, of a format
 -- that wanted memory once its device was attached, both devices came back, that of the session first, and there is no
 -- session.
 pub data IsLeft {D R C : Type 0} (disk : DiskGhosts D) (directory : DirectoryGhosts R) (chronicle : ChronicleGhosts C) (run : Run) (new : Session D R C) (before now : Ledger) (why : Stop) : Type 0 where
   stays : HasReached disk directory chronicle run new → now ≡ before → IsLeft disk directory chronicle run new before now why
-  ended : (name : List ℕ) → new.part ≡ None → Deals before now (fault_of run.state ++ 0 ∷ []) (name ∷ []) → why ≡ Memory → IsLeft disk directory chronicle run new before now why
+  ended : (name : List ℕ) → new.part ≡ None → Deals before now (harm_of run.state ++ no_harm ∷ []) (name ∷ []) → why ≡ Memory → IsLeft disk directory chronicle run new before now why
 
 abbrev pub DeviceEnds : {D R C : Type 0} → DiskGhosts D → DirectoryGhosts R → ChronicleGhosts C → Run → Step → Session D R C → StepAnswer → (before now : Ledger) → Type 0
 DeviceEnds disk directory chronicle run step new said before now =

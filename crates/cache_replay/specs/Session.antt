@@ -1,7 +1,7 @@
 -- What holds of a session between lines, whatever its device gave.
 use Rattle.std.specs.Prelude.{ℕ, ◌≡◌, ◌*◌, ⊤, true, List, [], ◌∷◌, length, Option, Some, None, IfSome}
 use Rattle.tape_base.specs.Geometry.{budget_of}
-use Rattle.ats_disk.specs.Bay.{Return, return_with}
+use Rattle.ats_disk.specs.Bay.{Return, return_of_device}
 use Rattle.ats_disk.specs.declared.device.Disk.{Ghosts as DiskGhosts}
 use Rattle.dir_table.specs.declared.directory.Directory.{Ghosts as DirectoryGhosts}
 use Rattle.cache_chronicle.specs.declared.chronicle.Chronicle.{Ghosts as ChronicleGhosts}
@@ -79,7 +79,7 @@ module _ {D R C : Type 0} (disk : DiskGhosts D) (directory : DirectoryGhosts R) 
   -- the device of a session, as it would be given back
   abbrev pub return_of : Option (Part D R C) → List Return
   return_of None = []
-  return_of (Some part) = return_with (seen_in disk directory part.stripe).device.faults ∷ []
+  return_of (Some part) = return_of_device (seen_in disk directory part.stripe).device ∷ []
 
 -- ---- what a call leaves
 

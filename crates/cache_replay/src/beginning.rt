@@ -8,7 +8,7 @@ ghost use Rattle.cache_model.specs.Legal.{format_records};
 ghost use Rattle.stripe_core.specs.Stripe.{seen_in};
 ghost use Rattle.script_run.specs.Run.{Run, fresh};
 ghost use Rattle.script_run.specs.Answers.{number_of_bad};
-ghost use Rattle.script_run.specs.Behind.{fault_of, formatted};
+ghost use Rattle.script_run.specs.Behind.{harm_of, formatted};
 ghost use Rattle.cache_replay.specs.Session.{IsSession, devices_of, names_in, parts_of, return_of, slots_in};
 ghost use Rattle.cache_replay.specs.Plays.{ComeBack, Deals, DeviceMoves, HasReached, IsLeft, Plays, PlaysReach, ledger_of};
 ghost use Rattle.cache_replay.specs.Stop.{IsFormatStop};
@@ -41,7 +41,8 @@ pub fn begin<D: Disk>(alloc: Global) -> Cache<D>
     }
 }
 
-/// A session's device has counted as far as the run was told.
+/// A session's device has counted as far as the run was told, and where it tells its content no piece was told
+/// as damaged.
 pub fn plays_reach<D: Disk, R: Directory + Drop, C: Chronicle>()
     ensures { PlaysReach D.Disk R.Directory C.Chronicle }
 {}
@@ -50,7 +51,7 @@ pub fn plays_reach<D: Disk, R: Directory + Drop, C: Chronicle>()
 pub fn close<B: Bay>(session: Cache<B::Dev>, bay: &mut B)
     requires held { devices_of session ≤ B.out bay.old }
     ensures back { (run : Run) → HasReached B.Dev.Disk ⟦<ListDirectory as Directory>⟧ ⟦<FullChronicle as Chronicle>⟧ run session
-        → ComeBack (B.returned bay.old) (B.returned bay.new) (fault_of run.state) }
+        → ComeBack (B.returned bay.old) (B.returned bay.new) (harm_of run.state) }
     ensures out { B.out bay.new + devices_of session ≡ B.out bay.old }
     ensures names { B.names bay.new ≡ B.names bay.old }
     ensures faults { B.faults bay.new ≡ B.faults bay.old }
@@ -197,7 +198,7 @@ fn format<B: Bay>(
     ensures plays { OnOk result ((run : Run) → Plays B.Dev.Disk ⟦<ListDirectory as Directory>⟧ ⟦<FullChronicle as Chronicle>⟧ run session.old
         → Plays B.Dev.Disk ⟦<ListDirectory as Directory>⟧ ⟦<FullChronicle as Chronicle>⟧ (formatted run name.now (format_records geometry)) session.new) }
     ensures deals { OnOk result ((run : Run) → Plays B.Dev.Disk ⟦<ListDirectory as Directory>⟧ ⟦<FullChronicle as Chronicle>⟧ run session.old
-        → Deals (ledger_of B.Bay bay.old) (ledger_of B.Bay bay.new) (fault_of run.state) (name.now ∷ [])) }
+        → Deals (ledger_of B.Bay bay.old) (ledger_of B.Bay bay.new) (harm_of run.state) (name.now ∷ [])) }
     ensures left { IfErr result (λ why. (run : Run) → Plays B.Dev.Disk ⟦<ListDirectory as Directory>⟧ ⟦<FullChronicle as Chronicle>⟧ run session.old
         → IsLeft B.Dev.Disk ⟦<ListDirectory as Directory>⟧ ⟦<FullChronicle as Chronicle>⟧ run session.new (ledger_of B.Bay bay.old) (ledger_of B.Bay bay.new) why) }
     ensures stop { IfErr result (IsFormatStop (B.faults bay.old) (B.faults bay.new)) }

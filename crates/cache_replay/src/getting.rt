@@ -1,13 +1,19 @@
 // Whole bodies are read.
-ghost use Rattle.std.specs.Prelude.{ℕ, List, Option, ◌≡◌, ◌*◌, ◌+◌, ◌^◌, ◌<◌, ◌≤◌, [], ◌∷◌, true, length, is_some, Some, None, IfOk, IfErr, OnErr, OnOk};
+ghost use Rattle.std.specs.Prelude.{ℕ, List, Option, ◌≡◌, ◌⊎◌, ◌*◌, ◌+◌, ◌^◌, ◌<◌, ◌≤◌, [], ◌∷◌, true, length, is_some, Some, None, IfOk, IfErr, OnErr, OnOk};
 ghost use Rattle.tape_base.specs.Geometry.{budget_of};
 ghost use Rattle.cache_model.specs.Legal.{IsQuiet};
+ghost use Rattle.cache_model.specs.Kept.{state_of};
 ghost use Rattle.cache_model.specs.Permit.{StopReading};
+ghost use Rattle.cache_model.specs.Vectors.{AreTold};
 ghost use Rattle.stripe_core.specs.Stripe.{IsStripe, kept_in, seen_in, state_in};
+ghost use Rattle.stripe_core.specs.Unharmed.{StaysUnharmed};
 ghost use Rattle.stripe_read.specs.Readers.{IsOpenReader};
 ghost use Rattle.script_lang.specs.declared.answer.StepAnswer.{StepAnswer};
 ghost use Rattle.script_lang.specs.declared.step.Step.TheVariants as step;
 ghost use Rattle.script_run.specs.Run.{Run};
+ghost use Rattle.script_run.specs.Asked.{get_intents};
+ghost use Rattle.script_run.specs.Own.{AreOwn};
+ghost use Rattle.script_run.specs.Takes.{Shows};
 ghost use Rattle.cache_replay.specs.declared.session.Holding.{Holding};
 ghost use Rattle.cache_replay.specs.Session.{AreHeld, IsActive, IsPart, IsSession, LeavesBut, devices_of, names_in};
 ghost use Rattle.cache_replay.specs.Plays.{HasReached, Plays, PlaysIn, StepEnds};
@@ -23,7 +29,7 @@ use cache_chronicle::Chronicle;
 use cache_model::{Cause, steps_tell};
 use dir_table::Directory;
 use script_lang::{ByteList, StepAnswer};
-use script_run::{all_is_given, read_is_own, reads_own};
+use script_run::{all_is_given, other_shows, read_is_own, reads_own};
 use std::alloc::{AllocError, Global};
 use stripe_core::Stripe;
 use stripe_read::{NextPiece, Opened, Reader, close_read, open_read, read_next};
@@ -61,6 +67,9 @@ pub(crate) fn get<D: Disk, R: Directory + Drop, C: Chronicle>(
         (kept_in C.Chronicle stripe.old) (kept_in C.Chronicle stripe.new) key request) }
     ensures leaves { LeavesBut None (Some (state_in C.Chronicle stripe.old).next_reader) (state_in C.Chronicle stripe.old) (state_in C.Chronicle stripe.new) }
     ensures later { (seen_in D.Disk R.Directory stripe.old).device.faults ≤ (seen_in D.Disk R.Directory stripe.new).device.faults }
+    ensures unharmed { (run : Run) → AreTold (state_in C.Chronicle stripe.old) → AreOwn (state_in C.Chronicle stripe.old) run.streams
+        → StaysUnharmed D.Disk R.Directory C.Chronicle stripe.old stripe.new ⊎ Shows run (state_in C.Chronicle stripe.old) (get_intents (state_in C.Chronicle stripe.old) key request) }
+    ensures trust { (seen_in D.Disk R.Directory stripe.new).device.trust ≤ (seen_in D.Disk R.Directory stripe.old).device.trust }
 {
     reads_own();
     match open_read(stripe, Actor(0), key, request)? {
@@ -93,6 +102,9 @@ fn read_whole<D: Disk, R: Directory + Drop, C: Chronicle>(
         → IsAnswered b (seen_in D.Disk R.Directory stripe.new).device.faults (kept_in C.Chronicle stripe.new) [] (given_in got) (got_answer got)) }
     ensures leaves { LeavesBut None (Some reader.reader) (state_in C.Chronicle stripe.old) (state_in C.Chronicle stripe.new) }
     ensures later { (seen_in D.Disk R.Directory stripe.old).device.faults ≤ (seen_in D.Disk R.Directory stripe.new).device.faults }
+    ensures unharmed { (b : Began) (run : Run) → IsUnderway b (seen_in D.Disk R.Directory stripe.old).device.faults (kept_in C.Chronicle stripe.old) reader []
+        → AreTold (state_of b.kept) → AreOwn (state_of b.kept) run.streams → StaysUnharmed D.Disk R.Directory C.Chronicle stripe.old stripe.new ⊎ Shows run (state_of b.kept) b.asks }
+    ensures trust { (seen_in D.Disk R.Directory stripe.new).device.trust ≤ (seen_in D.Disk R.Directory stripe.old).device.trust }
 {
     let mut reader = reader;
     match read_to_end(alloc, stripe, page, &mut reader, put) {
@@ -126,6 +138,9 @@ fn read_to_end<D: Disk, R: Directory + Drop, C: Chronicle>(
         → IsAnswered b (seen_in D.Disk R.Directory stripe.new).device.faults (kept_in C.Chronicle stripe.new) (StopReading reader.old.reader ∷ []) (given_in got) (got_answer got)) }
     ensures leaves { LeavesBut None (Some reader.old.reader) (state_in C.Chronicle stripe.old) (state_in C.Chronicle stripe.new) }
     ensures later { (seen_in D.Disk R.Directory stripe.old).device.faults ≤ (seen_in D.Disk R.Directory stripe.new).device.faults }
+    ensures unharmed { (b : Began) (run : Run) → IsUnderway b (seen_in D.Disk R.Directory stripe.old).device.faults (kept_in C.Chronicle stripe.old) reader.old []
+        → AreTold (state_of b.kept) → AreOwn (state_of b.kept) run.streams → StaysUnharmed D.Disk R.Directory C.Chronicle stripe.old stripe.new ⊎ Shows run (state_of b.kept) b.asks }
+    ensures trust { (seen_in D.Disk R.Directory stripe.new).device.trust ≤ (seen_in D.Disk R.Directory stripe.old).device.trust }
 {
     let mut body = Vec::new(alloc);
     loop {
@@ -161,8 +176,12 @@ fn read_more<D: Disk, R: Directory + Drop, C: Chronicle>(
     ensures nearer { IfOk result (λ next. IsNearer reader.old next reader.new) }
     ensures leaves { LeavesBut None (Some reader.old.reader) (state_in C.Chronicle stripe.old) (state_in C.Chronicle stripe.new) }
     ensures later { (seen_in D.Disk R.Directory stripe.old).device.faults ≤ (seen_in D.Disk R.Directory stripe.new).device.faults }
+    ensures unharmed { (b : Began) (run : Run) → IsUnderway b (seen_in D.Disk R.Directory stripe.old).device.faults (kept_in C.Chronicle stripe.old) reader.old body.old.items
+        → AreTold (state_of b.kept) → AreOwn (state_of b.kept) run.streams → StaysUnharmed D.Disk R.Directory C.Chronicle stripe.old stripe.new ⊎ Shows run (state_of b.kept) b.asks }
+    ensures trust { (seen_in D.Disk R.Directory stripe.new).device.trust ≤ (seen_in D.Disk R.Directory stripe.old).device.trust }
 {
     read_is_own();
+    other_shows();
     all_is_given();
     reads_own();
     match read_next(stripe, reader, page)? {
@@ -191,6 +210,7 @@ fn close<D: Disk, R: Directory + Drop, C: Chronicle>(
         → IsAnswered b (seen_in D.Disk R.Directory stripe.new).device.faults (kept_in C.Chronicle stripe.new) [] given said) }
     ensures leaves { LeavesBut None (Some reader.reader) (state_in C.Chronicle stripe.old) (state_in C.Chronicle stripe.new) }
     ensures later { (seen_in D.Disk R.Directory stripe.old).device.faults ≤ (seen_in D.Disk R.Directory stripe.new).device.faults }
+    ensures unharmed { StaysUnharmed D.Disk R.Directory C.Chronicle stripe.old stripe.new }
 {
     match close_read(stripe, reader) {
         Ok(()) => Ok(()),
@@ -235,6 +255,9 @@ fn get_in_part<D: Disk, R: Directory + Drop, C: Chronicle>(
         → PlaysIn run (state_in C.Chronicle part.old.stripe) slots
         → LineEnds run (state_in C.Chronicle part.old.stripe) (state_in C.Chronicle part.new.stripe) key request slots said) }
     ensures later { (seen_in D.Disk R.Directory part.old.stripe).device.faults ≤ (seen_in D.Disk R.Directory part.new.stripe).device.faults }
+    ensures unharmed { (run : Run) → AreTold (state_in C.Chronicle part.old.stripe) → AreOwn (state_in C.Chronicle part.old.stripe) run.streams
+        → StaysUnharmed D.Disk R.Directory C.Chronicle part.old.stripe part.new.stripe ⊎ Shows run (state_in C.Chronicle part.old.stripe) (get_intents (state_in C.Chronicle part.old.stripe) key request) }
+    ensures trust { (seen_in D.Disk R.Directory part.new.stripe).device.trust ≤ (seen_in D.Disk R.Directory part.old.stripe).device.trust }
 {
     reads_own();
     steps_tell();

@@ -3,6 +3,7 @@ ghost use Rattle.std.specs.Prelude.{◌≡◌, ◌≤◌, None, length, IfOk, If
 ghost use Rattle.script_lang.specs.declared.step.Step.TheVariants as step;
 ghost use Rattle.cache_model.specs.Vectors.{AreTold};
 ghost use Rattle.stripe_core.specs.Stripe.{seen_in, state_in};
+ghost use Rattle.stripe_core.specs.Unharmed.{StaysUnharmed};
 ghost use Rattle.script_run.specs.Run.{Run};
 ghost use Rattle.cache_replay.specs.Session.{IsPart, IsSession, LeavesBut, devices_of, names_in};
 ghost use Rattle.cache_replay.specs.Plays.{HasReached, Plays, StepEnds};
@@ -54,6 +55,7 @@ fn remove_from<D: Disk, R: Directory + Drop, C: Chronicle>(
     ensures ends { IfOk result (λ said. (run : Run) → Plainly run (step.Remove key) (state_in C.Chronicle part.old.stripe) (state_in C.Chronicle part.new.stripe) said) }
     ensures stop { IfErr result (λ stop. stop ≡ Stop.Memory) }
     ensures later { (seen_in D.Disk R.Directory part.old.stripe).device.faults ≤ (seen_in D.Disk R.Directory part.new.stripe).device.faults }
+    ensures unharmed { StaysUnharmed D.Disk R.Directory C.Chronicle part.old.stripe part.new.stripe }
 {
     match remove(&mut part.stripe, key) {
         Ok(Removal::Removed { put }) => Ok(StepAnswer::Removed { put }),
@@ -93,6 +95,7 @@ fn flush<D: Disk, R: Directory + Drop, C: Chronicle>(
     ensures ends { IfOk result (λ said. (run : Run) → Plainly run step.Flush (state_in C.Chronicle part.old.stripe) (state_in C.Chronicle part.new.stripe) said) }
     ensures stop { IfErr result (λ stop. stop ≡ Stop.Memory) }
     ensures later { (seen_in D.Disk R.Directory part.old.stripe).device.faults ≤ (seen_in D.Disk R.Directory part.new.stripe).device.faults }
+    ensures unharmed { StaysUnharmed D.Disk R.Directory C.Chronicle part.old.stripe part.new.stripe }
 {
     match part.stripe.flush() {
         Ok(flushed) => Ok(StepAnswer::Flushed {

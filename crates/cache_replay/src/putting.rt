@@ -2,6 +2,7 @@
 ghost use Rattle.std.specs.Prelude.{◌≡◌, ◌≤◌, Some, None, true};
 ghost use Rattle.cache_model.specs.Legal.{IsQuiet, is_writing};
 ghost use Rattle.stripe_core.specs.Stripe.{IsStripe, kept_in, seen_in, state_in};
+ghost use Rattle.stripe_core.specs.Unharmed.{StaysUnharmed};
 ghost use Rattle.stripe_write.specs.Others.{AddsOfPut};
 ghost use Rattle.stripe_write.specs.Writers.{IsWriterOf};
 ghost use Rattle.cache_replay.specs.Session.{LeavesBut};
@@ -33,6 +34,7 @@ pub(crate) fn put<D: Disk, R: Directory + Drop, C: Chronicle>(
         (kept_in C.Chronicle stripe.old) (kept_in C.Chronicle stripe.new) key body.now request response result }
     ensures leaves { LeavesBut (Some (state_in C.Chronicle stripe.old).next_put) None (state_in C.Chronicle stripe.old) (state_in C.Chronicle stripe.new) }
     ensures later { (seen_in D.Disk R.Directory stripe.old).device.faults ≤ (seen_in D.Disk R.Directory stripe.new).device.faults }
+    ensures unharmed { StaysUnharmed D.Disk R.Directory C.Chronicle stripe.old stripe.new }
 {
     // The laws tell that other puts and all readers stay, and that what the records keep may be kept when the
     // put is open.
@@ -61,6 +63,7 @@ fn put_open<D: Disk, R: Directory + Drop, C: Chronicle>(
         (kept_in C.Chronicle stripe.old) (kept_in C.Chronicle stripe.new) writer.old.put body.now result }
     ensures own { AddsOfPut writer.old.put (kept_in C.Chronicle stripe.old) (kept_in C.Chronicle stripe.new) }
     ensures later { (seen_in D.Disk R.Directory stripe.old).device.faults ≤ (seen_in D.Disk R.Directory stripe.new).device.faults }
+    ensures unharmed { StaysUnharmed D.Disk R.Directory C.Chronicle stripe.old stripe.new }
 {
     let result = fill(stripe, writer, body);
     let end = abort_write(stripe, writer);
@@ -99,6 +102,7 @@ fn fill<D: Disk, R: Directory + Drop, C: Chronicle>(
         (kept_in C.Chronicle stripe.old) (kept_in C.Chronicle stripe.new) writer.old body.now result }
     ensures own { AddsOfPut writer.old.put (kept_in C.Chronicle stripe.old) (kept_in C.Chronicle stripe.new) }
     ensures later { (seen_in D.Disk R.Directory stripe.old).device.faults ≤ (seen_in D.Disk R.Directory stripe.new).device.faults }
+    ensures unharmed { StaysUnharmed D.Disk R.Directory C.Chronicle stripe.old stripe.new }
 {
     // The law tells that vectors and puts may be kept when the writer closes.
     groups_tell();

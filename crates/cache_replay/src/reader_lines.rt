@@ -1,13 +1,17 @@
 // The lines of readers: they open, read on and are closed.
-ghost use Rattle.std.specs.Prelude.{◌≡◌, ◌==◌, ◌+◌, ◌-◌, ◌*◌, ◌^◌, ◌<◌, ◌≤◌, ℕ, length, Some, None, IfOk, IfErr, OnErr, IfSome, if◌then◌else◌, is_some};
+ghost use Rattle.std.specs.Prelude.{◌≡◌, ◌==◌, ◌⊎◌, ◌∷◌, [], ◌+◌, ◌-◌, ◌*◌, ◌^◌, ◌<◌, ◌≤◌, ℕ, length, Some, None, IfOk, IfErr, OnErr, IfSome, if◌then◌else◌, is_some};
 ghost use Rattle.tape_base.specs.Geometry.{budget_of};
 ghost use Rattle.cache_model.specs.Legal.{IsQuiet};
+ghost use Rattle.cache_model.specs.Permit.{ReadOn};
 ghost use Rattle.stripe_core.specs.Stripe.{IsStripe, seen_in, state_in};
+ghost use Rattle.stripe_core.specs.Unharmed.{StaysUnharmed};
 ghost use Rattle.stripe_read.specs.Readers.{IsOpenReader, IsReaderOf};
 ghost use Rattle.script_lang.specs.declared.step.Step.TheVariants as step;
 ghost use Rattle.script_lang.specs.declared.answer.StepAnswer.TheVariants as answer;
 ghost use Rattle.script_run.specs.Run.{Run};
+ghost use Rattle.script_run.specs.Asked.{asked};
 ghost use Rattle.script_run.specs.Own.{AreOwn};
+ghost use Rattle.script_run.specs.Takes.{Shows};
 ghost use Rattle.cache_replay.specs.declared.stop.Stop.TheVariants as stop;
 ghost use Rattle.cache_replay.specs.Session.{IsActive, IsPart, IsSession, LeavesBut, devices_of, names_in};
 ghost use Rattle.cache_replay.specs.Plays.{HasReached, Plays, StepEnds};
@@ -24,7 +28,7 @@ use cache_chronicle::Chronicle;
 use cache_model::groups_tell;
 use dir_table::Directory;
 use script_lang::{ByteList, Refused, StepAnswer};
-use script_run::{read_is_own, steps_own};
+use script_run::{other_shows, read_is_own, steps_own};
 use std::alloc::{AllocError, Global};
 use stripe_core::Stripe;
 use stripe_read::{NextPiece, Opened, Reader, close_read, open_read, read_next};
@@ -66,6 +70,7 @@ fn open_reader<D: Disk, R: Directory + Drop, C: Chronicle>(
     ensures active { IsActive D.Disk R.Directory C.Chronicle part.new (slots_of actors.new) }
     ensures ends { IfOk result (λ said. (run : Run) → PlaysPart D.Disk R.Directory C.Chronicle run part.old actors.old
         → PartEnds D.Disk R.Directory C.Chronicle run (state_in C.Chronicle part.old.stripe) (step.OpenRead actor.now key request) part.new actors.new said) }
+    ensures unharmed { StaysUnharmed D.Disk R.Directory C.Chronicle part.old.stripe part.new.stripe }
     ensures stop { IfErr result (λ why. why ≡ stop.Memory) }
     ensures names { length actors.new.names ≤ length actors.old.names + 1 }
     ensures told { OnErr result ((state_in C.Chronicle part.old.stripe).fault ≤ (seen_in D.Disk R.Directory part.new.stripe).device.faults) }
@@ -145,6 +150,9 @@ fn next<D: Disk, R: Directory + Drop, C: Chronicle>(
     ensures active { IsActive D.Disk R.Directory C.Chronicle part.new (slots_of actors.new) }
     ensures ends { IfOk result (λ said. (run : Run) → PlaysPart D.Disk R.Directory C.Chronicle run part.old actors.old
         → PartEnds D.Disk R.Directory C.Chronicle run (state_in C.Chronicle part.old.stripe) (step.Next actor.now) part.new actors.new said) }
+    ensures unharmed { (run : Run) → PlaysPart D.Disk R.Directory C.Chronicle run part.old actors.old
+        → StaysUnharmed D.Disk R.Directory C.Chronicle part.old.stripe part.new.stripe ⊎ Shows run (state_in C.Chronicle part.old.stripe) (asked run (state_in C.Chronicle part.old.stripe) (step.Next actor.now)) }
+    ensures trust { (seen_in D.Disk R.Directory part.new.stripe).device.trust ≤ (seen_in D.Disk R.Directory part.old.stripe).device.trust }
     ensures stop { IfErr result (λ why. why ≡ stop.Memory) }
     ensures names { length actors.new.names ≤ length actors.old.names + 1 }
     ensures told { OnErr result ((state_in C.Chronicle part.old.stripe).fault ≤ (seen_in D.Disk R.Directory part.new.stripe).device.faults) }
@@ -176,6 +184,9 @@ fn read_on<D: Disk, R: Directory + Drop, C: Chronicle>(
     ensures leaves { LeavesBut None (Some reader.old.reader) (state_in C.Chronicle part.old.stripe) (state_in C.Chronicle part.new.stripe) }
     ensures ends { IfOk result (λ said. (run : Run) → AreOwn (state_in C.Chronicle part.old.stripe) run.streams → IsReaderOf (state_in C.Chronicle part.old.stripe) reader.old
         → NextEnds run (state_in C.Chronicle part.old.stripe) (state_in C.Chronicle part.new.stripe) reader.old reader.new said) }
+    ensures unharmed { (run : Run) → AreOwn (state_in C.Chronicle part.old.stripe) run.streams → IsReaderOf (state_in C.Chronicle part.old.stripe) reader.old
+        → StaysUnharmed D.Disk R.Directory C.Chronicle part.old.stripe part.new.stripe ⊎ Shows run (state_in C.Chronicle part.old.stripe) (ReadOn reader.old.reader ∷ []) }
+    ensures trust { (seen_in D.Disk R.Directory part.new.stripe).device.trust ≤ (seen_in D.Disk R.Directory part.old.stripe).device.trust }
     ensures stop { IfErr result (λ why. why ≡ stop.Memory) }
     ensures told { OnErr result ((state_in C.Chronicle part.old.stripe).fault ≤ (seen_in D.Disk R.Directory part.new.stripe).device.faults) }
 {
@@ -199,10 +210,14 @@ fn read_to<D: Disk, R: Directory + Drop, C: Chronicle>(
     ensures leaves { LeavesBut None (Some reader.old.reader) (state_in C.Chronicle stripe.old) (state_in C.Chronicle stripe.new) }
     ensures ends { IfOk result (λ said. (run : Run) → AreOwn (state_in C.Chronicle stripe.old) run.streams → IsReaderOf (state_in C.Chronicle stripe.old) reader.old
         → NextEnds run (state_in C.Chronicle stripe.old) (state_in C.Chronicle stripe.new) reader.old reader.new said) }
+    ensures unharmed { (run : Run) → AreOwn (state_in C.Chronicle stripe.old) run.streams → IsReaderOf (state_in C.Chronicle stripe.old) reader.old
+        → StaysUnharmed D.Disk R.Directory C.Chronicle stripe.old stripe.new ⊎ Shows run (state_in C.Chronicle stripe.old) (ReadOn reader.old.reader ∷ []) }
+    ensures trust { (seen_in D.Disk R.Directory stripe.new).device.trust ≤ (seen_in D.Disk R.Directory stripe.old).device.trust }
     ensures stop { IfErr result (λ why. why ≡ stop.Memory) }
     ensures later { (seen_in D.Disk R.Directory stripe.old).device.faults ≤ (seen_in D.Disk R.Directory stripe.new).device.faults }
 {
     read_is_own();
+    other_shows();
     let piece = read_next(stripe, reader, page)?;
     Ok(piece_said(piece, page, alloc)?)
 }
@@ -259,6 +274,7 @@ fn done<D: Disk, R: Directory + Drop, C: Chronicle>(
     ensures active { IsActive D.Disk R.Directory C.Chronicle part.new (slots_of actors.new) }
     ensures ends { IfOk result (λ said. (run : Run) → PlaysPart D.Disk R.Directory C.Chronicle run part.old actors.old
         → PartEnds D.Disk R.Directory C.Chronicle run (state_in C.Chronicle part.old.stripe) (step.Done actor.now) part.new actors.new said) }
+    ensures unharmed { StaysUnharmed D.Disk R.Directory C.Chronicle part.old.stripe part.new.stripe }
     ensures stop { IfErr result (λ why. why ≡ stop.Memory) }
     ensures names { length actors.new.names ≤ length actors.old.names + 1 }
     ensures told { OnErr result ((state_in C.Chronicle part.old.stripe).fault ≤ (seen_in D.Disk R.Directory part.new.stripe).device.faults) }

@@ -2,6 +2,7 @@
 ghost use Rattle.std.specs.Prelude.{ℕ, ◌≡◌, ◌==◌, ◌+◌, ◌-◌, ◌^◌, ◌<◌, ◌≤◌, true, Some, None, length, if◌then◌else◌, IfOk, IfErr, OnErr};
 ghost use Rattle.cache_model.specs.Legal.{IsQuiet, is_writing};
 ghost use Rattle.stripe_core.specs.Stripe.{IsStripe, kept_in, seen_in, state_in};
+ghost use Rattle.stripe_core.specs.Unharmed.{StaysUnharmed};
 ghost use Rattle.stripe_write.specs.Others.{AddsOfPut};
 ghost use Rattle.stripe_write.specs.Writers.{IsWriterOf};
 ghost use Rattle.actor_table.specs.Table.{with_actor};
@@ -183,6 +184,7 @@ fn open_write_in<D: Disk, R: Directory + Drop, C: Chronicle>(
         → PartEnds C.Chronicle run (step.OpenWrite actor.now key pin request response) part.new actors.new said) }
     ensures stop { IfErr result (λ why. why ≡ stop.Memory) }
     ensures later { (seen_in D.Disk R.Directory part.old.stripe).device.faults ≤ (seen_in D.Disk R.Directory part.new.stripe).device.faults }
+    ensures unharmed { StaysUnharmed D.Disk R.Directory C.Chronicle part.old.stripe part.new.stripe }
     ensures names { length actors.new.names ≤ length actors.old.names + 1 }
 {
     steps_own();
@@ -215,6 +217,7 @@ fn begin<D: Disk, R: Directory + Drop, C: Chronicle>(
     ensures stripe { IsStripe D.Disk R.Directory C.Chronicle stripe.new }
     ensures quiet { IsQuiet (state_in C.Chronicle stripe.new) }
     ensures later { (seen_in D.Disk R.Directory stripe.old).device.faults ≤ (seen_in D.Disk R.Directory stripe.new).device.faults }
+    ensures unharmed { StaysUnharmed D.Disk R.Directory C.Chronicle stripe.old stripe.new }
     ensures own { AddsOfPut (state_in C.Chronicle stripe.old).next_put (kept_in C.Chronicle stripe.old) (kept_in C.Chronicle stripe.new) }
     ensures left { IsLeft (state_in C.Chronicle stripe.new) (state_in C.Chronicle stripe.old).next_put result.left }
     ensures does { OpenDoes (state_in C.Chronicle stripe.old) (state_in C.Chronicle stripe.new) actor.0 (Opens key pin request response) result.left result.answer }
@@ -268,6 +271,7 @@ fn data_in<D: Disk, R: Directory + Drop, C: Chronicle>(
         → PartEnds C.Chronicle run (step.Feed actor.now body.now) part.new actors.new said) }
     ensures stop { IfErr result (λ why. why ≡ stop.Memory) }
     ensures later { (seen_in D.Disk R.Directory part.old.stripe).device.faults ≤ (seen_in D.Disk R.Directory part.new.stripe).device.faults }
+    ensures unharmed { StaysUnharmed D.Disk R.Directory C.Chronicle part.old.stripe part.new.stripe }
     ensures names { length actors.new.names ≤ length actors.old.names + 1 }
 {
     steps_own();
@@ -299,6 +303,7 @@ fn give_bytes<D: Disk, R: Directory + Drop, C: Chronicle>(
     ensures stripe { IsStripe D.Disk R.Directory C.Chronicle stripe.new }
     ensures quiet { IsQuiet (state_in C.Chronicle stripe.new) }
     ensures later { (seen_in D.Disk R.Directory stripe.old).device.faults ≤ (seen_in D.Disk R.Directory stripe.new).device.faults }
+    ensures unharmed { StaysUnharmed D.Disk R.Directory C.Chronicle stripe.old stripe.new }
     ensures own { AddsOfPut writer.put (kept_in C.Chronicle stripe.old) (kept_in C.Chronicle stripe.new) }
     ensures left { IsLeft (state_in C.Chronicle stripe.new) writer.put result.left }
     ensures does { WriterDoes (state_in C.Chronicle stripe.old) (state_in C.Chronicle stripe.new) (Feeds body.now) writer result.left result.answer }
@@ -354,6 +359,7 @@ fn close_in<D: Disk, R: Directory + Drop, C: Chronicle>(
         → PartEnds C.Chronicle run (step.Close actor.now) part.new actors.new said) }
     ensures stop { IfErr result (λ why. why ≡ stop.Memory) }
     ensures later { (seen_in D.Disk R.Directory part.old.stripe).device.faults ≤ (seen_in D.Disk R.Directory part.new.stripe).device.faults }
+    ensures unharmed { StaysUnharmed D.Disk R.Directory C.Chronicle part.old.stripe part.new.stripe }
     ensures names { length actors.new.names ≤ length actors.old.names + 1 }
 {
     steps_own();
@@ -384,6 +390,7 @@ fn finish<D: Disk, R: Directory + Drop, C: Chronicle>(
     ensures stripe { IsStripe D.Disk R.Directory C.Chronicle stripe.new }
     ensures quiet { IsQuiet (state_in C.Chronicle stripe.new) }
     ensures later { (seen_in D.Disk R.Directory stripe.old).device.faults ≤ (seen_in D.Disk R.Directory stripe.new).device.faults }
+    ensures unharmed { StaysUnharmed D.Disk R.Directory C.Chronicle stripe.old stripe.new }
     ensures own { AddsOfPut writer.put (kept_in C.Chronicle stripe.old) (kept_in C.Chronicle stripe.new) }
     ensures left { IsLeft (state_in C.Chronicle stripe.new) writer.put result.left }
     ensures does { WriterDoes (state_in C.Chronicle stripe.old) (state_in C.Chronicle stripe.new) Closes writer result.left result.answer }
@@ -430,6 +437,7 @@ fn abort_in<D: Disk, R: Directory + Drop, C: Chronicle>(
         → PartEnds C.Chronicle run (step.Abort actor.now) part.new actors.new said) }
     ensures stop { IfErr result (λ why. why ≡ stop.Memory) }
     ensures later { (seen_in D.Disk R.Directory part.old.stripe).device.faults ≤ (seen_in D.Disk R.Directory part.new.stripe).device.faults }
+    ensures unharmed { StaysUnharmed D.Disk R.Directory C.Chronicle part.old.stripe part.new.stripe }
     ensures names { length actors.new.names ≤ length actors.old.names + 1 }
 {
     steps_own();
@@ -460,6 +468,7 @@ fn give_up<D: Disk, R: Directory + Drop, C: Chronicle>(
     ensures stripe { IsStripe D.Disk R.Directory C.Chronicle stripe.new }
     ensures quiet { IsQuiet (state_in C.Chronicle stripe.new) }
     ensures later { (seen_in D.Disk R.Directory stripe.old).device.faults ≤ (seen_in D.Disk R.Directory stripe.new).device.faults }
+    ensures unharmed { StaysUnharmed D.Disk R.Directory C.Chronicle stripe.old stripe.new }
     ensures own { AddsOfPut writer.put (kept_in C.Chronicle stripe.old) (kept_in C.Chronicle stripe.new) }
     ensures left { IsLeft (state_in C.Chronicle stripe.new) writer.put result.left }
     ensures does { WriterDoes (state_in C.Chronicle stripe.old) (state_in C.Chronicle stripe.new) GivesUp writer result.left result.answer }

@@ -16,8 +16,8 @@ use Rattle.script_lang.specs.declared.last.LastLine.{LastLine}
 use Rattle.script_lang.specs.declared.last.LastLine.TheVariants as last
 use Rattle.script_lang.specs.Texts.{answer_line}
 use Rattle.script_lang.specs.Grammar.{reading_of}
-use Rattle.script_run.specs.Run.{Run, fresh}
-use Rattle.script_run.specs.Behind.{counts_of, fault_of}
+use Rattle.script_run.specs.Run.{Run, fresh, no_harm}
+use Rattle.script_run.specs.Behind.{harm_of, harms_of}
 use Rattle.script_run.specs.Takes.{StepShows, run_after, output_of}
 use Rattle.cache_replay.specs.declared.session.Session.{Session}
 use Rattle.cache_replay.specs.declared.stop.Stop.TheVariants as stop
@@ -113,7 +113,7 @@ module _ (first taken_first taken : Option (List ℕ)) (ledger_first ledger : Le
       done_goes : Written disk directory chronicle here step session ledger ledger' (Appends taken taken') → GoesOn first taken_first ledger_first unread' given' taken' ledger' Now
       done_goes w =
           step_more first taken_first taken ledger_first ledger unread unread' given given' Plays' story bytes known counted step asks w.done.moves.turn w.said w.done.moves.takes w.done.moves.says
-          w.done.counts w.done.ended w.done.names w.done.named ledger' w.done.deals (Appends taken_first taken') Now (λ out appends. Appends-trans taken_first taken taken' out _ appends w.text) w.done.moves.plays
+          w.done.harms w.done.ended w.done.names w.done.named ledger' w.done.deals (Appends taken_first taken') Now (λ out appends. Appends-trans taken_first taken taken' out _ appends w.text) w.done.moves.plays
 
       -- the run goes on behind it
       pub step_goes : Written disk directory chronicle here step session ledger ledger' (Appends taken taken') ⊎ StepShows here here.state step
@@ -128,7 +128,7 @@ module _ (first taken_first taken : Option (List ℕ)) (ledger_first ledger : Le
             → Story first unread' given' Sent Devices Behind
         written_ends Text Sent Devices Behind w sent owed behind =
             step_owes first taken_first taken ledger_first ledger unread unread' given given' Plays' story bytes known counted step asks w.done.moves.turn w.said w.done.moves.takes w.done.moves.says
-            w.done.counts w.done.ended w.done.names w.done.named ledger' w.done.deals Sent Reaches Devices Behind sent (plays_reach disk directory chronicle session is _ w.done.moves.plays) owed (behind _)
+            w.done.harms w.done.ended w.done.names w.done.named ledger' w.done.deals Sent Reaches Devices Behind sent (plays_reach disk directory chronicle session is _ w.done.moves.plays) owed (behind _)
 
         halted : (why : LastLine) (by : Stopped) → (by ≡ stop.Memory → ⊥) → IsLeft disk directory chronicle here session ledger ledger' by → Keeps taken taken' → Because source bay unread given here why
             → Ends first taken_first taken' source sink bay (Owes ledger_first ledger' Reaches) Wanting (ending.Stopped why)
@@ -146,7 +146,7 @@ module _ (first taken_first taken : Option (List ℕ)) (ledger_first ledger : Le
           rw none refl,
           record {
             name = name;
-            deals = rw append_assoc (Deals-trans ledger_first ledger ledger' here.ended (fault_of here.state ++ 0 ∷ []) here.names (name ∷ []) story.devices deals);
+            deals = rw append_assoc (Deals-trans ledger_first ledger ledger' here.ended (harm_of here.state ++ no_harm ∷ []) here.names (name ∷ []) story.devices deals);
           },
         )
 
@@ -298,9 +298,9 @@ module _ {D R C : Type 0} (disk : DiskGhosts D) (directory : DirectoryGhosts R) 
   returns_none (Some part) e = absurd cc
 
   -- with no session nothing more comes back
-  pub gave_settled : (session : Session D R C) (a b c : Ledger) (run : Run) → ((r : Run) → HasReached disk directory chronicle r session → ComeBack b.returned c.returned (fault_of r.state)) → c.names ≡ b.names
+  pub gave_settled : (session : Session D R C) (a b c : Ledger) (run : Run) → ((r : Run) → HasReached disk directory chronicle r session → ComeBack b.returned c.returned (harm_of r.state)) → c.names ≡ b.names
       → devices_of session ≡ 0 → GaveBack a b run → GaveBack a c run
   gave_settled session a b c run back same none gave = record {
     name = gave.name;
-    deals = rw append-nil at (Deals-settled a b c (counts_of run ++ 0 ∷ []) [] (run.names ++ gave.name ∷ []) gave.deals (back fresh (returns_none session.part none)) same);
+    deals = rw append-nil at (Deals-settled a b c (harms_of run ++ no_harm ∷ []) [] (run.names ++ gave.name ∷ []) gave.deals (back fresh (returns_none session.part none)) same);
   }

@@ -1,7 +1,7 @@
 -- One more line.
 use Rattle.std.proofs.Common.{◌≡◌, ℕ, List, [], ◌∷◌, ◌++◌, refl, sym, ◌∙◌, ap, append_assoc, append-nil}
 use Rattle.ats_disk.specs.Bay.{Return}
-use Rattle.script_run.specs.Run.{Run}
+use Rattle.script_run.specs.Run.{Harm, Run}
 use Rattle.script_run.specs.Turn.{Turn}
 use Rattle.script_run.specs.Behind.{after_line}
 use Rattle.script_run.specs.Takes.{LineTakes, line_text, IsRun, run_after, output_of}
@@ -26,8 +26,8 @@ module _ (line : List ℕ) (turn : Turn) where
   output_of-more run (l ∷ lines) [] legal = absurd legal
   output_of-more run (l ∷ lines) (t ∷ turns) legal = ap (λ rest. line_text run t l ++ rest) (output_of-more (after_line run t l) lines turns legal.1) ∙ sym (append_assoc (line_text run t l) _ _)
 
-pub AreReached-append : (counts more : List ℕ) (devices others : List Return) → AreReached counts devices → AreReached more others → AreReached (counts ++ more) (devices ++ others)
+pub AreReached-append : (harms more : List Harm) (devices others : List Return) → AreReached harms devices → AreReached more others → AreReached (harms ++ more) (devices ++ others)
 AreReached-append [] more [] others h k = k
 AreReached-append [] more (d ∷ devices) others h k = absurd h
-AreReached-append (c ∷ counts) more [] others h k = absurd h
-AreReached-append (c ∷ counts) more (d ∷ devices) others h k = (h.0, AreReached-append counts more devices others h.1 k)
+AreReached-append (harm ∷ harms) more [] others h k = absurd h
+AreReached-append (harm ∷ harms) more (d ∷ devices) others h k = (h.0, AreReached-append harms more devices others h.1 k)

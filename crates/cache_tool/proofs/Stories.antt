@@ -10,7 +10,7 @@ use Rattle.script_lang.specs.declared.step.Step.{Step}
 use Rattle.script_lang.specs.declared.answer.StepAnswer.{StepAnswer}
 use Rattle.script_lang.specs.Grammar.{reading_of}
 use Rattle.script_lang.specs.Texts.{answer_line}
-use Rattle.script_run.specs.Run.{Run, fresh}
+use Rattle.script_run.specs.Run.{Harm, Run, fresh}
 use Rattle.script_run.specs.Turn.{Turn, no_turn}
 use Rattle.script_run.specs.Answers.{step_answer}
 use Rattle.script_run.specs.Behind.{after_line, after_step}
@@ -46,25 +46,25 @@ IsNext-known given (Some u) (Some u') bytes known = (u', known)
 pub ComeBack-nothing : (a : List Return) → ComeBack a a []
 ComeBack-nothing a = record { devices = []; returned = sym (append-nil a); reached = tt }
 
-pub ComeBack-trans : (a b c : List Return) (counts more : List ℕ) → ComeBack a b counts → ComeBack b c more → ComeBack a c (counts ++ more)
-ComeBack-trans a b c counts more first second = record {
+pub ComeBack-trans : (a b c : List Return) (harms more : List Harm) → ComeBack a b harms → ComeBack b c more → ComeBack a c (harms ++ more)
+ComeBack-trans a b c harms more first second = record {
   devices = first.devices ++ second.devices;
   returned = second.returned ∙ ap (λ l. l ++ second.devices) first.returned ∙ append_assoc a first.devices second.devices;
-  reached = AreReached-append counts more first.devices second.devices first.reached second.reached;
+  reached = AreReached-append harms more first.devices second.devices first.reached second.reached;
 }
 
 pub Deals-nothing : (a : Ledger) → Deals a a [] []
 Deals-nothing a = record { back = ComeBack-nothing a.returned; attached = sym (append-nil a.names) }
 
-pub Deals-trans : (a b c : Ledger) (counts more : List ℕ) (names others : List (List ℕ)) → Deals a b counts names → Deals b c more others → Deals a c (counts ++ more) (names ++ others)
-Deals-trans a b c counts more names others first second = record {
-  back = ComeBack-trans a.returned b.returned c.returned counts more first.back second.back;
+pub Deals-trans : (a b c : Ledger) (harms more : List Harm) (names others : List (List ℕ)) → Deals a b harms names → Deals b c more others → Deals a c (harms ++ more) (names ++ others)
+Deals-trans a b c harms more names others first second = record {
+  back = ComeBack-trans a.returned b.returned c.returned harms more first.back second.back;
   attached = second.attached ∙ ap (λ l. l ++ others) first.attached ∙ append_assoc a.names names others;
 }
 
 -- the last device came back, and none was attached
-pub Deals-settled : (a b c : Ledger) (counts more : List ℕ) (names : List (List ℕ)) → Deals a b counts names → ComeBack b.returned c.returned more → c.names ≡ b.names → Deals a c (counts ++ more) names
-Deals-settled a b c counts more names first back same = record { back = ComeBack-trans a.returned b.returned c.returned counts more first.back back; attached = same ∙ first.attached }
+pub Deals-settled : (a b c : Ledger) (harms more : List Harm) (names : List (List ℕ)) → Deals a b harms names → ComeBack b.returned c.returned more → c.names ≡ b.names → Deals a c (harms ++ more) names
+Deals-settled a b c harms more names first back same = record { back = ComeBack-trans a.returned b.returned c.returned harms more first.back back; attached = same ∙ first.attached }
 
 -- ---- a line more
 
@@ -95,10 +95,10 @@ module _ (first taken_first taken : Option (List ℕ)) (ledger_first ledger : Le
 
   -- a step, whose answer was written as far as this
   module _ (step : Step) (asks : reading_of bytes ≡ line.Step step) (turn : Turn) (said : StepAnswer) (takes : StepTakes here turn step) (says : step_answer here turn step ≡ said)
-      (counts : List ℕ) (ended : (after_step here turn step).ended ≡ here.ended ++ counts) (names : List (List ℕ)) (named : (after_step here turn step).names ≡ here.names ++ names)
-      (ledger' : Ledger) (deals : Deals ledger ledger' counts names) where
+      (harms : List Harm) (ended : (after_step here turn step).ended ≡ here.ended ++ harms) (names : List (List ℕ)) (named : (after_step here turn step).names ≡ here.names ++ names)
+      (ledger' : Ledger) (deals : Deals ledger ledger' harms names) where
     deals_all : Deals ledger_first ledger' (after_step here turn step).ended (after_step here turn step).names
-    deals_all = rw (ended, named) (Deals-trans ledger_first ledger ledger' here.ended counts here.names names story.devices deals)
+    deals_all = rw (ended, named) (Deals-trans ledger_first ledger ledger' here.ended harms here.names names story.devices deals)
 
     pub step_more : (Text : List ℕ → Type 0) (Plays' : Run → Type 0) → ((out : List ℕ) → Appends taken_first taken out → Text (out ++ answer_line said))
         → Plays' (after_step here turn step) → Story first unread' given' Text (λ run. Deals ledger_first ledger' run.ended run.names) Plays'

@@ -12,9 +12,9 @@ use Rattle.script_lang.specs.declared.last.LastLine.TheVariants as last
 use Rattle.script_lang.specs.declared.answer.StepAnswer.{StepAnswer}
 use Rattle.script_lang.specs.Texts.{answer_line}
 use Rattle.script_lang.specs.Grammar.{reading_of}
-use Rattle.script_run.specs.Run.{Run, fresh}
+use Rattle.script_run.specs.Run.{Run, fresh, no_harm}
 use Rattle.script_run.specs.Turn.{Turn}
-use Rattle.script_run.specs.Behind.{counts_of}
+use Rattle.script_run.specs.Behind.{harms_of}
 use Rattle.script_run.specs.Takes.{IsRun, run_after, output_of, LineShows}
 use Rattle.cache_replay.specs.Plays.{Ledger, Deals}
 use Rattle.cache_replay.specs.Stop.{NeedsSession, Attaches}
@@ -151,7 +151,7 @@ pub record Owes (ledger_first ledger : Ledger) (Reached : Run → Type 0) (run :
 -- a format that wanted memory attached a device of some name, and gave it back behind that of the session
 pub record GaveBack (ledger_first ledger : Ledger) (run : Run) : Type 0 where
   pub name : List ℕ
-  pub deals : Deals ledger_first ledger (counts_of run ++ 0 ∷ []) (run.names ++ name ∷ [])
+  pub deals : Deals ledger_first ledger (harms_of run ++ no_harm ∷ []) (run.names ++ name ∷ [])
 
 -- what is owed where memory was wanting, by a session that has so many devices
 abbrev pub OwesOrGave : (ledger_first ledger : Ledger) → ℕ → (Run → Type 0) → Run → Type 0

@@ -7,7 +7,7 @@ use Rattle.script_lang.specs.declared.last.LastLine.{LastLine}
 use Rattle.script_lang.specs.declared.last.LastLine.TheVariants as last
 use Rattle.script_lang.specs.Texts.{last_line}
 use Rattle.script_run.specs.Run.{Run}
-use Rattle.script_run.specs.Behind.{counts_of}
+use Rattle.script_run.specs.Behind.{harms_of}
 use Rattle.cache_replay.specs.Plays.{Ledger, Deals}
 use Rattle.cache_tool.specs.declared.top.Status.{Status}
 use Rattle.cache_tool.specs.declared.top.Status.TheVariants as status
@@ -53,9 +53,9 @@ abbrev pub WentOut : Option (List ℕ) → Option (List ℕ) → Counts → (bef
 WentOut old new sink before text = Appends old new (before ++ text) ⊎ CutOff old new sink before text
 
 -- the devices that were attached have the names of the lines that asked for them, in order, and each came back, in that
--- order, with a count that none told exceeds
+-- order, with a count that none told exceeds; of one that told its content to the end no piece was told as damaged
 abbrev pub DevicesBack : Ledger → Ledger → Run → Type 0
-DevicesBack before now run = Deals before now (counts_of run) run.names
+DevicesBack before now run = Deals before now (harms_of run) run.names
 
 -- so it is, or a format that wanted memory gave back one device more
 abbrev pub DevicesWanting : Ledger → Ledger → Run → Type 0

@@ -319,6 +319,7 @@ fn armed(memory: MemDisk, nth: u64) -> MemDisk
 
 impl Bay for FaultyBay {
     ghost use Rattle.std.specs.Prelude.{map, None};
+    ghost use Rattle.ats_disk.specs.Bay.{Return};
 
     type Dev = Faulty;
 
@@ -326,7 +327,8 @@ impl Bay for FaultyBay {
 
     ghost told = { λ bay. map (λ _. None) (⟦<MemBay as Bay>⟧.told bay.memory) };
 
-    ghost returned = { λ bay. ⟦<MemBay as Bay>⟧.returned bay.memory };
+    // No device could be trusted.
+    ghost returned = { λ bay. map (λ (back : Return). record back { trust = 0 }) (⟦<MemBay as Bay>⟧.returned bay.memory) };
 
     ghost out = { λ bay. ⟦<MemBay as Bay>⟧.out bay.memory };
 

@@ -3,6 +3,7 @@ pub mod Changed
 pub mod Cuts
 pub mod Carried
 pub mod Reading
+pub mod Others
 pub mod Held
 pub mod Listed
 pub mod Opened

@@ -12,7 +12,8 @@ use Rattle.script_lang.specs.declared.line.LineAnswer.{LineAnswer}
 use Rattle.script_lang.specs.declared.line.LineAnswer.TheVariants as line
 use Rattle.script_lang.specs.Grammar.{reading_of}
 use Rattle.actor_table.specs.Table.{number_of, with_actor}
-use Rattle.script_run.specs.Run.{Run, Stream, Holding, Writes, Reads, no_stream, with_value, writer_of, held_by, actor_of}
+use Rattle.stripe_core.specs.Unharmed.{has_damage}
+use Rattle.script_run.specs.Run.{Harm, Run, Stream, Holding, Writes, Reads, no_stream, with_value, writer_of, held_by, actor_of}
 use Rattle.script_run.specs.Turn.{Turn}
 use Rattle.script_run.specs.Answers.{took_of}
 
@@ -105,13 +106,17 @@ actors_behind actors (Some name) = with_actor actors name
 
 -- ---- steps
 
-abbrev pub fault_of : Option State → List ℕ
-fault_of None = []
-fault_of (Some s) = s.fault ∷ []
+-- what was told of a session's device
+abbrev pub harm_in : State → Harm
+harm_in s = record { fault = s.fault; damaged = has_damage s }
 
--- the counts of all devices, once the last one is given back
-abbrev pub counts_of : Run → List ℕ
-counts_of run = run.ended ++ fault_of run.state
+abbrev pub harm_of : Option State → List Harm
+harm_of None = []
+harm_of (Some s) = harm_in s ∷ []
+
+-- what was told of all devices, once the last one is given back
+abbrev pub harms_of : Run → List Harm
+harms_of run = run.ended ++ harm_of run.state
 
 -- a format ends the session before it, with its writers and readers, and attaches the device of its name
 abbrev pub formatted : Run → List ℕ → List Rec → Run
@@ -120,7 +125,7 @@ formatted run name added = record {
   streams = λ put. no_stream;
   actors = run.actors;
   held = λ actor. None;
-  ended = counts_of run;
+  ended = harms_of run;
   names = run.names ++ name ∷ [];
 }
 

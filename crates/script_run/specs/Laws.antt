@@ -1,12 +1,14 @@
 -- The bytes that lines give are those that were put.
-use Rattle.std.specs.Prelude.{ℕ, ◌≡◌, ◌-◌, ◌*◌, ◌<◌, ◌⊎◌, List, take, Some, None, Bool, true, false}
+use Rattle.std.specs.Prelude.{ℕ, ◌≡◌, ◌≢◌, ◌-◌, ◌*◌, ◌<◌, ◌⊎◌, List, take, Some, None, Bool, true, false}
 use Rattle.tape_base.specs.declared.geometries.Geometry.{Geometry}
 use Rattle.fragment_table.specs.Table.{TableRow}
 use Rattle.cache_model.specs.State.{State, Row, ReaderRow, after_all, live_row_of, reader_of}
 use Rattle.cache_model.specs.Verdict.{next_piece, next_row}
 use Rattle.cache_model.specs.declared.record.Rec.{Rec}
 use Rattle.cache_model.specs.Permit.{End, Intent, Look, Permit, ReadAll, ReadOn, StopReading}
-use Rattle.cache_model.specs.Legal.{Does, IsQuiet, IsStep, format_records}
+use Rattle.cache_model.specs.Legal.{Does, IsGiven, IsQuiet, IsStep, digest_in, format_records}
+use Rattle.tape_base.specs.Digest.{digest_of}
+use Rattle.doc_header.specs.Reading.{document_digest, payload_of}
 use Rattle.cache_model.specs.Vectors.{AreTold}
 use Rattle.stripe_core.specs.Find.{IsDocumentOf}
 use Rattle.script_lang.specs.declared.step.Step.{Step}
@@ -33,6 +35,13 @@ abbrev pub ReadIsOwn : Type 0
 ReadIsOwn = (p : Permit) (s : State) (streams : ℕ → Stream) (r : ReaderRow) (row : Row) (size : ℕ) (into : List ℕ) → AreOwn s streams → 0 < r.next
     → live_row_of s (next_piece r) ≡ Some row → IsDocumentOf p s row size into
     → (take size into ≡ piece_of s.geometry.fragment (streams r.put).bytes r.next) ⊎ IsOtherFragment p s streams
+
+-- a document of the digest of the fragment that a reader takes next, which has another payload than the
+-- one that the reader's table lists, is another than the one as which the fragment was placed
+abbrev pub OtherShows : Type 0
+OtherShows = (p : Permit) (s : State) (streams : ℕ → Stream) (reader : ℕ) (r : ReaderRow) (table : List TableRow) (entry : TableRow) (row : Row) (bytes : List ℕ) → AreOwn s streams → 0 < r.next
+    → reader_of s reader ≡ Some r → r.table ≡ Some table → next_row s r ≡ Some entry → live_row_of s (next_piece r) ≡ Some row
+    → IsGiven p s row bytes → row.digest ≡ document_digest bytes → digest_in entry ≢ digest_of (payload_of bytes) → IsOtherFragment p s streams
 
 -- a reader that hit something and was given all that its table lists was given all that was put
 abbrev pub AllIsGiven : Type 0

@@ -17,6 +17,14 @@ pub record Stream : Type 0 where
   pub bytes : List ℕ
   pub sealed : Bool
 
+-- what was told of a device: its count at the last fault, and whether a piece on it was damaged
+pub record Harm : Type 0 where
+  pub fault : ℕ
+  pub damaged : Bool
+
+abbrev pub no_harm : Harm
+no_harm = record { fault = 0; damaged = false }
+
 pub record Run : Type 0 where
   -- what the records of the session stand for, where there is a session
   pub state : Option State
@@ -26,8 +34,8 @@ pub record Run : Type 0 where
   pub actors : List (List ℕ)
   -- what each actor has, by its number
   pub held : ℕ → Option Holding
-  -- of each device that was given back, its count at the last fault that was told
-  pub ended : List ℕ
+  -- what was told of each device that was given back
+  pub ended : List Harm
   -- the name of each device that was attached
   pub names : List (List ℕ)
 

@@ -1,5 +1,5 @@
 // Laws of the bytes that lines give. These functions do nothing when they run.
-ghost use Rattle.script_run.specs.Laws.{AllIsGiven, FormatsOwn, ReadIsOwn, ReadsOwn, StepsOwn};
+ghost use Rattle.script_run.specs.Laws.{AllIsGiven, FormatsOwn, OtherShows, ReadIsOwn, ReadsOwn, StepsOwn};
 
 use cache_model::writer_is_ended;
 
@@ -21,6 +21,12 @@ pub fn steps_own()
 /// documents of one SHA-256 are shown.
 pub fn read_is_own()
     ensures { ReadIsOwn }
+{}
+
+/// A document of the digest of the fragment that a reader takes next, with another payload than is listed,
+/// shows two documents of one SHA-256.
+pub fn other_shows()
+    ensures { OtherShows }
 {}
 
 /// A reader that hit something and was given all that its table lists was given all that was put.

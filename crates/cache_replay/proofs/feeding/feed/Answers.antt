@@ -71,4 +71,4 @@ feed-preserved g c =
     c.feed.invariant c.in-Ok.count
     (wrote g.D.Disk g.R.Directory g.C.Chronicle c.args.stripe.now c.feed.stripe c.write.new.stripe c.args.writer.now c.feed.writer c.write.new.writer c.args.bytes.now c.feed.taken c.feed.invariant c.in-Ok.count
     (record { own = c.feed.invariant.writer; adds = c.in-Ok.ensures.adds; takes = c.in-Ok.ensures.writes; does = c.in-Ok.ensures.does; gathers = c.in-Ok.ensures.gathers; next_own = c.write.ensures.writer }))
-    c.if-taken-bytes.false c.write.ensures.stripe c.write.ensures.quiet c.write.ensures.later
+    c.if-taken-bytes.false c.write.ensures.stripe c.write.ensures.quiet c.write.ensures.later c.write.ensures.unharmed

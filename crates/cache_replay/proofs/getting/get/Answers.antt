@@ -1,6 +1,7 @@
-use Rattle.std.proofs.Common.{[]}
+use Rattle.std.proofs.Common.{[], inl}
 use Rattle.stripe_core.specs.Stripe.{kept_in, seen_in, state_in}
 use Rattle.cache_replay.specs.declared.getting.Got.TheVariants as got
+use Rattle.cache_replay.proofs.OtherNext.{stays_then}
 use Rattle.cache_replay.proofs.ReaderFrames.{kept_leaves, open_leaves}
 use Rattle.cache_replay.proofs.WholeGets.{began, follow_answered, gets_as_asked, hit_gets, hit_under, leaves_closed, miss_answered, nobody}
 use Rattle.cache_replay.proofs.getting.get.Goals as goal
@@ -47,3 +48,17 @@ returns-in-Miss-clause-gets g c =
 pub returns-in-Miss-clause-leaves : goal.returns-in-Miss-clause-leaves
 returns-in-Miss-clause-leaves g c =
     kept_leaves _ (kept_in g.C.Chronicle c.args.stripe.now) (kept_in g.C.Chronicle c.open_read.new.stripe) _ c.in_ok-reader.ensures.adds (open_leaves (state_in g.C.Chronicle c.args.stripe.now) nobody c.args.key c.args.request _)
+
+pub returns-in-Hit-clause-unharmed : goal.returns-in-Hit-clause-unharmed
+returns-in-Hit-clause-unharmed g c = λ run told owned.
+    let k = kept_in g.C.Chronicle c.args.stripe.now in
+    stays_then (inl c.open_read.ensures.unharmed)
+    (c.read_whole.ensures.unharmed (began k c.args.key c.args.request (seen_in g.D.Disk g.R.Directory c.args.stripe.now).device.faults) run
+    (hit_under c.reads_own.ensures k (kept_in g.C.Chronicle c.open_read.new.stripe) (seen_in g.D.Disk g.R.Directory c.args.stripe.now).device (seen_in g.D.Disk g.R.Directory c.open_read.new.stripe).device
+    c.args.key c.args.request c.open_read.ensures.later c.in-Hit.reader c.in-Hit.put c.in-Hit.length (rw c.in-Hit.is at c.in_ok-reader.ensures.adds) (rw c.in-Hit.is at c.in_ok-reader.ensures.opens) (rw c.in-Hit.is at c.in_ok-reader.ensures.tells)) told owned)
+
+pub returns-in_err-close-in-Follow-clause-unharmed : goal.returns-in_err-close-in-Follow-clause-unharmed
+returns-in_err-close-in-Follow-clause-unharmed g c = λ run told owned. stays_then (inl c.open_read.ensures.unharmed) (inl c.close.ensures.unharmed)
+
+pub returns-in_ok-close-in-Follow-clause-unharmed : goal.returns-in_ok-close-in-Follow-clause-unharmed
+returns-in_ok-close-in-Follow-clause-unharmed g c = λ run told owned. stays_then (inl c.open_read.ensures.unharmed) (inl c.close.ensures.unharmed)

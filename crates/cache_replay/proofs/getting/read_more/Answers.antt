@@ -4,6 +4,7 @@ use Rattle.stripe_core.specs.Stripe.{kept_in, seen_in, state_in}
 use Rattle.script_lang.specs.declared.answer.StepAnswer.TheVariants as answer
 use Rattle.script_run.specs.Answers.{broken_said}
 use Rattle.cache_replay.specs.Getting.{IsAnswered, IsUnderway}
+use Rattle.cache_replay.proofs.OtherNext.{more_harms}
 use Rattle.cache_replay.proofs.ReaderFrames.{kept_leaves, read_leaves}
 use Rattle.cache_replay.proofs.WholeReads.{broken_comes, end_comes, nearer, piece_comes, size_within, taken_size, waits_comes}
 use Rattle.cache_replay.proofs.getting.read_more.Goals as goal
@@ -72,3 +73,27 @@ returns-in-NotYet-clause-comes g c = λ b under.
     (waits_comes c.reads_own.ensures c.read_is_own.ensures c.all_is_given.ensures b (kept_in g.C.Chronicle c.args.stripe.now) (kept_in g.C.Chronicle c.read_next.new.stripe)
     (seen_in g.D.Disk g.R.Directory c.args.stripe.now).device (seen_in g.D.Disk g.R.Directory c.read_next.new.stripe).device c.args.reader.now c.args.body.now.items c.read_next.new.into under c.requires.hit c.requires.reader.first
     c.requires.quiet c.read_next.ensures.later c.in-NotYet.cut (rw c.in-NotYet.is at c.in_ok-index.ensures.reads))
+
+pub returns-in_err-index-clause-unharmed : goal.returns-in_err-index-clause-unharmed
+returns-in_err-index-clause-unharmed g c = λ b.
+    more_harms c.other_shows.ensures b (seen_in g.D.Disk g.R.Directory c.args.stripe.now).device.faults (kept_in g.C.Chronicle c.args.stripe.now) c.args.reader.now c.args.body.now.items c.requires.reader.first c.read_next.ensures.unharmed
+
+pub returns-in_err-extend_from_slice-in-Piece-clause-unharmed : goal.returns-in_err-extend_from_slice-in-Piece-clause-unharmed
+returns-in_err-extend_from_slice-in-Piece-clause-unharmed g c = λ b.
+    more_harms c.other_shows.ensures b (seen_in g.D.Disk g.R.Directory c.args.stripe.now).device.faults (kept_in g.C.Chronicle c.args.stripe.now) c.args.reader.now c.args.body.now.items c.requires.reader.first c.read_next.ensures.unharmed
+
+pub returns-in_ok-extend_from_slice-in-Piece-clause-unharmed : goal.returns-in_ok-extend_from_slice-in-Piece-clause-unharmed
+returns-in_ok-extend_from_slice-in-Piece-clause-unharmed g c = λ b.
+    more_harms c.other_shows.ensures b (seen_in g.D.Disk g.R.Directory c.args.stripe.now).device.faults (kept_in g.C.Chronicle c.args.stripe.now) c.args.reader.now c.args.body.now.items c.requires.reader.first c.read_next.ensures.unharmed
+
+pub returns-in-End-clause-unharmed : goal.returns-in-End-clause-unharmed
+returns-in-End-clause-unharmed g c = λ b.
+    more_harms c.other_shows.ensures b (seen_in g.D.Disk g.R.Directory c.args.stripe.now).device.faults (kept_in g.C.Chronicle c.args.stripe.now) c.args.reader.now c.args.body.now.items c.requires.reader.first c.read_next.ensures.unharmed
+
+pub returns-in-NotYet-clause-unharmed : goal.returns-in-NotYet-clause-unharmed
+returns-in-NotYet-clause-unharmed g c = λ b.
+    more_harms c.other_shows.ensures b (seen_in g.D.Disk g.R.Directory c.args.stripe.now).device.faults (kept_in g.C.Chronicle c.args.stripe.now) c.args.reader.now c.args.body.now.items c.requires.reader.first c.read_next.ensures.unharmed
+
+pub returns-in-Broken-clause-unharmed : goal.returns-in-Broken-clause-unharmed
+returns-in-Broken-clause-unharmed g c = λ b.
+    more_harms c.other_shows.ensures b (seen_in g.D.Disk g.R.Directory c.args.stripe.now).device.faults (kept_in g.C.Chronicle c.args.stripe.now) c.args.reader.now c.args.body.now.items c.requires.reader.first c.read_next.ensures.unharmed

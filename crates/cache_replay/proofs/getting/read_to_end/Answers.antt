@@ -1,9 +1,12 @@
-use Rattle.std.proofs.Common.{[], ◌∷◌, subst, sym, ap, ◌∙◌}
+use Rattle.std.proofs.Common.{[], ◌∷◌, subst, sym, ap, ◌∙◌, arith}
+use Rattle.std.proofs.lemmas.Grind.{common_steps}
+use Rattle.std.specs.Prelude.{is_some}
 use Rattle.cache_model.specs.Permit.{StopReading}
 use Rattle.stripe_core.specs.Stripe.{kept_in, seen_in}
 use Rattle.script_run.specs.Answers.{broken_said}
 use Rattle.script_lang.specs.declared.answer.StepAnswer.TheVariants as answer
 use Rattle.cache_replay.specs.Getting.{IsAnswered}
+use Rattle.cache_replay.proofs.OtherNext.{stays_then}
 use Rattle.cache_replay.proofs.WholeReads.{answered_as}
 use Rattle.cache_replay.proofs.getting.read_to_end.Goals as goal
 
@@ -26,3 +29,35 @@ returns-in-Broken-clause-answers g c = λ b under.
     subst (λ n. IsAnswered b (seen_in g.D.Disk g.R.Directory c.read_more.new.stripe).device.faults (kept_in g.C.Chronicle c.read_more.new.stripe) (StopReading n ∷ []) [] (broken_said c.in-Broken.why))
     (c.read_more.ensures.number ∙ c.loop-body.invariant.number)
     ((rw c.in-Broken.is at c.in_ok-read_more.ensures.comes) b (c.loop-body.invariant.under b under))
+
+pub loop-body-preserved : goal.loop-body-preserved
+loop-body-preserved g c = record {
+  stripe = c.read_more.ensures.stripe;
+  quiet = c.read_more.ensures.quiet;
+  reader = c.read_more.ensures.reader;
+  number = c.read_more.ensures.number ∙ c.loop-body.invariant.number;
+  put = c.read_more.ensures.put ∙ c.loop-body.invariant.put;
+  hit = ap is_some c.read_more.ensures.table ∙ c.loop-body.invariant.hit;
+  page = grind (arith, common_steps);
+  under = λ b under. (rw c.in-Piece.is at c.in_ok-read_more.ensures.comes) b (c.loop-body.invariant.under b under);
+  leaves = grind (arith, common_steps);
+  harms = λ b run under told owned. stays_then (c.loop-body.invariant.harms b run under told owned) (c.read_more.ensures.unharmed b run (c.loop-body.invariant.under b under) told owned);
+  trust = omega (arith, c.read_more.ensures.trust, c.loop-body.invariant.trust);
+  later = omega (arith, c.read_more.ensures.later, c.loop-body.invariant.later);
+}
+
+pub returns-in_err-read_more-clause-unharmed : goal.returns-in_err-read_more-clause-unharmed
+returns-in_err-read_more-clause-unharmed g c = λ b run under told owned.
+    stays_then (c.loop-body.invariant.harms b run under told owned) (c.read_more.ensures.unharmed b run (c.loop-body.invariant.under b under) told owned)
+
+pub returns-in-End-clause-unharmed : goal.returns-in-End-clause-unharmed
+returns-in-End-clause-unharmed g c = λ b run under told owned.
+    stays_then (c.loop-body.invariant.harms b run under told owned) (c.read_more.ensures.unharmed b run (c.loop-body.invariant.under b under) told owned)
+
+pub returns-in-NotYet-clause-unharmed : goal.returns-in-NotYet-clause-unharmed
+returns-in-NotYet-clause-unharmed g c = λ b run under told owned.
+    stays_then (c.loop-body.invariant.harms b run under told owned) (c.read_more.ensures.unharmed b run (c.loop-body.invariant.under b under) told owned)
+
+pub returns-in-Broken-clause-unharmed : goal.returns-in-Broken-clause-unharmed
+returns-in-Broken-clause-unharmed g c = λ b run under told owned.
+    stays_then (c.loop-body.invariant.harms b run under told owned) (c.read_more.ensures.unharmed b run (c.loop-body.invariant.under b under) told owned)

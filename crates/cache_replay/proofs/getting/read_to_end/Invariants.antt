@@ -1,8 +1,14 @@
-use Rattle.std.proofs.Common.{◌≡◌, ◌*◌, ◌≤◌, [], true, length, is_some, Some, None}
+use Rattle.std.proofs.Common.{◌≡◌, ◌*◌, ◌≤◌, ◌⊎◌, [], true, length, is_some, Some, None}
 use Rattle.tape_base.specs.Geometry.{budget_of}
+use Rattle.cache_model.specs.Kept.{state_of}
 use Rattle.cache_model.specs.Legal.{IsQuiet}
+use Rattle.cache_model.specs.Vectors.{AreTold}
 use Rattle.stripe_core.specs.Stripe.{IsStripe, kept_in, seen_in, state_in}
+use Rattle.stripe_core.specs.Unharmed.{StaysUnharmed}
 use Rattle.stripe_read.specs.Readers.{IsOpenReader}
+use Rattle.script_run.specs.Run.{Run}
+use Rattle.script_run.specs.Own.{AreOwn}
+use Rattle.script_run.specs.Takes.{Shows}
 use Rattle.cache_replay.specs.Session.{LeavesBut}
 use Rattle.cache_replay.specs.Getting.{Began, IsUnderway, rows_left}
 use Rattle.cache_replay.proofs.getting.read_to_end.Given as goal
@@ -19,6 +25,9 @@ invariant-loop-body g l = record {
   under : (b : Began) → IsUnderway b (seen_in g.D.Disk g.R.Directory l.fn.stripe).device.faults (kept_in g.C.Chronicle l.fn.stripe) l.fn.reader []
       → IsUnderway b (seen_in g.D.Disk g.R.Directory l.stripe).device.faults (kept_in g.C.Chronicle l.stripe) l.reader l.body.items;
   leaves : LeavesBut None (Some l.fn.reader.reader) (state_in g.C.Chronicle l.fn.stripe) (state_in g.C.Chronicle l.stripe);
+  harms : (b : Began) (run : Run) → IsUnderway b (seen_in g.D.Disk g.R.Directory l.fn.stripe).device.faults (kept_in g.C.Chronicle l.fn.stripe) l.fn.reader [] → AreTold (state_of b.kept) → AreOwn (state_of b.kept) run.streams
+      → StaysUnharmed g.D.Disk g.R.Directory g.C.Chronicle l.fn.stripe l.stripe ⊎ Shows run (state_of b.kept) b.asks;
+  trust : (seen_in g.D.Disk g.R.Directory l.stripe).device.trust ≤ (seen_in g.D.Disk g.R.Directory l.fn.stripe).device.trust;
   later : (seen_in g.D.Disk g.R.Directory l.fn.stripe).device.faults ≤ (seen_in g.D.Disk g.R.Directory l.stripe).device.faults;
 }
 

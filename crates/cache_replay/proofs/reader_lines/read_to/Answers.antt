@@ -3,6 +3,7 @@ use Rattle.stripe_core.specs.Stripe.{kept_in, seen_in, state_in}
 use Rattle.stripe_read.specs.Nexts.{read_adds}
 use Rattle.cache_replay.specs.ReaderLines.{NextEnds}
 use Rattle.cache_replay.proofs.NextLine.{next_ends, reads_within}
+use Rattle.cache_replay.proofs.OtherNext.{next_harms}
 use Rattle.cache_replay.proofs.ReaderFrames.{kept_leaves, read_leaves}
 use Rattle.cache_replay.proofs.reader_lines.read_to.Goals as goal
 
@@ -30,3 +31,15 @@ returns-clause-ends g c = λ run owned reader.
     (next_ends c.read_is_own.ensures (kept_in g.C.Chronicle c.args.stripe.now) (kept_in g.C.Chronicle c.read_next.new.stripe)
     (seen_in g.D.Disk g.R.Directory c.args.stripe.now).device (seen_in g.D.Disk g.R.Directory c.read_next.new.stripe).device
     c.args.reader.now c.read_next.new.reader c.in_ok-piece.piece c.read_next.new.into c.in_ok-piece.ensures.adds c.in_ok-piece.ensures.reads c.in_ok-piece.ensures.keeps c.requires.reader.first run owned reader)
+
+pub returns-in_err-piece-clause-unharmed : goal.returns-in_err-piece-clause-unharmed
+returns-in_err-piece-clause-unharmed g c =
+    next_harms c.other_shows.ensures (state_in g.C.Chronicle c.args.stripe.now) c.args.reader.now c.requires.reader.first c.read_next.ensures.unharmed
+
+pub returns-in_err-piece_said-clause-unharmed : goal.returns-in_err-piece_said-clause-unharmed
+returns-in_err-piece_said-clause-unharmed g c =
+    next_harms c.other_shows.ensures (state_in g.C.Chronicle c.args.stripe.now) c.args.reader.now c.requires.reader.first c.read_next.ensures.unharmed
+
+pub returns-clause-unharmed : goal.returns-clause-unharmed
+returns-clause-unharmed g c =
+    next_harms c.other_shows.ensures (state_in g.C.Chronicle c.args.stripe.now) c.args.reader.now c.requires.reader.first c.read_next.ensures.unharmed

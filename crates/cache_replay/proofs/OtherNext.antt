@@ -1,0 +1,88 @@
+-- Where a reader's next fragment is damaged on a device that tells its content, two documents of one
+-- SHA-256 are shown.
+use Rattle.std.proofs.Common.{◌≡◌, ℕ, ◌≤◌, ◌⊎◌, inl, inr, List, [], ◌∷◌, refl, sym, ◌∙◌, ap, subst}
+use Rattle.std.specs.Prelude.{Option, Some, None, option_map}
+use Rattle.ats_disk.specs.Device.{State as Device}
+use Rattle.fragment_table.specs.Table.{Table}
+use Rattle.tape_base.specs.declared.digests.Digest.{Digest}
+use Rattle.cache_model.specs.State.{State}
+use Rattle.cache_model.specs.Kept.{Kept, state_of}
+use Rattle.cache_model.specs.Permit.{DeviceRead, IsAmong, Permit, ReadAll, ReadOn, StopReading, to_do}
+use Rattle.cache_model.specs.Legal.{digest_in, nothing}
+use Rattle.cache_model.specs.Vectors.{AreTold}
+use Rattle.stripe_core.specs.Covers.{Covers}
+use Rattle.stripe_core.specs.Unharmed.{StayUnharmed}
+use Rattle.stripe_core.proofs.Unharmed.{stays_unharmed-trans}
+use Rattle.stripe_vectors.proofs.Finding.{own_covers, own_permit}
+use Rattle.stripe_read.specs.declared.reader.Reader.{Reader}
+use Rattle.stripe_read.specs.Readers.{IsReaderOf, row_by}
+use Rattle.stripe_read.specs.Nexts.{IsOtherNext}
+use Rattle.script_run.specs.Run.{Run, Stream}
+use Rattle.script_run.specs.Laws.{OtherShows}
+use Rattle.script_run.specs.Own.{AreOwn, IsOtherFragment}
+use Rattle.script_run.specs.Takes.{Shows}
+use Rattle.cache_replay.specs.Getting.{Began, IsUnderway}
+use Rattle.cache_replay.proofs.ReaderFrames.{state_behind}
+
+-- ---- one call behind another
+
+-- behind both no more pieces are told as damaged, or one of them shows
+pub stays_then : {X : Type 0} {a b c : Device} {s t u : State} → StayUnharmed a b s t ⊎ X → StayUnharmed b c t u ⊎ X → StayUnharmed a c s u ⊎ X
+stays_then {a = a} {b = b} {c = c} {s = s} {t = t} {u = u} (inl first) (inl next) = inl (stays_unharmed-trans a b c s t u first next)
+stays_then (inl first) (inr shows) = inr shows
+stays_then (inr shows) next = inr shows
+
+-- ---- what is shown
+
+some_is : {X : Type 0} (x y : X) → Some x ≡ Some y → x ≡ y
+some_is x y h = cc
+
+-- the document that the device gave
+abbrev pub other_read : (s : State) (r : Reader) → IsOtherNext s r → DeviceRead
+other_read s r other = record { place = other.other.row.place; bytes = other.other.bytes }
+
+-- a step that covers a call still does where it knows of a read more
+pub covers_more : (before after : ℕ) (x : DeviceRead) (reads : List DeviceRead) → Covers (own_permit before after (x ∷ reads)) before after reads
+covers_more before after x reads =
+    let all : Covers (own_permit before after (x ∷ reads)) before after (x ∷ reads) = own_covers before after (x ∷ reads) in
+    record { plain = all.plain; from = all.from; upto = all.upto; knows = all.knows.1 }
+
+pub other_shown : (shows : OtherShows) (p : Permit) (s : State) (streams : ℕ → Stream) (r : Reader) (other : IsOtherNext s r) → IsAmong (other_read s r other) p.reads
+    → AreOwn s streams → IsReaderOf s r → 1 ≤ r.next → IsOtherFragment p s streams
+other_shown shows p s streams r other among owned reader first = by_table r.table refl other.other.listed_is
+  where
+    by_table : (o : Option Table) → r.table ≡ o → option_map (λ (t : Table). digest_in other.entry) o ≡ Some other.other.kept → IsOtherFragment p s streams
+    by_table None e listed = let no : None ≡ Some other.other.kept = listed in cc
+    by_table (Some t) e listed =
+        shows p s streams r.reader (row_by reader.actor r) t.rows other.entry other.other.row other.other.bytes owned first reader.found
+        (ap (option_map (λ (x : Table). x.rows)) e) other.cut other.other.live
+        (record { written = other.other.written; given = among; whole = other.other.whole }) other.other.digest
+        (λ same. other.other.differ (sym (some_is (digest_in other.entry) other.other.kept listed) ∙ same))
+
+-- ---- a call
+
+-- a reader that reads on alone
+pub next_harms : {X : Type 0} (shows : OtherShows) (s : State) (r : Reader) → 1 ≤ r.next → X ⊎ IsOtherNext s r
+    → (run : Run) → AreOwn s run.streams → IsReaderOf s r → X ⊎ Shows run s (ReadOn r.reader ∷ [])
+next_harms shows s r first (inl stays) run owned reader = inl stays
+next_harms shows s r first (inr other) run owned reader =
+    let p : Permit = own_permit 0 0 (other_read s r other ∷ []) in
+    inr (record { device = p; added = []; left = to_do (ReadOn r.reader ∷ []); grows = nothing; other = inr (other_shown shows p s run.streams r other (inl refl) owned reader first) })
+
+-- one that reads on some way into a step
+pub more_harms : {X : Type 0} (shows : OtherShows) (b : Began) (now : ℕ) (k : Kept) (r : Reader) (body : List ℕ) → 1 ≤ r.next → X ⊎ IsOtherNext (state_of k) r
+    → (run : Run) → IsUnderway b now k r body → AreTold (state_of b.kept) → AreOwn (state_of b.kept) run.streams → X ⊎ Shows run (state_of b.kept) b.asks
+more_harms shows b now k r body first (inl stays) run under told owned = inl stays
+more_harms shows b now k r body first (inr other) run under told owned =
+    let x : DeviceRead = other_read (state_of k) r other in
+    let p : Permit = own_permit b.faults now (x ∷ under.reads) in
+    elim (under.does p run (covers_more b.faults now x under.reads) told owned) [
+      | inl way ↦ inr (record {
+        device = p;
+        added = way.added;
+        left = to_do (ReadAll r.reader ∷ StopReading r.reader ∷ []);
+        grows = way.grows;
+        other = inr (subst (λ t. IsOtherFragment p t run.streams) (state_behind b.kept k way.added way.adds) (other_shown shows p (state_of k) run.streams r other (inl refl) way.own way.reader first));
+      })
+      | inr shown ↦ inr shown
+    ]

@@ -1,0 +1,80 @@
+-- What was told of a session's device: no more faults than it counted, and no damage where it tells its content.
+use Rattle.std.proofs.Common.{◌≡◌, ℕ, ◌≤◌, [], ◌∷◌, sym, subst, arith}
+use Rattle.std.specs.Prelude.{Option, Some, None}
+use Rattle.ats_disk.specs.Bay.{return_of_device}
+use Rattle.ats_disk.specs.Device.{State as Device}
+use Rattle.ats_disk.specs.declared.device.Disk.{Ghosts as DiskGhosts}
+use Rattle.dir_table.specs.declared.directory.Directory.{Ghosts as DirectoryGhosts}
+use Rattle.cache_chronicle.specs.declared.chronicle.Chronicle.{Ghosts as ChronicleGhosts}
+use Rattle.cache_model.specs.State.{State}
+use Rattle.stripe_core.specs.Stripe.{seen_in, state_in}
+use Rattle.stripe_core.specs.Unharmed.{IsUnharmed, StaysUnharmed}
+use Rattle.script_run.specs.Run.{Run}
+use Rattle.script_run.specs.Behind.{harm_in, harm_of}
+use Rattle.cache_replay.specs.declared.session.Session.{Session}
+use Rattle.cache_replay.specs.declared.session.Part.{Part}
+use Rattle.cache_replay.specs.declared.session.Holding.{Holding}
+use Rattle.cache_replay.specs.Session.{IsAt, IsSession, return_of, slots_in}
+use Rattle.cache_replay.specs.Plays.{AreReached, HasReached, IsUnharmedAt, Plays, PlaysAt}
+
+-- ---- one device
+
+-- with less trust less is said
+pub less_trusted : (old new : Device) (s : State) → new.trust ≤ old.trust → IsUnharmed old s → IsUnharmed new s
+less_trusted old new s less h = record { unharmed = λ told. h.unharmed (omega (arith, told, less)) }
+
+pub one_reached : (device : Device) (s : State) → s.fault ≤ device.faults → IsUnharmed device s → AreReached (harm_in s ∷ []) (return_of_device device ∷ [])
+one_reached device s counted h = (record { counted = counted; unharmed = λ trusted. h.unharmed trusted }, tt)
+
+module _ {D R C : Type 0} (disk : DiskGhosts D) (directory : DirectoryGhosts R) (chronicle : ChronicleGhosts C) where
+  abbrev device_of : Part D R C → Device
+  device_of part = (seen_in disk directory part.stripe).device
+
+  -- ---- the device of a part
+
+  -- behind a call on it
+  pub part_unharmed : (old new : Part D R C) → StaysUnharmed disk directory chronicle old.stripe new.stripe → IsUnharmedAt disk directory chronicle (Some old) → IsUnharmedAt disk directory chronicle (Some new)
+  part_unharmed old new stays h = stays.unharmed h
+
+  -- behind a call on it of which nothing is told
+  pub part_reached : (run : Run) (old new : Part D R C) → run.state ≡ Some (state_in chronicle old.stripe) → (state_in chronicle old.stripe).fault ≤ (device_of new).faults → (device_of new).trust ≤ (device_of old).trust
+      → IsUnharmedAt disk directory chronicle (Some old) → AreReached (harm_of run.state) (return_of disk directory chronicle (Some new))
+  part_reached run old new state counted less h =
+      subst (λ o. AreReached (harm_of o) (return_of disk directory chronicle (Some new))) (sym state)
+      (one_reached (device_of new) (state_in chronicle old.stripe) counted (less_trusted (device_of old) (device_of new) (state_in chronicle old.stripe) less h))
+
+  -- ---- that of a session
+
+  pub unharmed_in : (session : Session D R C) (part : Part D R C) → session.part ≡ Some part → IsUnharmedAt disk directory chronicle session.part → IsUnharmedAt disk directory chronicle (Some part)
+  unharmed_in session part is h = subst (λ o. IsUnharmedAt disk directory chronicle o) is h
+
+  -- behind a line that is one call on its part
+  pub session_unharmed : (old new : Session D R C) (before after : Part D R C) → old.part ≡ Some before → new.part ≡ Some after → StaysUnharmed disk directory chronicle before.stripe after.stripe
+      → IsUnharmedAt disk directory chronicle old.part → IsUnharmedAt disk directory chronicle new.part
+  session_unharmed old new before after was is stays h =
+      subst (λ o. IsUnharmedAt disk directory chronicle o) (sym is) (part_unharmed before after stays (unharmed_in old before was h))
+
+  playing_at : (run : Run) (session : Session D R C) (o : Option (Part D R C)) → session.part ≡ o → Plays disk directory chronicle run session → PlaysAt disk directory chronicle run o (slots_in session)
+  playing_at run session o is plays = subst (λ p. PlaysAt disk directory chronicle run p (slots_in session)) is plays.at
+
+  -- behind one that ended the run
+  pub session_reached : (run : Run) (old new : Session D R C) (before after : Part D R C) → old.part ≡ Some before → new.part ≡ Some after → Plays disk directory chronicle run old
+      → (state_in chronicle before.stripe).fault ≤ (device_of after).faults → (device_of after).trust ≤ (device_of before).trust → HasReached disk directory chronicle run new
+  session_reached run old new before after was is plays counted less =
+      subst (λ o. AreReached (harm_of run.state) (return_of disk directory chronicle o)) (sym is)
+      (part_reached run before after (playing_at run old (Some before) was plays).state counted less (unharmed_in old before was plays.unharmed))
+
+  -- where there is no cache nothing was told
+  pub none_reached : (run : Run) (old new : Session D R C) → old.part ≡ None → new.part ≡ None → Plays disk directory chronicle run old → HasReached disk directory chronicle run new
+  none_reached run old new was is plays =
+      subst (λ o. AreReached (harm_of run.state) (return_of disk directory chronicle o)) (sym is)
+      (subst (λ o. AreReached (harm_of o) []) (sym (playing_at run old None was plays).state) tt)
+
+  reached_at : (run : Run) (part : Option (Part D R C)) (slots : ℕ → Option Holding) → IsAt disk directory chronicle part slots → PlaysAt disk directory chronicle run part slots → IsUnharmedAt disk directory chronicle part
+      → AreReached (harm_of run.state) (return_of disk directory chronicle part)
+  reached_at run None slots h plays unharmed = subst (λ o. AreReached (harm_of o) []) (sym plays.state) tt
+  reached_at run (Some part) slots h plays unharmed = part_reached run part part plays.state h.part.stripe.pieces.faults (omega arith) unharmed
+
+  -- the device of a session is as was told
+  pub plays_reached : (run : Run) (session : Session D R C) → IsSession disk directory chronicle session → Plays disk directory chronicle run session → HasReached disk directory chronicle run session
+  plays_reached run session h plays = reached_at run session.part (slots_in session) h plays.at plays.unharmed

@@ -1,0 +1,17 @@
+use Rattle.std.proofs.Common.{refl}
+use Rattle.std.proofs.lemmas.Result.{IfErr-weaker, IfOk-weaker}
+use Rattle.cache_replay.proofs.OnSession.{line_reached}
+use Rattle.cache_replay.proofs.WriterSessions.{memory_stops, writer_ends}
+use Rattle.cache_replay.proofs.writer_lines.close_line.Goals as goal
+
+pub returns-in-Some-clause-ends : goal.returns-in-Some-clause-ends
+returns-in-Some-clause-ends g c =
+    IfOk-weaker c.close_in.result _ _
+    (writer_ends g.D.Disk g.R.Directory g.C.Chronicle c.args.session.now _ c.in-Some.part c.close_in.new.part c.in-Some.is refl c.close_in.ensures.unharmed _) c.close_in.ensures.ends
+
+pub returns-in-Some-clause-reached : goal.returns-in-Some-clause-reached
+returns-in-Some-clause-reached g c =
+    line_reached g.D.Disk g.R.Directory g.C.Chronicle c.args.session.now c.in-Some.part c.close_in.new.part c.close_in.result c.in-Some.is c.requires.session c.close_in.ensures.later c.close_in.ensures.unharmed
+
+pub returns-in-Some-clause-stop : goal.returns-in-Some-clause-stop
+returns-in-Some-clause-stop g c = IfErr-weaker c.close_in.result _ _ (λ why is run plays. memory_stops run why is) c.close_in.ensures.stop
