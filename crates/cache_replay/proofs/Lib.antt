@@ -1,4 +1,4 @@
-mod Unharming
+pub mod Unharming
 mod Frames
 mod Dispatch
 mod Plain

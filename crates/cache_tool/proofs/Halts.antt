@@ -11,11 +11,9 @@ use Rattle.script_lang.specs.declared.answer.StepAnswer.{StepAnswer}
 use Rattle.script_lang.specs.Texts.{answer_line}
 use Rattle.script_run.specs.Run.{Run}
 use Rattle.cache_replay.specs.declared.session.Session.{Session}
-use Rattle.cache_replay.specs.declared.session.Part.{Part}
-use Rattle.cache_replay.specs.declared.session.Holding.{Holding}
-use Rattle.script_run.specs.Behind.{harm_of}
-use Rattle.cache_replay.specs.Session.{IsSession, IsAt, return_of, slots_in}
-use Rattle.cache_replay.specs.Plays.{AreReached, DeviceMoves, HasReached, IsUnharmedAt, Ledger, Plays, PlaysAt}
+use Rattle.cache_replay.specs.Session.{IsSession}
+use Rattle.cache_replay.specs.Plays.{DeviceMoves, HasReached, Ledger, Plays}
+use Rattle.cache_replay.proofs.Unharming.{plays_reached}
 use Rattle.cache_tool.specs.declared.run.Halt.{Halt}
 use Rattle.cache_tool.specs.declared.run.Halt.TheVariants.{Stop, WriteFault, Memory}
 use Rattle.cache_tool.specs.Story.{SendsFront, SendsAnswers, Counts}
@@ -53,14 +51,9 @@ module _ {D R C : Type 0} (disk : DiskGhosts D) (directory : DirectoryGhosts R) 
   unwritten_halts run step session said before now old new sink bay moves Memory h = record { said = said; done = moves; text = h }
   unwritten_halts run step session said before now old new sink bay moves (Stop why) h = absurd h
 
-  reaches : (run : Run) (part : Option (Part D R C)) (slots : ℕ → Option Holding) → IsAt disk directory chronicle part slots → PlaysAt disk directory chronicle run part slots → IsUnharmedAt disk directory chronicle part
-      → AreReached (harm_of run.state) (return_of disk directory chronicle part)
-  reaches run None slots is at unharmed = rw at.state tt
-  reaches run (Some part) slots is at unharmed = rw at.state (record { counted = is.part.stripe.pieces.faults; unharmed = unharmed.unharmed }, tt)
-
   -- the device of a session is as it was told
   pub plays_reach : (session : Session D R C) → IsSession disk directory chronicle session → (run : Run) → Plays disk directory chronicle run session → HasReached disk directory chronicle run session
-  plays_reach session is run plays = reaches run session.part (slots_in session) is plays.at plays.unharmed
+  plays_reach session is run plays = plays_reached disk directory chronicle run session is plays
 
 -- ---- the text so far
 

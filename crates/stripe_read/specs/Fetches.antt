@@ -58,8 +58,8 @@ IsFetched p s id None listed answer into = answer ≡ found.Missing (cause_of_pi
 IsFetched p s id (Some row) listed (found.Found size) into = IsDocumentOf p s row size into × IsListedAs s row listed (take size into)
 IsFetched p s id (Some row) listed (found.Missing why) into = Trouble p s row (cause_records row why) why ⊎ IsOther p s row listed why
 
--- the device gave the document of a live piece that was written out, whose payload is not the one that
--- is listed
+-- there is a document of the recorded digest of a live piece that was written out, whose payload is not
+-- the one that is listed
 pub record IsOtherDocument (s : State) (id : PieceId) (listed : Option Digest) : Type 0 where
   pub row : Row
   pub kept : Digest

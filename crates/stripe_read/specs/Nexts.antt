@@ -78,8 +78,8 @@ pub record ReadsOn (s : State) (old new : Device) (r : Reader) (answer : NextPie
   pub does : (p : Permit) → Covers p old.faults new.faults reads → IsReaderOf s r → Does p s (ReadOn r.reader) (read_adds s r answer) Done
   pub gives : (p : Permit) → Covers p old.faults new.faults reads → Gives p s r answer into
 
--- the device gave the document of the fragment that it takes next, whose payload is not the one that
--- the reader's table lists
+-- there is a document of the recorded digest of the fragment that it takes next, whose payload is not
+-- the one that the reader's table lists
 pub record IsOtherNext (s : State) (r : Reader) : Type 0 where
   pub entry : TableRow
   pub cut : next_row s (as_row r) ≡ Some entry
