@@ -1,8 +1,9 @@
 -- What a contract sees of a `MemBay`.
-use Rattle.std.specs.Prelude.{◌≡◌, ℕ, ◌+◌, ◌==◌, List, [], length, map, replicate, Option, Some, if◌then◌else◌}
+use Rattle.std.specs.Prelude.{◌≡◌, ℕ, ◌+◌, ◌==◌, List, [], map, replicate, Option, Some, if◌then◌else◌, refl}
+use Rattle.std.proofs.lemmas.List.Elements.{All-replicate}
 use Rattle.ats_disk.specs.Device.{Image}
 use Rattle.ats_disk.specs.Blocks.{blank}
-use Rattle.ats_disk.specs.Bay.{Return}
+use Rattle.ats_disk.specs.Bay.{Return, CameBackFaultless}
 use Rattle.ats_disk.specs.declared.mem_bay.MemBay.{MemBay}
 use Rattle.ats_disk.specs.declared.mem_bay.TheConstants.{OWN_BLOCKS}
 
@@ -11,14 +12,18 @@ names_of bay = map (λ name. name.items) bay.names.items
 
 -- each device that it ever gave was blank
 abbrev pub told_by : MemBay → List (Option Image)
-told_by bay = replicate (length bay.returned.items + bay.out) (Some blank)
+told_by bay = replicate (bay.returned + bay.out) (Some blank)
 
--- each device could be trusted to the end
-abbrev pub return_with : ℕ → Return
-return_with faults = record { faults = faults; trust = 1 }
+-- a device that came back without faults, and could be trusted to the end
+abbrev pub faultless_return : Return
+faultless_return = record { faults = 0; trust = 1 }
 
 abbrev pub returned_to : MemBay → List Return
-returned_to bay = map return_with bay.returned.items
+returned_to bay = replicate bay.returned faultless_return
+
+-- each device that came back to it has the count 0
+pub came_back_faultless : (bay : MemBay) → CameBackFaultless (returned_to bay)
+came_back_faultless bay = All-replicate (λ back. back.faults ≡ 0) bay.returned faultless_return refl
 
 -- how many attach calls were made; it stands still at the end of its type
 abbrev pub attach_calls : MemBay → ℕ

@@ -41,3 +41,8 @@ pub record IsFresh (size : ℕ) (disk : MemDisk) : Type 0 where
   pub blocks : (disk_state disk).blocks ≡ 0
   pub none_made : made disk ≡ 0
   pub none_armed : (n : ℕ) → is_armed disk n ≡ false
+
+-- a device that cannot fail: no call failed, and none is told to
+pub record IsFaultless (disk : MemDisk) : Type 0 where
+  pub faults : (disk_state disk).faults ≡ 0
+  pub none_armed : (n : ℕ) → is_armed disk n ≡ false

@@ -1,8 +1,8 @@
 // What gives devices by name.
-ghost use Rattle.std.specs.Prelude.{◌≡◌, ℕ, ◌+◌, ◌<◌, ◌≤◌, ◌++◌, ◌∷◌, [], List, Option, IfOk, OnOk, OnErr, IsErrOf};
+ghost use Rattle.std.specs.Prelude.{◌≡◌, ℕ, ◌+◌, ◌<◌, ◌≤◌, ◌++◌, ◌∷◌, [], List, Bool, IsTrue, Option, IfOk, OnOk, OnErr, IsErrOf};
 ghost use Rattle.edge_io.specs.Causes.{Rose};
 ghost use Rattle.ats_disk.specs.Device.{Image, told_of};
-ghost use Rattle.ats_disk.specs.Bay.{Return, IsAttached, return_of_device};
+ghost use Rattle.ats_disk.specs.Bay.{Return, CameBackFaultless, IsAttached, return_of_device};
 
 use crate::Disk;
 use std::alloc::{AllocError, Global};
@@ -36,6 +36,9 @@ pub trait Bay {
     /// The devices that were given back, in order.
     ghost returned: { Self → List Return };
 
+    /// Whether each device comes back without faults.
+    ghost faultless: { Bool };
+
     /// How many devices are out.
     ghost out: { Self → ℕ };
 
@@ -65,4 +68,6 @@ pub trait Bay {
 
     fn faults(&self) -> u64
         ensures { result ≡ faults self.now };
+
+    ghost came_back: { (bay : Self) → IsTrue faultless → CameBackFaultless (returned bay) };
 }

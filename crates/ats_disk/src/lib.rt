@@ -4,6 +4,7 @@
 mod bay;
 mod blocks;
 mod device;
+mod faultless_disk;
 mod mem_bay;
 mod mem_disk;
 #[cfg(test)]
@@ -12,5 +13,6 @@ mod tests;
 pub use bay::{Bay, BayFault};
 pub use blocks::BLOCK_BYTES;
 pub use device::Disk;
+pub use faultless_disk::FaultlessDisk;
 pub use mem_bay::{MemBay, OWN_BLOCKS};
 pub use mem_disk::MemDisk;

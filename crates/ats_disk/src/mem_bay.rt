@@ -1,7 +1,7 @@
 // A bay of devices in memory.
-ghost use Rattle.std.specs.Prelude.{◌+◌, ◌≤◌, vec_len, vec_capacity};
+ghost use Rattle.std.specs.Prelude.{◌≡◌, ◌+◌, vec_len};
 
-use crate::{Bay, BayFault, Disk, MemDisk};
+use crate::{Bay, BayFault, FaultlessDisk};
 use std::alloc::Global;
 
 /// How many blocks a device has that is attached at its own size.
@@ -15,10 +15,10 @@ pub struct MemBay {
     faults: u64,
     /// The names of the devices that were attached.
     names: Vec<Vec<u8>>,
-    /// The counts of faults of the devices that were given back.
-    returned: Vec<u64>,
+    /// How many devices were given back.
+    returned: usize,
     out: usize,
-    ghost room: { vec_len returned + out ≤ vec_capacity returned },
+    ghost each: { returned + out ≡ vec_len names },
 }
 
 impl MemBay {
@@ -34,7 +34,7 @@ impl MemBay {
             fail_at,
             faults: 0,
             names: Vec::new(alloc),
-            returned: Vec::new(alloc),
+            returned: 0,
             out: 0,
         }
     }
@@ -49,14 +49,15 @@ impl MemBay {
 }
 
 impl Bay for MemBay {
-    ghost use Rattle.std.specs.Prelude.{◌≡◌, ◌↔◌, ℕ, ◌+◌, ◌<◌, ◌≤◌, ◌++◌, ◌∷◌, [], Contains, IfOk, OnOk, OnErr, IsErrOf};
+    ghost use Rattle.std.specs.Prelude.{◌≡◌, ◌↔◌, ℕ, ◌+◌, ◌<◌, ◌≤◌, ◌++◌, ◌∷◌, [], true, Contains, IfOk, OnOk, OnErr, IsErrOf};
     ghost use Rattle.edge_io.specs.Causes.{Rose, one_more};
     ghost use Rattle.ats_disk.specs.Device.{told_of};
     ghost use Rattle.ats_disk.specs.Bay.{IsAttached, return_of_device};
-    ghost use Rattle.ats_disk.specs.MemBay.{names_of, told_by, returned_to, attach_calls, fail_numbers, size_for};
-    ghost use Rattle.ats_disk.specs.MemDisk.{disk_state, IsFresh};
+    ghost use Rattle.ats_disk.specs.MemBay.{names_of, told_by, returned_to, came_back_faultless, attach_calls, fail_numbers, size_for};
+    ghost use Rattle.ats_disk.specs.MemDisk.{IsFresh};
+    ghost use Rattle.ats_disk.specs.FaultlessDisk.{faultless_state, memory_of};
 
-    type Dev = MemDisk;
+    type Dev = FaultlessDisk;
 
     ghost names = { names_of };
 
@@ -64,15 +65,17 @@ impl Bay for MemBay {
 
     ghost returned = { returned_to };
 
+    ghost faultless = { true };
+
     ghost out = { λ bay. bay.out };
 
     ghost faults = { λ bay. bay.faults };
 
-    fn attach(&mut self, alloc: Global, name: &[u8], blocks: u64) -> Result<MemDisk, BayFault>
-        ensures device { IfOk result (λ device. IsAttached blocks (disk_state device)) }
-        ensures fresh { IfOk result (λ device. IsFresh (size_for blocks) device) }
+    fn attach(&mut self, alloc: Global, name: &[u8], blocks: u64) -> Result<FaultlessDisk, BayFault>
+        ensures device { IfOk result (λ device. IsAttached blocks (faultless_state device)) }
+        ensures fresh { IfOk result (λ device. IsFresh (size_for blocks) (memory_of device)) }
         ensures names { OnOk result (names_of self.new ≡ names_of self.old ++ name.now ∷ []) }
-        ensures told { IfOk result (λ device. told_by self.new ≡ told_by self.old ++ told_of (disk_state device) ∷ []) }
+        ensures told { IfOk result (λ device. told_by self.new ≡ told_by self.old ++ told_of (faultless_state device) ∷ []) }
         ensures out { OnOk result (self.new.out ≡ self.old.out + 1) }
         ensures refused { OnErr result ((names_of self.new ≡ names_of self.old) × (told_by self.new ≡ told_by self.old) × (self.new.out ≡ self.old.out)) }
         ensures returned { returned_to self.new ≡ returned_to self.old }
@@ -91,18 +94,17 @@ impl Bay for MemBay {
         }
         let name = name.to_vec(alloc)?;
         self.names.reserve(1)?;
-        self.returned.reserve(self.out + 1)?;
-        let device = MemDisk::new(alloc, MemBay::size_for(blocks))?;
+        let device = FaultlessDisk::new(alloc, MemBay::size_for(blocks))?;
         let kept: Result<_, _> = self.names.push(name);
         kept.unwrap();
         self.out += 1;
         Ok(device)
     }
 
-    fn give_back(&mut self, device: MemDisk)
+    fn give_back(&mut self, device: FaultlessDisk)
         requires { 0 < self.old.out }
         ensures returned { returned_to self.new ≡ returned_to self.old
-            ++ return_of_device (disk_state device) ∷ [] }
+            ++ return_of_device (faultless_state device) ∷ [] }
         ensures names { names_of self.new ≡ names_of self.old }
         ensures told { told_by self.new ≡ told_by self.old }
         ensures out { self.new.out + 1 ≡ self.old.out }
@@ -110,12 +112,13 @@ impl Bay for MemBay {
         ensures calls { (attach_calls self.new ≡ attach_calls self.old)
             × (fail_numbers self.new ≡ fail_numbers self.old) }
     {
-        let kept: Result<_, _> = self.returned.push(device.faults());
-        kept.unwrap();
+        self.returned += 1;
         self.out -= 1;
     }
 
     fn faults(&self) -> u64 {
         self.faults
     }
+
+    ghost came_back = { λ bay always. came_back_faultless bay };
 }

@@ -4,7 +4,7 @@ ghost use Rattle.edge_io.specs.Causes.{HasCause, one_more};
 ghost use Rattle.std.specs.HashMap.{spare};
 ghost use Rattle.std.specs.HashSet.{spare as set_spare};
 ghost use Rattle.ats_disk.specs.Blocks.{AreWhole};
-ghost use Rattle.ats_disk.specs.Device.{IsTold, IsWhole, Keeps, SameBut, SameSeen, span};
+ghost use Rattle.ats_disk.specs.Device.{Grows, IsTold, IsWhole, Keeps, SameBut, SameSeen, span};
 
 use crate::Disk;
 use crate::blocks::{BLOCK_BYTES, Blocks, read_blocks, write_blocks};
@@ -80,7 +80,7 @@ impl MemDisk {
 
 impl Disk for MemDisk {
     ghost use Rattle.ats_disk.specs.Blocks.{image_whole};
-    ghost use Rattle.ats_disk.specs.MemDisk.{disk_state, Fails};
+    ghost use Rattle.ats_disk.specs.MemDisk.{disk_state, is_armed, Fails};
 
     ghost state = { disk_state };
 
@@ -92,7 +92,11 @@ impl Disk for MemDisk {
         self.faults
     }
 
-    fn make_room(&mut self, calls: u32, blocks: u64) -> Result<(), AllocError> {
+    fn make_room(&mut self, calls: u32, blocks: u64) -> Result<(), AllocError>
+        ensures room { OnOk result (Grows calls blocks (disk_state self.old) (disk_state self.new)) }
+        ensures none { OnErr result (Grows 0 0 (disk_state self.old) (disk_state self.new)) }
+        ensures armed { (n : ℕ) → is_armed self.new n ≡ is_armed self.old n }
+    {
         let calls = self.calls.checked_add(u64::from(calls)).ok_or(AllocError)?;
         let blocks = self.blocks.checked_add(blocks).ok_or(AllocError)?;
         self.armed.reserve(calls as usize)?;

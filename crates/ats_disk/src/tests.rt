@@ -1,6 +1,7 @@
 // What no clause says: worked devices and bays, each call on its happy path, and callers over the traits.
-ghost use Rattle.std.specs.Prelude.{◌≡◌, ◌+◌, ◌≤◌, length, IfOk, OnOk};
+ghost use Rattle.std.specs.Prelude.{◌≡◌, ◌+◌, ◌≤◌, length, IsTrue, IfOk, OnOk};
 ghost use Rattle.ats_disk.specs.Device.{IsTold};
+ghost use Rattle.ats_disk.specs.Bay.{CameBackFaultless};
 
 use crate::{BLOCK_BYTES, Bay, BayFault, Disk, MemBay, MemDisk};
 use edge_io::Failed;
@@ -25,6 +26,7 @@ fn echo<D: Disk>(disk: &mut D, block: u64, bytes: &[u8], into: &mut [u8]) -> Res
 fn size_of_new<B: Bay>(alloc: Global, bay: &mut B, blocks: u64) -> Result<u64, BayFault>
     ensures size { IfOk result (λ size. blocks ≤ size) }
     ensures out { OnOk result (B.out bay.new ≡ B.out bay.old) }
+    ensures faultless { IsTrue B.faultless → CameBackFaultless (B.returned bay.new) }
 {
     let device = bay.attach(alloc, b"mem:a", blocks)?;
     let size = device.blocks();
@@ -70,6 +72,19 @@ fn a_caller_over_any_device_reads_back_what_it_wrote(rt: HostRuntime) -> Result<
     let mut into = [0; BLOCK_BYTES];
     assert_eq!(rt; echo(&mut disk, 0, &[3; BLOCK_BYTES], &mut into), Ok(()));
     assert!(rt; into.iter().all(|byte| *byte == 3));
+    Ok(())
+}
+
+#[test]
+fn a_device_of_the_memory_bay_reads_back_what_was_written(rt: HostRuntime) -> Result<(), Fail> {
+    let mut bay = MemBay::new(rt.alloc(), Vec::new(rt.alloc()));
+    let mut device = bay.attach(rt.alloc(), b"mem:a", 2)?;
+    device.make_room(1, 1)?;
+    let mut into = [0; BLOCK_BYTES];
+    assert_eq!(rt; echo(&mut device, 1, &[3; BLOCK_BYTES], &mut into), Ok(()));
+    assert!(rt; into.iter().all(|byte| *byte == 3));
+    assert_eq!(rt; (device.blocks(), device.faults()), (2, 0));
+    bay.give_back(device);
     Ok(())
 }
 
