@@ -3,10 +3,11 @@ ghost use Rattle.std.specs.Prelude.{◌≡◌, ◌<◌, ◌≤◌, ◌+◌, ◌*
 ghost use Rattle.tape_base.specs.Blocks.{blocks_of};
 ghost use Rattle.tape_base.specs.Digest.{digest_of};
 ghost use Rattle.doc_header.specs.Document.{IsDocument, document_bytes};
+ghost use Rattle.doc_header.specs.Moving.{moved_to};
 ghost use Rattle.agg_buffer.specs.Buffer.{Buffer, empty_buffer, filled_of, next_place_of, bytes_at, IsFilled, IsWhole, Adds, Refuses, IfPlaced, IfNoRoom, room_of, blocks_in};
 
 use crate::answers::PutAnswer;
-use doc_header::{Doc, write_doc};
+use doc_header::{Doc, move_document, write_doc};
 use std::alloc::{AllocError, Global};
 use std::marker::Model;
 use tape_base::{Digest, Geometry, blocks_of};
@@ -103,6 +104,20 @@ impl AggBuffer {
         let grown: Result<_, _> = self.bytes.resize(end, 0);
         grown.unwrap();
         write_doc(doc, payload, &mut self.bytes[start..])
+    }
+
+    /// Puts a copy of a document behind the others, with its place there.
+    pub fn put_moved(&mut self, bytes: &[u8])
+        requires whole { IsWhole bytes.now }
+        requires room { blocks_in bytes.now ≤ room_of self.old }
+        ensures added { Adds self.old self.new (moved_to (next_place_of self.old) bytes.now) }
+        ensures size { length (moved_to (next_place_of self.old) bytes.now) ≡ length bytes.now }
+    {
+        let place = self.next_place();
+        let start = self.bytes.len();
+        let grown: Result<_, _> = self.bytes.extend_from_slice(bytes);
+        grown.unwrap();
+        move_document(&mut self.bytes[start..], place);
     }
 
     /// How many blocks are left.

@@ -1,5 +1,5 @@
 use crate::{AggBuffer, PutAnswer};
-use doc_header::Doc;
+use doc_header::{Doc, DocFault, read_doc, write_doc};
 use std::test::Fail;
 use tape_base::{Digest, Geometry, Key, PieceId};
 
@@ -63,6 +63,20 @@ fn the_next_buffer_is_empty(rt: HostRuntime) -> Result<(), Fail> {
     Ok(())
 }
 
+fn fragment(place: u64) -> Doc {
+    Doc {
+        id: PieceId {
+            first: Key::new([1; 16]),
+            put: 1,
+            index: 1,
+        },
+        place,
+        generation: 7,
+        pin: 0,
+        start: 0,
+    }
+}
+
 #[test]
 fn a_document_is_spelled_behind_the_others(rt: HostRuntime) -> Result<(), Fail> {
     let mut buffer = AggBuffer::new(rt.alloc(), &small()?, 64)?;
@@ -70,18 +84,8 @@ fn a_document_is_spelled_behind_the_others(rt: HostRuntime) -> Result<(), Fail> 
     if buffer.room() < 1 {
         return Err("no room".into());
     }
-    let doc = Doc {
-        id: PieceId {
-            first: Key::new([1; 16]),
-            put: 1,
-            index: 1,
-        },
-        place: 65,
-        generation: 7,
-        pin: 0,
-        start: 0,
-    };
-    assert_eq!(rt; buffer.put_document(&doc, b"abcd"), Digest::of(b"abcd"));
+    let digest = buffer.put_document(&fragment(65), b"abcd");
+    assert_eq!(rt; digest, Digest::of(b"abcd"));
     assert_eq!(rt;
         (buffer.cursor(), buffer.filled(), buffer.room()),
         (64, 2, 6)
@@ -90,5 +94,29 @@ fn a_document_is_spelled_behind_the_others(rt: HostRuntime) -> Result<(), Fail> 
     assert_eq!(rt; bytes.len(), 1024);
     assert_eq!(rt; &bytes[512..520], b"TSCDOCM1".as_slice());
     assert_eq!(rt; &bytes[640..645], b"abcd\0".as_slice());
+    Ok(())
+}
+
+#[test]
+fn a_copy_is_put_behind_the_others_and_read_at_its_place(rt: HostRuntime) -> Result<(), Fail> {
+    let mut buffer = AggBuffer::new(rt.alloc(), &small()?, 64)?;
+    assert_eq!(rt; buffer.put(&[0x61; 512]), PutAnswer::Placed(64));
+    if buffer.room() < 1 {
+        return Err("no room".into());
+    }
+    let mut bytes = [0; 512];
+    write_doc(&fragment(3), b"abcd", &mut bytes);
+    buffer.put_moved(&bytes);
+    assert_eq!(rt;
+        (buffer.cursor(), buffer.filled(), buffer.room()),
+        (64, 2, 6)
+    );
+    let copy = &buffer.bytes()[512..];
+    let read = read_doc(copy, 7, 65).map_err(|_| "refused")?;
+    assert_eq!(rt; read.doc, fragment(65));
+    assert_eq!(rt; read.payload, b"abcd".as_slice());
+    let found = DocFault::Place { found: 65 };
+    assert_eq!(rt; read_doc(copy, 7, 3).err(), Some(found));
+    assert_eq!(rt; buffer.get(64, 1), [0x61; 512].as_slice());
     Ok(())
 }

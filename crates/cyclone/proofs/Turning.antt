@@ -1,6 +1,6 @@
 -- A piece that was put, and the places that stay below the next one.
 use Rattle.std.proofs.Common.{◌≡◌, ℕ, ◌+◌, ◌^◌, ◌<◌, ◌≤◌, List, ◌∷◌, length, suc, true, false, refl, sym, ◌∙◌, ap, subst, arith, Bool}
-use Rattle.std.specs.Prelude.{All, IsPermutation}
+use Rattle.std.specs.Prelude.{All, IsPermutation, MatchBool}
 use Rattle.std.specs.Bool.{OnTrue}
 use Rattle.std.specs.List.{filter}
 use Rattle.std.proofs.lemmas.List.Elements.{All-filter}
@@ -8,10 +8,13 @@ use Rattle.std.proofs.lemmas.List.Sorted.{All-permutation}
 use Rattle.std.proofs.lemmas.List.Elements.{All-cons}
 use Rattle.doc_header.specs.declared.documents.Doc.{Doc}
 use Rattle.doc_header.specs.Document.{document_bytes}
+use Rattle.doc_header.specs.Moving.{moved_to}
 use Rattle.tape_base.specs.Blocks.{blocks_of}
-use Rattle.agg_buffer.specs.Buffer.{Buffer, empty_buffer, next_place_of, blocks_in}
+use Rattle.agg_buffer.specs.Buffer.{Buffer, Adds, empty_buffer, next_place_of, blocks_in}
+use Rattle.dir_table.specs.Rows.{has_row}
+use Rattle.tape_base.specs.declared.pieces.PieceId.{PieceId}
 use Rattle.dir_table.specs.declared.window.Window.{Window}
-use Rattle.cyclone.specs.Cyclone.{Seen, IsTurning, IsPut, BeginsNext, SameButRows, cursor_next}
+use Rattle.cyclone.specs.Cyclone.{Seen, IsTurning, IsPut, IsMoved, TakesOut, BeginsNext, SameButRows, row_of_piece, cursor_next}
 use Rattle.dir_table.specs.Wrap.{Forgets, rows_from}
 use Rattle.write_cursor.specs.Plan.{FitsInLap}
 use Rattle.tape_base.specs.declared.geometries.Geometry.{Geometry}
@@ -32,27 +35,34 @@ below_inserted low high row keeps old new h there p all =
     (All-cons (λ (r : DirRow). r.place < high) row (filter keeps old) there
     (All-filter keeps (λ (r : DirRow). r.place < high) old (below_more low high old h all)))
 
+-- a cyclone turns on where blocks were added to its buffer, and all that is entered ends there
+added_turns : (old new : Seen) (piece : List ℕ) → IsTurning old → new.geometry ≡ old.geometry → Adds old.buffer new.buffer piece
+    → new.window ≡ record old.window { end = next_place_of new.buffer } → new.device ≡ old.device → AllBelow (next_place_of new.buffer) new.rows → IsTurning new
+added_turns old new piece t geometry added window device entered =
+    let cursor : new.buffer.cursor ≡ old.buffer.cursor = ap (λ (b : Buffer). b.cursor) added.behind in
+    let reserved : new.buffer.reserved ≡ old.buffer.reserved = ap (λ (b : Buffer). b.reserved) added.behind in
+    record {
+      geometry = ap (λ (w : Window). w.geometry) window ∙ (t.geometry ∙ sym geometry);
+      cursor = ap (λ (w : Window). w.cursor) window ∙ (t.cursor ∙ sym cursor);
+      floor = rw (geometry, cursor) (ap (λ (w : Window). w.floor) window ∙ t.floor);
+      end = ap (λ (w : Window). w.end) window;
+      reserved = rw geometry (reserved ∙ t.reserved);
+      few = rw geometry (omega (arith, added.next, cursor, t.few, t.reserved, added.room));
+      from = rw (geometry, cursor) t.from;
+      below = rw cursor t.below;
+      lap = rw (geometry, cursor) t.lap;
+      sized = rw (geometry, device) t.sized;
+      entered = entered;
+    }
+
 -- a cyclone turns on behind a piece that was put
 pub put_turns : (purges : Bool) (old new : Seen) (doc : Doc) (payload : List ℕ) → IsTurning old → IsPut purges old new doc payload
     → doc.place ≡ next_place_of old.buffer → blocks_in (document_bytes doc payload) ≡ blocks_of (length payload) → IsTurning new
 put_turns purges old new doc payload t p at size =
-    let cursor : new.buffer.cursor ≡ old.buffer.cursor = ap (λ (b : Buffer). b.cursor) p.buffer.behind in
-    let reserved : new.buffer.reserved ≡ old.buffer.reserved = ap (λ (b : Buffer). b.reserved) p.buffer.behind in
     let further : next_place_of new.buffer ≡ next_place_of old.buffer + blocks_of (length payload) = p.buffer.next ∙ ap (λ n. next_place_of old.buffer + n) size in
     let some : 0 < blocks_of (length payload) = omega arith in
-    record {
-      geometry = ap (λ (w : Window). w.geometry) p.window ∙ (t.geometry ∙ sym p.geometry);
-      cursor = ap (λ (w : Window). w.cursor) p.window ∙ (t.cursor ∙ sym cursor);
-      floor = rw (p.geometry, cursor) (ap (λ (w : Window). w.floor) p.window ∙ t.floor);
-      end = ap (λ (w : Window). w.end) p.window;
-      reserved = rw p.geometry (reserved ∙ t.reserved);
-      few = rw p.geometry (omega (arith, further, cursor, size, t.few, t.reserved, p.buffer.room));
-      from = rw (p.geometry, cursor) t.from;
-      below = rw cursor t.below;
-      lap = rw (p.geometry, cursor) t.lap;
-      sized = rw (p.geometry, p.device) t.sized;
-      entered = below_inserted (next_place_of old.buffer) (next_place_of new.buffer) _ _ old.rows new.rows (omega arith) (omega arith) p.rows t.entered;
-    }
+    added_turns old new (document_bytes doc payload) t p.geometry p.buffer p.window p.device
+    (below_inserted (next_place_of old.buffer) (next_place_of new.buffer) _ _ old.rows new.rows (omega arith) (omega arith) p.rows t.entered)
 
 below_forgotten : (g : Geometry) (cursor floor low high : ℕ) (old new : List DirRow) → low ≤ high → Forgets g cursor floor old new → AllBelow low old → AllBelow high new
 below_forgotten g cursor floor low high old new h f all =
@@ -110,3 +120,28 @@ taken_turns old new row b t s p same = rw s.same (record {
   sized = t.sized;
   entered = below_removed (next_place_of old.buffer) row old.rows new.rows b p same t.entered;
 })
+
+-- what a directory says of a row that it takes out
+told_by : (row : DirRow) (rows left : List DirRow) (b : Bool) → OnTrue b (IsPermutation rows (row ∷ left)) → (b ≡ false → left ≡ rows)
+    → MatchBool b (IsPermutation rows (row ∷ left)) (left ≡ rows)
+told_by row rows left true gone none = gone
+told_by row rows left false gone none = none refl
+
+pub takes_out : (row : DirRow) (rows left : List DirRow) (b : Bool) → b ≡ has_row row rows → OnTrue b (IsPermutation rows (row ∷ left)) → (b ≡ false → left ≡ rows)
+    → TakesOut row rows left
+takes_out row rows left b found gone none =
+    subst (λ b. MatchBool b (IsPermutation rows (row ∷ left)) (left ≡ rows)) found (told_by row rows left b gone none)
+
+below_matched : (high : ℕ) (row : DirRow) (rows left : List DirRow) (b : Bool) → MatchBool b (IsPermutation rows (row ∷ left)) (left ≡ rows)
+    → AllBelow high rows → AllBelow high left
+below_matched high row rows left true p all = below_rest high row left (All-permutation (λ (r : DirRow). r.place < high) rows (row ∷ left) p all)
+below_matched high row rows left false same all = subst (AllBelow high) (sym same) all
+
+-- and behind a copy that was put
+pub moved_turns : (purges : Bool) (old new : Seen) (id : PieceId) (from : ℕ) (bytes : List ℕ) → IsTurning old → IsMoved purges old new id from bytes
+    → 0 < blocks_in (moved_to (next_place_of old.buffer) bytes) → IsTurning new
+moved_turns purges old new id from bytes t m some =
+    let low = next_place_of old.buffer in
+    let left = below_matched low (row_of_piece old id from) old.rows m.left (has_row (row_of_piece old id from) old.rows) m.taken t.entered in
+    added_turns old new (moved_to low bytes) t m.geometry m.buffer m.window m.device
+    (below_inserted low (next_place_of new.buffer) _ _ m.left new.rows (omega (arith, m.buffer.next)) (omega (arith, m.buffer.next, some)) m.rows left)

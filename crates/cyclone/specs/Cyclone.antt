@@ -1,6 +1,6 @@
 -- What contracts see of a cyclone: the content area that is written in a circle, the buffer of what
 -- is not written yet, and the directory of what stands on both.
-use Rattle.std.specs.Prelude.{ℕ, ◌≡◌, ◌+◌, ◌*◌, ◌<◌, ◌≤◌, ◌^◌, Bool, List, [], ◌∷◌, length, IsPermutation, All}
+use Rattle.std.specs.Prelude.{ℕ, ◌≡◌, ◌+◌, ◌*◌, ◌<◌, ◌≤◌, ◌^◌, Bool, List, [], ◌∷◌, length, IsPermutation, All, MatchBool}
 use Rattle.tape_base.specs.declared.geometries.Geometry.{Geometry}
 use Rattle.tape_base.specs.declared.pieces.PieceId.{PieceId}
 use Rattle.tape_base.specs.Piece.{key_of_piece}
@@ -12,11 +12,12 @@ use Rattle.ats_disk.specs.Device.{State, IsTold, Keeps, SameBut, SameSeen, span}
 use Rattle.ats_disk.specs.declared.device.Disk.{Ghosts as DiskGhosts}
 use Rattle.doc_header.specs.declared.documents.Doc.{Doc}
 use Rattle.doc_header.specs.Document.{document_bytes}
+use Rattle.doc_header.specs.Moving.{moved_to}
 use Rattle.agg_buffer.specs.Buffer.{Buffer, bytes_at, filled_of, next_place_of, empty_buffer, Adds}
 use Rattle.dir_table.specs.declared.rows.DirRow.{DirRow}
 use Rattle.dir_table.specs.declared.window.Window.{Window}
 use Rattle.dir_table.specs.declared.directory.Directory.{Ghosts as DirectoryGhosts}
-use Rattle.dir_table.specs.Rows.{row_of_key}
+use Rattle.dir_table.specs.Rows.{row_of_key, has_row}
 use Rattle.dir_table.specs.Displacement.{Displacement, Displaces, none_displaced, rows_without}
 use Rattle.dir_table.specs.Wrap.{Forgets}
 use Rattle.write_cursor.specs.Plan.{FitsInLap}
@@ -82,6 +83,28 @@ pub record IsPut (purges : Bool) (old new : Seen) (doc : Doc) (payload : List �
   pub spare : old.spare ≤ new.spare + 1
   pub device : new.device ≡ old.device
 
+-- the row of a piece that stands at a place
+abbrev pub row_of_piece : Seen → PieceId → ℕ → DirRow
+row_of_piece c id place = row_of_key c.geometry (key_of_piece id) place
+
+-- a row was taken out where it stood among these, and else none was
+abbrev pub TakesOut : DirRow → List DirRow → List DirRow → Type 0
+TakesOut row rows left = MatchBool (has_row row rows) (IsPermutation rows (row ∷ left)) (left ≡ rows)
+
+-- a copy of a document that stood at `from` is in the buffer, and its piece in the directory there,
+-- in place of the row of where it stood
+pub record IsMoved (purges : Bool) (old new : Seen) (id : PieceId) (from : ℕ) (bytes : List ℕ) : Type 0 where
+  pub geometry : new.geometry ≡ old.geometry
+  pub buffer : Adds old.buffer new.buffer (moved_to (next_place_of old.buffer) bytes)
+  -- the rows without that of where it stood
+  pub left : List DirRow
+  pub taken : TakesOut (row_of_piece old id from) old.rows left
+  pub rows : IsPermutation (row_of_piece old id (next_place_of old.buffer) ∷ rows_without new.displaced left) new.rows
+  pub displaced : Displaces purges old.window (row_of_piece old id (next_place_of old.buffer)) left new.displaced
+  pub window : new.window ≡ record old.window { end = next_place_of new.buffer }
+  pub spare : old.spare ≤ new.spare + 1
+  pub device : new.device ≡ old.device
+
 -- where the next buffer begins
 abbrev pub cursor_next : Seen → ℕ
 cursor_next c = next_cursor_of c.geometry c.buffer.cursor (filled_of c.buffer)
@@ -120,10 +143,6 @@ SameTape old new = new ≡ record old { device = new.device }
 pub record SameButRows (old new : Seen) : Type 0 where
   pub same : new ≡ record old { rows = new.rows; spare = new.spare }
   pub spare : old.spare ≤ new.spare
-
--- the row of a piece that stands at a place
-abbrev pub row_of_piece : Seen → PieceId → ℕ → DirRow
-row_of_piece c id place = row_of_key c.geometry (key_of_piece id) place
 
 -- so many blocks from a place on stand in the buffer, or on the device within one lap
 pub record IsStored (c : Seen) (place blocks : ℕ) : Type 0 where

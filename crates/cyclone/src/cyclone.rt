@@ -8,7 +8,8 @@ ghost use Rattle.tape_base.specs.Place.{floor_of, next_cursor_of, slot_of};
 ghost use Rattle.ats_disk.specs.Device.{Grows, Keeps, IsTold, SameSeen, span};
 ghost use Rattle.doc_header.specs.Document.{digest_of_document, document_bytes};
 ghost use Rattle.doc_header.specs.Reading.{document_digest};
-ghost use Rattle.agg_buffer.specs.Buffer.{blocks_in, bytes_at, filled_of, empty_buffer, next_place_of, room_of};
+ghost use Rattle.doc_header.specs.Moving.{moved_to};
+ghost use Rattle.agg_buffer.specs.Buffer.{IsWhole as IsWholePiece, blocks_in, bytes_at, filled_of, empty_buffer, next_place_of, room_of};
 ghost use Rattle.std.specs.Prelude.{[], ◌∷◌, false, IsOk, IsPermutation};
 ghost use Rattle.std.specs.Bool.{OnTrue};
 ghost use Rattle.ats_disk.specs.Device.{IsWhole};
@@ -44,7 +45,7 @@ pub struct Put {
 }
 
 impl<D: Disk, R: Directory + Drop> Cyclone<D, R> {
-    ghost use Rattle.cyclone.specs.Cyclone.{IsCyclone, IsFlushed, IsFresh, IsPut, BeginsNext, IsStored, Reads, SameButRoom, SameButRows, SameTape, WritesBuffer, row_of_piece, cursor_next, seen};
+    ghost use Rattle.cyclone.specs.Cyclone.{IsCyclone, IsFlushed, IsFresh, IsPut, IsMoved, BeginsNext, IsStored, Reads, SameButRoom, SameButRows, SameTape, WritesBuffer, row_of_piece, cursor_next, seen};
 
     /// An empty cyclone over a device, from the start of its second lap on. A refusal gives the
     /// device back.
@@ -169,6 +170,28 @@ impl<D: Disk, R: Directory + Drop> Cyclone<D, R> {
             doc.pin != 0,
         );
         Put { payload, document }
+    }
+
+    /// Puts a copy of the document that stands at `from` into the buffer, and enters its piece there
+    /// in place of the old entry. It gives the digest of what stands in the buffer now, and does not
+    /// ask whether the bytes are a document.
+    pub fn move_piece(&mut self, id: PieceId, from: u64, pinned: bool, bytes: &[u8]) -> Digest
+        requires turns { IsCyclone D.Disk R.Directory self.old }
+        requires spare { 1 ≤ (seen D.Disk R.Directory self.old).spare }
+        requires whole { IsWholePiece bytes.now }
+        requires room { blocks_in bytes.now ≤ room_of (seen D.Disk R.Directory self.old).buffer }
+        ensures turns { IsCyclone D.Disk R.Directory self.new }
+        ensures moved { IsMoved R.purges (seen D.Disk R.Directory self.old) (seen D.Disk R.Directory self.new) id from bytes.now }
+        ensures document { result ≡ document_digest (moved_to (next_place_of (seen D.Disk R.Directory self.old).buffer) bytes.now) }
+        ensures size { length (moved_to (next_place_of (seen D.Disk R.Directory self.old).buffer) bytes.now) ≡ length bytes.now }
+    {
+        let place = self.buffer.next_place();
+        let blocks = (bytes.len() / BLOCK) as u32;
+        self.buffer.put_moved(bytes);
+        self.directory.delete(Key::of_piece(id), from);
+        self.directory
+            .insert(Key::of_piece(id), place, blocks, id.index == 0, pinned);
+        document_digest(self.buffer.get(place, blocks))
     }
 
     /// Writes the buffer out by one write, and begins the next one. The blocks that are written may

@@ -125,3 +125,38 @@ fn a_piece_that_was_taken_out_is_gone(rt: HostRuntime) -> Result<(), Fail> {
     assert!(rt; !cyclone.take_out(fragment(1), place));
     Ok(())
 }
+
+// Copies the block of a fragment behind the last piece, and gives its place there.
+fn move_fragment<D: Disk, R: Directory + Drop>(
+    cyclone: &mut Cyclone<D, R>,
+    index: u32,
+    from: u64,
+) -> Result<u64, Fail>
+    requires turns { IsCyclone D.Disk R.Directory cyclone.old }
+    ensures turns { IsCyclone D.Disk R.Directory cyclone.new }
+{
+    let place = cyclone.next_place();
+    if from >= place || cyclone.room() < 1 {
+        return Err("no room".into());
+    }
+    let mut block = [0; 512];
+    cyclone.read(from, &mut block).map_err(|_| "a fault")?;
+    cyclone.prepare(1, 1)?;
+    cyclone.move_piece(fragment(index), from, true, &block);
+    Ok(place)
+}
+
+#[test]
+fn a_piece_that_was_moved_is_found_at_its_new_place_alone(rt: HostRuntime) -> Result<(), Fail> {
+    let mut cyclone = empty(&rt)?;
+    assert_eq!(rt; put_fragment(&mut cyclone, 1, b"abcd")?, 64);
+    assert_eq!(rt; put_fragment(&mut cyclone, 2, b"e")?, 65);
+    flush(&mut cyclone)?;
+    assert_eq!(rt; move_fragment(&mut cyclone, 1, 64)?, 66);
+    assert!(rt; holds(&mut cyclone, 66, 1, b"abcd")?);
+    assert_eq!(rt; cyclone.next_place(), 67);
+    assert!(rt; !cyclone.take_out(fragment(1), 64));
+    assert!(rt; cyclone.take_out(fragment(1), 66));
+    assert!(rt; cyclone.take_out(fragment(2), 65));
+    Ok(())
+}

@@ -25,7 +25,7 @@ unfolding sha256 digest_bytes
 length-sha256 m = refl
 
 -- the fields before the check of a header, each with its width
-abbrev fields_of : Doc → List ℕ → List (ℕ × List ℕ)
+abbrev pub fields_of : Doc → List ℕ → List (ℕ × List ℕ)
 fields_of doc payload =
     (8, codes "TSCDOCM1") ∷ (4, to_le_bytes w32 1) ∷ (4, to_le_bytes w32 (length payload)) ∷ (16, key_bytes doc.id.first)
     ∷ (8, to_le_bytes w64 doc.id.put) ∷ (4, to_le_bytes w32 doc.id.index) ∷ (4, to_le_bytes w32 (blocks_of (length payload)))
@@ -46,11 +46,11 @@ length-fields doc payload = ap length (fields_joined doc payload) ∙ length-joi
 length-check : (doc : Doc) (payload : List ℕ) → length (check_of (field_bytes doc payload)) ≡ 16
 length-check doc payload = omega (arith, length-take 16 (sha256 (field_bytes doc payload)), length-sha256 (field_bytes doc payload))
 
-header_is : (doc : Doc) (payload : List ℕ) → header_bytes doc payload ≡ field_bytes doc payload ++ check_of (field_bytes doc payload)
+pub header_is : (doc : Doc) (payload : List ℕ) → header_bytes doc payload ≡ field_bytes doc payload ++ check_of (field_bytes doc payload)
 unfolding header_bytes
 header_is doc payload = refl
 
-length-header : (doc : Doc) (payload : List ℕ) → length (header_bytes doc payload) ≡ 128
+pub length-header : (doc : Doc) (payload : List ℕ) → length (header_bytes doc payload) ≡ 128
 length-header doc payload =
     let wide : length (field_bytes doc payload ++ check_of (field_bytes doc payload)) ≡ 128 =
     omega (arith, length-append (field_bytes doc payload) (check_of (field_bytes doc payload)), length-fields doc payload, length-check doc payload) in
@@ -206,13 +206,13 @@ is_found bytes generation place (Err fault) small key given = tt
 -- ---- what is spelled so is read
 
 -- a document taken apart
-record Apart (bytes : List ℕ) (doc : Doc) (payload : List ℕ) : Type 0 where
-  fields : Stands 0 (fields_of doc payload) bytes
-  front : field_at 0 112 bytes ≡ field_bytes doc payload
-  check : field_at 112 16 bytes ≡ check_of (field_bytes doc payload)
-  payload_is : field_at 128 (length payload) bytes ≡ payload
+pub record Apart (bytes : List ℕ) (doc : Doc) (payload : List ℕ) : Type 0 where
+  pub fields : Stands 0 (fields_of doc payload) bytes
+  pub front : field_at 0 112 bytes ≡ field_bytes doc payload
+  pub check : field_at 112 16 bytes ≡ check_of (field_bytes doc payload)
+  pub payload_is : field_at 128 (length payload) bytes ≡ payload
 
-apart : (bytes : List ℕ) (doc : Doc) (payload rest : List ℕ) → bytes ≡ (header_bytes doc payload ++ payload) ++ rest → Apart bytes doc payload
+pub apart : (bytes : List ℕ) (doc : Doc) (payload rest : List ℕ) → bytes ≡ (header_bytes doc payload ++ payload) ++ rest → Apart bytes doc payload
 apart bytes doc payload rest h =
     let early = field_bytes doc payload in
     let check = check_of early in

@@ -39,7 +39,7 @@ joined_as_they_stand at (f ∷ fs) bytes front h stands =
     let longer : take (at + f.0) bytes ≡ front ++ f.1 = take-field at f.0 bytes ∙ (ap (λ l. l ++ field_at at f.0 bytes) h ∙ ap (λ l. front ++ l) stands.0) in
     joined_as_they_stand (at + f.0) fs bytes (front ++ f.1) longer stands.1
 
-joined-front : (front : List ℕ) (fs : List (ℕ × List ℕ)) → joined front fs ≡ front ++ joined [] fs
+pub joined-front : (front : List ℕ) (fs : List (ℕ × List ℕ)) → joined front fs ≡ front ++ joined [] fs
 joined-front front [] = sym (append-nil front)
 joined-front front (f ∷ fs) = joined-front (front ++ f.1) fs ∙ (append_assoc front f.1 (joined [] fs) ∙ ap (λ l. front ++ l) (sym (joined-front f.1 fs)))
 

@@ -5,11 +5,13 @@ mod digests;
 mod documents;
 mod fields;
 mod layout;
+mod moving;
 mod reading;
 mod writing;
 
 pub use digests::document_digest;
 pub use documents::{Doc, DocFault, DocRef};
+pub use moving::{move_document, moved_is_document, moved_is_same, moves_keep};
 pub use reading::{payload, read_doc};
 pub use writing::write_doc;
 

@@ -1,4 +1,4 @@
-use crate::{Doc, DocFault, document_digest, read_doc, write_doc};
+use crate::{Doc, DocFault, document_digest, move_document, read_doc, write_doc};
 use std::test::Fail;
 use tape_base::{Digest, Key, PieceId};
 
@@ -18,9 +18,21 @@ const DOCUMENT_DIGEST: [u8; 32] = [
     0x5d, 0x57, 0x8e, 0x61, 0x83, 0x0c, 0x5e, 0x52, 0x51, 0xcf, 0x74, 0xfe, 0x42, 0xb2, 0x58, 0x65,
 ];
 
+// The same two digests where the document stands at `MOVED`, by hashlib.
+const MOVED_CHECK: [u8; 16] = [
+    0xcd, 0xa6, 0x35, 0x2f, 0x35, 0xac, 0x56, 0xb5, 0xfb, 0x45, 0x74, 0xbd, 0x4c, 0x1c, 0x35, 0xc3,
+];
+
+const MOVED_DIGEST: [u8; 32] = [
+    0xd8, 0xd5, 0xa1, 0x6b, 0x01, 0xd5, 0xd3, 0xcf, 0x80, 0x9f, 0xa1, 0x3d, 0x68, 0x3e, 0x3e, 0xa4,
+    0xa1, 0x6a, 0x61, 0x01, 0x0b, 0xee, 0x52, 0x48, 0xcc, 0x1d, 0x31, 0x7f, 0x30, 0x16, 0x73, 0x0f,
+];
+
 const GENERATION: u64 = 0x3132_3334_3536_3738;
 
 const PLACE: u64 = 0x2122_2324_2526_2728;
+
+const MOVED: u64 = 0x6162_6364_6566_6768;
 
 fn doc() -> Doc {
     Doc {
@@ -192,4 +204,38 @@ fn a_digest_is_of_all_bytes_where_they_are_fewer(rt: HostRuntime) {
         document_digest(front(&bytes, 131)),
         Digest(DOCUMENT_DIGEST)
     );
+}
+
+#[test]
+fn a_moved_document_is_read_at_its_new_place_and_not_at_the_old_one(
+    rt: HostRuntime,
+) -> Result<(), Fail> {
+    let mut bytes = [0; 512];
+    write_doc(&doc(), b"abc", &mut bytes);
+    move_document(&mut bytes, MOVED);
+    let read = read_doc(&bytes, GENERATION, MOVED).map_err(|_| "refused")?;
+    let mut expected = doc();
+    expected.place = MOVED;
+    assert_eq!(rt; read.doc, expected);
+    assert_eq!(rt; read.payload, b"abc".as_slice());
+    assert_eq!(rt; document_digest(&bytes), Digest(MOVED_DIGEST));
+    let found = DocFault::Place { found: MOVED };
+    assert_eq!(rt; read_doc(&bytes, GENERATION, PLACE).err(), Some(found));
+    Ok(())
+}
+
+#[test]
+fn a_move_writes_the_place_and_the_check_and_no_other_byte(rt: HostRuntime) {
+    let mut old = spelled();
+    old[511] = 0xee;
+    let mut bytes = old;
+    move_document(&mut bytes, MOVED);
+    for at in 0..512 {
+        let byte = match at {
+            48..=55 => b"hgfedcba"[at - 48],
+            112..=127 => MOVED_CHECK[at - 112],
+            _ => old[at],
+        };
+        assert_eq!(rt; bytes[at], byte, "byte {at}");
+    }
 }
