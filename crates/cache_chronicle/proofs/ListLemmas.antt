@@ -1,5 +1,5 @@
 -- What the lists of vectors are where pieces are placed, taken out and displaced.
-use Rattle.std.proofs.Common.{◌≡◌, ◌∙◌, ℕ, ◌≤◌, refl, sym, ap, Bool, true, false, cond, List, [], ◌∷◌, ◌++◌, Option, Some, None, length, arith}
+use Rattle.std.proofs.Common.{◌≡◌, ◌∙◌, ℕ, ◌≤◌, refl, sym, ap, subst, Bool, true, false, cond, List, [], ◌∷◌, ◌++◌, Option, Some, None, length, arith}
 use Rattle.std.specs.Prelude.{◌==◌, map, find, option_and_then, option_map, option_to_list, unwrap_or}
 use Rattle.std.proofs.lemmas.Bool.{eqb-true}
 use Rattle.std.proofs.lemmas.List.{map-append, append-nil}
@@ -11,7 +11,9 @@ use Rattle.tape_base.specs.declared.digests.Digest.{Digest}
 use Rattle.tape_base.specs.declared.geometries.Geometry.{Geometry}
 use Rattle.cache_model.specs.declared.record.Rec.{Rec}
 use Rattle.cache_model.specs.declared.record.Rec.TheVariants as rec
-use Rattle.cache_model.specs.State.{State, Row, PutRow, LastVector, Complete, TakenOut, floor_now, is_live, last_vector, list_among, list_of_row, live_row_of, only_live, merged_list, most_payload, row_in, state_after, vector_piece, without, without_earlier}
+use Rattle.cache_model.specs.State.{State, Row, PutRow, LastVector, Complete, TakenOut, floor_now, is_live, last_vector, list_among, list_of_row, live_row_of, only_live, merged_list, most_payload, moved_row, row_in, state_after, vector_piece, without, without_earlier}
+use Rattle.cache_model.proofs.Found.{none_is}
+use Rattle.cache_model.proofs.Lists.{row_in-copied}
 use Rattle.cache_model.specs.declared.cause.Cause.TheVariants as cause
 use Rattle.cache_model.specs.Verdict.{cause_of_piece, cause_of_vector, no_match}
 use Rattle.cache_chronicle.specs.declared.listing.Listed.{Listed}
@@ -206,12 +208,28 @@ earlier-kept listed recs rows key put (Some (Complete old)) has = by_test (old =
     by_test true = has
     by_test false = listed-without listed recs (vector_piece key old) rows has
 
+copied_list : (listed : PieceId → List Listed) (recs : List Rec) (place : ℕ) (digest : Digest) (rows : List Row) (id : PieceId) (row : Row) (b : Bool) (o : Option Row) → HasListed listed recs rows
+    → is_vector id ≡ true → row_in rows id ≡ o → cond b (option_map (moved_row place digest) o) o ≡ Some row → Tells recs (listed id) (unwrap_or row.alternates [])
+copied_list listed recs place digest rows id row true (Some old) has vector is h =
+    let same : moved_row place digest old ≡ row = cc in
+    subst (λ (r : Row). Tells recs (listed id) (unwrap_or r.alternates [])) same (has id old vector is)
+copied_list listed recs place digest rows id row true None has vector is h = none_is h
+copied_list listed recs place digest rows id row false (Some old) has vector is h = has id row vector (is ∙ h)
+copied_list listed recs place digest rows id row false None has vector is h = none_is h
+
+-- a piece that is copied lists what it listed
+listed-copied : (listed : PieceId → List Listed) (recs : List Rec) (piece : PieceId) (place : ℕ) (digest : Digest) (rows : List Row) → HasListed listed recs rows
+    → HasListed listed recs (without piece rows ++ map (moved_row place digest) (option_to_list (row_in rows piece)))
+listed-copied listed recs piece place digest rows has id row vector found =
+    copied_list listed recs place digest rows id row (same_piece piece id) (row_in rows id) has vector refl (sym (row_in-copied piece id rows place digest) ∙ found)
+
 pub rows-kept : (listed : PieceId → List Listed) (recs : List Rec) (s : State) (r : Rec)
     → ((geometry : Geometry) → r ≡ rec.Formatted geometry → ⊥)
     → ((piece : PieceId) (place blocks : ℕ) (digest : Digest) (pin : ℕ) → r ≡ rec.Placed piece place blocks digest pin → ⊥)
     → HasListed listed recs s.rows → HasListed listed recs (state_after s r).rows
 rows-kept listed recs s (rec.Formatted geometry) formats places has = absurd (formats geometry refl)
 rows-kept listed recs s (rec.Placed piece place blocks digest pin) formats places has = absurd (places piece place blocks digest pin refl)
+rows-kept listed recs s (rec.Moved piece from place digest) formats places has = listed-copied listed recs piece place digest s.rows has
 rows-kept listed recs s (rec.Displaced piece segment live) formats places has = listed-without listed recs piece s.rows has
 rows-kept listed recs s (rec.Damaged piece place kept found) formats places has = listed-without listed recs piece s.rows has
 rows-kept listed recs s (rec.Committed put key length) formats places has = earlier-kept listed recs s.rows key put (last_vector s key) has

@@ -1,10 +1,15 @@
 -- What is found among the rows where some go out and one is placed.
 use Rattle.std.proofs.Common.{◌≡◌, ◌∙◌, refl, sym, ap, Bool, true, false, cond, not, List, [], ◌∷◌, ◌++◌, Option, Some, None}
-use Rattle.std.specs.Prelude.{option_map}
+use Rattle.std.specs.Prelude.{ℕ, map, option_map, option_to_list}
+use Rattle.std.specs.HashMap.{HashMap, get}
 use Rattle.tape_base.specs.declared.pieces.PieceId.{PieceId}
 use Rattle.tape_base.specs.Piece.{same_piece}
 use Rattle.tape_base.proofs.NameLaws.{same_piece-true, same_piece-same}
-use Rattle.cache_model.specs.State.{Row, row_in, without}
+use Rattle.tape_base.specs.declared.digests.Digest.{Digest}
+use Rattle.cache_model.specs.State.{Row, moved_row, row_in, without}
+use Rattle.cache_model.proofs.Lists.{row_in-copied}
+use Rattle.cache_chronicle.specs.declared.pieces.Standing.{Standing}
+use Rattle.cache_chronicle.specs.Tables.{HasRows, standing_of}
 
 -- the row goes out
 out_here : (id other : PieceId) (row : Row) (found : Option Row) → same_piece row.id id ≡ true → cond (same_piece id other) None found ≡ cond (same_piece id other) None (cond (same_piece row.id other) (Some row) found)
@@ -80,3 +85,40 @@ known_without f id other rows = option_map-cond f (same_piece id other) None (ro
 -- a table that gets a row has it behind the others
 pub known_anew : {X : Type 0} (f : Row → X) (row : Row) (other : PieceId) (rows : List Row) → cond (same_piece row.id other) (Some (f row)) (option_map f (row_in rows other)) ≡ option_map f (row_in (without row.id rows ++ row ∷ []) other)
 known_anew f row other rows = option_map-cond f (same_piece row.id other) (Some row) (row_in rows other) ∙ ap (option_map f) (sym (row_in-anew rows row other))
+
+-- ---- a piece that is copied
+
+abbrev moved_standing : ℕ → Digest → Standing → Standing
+moved_standing place digest standing = record standing { place = place; digest = digest }
+
+copied_known : (place : ℕ) (digest : Digest) (b : Bool) (o : Option Row)
+    → cond b (option_map (moved_standing place digest) (option_map standing_of o)) (option_map standing_of o) ≡ option_map standing_of (cond b (option_map (moved_row place digest) o) o)
+copied_known place digest true (Some row) = refl
+copied_known place digest true None = refl
+copied_known place digest false o = refl
+
+at_piece : {S : Type 0} (m : HashMap PieceId Standing S) (piece id : PieceId) (place : ℕ) (digest : Digest) (found : Option Standing) (b : Bool) → get same_piece m piece ≡ found → same_piece piece id ≡ b
+    → cond b (option_map (moved_standing place digest) found) (get same_piece m id) ≡ cond b (option_map (moved_standing place digest) (get same_piece m id)) (get same_piece m id)
+at_piece m piece id place digest found true h e = ap (option_map (moved_standing place digest)) (sym h ∙ ap (get same_piece m) (same_piece-true piece id e))
+at_piece m piece id place digest found false h e = refl
+
+-- a table in which what stands under a name gets another place and digest has the rows with that piece copied
+pub known_copied : {S : Type 0} (m : HashMap PieceId Standing S) (piece id : PieceId) (place : ℕ) (digest : Digest) (found : Option Standing) (rows : List Row) → HasRows m rows → get same_piece m piece ≡ found
+    → cond (same_piece piece id) (option_map (moved_standing place digest) found) (get same_piece m id)
+    ≡ option_map standing_of (row_in (without piece rows ++ map (moved_row place digest) (option_to_list (row_in rows piece))) id)
+known_copied m piece id place digest found rows has h =
+    at_piece m piece id place digest found (same_piece piece id) h refl
+    ∙ (ap (λ o. cond (same_piece piece id) (option_map (moved_standing place digest) o) o) (has id)
+    ∙ (copied_known place digest (same_piece piece id) (row_in rows id)
+    ∙ sym (ap (option_map standing_of) (row_in-copied piece id rows place digest))))
+
+same_where_none : {S : Type 0} (m : HashMap PieceId Standing S) (piece id : PieceId) (b : Bool) → get same_piece m piece ≡ None → same_piece piece id ≡ b
+    → get same_piece m id ≡ cond b None (get same_piece m id)
+same_where_none m piece id true h e = ap (get same_piece m) (sym (same_piece-true piece id e)) ∙ h
+same_where_none m piece id false h e = refl
+
+-- where nothing stands under a name, nothing changes
+pub nowhere_copied : {S : Type 0} (m : HashMap PieceId Standing S) (piece id : PieceId) (place : ℕ) (digest : Digest) (rows : List Row) → HasRows m rows → get same_piece m piece ≡ None
+    → get same_piece m id ≡ option_map standing_of (row_in (without piece rows ++ map (moved_row place digest) (option_to_list (row_in rows piece))) id)
+nowhere_copied m piece id place digest rows has h =
+    same_where_none m piece id (same_piece piece id) h refl ∙ known_copied m piece id place digest None rows has h

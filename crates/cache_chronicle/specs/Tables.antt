@@ -1,6 +1,8 @@
 -- What each table of a `FullChronicle` has: of each piece, place and key what a list of the state says.
 use Rattle.std.specs.Prelude.{ℕ, ◌≡◌, ◌==◌, nat_eq, List, Option, option_map}
 use Rattle.std.specs.HashMap.{HashMap, get}
+use Rattle.std.specs.HashSet.{HashSet, contains}
+use Rattle.std.specs.List.{list_any}
 use Rattle.std.specs.Map.{lookup}
 use Rattle.tape_base.specs.declared.keys.Key.{Key}
 use Rattle.tape_base.specs.declared.pieces.PieceId.{PieceId}
@@ -45,6 +47,10 @@ HasLosses m lost = (id : PieceId) → get same_piece m id ≡ lookup (λ piece. 
 -- of each place the piece that was placed there last
 abbrev pub HasPlaces : {S : Type 0} → HashMap ℕ PieceId S → List (ℕ × PieceId) → Type 0
 HasPlaces m places = (place : ℕ) → get nat_eq m place ≡ lookup (λ p. p == place) places
+
+-- of each place whether a piece there was to be copied ahead and was not
+abbrev pub HasUnsaved : {S : Type 0} → HashSet ℕ S → List ℕ → Type 0
+HasUnsaved m unsaved = (place : ℕ) → contains nat_eq m place ≡ list_any (λ p. p == place) unsaved
 
 -- of each key its last vector
 abbrev pub HasVectors : {S : Type 0} → HashMap Key LastVector S → List (Key × state.LastVector) → Type 0

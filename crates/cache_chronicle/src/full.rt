@@ -96,6 +96,7 @@ impl FullChronicle {
             Some(standing) => Cause::Passed {
                 place: standing.place,
                 floor: self.floor(),
+                unsaved: self.tables.unsaved.contains(&standing.place),
             },
             None => Cause::NeverPut,
         }

@@ -1,16 +1,19 @@
-// Why pieces were lost, where pieces were placed, and which writers gave up.
+// Why pieces were lost, where pieces were placed, which were not saved, and which writers gave up.
 ghost use Rattle.std.specs.Prelude.{◌+◌, ◌≤◌, ◌<◌};
 ghost use Rattle.std.specs.HashMap.{spare};
+ghost use Rattle.std.specs.HashSet.{spare as set_spare};
 ghost use Rattle.cache_model.specs.State.{State, state_after};
-ghost use Rattle.cache_chronicle.specs.Tables.{HasAborts, HasLosses, HasPlaces};
+ghost use Rattle.cache_chronicle.specs.Tables.{HasAborts, HasLosses, HasPlaces, HasUnsaved};
 
 use cache_model::{Cause, Rec};
-use std::collections::HashMap;
+use std::collections::{HashMap, HashSet};
 use tape_base::{Key, PieceId};
 
 pub(crate) type Losses = HashMap<PieceId, Cause>;
 
 pub(crate) type Places = HashMap<u64, PieceId>;
+
+pub(crate) type Unsaved = HashSet<u64>;
 
 pub(crate) type Aborts = HashMap<Key, u64>;
 
@@ -51,8 +54,24 @@ pub(crate) fn note_place(places: &mut Places, rec: &Rec)
 {
     match *rec {
         Rec::Formatted { .. } => places.clear(),
-        Rec::Placed { piece, place, .. } => {
+        Rec::Placed { piece, place, .. } | Rec::Moved { piece, place, .. } => {
             let noted: Result<_, _> = places.insert(place, piece);
+            let _ = noted.unwrap();
+        }
+        _ => {}
+    }
+}
+
+/// Notes the place of a piece that was to be copied ahead and was not.
+pub(crate) fn note_unsaved(unsaved: &mut Unsaved, rec: &Rec)
+    requires { 0 < set_spare unsaved.old }
+    ensures has { (s : State) → HasUnsaved unsaved.old s.unsaved → HasUnsaved unsaved.new (state_after s rec.now).unsaved }
+    ensures spare { set_spare unsaved.old ≤ set_spare unsaved.new + 1 }
+{
+    match *rec {
+        Rec::Formatted { .. } => unsaved.clear(),
+        Rec::Unsaved { place, .. } => {
+            let noted: Result<_, _> = unsaved.insert(place);
             let _ = noted.unwrap();
         }
         _ => {}

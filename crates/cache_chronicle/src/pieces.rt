@@ -1,8 +1,8 @@
 // The pieces that stand, and what a record makes of them.
-ghost use Rattle.std.specs.Prelude.{◌≡◌, ◌+◌, ◌≤◌, ◌<◌, ◌∷◌, ◌++◌, [], List, Option as Option', option_map};
+ghost use Rattle.std.specs.Prelude.{◌≡◌, ◌+◌, ◌≤◌, ◌<◌, ◌∷◌, ◌++◌, [], List, Option as Option', map, option_map, option_to_list};
 ghost use Rattle.std.specs.HashMap.{spare};
 ghost use Rattle.alternate_vector.specs.Alternates.{Stored};
-ghost use Rattle.cache_model.specs.State.{State, Row, state_after, vector_piece, without, without_earlier};
+ghost use Rattle.cache_model.specs.State.{State, Row, moved_row, row_in, state_after, vector_piece, without, without_earlier};
 ghost use Rattle.cache_chronicle.specs.Tables.{HasRows, HasVectors, row_as, told_vector};
 
 use crate::vectors::{LastVector, Vectors, last_of};
@@ -55,6 +55,12 @@ pub(crate) fn note_piece(pieces: &mut Pieces, vectors: &Vectors, rec: &Rec)
                 pin,
             },
         ),
+        Rec::Moved {
+            piece,
+            place,
+            digest,
+            ..
+        } => move_to(pieces, piece, place, digest),
         Rec::Displaced { piece, .. } | Rec::Damaged { piece, .. } => take_out(pieces, piece),
         Rec::Committed { put, key, .. } => {
             take_out_earlier(pieces, last_of(vectors, key), key, put);
@@ -71,6 +77,29 @@ fn put(pieces: &mut Pieces, piece: PieceId, standing: Standing)
 {
     let noted: Result<_, _> = pieces.insert(piece, standing);
     let _ = noted.unwrap();
+}
+
+// A piece that stands somewhere stands at another place.
+fn move_to(pieces: &mut Pieces, piece: PieceId, place: u64, digest: Digest)
+    requires { 0 < spare pieces.old }
+    ensures has { (rows : List Row) → HasRows pieces.old rows
+        → HasRows pieces.new (without piece rows ++ map (moved_row place digest) (option_to_list (row_in rows piece))) }
+    ensures spare { spare pieces.old ≤ spare pieces.new + 1 }
+{
+    match pieces.get(&piece).copied() {
+        Some(standing) => {
+            let noted: Result<_, _> = pieces.insert(
+                piece,
+                Standing {
+                    place,
+                    digest,
+                    ..standing
+                },
+            );
+            let _ = noted.unwrap();
+        }
+        None => {}
+    }
 }
 
 fn take_out(pieces: &mut Pieces, piece: PieceId)

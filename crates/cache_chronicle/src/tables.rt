@@ -3,13 +3,15 @@ ghost use Rattle.std.specs.Prelude.{◌≡◌, ◌+◌, ◌≤◌, ◌<◌, OnOk
 ghost use Rattle.cache_model.specs.State.{State, nothing_yet, place_of, state_after};
 ghost use Rattle.cache_chronicle.specs.Indexed.{HasTables, spare_of};
 
-use crate::losses::{Aborts, Losses, Places, note_abort, note_loss, note_place};
+use crate::losses::{
+    Aborts, Losses, Places, Unsaved, note_abort, note_loss, note_place, note_unsaved,
+};
 use crate::pieces::{Pieces, note_piece};
 use crate::tape::Tape;
 use crate::vectors::{Vectors, note_vector};
 use cache_model::Rec;
 use std::alloc::{AllocError, Global};
-use std::collections::HashMap;
+use std::collections::{HashMap, HashSet};
 use tape_base::PieceId;
 
 #[derive(Drop)]
@@ -18,6 +20,7 @@ pub(crate) struct Tables {
     pub(crate) pieces: Pieces,
     pub(crate) losses: Losses,
     pub(crate) places: Places,
+    pub(crate) unsaved: Unsaved,
     pub(crate) vectors: Vectors,
     pub(crate) aborts: Aborts,
 }
@@ -31,6 +34,7 @@ impl Tables {
             pieces: HashMap::new(alloc),
             losses: HashMap::new(alloc),
             places: HashMap::new(alloc),
+            unsaved: HashSet::new(alloc),
             vectors: HashMap::new(alloc),
             aborts: HashMap::new(alloc),
         }
@@ -44,6 +48,7 @@ impl Tables {
         self.pieces.reserve(more)?;
         self.losses.reserve(more)?;
         self.places.reserve(more)?;
+        self.unsaved.reserve(more)?;
         self.vectors.reserve(more)?;
         self.aborts.reserve(more)
     }
@@ -64,6 +69,7 @@ impl Tables {
         note_piece(&mut self.pieces, &self.vectors, rec);
         note_loss(&mut self.losses, rec);
         note_place(&mut self.places, rec);
+        note_unsaved(&mut self.unsaved, rec);
         note_vector(&mut self.vectors, rec);
         note_abort(&mut self.aborts, rec);
         self.tape = self.tape.after(rec);

@@ -255,10 +255,46 @@ fn each_cause_of_a_miss(rt: HostRuntime) -> Result<(), Fail> {
     let passed = Cause::Passed {
         place: 67,
         floor: 72,
+        unsaved: false,
     };
     assert_eq!(rt; chronicle.why(key("/c")), passed);
     assert_eq!(rt; why_gone(&chronicle, piece("/d", 4, 1)), None);
     assert_eq!(rt; chronicle.piece_at(67), None);
     assert_eq!(rt; chronicle.piece_at(72), Some(piece("/d", 4, 1)));
+    Ok(())
+}
+
+#[test]
+fn a_piece_that_is_copied_ahead_stands_at_its_new_place(rt: HostRuntime) -> Result<(), Fail> {
+    let mut chronicle = FullChronicle::new(rt.alloc());
+    begin(&mut chronicle)?;
+    put(&rt, &mut chronicle, 1, "/a", "1", 64)?;
+    let (fragment, vector) = (piece("/a", 1, 1), piece("/a", 1, 0));
+    let unsaved = Rec::Unsaved {
+        piece: fragment,
+        place: 64,
+        fault: false,
+    };
+    add(&mut chronicle, unsaved)?;
+    add(&mut chronicle, began(128, 72))?;
+    let digest = Digest([128; 32]);
+    let moved = Rec::Moved {
+        piece: vector,
+        from: 65,
+        place: 128,
+        digest,
+    };
+    add(&mut chronicle, moved)?;
+
+    let passed = Cause::Passed {
+        place: 64,
+        floor: 72,
+        unsaved: true,
+    };
+    assert_eq!(rt; why_gone(&chronicle, fragment), Some(passed));
+    assert_eq!(rt; chronicle.why(key("/a")), Cause::NoMatch { count: 1 });
+    assert_eq!(rt; chronicle.piece_at(128), Some(vector));
+    assert_eq!(rt; chronicle.piece_at(65), None);
+    assert_eq!(rt; chronicle.digest_of(vector), Some(digest));
     Ok(())
 }

@@ -123,7 +123,7 @@ not_listed s row true e h = let above : floor_now s ≤ row.place = leb-true (fl
 
 pub passed_is_missed : (s : State) (key : Key) (put : ℕ) (row : Row) (request : List Field) → last_vector s key ≡ Some (Complete put)
     → row_of s (vector_piece key put) ≡ Some row → row.place < floor_now s → cause_of_loss s (vector_piece key put) ≡ None → followed s key request ≡ None
-    → lookup_verdict s key request ≡ read.Miss (cause.Passed row.place (floor_now s))
+    → lookup_verdict s key request ≡ read.Miss (cause.Passed row.place (floor_now s) (Verdict.is_unsaved s row.place))
 passed_is_missed s key put row request last there below lost f =
     let gone : live_row_of s (vector_piece key put) ≡ None = passed_is_not_live s (vector_piece key put) row there below in
     let none : alternates_of s key ≡ [] = rw (last, there) (not_listed s row (is_live s row) refl below) in

@@ -1,5 +1,5 @@
 pub mod Found
-mod Lists
+pub mod Lists
 pub mod Laps
 pub mod Rows
 mod Places

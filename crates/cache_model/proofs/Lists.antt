@@ -1,11 +1,12 @@
 -- Rows by their pieces, in lists from which some are taken.
 use Rattle.std.proofs.Common.{◌≡◌, List, [], ◌∷◌, ◌++◌, Bool, true, false, Option, Some, None, refl, sym, ◌∙◌, ap, subst, cond}
-use Rattle.std.specs.Prelude.{not, if◌then◌else◌, option_to_list}
+use Rattle.std.specs.Prelude.{ℕ, map, not, if◌then◌else◌, option_map, option_to_list}
 use Rattle.std.specs.List.{AllByRecursion}
 use Rattle.tape_base.specs.declared.pieces.PieceId.{PieceId}
 use Rattle.tape_base.specs.Piece.{same_piece}
 use Rattle.tape_base.proofs.NameLaws.{same_piece-true, same_piece-same}
-use Rattle.cache_model.specs.State.{Row, row_in, without}
+use Rattle.tape_base.specs.declared.digests.Digest.{Digest}
+use Rattle.cache_model.specs.State.{Row, moved_row, row_in, without}
 use Rattle.cache_model.proofs.Found.{no_truth, none_is}
 
 abbrev either : Bool → Option Row → Option Row → Option Row
@@ -132,3 +133,32 @@ row_in-moved piece x before rows =
     ∙ (ap (λ o. first_of o (row_in (without piece rows) x)) (row_in-append x before gone)
     ∙ (first_of-assoc (row_in before x) (row_in gone x) (row_in (without piece rows) x)
     ∙ (ap (first_of (row_in before x)) moved ∙ sym (row_in-append x before rows))))
+
+-- ---- a piece that is copied to the end
+
+alone : (row : Option Row) → first_of row None ≡ row
+alone (Some row) = refl
+alone None = refl
+
+copied_by : (piece x : PieceId) (rows : List Row) (place : ℕ) (digest : Digest) (o : Option Row) (b : Bool) → row_in rows piece ≡ o → same_piece piece x ≡ b
+    → first_of (if b then None else row_in rows x) (row_in (map (moved_row place digest) (option_to_list o)) x)
+    ≡ (if b then option_map (moved_row place digest) (row_in rows x) else row_in rows x)
+copied_by piece x rows place digest None true h e =
+    sym (ap (option_map (moved_row place digest)) (ap (row_in rows) (sym (same_piece-true piece x e)) ∙ h))
+copied_by piece x rows place digest None false h e = alone (row_in rows x)
+copied_by piece x rows place digest (Some row) true h e =
+    let same : same_piece row.id x ≡ true = ap (λ i. same_piece i x) (own_piece piece rows row h) ∙ e in
+    rw same (sym (ap (option_map (moved_row place digest)) (ap (row_in rows) (sym (same_piece-true piece x e)) ∙ h)))
+copied_by piece x rows place digest (Some row) false h e =
+    let same : same_piece row.id x ≡ false = ap (λ i. same_piece i x) (own_piece piece rows row h) ∙ e in
+    rw same (alone (row_in rows x))
+
+-- it has its new place and digest, and the others are as they were
+pub row_in-copied : (piece x : PieceId) (rows : List Row) (place : ℕ) (digest : Digest)
+    → row_in (without piece rows ++ map (moved_row place digest) (option_to_list (row_in rows piece))) x
+    ≡ (if same_piece piece x then option_map (moved_row place digest) (row_in rows x) else row_in rows x)
+row_in-copied piece x rows place digest =
+    let copy : List Row = map (moved_row place digest) (option_to_list (row_in rows piece)) in
+    row_in-append x (without piece rows) copy
+    ∙ (ap (λ o. first_of o (row_in copy x)) (row_in-without piece x rows)
+    ∙ copied_by piece x rows place digest (row_in rows piece) (same_piece piece x) refl refl)

@@ -1,6 +1,6 @@
 -- What a record makes of the place of one piece, and records that leave it.
-use Rattle.std.proofs.Common.{◌≡◌, ℕ, ◌<◌, ◌≤◌, List, [], ◌∷◌, Bool, true, false, Option, Some, None, refl, sym, ◌∙◌, ap, arith}
-use Rattle.std.specs.Prelude.{not, ◌&&◌, ◌==◌, if◌then◌else◌, option_map}
+use Rattle.std.proofs.Common.{◌≡◌, ℕ, ◌<◌, ◌≤◌, List, [], ◌∷◌, ◌++◌, Bool, true, false, Option, Some, None, refl, sym, ◌∙◌, ap, arith}
+use Rattle.std.specs.Prelude.{not, ◌&&◌, ◌==◌, if◌then◌else◌, map, option_map, option_to_list}
 use Rattle.std.specs.List.{AllByRecursion}
 use Rattle.tape_base.specs.declared.keys.Key.{Key}
 use Rattle.tape_base.specs.declared.pieces.PieceId.{PieceId}
@@ -11,10 +11,10 @@ use Rattle.std.proofs.lemmas.Bool.{leb-true}
 use Rattle.tape_base.proofs.NameLaws.{same_piece-true, same_piece-same, same_key-same}
 use Rattle.cache_model.specs.declared.record.Rec.{Rec}
 use Rattle.cache_model.specs.declared.record.Rec.TheVariants as rec
-use Rattle.cache_model.specs.State.{State, Row, LastVector, Complete, TakenOut, after_all, state_after, last_vector, place_of, row_in, row_of, without, without_earlier, vector_piece, placed_row, is_live, only_live, live_row_of, floor_now}
+use Rattle.cache_model.specs.State.{State, Row, LastVector, Complete, TakenOut, after_all, state_after, last_vector, place_of, row_in, row_of, without, without_earlier, vector_piece, placed_row, moved_row, is_live, only_live, live_row_of, floor_now}
 use Rattle.cache_model.specs.PlaceLaws.{place_after, is_replaced, Leaves, takes_away, is_about, NotAbout, vector_said, begins_buffer, NoBuffer}
 use Rattle.tape_base.specs.Place.{floor_of}
-use Rattle.cache_model.proofs.Lists.{row_in-without, row_in-placed}
+use Rattle.cache_model.proofs.Lists.{row_in-without, row_in-placed, row_in-copied}
 use Rattle.cache_model.proofs.Found.{no_truth}
 
 abbrev place_in : Option Row → Option ℕ
@@ -52,12 +52,25 @@ earlier_at rows key put (Some (Complete old)) id = earlier_by rows key put old i
 earlier_at rows key put (Some (TakenOut old)) id = refl
 earlier_at rows key put None id = refl
 
+copied_at : (b : Bool) (place : ℕ) (digest : Digest) (before : Option Row)
+    → place_in (if b then option_map (moved_row place digest) before else before) ≡ (if b then option_map (λ (old : ℕ). place) (place_in before) else place_in before)
+copied_at true place digest (Some row) = refl
+copied_at true place digest None = refl
+copied_at false place digest before = refl
+
+moved_at : (rows : List Row) (piece : PieceId) (place : ℕ) (digest : Digest) (id : PieceId)
+    → place_in (row_in (without piece rows ++ map (moved_row place digest) (option_to_list (row_in rows piece))) id)
+    ≡ (if same_piece piece id then option_map (λ (old : ℕ). place) (place_in (row_in rows id)) else place_in (row_in rows id))
+moved_at rows piece place digest id = ap place_in (row_in-copied piece id rows place digest) ∙ copied_at (same_piece piece id) place digest (row_in rows id)
+
 pub place_follows : (s : State) (r : Rec) (id : PieceId) → place_of (state_after s r) id ≡ place_after s r id (place_of s id)
 place_follows s (rec.Formatted geometry) id = refl
 place_follows s (rec.Placed piece place blocks digest pin) id =
     ap place_in (row_in-placed id s.rows (placed_row s piece place blocks digest pin)) ∙ placed_at (same_piece piece id) _ (row_of s id)
 place_follows s (rec.Displaced piece segment live) id = without_at s.rows piece id
 place_follows s (rec.Damaged piece place kept found) id = without_at s.rows piece id
+place_follows s (rec.Moved piece from place digest) id = moved_at s.rows piece place digest id
+place_follows s (rec.Unsaved piece place fault) id = refl
 place_follows s (rec.Committed put key length) id = earlier_at s.rows key put (last_vector s key) id
 place_follows s (rec.Removed put key) id = rw (same_piece-sym id (vector_piece key put)) (without_at s.rows (vector_piece key put) id)
 place_follows s (rec.Began cursor floor) id = refl
@@ -103,6 +116,8 @@ record_leaves s (rec.Formatted geometry) id before h = no_truth h
 record_leaves s (rec.Placed piece place blocks digest pin) id before h = rw h refl
 record_leaves s (rec.Displaced piece segment live) id before h = rw h refl
 record_leaves s (rec.Damaged piece place kept found) id before h = rw h refl
+record_leaves s (rec.Moved piece from place digest) id before h = rw h refl
+record_leaves s (rec.Unsaved piece place fault) id before h = refl
 record_leaves s (rec.Committed put key length) id before h = rw (commit_leaves (last_vector s key) key put id h) refl
 record_leaves s (rec.Removed put key) id before h = rw (removal_leaves key put id (same_piece id (vector_piece key put)) refl h) refl
 record_leaves s (rec.Began cursor floor) id before h = refl
@@ -128,6 +143,12 @@ place_is_last s id place blocks pin digest behind h =
     place-left (state_after s (rec.Placed id place blocks digest pin)) id behind h
     ∙ (place_follows s (rec.Placed id place blocks digest pin) id ∙ rw (same_piece-same id) refl)
 
+pub moved_is_there : (s : State) (id : PieceId) (before from place : ℕ) (digest : Digest) (behind : List Rec) → place_of s id ≡ Some before → AllByRecursion (Leaves id) behind
+    → place_of (after_all s (rec.Moved id from place digest ∷ behind)) id ≡ Some place
+moved_is_there s id before from place digest behind there h =
+    place-left (state_after s (rec.Moved id from place digest)) id behind h
+    ∙ (place_follows s (rec.Moved id from place digest) id ∙ rw (same_piece-same id, there) refl)
+
 gone_at : (s : State) (id : PieceId) (gone : Rec) → takes_away id gone ≡ true → place_of (state_after s gone) id ≡ None
 gone_at s id (rec.Displaced piece segment live) h = place_follows s (rec.Displaced piece segment live) id ∙ rw h refl
 gone_at s id (rec.Damaged piece place kept found) h = place_follows s (rec.Damaged piece place kept found) id ∙ rw h refl
@@ -135,6 +156,8 @@ gone_at s id (rec.Removed put key) h = place_follows s (rec.Removed put key) id 
 gone_at s id (rec.Formatted geometry) h = cc
 gone_at s id (rec.Placed piece place blocks digest pin) h = cc
 gone_at s id (rec.Committed put key length) h = cc
+gone_at s id (rec.Moved piece from place digest) h = cc
+gone_at s id (rec.Unsaved piece place fault) h = cc
 gone_at s id (rec.Began cursor floor) h = cc
 gone_at s id (rec.WriteOpened actor put key request response pin) h = cc
 gone_at s id (rec.Cut put index length digest) h = cc
@@ -172,6 +195,8 @@ vector_stays s key (rec.Removed put k) h = rw h refl
 vector_stays s key (rec.Placed piece place blocks digest pin) h = refl
 vector_stays s key (rec.Displaced piece segment live) h = refl
 vector_stays s key (rec.Damaged piece place kept found) h = refl
+vector_stays s key (rec.Moved piece from place digest) h = refl
+vector_stays s key (rec.Unsaved piece place fault) h = refl
 vector_stays s key (rec.Began cursor floor) h = refl
 vector_stays s key (rec.WriteOpened actor put k request response pin) h = refl
 vector_stays s key (rec.Cut put index length digest) h = refl
@@ -195,6 +220,8 @@ vector_is s key (rec.Removed put k) h = rw h refl
 vector_is s key (rec.Placed piece place blocks digest pin) h = cc
 vector_is s key (rec.Displaced piece segment live) h = cc
 vector_is s key (rec.Damaged piece place kept found) h = cc
+vector_is s key (rec.Moved piece from place digest) h = cc
+vector_is s key (rec.Unsaved piece place fault) h = cc
 vector_is s key (rec.Began cursor floor) h = cc
 vector_is s key (rec.WriteOpened actor put k request response pin) h = cc
 vector_is s key (rec.Cut put index length digest) h = cc
@@ -217,6 +244,8 @@ floor_stays s (rec.Began cursor floor) h = no_truth h
 floor_stays s (rec.Placed piece place blocks digest pin) h = refl
 floor_stays s (rec.Displaced piece segment live) h = refl
 floor_stays s (rec.Damaged piece place kept found) h = refl
+floor_stays s (rec.Moved piece from place digest) h = refl
+floor_stays s (rec.Unsaved piece place fault) h = refl
 floor_stays s (rec.Committed put key length) h = refl
 floor_stays s (rec.Removed put key) h = refl
 floor_stays s (rec.WriteOpened actor put key request response pin) h = refl

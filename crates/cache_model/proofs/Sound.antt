@@ -22,6 +22,7 @@ abbrev pub LeavesTape : Rec → Type 0
 LeavesTape (rec.Formatted geometry) = ⊥
 LeavesTape (rec.Began cursor floor) = ⊥
 LeavesTape (rec.Placed piece place blocks digest pin) = ⊥
+LeavesTape (rec.Moved piece from place digest) = ⊥
 LeavesTape _ = Unit {0}
 
 abbrev pub AllLeaveTape : List Rec → Type 0
@@ -78,6 +79,8 @@ pub leaves_one : (s : State) (r : Rec) → LeavesTape r → SameTape s (state_af
 leaves_one s (rec.Formatted geometry) h = absurd h
 leaves_one s (rec.Began cursor floor) h = absurd h
 leaves_one s (rec.Placed piece place blocks digest pin) h = absurd h
+leaves_one s (rec.Moved piece from place digest) h = absurd h
+leaves_one s (rec.Unsaved piece place fault) h = same_with s _ refl refl refl refl (part_all s.rows)
 leaves_one s (rec.Displaced piece segment live) h = same_with s _ refl refl refl refl (part-filter _ s.rows)
 leaves_one s (rec.Damaged piece place kept found) h = same_with s _ refl refl refl refl (part-filter _ s.rows)
 leaves_one s (rec.Committed put key length) h = same_with s _ refl refl refl refl (earlier_part key put (last_vector s key) s.rows)

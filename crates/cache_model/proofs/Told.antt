@@ -149,6 +149,8 @@ puts_left : (s : State) (r : Rec) → LeavesPuts r → AreFit s.puts → AreFit 
 puts_left s (rec.Formatted geometry) h each = no_puts
 puts_left s (rec.Began cursor floor) h each = each
 puts_left s (rec.Placed piece place blocks digest pin) h each = each
+puts_left s (rec.Moved piece from place digest) h each = each
+puts_left s (rec.Unsaved piece place fault) h each = each
 puts_left s (rec.Displaced piece segment live) h each = absurd h
 puts_left s (rec.Damaged piece place kept found) h each = each
 puts_left s (rec.WriteOpened actor put key request response pin) h each = absurd h
@@ -170,6 +172,8 @@ nothing_displaced : (s : State) (r : Rec) → LeavesPuts r → s.displaced ≡ [
 nothing_displaced s (rec.Formatted geometry) h none = refl
 nothing_displaced s (rec.Began cursor floor) h none = none
 nothing_displaced s (rec.Placed piece place blocks digest pin) h none = refl
+nothing_displaced s (rec.Moved piece from place digest) h none = none
+nothing_displaced s (rec.Unsaved piece place fault) h none = none
 nothing_displaced s (rec.Displaced piece segment live) h none = absurd h
 nothing_displaced s (rec.Damaged piece place kept found) h none = none
 nothing_displaced s (rec.WriteOpened actor put key request response pin) h none = absurd h

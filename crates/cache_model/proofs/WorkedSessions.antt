@@ -260,7 +260,7 @@ a_removal_is_the_cause = refl
 
 -- two laps later the phase is that of the vector's lap again
 pub what_was_passed_two_laps_ago_is_missed : told (put_a 1 ∷ put_b 20 ∷ fillers 16 ++ get_a ∷ [])
-    ≡ Stored 1 1 1 ∷ Stored 2 20 5 ∷ stored_fillers 16 3 ++ Looked (read.Miss (cause.Passed 65 136)) ∷ []
+    ≡ Stored 1 1 1 ∷ Stored 2 20 5 ∷ stored_fillers 16 3 ++ Looked (read.Miss (cause.Passed 65 136 false)) ∷ []
 what_was_passed_two_laps_ago_is_missed = refl
 
 pub the_last_buffer_then_begins_with_a_lap : (run (put_a 1 ∷ put_b 20 ∷ fillers 16)).state.cursor ≡ 192
@@ -275,7 +275,7 @@ the_cursor_stops_at_the_lap_s_end = refl
 
 -- the flush for the vector's room comes before the fragments are looked at
 pub a_fragment_that_was_passed_is_lost : told (open_write a ∷ cut_whole 1 4 ∷ put_b 24 ∷ fillers 8 ++ close 1 0 ∷ get_a ∷ [])
-    ≡ Opened 1 ∷ Stored 2 24 6 ∷ stored_fillers 8 3 ++ Lost 1 (cause.Passed 64 80) ∷ Looked (read.Miss (cause.Aborted 1)) ∷ []
+    ≡ Opened 1 ∷ Stored 2 24 6 ∷ stored_fillers 8 3 ++ Lost 1 (cause.Passed 64 80 false) ∷ Looked (read.Miss (cause.Aborted 1)) ∷ []
 a_fragment_that_was_passed_is_lost = refl
 
 pub a_vector_of_more_than_half_a_buffer_is_refused : told (put_a 212 ∷ put_a 208 ∷ [])
@@ -451,5 +451,5 @@ a_later_put_does_not_change_what_a_reader_hit = refl
 
 pub a_reader_is_broken_where_its_fragment_was_passed : told (put_a 8 ∷ open_read a [] ∷ read_on 1 ∷ put_b 16 ∷ fillers 9 ++ read_on 1 ∷ read_on 1 ∷ [])
     ≡ Stored 1 8 2 ∷ Looked (read.Hit 1) ∷ Read (next.Gave 1 4) ∷ Stored 2 16 4 ∷ stored_fillers 9 3
-    ++ Read (next.Broke (cause.Passed 65 80)) ∷ Read (next.Broke (cause.Passed 65 80)) ∷ []
+    ++ Read (next.Broke (cause.Passed 65 80 false)) ∷ Read (next.Broke (cause.Passed 65 80 false)) ∷ []
 a_reader_is_broken_where_its_fragment_was_passed = refl

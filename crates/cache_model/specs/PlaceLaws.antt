@@ -1,5 +1,5 @@
 -- Where a piece stands, and which vector is a key's last: the definitions in the subject's sentences.
-use Rattle.std.specs.Prelude.{ℕ, ◌≡◌, ◌<◌, ◌==◌, Bool, true, false, not, ◌&&◌, if◌then◌else◌, List, [], ◌∷◌, Option, Some, None}
+use Rattle.std.specs.Prelude.{ℕ, ◌≡◌, ◌<◌, ◌==◌, Bool, true, false, not, ◌&&◌, if◌then◌else◌, List, [], ◌∷◌, Option, Some, None, option_map}
 use Rattle.std.specs.List.{AllByRecursion}
 use Rattle.tape_base.specs.declared.keys.Key.{Key}
 use Rattle.tape_base.specs.declared.pieces.PieceId.{PieceId}
@@ -20,6 +20,7 @@ is_replaced _ key put id = false
 abbrev pub place_after : State → Rec → PieceId → Option ℕ → Option ℕ
 place_after s (rec.Formatted geometry) id before = None
 place_after s (rec.Placed piece place blocks digest pin) id before = if same_piece piece id then Some place else before
+place_after s (rec.Moved piece from place digest) id before = if same_piece piece id then option_map (λ old. place) before else before
 place_after s (rec.Displaced piece segment live) id before = if same_piece piece id then None else before
 place_after s (rec.Damaged piece place kept found) id before = if same_piece piece id then None else before
 place_after s (rec.Committed put key length) id before = if is_replaced (last_vector s key) key put id then None else before
@@ -30,11 +31,12 @@ place_after s _ id before = before
 abbrev pub PlaceFollows : Type 0
 PlaceFollows = (s : State) (r : Rec) (id : PieceId) → place_of (state_after s r) id ≡ place_after s r id (place_of s id)
 
--- the record may change where a piece stands: it begins a session, places, displaces or damages the
+-- the record may change where a piece stands: it begins a session, places, moves, displaces or damages the
 -- piece, or, of a vector, commits another put of its key or removes its key
 abbrev pub may_move : PieceId → Rec → Bool
 may_move id (rec.Formatted geometry) = true
 may_move id (rec.Placed piece place blocks digest pin) = same_piece piece id
+may_move id (rec.Moved piece from place digest) = same_piece piece id
 may_move id (rec.Displaced piece segment live) = same_piece piece id
 may_move id (rec.Damaged piece place kept found) = same_piece piece id
 may_move id (rec.Committed put key length) = is_vector id && (same_key id.first key && not (id.put == put))
@@ -48,6 +50,11 @@ Leaves id r = may_move id r ≡ false
 abbrev pub PlaceIsLast : Type 0
 PlaceIsLast = (s : State) (id : PieceId) (place blocks pin : ℕ) (digest : Digest) (behind : List Rec) → AllByRecursion (Leaves id) behind
     → place_of (after_all s (rec.Placed id place blocks digest pin ∷ behind)) id ≡ Some place
+
+-- a piece that stands somewhere stands where it was moved last
+abbrev pub MovedIsThere : Type 0
+MovedIsThere = (s : State) (id : PieceId) (before from place : ℕ) (digest : Digest) (behind : List Rec) → place_of s id ≡ Some before → AllByRecursion (Leaves id) behind
+    → place_of (after_all s (rec.Moved id from place digest ∷ behind)) id ≡ Some place
 
 -- the record takes a piece away
 abbrev pub takes_away : PieceId → Rec → Bool

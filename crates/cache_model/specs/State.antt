@@ -71,6 +71,8 @@ pub record State : Type 0 where
   pub rows : List Row
   -- the piece that was placed last at each place, the last first
   pub places : List (ℕ × PieceId)
+  -- the places of the pieces that were to be copied ahead and were not, the last first
+  pub unsaved : List ℕ
   -- what the insert that goes on has displaced so far
   pub displaced : List Row
   -- the pieces that were displaced or damaged, the last first
@@ -120,6 +122,7 @@ formatted geometry = record {
   filled = 0;
   rows = [];
   places = [];
+  unsaved = [];
   displaced = [];
   lost = [];
   vectors = [];
@@ -282,6 +285,13 @@ opened_reader s reader actor key request (read.Follow put) =
     record { actor = actor; reader = reader; key = key; put = put; table = None; next = 1 } ∷ []
 opened_reader s reader actor key request (read.Miss why) = []
 
+-- a piece at another place, as the document with this digest
+abbrev pub moved_row : ℕ → Digest → Row → Row
+moved_row place digest row = record row { place = place; digest = digest }
+
+abbrev pub blocks_of_row : Option Row → ℕ
+blocks_of_row row = unwrap_or (option_map (λ (r : Row). r.blocks) row) 0
+
 abbrev pub opened_put : ℕ → ℕ → Key → List Field → List Field → ℕ → PutRow
 opened_put actor put key request response pin =
     record { actor = actor; put = put; key = key; request = request; response = response; pin = pin; cuts = []; writing = Open }
@@ -296,6 +306,12 @@ state_after s (rec.Placed piece place blocks digest pin) = record s {
   displaced = [];
   pending = if is_vector piece then Some piece else s.pending;
 }
+state_after s (rec.Moved piece from place digest) = record s {
+  filled = s.filled + blocks_of_row (row_of s piece);
+  rows = without piece s.rows ++ map (moved_row place digest) (option_to_list (row_of s piece));
+  places = (place, piece) ∷ s.places;
+}
+state_after s (rec.Unsaved piece place fault) = record s { unsaved = place ∷ s.unsaved }
 state_after s (rec.Displaced piece segment live) = record s {
   rows = without piece s.rows;
   displaced = s.displaced ++ option_to_list (row_of s piece);

@@ -1,5 +1,6 @@
 -- What a lookup and a reader are answered, and the cause where there is nothing to give.
 use Rattle.std.specs.Prelude.{ℕ, ◌-◌, ◌==◌, Bool, true, false, ◌&&◌, if◌then◌else◌, List, [], length, find, Option, Some, None, option_and_then, option_map, unwrap_or, slice_get}
+use Rattle.std.specs.List.{list_any}
 use Rattle.std.specs.Map.{lookup}
 use Rattle.tape_base.specs.declared.keys.Key.{Key}
 use Rattle.tape_base.specs.declared.pieces.PieceId.{PieceId}
@@ -27,8 +28,12 @@ no_record s = cause.NeverPut
 abbrev pub cause_of_loss : State → PieceId → Option Cause
 cause_of_loss s id = lookup (λ lost. same_piece lost id) s.lost
 
+-- the piece at this place was to be copied ahead and was not
+abbrev pub is_unsaved : State → ℕ → Bool
+is_unsaved s place = list_any (λ p. p == place) s.unsaved
+
 abbrev pub passed : State → Row → Cause
-passed s row = cause.Passed row.place (floor_now s)
+passed s row = cause.Passed row.place (floor_now s) (is_unsaved s row.place)
 
 -- why a piece is not live: it was displaced or damaged, or it was passed; a vector that was taken out
 -- has no cause of its own

@@ -11,7 +11,7 @@ use Rattle.cache_model.specs.declared.answer.ReadAnswer.TheVariants as read
 use Rattle.cache_model.specs.declared.answer.NextAnswer.TheVariants as next
 use Rattle.cache_model.specs.declared.record.Rec.TheVariants as rec
 use Rattle.cache_model.specs.State.{State, Row, PutRow, ReaderRow, Complete, TakenOut, Open, Closed, after_all, alternate_of, alternates_of, floor_now, formatted, fragment_piece, last_vector, live_row_of, most_payload, put_of, row_of, vector_piece}
-use Rattle.cache_model.specs.Verdict.{cause_of_loss, followed, hit, lookup_verdict, next_row, reader_verdict}
+use Rattle.cache_model.specs.Verdict.{cause_of_loss, followed, hit, is_unsaved, lookup_verdict, next_row, reader_verdict}
 use Rattle.cache_model.specs.Permit.{IsAmong}
 
 -- what is hit is one of the key's alternates, and matches the request (RFC 9111, section 4.1)
@@ -34,7 +34,7 @@ RemovedIsMissed = (s : State) (key : Key) (put : ℕ) (request : List Field) →
 abbrev pub PassedIsMissed : Type 0
 PassedIsMissed = (s : State) (key : Key) (put : ℕ) (row : Row) (request : List Field) → last_vector s key ≡ Some (Complete put)
     → row_of s (vector_piece key put) ≡ Some row → row.place < floor_now s → cause_of_loss s (vector_piece key put) ≡ None → followed s key request ≡ None
-    → lookup_verdict s key request ≡ read.Miss (cause.Passed row.place (floor_now s))
+    → lookup_verdict s key request ≡ read.Miss (cause.Passed row.place (floor_now s) (is_unsaved s row.place))
 
 -- behind a format nothing was put
 abbrev pub FormattedIsEmpty : Type 0

@@ -9,10 +9,11 @@ pub enum Cause {
     NeverPut,
     /// The key's last vector was removed.
     Removed,
-    /// The piece stands below the floor.
+    /// The piece stands below the floor. It is unsaved where it was to be copied ahead and was not.
     Passed {
         place: u64,
         floor: u64,
+        unsaved: bool,
     },
     /// The key's vector is live, and none of so many alternates matches.
     NoMatch {

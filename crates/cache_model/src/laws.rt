@@ -1,6 +1,6 @@
 // Laws of the definitions over records, in the subject's sentences. These functions do nothing when
 // they run.
-ghost use Rattle.cache_model.specs.PlaceLaws.{PlaceFollows, PlaceIsLast, TakenIsNowhere, ReplacedIsNowhere, PassedIsNotLive, VectorIsLast, FloorIsLast};
+ghost use Rattle.cache_model.specs.PlaceLaws.{PlaceFollows, PlaceIsLast, MovedIsThere, TakenIsNowhere, ReplacedIsNowhere, PassedIsNotLive, VectorIsLast, FloorIsLast};
 ghost use Rattle.cache_model.specs.Choices.{GroupIsFixed, AskedIsAnswered, AnsweredIsTried, HitIsRead, GivenIsRead};
 ghost use Rattle.cache_model.specs.StepLaws.{RefusalEnds, NumbersFollow, FaultsRise, OneGroup, NothingAsked, FragmentIsCut, LiveIsRemoved, EmptyFlush, LookupIsOne, TooLargeIsNotPlaced, AllIsCutFirst, ReaderIsClosed, WriterIsEnded, TroubleIsBacked};
 ghost use Rattle.cache_model.specs.VerdictLaws.{HitMatches, CompleteIsHit, RemovedIsMissed, PassedIsMissed, FormattedIsEmpty, GivenIsOwn, EndIsWhole, FollowedIsClosed, WaitsForOpen};
@@ -15,6 +15,11 @@ pub fn place_follows()
 /// A piece stands where it was placed last, unless something behind that took it away.
 pub fn place_is_last()
     ensures { PlaceIsLast }
+{}
+
+/// A piece that stands somewhere stands where it was moved last.
+pub fn moved_is_there()
+    ensures { MovedIsThere }
 {}
 
 /// A piece that was displaced, damaged or removed stands nowhere.

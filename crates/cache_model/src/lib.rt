@@ -13,10 +13,10 @@ pub use laws::{
     end_is_whole, faults_rise, floor_is_last, followed_is_closed, formats_tell, formatted_is_empty,
     fragment_is_cut, given_is_own, given_is_read, group_is_fixed, groups_tell, hit_is_read,
     hit_matches, legal_is_sound, live_is_known, live_is_removed, live_vector_is_listed,
-    lookup_is_one, merged_is_spelled, nothing_asked, numbers_follow, one_group, passed_is_missed,
-    passed_is_not_live, place_follows, place_is_last, reader_is_closed, refusal_ends,
-    removed_is_missed, replaced_is_nowhere, steps_are_sound, steps_tell, taken_is_nowhere,
-    too_large_is_not_placed, trouble_is_backed, vector_is_last, vector_is_read_back,
-    vectors_are_kept, waits_for_open, writer_is_ended,
+    lookup_is_one, merged_is_spelled, moved_is_there, nothing_asked, numbers_follow, one_group,
+    passed_is_missed, passed_is_not_live, place_follows, place_is_last, reader_is_closed,
+    refusal_ends, removed_is_missed, replaced_is_nowhere, steps_are_sound, steps_tell,
+    taken_is_nowhere, too_large_is_not_placed, trouble_is_backed, vector_is_last,
+    vector_is_read_back, vectors_are_kept, waits_for_open, writer_is_ended,
 };
 pub use record::Rec;

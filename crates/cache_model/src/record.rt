@@ -25,6 +25,20 @@ pub enum Rec {
         digest: Digest,
         pin: u64,
     },
+    /// A piece was copied ahead of the cursor. The digest is that of the copy.
+    Moved {
+        piece: PieceId,
+        from: u64,
+        place: u64,
+        digest: Digest,
+    },
+    /// A piece that was to be copied ahead stays where it is: there was no room for it, or the device
+    /// refused to give it.
+    Unsaved {
+        piece: PieceId,
+        place: u64,
+        fault: bool,
+    },
     /// A piece's entry was purged, for the piece that is placed next.
     Displaced {
         piece: PieceId,

@@ -27,6 +27,8 @@ pub others : (s : State) (a : Seen) (r : Rec) → speaks_of_actors r ≡ false �
 others s a (rec.Formatted geometry) e h = absurd (cc)
 others s a (rec.Began cursor floor) e h = alike_in_step s (state_after s (rec.Began cursor floor)) a refl refl refl refl h
 others s a (rec.Placed piece place blocks digest pin) e h = alike_in_step s (state_after s (rec.Placed piece place blocks digest pin)) a refl refl refl refl h
+others s a (rec.Moved piece from place digest) e h = alike_in_step s (state_after s (rec.Moved piece from place digest)) a refl refl refl refl h
+others s a (rec.Unsaved piece place fault) e h = alike_in_step s (state_after s (rec.Unsaved piece place fault)) a refl refl refl refl h
 others s a (rec.Displaced piece segment live) e h = alike_in_step s (state_after s (rec.Displaced piece segment live)) a refl refl refl refl h
 others s a (rec.Damaged piece place kept found) e h = alike_in_step s (state_after s (rec.Damaged piece place kept found)) a refl refl refl refl h
 others s a (rec.WriteOpened actor put key request response pin) e h = absurd (cc)

@@ -29,6 +29,8 @@ abbrev pub speaks_of_actors : Rec → Bool
 speaks_of_actors (rec.Formatted geometry) = true
 speaks_of_actors (rec.Began cursor floor) = false
 speaks_of_actors (rec.Placed piece place blocks digest pin) = false
+speaks_of_actors (rec.Moved piece from place digest) = false
+speaks_of_actors (rec.Unsaved piece place fault) = false
 speaks_of_actors (rec.Displaced piece segment live) = false
 speaks_of_actors (rec.Damaged piece place kept found) = false
 speaks_of_actors (rec.WriteOpened actor put key request response pin) = true

@@ -10,6 +10,7 @@ returns-in_err-reserve-2-clause-has c = λ s has. record {
   pieces = λ id. c.reserve.ensures.entries.2 id ∙ has.pieces id;
   losses = λ id. c.reserve-2.ensures.entries.2 id ∙ has.losses id;
   places = has.places;
+  unsaved = has.unsaved;
   vectors = has.vectors;
   aborts = has.aborts;
 }
@@ -20,6 +21,7 @@ returns-in_err-reserve-3-clause-has c = λ s has. record {
   pieces = λ id. c.reserve.ensures.entries.2 id ∙ has.pieces id;
   losses = λ id. c.reserve-2.ensures.entries.2 id ∙ has.losses id;
   places = λ place. c.reserve-3.ensures.entries.2 place ∙ has.places place;
+  unsaved = has.unsaved;
   vectors = has.vectors;
   aborts = has.aborts;
 }
@@ -30,7 +32,19 @@ returns-in_err-reserve-4-clause-has c = λ s has. record {
   pieces = λ id. c.reserve.ensures.entries.2 id ∙ has.pieces id;
   losses = λ id. c.reserve-2.ensures.entries.2 id ∙ has.losses id;
   places = λ place. c.reserve-3.ensures.entries.2 place ∙ has.places place;
-  vectors = λ key. ap (option_map told_vector) (c.reserve-4.ensures.entries.2 key) ∙ has.vectors key;
+  unsaved = λ place. c.reserve-4.ensures.keys.2 place ∙ has.unsaved place;
+  vectors = has.vectors;
+  aborts = has.aborts;
+}
+
+pub returns-in_err-reserve-5-clause-has : goal.returns-in_err-reserve-5-clause-has
+returns-in_err-reserve-5-clause-has c = λ s has. record {
+  tape = has.tape;
+  pieces = λ id. c.reserve.ensures.entries.2 id ∙ has.pieces id;
+  losses = λ id. c.reserve-2.ensures.entries.2 id ∙ has.losses id;
+  places = λ place. c.reserve-3.ensures.entries.2 place ∙ has.places place;
+  unsaved = λ place. c.reserve-4.ensures.keys.2 place ∙ has.unsaved place;
+  vectors = λ key. ap (option_map told_vector) (c.reserve-5.ensures.entries.2 key) ∙ has.vectors key;
   aborts = has.aborts;
 }
 
@@ -40,6 +54,7 @@ returns-clause-has c = λ s has. record {
   pieces = λ id. c.reserve.ensures.entries.2 id ∙ has.pieces id;
   losses = λ id. c.reserve-2.ensures.entries.2 id ∙ has.losses id;
   places = λ place. c.reserve-3.ensures.entries.2 place ∙ has.places place;
-  vectors = λ key. ap (option_map told_vector) (c.reserve-4.ensures.entries.2 key) ∙ has.vectors key;
-  aborts = λ key. c.reserve-5.ensures.entries.2 key ∙ has.aborts key;
+  unsaved = λ place. c.reserve-4.ensures.keys.2 place ∙ has.unsaved place;
+  vectors = λ key. ap (option_map told_vector) (c.reserve-5.ensures.entries.2 key) ∙ has.vectors key;
+  aborts = λ key. c.reserve-6.ensures.entries.2 key ∙ has.aborts key;
 }
