@@ -50,6 +50,8 @@ abbrev pub leaves_names : Rec → Bool
 leaves_names (rec.Formatted geometry) = false
 leaves_names (rec.Began cursor floor) = true
 leaves_names (rec.Placed piece place blocks digest pin) = false
+leaves_names (rec.Moved piece from place digest) = false
+leaves_names (rec.Unsaved piece place fault) = true
 leaves_names (rec.Displaced piece segment live) = true
 leaves_names (rec.Damaged piece place kept other) = true
 leaves_names (rec.WriteOpened actor put key request response pin) = false
@@ -81,6 +83,8 @@ pub name_left : (s : State) (r : Rec) → leaves_names r ≡ true → IsNamed s 
 name_left s (rec.Formatted geometry) h named = cc
 name_left s (rec.Began cursor floor) h named = named_same s _ refl refl refl refl named
 name_left s (rec.Placed piece place blocks digest pin) h named = cc
+name_left s (rec.Moved piece from place digest) h named = cc
+name_left s (rec.Unsaved piece place fault) h named = named_same s _ refl refl refl refl named
 name_left s (rec.Displaced piece segment live) h named = named_left s _ piece refl refl refl refl named
 name_left s (rec.Damaged piece place kept other) h named = named_left s _ piece refl refl refl refl named
 name_left s (rec.WriteOpened actor put key request response pin) h named = cc
@@ -304,7 +308,7 @@ named_fragment s t id place blocks pin size cut digest w h quiet begun found ind
 causes_leave : (row : Row) (why : Cause) → AllLeaveNames (cause_records row why)
 causes_leave row cause.NeverPut = tt
 causes_leave row cause.Removed = tt
-causes_leave row (cause.Passed place floor) = tt
+causes_leave row (cause.Passed place floor unsaved) = tt
 causes_leave row (cause.NoMatch count) = tt
 causes_leave row (cause.Displaced segment live) = tt
 causes_leave row (cause.Aborted writer) = tt

@@ -54,6 +54,8 @@ reader_stays : (s : State) (r : Rec) → speaks_of_actors r ≡ false → (state
 reader_stays s (rec.Formatted geometry) h = cc
 reader_stays s (rec.Began cursor floor) h = refl
 reader_stays s (rec.Placed piece place blocks digest pin) h = refl
+reader_stays s (rec.Moved piece from place digest) h = refl
+reader_stays s (rec.Unsaved piece place fault) h = refl
 reader_stays s (rec.Displaced piece segment live) h = refl
 reader_stays s (rec.Damaged piece place kept other) h = refl
 reader_stays s (rec.WriteOpened actor put key request response pin) h = cc
@@ -94,7 +96,7 @@ actors_with k new a recs is all h =
 causes_are_others : (row : Row) (why : Rattle.cache_model.specs.declared.cause.Cause.Cause) → AllOthers (cause_records row why)
 causes_are_others row cause.NeverPut = tt
 causes_are_others row cause.Removed = tt
-causes_are_others row (cause.Passed place floor) = tt
+causes_are_others row (cause.Passed place floor unsaved) = tt
 causes_are_others row (cause.NoMatch count) = tt
 causes_are_others row (cause.Displaced segment live) = tt
 causes_are_others row (cause.Aborted writer) = tt

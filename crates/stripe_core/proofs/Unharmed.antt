@@ -25,6 +25,8 @@ after_record : (s : State) (r : Rec) → tells_damage r ≡ false → has_damage
 after_record s (rec.Formatted geometry) none h = refl
 after_record s (rec.Began cursor floor) none h = h
 after_record s (rec.Placed piece place blocks digest pin) none h = h
+after_record s (rec.Moved piece from place digest) none h = h
+after_record s (rec.Unsaved piece place fault) none h = h
 after_record s (rec.Displaced piece segment live) none h = h
 after_record s (rec.Damaged piece place kept found) none h = cc
 after_record s (rec.WriteOpened actor put key request response pin) none h = h

@@ -177,8 +177,10 @@ impl<D: Disk, R: Directory + Drop, C: Chronicle> Stripe<D, R, C> {
         ensures unharmed { StaysUnharmed D.Disk R.Directory C.Chronicle self.old self.new }
         ensures adds { Answers result (λ r. kept_in C.Chronicle self.new
             ≡ with_records (kept_in C.Chronicle self.old) (room_adds (state_in C.Chronicle self.old) bytes r)) (kept_in C.Chronicle self.new ≡ kept_in C.Chronicle self.old) }
+        ensures full { OnErr result (has_room (state_in C.Chronicle self.old) bytes ≡ false) }
         ensures does { Answers result (MakesRoomAsAsked (state_in C.Chronicle self.old) bytes (seen_in D.Disk R.Directory self.old).device.faults
             (seen_in D.Disk R.Directory self.new).device.faults) (Unit {0}) }
+        ensures stops { Answers result (λ r. IfErr r (StopsWith (state_in C.Chronicle self.old) (seen_in D.Disk R.Directory self.new).device.faults)) (Unit {0}) }
         ensures later { (seen_in D.Disk R.Directory self.old).device.faults ≤ (seen_in D.Disk R.Directory self.new).device.faults }
         ensures row { (put : ℕ) → room_for put self.new.actors ≡ room_for put self.old.actors }
         ensures memory { 0 < units_in self.old → HasMemory result }

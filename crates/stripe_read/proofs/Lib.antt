@@ -6,3 +6,4 @@ mod Looking
 mod Beginning
 mod Choosing
 mod Harmless
+mod Owning

@@ -40,7 +40,7 @@ pub record LeavesReaders (s t : State) : Type 0 where
 pub cause_leaves : (s : State) (row : Row) (why : Cause) → LeavesReaders s (after_all s (cause_records row why))
 cause_leaves s row cause.NeverPut = record { readers = refl; pending = refl; number = refl }
 cause_leaves s row cause.Removed = record { readers = refl; pending = refl; number = refl }
-cause_leaves s row (cause.Passed place floor) = record { readers = refl; pending = refl; number = refl }
+cause_leaves s row (cause.Passed place floor unsaved) = record { readers = refl; pending = refl; number = refl }
 cause_leaves s row (cause.NoMatch count) = record { readers = refl; pending = refl; number = refl }
 cause_leaves s row (cause.Displaced segment live) = record { readers = refl; pending = refl; number = refl }
 cause_leaves s row (cause.Aborted writer) = record { readers = refl; pending = refl; number = refl }

@@ -6,6 +6,7 @@ ghost use Rattle.cache_model.specs.Legal.{IsQuiet};
 ghost use Rattle.stripe_core.specs.Stripe.{IsStripe, kept_in, seen_in, state_in};
 ghost use Rattle.stripe_core.specs.Unharmed.{StaysUnharmed};
 ghost use Rattle.stripe_read.specs.Readers.{ClosesAsAsked, IsOpenReader};
+ghost use Rattle.stripe_read.specs.Others.{AddsOfReader};
 
 use crate::Reader;
 use ats_disk::Disk;
@@ -26,6 +27,7 @@ pub fn close_read<D: Disk, R: Directory + Drop, C: Chronicle>(
     ensures unharmed { StaysUnharmed D.Disk R.Directory C.Chronicle stripe.old stripe.new }
     ensures quiet { IsQuiet (state_in C.Chronicle stripe.new) }
     ensures adds { OnOk result (kept_in C.Chronicle stripe.new ≡ with_records (kept_in C.Chronicle stripe.old) (rec.ReadClosed reader.reader ∷ [])) }
+    ensures own { AddsOfReader reader.reader (kept_in C.Chronicle stripe.old) (kept_in C.Chronicle stripe.new) }
     ensures does { ClosesAsAsked (state_in C.Chronicle stripe.old) reader }
     ensures err { IfErr result (λ e. kept_in C.Chronicle stripe.new ≡ kept_in C.Chronicle stripe.old) }
     ensures back { IfErr result (λ e. e.1 ≡ reader) }

@@ -9,6 +9,7 @@ ghost use Rattle.stripe_core.specs.Stripe.{IsStill, IsStripe, kept_in, seen_in, 
 ghost use Rattle.stripe_core.specs.Unharmed.{StaysUnharmed};
 ghost use Rattle.stripe_read.specs.Readers.{IsOpenReader};
 ghost use Rattle.stripe_read.specs.Lookups.{HasTable, IfReader, IsChosen, LooksUp, Opens, Tells, answer_in, answer_of, lookup_adds, open_adds, opened_as, otherwise};
+ghost use Rattle.stripe_read.specs.Others.{AddsOfReader};
 
 use crate::Reader;
 use alternate_vector::{Fields, Vector};
@@ -70,6 +71,7 @@ pub fn open_read<D: Disk, R: Directory + Drop, C: Chronicle>(
     ensures quiet { IsQuiet (state_in C.Chronicle stripe.new) }
     ensures adds { IfOk result (λ opened. kept_in C.Chronicle stripe.new
         ≡ with_records (kept_in C.Chronicle stripe.old) (open_adds (state_in C.Chronicle stripe.old) actor key request (answer_in opened))) }
+    ensures own { AddsOfReader (state_in C.Chronicle stripe.old).next_reader (kept_in C.Chronicle stripe.old) (kept_in C.Chronicle stripe.new) }
     ensures opens { IfOk result (Opens (state_in C.Chronicle stripe.old) (state_in C.Chronicle stripe.new) (seen_in D.Disk R.Directory stripe.old).device
         (seen_in D.Disk R.Directory stripe.new).device actor key request) }
     ensures reader { IfOk result (IfReader (IsOpenReader (state_in C.Chronicle stripe.new))) }

@@ -10,6 +10,7 @@ ghost use Rattle.stripe_core.specs.Stripe.{IsStripe, kept_in, seen_in, state_in,
 ghost use Rattle.stripe_core.specs.Unharmed.{StaysUnharmed};
 ghost use Rattle.stripe_read.specs.Readers.{IsOpenReader, IsReaderOf, as_row, rows_in};
 ghost use Rattle.stripe_read.specs.Nexts.{GoesOn, HasNext, IsOtherNext, ReadsOn, listed_in, noted, read_adds};
+ghost use Rattle.stripe_read.specs.Others.{AddsOfReader};
 
 use crate::Reader;
 use crate::fetching::{fetch, next_row};
@@ -50,6 +51,7 @@ pub fn read_next<D: Disk, R: Directory + Drop, C: Chronicle>(
     ensures quiet { IsQuiet (state_in C.Chronicle stripe.new) }
     ensures adds { IfOk result (λ answer. kept_in C.Chronicle stripe.new
         ≡ with_records (kept_in C.Chronicle stripe.old) (read_adds (state_in C.Chronicle stripe.old) reader.old answer)) }
+    ensures own { AddsOfReader reader.old.reader (kept_in C.Chronicle stripe.old) (kept_in C.Chronicle stripe.new) }
     ensures reads { IfOk result (λ answer. ReadsOn (state_in C.Chronicle stripe.old) (seen_in D.Disk R.Directory stripe.old).device
         (seen_in D.Disk R.Directory stripe.new).device reader.old answer into.new) }
     ensures goes { IfOk result (λ answer. GoesOn reader.old answer reader.new) }

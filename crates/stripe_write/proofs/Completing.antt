@@ -26,6 +26,7 @@ use Rattle.cache_model.proofs.Steps.{after_all-append}
 use Rattle.stripe_core.specs.declared.refusal.Placed.{Placed}
 use Rattle.stripe_core.specs.declared.refusal.Refusal.{Refusal}
 use Rattle.stripe_core.specs.declared.refusal.Refusal.TheVariants as refusal
+use Rattle.stripe_core.specs.declared.refusal.Stop.TheVariants as stop
 use Rattle.stripe_core.specs.Acts.{CommitsAsAsked, committed_record}
 use Rattle.stripe_core.specs.Stripe.{Answers, HasMemory}
 use Rattle.stripe_core.specs.Place.{IsPlacedAt, IsVectorFor, IsVectorOf, PlacesAsAsked, placing_adds}
@@ -35,10 +36,12 @@ use Rattle.stripe_write.specs.declared.weighing.Vectors.{Vectors}
 use Rattle.stripe_write.specs.declared.writer.Writer.{Writer}
 use Rattle.stripe_write.specs.Writers.{IsAtHand, IsWriterOf}
 use Rattle.stripe_write.specs.Closing.{AreSpelled, IsReadFor, alternate_at_close, rest_rows, rows_at_close, size_at_close}
-use Rattle.stripe_write.specs.Finishing.{AreLive, FinishesAsRead, IsCurrent, bytes_now, picked, vector_now}
+use Rattle.stripe_write.specs.Finishing.{AreLive, FinishesAsRead, IsCurrent, VectorStops, bytes_now, picked, vector_now}
+use Rattle.stripe_write.specs.Numbers.{ReachesLimit}
 use Rattle.stripe_write.specs.declared.finishing.Receipt.{Receipt}
 use Rattle.stripe_write.proofs.Spending.{last_done, one_group, then_all}
 use Rattle.stripe_write.proofs.Ended.{open_put, own_number}
+use Rattle.stripe_write.proofs.Reaching.{place_reaches}
 
 -- ---- no vector is live
 
@@ -193,8 +196,14 @@ closed_writer s w key bytes = λ row found o.
 cuts_of_put : (s : State) (put : ℕ) (w : PutRow) → put_of s put ≡ Some w → cuts_of s put ≡ w.cuts
 cuts_of_put s put w h = ap (λ (o : Option PutRow). unwrap_or (option_map (λ (p : PutRow). p.cuts) o) []) h
 
+pub cuts_at_hand : (s : State) (w : Writer) (c : IsClosing s w) → cuts_of s w.put ≡ w.table.rows
+cuts_at_hand s w c = cuts_of_put s w.put c.row c.writing.found ∙ c.cuts_are
+
 fragments : (s : State) (w : Writer) (c : IsClosing s w) → length (cuts_of s w.put) ≡ length w.table.rows
-fragments s w c = ap length (cuts_of_put s w.put c.row c.writing.found ∙ c.cuts_are)
+fragments s w c = ap length (cuts_at_hand s w c)
+
+pub nothing_more : (k : Kept) → with_records k [] ≡ k
+nothing_more k = ap (λ recs. let x : Kept = record { base = k.base; since = recs } in x) (append-nil k.since)
 
 module _ (old new : Kept) (before after : ℕ) (w : Writer) (v : Vectors) (pin : ℕ) (payload : List ℕ)
     (c : IsClosing (state_of old) w) (of : (state_of old).displaced ≡ [] → IsReadFor (state_of old) w v → IsVectorOf (state_of old) (vector_piece w.key w.put) pin 0 payload) where
@@ -204,13 +213,21 @@ module _ (old new : Kept) (before after : ℕ) (w : Writer) (v : Vectors) (pin :
   abbrev id : PieceId
   id = vector_piece w.key w.put
 
+  vector_at : (number : ℕ) → IsVectorOf s id pin 0 payload → IsPlacedAt s after id payload (Err (stop.Exhausted number)) → VectorStops s w (refusal.Exhausted number)
+  vector_at number v at = (cuts_at_hand s w c, subst (λ n. ReachesLimit s n number) v.length_is (place_reaches s payload number v.room at))
+
   pub refused_finishes : (why : Refusal) → Answers {X = Placed} (Err why) (λ r. new ≡ with_records old (placing_adds s id pin 0 payload r)) (new ≡ old)
       → Answers {X = Placed} (Err why) (PlacesAsAsked s before after id pin 0 payload) (Unit {0}) → Answers {X = Placed} (Err why) (IsPlacedAt s after id payload) (Unit {0})
       → HasMemory {X = Placed} (Err why) → FinishesAsRead before after old new w v (Err why)
   refused_finishes (refusal.Exhausted number) adds does at memory = λ p covers none read.
       let d : Does p s (Finish w.put (length w.table.rows)) [] (Fails Exhausted) =
       subst (λ n. Does p s (Finish w.put n) [] (Fails Exhausted)) (fragments s w c) (does (of none read) p covers) in
-      record { added = []; adds = adds; does = λ rest why. one_group p s (Finish w.put (length w.table.rows)) [] (Fails Exhausted) d (Commit w.put ∷ rest) why }
+      record {
+        added = [];
+        adds = adds;
+        does = λ rest why. one_group p s (Finish w.put (length w.table.rows)) [] (Fails Exhausted) d (Commit w.put ∷ rest) why;
+        number = subst (λ k. VectorStops (state_of k) w (refusal.Exhausted number)) (sym (adds ∙ nothing_more old)) (vector_at number (of none read) at);
+      }
   refused_finishes (refusal.DeviceFault count) adds does at memory = absurd at
   refused_finishes (refusal.Memory e) adds does at memory = absurd memory
   refused_finishes refusal.TooManyWriters adds does at memory = absurd adds
@@ -232,12 +249,10 @@ module _ (old new : Kept) (before after : ℕ) (w : Writer) (v : Vectors) (pin :
         adds = last ∙ (ap (λ k. with_records k (b ∷ [])) first ∙ ap (λ recs. let k : Kept = record { base = old.base; since = recs } in k) (append_assoc old.since a (b ∷ [])));
         does = then_all p s (Finish w.put (length w.table.rows)) (Commit w.put ∷ []) a (b ∷ []) Done (one_group p s (Finish w.put (length w.table.rows)) a Done d)
             (last_done p (after_all s a) (Commit w.put) (b ∷ []) (one_group p (after_all s a) (Commit w.put) (b ∷ []) Done (subst (λ t. Does p t (Commit w.put) (b ∷ []) Done) there (commits p))));
+        number = tt;
       }
 
 -- ---- a writer whose records are as they were
-
-pub nothing_more : (k : Kept) → with_records k [] ≡ k
-nothing_more k = ap (λ recs. let x : Kept = record { base = k.base; since = recs } in x) (append-nil k.since)
 
 pub refused_writer : (old new : Kept) (w : Writer) (pin : ℕ) (payload : List ℕ) (why : Refusal)
     → Answers {X = Placed} (Err why) (λ r. new ≡ with_records old (placing_adds (state_of old) (vector_piece w.key w.put) pin 0 payload r)) (new ≡ old) → IsWriterOf (state_of old) w → IsWriterOf (state_of new) w

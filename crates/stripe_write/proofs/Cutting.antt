@@ -1,6 +1,6 @@
 -- A fragment that has gathered is cut.
 use Rattle.std.proofs.Common.{◌≡◌, ℕ, ◌+◌, ◌*◌, ◌<◌, inl, inr, ◌⊎◌, List, [], ◌∷◌, ◌++◌, refl, sym, ◌∙◌, ap, subst, arith, Bool, true, false, length, Result, Ok, Err}
-use Rattle.std.specs.Prelude.{Some, option_map, find, ◌==◌, if◌then◌else◌, MatchBool, OnOk}
+use Rattle.std.specs.Prelude.{◌/◌, ◌≤◌, Some, option_map, find, ◌==◌, if◌then◌else◌, MatchBool, OnOk}
 use Rattle.std.specs.declared.alloc.AllocError.{AllocError}
 use Rattle.std.proofs.lemmas.Bool.{eq-eqb, eqb-true}
 use Rattle.std.proofs.lemmas.List.{length-append}
@@ -24,8 +24,11 @@ use Rattle.stripe_core.specs.Place.{CutsAsAsked, FinishesAsAsked, FragmentAt, Is
 use Rattle.stripe_core.specs.Stripe.{Answers}
 use Rattle.stripe_write.specs.declared.writer.Writer.{Writer}
 use Rattle.stripe_write.proofs.Ended.{own_number}
+use Rattle.stripe_write.proofs.Reaching.{fragment_stops}
 use Rattle.stripe_write.specs.Writers.{IsAllCut, IsAtHand, IsWriterOf}
 use Rattle.stripe_write.specs.Writes.{IsReady, next_id, next_start}
+use Rattle.stripe_write.specs.Numbers.{StopsAtLimit}
+use Rattle.tape_base.specs.Blocks.{blocks_of}
 
 -- ---- it is the next fragment of its put
 
@@ -172,11 +175,34 @@ module _ (s : State) (w : Writer) (n t : ℕ) (p : List ℕ) (n_is : n ≡ lengt
       subst (λ b. Answers r (λ x. MatchBool b (FinishesAsAsked s first faults (next_id w) w.pin (next_start w) w.gathered.items (length (cuts_of s w.put)) x)
       (CutsAsAsked s first faults (next_id w) w.pin (next_start w) w.gathered.items x)) (Unit {0})) (next_no_vector w) there
 
+  pub stops_behind : (kept new : Kept) (faults : ℕ) (why : Refusal) → state_of kept ≡ s → blocks_of (length w.gathered.items) ≤ s.geometry.agg
+      → Answers {X = Placed} (Err why) (λ r. new ≡ with_records kept (placing_adds s id w.pin t p r)) (new ≡ kept) → Answers {X = Placed} (Err why) (IsPlacedAt s faults id p) (Unit {0})
+      → StopsAtLimit (state_of new) (length w.gathered.items) why
+  stops_behind kept new faults why is small adds at =
+      let added : Answers {X = Placed} (Err why) (λ r. new ≡ with_records kept (placing_adds s (next_id w) w.pin (next_start w) w.gathered.items r)) (new ≡ kept) =
+      at_next (λ i x q. Answers {X = Placed} (Err why) (λ r. new ≡ with_records kept (placing_adds s i w.pin x q r)) (new ≡ kept)) adds in
+      let cut : Answers {X = Placed} (Err why) (λ r. new ≡ with_records kept (fragment_adds s (next_id w) w.pin (next_start w) w.gathered.items r)) (new ≡ kept) =
+      subst (λ b. Answers {X = Placed} (Err why) (λ r. new ≡ with_records kept (if b then place_adds s (next_id w) w.pin (next_start w) w.gathered.items r
+      else fragment_adds s (next_id w) w.pin (next_start w) w.gathered.items r)) (new ≡ kept)) (next_no_vector w) added in
+      let placed : Answers {X = Placed} (Err why) (IsPlacedAt s faults (next_id w) w.gathered.items) (Unit {0}) = at_next (λ i x q. Answers {X = Placed} (Err why) (IsPlacedAt s faults i q) (Unit {0})) at in
+      let there : Answers {X = Placed} (Err why) (FragmentAt s faults w.gathered.items) (Unit {0}) =
+      subst (λ b. Answers {X = Placed} (Err why) (λ r. MatchBool b (PlacesAt s w.gathered.items r) (FragmentAt s faults w.gathered.items r)) (Unit {0})) (next_no_vector w) placed in
+      fragment_stops kept new faults (next_id w) w.pin (next_start w) w.gathered.items why (rw is small)
+      (subst (λ x. Answers {X = Placed} (Err why) (λ r. new ≡ with_records kept (fragment_adds x (next_id w) w.pin (next_start w) w.gathered.items r)) (new ≡ kept)) (sym is) cut)
+      (subst (λ x. Answers {X = Placed} (Err why) (FragmentAt x faults w.gathered.items) (Unit {0})) (sym is) there)
+
   pub digest_is : (faults : ℕ) (placed : Placed) → IsPlacedAt s faults id p (Ok placed) → placed.payload ≡ digest_of w.gathered.items
   digest_is faults placed h =
       let there : IsPlacedAt s faults (next_id w) p (Ok placed) = subst (λ i. IsPlacedAt s faults i p (Ok placed)) id_is h in
       let at : FragmentAt s faults p (Ok placed) = subst (λ b. MatchBool b (PlacesAt s p (Ok placed)) (FragmentAt s faults p (Ok placed))) (next_no_vector w) there in
       at.1 ∙ ap digest_of p_is
+
+-- a fragment has no more blocks than the buffer
+fragment_blocks : (n fragment agg : ℕ) → n ≤ fragment → blocks_of fragment ≤ agg / 2 → blocks_of n ≤ agg
+fragment_blocks n fragment agg less fits = omega (arith, less, fits)
+
+pub ready_small : (s : State) (w : Writer) → IsReady s w → blocks_of (length w.gathered.items) ≤ s.geometry.agg
+ready_small s w r = fragment_blocks (length w.gathered.items) s.geometry.fragment s.geometry.agg r.small s.geometry.accepted.fragment_fits.1
 
 pub rows_behind : (r : Result (Unit {0}) AllocError) (u : Unit {0}) (before after : List TableRow) (size : ℕ) (digest : Digest) (bytes : List ℕ) → r ≡ Ok u → OnOk r (after ≡ before ++ made_row size digest.0 ∷ [])
     → size ≡ length bytes → digest ≡ digest_of bytes → after ≡ before ++ made_row (length bytes) (digest_of bytes).0 ∷ []

@@ -11,6 +11,7 @@ use Rattle.cache_model.proofs.Steps.{after_all-append}
 use Rattle.stripe_core.specs.declared.refusal.Placed.{Placed}
 use Rattle.stripe_core.specs.declared.refusal.Refusal.{Refusal}
 use Rattle.stripe_core.specs.declared.refusal.Refusal.TheVariants as refusal
+use Rattle.stripe_core.specs.declared.refusal.Stop.TheVariants as stop
 use Rattle.stripe_core.specs.Covers.{Covers}
 use Rattle.stripe_core.specs.Place.{CutsAsAsked, fragment_adds}
 use Rattle.stripe_core.specs.Stripe.{Answers, HasMemory}
@@ -21,6 +22,7 @@ use Rattle.stripe_write.specs.Writers.{IsAllCut, IsAtHand, IsWriterOf}
 use Rattle.stripe_write.specs.Writes.{IsReady, next_id, next_start}
 use Rattle.stripe_write.proofs.Cutting.{cut_row}
 use Rattle.stripe_write.proofs.Ended.{open_put}
+use Rattle.stripe_write.proofs.Gathering.{failed_puts}
 
 -- nothing is asked where nothing is gathered
 pub rest_none : (p : Permit) (s : State) (w : Writer) (payload : List ℕ) → length payload ≡ 0 → SpendsAll p s (rest_intents w payload) (rest_records s w payload (Ok tt)) Done
@@ -41,6 +43,11 @@ rest_refused s before after w (byte ∷ bytes) (refusal.VectorTooLarge size) som
 rest_refused s before after w (byte ∷ bytes) (refusal.Lost index cause) some memory h = h
 rest_refused s before after w (byte ∷ bytes) refusal.Sealed some memory h = h
 rest_refused s before after w (byte ∷ bytes) refusal.NoSuchWriter some memory h = h
+
+-- a rest that is not cut leaves the puts
+pub rest_puts : (old new : Kept) (w : Writer) (payload : List ℕ) (number : ℕ) → new ≡ with_records old (rest_records (state_of old) w payload (Err (stop.Exhausted number))) → (state_of new).puts ≡ (state_of old).puts
+rest_puts old new w [] number adds = ap (λ (x : State). x.puts) (ap state_of adds ∙ after_all-append old.base old.since [])
+rest_puts old new w (byte ∷ bytes) number adds = (failed_puts old new (next_id w) w.pin (next_start w) (byte ∷ bytes) (refusal.Exhausted number) adds).puts
 
 not_all_cut : (w : Writer) (P : Type 0) → 0 < length w.gathered.items → IsAllCut w ⊎ P → P
 not_all_cut w P some (inl all) = let none : length w.gathered.items ≡ 0 = ap length all.empty in absurd (omega (arith, some, none))

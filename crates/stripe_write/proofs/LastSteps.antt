@@ -1,6 +1,6 @@
 -- How a writer closes, step by step.
 use Rattle.std.proofs.Common.{◌≡◌, ℕ, ◌+◌, ◌*◌, ◌≤◌, List, [], ◌∷◌, ◌++◌, refl, sym, ◌∙◌, ap, subst, arith, Bool, true, false, length, Result, Ok, Err, inl, inr, ◌⊎◌}
-use Rattle.std.specs.Prelude.{Option, Some, None, option_map, option_and_then, find, not, filter, if◌then◌else◌, OnOk}
+use Rattle.std.specs.Prelude.{◌<◌, ◌==◌, Option, Some, None, option_map, option_and_then, unwrap_or, find, not, filter, if◌then◌else◌, IfErr, OnOk}
 use Rattle.std.proofs.lemmas.List.{append-nil, append_assoc}
 use Rattle.tape_base.specs.declared.digests.Digest.{Digest}
 use Rattle.tape_base.specs.declared.geometries.Geometry.{Geometry}
@@ -16,12 +16,12 @@ use Rattle.alternate_vector.specs.Field.{Field}
 use Rattle.alternate_vector.specs.Alternates.{Stored, vector_size}
 use Rattle.cache_model.specs.declared.record.Rec.{Rec}
 use Rattle.cache_model.specs.declared.record.Rec.TheVariants as rec
-use Rattle.cache_model.specs.State.{Complete, LastVector, PutRow, Row, State, TakenOut, after_all, alternates_of, cursor_next, floor_next, floor_now, last_vector, live_row_of, only_live, placed_row, row_in, state_after, vector_piece, without}
+use Rattle.cache_model.specs.State.{Complete, LastVector, PutRow, Row, State, TakenOut, after_all, alternates_of, cursor_next, floor_next, floor_now, last_vector, live_row_of, only_live, placed_row, put_of, row_in, state_after, vector_piece, without}
 use Rattle.cache_model.specs.Kept.{Kept, state_of, with_records}
-use Rattle.cache_model.specs.Verdict.{live_vector_of, vector_of_last}
+use Rattle.cache_model.specs.Verdict.{cuts_of, live_vector_of, vector_of_last}
 use Rattle.cache_model.specs.Tape.{IsSound}
 use Rattle.cache_model.specs.Permit.{Commit, DeviceRead, Done, End, Exhausted, Fails, Faulted, Finish, Intent, Permit, Reason, Stays, TooLarge, Weigh, is_cleanup}
-use Rattle.cache_model.specs.Legal.{IsQuiet, MayGrow, is_writing}
+use Rattle.cache_model.specs.Legal.{IsQuiet, MayGrow, is_writing, vector_length}
 use Rattle.cache_model.specs.Vectors.{AreTold, StepsTell}
 use Rattle.cache_model.specs.Room.{has_room, placed_record}
 use Rattle.cache_model.proofs.Sound.{later_began}
@@ -43,10 +43,14 @@ use Rattle.stripe_write.specs.Writes.{SameButBytes, SameWriter, next_id, next_st
 use Rattle.stripe_write.specs.Closing.{AreSpelled, IsReadFor, SpendsAll, Weighs, WeighsAsAsked, WeighsWhere, alternate_at_close, close_intents, rest_intents, rest_rows, rows_at_close, weigh_end, work_behind}
 use Rattle.stripe_write.specs.Resting.{RestsAsAsked, rest_adds, rest_records}
 use Rattle.stripe_write.specs.Finishing.{FinishesAsRead, FinishesWhere, finish_end, finish_intents}
-use Rattle.stripe_write.specs.Closes.{Closes, ClosesAsAsked, ClosesWhere, EndsAsAsked, EndsWhere, IsRested, SealsWhere, Spent, close_end, end_intents, is_sealed_by}
+use Rattle.stripe_write.specs.Closes.{Closes, ClosesAsAsked, ClosesWhere, EndsAsAsked, EndsWhere, IsRested, SealsWhere, Spent, bytes_next, close_end, end_intents, is_sealed_by}
+use Rattle.stripe_write.specs.Numbers.{ReachesLimit, StopsAtLimit}
 use Rattle.stripe_write.proofs.Cutting.{cut_state, next_no_vector}
 use Rattle.ats_disk.specs.Device.{State as Device}
 use Rattle.stripe_write.proofs.Completing.{nothing_more}
+use Rattle.stripe_write.proofs.Ended.{open_put}
+use Rattle.stripe_write.proofs.LastCut.{rest_puts}
+use Rattle.stripe_write.proofs.Reaching.{finished_stops, rest_stops}
 use Rattle.stripe_write.proofs.Spending.{then_all}
 use Rattle.stripe_write.proofs.Roomed.{listed_live, vector_before}
 
@@ -222,10 +226,14 @@ spends_append : (p : Permit) (s : State) (is js : List Intent) (a b : List Rec) 
 spends_append p s is js a b e first second = λ rest why.
     subst (λ (xs : List Intent). MayGrow p s (record { intents = xs; refused = why }) (a ++ b) (work_behind rest why e)) (sym (append_assoc is js rest)) (grows_on (first (js ++ rest) why) (second rest why))
 
+-- a writer that has no rest has all that is there at the end
+whole_rows : (w new : Writer) → SameAtClose w new → new.gathered.items ≡ [] → new.table.rows ≡ rows_at_close w
+whole_rows w new same none = sym (append-nil new.table.rows) ∙ (ap (λ b. new.table.rows ++ rest_rows b) (sym none) ∙ same.rows)
+
 -- the put that is finished is the same
 finish_same : (w new : Writer) → SameAtClose w new → new.gathered.items ≡ [] → finish_intents new ≡ Finish w.put (length (rows_at_close w)) ∷ Commit w.put ∷ []
 finish_same w new same none =
-    let rows : new.table.rows ≡ rows_at_close w = sym (append-nil new.table.rows) ∙ (ap (λ b. new.table.rows ++ rest_rows b) (sym none) ∙ same.rows) in
+    let rows : new.table.rows ≡ rows_at_close w = whole_rows w new same none in
     ap (λ (r : List TableRow). Finish new.put (length r) ∷ Commit new.put ∷ []) rows ∙ ap (λ n. Finish n (length (rows_at_close w)) ∷ Commit n ∷ []) same.put
 
 end_same : (t : State) (w new : Writer) (result : Result Receipt Refusal) → new.put ≡ w.put → FinishesWhere t new result → finish_end new result ≡ close_end w result
@@ -270,6 +278,7 @@ module _ (old mid new : Kept) (first between last : ℕ) (w sealed cut : Writer)
         added = a ++ finished.added;
         adds = finished.adds ∙ (ap (λ k. with_records k finished.added) adds ∙ ap (λ recs. let k : Kept = record { base = old.base; since = recs } in k) (append_assoc old.since a finished.added));
         does = spends_append p s (rest_intents w w.gathered.items) (Finish w.put (length (rows_at_close w)) ∷ Commit w.put ∷ []) a finished.added (close_end w result) cut_all finish_all;
+        number = finished_stops (state_of new) w cut result all.put (whole_rows w cut all none) finished.number;
       }
 
 -- what is left behind a refusal
@@ -279,32 +288,51 @@ fails_all p s is put n added reason h = λ rest why.
     subst (λ (xs : List Intent). MayGrow p s (record { intents = xs; refused = why }) added (work_behind rest why (Fails reason))) (sym (append_assoc is (Finish put n ∷ Commit put ∷ []) rest))
     (h (Finish put n ∷ Commit put ∷ rest) why)
 
+-- what the put has cut is still what the writer has
+still_cut : (old new : Kept) (w sealed : Writer) (number : ℕ) → IsSealed w sealed → is_writing (state_of old) w.put ≡ true → IsWriterOf (state_of old) w
+    → new ≡ with_records old (rest_adds (state_of old) sealed (Err (stop.Exhausted number))) → cuts_of (state_of new) w.put ≡ w.table.rows
+still_cut old new w sealed number is writing own adds =
+    let o = open_put (put_of (state_of old) w.put) writing in
+    let same : put_of (state_of new) w.put ≡ put_of (state_of old) w.put =
+    ap (λ (puts : List PutRow). find (λ (q : PutRow). q.put == w.put) puts) (rest_puts old new sealed sealed.gathered.items number adds) in
+    ap (λ (x : Option PutRow). unwrap_or (option_map (λ (q : PutRow). q.cuts) x) []) (same ∙ o.1) ∙ (own o.0 o.1 o.2).cuts_are
+
+rest_stops_at : (old new : Kept) (w sealed : Writer) (number : ℕ) → IsSealed w sealed → is_writing (state_of old) w.put ≡ true → IsWriterOf (state_of old) w → 0 < length sealed.gathered.items
+    → new ≡ with_records old (rest_adds (state_of old) sealed (Err (stop.Exhausted number))) → ReachesLimit (state_of new) (length sealed.gathered.items) number
+    → ReachesLimit (state_of new) (bytes_next (state_of new) w) number
+rest_stops_at old new w sealed number is writing own some adds reaches =
+    let gathered = ap length is.gathered in
+    rest_stops (state_of new) w number (still_cut old new w sealed number is writing own adds) (subst (λ n. 0 < n) gathered some) (subst (λ n. ReachesLimit (state_of new) n number) gathered reaches)
+
 pub no_rest_ends : (old new : Kept) (before after : ℕ) (w sealed : Writer) (v : Vectors) (why : Refusal) → IsSealed w sealed
+    → is_writing (state_of old) w.put ≡ true → IsWriterOf (state_of old) w → 0 < length sealed.gathered.items → StopsAtLimit (state_of new) (length sealed.gathered.items) why
     → Answers {X = Unit {0}} (Err why) (λ r. new ≡ with_records old (rest_adds (state_of old) sealed r)) ⊥ → Answers {X = Unit {0}} (Err why) (RestsAsAsked (state_of old) before after sealed) ⊥
     → EndsAsAsked before after old new w v (Err why)
-no_rest_ends old new before after w sealed v (refusal.DeviceFault count) is adds rests = λ p covers none read.
+no_rest_ends old new before after w sealed v (refusal.DeviceFault count) is writing own some stops adds rests = λ p covers none read.
     let a : List Rec = rest_adds (state_of old) sealed (Err (stop.DeviceFault count)) in
     let intents : rest_intents sealed sealed.gathered.items ≡ rest_intents w w.gathered.items = ap (rest_intents sealed) is.gathered ∙ same_rests w sealed w.gathered.items is in
     record {
       added = a;
       adds = adds;
       does = fails_all p (state_of old) (rest_intents w w.gathered.items) w.put (length (rows_at_close w)) a (Faulted count) (subst (λ (is : List Intent). SpendsAll p (state_of old) is a (Fails (Faulted count))) intents (rests p covers));
+      number = tt;
     }
-no_rest_ends old new before after w sealed v (refusal.Exhausted number) is adds rests = λ p covers none read.
+no_rest_ends old new before after w sealed v (refusal.Exhausted number) is writing own some stops adds rests = λ p covers none read.
     let a : List Rec = rest_adds (state_of old) sealed (Err (stop.Exhausted number)) in
     let intents : rest_intents sealed sealed.gathered.items ≡ rest_intents w w.gathered.items = ap (rest_intents sealed) is.gathered ∙ same_rests w sealed w.gathered.items is in
     record {
       added = a;
       adds = adds;
       does = fails_all p (state_of old) (rest_intents w w.gathered.items) w.put (length (rows_at_close w)) a Exhausted (subst (λ (is : List Intent). SpendsAll p (state_of old) is a (Fails Exhausted)) intents (rests p covers));
+      number = rest_stops_at old new w sealed number is writing own some adds stops;
     }
-no_rest_ends old new before after w sealed v (refusal.Memory e) is adds rests = absurd adds
-no_rest_ends old new before after w sealed v refusal.TooManyWriters is adds rests = absurd adds
-no_rest_ends old new before after w sealed v refusal.TooManyFragments is adds rests = absurd adds
-no_rest_ends old new before after w sealed v (refusal.VectorTooLarge size) is adds rests = absurd adds
-no_rest_ends old new before after w sealed v (refusal.Lost index why) is adds rests = absurd adds
-no_rest_ends old new before after w sealed v refusal.Sealed is adds rests = absurd adds
-no_rest_ends old new before after w sealed v refusal.NoSuchWriter is adds rests = absurd adds
+no_rest_ends old new before after w sealed v (refusal.Memory e) is writing own some stops adds rests = absurd adds
+no_rest_ends old new before after w sealed v refusal.TooManyWriters is writing own some stops adds rests = absurd adds
+no_rest_ends old new before after w sealed v refusal.TooManyFragments is writing own some stops adds rests = absurd adds
+no_rest_ends old new before after w sealed v (refusal.VectorTooLarge size) is writing own some stops adds rests = absurd adds
+no_rest_ends old new before after w sealed v (refusal.Lost index why) is writing own some stops adds rests = absurd adds
+no_rest_ends old new before after w sealed v refusal.Sealed is writing own some stops adds rests = absurd adds
+no_rest_ends old new before after w sealed v refusal.NoSuchWriter is writing own some stops adds rests = absurd adds
 
 -- ---- weighing, and then the rest
 
@@ -347,6 +375,7 @@ weighed_closes tell old mid new before between after w v result f l weighs quiet
               does = spent_by p (state_of old) (state_of new) w result (h.added ++ ended.added) where_
                   (then_all p (state_of old) (Weigh w.put (length w.gathered.items)) (end_intents w) h.added ended.added (close_end w result) h.does
                   (subst (λ t. SpendsAll p t (end_intents w) ended.added (close_end w result)) there ended.does));
+              number = ended.number;
             })
         | inr collision ↦ inr collision
       ];
@@ -371,12 +400,24 @@ refused_spent p s t w refusal.TooManyFragments added where_ h = absurd where_
 refused_spent p s t w refusal.Sealed added where_ h = absurd where_
 refused_spent p s t w refusal.NoSuchWriter added where_ h = absurd where_
 
+-- weighing does not come to the end of the tape
+weighed_stops : (s t : State) (w : Writer) (why : Refusal) → WeighsWhere s w (Err why) → StopsAtLimit t (bytes_next t w) why
+weighed_stops s t w (refusal.Exhausted number) where_ = absurd where_
+weighed_stops s t w (refusal.DeviceFault count) where_ = tt
+weighed_stops s t w (refusal.Memory e) where_ = tt
+weighed_stops s t w refusal.TooManyWriters where_ = tt
+weighed_stops s t w refusal.TooManyFragments where_ = tt
+weighed_stops s t w (refusal.VectorTooLarge size) where_ = tt
+weighed_stops s t w (refusal.Lost index cause) where_ = tt
+weighed_stops s t w refusal.Sealed where_ = tt
+weighed_stops s t w refusal.NoSuchWriter where_ = tt
+
 pub refused_closes : (old new : Kept) (before after : Device) (w : Writer) (why : Refusal) → WeighsWhere (state_of old) w (Err why) → WeighsAsAsked before after old new w (Err why) → ClosesAsAsked before.faults after.faults old new w (Err why)
 refused_closes old new before after w why where_ weighs = record {
   reads = weighs.reads;
   does = λ p covers told.
       let h : Weighs p old new w (Err why) = weighs.does p covers in
-      inl (record { added = h.added; adds = h.adds; does = refused_spent p (state_of old) (state_of old) w why h.added where_ h.does });
+      inl (record { added = h.added; adds = h.adds; does = refused_spent p (state_of old) (state_of old) w why h.added where_ h.does; number = weighed_stops (state_of old) (state_of new) w why where_ });
 }
 
 -- ---- before anything is recorded
@@ -384,7 +425,7 @@ refused_closes old new before after w why where_ weighs = record {
 pub wanting_closes : (old new : Kept) (before after : ℕ) (w : Writer) (why : Refusal) (e : Rattle.std.specs.declared.alloc.AllocError.AllocError) → why ≡ refusal.Memory e → new ≡ old → ClosesAsAsked before after old new w (Err why)
 wanting_closes old new before after w why e is same = record {
   reads = [];
-  does = λ p covers told. inl (subst (λ (r : Refusal). Closes p old new w (Err r)) (sym is) (record { added = []; adds = same ∙ sym (nothing_more old); does = λ rest reason. MayGrow.nothing }));
+  does = λ p covers told. inl (subst (λ (r : Refusal). Closes p old new w (Err r)) (sym is) (record { added = []; adds = same ∙ sym (nothing_more old); does = λ rest reason. MayGrow.nothing; number = tt }));
 }
 
 -- a writer of the same alternate, and the same bytes gathered
@@ -425,6 +466,16 @@ spent_same p s w new (Err refusal.TooManyWriters) added same h = subst (λ (is :
 spent_same p s w new (Err refusal.TooManyFragments) added same h = subst (λ (is : List Intent). SpendsAll p s is added Stays) (same_close w new same) h
 spent_same p s w new (Err refusal.Sealed) added same h = subst (λ (is : List Intent). SpendsAll p s is added Stays) (same_close w new same) h
 
+next_same : (t : State) (w new : Writer) → SameCloser w new → bytes_next t new ≡ bytes_next t w
+next_same t w new same =
+    let rows : rows_at_close new ≡ rows_at_close w = ap (λ (r : List TableRow). r ++ rest_rows new.gathered.items) same.rows ∙ ap (λ b. w.table.rows ++ rest_rows b) same.gathered in
+    ap (λ n. if length (cuts_of t n) == length (rows_at_close new) then vector_length t n else length new.gathered.items) same.put
+    ∙ (ap (λ (r : List TableRow). if length (cuts_of t w.put) == length r then vector_length t w.put else length new.gathered.items) rows
+    ∙ ap (λ (b : List ℕ). if length (cuts_of t w.put) == length (rows_at_close w) then vector_length t w.put else length b) same.gathered)
+
+stops_same : (t : State) (w new : Writer) (result : Result Receipt Refusal) → SameCloser w new → IfErr result (StopsAtLimit t (bytes_next t new)) → IfErr result (StopsAtLimit t (bytes_next t w))
+stops_same t w new result same h = subst (λ n. IfErr result (StopsAtLimit t n)) (next_same t w new same) h
+
 pub closes_same : (kept old new : Kept) (first before after : ℕ) (w used : Writer) (result : Result Receipt Refusal) → old ≡ kept → before ≡ first → SameCloser w used
     → ClosesAsAsked before after old new used result → ClosesAsAsked first after kept new w result
 closes_same kept old new first before after w used result e f same h = record {
@@ -436,6 +487,7 @@ closes_same kept old new first before after w used result e f same h = record {
           added = c.added;
           adds = c.adds ∙ ap (λ k. with_records k c.added) e;
           does = spent_same p (state_of kept) w used result c.added same (subst (λ (k : Kept). Spent p (state_of k) used result c.added) e c.does);
+          number = stops_same (state_of new) w used result same c.number;
         })
         | inr collision ↦ inr (subst (λ k. IsCollision p (state_of kept) k) same.key (subst (λ (k : Kept). IsCollision p (state_of k) used.key) e collision))
       ];

@@ -1,6 +1,7 @@
 pub mod Ended
 pub mod Cutting
 mod Gathering
+mod Reaching
 mod LastCut
 pub mod Spending
 pub mod Completing

@@ -62,6 +62,8 @@ one_record : (put : ℕ) (s : State) (r : Rec) → IsOfPut put r → LeavesOther
 one_record put s (rec.Formatted geometry) h = absurd h
 one_record put s (rec.Began cursor floor) h = same_others put s _ refl refl refl
 one_record put s (rec.Placed piece place blocks digest pin) h = same_others put s _ refl refl refl
+one_record put s (rec.Moved piece from place digest) h = same_others put s _ refl refl refl
+one_record put s (rec.Unsaved piece place fault) h = same_others put s _ refl refl refl
 one_record put s (rec.Displaced piece segment live) h = same_others put s _ refl refl refl
 one_record put s (rec.Damaged piece place kept other) h = same_others put s _ refl refl refl
 one_record put s (rec.WriteOpened actor q key request response pin) h = record { puts = λ n other. find_other put n _ s.puts h other; readers = refl; geometry = refl }
@@ -114,7 +116,7 @@ then_owns put old mid new a b = record {
 own_cause : (put : ℕ) (row : Row) (why : Cause) → AllByRecursion (IsOfPut put) (cause_records row why)
 own_cause put row cause.NeverPut = tt
 own_cause put row cause.Removed = tt
-own_cause put row (cause.Passed place floor) = tt
+own_cause put row (cause.Passed place floor unsaved) = tt
 own_cause put row (cause.NoMatch count) = tt
 own_cause put row (cause.Displaced segment live) = tt
 own_cause put row (cause.Aborted writer) = tt

@@ -1,6 +1,6 @@
 -- A put that is finished behind the flush that its vector may need.
 use Rattle.std.proofs.Common.{◌≡◌, ℕ, ◌≤◌, [], ◌∷◌, ◌++◌, refl, sym, ◌∙◌, ap, subst, arith, Bool, true, false, length, Result, Ok, Err}
-use Rattle.std.specs.Prelude.{Option, Some, None, option_map, option_and_then, unwrap_or, if◌then◌else◌, nat_le, ◌-◌}
+use Rattle.std.specs.Prelude.{Option, Some, None, option_map, option_and_then, unwrap_or, if◌then◌else◌, nat_le, ◌-◌, IfErr}
 use Rattle.std.proofs.lemmas.Bool.{le-leb, leb-true}
 use Rattle.std.proofs.lemmas.List.{append_assoc}
 use Rattle.tape_base.specs.declared.keys.Key.{Key}
@@ -19,6 +19,7 @@ use Rattle.cache_model.proofs.Steps.{after_all-append, grows_on}
 use Rattle.stripe_core.specs.Covers.{Covers}
 use Rattle.stripe_core.specs.declared.refusal.Refusal.{Refusal}
 use Rattle.stripe_core.specs.declared.refusal.Refusal.TheVariants as refusal
+use Rattle.stripe_core.specs.Flush.{StopsWith}
 use Rattle.stripe_core.specs.Place.{MakesRoomAsAsked, room_adds, room_records}
 use Rattle.stripe_core.specs.Stripe.{Answers}
 use Rattle.stripe_write.specs.declared.finishing.Receipt.{Receipt}
@@ -26,8 +27,10 @@ use Rattle.stripe_write.specs.declared.weighing.Vectors.{Vectors}
 use Rattle.stripe_write.specs.declared.writer.Writer.{Writer}
 use Rattle.stripe_write.specs.Writers.{IsWriterOf}
 use Rattle.stripe_write.specs.Closing.{AreSpelled, IsReadFor, alternate_at_close, work_behind}
-use Rattle.stripe_write.specs.Finishing.{Finishes, FinishesAsRead, IsFirstLost, bytes_now, finish_end, finish_intents}
-use Rattle.stripe_write.proofs.Completing.{IsClosing, is_current, is_cut, live_to, nothing_more}
+use Rattle.stripe_write.specs.Finishing.{Finishes, FinishesAsRead, IsFirstLost, VectorStops, bytes_now, finish_end, finish_intents}
+use Rattle.stripe_write.specs.Numbers.{ReachesLimit}
+use Rattle.stripe_write.proofs.Completing.{IsClosing, cuts_at_hand, is_current, is_cut, live_to, nothing_more}
+use Rattle.stripe_write.proofs.Reaching.{flush_reaches}
 use Rattle.stripe_write.proofs.Ended.{own_number}
 use Rattle.stripe_write.proofs.Spending.{one_group}
 
@@ -103,6 +106,7 @@ loses old new before after w v c index why x spelled room first is adds = λ p c
       added = rec.Aborted w.put w.key ∷ [];
       adds = adds;
       does = λ rest reason. one_group p s (Finish w.put (length w.table.rows)) (rec.Aborted w.put w.key ∷ []) (Fails (Lost w.put index)) d (Commit w.put ∷ rest) reason;
+      number = tt;
     } in
     subst (λ (r : Refusal). Finishes p old new w (Err r)) (sym is) f
 
@@ -137,6 +141,7 @@ module _ (old mid new : Kept) (first between last : ℕ) (w : Writer) (v : Vecto
         adds = rest.adds ∙ (ap (λ k. with_records k rest.added) adds ∙ ap (λ recs. let k : Kept = record { base = old.base; since = recs } in k) (append_assoc old.since (rec.Began (cursor_next s) (floor_next s) ∷ []) rest.added));
         does = λ others why. grows_on (one_group p s (Finish w.put (length w.table.rows)) (rec.Began (cursor_next s) (floor_next s) ∷ []) Stays d (Commit w.put ∷ others) why)
             (subst (λ t. MayGrow p t (record { intents = finish_intents w ++ others; refused = why }) rest.added (work_behind others why (finish_end w result))) there (rest.does others why));
+        number = rest.number;
       }
 
   pub behind_room : (u : Unit {0}) (result : Result Receipt Refusal) → IsSound s → first ≤ between → between ≤ last → mid ≡ with_records old (room_adds s bytes (Ok u))
@@ -146,24 +151,32 @@ module _ (old mid new : Kept) (first between last : ℕ) (w : Writer) (v : Vecto
 -- no room is made
 pub no_room_ends : (old new : Kept) (before after : ℕ) (w : Writer) (v : Vectors) (c : IsClosing (state_of old) w) (why : Refusal) → AreSpelled (state_of old).geometry w v
     → Answers {X = Unit {0}} (Err why) (λ r. new ≡ with_records old (room_adds (state_of old) (bytes_now (state_of old) w v) r)) ⊥
-    → Answers {X = Unit {0}} (Err why) (MakesRoomAsAsked (state_of old) (bytes_now (state_of old) w v) before after) ⊥ → FinishesAsRead before after old new w v (Err why)
-no_room_ends old new before after w v c (refusal.DeviceFault count) spelled adds makes = λ p covers none read.
+    → Answers {X = Unit {0}} (Err why) (MakesRoomAsAsked (state_of old) (bytes_now (state_of old) w v) before after) ⊥ → has_room (state_of old) (bytes_now (state_of old) w v) ≡ false
+    → Answers {X = Unit {0}} (Err why) (λ r. IfErr r (StopsWith (state_of old) after)) ⊥ → FinishesAsRead before after old new w v (Err why)
+no_room_ends old new before after w v c (refusal.DeviceFault count) spelled adds makes full stops = λ p covers none read.
     let now = is_current (state_of old) w v c none spelled read in
     let d : Does p (state_of old) (Finish w.put (length w.table.rows)) (rec.Fault count ∷ []) (Fails (Faulted count)) =
     DoesFinish.rooms c.row (is_cut (state_of old) w c spelled.fits) (subst (λ n. MakesRoom p (state_of old) n (rec.Fault count ∷ []) (Fails (Faulted count))) now.size (makes p covers)) in
-    record { added = rec.Fault count ∷ []; adds = adds; does = λ rest why. one_group p (state_of old) (Finish w.put (length w.table.rows)) (rec.Fault count ∷ []) (Fails (Faulted count)) d (Commit w.put ∷ rest) why }
-no_room_ends old new before after w v c (refusal.Exhausted number) spelled adds makes = λ p covers none read.
+    record { added = rec.Fault count ∷ []; adds = adds; does = λ rest why. one_group p (state_of old) (Finish w.put (length w.table.rows)) (rec.Fault count ∷ []) (Fails (Faulted count)) d (Commit w.put ∷ rest) why; number = tt }
+no_room_ends old new before after w v c (refusal.Exhausted number) spelled adds makes full stops = λ p covers none read.
     let now = is_current (state_of old) w v c none spelled read in
     let d : Does p (state_of old) (Finish w.put (length w.table.rows)) [] (Fails Exhausted) =
     DoesFinish.rooms c.row (is_cut (state_of old) w c spelled.fits) (subst (λ n. MakesRoom p (state_of old) n [] (Fails Exhausted)) now.size (makes p covers)) in
-    record { added = []; adds = adds; does = λ rest why. one_group p (state_of old) (Finish w.put (length w.table.rows)) [] (Fails Exhausted) d (Commit w.put ∷ rest) why }
-no_room_ends old new before after w v c (refusal.Memory e) spelled adds makes = absurd adds
-no_room_ends old new before after w v c refusal.TooManyWriters spelled adds makes = absurd adds
-no_room_ends old new before after w v c refusal.TooManyFragments spelled adds makes = absurd adds
-no_room_ends old new before after w v c (refusal.VectorTooLarge size) spelled adds makes = absurd adds
-no_room_ends old new before after w v c (refusal.Lost index why) spelled adds makes = absurd adds
-no_room_ends old new before after w v c refusal.Sealed spelled adds makes = absurd adds
-no_room_ends old new before after w v c refusal.NoSuchWriter spelled adds makes = absurd adds
+    let at : VectorStops (state_of old) w (refusal.Exhausted number) =
+    (cuts_at_hand (state_of old) w c, subst (λ n. ReachesLimit (state_of old) n number) now.size (flush_reaches (state_of old) (bytes_now (state_of old) w v) after number full stops)) in
+    record {
+      added = [];
+      adds = adds;
+      does = λ rest why. one_group p (state_of old) (Finish w.put (length w.table.rows)) [] (Fails Exhausted) d (Commit w.put ∷ rest) why;
+      number = subst (λ k. VectorStops (state_of k) w (refusal.Exhausted number)) (sym (adds ∙ nothing_more old)) at;
+    }
+no_room_ends old new before after w v c (refusal.Memory e) spelled adds makes full stops = absurd adds
+no_room_ends old new before after w v c refusal.TooManyWriters spelled adds makes full stops = absurd adds
+no_room_ends old new before after w v c refusal.TooManyFragments spelled adds makes full stops = absurd adds
+no_room_ends old new before after w v c (refusal.VectorTooLarge size) spelled adds makes full stops = absurd adds
+no_room_ends old new before after w v c (refusal.Lost index why) spelled adds makes full stops = absurd adds
+no_room_ends old new before after w v c refusal.Sealed spelled adds makes full stops = absurd adds
+no_room_ends old new before after w v c refusal.NoSuchWriter spelled adds makes full stops = absurd adds
 
 -- ---- the writer behind it
 

@@ -32,7 +32,7 @@ use Rattle.stripe_write.proofs.Gathering.{SamePuts}
 cause_leaves : (s : State) (row : Row) (why : Cause) → SamePuts s (after_all s (cause_records row why))
 cause_leaves s row cause.NeverPut = record { puts = refl; geometry = refl }
 cause_leaves s row cause.Removed = record { puts = refl; geometry = refl }
-cause_leaves s row (cause.Passed place floor) = record { puts = refl; geometry = refl }
+cause_leaves s row (cause.Passed place floor unsaved) = record { puts = refl; geometry = refl }
 cause_leaves s row (cause.NoMatch count) = record { puts = refl; geometry = refl }
 cause_leaves s row (cause.Displaced segment live) = record { puts = refl; geometry = refl }
 cause_leaves s row (cause.Aborted writer) = record { puts = refl; geometry = refl }
@@ -55,7 +55,7 @@ same_puts kept new key answer is =
 none_pending : (s : State) (row : Row) (why : Cause) → (after_all s (cause_records row why)).pending ≡ s.pending
 none_pending s row cause.NeverPut = refl
 none_pending s row cause.Removed = refl
-none_pending s row (cause.Passed place floor) = refl
+none_pending s row (cause.Passed place floor unsaved) = refl
 none_pending s row (cause.NoMatch count) = refl
 none_pending s row (cause.Displaced segment live) = refl
 none_pending s row (cause.Aborted writer) = refl

@@ -1,14 +1,15 @@
 -- What a writer that closes is answered, and what is recorded.
-use Rattle.std.specs.Prelude.{ℕ, ◌≡◌, ◌<◌, ◌⊎◌, Bool, true, false, List, [], ◌∷◌, ◌++◌, length, Result, Ok, Err}
+use Rattle.std.specs.Prelude.{ℕ, ◌≡◌, ◌<◌, ◌≤◌, ◌==◌, ◌⊎◌, Bool, true, false, if◌then◌else◌, List, [], ◌∷◌, ◌++◌, length, Result, Ok, Err, IfErr}
 use Rattle.tape_base.specs.Blocks.{blocks_of}
 use Rattle.tape_base.specs.Geometry.{budget_of}
 use Rattle.fragment_table.specs.Table.{total_length}
 use Rattle.cache_model.specs.declared.record.Rec.{Rec}
 use Rattle.cache_model.specs.State.{State, fragment_piece}
 use Rattle.cache_model.specs.Kept.{Kept, state_of, with_records}
-use Rattle.cache_model.specs.Verdict.{cause_of_piece}
+use Rattle.cache_model.specs.Verdict.{cause_of_piece, cuts_of}
 use Rattle.cache_model.specs.Permit.{Commit, DeviceRead, Done, Finish, Intent, End, Exhausted, Fails, Faulted, Lost, Permit, Stays, TooLarge, Weigh}
-use Rattle.cache_model.specs.Legal.{is_writing}
+use Rattle.cache_model.specs.Legal.{is_writing, vector_length}
+use Rattle.cache_model.specs.Room.{limit}
 use Rattle.cache_model.specs.Vectors.{AreTold}
 use Rattle.stripe_core.specs.declared.refusal.Refusal.{Refusal}
 use Rattle.stripe_core.specs.declared.refusal.Refusal.TheVariants as refusal
@@ -18,6 +19,7 @@ use Rattle.stripe_write.specs.declared.finishing.Receipt.{Receipt}
 use Rattle.stripe_write.specs.declared.weighing.Vectors.{Vectors}
 use Rattle.stripe_write.specs.declared.writer.Writer.{Writer}
 use Rattle.stripe_write.specs.Closing.{IsReadFor, SpendsAll, close_intents, rest_intents, rows_at_close, size_at_close}
+use Rattle.stripe_write.specs.Numbers.{StopsAtLimit}
 
 -- ---- when each answer comes
 
@@ -32,7 +34,7 @@ abbrev pub EndsWhere : State → Writer → Result Receipt Refusal → Type 0
 EndsWhere t w (Ok receipt) = IsComplete w receipt
 EndsWhere t w (Err (refusal.Lost index why)) = why ≡ cause_of_piece t (fragment_piece w.key w.put index)
 EndsWhere t w (Err (refusal.DeviceFault count)) = Unit {0}
-EndsWhere t w (Err (refusal.Exhausted number)) = Unit {0}
+EndsWhere t w (Err (refusal.Exhausted number)) = limit ≤ number
 EndsWhere t w (Err _) = ⊥
 
 abbrev pub ClosesWhere : State → State → Writer → Result Receipt Refusal → Type 0
@@ -41,11 +43,15 @@ ClosesWhere s t w (Err refusal.NoSuchWriter) = is_writing s w.put ≡ false
 ClosesWhere s t w (Err (refusal.VectorTooLarge bytes)) = (is_writing s w.put ≡ true) × (bytes ≡ size_at_close w) × (budget_of s.geometry < blocks_of bytes)
 ClosesWhere s t w (Err (refusal.Lost index why)) = (is_writing s w.put ≡ true) × (why ≡ cause_of_piece t (fragment_piece w.key w.put index))
 ClosesWhere s t w (Err (refusal.DeviceFault count)) = is_writing s w.put ≡ true
-ClosesWhere s t w (Err (refusal.Exhausted number)) = is_writing s w.put ≡ true
+ClosesWhere s t w (Err (refusal.Exhausted number)) = (is_writing s w.put ≡ true) × (limit ≤ number)
 ClosesWhere s t w (Err (refusal.Memory e)) = is_writing s w.put ≡ true
 ClosesWhere s t w (Err _) = ⊥
 
--- ---- what is recorded
+-- ---- what is recorded, and which number is told
+
+-- how many bytes the piece has that is placed next: the vector, once all is cut, and else the rest
+abbrev pub bytes_next : State → Writer → ℕ
+bytes_next t w = if length (cuts_of t w.put) == length (rows_at_close w) then vector_length t w.put else length w.gathered.items
 
 abbrev pub close_end : Writer → Result Receipt Refusal → End
 close_end w (Ok receipt) = Done
@@ -63,6 +69,7 @@ pub record Ends (p : Permit) (old new : Kept) (w : Writer) (result : Result Rece
   pub added : List Rec
   pub adds : new ≡ with_records old added
   pub does : SpendsAll p (state_of old) (end_intents w) added (close_end w result)
+  pub number : IfErr result (StopsAtLimit (state_of new) (bytes_next (state_of new) w))
 
 abbrev pub EndsAsAsked : ℕ → ℕ → Kept → Kept → Writer → Vectors → Result Receipt Refusal → Type 0
 EndsAsAsked before after old new w v result =
@@ -79,6 +86,7 @@ pub record Closes (p : Permit) (old new : Kept) (w : Writer) (result : Result Re
   pub added : List Rec
   pub adds : new ≡ with_records old added
   pub does : Spent p (state_of old) w result added
+  pub number : IfErr result (StopsAtLimit (state_of new) (bytes_next (state_of new) w))
 
 -- what was read, and what came of it in any step that covers the call; or two documents of one SHA-256
 -- are shown

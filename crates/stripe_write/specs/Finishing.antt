@@ -1,13 +1,13 @@
 -- How a put whose fragments are all cut is finished: its vector is placed, and it is committed.
-use Rattle.std.specs.Prelude.{ℕ, ◌≡◌, ◌<◌, ◌≤◌, ◌-◌, Bool, true, false, List, [], ◌∷◌, length, Option, Some, None, IsSome, is_some, unwrap_or, Result, Ok, Err}
+use Rattle.std.specs.Prelude.{ℕ, ◌≡◌, ◌<◌, ◌≤◌, ◌-◌, Bool, true, false, List, [], ◌∷◌, length, Option, Some, None, IsSome, is_some, unwrap_or, Result, Ok, Err, IfErr}
 use Rattle.fragment_table.specs.Table.{total_length}
 use Rattle.cache_model.specs.declared.record.Rec.{Rec}
 use Rattle.cache_model.specs.State.{State, fragment_piece, list_of_put, live_row_of}
 use Rattle.cache_model.specs.Kept.{Kept, state_of, with_records}
-use Rattle.cache_model.specs.Verdict.{cause_of_piece, live_vector_of}
+use Rattle.cache_model.specs.Verdict.{cause_of_piece, cuts_of, live_vector_of}
 use Rattle.cache_model.specs.Permit.{Commit, Done, End, Exhausted, Fails, Faulted, Finish, Intent, Lost, Permit, Stays}
 use Rattle.cache_model.specs.Legal.{vector_length, vector_payload}
-use Rattle.cache_model.specs.Room.{greatest_pin}
+use Rattle.cache_model.specs.Room.{greatest_pin, limit}
 use Rattle.stripe_core.specs.declared.refusal.Refusal.{Refusal}
 use Rattle.stripe_core.specs.declared.refusal.Refusal.TheVariants as refusal
 use Rattle.stripe_core.specs.Covers.{Covers}
@@ -16,6 +16,7 @@ use Rattle.stripe_write.specs.declared.finishing.Receipt.{Receipt}
 use Rattle.stripe_write.specs.declared.weighing.Vectors.{Vectors}
 use Rattle.stripe_write.specs.declared.writer.Writer.{Writer}
 use Rattle.stripe_write.specs.Closing.{IsReadFor, SpendsAll}
+use Rattle.stripe_write.specs.Numbers.{ReachesLimit}
 
 -- ---- which vector is placed
 
@@ -65,19 +66,26 @@ pub record IsReceiptOf (w : Writer) (receipt : Receipt) : Type 0 where
   pub bytes : receipt.length ≡ total_length w.table.rows
   pub fragments : receipt.fragments ≡ length w.table.rows
 
--- which answers may come: of a lost fragment with the cause that the records have
+-- which answers may come: of a lost fragment with the cause that the records have, and of the end of the
+-- tape with a number that reaches the limit
 abbrev pub FinishesWhere : State → Writer → Result Receipt Refusal → Type 0
 FinishesWhere s w (Ok receipt) = IsReceiptOf w receipt
 FinishesWhere s w (Err (refusal.Lost index why)) = why ≡ cause_of_piece s (fragment_piece w.key w.put index)
 FinishesWhere s w (Err (refusal.DeviceFault count)) = Unit {0}
-FinishesWhere s w (Err (refusal.Exhausted number)) = Unit {0}
+FinishesWhere s w (Err (refusal.Exhausted number)) = limit ≤ number
 FinishesWhere s w (Err _) = ⊥
 
--- what it makes of the records
+-- all that the put has is cut, and its vector has no place
+abbrev pub VectorStops : State → Writer → Refusal → Type 0
+VectorStops t w (refusal.Exhausted number) = (cuts_of t w.put ≡ w.table.rows) × ReachesLimit t (vector_length t w.put) number
+VectorStops t w _ = Unit {0}
+
+-- what it makes of the records, and the number that it tells at the end of the tape
 pub record Finishes (p : Permit) (old new : Kept) (w : Writer) (result : Result Receipt Refusal) : Type 0 where
   pub added : List Rec
   pub adds : new ≡ with_records old added
   pub does : SpendsAll p (state_of old) (finish_intents w) added (finish_end w result)
+  pub number : IfErr result (VectorStops (state_of new) w)
 
 -- where no insert goes on and the key's vector is the one that was read
 abbrev pub FinishesAsRead : ℕ → ℕ → Kept → Kept → Writer → Vectors → Result Receipt Refusal → Type 0

@@ -1,6 +1,7 @@
 pub mod Writers
 pub mod Writes
 pub mod Closing
+pub mod Numbers
 pub mod Weighing
 pub mod Resting
 pub mod Finishing

@@ -15,6 +15,8 @@ abbrev pub IsOfPut : ℕ → Rec → Type 0
 IsOfPut put (rec.Formatted geometry) = ⊥
 IsOfPut put (rec.Began cursor floor) = Unit {0}
 IsOfPut put (rec.Placed piece place blocks digest pin) = Unit {0}
+IsOfPut put (rec.Moved piece from place digest) = Unit {0}
+IsOfPut put (rec.Unsaved piece place fault) = Unit {0}
 IsOfPut put (rec.Displaced piece segment live) = Unit {0}
 IsOfPut put (rec.Damaged piece place kept found) = Unit {0}
 IsOfPut put (rec.WriteOpened actor q key request response pin) = q ≡ put

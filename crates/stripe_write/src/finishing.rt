@@ -1,5 +1,5 @@
 // How a put whose fragments are all cut is finished.
-ghost use Rattle.std.specs.Prelude.{◌≡◌, ◌+◌, ◌≤◌, ◌<◌, [], ◌∷◌, true, length, is_some, None, Some, IfOk, OnOk, OnErr};
+ghost use Rattle.std.specs.Prelude.{◌≡◌, ◌+◌, ◌≤◌, ◌<◌, [], ◌∷◌, true, false, length, is_some, None, Some, IfOk, IfErr, OnOk, OnErr};
 ghost use Rattle.tape_base.specs.Blocks.{blocks_of};
 ghost use Rattle.tape_base.specs.Geometry.{budget_of};
 ghost use Rattle.cache_model.specs.Kept.{with_records};
@@ -10,6 +10,7 @@ ghost use Rattle.cache_model.specs.Verdict.{cause_of_piece};
 ghost use Rattle.cache_model.specs.declared.record.Rec.TheVariants as rec;
 ghost use Rattle.stripe_core.specs.declared.refusal.Refusal.TheVariants as refusal;
 ghost use Rattle.stripe_core.specs.Acts.{CommitsAsAsked, IsCommitting, committed_record};
+ghost use Rattle.stripe_core.specs.Flush.{StopsWith};
 ghost use Rattle.stripe_core.specs.Place.{MakesRoomAsAsked, room_adds};
 ghost use Rattle.stripe_core.specs.Stripe.{Answers, IsStripe, kept_in, seen_in, state_in, units_in};
 ghost use Rattle.stripe_core.specs.Unharmed.{StaysUnharmed};
@@ -133,8 +134,10 @@ fn make_room<D: Disk, R: Directory + Drop, C: Chronicle>(
     ensures unharmed { StaysUnharmed D.Disk R.Directory C.Chronicle stripe.old stripe.new }
     ensures adds { Answers result (λ r. kept_in C.Chronicle stripe.new
         ≡ with_records (kept_in C.Chronicle stripe.old) (room_adds (state_in C.Chronicle stripe.old) (bytes_now (state_in C.Chronicle stripe.old) writer.now vectors.now) r)) ⊥ }
+    ensures full { OnErr result (has_room (state_in C.Chronicle stripe.old) (bytes_now (state_in C.Chronicle stripe.old) writer.now vectors.now) ≡ false) }
     ensures does { Answers result (MakesRoomAsAsked (state_in C.Chronicle stripe.old) (bytes_now (state_in C.Chronicle stripe.old) writer.now vectors.now)
         (seen_in D.Disk R.Directory stripe.old).device.faults (seen_in D.Disk R.Directory stripe.new).device.faults) ⊥ }
+    ensures stops { Answers result (λ r. IfErr r (StopsWith (state_in C.Chronicle stripe.old) (seen_in D.Disk R.Directory stripe.new).device.faults)) ⊥ }
     ensures room { OnOk result (has_room (state_in C.Chronicle stripe.new) (bytes_now (state_in C.Chronicle stripe.new) writer.now vectors.now) ≡ true) }
     ensures later { (seen_in D.Disk R.Directory stripe.old).device.faults ≤ (seen_in D.Disk R.Directory stripe.new).device.faults }
     ensures unit { units_in stripe.old ≤ units_in stripe.new + 1 }

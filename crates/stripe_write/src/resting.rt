@@ -1,10 +1,11 @@
 // The rest that a writer gathered, which fills no fragment, is cut when the writer closes.
-ghost use Rattle.std.specs.Prelude.{◌≡◌, ◌+◌, ◌≤◌, ◌<◌, [], true, OnOk, OnErr};
+ghost use Rattle.std.specs.Prelude.{◌≡◌, ◌+◌, ◌≤◌, ◌<◌, [], true, length, IfErr, OnOk, OnErr};
 ghost use Rattle.cache_model.specs.Kept.{with_records};
 ghost use Rattle.cache_model.specs.Legal.{IsQuiet, is_writing};
 ghost use Rattle.stripe_core.specs.Stripe.{Answers, IsStripe, kept_in, room_for, seen_in, state_in, units_in};
 ghost use Rattle.stripe_core.specs.Unharmed.{StaysUnharmed};
 ghost use Rattle.stripe_write.specs.Closing.{rows_at_close};
+ghost use Rattle.stripe_write.specs.Numbers.{StopsAtLimit};
 ghost use Rattle.stripe_write.specs.Resting.{RestsAsAsked, rest_adds};
 ghost use Rattle.stripe_write.specs.Writers.{IsWriterOf};
 ghost use Rattle.stripe_write.specs.Writes.{SameButBytes, SameWriter};
@@ -39,6 +40,8 @@ pub(crate) fn cut_rest<D: Disk, R: Directory + Drop, C: Chronicle>(
         ≡ with_records (kept_in C.Chronicle stripe.old) (rest_adds (state_in C.Chronicle stripe.old) writer.old r)) ⊥ }
     ensures does { Answers result (RestsAsAsked (state_in C.Chronicle stripe.old) (seen_in D.Disk R.Directory stripe.old).device.faults
         (seen_in D.Disk R.Directory stripe.new).device.faults writer.old) ⊥ }
+    ensures some { OnErr result (0 < length writer.old.gathered.items) }
+    ensures number { IfErr result (StopsAtLimit (state_in C.Chronicle stripe.new) (length writer.old.gathered.items)) }
     ensures writer { IsWriterOf (state_in C.Chronicle stripe.new) writer.new }
     ensures open { OnOk result (is_writing (state_in C.Chronicle stripe.new) writer.new.put ≡ true) }
     ensures rows { OnOk result (writer.new.table.rows ≡ rows_at_close writer.old) }

@@ -1,5 +1,5 @@
 // Writers open, take bytes, and are given up.
-ghost use Rattle.std.specs.Prelude.{◌≡◌, ◌+◌, ◌≤◌, ◌<◌, [], ◌∷◌, ◌++◌, true, false, IfOk, OnOk, OnErr, length};
+ghost use Rattle.std.specs.Prelude.{◌≡◌, ◌+◌, ◌≤◌, ◌<◌, [], ◌∷◌, ◌++◌, true, false, IfOk, IfErr, OnOk, OnErr, length};
 ghost use Rattle.tape_base.specs.Digest.{digest_of};
 ghost use Rattle.fragment_table.specs.Table.{made_row};
 ghost use Rattle.cache_model.specs.Kept.{with_records};
@@ -9,6 +9,7 @@ ghost use Rattle.stripe_core.specs.Acts.{OpensAsAsked, opened_record};
 ghost use Rattle.stripe_core.specs.Place.{CutsAsAsked, fragment_adds};
 ghost use Rattle.stripe_core.specs.Stripe.{Answers, HasMemory, IsStripe, kept_in, room_for, seen_in, state_in, units_in};
 ghost use Rattle.stripe_core.specs.Unharmed.{StaysUnharmed};
+ghost use Rattle.stripe_write.specs.Numbers.{StopsAtLimit};
 ghost use Rattle.stripe_write.specs.Writers.{IsWriterOf};
 ghost use Rattle.stripe_write.specs.Writes.{AbortsAsAsked, AbortsWhere, GathersAsAsked, IsOverflow, IsReady, OverflowsAsAsked, SameButBytes, SameWriter, WritesAsAsked, WritesWhere, abort_adds, next_id, next_start, number_of, overflow_adds, write_adds};
 
@@ -71,6 +72,7 @@ pub fn write<D: Disk, R: Directory + Drop, C: Chronicle>(
     ensures adds { kept_in C.Chronicle stripe.new
         ≡ with_records (kept_in C.Chronicle stripe.old) (write_adds (state_in C.Chronicle stripe.old) writer.old bytes.now result) }
     ensures writes { WritesWhere (state_in C.Chronicle stripe.old) writer.old bytes.now result }
+    ensures number { IfErr result (StopsAtLimit (state_in C.Chronicle stripe.new) (state_in C.Chronicle stripe.old).geometry.fragment) }
     ensures does { WritesAsAsked (state_in C.Chronicle stripe.old) (seen_in D.Disk R.Directory stripe.old).device.faults
         (seen_in D.Disk R.Directory stripe.new).device.faults writer.old bytes.now result }
     ensures writer { IsWriterOf (state_in C.Chronicle stripe.new) writer.new }
@@ -108,6 +110,7 @@ pub fn abort_write<D: Disk, R: Directory + Drop, C: Chronicle>(
     ensures aborts { AbortsWhere (state_in C.Chronicle stripe.old) writer.old.put result }
     ensures does { AbortsAsAsked (state_in C.Chronicle stripe.old) writer.old.put writer.old.key result }
     ensures writer { IsWriterOf (state_in C.Chronicle stripe.new) writer.new }
+    ensures same { writer.new ≡ writer.old }
     ensures later { (seen_in D.Disk R.Directory stripe.old).device.faults ≤ (seen_in D.Disk R.Directory stripe.new).device.faults }
 {
     if !is_open(stripe, writer.put) {
@@ -212,6 +215,7 @@ fn take<D: Disk, R: Directory + Drop, C: Chronicle>(
     ensures adds { kept_in C.Chronicle stripe.new
         ≡ with_records (kept_in C.Chronicle stripe.old) (write_adds (state_in C.Chronicle stripe.old) writer.old bytes.now result) }
     ensures writes { WritesWhere (state_in C.Chronicle stripe.old) writer.old bytes.now result }
+    ensures number { IfErr result (StopsAtLimit (state_in C.Chronicle stripe.new) (state_in C.Chronicle stripe.old).geometry.fragment) }
     ensures does { WritesAsAsked (state_in C.Chronicle stripe.old) (seen_in D.Disk R.Directory stripe.old).device.faults
         (seen_in D.Disk R.Directory stripe.new).device.faults writer.old bytes.now result }
     ensures writer { IsWriterOf (state_in C.Chronicle stripe.new) writer.new }
@@ -253,6 +257,7 @@ pub(crate) fn cut<D: Disk, R: Directory + Drop, C: Chronicle>(
         (kept_in C.Chronicle stripe.new ≡ kept_in C.Chronicle stripe.old) }
     ensures does { let w = writer.old in Answers result (CutsAsAsked (state_in C.Chronicle stripe.old) (seen_in D.Disk R.Directory stripe.old).device.faults
         (seen_in D.Disk R.Directory stripe.new).device.faults (next_id w) w.pin (next_start w) w.gathered.items) (Unit {0}) }
+    ensures number { IfErr result (StopsAtLimit (state_in C.Chronicle stripe.new) (length writer.old.gathered.items)) }
     ensures writer { OnOk result (IsWriterOf (state_in C.Chronicle stripe.new) writer.new) }
     ensures rest { OnOk result (SameButBytes writer.old writer.new) }
     ensures rows { let w = writer.old in OnOk result (writer.new.table.rows

@@ -1,5 +1,6 @@
 use Rattle.stripe_core.specs.Stripe.{kept_in, seen_in}
 use Rattle.stripe_read.proofs.Beginning.{adds_then, opens_then, quiet_then, reader_then}
+use Rattle.stripe_read.proofs.Owning.{owns_open}
 use Rattle.stripe_read.proofs.opening.open_read.Goals as goal
 
 pub returns-clause-quiet : goal.returns-clause-quiet
@@ -26,3 +27,10 @@ returns-clause-reader g c =
     reader_then (kept_in g.C.Chronicle c.args.stripe.now) (kept_in g.C.Chronicle c.prepare.new.self) (kept_in g.C.Chronicle c.look_up.new.stripe) (kept_in g.C.Chronicle c.begin.new.stripe)
     c.args.actor c.args.key c.args.request c.in_ok-looked.looked c.prepare.ensures.records c.in_ok-looked.ensures.adds
     c.begin.result c.begin.ensures.adds c.begin.ensures.opens
+
+pub returns-clause-own : goal.returns-clause-own
+returns-clause-own g c =
+    owns_open (kept_in g.C.Chronicle c.args.stripe.now) (kept_in g.C.Chronicle c.begin.new.stripe) c.args.actor c.args.key c.args.request c.begin.result
+    (adds_then (kept_in g.C.Chronicle c.args.stripe.now) (kept_in g.C.Chronicle c.prepare.new.self) (kept_in g.C.Chronicle c.look_up.new.stripe) (kept_in g.C.Chronicle c.begin.new.stripe)
+    c.args.actor c.args.key c.args.request c.in_ok-looked.looked c.prepare.ensures.records c.in_ok-looked.ensures.adds
+    c.begin.result c.begin.ensures.adds c.begin.ensures.opens) c.begin.ensures.memory

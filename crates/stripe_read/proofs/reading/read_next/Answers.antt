@@ -1,9 +1,12 @@
-use Rattle.std.proofs.Common.{ap, subst}
-use Rattle.cache_model.specs.Kept.{state_of}
-use Rattle.stripe_core.specs.Stripe.{seen_in, state_in}
+use Rattle.std.proofs.Common.{ap, subst, sym}
+use Rattle.cache_model.specs.Kept.{Kept, state_of}
+use Rattle.stripe_core.specs.Stripe.{kept_in, seen_in, state_in}
+use Rattle.stripe_read.specs.Readers.{IsReaderOf}
 use Rattle.stripe_read.specs.Nexts.{IsOtherNext}
+use Rattle.stripe_read.specs.Others.{AddsOfReader}
 use Rattle.stripe_read.proofs.Giving.{given_prepared, reads_prepared}
 use Rattle.stripe_read.proofs.Harmless.{behind_unharmed}
+use Rattle.stripe_read.proofs.Owning.{owns_read_or_none}
 use Rattle.stripe_read.proofs.reading.read_next.Goals as goal
 
 pub returns-in-Some-clause-reads : goal.returns-in-Some-clause-reads
@@ -24,3 +27,11 @@ returns-in-Some-clause-unharmed g c =
     s prepared (state_in g.C.Chronicle c.give.new.stripe)
     (λ (x : IsOtherNext prepared c.args.reader.now). subst (λ t. IsOtherNext t c.args.reader.now) (ap state_of c.prepare.ensures.records) x)
     c.prepare.ensures.unharmed c.give.ensures.unharmed
+
+pub returns-in-Some-clause-own : goal.returns-in-Some-clause-own
+returns-in-Some-clause-own g c =
+    subst (λ (k : Kept). AddsOfReader c.args.reader.now.reader k (kept_in g.C.Chronicle c.give.new.stripe)) c.prepare.ensures.records
+    (owns_read_or_none (kept_in g.C.Chronicle c.prepare.new.self) (kept_in g.C.Chronicle c.give.new.stripe) c.args.reader.now c.give.result c.give.ensures.adds c.give.ensures.err)
+
+pub returns-in-Some-clause-keeps : goal.returns-in-Some-clause-keeps
+returns-in-Some-clause-keeps g c = λ own. c.give.ensures.keeps (subst (λ (k : Kept). IsReaderOf (state_of k) c.args.reader.now) (sym c.prepare.ensures.records) own)

@@ -34,7 +34,8 @@ returns-in-Err-clause-does g c =
     let w = c.args.writer.now in
     let sealed : Writer = record { put = w.put; key = w.key; request = w.request; response = w.response; pin = w.pin; gathered = w.gathered; table = w.table; sealed = Rattle.std.proofs.Common.true } in
     no_rest_ends (kept_in g.C.Chronicle c.args.stripe.now) (kept_in g.C.Chronicle c.cut_rest.new.stripe) _ _ w sealed c.args.vectors.now c.in-Err.why
-    (record { put = refl; key = refl; request = refl; response = refl; pin = refl; gathered = refl; rows = refl; sealed = refl }) c.in-Err.ensures.adds c.in-Err.ensures.does
+    (record { put = refl; key = refl; request = refl; response = refl; pin = refl; gathered = refl; rows = refl; sealed = refl }) c.requires.open c.requires.writer c.in-Err.ensures.some c.in-Err.ensures.number
+    c.in-Err.ensures.adds c.in-Err.ensures.does
 
 pub returns-in-Ok-clause-own : goal.returns-in-Ok-clause-own
 returns-in-Ok-clause-own g c =

@@ -23,7 +23,7 @@ returns-in-Err-clause-does g c =
     let s = state_in g.C.Chronicle c.args.stripe.now in
     let w = c.args.writer.now in
     no_room_ends (kept_in g.C.Chronicle c.args.stripe.now) (kept_in g.C.Chronicle c.make_room.new.stripe) _ _ w c.args.vectors.now (is_closing s w c.requires.quiet c.requires.open c.requires.writer c.requires.cut) c.in-Err.why
-    c.requires.spelled c.in-Err.ensures.adds c.in-Err.ensures.does
+    c.requires.spelled c.in-Err.ensures.adds c.in-Err.ensures.does c.in-Err.ensures.full c.in-Err.ensures.stops
 
 pub returns-in-Err-clause-writer : goal.returns-in-Err-clause-writer
 returns-in-Err-clause-writer g c =

@@ -16,6 +16,9 @@ cut-requires-clause-ready g c =
     let some : 0 < length c.args.writer.now.gathered.items = grind (arith, c.is_empty.ensures, c.if-is_empty.false) in
     rest_ready (state_in g.C.Chronicle c.args.stripe.now) c.args.writer.now c.requires.open c.requires.writer c.requires.sealed some c.requires.table
 
+pub returns-in-Err-clause-some : goal.returns-in-Err-clause-some
+returns-in-Err-clause-some g c = grind (arith, c.is_empty.ensures, c.if-is_empty.false)
+
 pub returns-in-Ok-clause-open : goal.returns-in-Ok-clause-open
 returns-in-Ok-clause-open g c =
     let some : 0 < length c.args.writer.now.gathered.items = grind (arith, c.is_empty.ensures, c.if-is_empty.false) in

@@ -5,7 +5,7 @@ use Rattle.cache_model.specs.Legal.{IsQuiet}
 use Rattle.stripe_core.specs.Place.{IsFragmentOf, IsPlacing, IsVectorFor}
 use Rattle.stripe_core.specs.Stripe.{kept_in, seen_in, state_in}
 use Rattle.stripe_write.specs.Writes.{next_id, next_start}
-use Rattle.stripe_write.proofs.Cutting.{cut_quiet, cut_writer, cuts_behind, digest_is, kept_behind, next_no_vector, ready_fragment, rows_behind, state_behind}
+use Rattle.stripe_write.proofs.Cutting.{cut_quiet, cut_writer, cuts_behind, digest_is, kept_behind, next_no_vector, ready_fragment, ready_small, rows_behind, state_behind, stops_behind}
 use Rattle.stripe_write.proofs.writing.cut.Goals as goal
 
 pub place_piece-requires-clause-placing : goal.place_piece-requires-clause-placing
@@ -46,3 +46,11 @@ returns-in_err-placed-clause-does g c =
     let refused = err_from_is_err_and c.from_residual.result c.from_residual.ensures.1 in
     rw (refused.1, refused.2) (cuts_behind (state_in g.C.Chronicle c.args.stripe.now) c.args.writer.now c.len.result c.total.result c.deref.result.now c.len.ensures.len c.total.ensures c.deref.ensures.value
     (seen_in g.D.Disk g.R.Directory c.args.stripe.now).device.faults (seen_in g.D.Disk g.R.Directory c.place_piece.new.self).device.faults (Err c.in_err-placed.field-0.0) c.in_err-placed.ensures.does)
+
+pub returns-in_err-placed-clause-number : goal.returns-in_err-placed-clause-number
+returns-in_err-placed-clause-number g c =
+    let s = state_in g.C.Chronicle c.args.stripe.now in
+    let w = c.args.writer.now in
+    let refused = err_from_is_err_and c.from_residual.result c.from_residual.ensures.1 in
+    rw (refused.1, refused.2) (stops_behind s w c.len.result c.total.result c.deref.result.now c.len.ensures.len c.total.ensures c.deref.ensures.value (kept_in g.C.Chronicle c.args.stripe.now) (kept_in g.C.Chronicle c.place_piece.new.self)
+    (seen_in g.D.Disk g.R.Directory c.place_piece.new.self).device.faults c.in_err-placed.field-0.0 refl (ready_small s w c.requires.ready) c.in_err-placed.ensures.adds c.in_err-placed.ensures.at)

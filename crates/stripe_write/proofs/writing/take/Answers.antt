@@ -5,6 +5,7 @@ use Rattle.stripe_core.specs.Stripe.{kept_in, seen_in, state_in}
 use Rattle.stripe_write.specs.Writers.{IsWriterOf}
 use Rattle.stripe_write.specs.declared.writer.Writer.{Writer}
 use Rattle.stripe_write.specs.Writes.{gathered_with, next_id, next_start, taken_of}
+use Rattle.stripe_write.specs.Numbers.{StopsAtLimit}
 use Rattle.tape_base.specs.declared.geometries.Geometry.{Geometry}
 use Rattle.stripe_write.proofs.Gathering.{cut_now, few_gathered, gathered_length, is_ready, left_cut, more_writer, same_writer, took_adds, took_does, SameButGathered, back, failed_puts, still_writer, refused_does, refused_where, taken_back}
 use Rattle.stripe_write.proofs.writing.take.Goals as goal
@@ -137,3 +138,15 @@ returns-in-Err-clause-does g c =
     (seen_in g.D.Disk g.R.Directory c.cut.new.stripe).device.faults w held c.args.bytes.now c.in-Err.refusal c.prepare.ensures.records c.prepare.ensures.still.faults
     (record { put = refl; key = refl; request = refl; response = refl; pin = refl; rows = c.reserve.ensures.rows; sealed = refl })
     (c.in_ok-extend_from_slice.ensures.items ∙ ap (gathered_with w c.args.bytes.now) taken) c.in-Err.ensures.does
+
+pub returns-in-Err-clause-number : goal.returns-in-Err-clause-number
+returns-in-Err-clause-number g c =
+    let s = state_in g.C.Chronicle c.args.stripe.now in
+    let w = c.args.writer.now in
+    let n : ℕ = c.min-taken.result in
+    let few = few_gathered s w c.requires.open c.requires.writer in
+    let size : length c.extend_from_slice.new.self.items ≡ length w.gathered.items + n =
+    ap length c.in_ok-extend_from_slice.ensures.items ∙ gathered_length w c.args.bytes.now n (omega (arith, c.min-taken.ensures)) in
+    let fragment = ap (λ (x : Geometry). x.fragment) c.geometry.ensures in
+    let whole : length c.extend_from_slice.new.self.items ≡ s.geometry.fragment = omega (arith, size, few, fragment, c.len-before.ensures, c.min-taken.ensures, c.if-taken-room.false) in
+    subst (λ k. StopsAtLimit (state_in g.C.Chronicle c.cut.new.stripe) k c.in-Err.refusal) whole c.in-Err.ensures.number
