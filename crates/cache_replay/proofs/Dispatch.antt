@@ -18,39 +18,41 @@ use Rattle.cache_replay.specs.declared.stop.Stop.TheVariants.{NoCache, BayFault,
 use Rattle.cache_replay.specs.Plays.{Deals, DeviceEnds, DeviceMoves, HasReached, IsLeft, Ledger, Plays, StepEnds, StepMoves, stays}
 use Rattle.cache_replay.specs.Stop.{IsSessionStop, NeedsSession, StopsStep}
 
--- what a run says of devices
-pub record SameDevices (run new : Run) : Type 0 where
+-- what a run says of devices and of the moment
+pub record SameBeside (run new : Run) : Type 0 where
   pub ended : new.ended ≡ run.ended
   pub names : new.names ≡ run.names
+  pub now : new.now ≡ run.now
 
-same : (run : Run) → SameDevices run run
-same run = record { ended = refl; names = refl }
+same : (run : Run) → SameBeside run run
+same run = record { ended = refl; names = refl; now = refl }
 
 -- a line on a session, where there is one, says nothing new of them
-pub same_devices : (run : Run) (turn : Turn) (state : Option State) (step : Step) → NeedsSession step → SameDevices run (behind run turn state step)
-same_devices run turn state (step.Format name segments buckets content agg reach fragment generation) needs = absurd needs
-same_devices run turn (Some s) (step.Put key body request response) needs = record { ended = refl; names = refl }
-same_devices run turn None (step.Put key body request response) needs = same run
-same_devices run turn (Some s) (step.Get key request) needs = record { ended = refl; names = refl }
-same_devices run turn None (step.Get key request) needs = same run
-same_devices run turn (Some s) (step.OpenWrite actor key pin request response) needs = record { ended = refl; names = refl }
-same_devices run turn None (step.OpenWrite actor key pin request response) needs = same run
-same_devices run turn (Some s) (step.Feed actor body) needs = record { ended = refl; names = refl }
-same_devices run turn None (step.Feed actor body) needs = same run
-same_devices run turn (Some s) (step.Close actor) needs = record { ended = refl; names = refl }
-same_devices run turn None (step.Close actor) needs = same run
-same_devices run turn (Some s) (step.Abort actor) needs = record { ended = refl; names = refl }
-same_devices run turn None (step.Abort actor) needs = same run
-same_devices run turn (Some s) (step.OpenRead actor key request) needs = record { ended = refl; names = refl }
-same_devices run turn None (step.OpenRead actor key request) needs = same run
-same_devices run turn (Some s) (step.Next actor) needs = record { ended = refl; names = refl }
-same_devices run turn None (step.Next actor) needs = same run
-same_devices run turn (Some s) (step.Done actor) needs = record { ended = refl; names = refl }
-same_devices run turn None (step.Done actor) needs = same run
-same_devices run turn (Some s) (step.Remove key) needs = record { ended = refl; names = refl }
-same_devices run turn None (step.Remove key) needs = same run
-same_devices run turn (Some s) step.Flush needs = record { ended = refl; names = refl }
-same_devices run turn None step.Flush needs = same run
+pub same_beside : (run : Run) (turn : Turn) (state : Option State) (step : Step) → NeedsSession step → SameBeside run (behind run turn state step)
+same_beside run turn state (step.Format name segments buckets content agg reach fragment generation) needs = absurd needs
+same_beside run turn (Some s) (step.Put key body request response) needs = record { ended = refl; names = refl; now = refl }
+same_beside run turn None (step.Put key body request response) needs = same run
+same_beside run turn (Some s) (step.Get key request) needs = record { ended = refl; names = refl; now = refl }
+same_beside run turn None (step.Get key request) needs = same run
+same_beside run turn (Some s) (step.OpenWrite actor key pin request response) needs = record { ended = refl; names = refl; now = refl }
+same_beside run turn None (step.OpenWrite actor key pin request response) needs = same run
+same_beside run turn (Some s) (step.Feed actor body) needs = record { ended = refl; names = refl; now = refl }
+same_beside run turn None (step.Feed actor body) needs = same run
+same_beside run turn (Some s) (step.Close actor) needs = record { ended = refl; names = refl; now = refl }
+same_beside run turn None (step.Close actor) needs = same run
+same_beside run turn (Some s) (step.Abort actor) needs = record { ended = refl; names = refl; now = refl }
+same_beside run turn None (step.Abort actor) needs = same run
+same_beside run turn (Some s) (step.OpenRead actor key request) needs = record { ended = refl; names = refl; now = refl }
+same_beside run turn None (step.OpenRead actor key request) needs = same run
+same_beside run turn (Some s) (step.Next actor) needs = record { ended = refl; names = refl; now = refl }
+same_beside run turn None (step.Next actor) needs = same run
+same_beside run turn (Some s) (step.Done actor) needs = record { ended = refl; names = refl; now = refl }
+same_beside run turn None (step.Done actor) needs = same run
+same_beside run turn (Some s) (step.Remove key) needs = record { ended = refl; names = refl; now = refl }
+same_beside run turn None (step.Remove key) needs = same run
+same_beside run turn (Some s) step.Flush needs = record { ended = refl; names = refl; now = refl }
+same_beside run turn None step.Flush needs = same run
+same_beside run turn state (step.Now at) needs = absurd needs
 
 -- so no device comes back and none is attached
 pub no_deals : (ledger : Ledger) → Deals ledger ledger [] []
@@ -63,15 +65,27 @@ module _ {D R C : Type 0} (disk : DiskGhosts D) (directory : DirectoryGhosts R) 
   moves : (run : Run) (step : Step) (new : Session D R C) (said : StepAnswer) (ledger : Ledger) → NeedsSession step → StepMoves disk directory chronicle run step new said
       → DeviceMoves disk directory chronicle run step new said ledger ledger
   moves run step new said ledger needs m =
-      let devices = same_devices run m.turn run.state step needs in
+      let beside = same_beside run m.turn run.state step needs in
       record {
         moves = m;
         harms = [];
-        ended = devices.ended ∙ sym (append-nil run.ended);
+        ended = beside.ended ∙ sym (append-nil run.ended);
         names = [];
-        named = devices.names ∙ sym (append-nil run.names);
+        named = beside.names ∙ sym (append-nil run.names);
         deals = no_deals ledger;
       }
+
+  -- a line that sets the moment leaves the bay too
+  pub moment_moves : (run : Run) (at : ℕ) (new : Session D R C) (said : StepAnswer) (ledger : Ledger) → StepMoves disk directory chronicle run (step.Now at) new said
+      → DeviceMoves disk directory chronicle run (step.Now at) new said ledger ledger
+  moment_moves run at new said ledger m = record {
+    moves = m;
+    harms = [];
+    ended = sym (append-nil run.ended);
+    names = [];
+    named = sym (append-nil run.names);
+    deals = no_deals ledger;
+  }
 
   pub ends : (run : Run) (step : Step) (new : Session D R C) (said : StepAnswer) (before now : Ledger) → now ≡ before → NeedsSession step → StepEnds disk directory chronicle run step new said
       → DeviceEnds disk directory chronicle run step new said before now
@@ -84,20 +98,21 @@ stops run step before now NoCache needs is = (needs, is)
 stops run step before now BayFault needs is = absurd is
 stops run step before now Memory needs is = tt
 
--- what is no format works on a session
-pub needs_session : (s : Step) → ((name : List ℕ) (segments buckets content agg reach fragment generation : ℕ) → s ≡ step.Format name segments buckets content agg reach fragment generation → ⊥) → NeedsSession s
-needs_session (step.Format name segments buckets content agg reach fragment generation) h = absurd (h name segments buckets content agg reach fragment generation refl)
-needs_session (step.Put key body request response) h = tt
-needs_session (step.Get key request) h = tt
-needs_session (step.OpenWrite actor key pin request response) h = tt
-needs_session (step.Feed actor body) h = tt
-needs_session (step.Close actor) h = tt
-needs_session (step.Abort actor) h = tt
-needs_session (step.OpenRead actor key request) h = tt
-needs_session (step.Next actor) h = tt
-needs_session (step.Done actor) h = tt
-needs_session (step.Remove key) h = tt
-needs_session step.Flush h = tt
+-- what is no format and sets no moment works on a session
+pub needs_session : (s : Step) → ((name : List ℕ) (segments buckets content agg reach fragment generation : ℕ) → s ≡ step.Format name segments buckets content agg reach fragment generation → ⊥) → ((at : ℕ) → s ≡ step.Now at → ⊥) → NeedsSession s
+needs_session (step.Format name segments buckets content agg reach fragment generation) h k = absurd (h name segments buckets content agg reach fragment generation refl)
+needs_session (step.Put key body request response) h k = tt
+needs_session (step.Get key request) h k = tt
+needs_session (step.OpenWrite actor key pin request response) h k = tt
+needs_session (step.Feed actor body) h k = tt
+needs_session (step.Close actor) h k = tt
+needs_session (step.Abort actor) h k = tt
+needs_session (step.OpenRead actor key request) h k = tt
+needs_session (step.Next actor) h k = tt
+needs_session (step.Done actor) h k = tt
+needs_session (step.Remove key) h k = tt
+needs_session step.Flush h k = tt
+needs_session (step.Now at) h k = absurd (k at refl)
 
 -- ---- whatever a line answers
 

@@ -51,7 +51,7 @@ later_none (Some r) = refl
 told_cause : (row : Row) (why : Cause) (last : List Rec) → told_in (cause_records row why ++ last) ≡ told_in last
 told_cause row cause.NeverPut last = refl
 told_cause row cause.Removed last = refl
-told_cause row (cause.Passed place floor) last = refl
+told_cause row (cause.Passed place floor unsaved) last = refl
 told_cause row (cause.NoMatch count) last = refl
 told_cause row (cause.Displaced segment live) last = refl
 told_cause row (cause.Aborted writer) last = refl

@@ -88,13 +88,13 @@ module _ {D R C : Type 0} (disk : DiskGhosts D) (directory : DirectoryGhosts R) 
 
   -- what a removal or a flush is for a session
   pub line_plays : (tell : StepsTell) (owns : StepsOwn) (run : Run) (session new : Session D R C) (old part : Part D R C) (turn : Turn) (step : Step) → session.part ≡ Some old
-      → new.part ≡ Some part → names_in new ≡ names_in session → ((n : ℕ) → slots_in new n ≡ slots_in session n)
+      → new.part ≡ Some part → names_in new ≡ names_in session → new.now ≡ session.now → ((n : ℕ) → slots_in new n ≡ slots_in session n)
       → LeavesBut None None (state_in chronicle old.stripe) (state_in chronicle part.stripe) → StaysUnharmed disk directory chronicle old.stripe part.stripe → IsSession disk directory chronicle session → Plays disk directory chronicle run session
       → (takes : SessionTakes run (state_in chronicle old.stripe) turn step) → after_all (state_in chronicle old.stripe) turn.added ≡ state_in chronicle part.stripe
-      → (later : Run) → later.actors ≡ run.actors → later.streams ≡ run.streams → later.held ≡ run.held → later.state ≡ Some (after_all (state_in chronicle old.stripe) turn.added)
+      → (later : Run) → later.actors ≡ run.actors → later.now ≡ run.now → later.streams ≡ run.streams → later.held ≡ run.held → later.state ≡ Some (after_all (state_in chronicle old.stripe) turn.added)
       → streams_behind run (state_in chronicle old.stripe) (after_all (state_in chronicle old.stripe) turn.added) turn step ≡ run.streams
       → Plays disk directory chronicle later new
-  line_plays tell owns run session new old part turn step is now names slots leaves stays h plays takes behind later actors streams held state same =
+  line_plays tell owns run session new old part turn step is now names kept slots leaves stays h plays takes behind later actors moment streams held state same =
       let s : State = state_in chronicle old.stripe in
       let t : State = state_in chronicle part.stripe in
       let a = active session old is h in
@@ -104,6 +104,7 @@ module _ {D R C : Type 0} (disk : DiskGhosts D) (directory : DirectoryGhosts R) 
       (λ m. ap (λ (f : ℕ → Option Rattle.script_run.specs.Run.Holding). f m) held) (state ∙ ap Some behind) (told_behind tell run s t turn step takes behind p.told) own p in
       record {
         names = actors ∙ (plays.names ∙ sym names);
+        now = moment ∙ (plays.now ∙ sym kept);
         at = subst (λ o. PlaysAt disk directory chronicle later o (slots_in new)) (sym now) (record {
           state = here.state;
           told = here.told;
@@ -120,6 +121,7 @@ pub record IsPlain (step : Step) : Type 0 where
   pub takes : (run : Run) (s : State) (turn : Turn) → SessionTakes run s turn step → Takes run turn (Some s) step
   pub says : (run : Run) (s : State) (turn : Turn) → step_said run turn (Some s) step ≡ session_said run s (after_all s turn.added) turn step
   pub actors : (run : Run) (s : State) (turn : Turn) → (behind run turn (Some s) step).actors ≡ run.actors
+  pub moment : (run : Run) (s : State) (turn : Turn) → (behind run turn (Some s) step).now ≡ run.now
   pub streams : (run : Run) (s : State) (turn : Turn) → (behind run turn (Some s) step).streams ≡ run.streams
   pub held : (run : Run) (s : State) (turn : Turn) → (behind run turn (Some s) step).held ≡ run.held
   pub state : (run : Run) (s : State) (turn : Turn) → (behind run turn (Some s) step).state ≡ Some (after_all s turn.added)
@@ -130,6 +132,7 @@ remove_plain key = record {
   takes = λ run s turn t. t;
   says = λ run s turn. refl;
   actors = λ run s turn. refl;
+  moment = λ run s turn. refl;
   streams = λ run s turn. refl;
   held = λ run s turn. refl;
   state = λ run s turn. refl;
@@ -141,6 +144,7 @@ flush_plain = record {
   takes = λ run s turn t. t;
   says = λ run s turn. refl;
   actors = λ run s turn. refl;
+  moment = λ run s turn. refl;
   streams = λ run s turn. refl;
   held = λ run s turn. refl;
   state = λ run s turn. refl;
@@ -149,24 +153,24 @@ flush_plain = record {
 
 module _ {D R C : Type 0} (disk : DiskGhosts D) (directory : DirectoryGhosts R) (chronicle : ChronicleGhosts C) where
   plain_ends : (tell : StepsTell) (owns : StepsOwn) (session new : Session D R C) (old part : Part D R C) (step : Step) (said : StepAnswer) → IsPlain step → session.part ≡ Some old → new.part ≡ Some part
-      → names_in new ≡ names_in session → ((n : ℕ) → slots_in new n ≡ slots_in session n) → LeavesBut None None (state_in chronicle old.stripe) (state_in chronicle part.stripe)
+      → names_in new ≡ names_in session → new.now ≡ session.now → ((n : ℕ) → slots_in new n ≡ slots_in session n) → LeavesBut None None (state_in chronicle old.stripe) (state_in chronicle part.stripe)
       → StaysUnharmed disk directory chronicle old.stripe part.stripe → IsSession disk directory chronicle session → ((run : Run) → Plainly run step (state_in chronicle old.stripe) (state_in chronicle part.stripe) said)
       → (run : Run) → Plays disk directory chronicle run session → StepEnds disk directory chronicle run step new said
-  plain_ends tell owns session new old part step said plain is now names slots leaves stays h ends run plays =
+  plain_ends tell owns session new old part step said plain is now names kept slots leaves stays h ends run plays =
       let s : State = state_in chronicle old.stripe in
       let e = ends run in
       let p = playing disk directory chronicle run session old is plays in
       inl (moves disk directory chronicle run s e.turn step new said p.state (plain.takes run s e.turn e.takes)
       (plain.says run s e.turn ∙ (ap (λ u. session_said run s u e.turn step) e.behind ∙ e.says))
-      (line_plays disk directory chronicle tell owns run session new old part e.turn step is now names slots leaves stays h plays e.takes e.behind (behind run e.turn (Some s) step)
-      (plain.actors run s e.turn) (plain.streams run s e.turn) (plain.held run s e.turn) (plain.state run s e.turn) (plain.same run s (after_all s e.turn.added) e.turn)))
+      (line_plays disk directory chronicle tell owns run session new old part e.turn step is now names kept slots leaves stays h plays e.takes e.behind (behind run e.turn (Some s) step)
+      (plain.actors run s e.turn) (plain.moment run s e.turn) (plain.streams run s e.turn) (plain.held run s e.turn) (plain.state run s e.turn) (plain.same run s (after_all s e.turn.added) e.turn)))
 
   pub line_ends : (tell : StepsTell) (owns : StepsOwn) (session new : Session D R C) (old part : Part D R C) (step : Step) (result : Result StepAnswer Stop) → IsPlain step → session.part ≡ Some old → new.part ≡ Some part
-      → names_in new ≡ names_in session → ((n : ℕ) → slots_in new n ≡ slots_in session n) → LeavesBut None None (state_in chronicle old.stripe) (state_in chronicle part.stripe)
+      → names_in new ≡ names_in session → new.now ≡ session.now → ((n : ℕ) → slots_in new n ≡ slots_in session n) → LeavesBut None None (state_in chronicle old.stripe) (state_in chronicle part.stripe)
       → StaysUnharmed disk directory chronicle old.stripe part.stripe → IsSession disk directory chronicle session → IfOk result (λ said. (run : Run) → Plainly run step (state_in chronicle old.stripe) (state_in chronicle part.stripe) said)
       → IfOk result (λ said. (run : Run) → Plays disk directory chronicle run session → StepEnds disk directory chronicle run step new said)
-  line_ends tell owns session new old part step (Ok said) plain is now names slots leaves stays h ends = plain_ends tell owns session new old part step said plain is now names slots leaves stays h ends
-  line_ends tell owns session new old part step (Err why) plain is now names slots leaves stays h ends = tt
+  line_ends tell owns session new old part step (Ok said) plain is now names kept slots leaves stays h ends = plain_ends tell owns session new old part step said plain is now names kept slots leaves stays h ends
+  line_ends tell owns session new old part step (Err why) plain is now names kept slots leaves stays h ends = tt
 
   pub line_reached : (session : Session D R C) (old part : Part D R C) (result : Result StepAnswer Stop) → session.part ≡ Some old → IsSession disk directory chronicle session
       → (seen_in disk directory old.stripe).device.faults ≤ (seen_in disk directory part.stripe).device.faults → StaysUnharmed disk directory chronicle old.stripe part.stripe

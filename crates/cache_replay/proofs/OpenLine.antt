@@ -56,7 +56,7 @@ use Rattle.cache_replay.proofs.ReaderLines.{Goes, as_run, goes_active, part_behi
 looked_cause : (row : Row) (why : Cause) (last : List Rec) → lookup_in (cause_records row why ++ last) ≡ lookup_in last
 looked_cause row cause.NeverPut last = refl
 looked_cause row cause.Removed last = refl
-looked_cause row (cause.Passed place floor) last = refl
+looked_cause row (cause.Passed place floor unsaved) last = refl
 looked_cause row (cause.NoMatch count) last = refl
 looked_cause row (cause.Displaced segment live) last = refl
 looked_cause row (cause.Aborted writer) last = refl

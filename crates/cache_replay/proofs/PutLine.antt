@@ -112,10 +112,10 @@ module _ {D R C : Type 0} (disk : DiskGhosts D) (directory : DirectoryGhosts R) 
       (own_behind owns run s t x.turn (step.Put key body request response) (slots_in session) x.takes x.behind a.part.quiet a.held p) p
 
   put_moves : (tell : StepsTell) (owns : StepsOwn) (session new : Session D R C) (old part : Part D R C) (key : Key) (body : List ℕ) (request response : List Field) (said : StepAnswer) → session.part ≡ Some old → new.part ≡ Some part
-      → names_in new ≡ names_in session → slots_in new ≡ slots_in session → LeavesBut (Some (state_in chronicle old.stripe).next_put) None (state_in chronicle old.stripe) (state_in chronicle part.stripe)
+      → names_in new ≡ names_in session → new.now ≡ session.now → slots_in new ≡ slots_in session → LeavesBut (Some (state_in chronicle old.stripe).next_put) None (state_in chronicle old.stripe) (state_in chronicle part.stripe)
       → StaysUnharmed disk directory chronicle old.stripe part.stripe → IsSession disk directory chronicle session → ((run : Run) → AreTold (state_in chronicle old.stripe) → Ends run (state_in chronicle old.stripe) (state_in chronicle part.stripe) key body request response said)
       → (run : Run) → Plays disk directory chronicle run session → StepEnds disk directory chronicle run (step.Put key body request response) new said
-  put_moves tell owns session new old part key body request response said is now names slots leaves stays h ends run plays =
+  put_moves tell owns session new old part key body request response said is now names kept slots leaves stays h ends run plays =
       let s : State = state_in chronicle old.stripe in
       let p = playing disk directory chronicle run session old is plays in
       elim (ends run p.told) [
@@ -123,6 +123,7 @@ module _ {D R C : Type 0} (disk : DiskGhosts D) (directory : DirectoryGhosts R) 
             let later : Run = in_session run s (after_all s x.turn.added) x.turn (step.Put key body request response) in
             inl (moves disk directory chronicle run s x.turn (step.Put key body request response) new said p.state x.takes (ap (λ u. session_said run s u x.turn (step.Put key body request response)) x.behind ∙ x.says) (record {
               names = plays.names ∙ sym names;
+              now = plays.now ∙ sym kept;
               at = subst (λ o. PlaysAt disk directory chronicle later o (slots_in new)) (sym now)
                   (subst (PlaysIn later (state_in chronicle part.stripe)) (sym slots) (put_plays tell owns run session old part key body request response said is leaves h plays x));
               unharmed = session_unharmed disk directory chronicle session new old part is now stays plays.unharmed;
@@ -131,8 +132,8 @@ module _ {D R C : Type 0} (disk : DiskGhosts D) (directory : DirectoryGhosts R) 
       ]
 
   pub put_ends : (tell : StepsTell) (owns : StepsOwn) (session new : Session D R C) (old part : Part D R C) (key : Key) (body : List ℕ) (request response : List Field) (result : Result StepAnswer Stop) → session.part ≡ Some old → new.part ≡ Some part
-      → names_in new ≡ names_in session → slots_in new ≡ slots_in session → LeavesBut (Some (state_in chronicle old.stripe).next_put) None (state_in chronicle old.stripe) (state_in chronicle part.stripe)
+      → names_in new ≡ names_in session → new.now ≡ session.now → slots_in new ≡ slots_in session → LeavesBut (Some (state_in chronicle old.stripe).next_put) None (state_in chronicle old.stripe) (state_in chronicle part.stripe)
       → StaysUnharmed disk directory chronicle old.stripe part.stripe → IsSession disk directory chronicle session → IfOk result (λ said. (run : Run) → AreTold (state_in chronicle old.stripe) → Ends run (state_in chronicle old.stripe) (state_in chronicle part.stripe) key body request response said)
       → IfOk result (λ said. (run : Run) → Plays disk directory chronicle run session → StepEnds disk directory chronicle run (step.Put key body request response) new said)
-  put_ends tell owns session new old part key body request response (Ok said) is now names slots leaves stays h ends = put_moves tell owns session new old part key body request response said is now names slots leaves stays h ends
-  put_ends tell owns session new old part key body request response (Err why) is now names slots leaves stays h ends = tt
+  put_ends tell owns session new old part key body request response (Ok said) is now names kept slots leaves stays h ends = put_moves tell owns session new old part key body request response said is now names kept slots leaves stays h ends
+  put_ends tell owns session new old part key body request response (Err why) is now names kept slots leaves stays h ends = tt

@@ -54,7 +54,7 @@ other_number a b h = by_test (a == b) refl
 cause_leaves : (reader : Option ℕ) (s : State) (row : Row) (why : Cause) → LeavesBut None reader s (after_all s (cause_records row why))
 cause_leaves reader s row cause.NeverPut = record { puts = λ q h. refl; readers = λ n h. refl; geometry = refl }
 cause_leaves reader s row cause.Removed = record { puts = λ q h. refl; readers = λ n h. refl; geometry = refl }
-cause_leaves reader s row (cause.Passed place floor) = record { puts = λ q h. refl; readers = λ n h. refl; geometry = refl }
+cause_leaves reader s row (cause.Passed place floor unsaved) = record { puts = λ q h. refl; readers = λ n h. refl; geometry = refl }
 cause_leaves reader s row (cause.NoMatch count) = record { puts = λ q h. refl; readers = λ n h. refl; geometry = refl }
 cause_leaves reader s row (cause.Displaced segment live) = record { puts = λ q h. refl; readers = λ n h. refl; geometry = refl }
 cause_leaves reader s row (cause.Aborted writer) = record { puts = λ q h. refl; readers = λ n h. refl; geometry = refl }

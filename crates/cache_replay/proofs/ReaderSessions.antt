@@ -53,12 +53,12 @@ module _ {D R C : Type 0} (disk : DiskGhosts D) (directory : DirectoryGhosts R) 
 
   -- it did what it must, and no more pieces were told as damaged
   pub line_moved : (run : Run) (old new : Session D R C) (before after : Part D R C) (step : Step) (said : StepAnswer) (turn : Turn) → IsOnSession step
-      → old.part ≡ Some before → new.part ≡ Some after → Plays disk directory chronicle run old → StaysUnharmed disk directory chronicle before.stripe after.stripe
+      → old.part ≡ Some before → new.part ≡ Some after → new.now ≡ old.now → Plays disk directory chronicle run old → StaysUnharmed disk directory chronicle before.stripe after.stripe
       → SessionTakes run (state_in chronicle before.stripe) turn step
       → PlaysPart disk directory chronicle (in_session run (state_in chronicle before.stripe) (after_all (state_in chronicle before.stripe) turn.added) turn step) after new.actors
       → session_said run (state_in chronicle before.stripe) (after_all (state_in chronicle before.stripe) turn.added) turn step ≡ said
       → StepMoves disk directory chronicle run step new said
-  line_moved run old new before after step said turn on was is plays stays takes there says =
+  line_moved run old new before after step said turn on was is kept plays stays takes there says =
       let s : State = state_in chronicle before.stripe in
       let later : Run = in_session run s (after_all s turn.added) turn step in
       let state : run.state ≡ Some s = (part_plays run old before was plays).inside.state in
@@ -69,6 +69,7 @@ module _ {D R C : Type 0} (disk : DiskGhosts D) (directory : DirectoryGhosts R) 
             (subst (λ r. Plays disk directory chronicle r new) (sym (on.behind run s turn))
             (record {
               names = there.names;
+              now = plays.now ∙ sym kept;
               at = subst (λ o. PlaysAt disk directory chronicle later o (slots_in new)) (sym is) there.inside;
               unharmed = session_unharmed disk directory chronicle old new before after was is stays plays.unharmed;
             }));
@@ -80,22 +81,22 @@ module _ {D R C : Type 0} (disk : DiskGhosts D) (directory : DirectoryGhosts R) 
       → Shows run (state_in chronicle before.stripe) (asked run (state_in chronicle before.stripe) step) → StepShows run run.state step
   line_shows run old before step was plays shown = subst (λ o. StepShows run o step) (sym (part_plays run old before was plays).inside.state) shown
 
-  line_ends : (run : Run) (old new : Session D R C) (before after : Part D R C) (step : Step) (said : StepAnswer) → IsOnSession step → old.part ≡ Some before → new.part ≡ Some after → Plays disk directory chronicle run old
+  line_ends : (run : Run) (old new : Session D R C) (before after : Part D R C) (step : Step) (said : StepAnswer) → IsOnSession step → old.part ≡ Some before → new.part ≡ Some after → new.now ≡ old.now → Plays disk directory chronicle run old
       → StaysUnharmed disk directory chronicle before.stripe after.stripe ⊎ Shows run (state_in chronicle before.stripe) (asked run (state_in chronicle before.stripe) step)
       → PartEnds disk directory chronicle run (state_in chronicle before.stripe) step after new.actors said → StepEnds disk directory chronicle run step new said
-  line_ends run old new before after step said on was is plays (inr shown) ends = inr (line_shows run old before step was plays shown)
-  line_ends run old new before after step said on was is plays (inl stays) (inr shown) = inr (line_shows run old before step was plays shown)
-  line_ends run old new before after step said on was is plays (inl stays) (inl m) = inl (line_moved run old new before after step said m.turn on was is plays stays m.takes m.plays m.says)
+  line_ends run old new before after step said on was is kept plays (inr shown) ends = inr (line_shows run old before step was plays shown)
+  line_ends run old new before after step said on was is kept plays (inl stays) (inr shown) = inr (line_shows run old before step was plays shown)
+  line_ends run old new before after step said on was is kept plays (inl stays) (inl m) = inl (line_moved run old new before after step said m.turn on was is kept plays stays m.takes m.plays m.says)
 
-  pub line_answers : (old new : Session D R C) (before after : Part D R C) (step : Step) (result : Result StepAnswer Stop) → IsOnSession step → old.part ≡ Some before → new.part ≡ Some after
+  pub line_answers : (old new : Session D R C) (before after : Part D R C) (step : Step) (result : Result StepAnswer Stop) → IsOnSession step → old.part ≡ Some before → new.part ≡ Some after → new.now ≡ old.now
       → ((run : Run) → PlaysPart disk directory chronicle run before old.actors
       → StaysUnharmed disk directory chronicle before.stripe after.stripe ⊎ Shows run (state_in chronicle before.stripe) (asked run (state_in chronicle before.stripe) step))
       → IfOk result (λ said. (run : Run) → PlaysPart disk directory chronicle run before old.actors → PartEnds disk directory chronicle run (state_in chronicle before.stripe) step after new.actors said)
       → IfOk result (λ said. (run : Run) → Plays disk directory chronicle run old → StepEnds disk directory chronicle run step new said)
-  line_answers old new before after step (Ok said) on was is harms ends = λ run plays.
+  line_answers old new before after step (Ok said) on was is kept harms ends = λ run plays.
       let there = part_plays run old before was plays in
-      line_ends run old new before after step said on was is plays (harms run there) (ends run there)
-  line_answers old new before after step (Err why) on was is harms ends = tt
+      line_ends run old new before after step said on was is kept plays (harms run there) (ends run there)
+  line_answers old new before after step (Err why) on was is kept harms ends = tt
 
   -- ---- a line that ended the run
 

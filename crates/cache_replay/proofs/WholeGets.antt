@@ -43,7 +43,7 @@ use Rattle.cache_replay.proofs.WholeReads.{grown, lookup_append, first_of, state
 cause_finds : (row : Row) (why : Cause) → lookup_in (cause_records row why) ≡ None
 cause_finds row cause.NeverPut = refl
 cause_finds row cause.Removed = refl
-cause_finds row (cause.Passed place floor) = refl
+cause_finds row (cause.Passed place floor unsaved) = refl
 cause_finds row (cause.NoMatch count) = refl
 cause_finds row (cause.Displaced segment live) = refl
 cause_finds row (cause.Aborted writer) = refl
@@ -53,7 +53,7 @@ cause_finds row (cause.Damaged place kept other) = refl
 cause_tells : (row : Row) (why : Cause) → told_in (cause_records row why) ≡ None
 cause_tells row cause.NeverPut = refl
 cause_tells row cause.Removed = refl
-cause_tells row (cause.Passed place floor) = refl
+cause_tells row (cause.Passed place floor unsaved) = refl
 cause_tells row (cause.NoMatch count) = refl
 cause_tells row (cause.Displaced segment live) = refl
 cause_tells row (cause.Aborted writer) = refl

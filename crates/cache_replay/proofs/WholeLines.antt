@@ -164,13 +164,13 @@ module _ {D R C : Type 0} (disk : DiskGhosts D) (directory : DirectoryGhosts R) 
   pub active_of : (session : Session D R C) (part : Part D R C) → session.part ≡ Some part → IsSession disk directory chronicle session → IsActive disk directory chronicle part (slots_in session)
   active_of session part is h = subst (λ o. IsAt disk directory chronicle o (slots_in session)) is h
 
-  pub session_ends : (run : Run) (old new : Session D R C) (part part2 : Part D R C) (key : Key) (request : List Field) (said : StepAnswer) → old.part ≡ Some part → new.part ≡ Some part2 → names_in new ≡ names_in old
+  pub session_ends : (run : Run) (old new : Session D R C) (part part2 : Part D R C) (key : Key) (request : List Field) (said : StepAnswer) → old.part ≡ Some part → new.part ≡ Some part2 → names_in new ≡ names_in old → new.now ≡ old.now
       → ((m : ℕ) → slots_in new m ≡ slots_in old m) → Plays disk directory chronicle run old → IsActive disk directory chronicle part (slots_in old)
       → ((run : Run) → AreTold (state_in chronicle part.stripe) → AreOwn (state_in chronicle part.stripe) run.streams
       → StaysUnharmed disk directory chronicle part.stripe part2.stripe ⊎ Shows run (state_in chronicle part.stripe) (get_intents (state_in chronicle part.stripe) key request))
       → ((slots : ℕ → Option Holding) → AreHeld (state_in chronicle part.stripe) slots → PlaysIn run (state_in chronicle part.stripe) slots → LineEnds run (state_in chronicle part.stripe) (state_in chronicle part2.stripe) key request slots said)
       → StepEnds disk directory chronicle run (step.Get key request) new said
-  session_ends run old new part part2 key request said was is names slots plays active harms ends =
+  session_ends run old new part part2 key request said was is names kept slots plays active harms ends =
       let s : State = state_in chronicle part.stripe in
       let there = part_plays disk directory chronicle run old part was plays in
       let shows : Shows run s (get_intents s key request) → StepShows run run.state (step.Get key request) = λ shown. line_shows disk directory chronicle run old part (step.Get key request) was plays shown in
@@ -178,7 +178,7 @@ module _ {D R C : Type 0} (disk : DiskGhosts D) (directory : DirectoryGhosts R) 
         | inr shown ↦ inr (shows shown)
         | inl stays ↦ elim (ends (slots_in old) active.held there.inside) [
           | inr shown ↦ inr (shows shown)
-          | inl m ↦ inl (line_moved disk directory chronicle run old new part part2 (step.Get key request) said m.turn (get_on key request) was is plays stays m.takes
+          | inl m ↦ inl (line_moved disk directory chronicle run old new part part2 (step.Get key request) said m.turn (get_on key request) was is kept plays stays m.takes
               (record {
                 names = plays.names ∙ sym names;
                 inside = record {

@@ -78,6 +78,7 @@ module _ {D R C : Type 0} (disk : DiskGhosts D) (directory : DirectoryGhosts R) 
   -- a session as the run has it, as long as no two documents of one SHA-256 were shown
   pub record Plays (run : Run) (session : Session D R C) : Type 0 where
     pub names : run.actors ≡ names_in session
+    pub now : run.now ≡ session.now
     pub at : PlaysAt run session.part (slots_in session)
     -- of a device that tells its content no piece was told as damaged
     pub unharmed : IsUnharmedAt session.part

@@ -38,6 +38,7 @@ pub fn begin<D: Disk>(alloc: Global) -> Cache<D>
         alloc,
         actors: Actors::new(alloc),
         part: None,
+        now: 0,
     }
 }
 
@@ -234,6 +235,7 @@ fn start<B: Bay>(
     ensures part { session.new.part ≡ Some part }
     ensures slots { (n : ℕ) → slots_in session.new n ≡ None }
     ensures names { names_in session.new ≡ names_in session.old }
+    ensures now { session.new.now ≡ session.old.now }
     ensures back { B.returned bay.new ≡ B.returned bay.old
         ++ return_of B.Dev.Disk ⟦<ListDirectory as Directory>⟧ ⟦<FullChronicle as Chronicle>⟧ session.old.part }
     ensures out { B.out bay.new + devices_of session.old ≡ B.out bay.old }

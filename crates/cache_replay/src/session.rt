@@ -14,6 +14,8 @@ pub struct Session<D: Disk, R: Directory + Drop, C: Chronicle> {
     pub(crate) alloc: Global,
     pub(crate) actors: Actors<Holding>,
     pub(crate) part: Option<Part<D, R, C>>,
+    /// The moment for pins. It goes on behind a format.
+    pub(crate) now: u64,
 }
 
 /// The session of the program: its directory is a list, and its chronicle keeps each record.

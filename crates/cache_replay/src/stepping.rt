@@ -3,7 +3,7 @@ ghost use Rattle.std.specs.Prelude.{◌≡◌, ◌+◌, ◌-◌, ◌^◌, ◌<�
 ghost use Rattle.script_lang.specs.declared.step.Step.TheVariants as step;
 ghost use Rattle.script_run.specs.Run.{Run};
 ghost use Rattle.cache_replay.specs.Session.{IsSession, devices_of, names_in};
-ghost use Rattle.cache_replay.specs.Plays.{DeviceEnds, HasReached, IsLeft, Plays, StepEnds, ledger_of};
+ghost use Rattle.cache_replay.specs.Plays.{DeviceEnds, HasReached, IsLeft, Plays, StepEnds, StepMoves, ledger_of};
 ghost use Rattle.cache_replay.specs.Stop.{IsSessionStop, NeedsSession, StopsStep};
 
 use crate::beginning::format_line;
@@ -62,8 +62,25 @@ pub fn step<B: Bay>(
             fragment,
             generation,
         ),
+        Step::Now { at } => Ok(now_line(session, at)),
         other => in_session(session, other),
     }
+}
+
+// `now MOMENT`: the moment is another, and all else stays.
+fn now_line<D: Disk, R: Directory + Drop, C: Chronicle>(
+    session: &mut Session<D, R, C>,
+    at: u64,
+) -> StepAnswer
+    requires session { IsSession D.Disk R.Directory C.Chronicle session.old }
+    ensures session { IsSession D.Disk R.Directory C.Chronicle session.new }
+    ensures moves { (run : Run) → Plays D.Disk R.Directory C.Chronicle run session.old
+        → StepMoves D.Disk R.Directory C.Chronicle run (step.Now at) session.new result }
+    ensures devices { devices_of session.new ≡ devices_of session.old }
+    ensures names { names_in session.new ≡ names_in session.old }
+{
+    session.now = at;
+    StepAnswer::Now { at }
 }
 
 // Does a step that works on a session.
@@ -110,5 +127,6 @@ fn in_session<D: Disk, R: Directory + Drop, C: Chronicle>(
         Step::Remove { object } => remove_line(session, object),
         Step::Flush => flush_line(session),
         Step::Format { .. } => Err(Stop::NoCache),
+        Step::Now { .. } => Err(Stop::NoCache),
     }
 }

@@ -20,7 +20,7 @@ use Rattle.script_lang.specs.declared.answer.StepAnswer.TheVariants as answer
 use Rattle.script_lang.specs.declared.last.LastLine.{LastLine}
 use Rattle.script_lang.specs.declared.last.LastLine.TheVariants as last
 use Rattle.script_lang.specs.Lines.{AnswersAreLines, LastLinesAreLines, is_line}
-use Rattle.script_lang.specs.Texts.{answer_line, bad_script_line, bay_fault_line, cause_line, cause_text, damaged_text, displaced_text, done_line, fault_line, flushed_line, formatted_line, got_line, hit_line, kind_word, last_line, lost_text, newline, no_cache_line, number_line, numbered, passed_text, piece_line, put_line, read_fault_line, refusal_text, refused_line, shown, synced_text, too_long_line, too_many_line, took_text, usage_line, why_line}
+use Rattle.script_lang.specs.Texts.{answer_line, bad_script_line, bay_fault_line, cause_line, cause_text, damaged_text, displaced_text, done_line, fault_line, flushed_line, formatted_line, got_line, hit_line, kind_word, last_line, lost_text, newline, no_cache_line, number_line, numbered, passed_text, piece_line, put_line, read_fault_line, refusal_text, refused_line, shown, synced_text, too_long_line, too_many_line, took_text, unsaved_text, usage_line, why_line}
 
 abbrev is_plain_byte : ℕ → Bool
 is_plain_byte byte = not (byte == 10)
@@ -93,11 +93,16 @@ numbered_plain : (text : List ℕ) (n : ℕ) → list_all is_plain_byte text ≡
 unfolding numbered
 numbered_plain text n p = with_word text _ p (with_word (codes " ") _ refl (number n))
 
+unsaved_plain : (unsaved : Bool) → Plain (unsaved_text unsaved)
+unsaved_plain true = record { holds = refl }
+unsaved_plain false = record { holds = refl }
+
 cause_plain : (why : Cause) → Plain (cause_text why)
 unfolding passed_text displaced_text damaged_text
 cause_plain cause.NeverPut = record { holds = refl }
 cause_plain cause.Removed = record { holds = refl }
-cause_plain (cause.Passed place floor) = with_word (codes "passed ") _ refl (with (decimal place) _ (number place) (with_word (codes " ") _ refl (number floor)))
+cause_plain (cause.Passed place floor unsaved) =
+    with_word (codes "passed ") _ refl (with (decimal place) _ (number place) (with_word (codes " ") _ refl (with (decimal floor) _ (number floor) (unsaved_plain unsaved))))
 cause_plain (cause.NoMatch count) = numbered_plain (codes "no-match") count refl
 cause_plain (cause.Displaced segment live) = with_word (codes "displaced ") _ refl (with (decimal segment) _ (number segment) (with_word (codes " ") _ refl (number live)))
 cause_plain (cause.Aborted writer) = numbered_plain (codes "aborted") writer refl
@@ -173,6 +178,7 @@ each_answer (answer.Absent why) = why_is_line (codes "absent") why refl
 each_answer (answer.Flushed blocks cursor floor synced) =
     word (codes "flushed ") _ refl
     (behind (decimal blocks) _ (number blocks) (word (codes " cursor ") _ refl (behind (decimal cursor) _ (number cursor) (word (codes " floor ") _ refl (behind (decimal floor) _ (number floor) (behind (synced_text synced) newline (synced_plain synced) ended))))))
+each_answer (answer.Now at) = number_is_line (codes "now") at refl
 each_answer (answer.Refused why took) = word (codes "refused ") _ refl (behind (refusal_text why) _ (refusal_plain why) (behind (took_text took) newline (took_plain took) ended))
 each_answer (answer.DeviceFault count took) = fault_is_line count took
 

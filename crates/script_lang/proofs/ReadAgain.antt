@@ -17,7 +17,7 @@ use Rattle.script_lang.specs.declared.verbs.Verb.TheVariants as verb
 use Rattle.script_lang.specs.Words.{WordAt, is_word_byte, located}
 use Rattle.script_lang.specs.Tokens.{is_digit, is_actor_byte, actor_of}
 use Rattle.script_lang.specs.Verbs.{same_word, verb_of}
-use Rattle.script_lang.specs.Grammar.{take_number, numbers_of, format_of, put_of, get_of, take_actor, open_write_of, data_of, open_read_of, only_actor, by_actor, remove_of, step_by, step_of, is_passed_over, reading_of}
+use Rattle.script_lang.specs.Grammar.{take_number, numbers_of, format_of, put_of, get_of, take_actor, open_write_of, data_of, open_read_of, only_actor, by_actor, remove_of, now_of, step_by, step_of, is_passed_over, reading_of}
 use Rattle.script_lang.specs.Spelled.{FitsFormat, HoldsFields, IsActor, IsKey, SpelledIsRead, body_word, key_word, request_words, response_words, spelled, step_words}
 use Rattle.script_lang.proofs.Joined.{IsWord, all_wider, words_joined}
 use Rattle.script_lang.proofs.Numbers.{number_below-decimal, all_digits-decimal}
@@ -138,6 +138,10 @@ remove_read : (end column : ℕ) (object : Key) → IsKey object → remove_of e
 unfolding remove_of
 remove_read end column object key = rw (key_word_is_word object, object_of-key_word column object key) refl
 
+now_read : (end column at : ℕ) → at < 2 ^ 64 → now_of end (located column (decimal at ∷ [])) ≡ Ok (step.Now at)
+unfolding now_of
+now_read end column at fits = rw (long_taken end column at [] fits) refl
+
 by_actor_read : (end column : ℕ) (actor : List ℕ) (make : List ℕ → Step) → IsActor actor → by_actor end (located column (actor ∷ [])) make ≡ Ok (make actor)
 by_actor_read end column actor make who = rw (only_actor_read end column actor who) refl
 
@@ -166,3 +170,4 @@ spelled_is_read (step.Next actor) h = step_read _ _ _ verb.Next _ refl refl (ref
 spelled_is_read (step.Done actor) h = step_read _ _ _ verb.Done _ refl refl (refl, (actor_is_word actor h, tt)) refl (λ end column. by_actor_read end column actor step.Done h)
 spelled_is_read (step.Remove object) h = step_read _ _ _ verb.Remove _ refl refl (refl, (key_word_is_word object, tt)) refl (λ end column. remove_read end column object h)
 spelled_is_read step.Flush h = step_read _ _ _ verb.Flush _ refl refl (refl, tt) refl (λ end column. refl)
+spelled_is_read (step.Now at) h = step_read _ _ _ verb.Now _ refl refl (refl, (decimal_is_word at h, tt)) refl (λ end column. now_read end column at h)

@@ -1,5 +1,5 @@
 -- Lines that were worked by hand, computed by the definitions.
-use Rattle.std.proofs.Common.{◌≡◌, ℕ, List, [], ◌∷◌, refl}
+use Rattle.std.proofs.Common.{◌≡◌, ℕ, false, List, [], ◌∷◌, refl}
 use Rattle.std.specs.Prelude.{codes, Some, None}
 use Rattle.std.specs.Fmt.{digits}
 use Rattle.hex.specs.Hex.{decode_pairs, encode_with}
@@ -17,8 +17,8 @@ use Rattle.script_lang.specs.Words.{bad}
 use Rattle.script_lang.specs.Tokens.{number_in, number_below, key_in, object_of, hex_body, repeated_body, body_of, actor_of}
 use Rattle.script_lang.specs.Fields.{with_word}
 use Rattle.script_lang.specs.Verbs.{verb_of}
-use Rattle.script_lang.specs.Grammar.{take_number, usual_of, format_of, put_of, get_of, take_actor, open_write_of, data_of, remove_of, step_of, reading_of}
-use Rattle.script_lang.specs.Texts.{answer_line, cause_line, fault_line, lost_text, numbered, passed_text, piece_line, refused_line, shown}
+use Rattle.script_lang.specs.Grammar.{take_number, usual_of, format_of, put_of, get_of, take_actor, open_write_of, data_of, remove_of, now_of, step_of, reading_of}
+use Rattle.script_lang.specs.Texts.{answer_line, cause_line, fault_line, lost_text, number_line, numbered, passed_text, piece_line, refused_line, shown}
 
 abbrev field : List ℕ → List ℕ → Field
 field name value = record { name = name; value = value }
@@ -44,6 +44,14 @@ bytes : reading_of (codes "data w 2*4f") ≡ answer.Step (step.Feed (codes "w") 
 unfolding reading_of step_of verb_of data_of take_actor actor_of body_of repeated_body number_in decode_pairs
 bytes = refl
 
+at_the_start : reading_of (codes "now 0") ≡ answer.Step (step.Now 0)
+unfolding reading_of step_of verb_of now_of take_number number_below number_in
+at_the_start = refl
+
+at_the_last : reading_of (codes "now 18446744073709551615") ≡ answer.Step (step.Now 18446744073709551615)
+unfolding reading_of step_of verb_of now_of take_number number_below number_in
+at_the_last = refl
+
 -- ---- what does not fit
 
 blank_behind : reading_of (codes "get /a ") ≡ answer.Bad (bad 8 kind.Word)
@@ -61,6 +69,22 @@ odd_digits = refl
 zero_before : reading_of (codes "open-write w /a 01") ≡ answer.Bad (bad 17 kind.Number)
 unfolding reading_of step_of verb_of open_write_of take_actor actor_of object_of key_in take_number number_below number_in
 zero_before = refl
+
+past_the_last : reading_of (codes "now 18446744073709551616") ≡ answer.Bad (bad 5 kind.Number)
+unfolding reading_of step_of verb_of now_of take_number number_below number_in
+past_the_last = refl
+
+zero_before_a_moment : reading_of (codes "now 05") ≡ answer.Bad (bad 5 kind.Number)
+unfolding reading_of step_of verb_of now_of take_number number_below number_in
+zero_before_a_moment = refl
+
+moment_missing : reading_of (codes "now") ≡ answer.Bad (bad 4 kind.Count)
+unfolding reading_of step_of verb_of now_of take_number
+moment_missing = refl
+
+moment_behind : reading_of (codes "now 5 6") ≡ answer.Bad (bad 7 kind.Count)
+unfolding reading_of step_of verb_of now_of take_number number_below number_in
+moment_behind = refl
 
 of_a_response : reading_of (codes "get /a <x:1") ≡ answer.Bad (bad 8 kind.Field)
 unfolding reading_of step_of verb_of get_of object_of key_in
@@ -80,7 +104,7 @@ piece : answer_line (said.Piece 1 4 (97 ∷ 98 ∷ 99 ∷ 100 ∷ [])) ≡ codes
 unfolding piece_line shown encode_with digits
 piece = refl
 
-lost : answer_line (said.Refused (refused.Lost 1 (cause.Passed 64 80)) None) ≡ codes "refused lost 1 passed 64 80\n"
+lost : answer_line (said.Refused (refused.Lost 1 (cause.Passed 64 80 false)) None) ≡ codes "refused lost 1 passed 64 80\n"
 unfolding refused_line lost_text passed_text digits
 lost = refl
 
@@ -95,3 +119,7 @@ fault = refl
 taken_before : answer_line (said.DeviceFault 1 (Some 0)) ≡ codes "device-fault 1 took 0\n"
 unfolding fault_line digits
 taken_before = refl
+
+moment : answer_line (said.Now 18446744073709551615) ≡ codes "now 18446744073709551615\n"
+unfolding number_line digits
+moment = refl

@@ -130,6 +130,13 @@ remove_of end words = do
 abbrev pub flush_of : List WordAt → Result Step BadLine
 flush_of words = take_end words >>= (λ done. Ok step.Flush)
 
+-- now MOMENT
+unfoldable pub now_of : ℕ → List WordAt → Result Step BadLine
+now_of end words = do
+  at ← take_number (2 ^ 64) end words
+  done ← take_end at.1
+  Ok (step.Now at.0)
+
 -- the step of a verb and the words behind it
 abbrev pub step_by : ℕ → Verb → List WordAt → Result Step BadLine
 step_by end verb.Format words = format_of end words
@@ -144,6 +151,7 @@ step_by end verb.Next words = by_actor end words step.Next
 step_by end verb.Done words = by_actor end words step.Done
 step_by end verb.Remove words = remove_of end words
 step_by end verb.Flush words = flush_of words
+step_by end verb.Now words = now_of end words
 
 abbrev pub step_named : ℕ → WordAt → Option Verb → List WordAt → Result Step BadLine
 step_named end w None words = Err (bad w.column kind.Verb)

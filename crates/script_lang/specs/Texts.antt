@@ -1,5 +1,5 @@
 -- The text of each answer: one line, ended by a newline.
-use Rattle.std.specs.Prelude.{ℕ, ◌==◌, nat_le, if◌then◌else◌, List, [], ◌∷◌, ◌++◌, length, codes, Option, Some, None}
+use Rattle.std.specs.Prelude.{ℕ, ◌==◌, nat_le, Bool, if◌then◌else◌, List, [], ◌∷◌, ◌++◌, length, codes, Option, Some, None}
 use Rattle.std.specs.Fmt.{decimal}
 use Rattle.sha2.specs.Sha256.{sha256}
 use Rattle.hex.specs.Hex.{encode_lower}
@@ -32,8 +32,12 @@ shown bytes =
 unfoldable pub numbered : List ℕ → ℕ → List ℕ
 numbered word n = word ++ (codes " " ++ decimal n)
 
-unfoldable pub passed_text : ℕ → ℕ → List ℕ
-passed_text place floor = codes "passed " ++ (decimal place ++ (codes " " ++ decimal floor))
+-- that a piece which was to be copied ahead was not
+abbrev pub unsaved_text : Bool → List ℕ
+unsaved_text unsaved = if unsaved then codes " unsaved" else []
+
+unfoldable pub passed_text : ℕ → ℕ → Bool → List ℕ
+passed_text place floor unsaved = codes "passed " ++ (decimal place ++ (codes " " ++ (decimal floor ++ unsaved_text unsaved)))
 
 unfoldable pub displaced_text : ℕ → ℕ → List ℕ
 displaced_text segment live = codes "displaced " ++ (decimal segment ++ (codes " " ++ decimal live))
@@ -46,7 +50,7 @@ damaged_text place kept found =
 abbrev pub cause_text : Cause → List ℕ
 cause_text cause.NeverPut = codes "never-put"
 cause_text cause.Removed = codes "removed"
-cause_text (cause.Passed place floor) = passed_text place floor
+cause_text (cause.Passed place floor unsaved) = passed_text place floor unsaved
 cause_text (cause.NoMatch count) = numbered (codes "no-match") count
 cause_text (cause.Displaced segment live) = displaced_text segment live
 cause_text (cause.Aborted writer) = numbered (codes "aborted") writer
@@ -142,6 +146,7 @@ answer_line answer.Done = done_line
 answer_line (answer.Removed put) = number_line (codes "removed") put
 answer_line (answer.Absent why) = why_line (codes "absent") why
 answer_line (answer.Flushed blocks cursor floor synced) = flushed_line blocks cursor floor synced
+answer_line (answer.Now at) = number_line (codes "now") at
 answer_line (answer.Refused why took) = refused_line why took
 answer_line (answer.DeviceFault count took) = fault_line count took
 

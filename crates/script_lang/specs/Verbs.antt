@@ -22,4 +22,5 @@ verb_of word =
     else if same_word word (codes "done") then Some verb.Done
     else if same_word word (codes "remove") then Some verb.Remove
     else if same_word word (codes "flush") then Some verb.Flush
+    else if same_word word (codes "now") then Some verb.Now
     else None

@@ -83,6 +83,10 @@ pub enum StepAnswer {
         floor: u64,
         synced: Option<u64>,
     },
+    /// The moment for pins is this.
+    Now {
+        at: u64,
+    },
     /// `took` is there for a line that gives bytes: how many of them the writer took.
     Refused {
         why: Refused,

@@ -94,4 +94,8 @@ pub enum Step {
         object: Key,
     },
     Flush,
+    /// Sets the moment that a flush weighs pins by. It may also fall.
+    Now {
+        at: u64,
+    },
 }

@@ -1,6 +1,6 @@
 // The step of each verb, from the words behind it.
 ghost use Rattle.std.specs.Prelude.{◌≡◌, ◌^◌, codes};
-ghost use Rattle.script_lang.specs.Grammar.{take_number, usual_of, numbers_of, is_default, geometry_of, format_of, put_of, get_of, take_actor, open_write_of, data_of, open_read_of, only_actor, remove_of, flush_of, step_by};
+ghost use Rattle.script_lang.specs.Grammar.{take_number, usual_of, numbers_of, is_default, geometry_of, format_of, put_of, get_of, take_actor, open_write_of, data_of, open_read_of, only_actor, remove_of, flush_of, now_of, step_by};
 ghost use Rattle.script_lang.specs.Taken.{seen, words_in, TakesNumber};
 ghost use Rattle.script_lang.specs.Refusal.{Reads, Takes};
 
@@ -208,6 +208,16 @@ fn flush_line(words: &Words) -> Result<Step, Refusal>
     Ok(Step::Flush)
 }
 
+/// `now MOMENT`
+#[tactic(auto, unfolding(crate::specs::Grammar::now_of))]
+fn now_line(words: &mut Words) -> Result<Step, Refusal>
+    ensures { Reads (now_of words.old.end (words_in words.old)) result }
+{
+    let at = take_long(words)?;
+    words.end()?;
+    Ok(Step::Now { at })
+}
+
 /// The step of a verb and the words behind it.
 pub(crate) fn step_by(alloc: Global, verb: Verb, words: &mut Words) -> Result<Step, Refusal>
     ensures { Reads (step_by words.old.end verb (words_in words.old)) result }
@@ -233,5 +243,6 @@ pub(crate) fn step_by(alloc: Global, verb: Verb, words: &mut Words) -> Result<St
         }),
         Verb::Remove => remove_line(words),
         Verb::Flush => flush_line(words),
+        Verb::Now => now_line(words),
     }
 }

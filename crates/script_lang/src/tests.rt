@@ -47,6 +47,12 @@ fn the_first_word_that_does_not_fit_is_named(rt: HostRuntime) -> Result<(), Fail
             BadKind::Number,
         ),
         ("format mem:a default 01", 22, BadKind::Number),
+        ("now", 4, BadKind::Count),
+        ("now 5 6", 7, BadKind::Count),
+        ("now ", 5, BadKind::Word),
+        ("now 05", 5, BadKind::Number),
+        ("now -1", 5, BadKind::Number),
+        ("now 18446744073709551616", 5, BadKind::Number),
     ];
     for (line, column, kind) in rows {
         let wanted = BadLine { column, kind };
@@ -74,6 +80,8 @@ fn lines_of_the_grammar_are_accepted(rt: HostRuntime) -> Result<(), Fail> {
         "done r",
         "remove /a",
         "flush",
+        "now 0",
+        "now 18446744073709551615",
     ];
     for line in rows {
         assert_eq!(rt; fault(&rt, line)?, None, "{line}");
@@ -156,6 +164,12 @@ fn causes_are_told(rt: HostRuntime) -> Result<(), Fail> {
     let passed = Cause::Passed {
         place: 67,
         floor: 80,
+        unsaved: false,
+    };
+    let unsaved = Cause::Passed {
+        place: 69,
+        floor: 80,
+        unsaved: true,
     };
     let displaced = Cause::Displaced {
         segment: 0,
@@ -177,6 +191,7 @@ fn causes_are_told(rt: HostRuntime) -> Result<(), Fail> {
             StepAnswer::Broken(Cause::Aborted { writer: 2 }),
             "broken aborted 2\n",
         ),
+        (StepAnswer::Broken(unsaved), "broken passed 69 80 unsaved\n"),
         (StepAnswer::Absent(Cause::NeverPut), "absent never-put\n"),
         (StepAnswer::Absent(Cause::Removed), "absent removed\n"),
         (StepAnswer::Broken(fault), "device-fault 3\n"),
@@ -207,6 +222,7 @@ fn writers_and_flushes_are_told(rt: HostRuntime) -> Result<(), Fail> {
         (StepAnswer::NotYet { cut: 0 }, "notyet 0\n"),
         (StepAnswer::Done, "done\n"),
         (flushed, "flushed 8 cursor 128 floor 72 synced 5\n"),
+        (StepAnswer::Now { at: 0 }, "now 0\n"),
         (
             refused(Refused::TooManyWriters, None),
             "refused too-many-writers\n",

@@ -33,10 +33,11 @@ fn numbered(alloc: Global, word: &str, n: u64) -> Result<String, AllocError>
 }
 
 #[tactic(auto, unfolding(crate::specs::Texts::passed_text))]
-fn passed(alloc: Global, place: u64, floor: u64) -> Result<String, AllocError>
-    ensures { IfOk result (λ text. string_bytes text ≡ passed_text place floor) }
+fn passed(alloc: Global, place: u64, floor: u64, unsaved: bool) -> Result<String, AllocError>
+    ensures { IfOk result (λ text. string_bytes text ≡ passed_text place floor unsaved) }
 {
-    format!(in alloc; "passed {place} {floor}")
+    let unsaved = if unsaved { " unsaved" } else { "" };
+    format!(in alloc; "passed {place} {floor}{unsaved}")
 }
 
 #[tactic(auto, unfolding(crate::specs::Texts::displaced_text))]
@@ -61,7 +62,11 @@ fn cause(alloc: Global, why: Cause) -> Result<String, AllocError>
     match why {
         Cause::NeverPut => String::from_str(alloc, "never-put"),
         Cause::Removed => String::from_str(alloc, "removed"),
-        Cause::Passed { place, floor } => passed(alloc, place, floor),
+        Cause::Passed {
+            place,
+            floor,
+            unsaved,
+        } => passed(alloc, place, floor, unsaved),
         Cause::NoMatch { count } => numbered(alloc, "no-match", count as u64),
         Cause::Displaced { segment, live } => displaced(alloc, segment, live),
         Cause::Aborted { writer } => numbered(alloc, "aborted", writer),
@@ -255,6 +260,7 @@ fn line(alloc: Global, answer: &StepAnswer) -> Result<String, AllocError>
             floor,
             synced,
         } => flushed(alloc, *blocks, *cursor, *floor, *synced),
+        StepAnswer::Now { at } => number(alloc, "now", *at),
         StepAnswer::Refused { why, took } => refused(alloc, *why, *took),
         StepAnswer::DeviceFault { count, took } => fault(alloc, *count, *took),
     }

@@ -16,6 +16,7 @@ pub(crate) enum Verb {
     Done,
     Remove,
     Flush,
+    Now,
 }
 
 pub(crate) fn is_word(word: &[u8], name: &[u8]) -> bool
@@ -53,6 +54,8 @@ pub(crate) fn verb_of(word: &[u8]) -> Option<Verb>
         Some(Verb::Remove)
     } else if is_word(word, b"flush") {
         Some(Verb::Flush)
+    } else if is_word(word, b"now") {
+        Some(Verb::Now)
     } else {
         None
     }

@@ -76,6 +76,7 @@ readers_left s reader (r ∷ readers) each = left_by s r (without_reader reader 
 -- the record changes no put, places nothing, opens nothing and commits nothing
 abbrev pub IsPlain : Rec → Type 0
 IsPlain (rec.Began cursor floor) = Unit {0}
+IsPlain (rec.Unsaved piece place fault) = Unit {0}
 IsPlain (rec.Damaged piece place kept found) = Unit {0}
 IsPlain (rec.Removed put key) = Unit {0}
 IsPlain (rec.Gave reader index length) = Unit {0}
@@ -93,6 +94,8 @@ pub held_plain : (g : Geometry) (streams : ℕ → Stream) (s : State) (r : Rec)
 held_plain g streams s (rec.Formatted geometry) p h = absurd p
 held_plain g streams s (rec.Began cursor floor) p h = held_alike g streams s _ (alike_with s _ refl refl refl refl (part_all s.rows) refl refl) h.displaced h
 held_plain g streams s (rec.Placed piece place blocks digest pin) p h = absurd p
+held_plain g streams s (rec.Moved piece from place digest) p h = absurd p
+held_plain g streams s (rec.Unsaved piece place fault) p h = held_alike g streams s _ (alike_with s _ refl refl refl refl (part_all s.rows) refl refl) h.displaced h
 held_plain g streams s (rec.Displaced piece segment live) p h = absurd p
 held_plain g streams s (rec.Damaged piece place kept found) p h = held_alike g streams s _ (alike_with s _ refl refl refl refl (part-filter _ s.rows) refl refl) h.displaced h
 held_plain g streams s (rec.WriteOpened actor put key request response pin) p h = absurd p

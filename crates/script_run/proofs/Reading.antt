@@ -1,6 +1,6 @@
 -- What is read of a session's pieces is what was put.
 use Rattle.std.proofs.Common.{◌≡◌, ℕ, ◌+◌, ◌-◌, ◌*◌, ◌<◌, ◌≤◌, List, [], ◌∷◌, length, take, refl, sym, ◌∙◌, ap, subst, arith, inl, inr, ◌⊎◌, Bool, true, false, eqb-true}
-use Rattle.std.specs.Prelude.{min, Option, Some, None, if◌then◌else◌, option_and_then, slice_get, unwrap_or}
+use Rattle.std.specs.Prelude.{min, Option, Some, None, if◌then◌else◌, option_and_then, option_map, slice_get, unwrap_or}
 use Rattle.std.proofs.Math.Nat.{mul-le-mul_left, mul_comm}
 use Rattle.std.proofs.lemmas.List.{take_all}
 use Rattle.tape_base.specs.declared.geometries.Geometry.{Geometry}
@@ -9,8 +9,8 @@ use Rattle.tape_base.proofs.DigestLaw.{digests_tell_lem}
 use Rattle.doc_header.specs.Reading.{extent_of}
 use Rattle.doc_header.proofs.ReadingLaws.{payload_told}
 use Rattle.fragment_table.specs.Table.{TableRow, total_length}
-use Rattle.cache_model.specs.State.{State, Row, PutRow, ReaderRow, after_all, is_live, live_row_of, only_live, reader_of, row_of}
-use Rattle.cache_model.specs.Verdict.{next_piece, next_row}
+use Rattle.cache_model.specs.State.{State, Row, PutRow, ReaderRow, Closed, after_all, is_live, live_row_of, only_live, put_of, reader_of, row_of}
+use Rattle.cache_model.specs.Verdict.{cuts_of, next_piece, next_row}
 use Rattle.cache_model.specs.Permit.{Permit}
 use Rattle.cache_model.specs.Legal.{IsQuiet, format_records}
 use Rattle.cache_model.proofs.Found.{none_is, number_of}
@@ -84,14 +84,30 @@ closed_by s streams put table quiet own t =
           (subst (λ (rows : List TableRow). length (streams w.put).bytes ≤ length rows * s.geometry.fragment) t.cuts within);
     }
 
+given_whole : (s : State) (streams : ℕ → Stream) (put next : ℕ) (table : List TableRow) → IsWhole s streams put table → slice_get table (next - 1) ≡ None
+    → take ((next - 1) * s.geometry.fragment) (streams put).bytes ≡ (streams put).bytes
+given_whole s streams put next table w none =
+    let all : length table ≤ next - 1 = past table (next - 1) none in
+    let below : s.geometry.fragment * length table ≤ s.geometry.fragment * (next - 1) = mul-le-mul_left s.geometry.fragment all in
+    take_all ((next - 1) * s.geometry.fragment) (streams put).bytes
+    (omega (arith, w.total, below, mul_comm s.geometry.fragment (length table), mul_comm s.geometry.fragment (next - 1)))
+
 pub all_is_given : (s : State) (streams : ℕ → Stream) (reader : ℕ) (r : ReaderRow) (table : List TableRow) → AreOwn s streams → IsQuiet s → 0 < r.next
     → reader_of s reader ≡ Some r → r.table ≡ Some table → next_row s r ≡ None
     → take ((r.next - 1) * s.geometry.fragment) (streams r.put).bytes ≡ (streams r.put).bytes
 all_is_given s streams reader r table own quiet some found hit none =
     let o : IsOwnReader s r = found_reader (IsOwnReader s) reader s.readers r own.readers found in
     let t : IsTableOf s r.put table = subst (IsTableOfHit s r) hit o.table in
-    let w : IsWhole s streams r.put table = closed_by s streams r.put table quiet own t in
-    let all : length table ≤ r.next - 1 = past table (r.next - 1) (subst (λ (o : Option (List TableRow)). slice_get (unwrap_or o (Rattle.cache_model.specs.Verdict.cuts_of s r.put)) (r.next - 1) ≡ None) hit none) in
-    let below : s.geometry.fragment * length table ≤ s.geometry.fragment * (r.next - 1) = mul-le-mul_left s.geometry.fragment all in
-    take_all ((r.next - 1) * s.geometry.fragment) (streams r.put).bytes
-    (omega (arith, w.total, below, mul_comm s.geometry.fragment (length table), mul_comm s.geometry.fragment (r.next - 1)))
+    given_whole s streams r.put r.next table (closed_by s streams r.put table quiet own t)
+    (subst (λ (o : Option (List TableRow)). slice_get (unwrap_or o (cuts_of s r.put)) (r.next - 1) ≡ None) hit none)
+
+pub all_is_followed : (s : State) (streams : ℕ → Stream) (r : ReaderRow) (w : PutRow) → AreOwn s streams → IsQuiet s → 0 < r.next
+    → r.table ≡ None → put_of s r.put ≡ Some w → w.writing ≡ Closed → next_row s r ≡ None
+    → take ((r.next - 1) * s.geometry.fragment) (streams r.put).bytes ≡ (streams r.put).bytes
+all_is_followed s streams r w own quiet some follows found closed none =
+    let t : IsTableOf s r.put w.cuts = record { w = w; found = found; cuts = refl; complete = inl closed } in
+    let cut : cuts_of s r.put ≡ w.cuts = ap (λ (o : Option PutRow). unwrap_or (option_map (λ (p : PutRow). p.cuts) o) []) found in
+    let last : slice_get (cuts_of s r.put) (r.next - 1) ≡ None =
+    subst (λ (o : Option (List TableRow)). slice_get (unwrap_or o (cuts_of s r.put)) (r.next - 1) ≡ None) follows none in
+    given_whole s streams r.put r.next w.cuts (closed_by s streams r.put w.cuts quiet own t)
+    (subst (λ (rows : List TableRow). slice_get rows (r.next - 1) ≡ None) cut last)

@@ -209,3 +209,4 @@ steps_own ended run s turn (step.Done actor) told quiet own writing step =
     stepped turn.device s run.streams _ turn.added turn.refused told quiet own (has_fits s.geometry.fragment run.streams (reader_by run actor) (λ reader. StopReading reader) (λ n a. (tt, tt))) step
 steps_own ended run s turn (step.Remove key) told quiet own writing step = stepped turn.device s run.streams _ turn.added turn.refused told quiet own (λ a. (tt, tt)) step
 steps_own ended run s turn step.Flush told quiet own writing step = stepped turn.device s run.streams _ turn.added turn.refused told quiet own (λ a. (tt, tt)) step
+steps_own ended run s turn (step.Now at) told quiet own writing step = stepped turn.device s run.streams [] turn.added turn.refused told quiet own tt step

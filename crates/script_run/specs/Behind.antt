@@ -127,6 +127,7 @@ formatted run name added = record {
   held = λ actor. None;
   ended = harms_of run;
   names = run.names ++ name ∷ [];
+  now = run.now;
 }
 
 abbrev pub after_format : Run → List ℕ → List Rec → Option BadGeometry → Run
@@ -141,11 +142,17 @@ in_session run s t turn step = record {
   held = held_behind run s t step (actor_of step);
   ended = run.ended;
   names = run.names;
+  now = run.now;
 }
+
+-- the moment is set, and all else stays
+abbrev pub at_moment : Run → ℕ → Run
+at_moment run at = record run { now = at }
 
 abbrev pub behind : Run → Turn → Option State → Step → Run
 behind run turn state (step.Format name segments buckets content agg reach fragment generation) =
     after_format run name turn.added (first_refusal segments buckets content agg reach fragment)
+behind run turn state (step.Now at) = at_moment run at
 behind run turn (Some s) step = in_session run s (after_all s turn.added) turn step
 behind run turn None step = run
 

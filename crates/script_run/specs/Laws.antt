@@ -2,7 +2,7 @@
 use Rattle.std.specs.Prelude.{ℕ, ◌≡◌, ◌≢◌, ◌-◌, ◌*◌, ◌<◌, ◌⊎◌, List, take, Some, None, Bool, true, false}
 use Rattle.tape_base.specs.declared.geometries.Geometry.{Geometry}
 use Rattle.fragment_table.specs.Table.{TableRow}
-use Rattle.cache_model.specs.State.{State, Row, ReaderRow, after_all, live_row_of, reader_of}
+use Rattle.cache_model.specs.State.{State, Row, PutRow, ReaderRow, Closed, after_all, live_row_of, put_of, reader_of}
 use Rattle.cache_model.specs.Verdict.{next_piece, next_row}
 use Rattle.cache_model.specs.declared.record.Rec.{Rec}
 use Rattle.cache_model.specs.Permit.{End, Intent, Look, Permit, ReadAll, ReadOn, StopReading}
@@ -36,6 +36,13 @@ ReadIsOwn = (p : Permit) (s : State) (streams : ℕ → Stream) (r : ReaderRow) 
     → live_row_of s (next_piece r) ≡ Some row → IsDocumentOf p s row size into
     → (take size into ≡ piece_of s.geometry.fragment (streams r.put).bytes r.next) ⊎ IsOtherFragment p s streams
 
+-- the payload of the fragment that a reader takes next, written out or in the buffer, has the digest that
+-- its table lists, or the writer that it follows has cut; or two documents of one SHA-256 are shown
+abbrev pub GivenIsListed : Type 0
+GivenIsListed = (p : Permit) (s : State) (streams : ℕ → Stream) (reader : ℕ) (r : ReaderRow) (entry : TableRow) (row : Row) (size : ℕ) (into : List ℕ) → AreOwn s streams → 0 < r.next
+    → reader_of s reader ≡ Some r → next_row s r ≡ Some entry → live_row_of s (next_piece r) ≡ Some row
+    → IsDocumentOf p s row size into → (digest_of (take size into) ≡ digest_in entry) ⊎ IsOtherFragment p s streams
+
 -- a document of the digest of the fragment that a reader takes next, which has another payload than the
 -- one that the reader's table lists, is another than the one as which the fragment was placed
 abbrev pub OtherShows : Type 0
@@ -47,6 +54,12 @@ OtherShows = (p : Permit) (s : State) (streams : ℕ → Stream) (reader : ℕ) 
 abbrev pub AllIsGiven : Type 0
 AllIsGiven = (s : State) (streams : ℕ → Stream) (reader : ℕ) (r : ReaderRow) (table : List TableRow) → AreOwn s streams → IsQuiet s → 0 < r.next
     → reader_of s reader ≡ Some r → r.table ≡ Some table → next_row s r ≡ None
+    → take ((r.next - 1) * s.geometry.fragment) (streams r.put).bytes ≡ (streams r.put).bytes
+
+-- and so was one that follows a writer, once the put is complete
+abbrev pub AllIsFollowed : Type 0
+AllIsFollowed = (s : State) (streams : ℕ → Stream) (r : ReaderRow) (w : PutRow) → AreOwn s streams → IsQuiet s → 0 < r.next
+    → r.table ≡ None → put_of s r.put ≡ Some w → w.writing ≡ Closed → next_row s r ≡ None
     → take ((r.next - 1) * s.geometry.fragment) (streams r.put).bytes ≡ (streams r.put).bytes
 
 -- what only reads

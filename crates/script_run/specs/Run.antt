@@ -38,12 +38,14 @@ pub record Run : Type 0 where
   pub ended : List Harm
   -- the name of each device that was attached
   pub names : List (List ℕ)
+  -- the moment for pins, of whatever session
+  pub now : ℕ
 
 abbrev pub no_stream : Stream
 no_stream = record { bytes = []; sealed = false }
 
 abbrev pub fresh : Run
-fresh = record { state = None; streams = λ put. no_stream; actors = []; held = λ actor. None; ended = []; names = [] }
+fresh = record { state = None; streams = λ put. no_stream; actors = []; held = λ actor. None; ended = []; names = []; now = 0 }
 
 -- a function with another value at one number
 abbrev pub with_value : {X : Type 0} → (ℕ → X) → ℕ → X → ℕ → X

@@ -1,5 +1,5 @@
 // Laws of the bytes that lines give. These functions do nothing when they run.
-ghost use Rattle.script_run.specs.Laws.{AllIsGiven, FormatsOwn, OtherShows, ReadIsOwn, ReadsOwn, StepsOwn};
+ghost use Rattle.script_run.specs.Laws.{AllIsFollowed, AllIsGiven, FormatsOwn, GivenIsListed, OtherShows, ReadIsOwn, ReadsOwn, StepsOwn};
 
 use cache_model::writer_is_ended;
 
@@ -23,6 +23,12 @@ pub fn read_is_own()
     ensures { ReadIsOwn }
 {}
 
+/// The payload of the fragment that a reader takes next, written out or in the buffer, has the listed
+/// digest, or two documents of one SHA-256 are shown.
+pub fn given_is_listed()
+    ensures { GivenIsListed }
+{}
+
 /// A document of the digest of the fragment that a reader takes next, with another payload than is listed,
 /// shows two documents of one SHA-256.
 pub fn other_shows()
@@ -32,6 +38,12 @@ pub fn other_shows()
 /// A reader that hit something and was given all that its table lists was given all that was put.
 pub fn all_is_given()
     ensures { AllIsGiven }
+{}
+
+/// A reader that follows a writer and was given all that is cut was given all that was put, once the put
+/// is complete.
+pub fn all_is_followed()
+    ensures { AllIsFollowed }
 {}
 
 /// And so it does behind each group of records that only reads.

@@ -4,4 +4,7 @@
 
 mod laws;
 
-pub use laws::{all_is_given, formats_own, other_shows, read_is_own, reads_own, steps_own};
+pub use laws::{
+    all_is_followed, all_is_given, formats_own, given_is_listed, other_shows, read_is_own,
+    reads_own, steps_own,
+};

@@ -9,7 +9,7 @@ returns-in-Some-clause-session g c =
 pub returns-in-Some-clause-ends : goal.returns-in-Some-clause-ends
 returns-in-Some-clause-ends g c =
     line_ends g.D.Disk g.R.Directory g.C.Chronicle c.steps_tell.ensures c.steps_own.ensures c.args.session.now _ c.in-Some.part c.flush.new.part _ c.flush.result flush_plain
-    c.in-Some.is refl refl (λ n. refl) c.flush.ensures.leaves c.flush.ensures.unharmed c.requires.session c.flush.ensures.ends
+    c.in-Some.is refl refl refl (λ n. refl) c.flush.ensures.leaves c.flush.ensures.unharmed c.requires.session c.flush.ensures.ends
 
 pub returns-in-Some-clause-reached : goal.returns-in-Some-clause-reached
 returns-in-Some-clause-reached g c =

@@ -9,7 +9,7 @@ returns-in-Some-clause-session g c =
 pub returns-in-Some-clause-ends : goal.returns-in-Some-clause-ends
 returns-in-Some-clause-ends g c =
     line_ends g.D.Disk g.R.Directory g.C.Chronicle c.steps_tell.ensures c.steps_own.ensures c.args.session.now _ c.in-Some.part c.remove_from.new.part _ c.remove_from.result (remove_plain c.args.key)
-    c.in-Some.is refl refl (λ n. refl) c.remove_from.ensures.leaves c.remove_from.ensures.unharmed c.requires.session c.remove_from.ensures.ends
+    c.in-Some.is refl refl refl (λ n. refl) c.remove_from.ensures.leaves c.remove_from.ensures.unharmed c.requires.session c.remove_from.ensures.ends
 
 pub returns-in-Some-clause-reached : goal.returns-in-Some-clause-reached
 returns-in-Some-clause-reached g c =

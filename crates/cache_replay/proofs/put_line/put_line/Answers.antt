@@ -10,7 +10,7 @@ returns-in-Some-clause-session g c =
 pub returns-in-Some-clause-ends : goal.returns-in-Some-clause-ends
 returns-in-Some-clause-ends g c =
     put_ends g.D.Disk g.R.Directory g.C.Chronicle c.steps_tell.ensures c.steps_own.ensures c.args.session.now _ c.in-Some.part c.put_in.new.part c.args.key c.args.body.now c.args.request c.args.response c.put_in.result
-    c.in-Some.is refl refl refl c.put_in.ensures.leaves c.put_in.ensures.unharmed c.requires.session c.put_in.ensures.ends
+    c.in-Some.is refl refl refl refl c.put_in.ensures.leaves c.put_in.ensures.unharmed c.requires.session c.put_in.ensures.ends
 
 pub returns-in-Some-clause-reached : goal.returns-in-Some-clause-reached
 returns-in-Some-clause-reached g c =

@@ -6,7 +6,7 @@ use Rattle.cache_replay.proofs.reader_lines.open_read_line.Goals as goal
 pub returns-in-Some-clause-ends : goal.returns-in-Some-clause-ends
 returns-in-Some-clause-ends g c =
     line_answers g.D.Disk g.R.Directory g.C.Chronicle c.args.session.now _ c.in-Some.part c.open_reader.new.part (step.OpenRead c.args.actor.now c.args.key c.args.request) c.open_reader.result (open_read_on c.args.actor.now c.args.key c.args.request)
-    c.in-Some.is refl (λ run plays. inl c.open_reader.ensures.unharmed) c.open_reader.ensures.ends
+    c.in-Some.is refl refl (λ run plays. inl c.open_reader.ensures.unharmed) c.open_reader.ensures.ends
 
 pub returns-in-Some-clause-reached : goal.returns-in-Some-clause-reached
 returns-in-Some-clause-reached g c =

@@ -1,11 +1,11 @@
-use Rattle.std.proofs.Common.{ap, arith, sym, ◌+◌}
+use Rattle.std.proofs.Common.{ap, arith, sym, inl, ◌+◌}
 use Rattle.cache_replay.specs.Plays.{ledger_of}
-use Rattle.cache_replay.proofs.Dispatch.{all_ends, all_left, all_stops, needs_session}
+use Rattle.cache_replay.proofs.Dispatch.{all_ends, all_left, all_stops, moment_moves, needs_session}
 use Rattle.cache_replay.proofs.stepping.step.Goals as goal
 
 pub returns-in_default : goal.returns-in_default
 returns-in_default g c =
-    let needs = needs_session c.args.step (λ name a b d e f h i is. c.in_default.not-Format name a b d e f h i is) in
+    let needs = needs_session c.args.step (λ name a b d e f h i is. c.in_default.not-Format name a b d e f h i is) (λ at is. c.in_default.not-Now at is) in
     record {
       session = c.in_session.ensures.session;
       ends = all_ends _ _ _ c.in_session.result c.args.step c.args.session.now c.in_session.new.session (ledger_of g.B.Bay c.args.bay.now) needs c.in_session.ensures.ends;
@@ -15,3 +15,6 @@ returns-in_default g c =
       names = c.in_session.ensures.names;
       later = omega arith;
     }
+
+pub returns-in-Now-clause-ends : goal.returns-in-Now-clause-ends
+returns-in-Now-clause-ends g c = λ run plays. rw c.in-Now.is (inl (moment_moves _ _ _ run c.in-Now.at _ _ _ (c.now_line.ensures.moves run plays)))

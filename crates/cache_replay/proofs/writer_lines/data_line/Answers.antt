@@ -7,7 +7,7 @@ use Rattle.cache_replay.proofs.writer_lines.data_line.Goals as goal
 pub returns-in-Some-clause-ends : goal.returns-in-Some-clause-ends
 returns-in-Some-clause-ends g c =
     IfOk-weaker c.data_in.result _ _
-    (writer_ends g.D.Disk g.R.Directory g.C.Chronicle c.args.session.now _ c.in-Some.part c.data_in.new.part c.in-Some.is refl c.data_in.ensures.unharmed _) c.data_in.ensures.ends
+    (writer_ends g.D.Disk g.R.Directory g.C.Chronicle c.args.session.now _ c.in-Some.part c.data_in.new.part c.in-Some.is refl refl c.data_in.ensures.unharmed _ tt) c.data_in.ensures.ends
 
 pub returns-in-Some-clause-reached : goal.returns-in-Some-clause-reached
 returns-in-Some-clause-reached g c =
