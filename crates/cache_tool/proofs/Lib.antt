@@ -1,4 +1,5 @@
 pub mod Runs
+pub mod Faultless
 pub mod Stories
 pub mod Halts
 pub mod Ends

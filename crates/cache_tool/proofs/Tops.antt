@@ -1,5 +1,5 @@
 -- What the last line makes of a run that ended early.
-use Rattle.std.proofs.Common.{◌≡◌, ℕ, ◌≤◌, List, [], Option, refl, sym, subst, inl, inr, ◌⊎◌}
+use Rattle.std.proofs.Common.{◌≡◌, ℕ, ◌≤◌, Bool, List, [], Option, refl, sym, subst, inl, inr, ◌⊎◌}
 use Rattle.std.specs.Io.KnownBytes.{Appends, Keeps}
 use Rattle.std.proofs.KnownBytes.{Appends-trans}
 use Rattle.script_lang.specs.declared.last.LastLine.{LastLine}
@@ -16,7 +16,7 @@ use Rattle.cache_tool.specs.Top.{WentOut, DevicesBack, status_of, EndsEarly, Con
 use Rattle.cache_tool.proofs.Halts.{Appends-kept, answers_of_all, either-map}
 use Rattle.cache_tool.proofs.Ends.{Rose-earlier}
 
-module _ (first old mid new : Option (List ℕ)) (source sink sink_last bay : Counts) (before now : Ledger) (earlier : sink.before ≤ sink_last.before) (same : sink_last.now ≡ sink.now) where
+module _ (first old mid new : Option (List ℕ)) (source sink sink_last bay : Counts) (faultless : Bool) (before now : Ledger) (earlier : sink.before ≤ sink_last.before) (same : sink_last.now ≡ sink.now) where
   went_out : (out text : List ℕ) → Appends old mid out → WentOut mid new sink_last [] text → WentOut old new sink out text
   went_out out text appends (inl all) = inl (Appends-trans old mid new out text appends all)
   went_out out text appends (inr cut) = inr (record {
@@ -40,27 +40,27 @@ module _ (first old mid new : Option (List ℕ)) (source sink sink_last bay : Co
     behind = b _ s.behind;
   }
 
-  module _ (why : LastLine) (upto : StoryUpTo first (Appends old mid) (DevicesBack before now) (λ unread given run. Because source bay unread given run why)) where
-    early : (s : Status) → s ≡ status_of why → WentOut mid new sink_last [] (last_line why) → EndsEarly first old new source sink bay before now s
+  module _ (why : LastLine) (upto : StoryUpTo first (Appends old mid) (DevicesBack faultless before now) (λ unread given run. Because source bay unread given run why)) where
+    early : (s : Status) → s ≡ status_of why → WentOut mid new sink_last [] (last_line why) → EndsEarly first old new source sink bay faultless before now s
     early s said out = record {
       why = why;
       said = said;
       upto = record { unread = upto.unread; given = upto.given; story = text_with upto.unread upto.given (Appends old mid) _ _ _ _ _ (λ text appends. went_out text (last_line why) appends out) (λ run back. back) (λ run because. because) upto.story };
     }
 
-    forgotten : Keeps mid new → Concludes first old new source sink bay before now status.OutOfMemory
+    forgotten : Keeps mid new → Concludes first old new source sink bay faultless before now status.OutOfMemory
     forgotten keeps = record {
       unread = upto.unread;
       given = upto.given;
-      story = text_with upto.unread upto.given (Appends old mid) _ _ _ _ _ (λ text appends. answers_of_all old new text (Appends-kept old mid new text appends keeps)) (λ run back. inl back) (λ run because. tt) upto.story;
+      story = text_with upto.unread upto.given (Appends old mid) _ _ _ _ _ (λ text appends. answers_of_all old new text (Appends-kept old mid new text appends keeps)) (λ run back. record { back = inl back.back; unfaulted = back.unfaulted }) (λ run because. tt) upto.story;
     }
 
   abbrev Upto : LastLine → Type 0
-  Upto why = StoryUpTo first (Appends old mid) (DevicesBack before now) (λ unread given run. Because source bay unread given run why)
+  Upto why = StoryUpTo first (Appends old mid) (DevicesBack faultless before now) (λ unread given run. Because source bay unread given run why)
 
   -- the last line went out
   told : (why : LastLine) → IsOfRun (ending.Stopped why) → Upto why ⊎ Shown first → WentOut mid new sink_last [] (last_line why)
-      → ConcludesOrShows first old new source sink bay before now (status_of why)
+      → ConcludesOrShows first old new source sink bay faultless before now (status_of why)
   told last.Usage begun upto out = absurd begun
   told (last.BadScript line fault) begun upto out = either-map (λ u. early (last.BadScript line fault) u status.BadScript refl out) upto
   told last.ReadFault begun upto out = either-map (λ u. early last.ReadFault u status.ReadFault refl out) upto
@@ -70,9 +70,9 @@ module _ (first old mid new : Option (List ℕ)) (source sink sink_last bay : Co
   told (last.NoCache line) begun upto out = either-map (λ u. early (last.NoCache line) u status.NoCache refl out) upto
 
   pub concludes_stopped : (why : LastLine) → IsOfRun (ending.Stopped why) → Upto why ⊎ Shown first → (s : Status)
-      → ((s ≡ status.OutOfMemory) × Keeps mid new) ⊎ ((s ≡ status_of why) × WentOut mid new sink_last [] (last_line why)) → ConcludesOrShows first old new source sink bay before now s
-  concludes_stopped why begun upto s (inl lost) = subst (λ (t : Status). ConcludesOrShows first old new source sink bay before now t) (sym lost.0) (either-map (λ u. forgotten why u lost.1) upto)
-  concludes_stopped why begun upto s (inr said) = subst (λ (t : Status). ConcludesOrShows first old new source sink bay before now t) (sym said.0) (told why begun upto said.1)
+      → ((s ≡ status.OutOfMemory) × Keeps mid new) ⊎ ((s ≡ status_of why) × WentOut mid new sink_last [] (last_line why)) → ConcludesOrShows first old new source sink bay faultless before now s
+  concludes_stopped why begun upto s (inl lost) = subst (λ (t : Status). ConcludesOrShows first old new source sink bay faultless before now t) (sym lost.0) (either-map (λ u. forgotten why u lost.1) upto)
+  concludes_stopped why begun upto s (inr said) = subst (λ (t : Status). ConcludesOrShows first old new source sink bay faultless before now t) (sym said.0) (told why begun upto said.1)
 
 -- so a run that was begun does not conclude with the status Usage
 pub status-begun : (why : LastLine) → IsOfRun (ending.Stopped why) → status_of why ≡ status.Usage → ⊥

@@ -1,5 +1,5 @@
 -- What the program promises of a run: its status, its output and its devices.
-use Rattle.std.specs.Prelude.{◌≡◌, ℕ, ◌⊎◌, List, [], ◌∷◌, ◌++◌, map, codes, Option, string_bytes, ⊤}
+use Rattle.std.specs.Prelude.{◌≡◌, ℕ, ◌⊎◌, Bool, IsTrue, List, [], ◌∷◌, ◌++◌, All, map, codes, Option, string_bytes, ⊤}
 use Rattle.std.specs.declared.string.String.{String}
 use Rattle.std.specs.Io.KnownBytes.{Appends, IsAtEnd}
 use Rattle.edge_io.specs.Causes.{Rose}
@@ -54,30 +54,45 @@ WentOut old new sink before text = Appends old new (before ++ text) ⊎ CutOff o
 
 -- the devices that were attached have the names of the lines that asked for them, in order, and each came back, in that
 -- order, with a count that none told exceeds; of one that told its content to the end no piece was told as damaged
-abbrev pub DevicesBack : Ledger → Ledger → Run → Type 0
-DevicesBack before now run = Deals before now (harms_of run) run.names
+abbrev pub EachBack : Ledger → Ledger → Run → Type 0
+EachBack before now run = Deals before now (harms_of run) run.names
 
 -- so it is, or a format that wanted memory gave back one device more
-abbrev pub DevicesWanting : Ledger → Ledger → Run → Type 0
-DevicesWanting before now run = DevicesBack before now run ⊎ GaveBack before now run
+abbrev pub EachBackOrMore : Ledger → Ledger → Run → Type 0
+EachBackOrMore before now run = EachBack before now run ⊎ GaveBack before now run
+
+-- no fault was told of any device: each one is told with a count above 0
+abbrev pub NoneFaulted : Run → Type 0
+NoneFaulted run = All (λ harm. harm.fault ≡ 0) (harms_of run)
+
+-- the devices came back so; and where the bay's come back without faults, none was told
+pub record Settles (faultless : Bool) (Back : Run → Type 0) (run : Run) : Type 0 where
+  pub back : Back run
+  pub unfaulted : IsTrue faultless → NoneFaulted run
+
+abbrev pub DevicesBack : Bool → Ledger → Ledger → Run → Type 0
+DevicesBack faultless before now = Settles faultless (EachBack before now)
+
+abbrev pub DevicesWanting : Bool → Ledger → Ledger → Run → Type 0
+DevicesWanting faultless before now = Settles faultless (EachBackOrMore before now)
 
 -- a run that ended early: the answers of the lines before went out, and behind them the last line or a front of it
-pub record EndsEarly (first old new : Option (List ℕ)) (source sink bay : Counts) (before now : Ledger) (s : Status) : Type 0 where
+pub record EndsEarly (first old new : Option (List ℕ)) (source sink bay : Counts) (faultless : Bool) (before now : Ledger) (s : Status) : Type 0 where
   pub why : LastLine
   pub said : s ≡ status_of why
-  pub upto : StoryUpTo first (λ out. WentOut old new sink out (last_line why)) (DevicesBack before now) (λ unread given run. Because source bay unread given run why)
+  pub upto : StoryUpTo first (λ out. WentOut old new sink out (last_line why)) (DevicesBack faultless before now) (λ unread given run. Because source bay unread given run why)
 
 -- What each status says. Done: the script was read to its end, and the output is the answers of all its lines. Usage: the
 -- last line alone went out. WriteFault: the sink's count rose, and a front of the answers went out. OutOfMemory: whole
 -- answers went out, of all lines that were taken or of all but the last. The others name the cause that ended the run.
-abbrev pub Concludes : (first old new : Option (List ℕ)) → (source sink bay : Counts) → (before now : Ledger) → Status → Type 0
-Concludes first old new source sink bay before now status.Done = StoryUpTo first (Appends old new) (DevicesBack before now) (λ unread given run. IsAtEnd unread)
-Concludes first old new source sink bay before now status.Usage = WentOut old new sink [] (last_line last.Usage) × (now ≡ before)
-Concludes first old new source sink bay before now status.WriteFault = StoryUpTo first (SendsFront old new) (DevicesBack before now) (λ unread given run. Rose sink.before sink.now)
-Concludes first old new source sink bay before now status.OutOfMemory = StoryUpTo first (SendsAnswers old new) (DevicesWanting before now) (λ unread given run. ⊤)
-Concludes first old new source sink bay before now s = EndsEarly first old new source sink bay before now s
+abbrev pub Concludes : (first old new : Option (List ℕ)) → (source sink bay : Counts) → (faultless : Bool) → (before now : Ledger) → Status → Type 0
+Concludes first old new source sink bay faultless before now status.Done = StoryUpTo first (Appends old new) (DevicesBack faultless before now) (λ unread given run. IsAtEnd unread)
+Concludes first old new source sink bay faultless before now status.Usage = WentOut old new sink [] (last_line last.Usage) × (now ≡ before)
+Concludes first old new source sink bay faultless before now status.WriteFault = StoryUpTo first (SendsFront old new) (DevicesBack faultless before now) (λ unread given run. Rose sink.before sink.now)
+Concludes first old new source sink bay faultless before now status.OutOfMemory = StoryUpTo first (SendsAnswers old new) (DevicesWanting faultless before now) (λ unread given run. ⊤)
+Concludes first old new source sink bay faultless before now s = EndsEarly first old new source sink bay faultless before now s
 
 -- so it is, or a line of the script showed two documents of one SHA-256; with the status Usage no line was read
-abbrev pub ConcludesOrShows : (first old new : Option (List ℕ)) → (source sink bay : Counts) → (before now : Ledger) → Status → Type 0
-ConcludesOrShows first old new source sink bay before now status.Usage = Concludes first old new source sink bay before now status.Usage
-ConcludesOrShows first old new source sink bay before now s = Concludes first old new source sink bay before now s ⊎ Shown first
+abbrev pub ConcludesOrShows : (first old new : Option (List ℕ)) → (source sink bay : Counts) → (faultless : Bool) → (before now : Ledger) → Status → Type 0
+ConcludesOrShows first old new source sink bay faultless before now status.Usage = Concludes first old new source sink bay faultless before now status.Usage
+ConcludesOrShows first old new source sink bay faultless before now s = Concludes first old new source sink bay faultless before now s ⊎ Shown first

@@ -2,7 +2,7 @@
 ghost use Rattle.std.specs.Prelude.{◌≡◌, ◌+◌, ◌-◌, ◌^◌, ◌≤◌, min, []};
 ghost use Rattle.edge_io.specs.Causes.{Rose};
 
-use ats_disk::{Bay, BayFault, MemBay, MemDisk};
+use ats_disk::{Bay, BayFault, FaultlessDisk, MemBay};
 use std::alloc::Global;
 
 /// A bay whose devices are in memory: the names that begin `mem:`.
@@ -38,7 +38,10 @@ impl HostBay {
 }
 
 impl Bay for HostBay {
-    type Dev = MemDisk;
+    ghost use Rattle.std.specs.Prelude.{true};
+    ghost use Rattle.ats_disk.specs.MemBay.{came_back_faultless};
+
+    type Dev = FaultlessDisk;
 
     ghost names = { λ bay. ⟦<MemBay as Bay>⟧.names bay.memory };
 
@@ -46,11 +49,18 @@ impl Bay for HostBay {
 
     ghost returned = { λ bay. ⟦<MemBay as Bay>⟧.returned bay.memory };
 
+    ghost faultless = { true };
+
     ghost out = { λ bay. ⟦<MemBay as Bay>⟧.out bay.memory };
 
     ghost faults = { λ bay. bay.faults };
 
-    fn attach(&mut self, alloc: Global, name: &[u8], blocks: u64) -> Result<MemDisk, BayFault> {
+    fn attach(
+        &mut self,
+        alloc: Global,
+        name: &[u8],
+        blocks: u64,
+    ) -> Result<FaultlessDisk, BayFault> {
         if !name.starts_with(b"mem:") {
             return Err(BayFault::Failed {
                 count: self.count_fault(),
@@ -65,11 +75,13 @@ impl Bay for HostBay {
         }
     }
 
-    fn give_back(&mut self, device: MemDisk) {
+    fn give_back(&mut self, device: FaultlessDisk) {
         self.memory.give_back(device);
     }
 
     fn faults(&self) -> u64 {
         self.faults
     }
+
+    ghost came_back = { λ bay always. came_back_faultless bay.memory };
 }

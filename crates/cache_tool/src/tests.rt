@@ -1,8 +1,8 @@
 // What no clause says: worked scripts over memory, and devices and streams that fail.
-ghost use Rattle.std.specs.Prelude.{◌≡◌};
+ghost use Rattle.std.specs.Prelude.{◌≡◌, ◌+◌, ◌≤◌, vec_len, vec_capacity};
 
 use crate::{HostBay, Status, cache_main};
-use ats_disk::{Bay, BayFault, Disk, MemBay, MemDisk};
+use ats_disk::{Bay, BayFault, Disk, MemBay, MemDisk, OWN_BLOCKS};
 use edge_io::{Failed, MemSink, MemSource};
 use std::alloc::{AllocError, Global};
 use std::test::Fail;
@@ -60,7 +60,7 @@ fn in_memory(
 
 #[test]
 fn scripts_are_answered_as_worked_out(rt: HostRuntime) -> Result<(), Fail> {
-    let rows: [(&str, &str, &str, Status); 13] = [
+    let rows: [(&str, &str, &str, Status); 14] = [
         ("nothing", "", "", Status::Done),
         (
             "no newline at the end, comments and empty lines",
@@ -123,6 +123,12 @@ fn scripts_are_answered_as_worked_out(rt: HostRuntime) -> Result<(), Fail> {
             Status::Done,
         ),
         (
+            "the moment for pins",
+            "now 5\nflush\nnow 0\nnow 05\n",
+            "now 5\nflushed 0 cursor 64 floor 8\nnow 0\nerror bad-script line 5 column 5 number\n",
+            Status::BadScript,
+        ),
+        (
             "half a hex digit",
             "put /a 6\n",
             "error bad-script line 2 column 8 body\n",
@@ -147,7 +153,7 @@ fn scripts_are_answered_as_worked_out(rt: HostRuntime) -> Result<(), Fail> {
 
 #[test]
 fn a_run_that_cannot_go_on_says_so_in_its_last_line(rt: HostRuntime) -> Result<(), Fail> {
-    let rows: [(&str, Setting, &str, &str, Status); 5] = [
+    let rows: [(&str, Setting, &str, &str, Status); 6] = [
         (
             "words that are no command",
             Setting {
@@ -170,6 +176,18 @@ fn a_run_that_cannot_go_on_says_so_in_its_last_line(rt: HostRuntime) -> Result<(
             },
             "get /a\n",
             "error no-cache line 1\n",
+            Status::NoCache,
+        ),
+        (
+            "a moment needs no format",
+            Setting {
+                word: "replay",
+                piece: 9,
+                failing_read: 0,
+                room: 99,
+            },
+            "now 7\nget /a\n",
+            "now 7\nerror no-cache line 2\n",
             Status::NoCache,
         ),
         (
@@ -299,9 +317,26 @@ impl Disk for Faulty {
 /// A bay of such devices, whose call of this number fails, or none for 0.
 #[derive(Drop)]
 struct FaultyBay {
-    memory: MemBay,
     flips: bool,
     nth: u64,
+    /// The names of the devices that were attached.
+    names: Vec<Vec<u8>>,
+    /// The counts of faults of the devices that were given back.
+    returned: Vec<u64>,
+    out: usize,
+    ghost room: { vec_len returned + out ≤ vec_capacity returned },
+}
+
+impl FaultyBay {
+    fn new(alloc: Global, flips: bool, nth: u64) -> FaultyBay {
+        FaultyBay {
+            flips,
+            nth,
+            names: Vec::new(alloc),
+            returned: Vec::new(alloc),
+            out: 0,
+        }
+    }
 }
 
 /// The device, with its call of this number to fail.
@@ -318,24 +353,33 @@ fn armed(memory: MemDisk, nth: u64) -> MemDisk
 }
 
 impl Bay for FaultyBay {
-    ghost use Rattle.std.specs.Prelude.{map, None};
+    ghost use Rattle.std.specs.Prelude.{ℕ, false, map, None};
+    ghost use Rattle.std.proofs.lemmas.Bool.{false≢true};
     ghost use Rattle.ats_disk.specs.Bay.{Return};
 
     type Dev = Faulty;
 
-    ghost names = { λ bay. ⟦<MemBay as Bay>⟧.names bay.memory };
+    ghost names = { λ bay. map (λ name. name.items) bay.names.items };
 
-    ghost told = { λ bay. map (λ _. None) (⟦<MemBay as Bay>⟧.told bay.memory) };
+    ghost told = { λ bay. map (λ name. None) bay.names.items };
 
     // No device could be trusted.
-    ghost returned = { λ bay. map (λ (back : Return). record back { trust = 0 }) (⟦<MemBay as Bay>⟧.returned bay.memory) };
+    ghost returned = { λ bay. map (λ (count : ℕ). record Return { faults = count; trust = 0 }) bay.returned.items };
 
-    ghost out = { λ bay. ⟦<MemBay as Bay>⟧.out bay.memory };
+    ghost faultless = { false };
 
-    ghost faults = { λ bay. ⟦<MemBay as Bay>⟧.faults bay.memory };
+    ghost out = { λ bay. bay.out };
+
+    ghost faults = { λ bay. 0 };
 
     fn attach(&mut self, alloc: Global, name: &[u8], blocks: u64) -> Result<Faulty, BayFault> {
-        let memory = self.memory.attach(alloc, name, blocks)?;
+        let name = name.to_vec(alloc)?;
+        self.names.reserve(1)?;
+        self.returned.reserve(self.out + 1)?;
+        let memory = MemDisk::new(alloc, blocks.max(OWN_BLOCKS))?;
+        let kept: Result<_, _> = self.names.push(name);
+        kept.unwrap();
+        self.out += 1;
         Ok(Faulty {
             memory: armed(memory, self.nth),
             flips: self.flips,
@@ -343,22 +387,21 @@ impl Bay for FaultyBay {
     }
 
     fn give_back(&mut self, device: Faulty) {
-        let Faulty { memory, .. } = device;
-        self.memory.give_back(memory);
+        let kept: Result<_, _> = self.returned.push(device.faults());
+        kept.unwrap();
+        self.out -= 1;
     }
 
     fn faults(&self) -> u64 {
-        self.memory.faults()
+        0
     }
+
+    ghost came_back = { λ bay always. absurd (false≢true always) };
 }
 
 #[test]
 fn other_bytes_than_were_put_are_damage_from_then_on(rt: HostRuntime) -> Result<(), Fail> {
-    let mut bay = FaultyBay {
-        memory: MemBay::new(rt.alloc(), Vec::new(rt.alloc())),
-        flips: true,
-        nth: 0,
-    };
+    let mut bay = FaultyBay::new(rt.alloc(), true, 0);
     let script = format!(in rt.alloc(); "{SMALL}put /a 61\nflush\nget /a\nput /b 62\n")?;
     let front = format!(in rt.alloc();
         "{FORMATTED}put 1 length 1 fragments 1\nflushed 2 cursor 66 floor 10\nmiss damaged 65 "
@@ -383,11 +426,7 @@ fn a_device_fault_is_answered_and_changes_nothing(rt: HostRuntime) -> Result<(),
         ),
     ];
     for (nth, answers) in rows {
-        let mut bay = FaultyBay {
-            memory: MemBay::new(rt.alloc(), Vec::new(rt.alloc())),
-            flips: false,
-            nth,
-        };
+        let mut bay = FaultyBay::new(rt.alloc(), false, nth);
         let script = format!(in rt.alloc(); "{SMALL}put /a 61\nflush\nflush\nget /a\n")?;
         let answers = format!(in rt.alloc(); "{FORMATTED}put 1 length 1 fragments 1\n{answers}")?;
         let (status, output) = outcome(rt.alloc(), &PLAIN, script.as_bytes(), &mut bay)?;

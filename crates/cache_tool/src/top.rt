@@ -104,7 +104,7 @@ fn replay<S: Source, K: Sink, B: Bay>(
 ) -> Ending
     ensures ends { Ends (S.left source.old) (K.taken sink.old) (K.taken sink.new) (counts (S.faults source.old) (S.faults source.new))
         (counts (K.faults sink.old) (K.faults sink.new)) (counts (B.faults bay.old) (B.faults bay.new))
-        (DevicesBack (ledger_of B.Bay bay.old) (ledger_of B.Bay bay.new)) (DevicesWanting (ledger_of B.Bay bay.old) (ledger_of B.Bay bay.new)) result ⊎ Shown (S.left source.old) }
+        (DevicesBack B.faultless (ledger_of B.Bay bay.old) (ledger_of B.Bay bay.new)) (DevicesWanting B.faultless (ledger_of B.Bay bay.old) (ledger_of B.Bay bay.new)) result ⊎ Shown (S.left source.old) }
     ensures begun { IsOfRun result }
     ensures out { B.out bay.new ≡ B.out bay.old }
     ensures source_later { S.faults source.old ≤ S.faults source.new }
@@ -132,7 +132,7 @@ pub fn cache_main<S: Source, K: Sink, B: Bay>(
 ) -> Status
     ensures concludes { ConcludesOrShows (S.left source.old) (K.taken sink.old) (K.taken sink.new) (counts (S.faults source.old) (S.faults source.new))
         (counts (K.faults sink.old) (K.faults sink.new)) (counts (B.faults bay.old) (B.faults bay.new))
-        (ledger_of B.Bay bay.old) (ledger_of B.Bay bay.new) result }
+        B.faultless (ledger_of B.Bay bay.old) (ledger_of B.Bay bay.new) result }
     ensures usage { (result ≡ Status.Usage) ↔ (IsReplay words.now → ⊥) }
 
     // Every device was given back.
