@@ -1,0 +1,13 @@
+pub mod Beside
+pub mod Keeping
+pub mod Asking
+pub mod Pieces
+pub mod Fronts
+pub mod Nexts
+pub mod Lines
+pub mod Running
+pub mod Ending
+pub mod Opening
+pub mod Writing
+pub mod Standing
+pub mod Joining

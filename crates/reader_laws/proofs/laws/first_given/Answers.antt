@@ -1,0 +1,17 @@
+use Rattle.reader_laws.proofs.Joining.{OfReaders, first_given}
+use Rattle.reader_laws.proofs.laws.first_given.Goals as goal
+
+pub returns : goal.returns
+returns c =
+    let laws : OfReaders = record {
+      steps = record { one_group = c.one_group.ensures; numbers_follow = c.numbers_follow.ensures; reader_is_closed = c.reader_is_closed.ensures };
+      lines = record {
+        numbers_follow = c.numbers_follow.ensures;
+        formats_tell = c.formats_tell.ensures;
+        steps_tell = c.steps_tell.ensures;
+        formats_own = c.formats_own.ensures;
+        steps_own = c.steps_own.ensures;
+      };
+      nothing_asked = c.nothing_asked.ensures;
+    } in
+    λ run s t turn bytes lines turns r u legal opens. first_given laws run s turn bytes r legal opens t lines turns u

@@ -1,0 +1,11 @@
+use Rattle.reader_laws.proofs.Standing.{legal_is_own}
+use Rattle.reader_laws.proofs.laws.legal_is_own.Goals as goal
+
+pub returns : goal.returns
+returns c = legal_is_own (record {
+  numbers_follow = c.numbers_follow.ensures;
+  formats_tell = c.formats_tell.ensures;
+  steps_tell = c.steps_tell.ensures;
+  formats_own = c.formats_own.ensures;
+  steps_own = c.steps_own.ensures;
+})

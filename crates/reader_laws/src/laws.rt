@@ -1,0 +1,75 @@
+// Laws of all that a reader is given. These functions do nothing when they run.
+ghost use Rattle.reader_laws.specs.Laws.{AllGiven, EndIsAll, FirstGiven, FragmentsGiven, LegalIsOwn, OpensFirst};
+
+use cache_model::{
+    formats_tell, nothing_asked, numbers_follow, one_group, reader_is_closed, steps_tell,
+};
+use script_run::{formats_own, steps_own};
+
+/// Along the lines of each legal script what stands is what writers took, and each put that an actor
+/// writes is open.
+pub fn legal_is_own()
+    ensures { LegalIsOwn }
+{
+    numbers_follow();
+    formats_tell();
+    steps_tell();
+    formats_own();
+    steps_own();
+}
+
+/// A reader that a line opens is at its first fragment.
+pub fn opens_first()
+    ensures { OpensFirst }
+{
+    one_group();
+    nothing_asked();
+}
+
+/// What lines give to a reader that stays open are, in order, the fragments that follow of what the writer
+/// of its put took.
+pub fn fragments_given()
+    ensures { FragmentsGiven }
+{
+    one_group();
+    numbers_follow();
+    reader_is_closed();
+}
+
+/// Where the reader is then answered the end, they are all that follow.
+pub fn end_is_all()
+    ensures { EndIsAll }
+{
+    one_group();
+    numbers_follow();
+    reader_is_closed();
+}
+
+/// In each legal script all that lines give to a reader that a line opened are the first fragments of what
+/// the writer of its put took.
+pub fn first_given()
+    ensures { FirstGiven }
+{
+    one_group();
+    nothing_asked();
+    numbers_follow();
+    reader_is_closed();
+    formats_tell();
+    steps_tell();
+    formats_own();
+    steps_own();
+}
+
+/// And where the reader is then answered the end, they are all of it.
+pub fn all_given()
+    ensures { AllGiven }
+{
+    one_group();
+    nothing_asked();
+    numbers_follow();
+    reader_is_closed();
+    formats_tell();
+    steps_tell();
+    formats_own();
+    steps_own();
+}

@@ -1,0 +1,6 @@
+//! What a reader is given, line after line, is in order what the writer of its put took.
+#![tactic(auto)]
+
+mod laws;
+
+pub use laws::{all_given, end_is_all, first_given, fragments_given, legal_is_own, opens_first};

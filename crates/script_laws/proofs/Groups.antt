@@ -1,0 +1,227 @@
+-- What each group of records keeps, and what it tells.
+use Rattle.std.proofs.Common.{◌≡◌, ℕ, ◌+◌, ◌-◌, ◌^◌, ◌≤◌, List, [], ◌∷◌, ◌++◌, refl, sym, ◌∙◌, subst, arith, inl, Bool, true, false}
+use Rattle.std.specs.Prelude.{Some, None, cond, map, max, min}
+use Rattle.std.specs.List.{AllByRecursion}
+use Rattle.tape_base.specs.declared.actors.Actor.{Actor}
+use Rattle.tape_base.specs.declared.keys.Key.{Key}
+use Rattle.tape_base.specs.declared.pieces.PieceId.{PieceId}
+use Rattle.fragment_table.specs.Table.{TableRow}
+use Rattle.alternate_vector.specs.Field.{Field}
+use Rattle.cache_model.specs.declared.cause.Cause.{Cause}
+use Rattle.cache_model.specs.declared.answer.ReadAnswer.{ReadAnswer}
+use Rattle.cache_model.specs.declared.answer.ReadAnswer.TheVariants as read
+use Rattle.cache_model.specs.declared.answer.NextAnswer.{NextAnswer}
+use Rattle.cache_model.specs.declared.answer.NextAnswer.TheVariants as next
+use Rattle.cache_model.specs.declared.record.Rec.{Rec}
+use Rattle.cache_model.specs.declared.record.Rec.TheVariants as rec
+use Rattle.cache_model.specs.State.{State, Row, ReaderRow}
+use Rattle.cache_model.specs.Permit.{Permit, Intent, Flush, Write, Fragment, Overflow, Weigh, Finish, Commit, GiveUp, Remove, Look, ReadOn, ReadAll, StopReading, End, Stays, Done, Fails, Faulted, Exhausted, Lost}
+use Rattle.cache_model.specs.Room.{MayDisplace, displaced_record}
+use Rattle.cache_model.specs.Permit.{IsAmong}
+use Rattle.cache_model.specs.Legal
+use Rattle.cache_model.specs.Legal.{Does, answer_record, aborted_record, is_given}
+use Rattle.cache_model.proofs.Found.{none_is}
+use Rattle.script_laws.specs.Causes
+use Rattle.script_laws.specs.Causes.{IsGivenBy, IsTraced, cause_given, cause_told}
+use Rattle.script_laws.specs.Troubles.{IsCounted}
+use Rattle.script_laws.proofs.Among.{all_append}
+use Rattle.script_laws.proofs.Losses.{given_left}
+use Rattle.script_laws.proofs.Standing.{LookIsTraced, NextIsTraced, look_stands, next_stands}
+
+-- what the record tells is traced, by these records
+abbrev pub TellsTraced : State → List Rec → Rec → Type 0
+TellsTraced s all r = (why : Cause) → cause_told r ≡ Some why → IsTraced s all why
+
+-- where the group is refused by the device, it recorded the fault
+abbrev pub EndIsRecorded : List Rec → End → Type 0
+EndIsRecorded added (Fails (Faulted count)) = IsAmong (rec.Fault count) added
+EndIsRecorded added _ = Unit {0}
+
+module _ (p : Permit) where
+  -- the record begins no session, and the device counted a fault in the step
+  abbrev pub IsKept : Rec → Type 0
+  IsKept (rec.Formatted geometry) = ⊥
+  IsKept (rec.Fault count) = IsCounted p count
+  IsKept _ = Unit {0}
+
+  pub record IsGroup (s : State) (added : List Rec) (e : End) : Type 0 where
+    pub kept : AllByRecursion IsKept added
+    pub traced : AllByRecursion (TellsTraced s added) added
+    pub failed : EndIsRecorded added e
+
+  -- ---- records that tell nothing
+
+  abbrev IsSilent : Rec → Type 0
+  IsSilent r = IsKept r × (cause_told r ≡ None)
+
+  abbrev AreSilent : List Rec → Type 0
+  AreSilent recs = AllByRecursion IsSilent recs
+
+  silent_kept : (recs : List Rec) → AreSilent recs → AllByRecursion IsKept recs
+  silent_kept [] h = tt
+  silent_kept (r ∷ recs) h = (h.0.0, silent_kept recs h.1)
+
+  tells_none : (s : State) (all : List Rec) (r : Rec) → cause_told r ≡ None → TellsTraced s all r
+  tells_none s all r none why told = none_is (sym none ∙ told)
+
+  silent_traced : (s : State) (all recs : List Rec) → AreSilent recs → AllByRecursion (TellsTraced s all) recs
+  silent_traced s all [] h = tt
+  silent_traced s all (r ∷ recs) h = (tells_none s all r h.0.1, silent_traced s all recs h.1)
+
+  silent : (s : State) (added other : List Rec) (e : End) → added ≡ other → EndIsRecorded other e → AreSilent other → IsGroup s added e
+  silent s added other e is end h =
+      let group : IsGroup s other e = record { kept = silent_kept other h; traced = silent_traced s other other h; failed = end } in
+      subst (λ recs. IsGroup s recs e) (sym is) group
+
+  -- ---- faults
+
+  counted : (s : State) (count : ℕ) → Legal.MayCount p s count → IsCounted p count
+  counted s count m =
+      let rose : min (max p.faults_before s.fault + 1) (2 ^ 64 - 1) ≤ count = m.rose in
+      record { risen = omega (arith, rose); reached = m.reached }
+
+  fault : (s : State) (count : ℕ) (added : List Rec) → Legal.MayCount p s count → added ≡ rec.Fault count ∷ [] → IsGroup s added (Fails (Faulted count))
+  fault s count added m is = silent s added (rec.Fault count ∷ []) (Fails (Faulted count)) is (inl refl) ((counted s count m, refl), tt)
+
+  -- ---- what comes before an answer
+
+  -- records that tell nothing, one of which stands for the cause
+  record Gives (before : List Rec) (why : Cause) : Type 0 where
+    silent : AreSilent before
+    given : IsGivenBy before why
+
+  one : (r : Rec) (why : Cause) → IsSilent r → cause_given r ≡ Some why → Gives (r ∷ []) why
+  one r why quiet gives = record { silent = (quiet, tt); given = record { r = r; among = inl refl; gives = gives } }
+
+  trouble : (s : State) (row : Row) (before : List Rec) (why : Cause) → Legal.Trouble p s row before why → Gives before why
+  trouble s row before why (Legal.Trouble.faulted count w m) = one (rec.Fault count) why (counted s count m, refl) refl
+  trouble s row before why (Legal.Trouble.damaged found d) = one (Legal.damage_record row row.digest found) why (tt, refl) refl
+
+  read_trouble : (s : State) (r : ReaderRow) (row : Row) (entry : TableRow) (before : List Rec) (why : Cause) → Legal.ReadTrouble p s r row entry before why → Gives before why
+  read_trouble s r row entry before why (Legal.ReadTrouble.troubled b c t) = trouble s row before why t
+  read_trouble s r row entry before why (Legal.ReadTrouble.mismatched found hit m) = one (Legal.damage_record row (Legal.digest_in entry) found) why (tt, refl) refl
+
+  by_given : (s : State) (before rest : List Rec) (why : Cause) → Gives before why → IsTraced s (before ++ rest) why
+  by_given s before rest why g = Causes.IsTraced.recorded (given_left before rest why g.given)
+
+  -- ---- answers
+
+  answered : (s : State) (added before : List Rec) (a : Rec) (e : End) → added ≡ before ++ a ∷ [] → AreSilent before → IsKept a
+      → TellsTraced s (before ++ a ∷ []) a → EndIsRecorded (before ++ a ∷ []) e → IsGroup s added e
+  answered s added before a e is quiet kept tells end =
+      let all : List Rec = before ++ a ∷ [] in
+      let group : IsGroup s all e = record {
+        kept = all_append IsKept before (a ∷ []) (silent_kept before quiet) (kept, tt);
+        traced = all_append (TellsTraced s all) before (a ∷ []) (silent_traced s all before quiet) (tells, tt);
+        failed = end;
+      } in
+      subst (λ recs. IsGroup s recs e) (sym is) group
+
+  opened_tells : (s : State) (all : List Rec) (reader : ℕ) (who : Actor) (key : Key) (request : List Field) (answer : ReadAnswer) → LookIsTraced s all answer
+      → TellsTraced s all (rec.ReadOpened reader who key request answer)
+  opened_tells s all reader who key request (read.Hit put) h why told = none_is told
+  opened_tells s all reader who key request (read.Follow put) h why told = none_is told
+  opened_tells s all reader who key request (read.Miss cause) h why told = let same : cause ≡ why = cc in subst (IsTraced s all) same h
+
+  answer_tells : (s : State) (all : List Rec) (reader : ℕ) (answer : NextAnswer) → NextIsTraced s all answer → TellsTraced s all (answer_record reader answer)
+  answer_tells s all reader (next.Gave index length) h why told = none_is told
+  answer_tells s all reader (next.Ended length) h why told = none_is told
+  answer_tells s all reader (next.Waited cut) h why told = none_is told
+  answer_tells s all reader (next.Broke cause) h why told = let same : cause ≡ why = cc in subst (IsTraced s all) same h
+
+  answer_kept : (reader : ℕ) (answer : NextAnswer) → IsKept (answer_record reader answer)
+  answer_kept reader (next.Gave index length) = tt
+  answer_kept reader (next.Ended length) = tt
+  answer_kept reader (next.Waited cut) = tt
+  answer_kept reader (next.Broke why) = tt
+
+  -- what comes before a lookup's answer, and where its cause comes from
+  record IsBefore (Traced : List Rec → Type 0) (before : List Rec) : Type 0 where
+    silent : AreSilent before
+    traced : (rest : List Rec) → Traced (before ++ rest)
+
+  lookup : (s : State) (key : Key) (request : List Field) (before : List Rec) (answer : ReadAnswer) → Legal.IsLookup p s key request before answer
+      → IsBefore (λ all. LookIsTraced s all answer) before
+  lookup s key request before answer (Legal.IsLookup.verdict r) = record { silent = tt; traced = λ rest. look_stands s rest key request }
+  lookup s key request before answer (Legal.IsLookup.trouble row b why live t) =
+      let g : Gives before why = trouble s row before why t in
+      record { silent = g.silent; traced = λ rest. by_given s before rest why g }
+
+  reading : (s : State) (r : ReaderRow) (before : List Rec) (answer : NextAnswer) → Legal.IsReading p s r before answer
+      → IsBefore (λ all. NextIsTraced s all answer) before
+  reading s r before answer (Legal.IsReading.verdict x) = record { silent = tt; traced = λ rest. next_stands s rest r }
+  reading s r before answer (Legal.IsReading.trouble entry row b why n live t) =
+      let g : Gives before why = read_trouble s r row entry before why t in
+      record { silent = g.silent; traced = λ rest. by_given s before rest why g }
+
+  looked : (s : State) (actor : ℕ) (key : Key) (request : List Field) (added : List Rec) → Legal.MayLook p s actor key request added → IsGroup s added Done
+  looked s actor key request added m =
+      let a : Rec = rec.ReadOpened s.next_reader m.who key request m.answer in
+      let b : IsBefore (λ all. LookIsTraced s all m.answer) m.before = lookup s key request m.before m.answer m.right in
+      answered s added m.before a Done m.is b.silent tt (opened_tells s (m.before ++ a ∷ []) s.next_reader m.who key request m.answer (b.traced (a ∷ []))) tt
+
+  read_on : (s : State) (reader : ℕ) (answer : NextAnswer) (added : List Rec) (e : End) → EndIsRecorded (added) e → Legal.MayReadOn p s reader answer added → IsGroup s added e
+  read_on s reader answer added e end m =
+      let a : Rec = answer_record reader answer in
+      let b : IsBefore (λ all. NextIsTraced s all answer) m.before = reading s m.r m.before answer m.right in
+      answered s added m.before a e m.is b.silent (answer_kept reader answer) (answer_tells s (m.before ++ a ∷ []) reader answer (b.traced (a ∷ [])))
+      (subst (λ recs. EndIsRecorded recs e) m.is end)
+
+  stays_or_done : (added : List Rec) (b : Bool) → EndIsRecorded added (cond b Stays Done)
+  stays_or_done added true = tt
+  stays_or_done added false = tt
+
+  -- ---- what is placed
+
+  displacements : (segment live : ℕ) (rows : List Row) → AreSilent (map (displaced_record segment live) rows)
+  displacements segment live [] = tt
+  displacements segment live (row ∷ rows) = ((tt, refl), displacements segment live rows)
+
+  displaced : (s : State) (piece : PieceId) (added : List Rec) → MayDisplace p s piece added → AreSilent added
+  displaced s piece added m = subst AreSilent (sym m.is) (displacements _ _ m.purged)
+
+  room : (s : State) (bytes : ℕ) (added : List Rec) (e : End) → Legal.MakesRoom p s bytes added e → IsGroup s added e
+  room s bytes added e (Legal.MakesRoom.flushes h m) = silent s added _ e m.is tt ((tt, refl), tt)
+  room s bytes added e (Legal.MakesRoom.stops count h m) = fault s count added m.counts m.is
+  room s bytes added e (Legal.MakesRoom.exhausted h q is) = silent s added [] e is tt tt
+
+  -- a group that comes to an end at which no fault is recorded
+  ends_so : (s : State) (added other : List Rec) (e end : End) → added ≡ other → e ≡ end → EndIsRecorded other end → AreSilent other → IsGroup s added e
+  ends_so s added other e end is same recorded h = silent s added other e is (subst (EndIsRecorded other) (sym same) recorded) h
+
+  -- ---- each group
+
+  pub group : (s : State) (i : Intent) (added : List Rec) (e : End) → Does p s i added e → IsGroup s added e
+  group s Flush added e (Legal.DoesFlush.empty q f is) = silent s added [] e is tt tt
+  group s Flush added e (Legal.DoesFlush.flushes m) = silent s added _ e m.is tt ((tt, refl), tt)
+  group s Flush added e (Legal.DoesFlush.stops count m) = fault s count added m.counts m.is
+  group s Flush added e (Legal.DoesFlush.exhausted q f b is) = silent s added [] e is tt tt
+  group s (Write actor key request response pin) added e (Legal.DoesWrite.opens m) = silent s added _ e m.is tt ((tt, refl), tt)
+  group s (Write actor key request response pin) added e (Legal.DoesWrite.many q m is) = silent s added [] e is tt tt
+  group s (Write actor key request response pin) added e (Legal.DoesWrite.exhausted q m l is) = silent s added [] e is tt tt
+  group s (Fragment put index payload) added e (Legal.DoesFragment.places d m) =
+      ends_so s added _ e Done m.is d tt ((tt, refl), all_append IsSilent m.displaced _ (displaced s _ m.displaced m.displaces) ((tt, refl), tt))
+  group s (Fragment put index payload) added e (Legal.DoesFragment.rooms w n m) = room s _ added e m
+  group s (Fragment put index payload) added e (Legal.DoesFragment.exhausted w x n q) = ends_so s added [] e (Fails Exhausted) q.is x tt tt
+  group s (Overflow put) added e (Legal.DoesOverflow.aborts w q l is) = silent s added _ e is tt ((tt, refl), tt)
+  group s (Weigh put rest) added e (Legal.DoesWeigh.weighs w q r f is) = silent s added [] e is tt tt
+  group s (Weigh put rest) added e (Legal.DoesWeigh.too_large w q r f is) = silent s added _ e is tt ((tt, refl), tt)
+  group s (Weigh put rest) added e (Legal.DoesWeigh.damaged w row found q live d is) = silent s added _ e is tt ((tt, refl), tt)
+  group s (Weigh put rest) added e (Legal.DoesWeigh.faulted w row count q live r m is) = fault s count added m is
+  group s (Finish put fragments) added e (Legal.DoesFinish.places d m) =
+      ends_so s added _ e Done m.is d tt (all_append IsSilent m.displaced _ (displaced s _ m.displaced m.displaces) ((tt, refl), tt))
+  group s (Finish put fragments) added e (Legal.DoesFinish.rooms w c m) = room s _ added e m
+  group s (Finish put fragments) added e (Legal.DoesFinish.exhausted w x c l q) = ends_so s added [] e (Fails Exhausted) q.is x tt tt
+  group s (Finish put fragments) added e (Legal.DoesFinish.loses w index d m is) = ends_so s added _ e (Fails (Lost put index)) is d tt ((tt, refl), tt)
+  group s (Commit put) added e (Legal.DoesCommit.commits w f o q is) = silent s added _ e is tt ((tt, refl), tt)
+  group s (GiveUp put) added e (Legal.DoesGiveUp.aborts w q is) = silent s added _ e is tt ((tt, refl), tt)
+  group s (GiveUp put) added e (Legal.DoesGiveUp.over q o is) = silent s added [] e is tt tt
+  group s (Remove key) added e (Legal.DoesRemove.removes row q l is) = silent s added _ e is tt ((tt, refl), tt)
+  group s (Remove key) added e (Legal.DoesRemove.absent q l is) = silent s added [] e is tt tt
+  group s (Look actor key request) added e (Legal.DoesLook.looks m) = looked s actor key request added m
+  group s (ReadOn reader) added e (Legal.DoesReadOn.reads_on answer m) = read_on s reader answer added e tt m
+  group s (ReadAll reader) added e (Legal.DoesReadAll.reads_on answer x m y) =
+      read_on s reader answer added e (subst (EndIsRecorded added) (sym y) (stays_or_done added (is_given answer))) m
+  group s (ReadAll reader) added e (Legal.DoesReadAll.has_none q x is y) = ends_so s added [] e Done is y tt tt
+  group s (StopReading reader) added e (Legal.DoesStopReading.closes r q l is) = silent s added _ e is tt ((tt, refl), tt)
+  group s (StopReading reader) added e (Legal.DoesStopReading.closed q l is) = silent s added [] e is tt tt

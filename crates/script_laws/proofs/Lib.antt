@@ -1,0 +1,9 @@
+mod Among
+mod Losses
+mod Standing
+mod Groups
+mod Walking
+mod Said
+mod Faults
+mod Damages
+mod Runs

@@ -1,0 +1,102 @@
+-- The pieces that were lost, record by record.
+use Rattle.std.proofs.Common.{◌≡◌, List, [], ◌∷◌, ◌++◌, refl, sym, ap, inl, inr, ◌⊎◌}
+use Rattle.std.specs.Prelude.{Some}
+use Rattle.tape_base.specs.declared.pieces.PieceId.{PieceId}
+use Rattle.tape_base.specs.declared.geometries.Geometry.{Geometry}
+use Rattle.cache_model.specs.declared.cause.Cause.{Cause}
+use Rattle.cache_model.specs.declared.record.Rec.{Rec}
+use Rattle.cache_model.specs.declared.record.Rec.TheVariants as rec
+use Rattle.cache_model.specs.State.{State, after_all, state_after}
+use Rattle.cache_model.specs.Permit.{IsAmong}
+use Rattle.cache_model.specs.Legal.{format_records}
+use Rattle.script_laws.specs.Causes
+use Rattle.script_laws.specs.Causes.{IsGivenBy, IsTraced, cause_given}
+use Rattle.script_laws.specs.Troubles.{NoLossIsAFault}
+use Rattle.script_laws.proofs.Among.{among_left, among_right}
+
+-- ---- no loss is a fault
+
+record_stays : (s : State) (r : Rec) → NoLossIsAFault s → NoLossIsAFault (state_after s r)
+record_stays s (rec.Formatted geometry) h = tt
+record_stays s (rec.Began cursor floor) h = h
+record_stays s (rec.Placed piece place blocks digest pin) h = h
+record_stays s (rec.Moved piece from place digest) h = h
+record_stays s (rec.Unsaved piece place fault) h = h
+record_stays s (rec.Displaced piece segment live) h = (refl, h)
+record_stays s (rec.Damaged piece place kept found) h = (refl, h)
+record_stays s (rec.WriteOpened actor put key request response pin) h = h
+record_stays s (rec.Cut put index length digest) h = h
+record_stays s (rec.Committed put key length) h = h
+record_stays s (rec.Aborted put key) h = h
+record_stays s (rec.Removed put key) h = h
+record_stays s (rec.ReadOpened reader actor key request answer) h = h
+record_stays s (rec.Gave reader index length) h = h
+record_stays s (rec.Ended reader length) h = h
+record_stays s (rec.Waited reader cut) h = h
+record_stays s (rec.Broke reader why) h = h
+record_stays s (rec.ReadClosed reader) h = h
+record_stays s (rec.Fault count) h = h
+
+pub losses_stay : (s : State) (added : List Rec) → NoLossIsAFault s → NoLossIsAFault (after_all s added)
+losses_stay s [] h = h
+losses_stay s (r ∷ recs) h = losses_stay (state_after s r) recs (record_stays s r h)
+
+pub formats_lose_none : (s : State) (geometry : Geometry) → NoLossIsAFault (after_all s (format_records geometry))
+formats_lose_none s geometry = tt
+
+-- ---- where a loss comes from
+
+loss_by : (s : State) (r : Rec) (piece : PieceId) (why : Cause) → IsAmong (piece, why) (state_after s r).lost → IsAmong (piece, why) s.lost ⊎ (cause_given r ≡ Some why)
+loss_by s (rec.Formatted geometry) piece why h = absurd h
+loss_by s (rec.Began cursor floor) piece why h = inl h
+loss_by s (rec.Placed id place blocks digest pin) piece why h = inl h
+loss_by s (rec.Moved id from place digest) piece why h = inl h
+loss_by s (rec.Unsaved id place fault) piece why h = inl h
+loss_by s (rec.Displaced id segment live) piece why h = elim h [ inl same ↦ inr (ap (λ (x : PieceId × Cause). Some x.1) (sym same)) | inr before ↦ inl before ]
+loss_by s (rec.Damaged id place kept found) piece why h = elim h [ inl same ↦ inr (ap (λ (x : PieceId × Cause). Some x.1) (sym same)) | inr before ↦ inl before ]
+loss_by s (rec.WriteOpened actor put key request response pin) piece why h = inl h
+loss_by s (rec.Cut put index length digest) piece why h = inl h
+loss_by s (rec.Committed put key length) piece why h = inl h
+loss_by s (rec.Aborted put key) piece why h = inl h
+loss_by s (rec.Removed put key) piece why h = inl h
+loss_by s (rec.ReadOpened reader actor key request answer) piece why h = inl h
+loss_by s (rec.Gave reader index length) piece why h = inl h
+loss_by s (rec.Ended reader length) piece why h = inl h
+loss_by s (rec.Waited reader cut) piece why h = inl h
+loss_by s (rec.Broke reader cause) piece why h = inl h
+loss_by s (rec.ReadClosed reader) piece why h = inl h
+loss_by s (rec.Fault count) piece why h = inl h
+
+given_by : (r : Rec) (recs : List Rec) (why : Cause) → cause_given r ≡ Some why → IsGivenBy (r ∷ recs) why
+given_by r recs why e = record { r = r; among = inl refl; gives = e }
+
+given_later : (r : Rec) (recs : List Rec) (why : Cause) → IsGivenBy recs why → IsGivenBy (r ∷ recs) why
+given_later r recs why g = record { r = g.r; among = inr g.among; gives = g.gives }
+
+losses_from : (s : State) (recs : List Rec) (piece : PieceId) (why : Cause) → IsAmong (piece, why) (after_all s recs).lost → IsAmong (piece, why) s.lost ⊎ IsGivenBy recs why
+losses_from s [] piece why h = inl h
+losses_from s (r ∷ recs) piece why h = elim (losses_from (state_after s r) recs piece why h) [
+  | inl there ↦ elim (loss_by s r piece why there) [ inl before ↦ inl before | inr gives ↦ inr (given_by r recs why gives) ]
+  | inr given ↦ inr (given_later r recs why given)
+]
+
+-- ---- traces among more records
+
+pub given_left : (a b : List Rec) (why : Cause) → IsGivenBy a why → IsGivenBy (a ++ b) why
+given_left a b why g = record { r = g.r; among = among_left g.r a b g.among; gives = g.gives }
+
+pub given_right : (a b : List Rec) (why : Cause) → IsGivenBy b why → IsGivenBy (a ++ b) why
+given_right a b why g = record { r = g.r; among = among_right g.r a b g.among; gives = g.gives }
+
+pub traced_left : (s : State) (a b : List Rec) (why : Cause) → IsTraced s a why → IsTraced s (a ++ b) why
+traced_left s a b why (Causes.IsTraced.stands e) = Causes.IsTraced.stands e
+traced_left s a b why (Causes.IsTraced.lost piece h) = Causes.IsTraced.lost piece h
+traced_left s a b why (Causes.IsTraced.recorded g) = Causes.IsTraced.recorded (given_left a b why g)
+
+pub traced_right : (s : State) (a b : List Rec) (why : Cause) → IsTraced (after_all s a) b why → IsTraced s (a ++ b) why
+traced_right s a b why (Causes.IsTraced.stands e) = Causes.IsTraced.stands e
+traced_right s a b why (Causes.IsTraced.lost piece h) = elim (losses_from s a piece why h) [
+  | inl before ↦ Causes.IsTraced.lost piece before
+  | inr given ↦ Causes.IsTraced.recorded (given_left a b why given)
+]
+traced_right s a b why (Causes.IsTraced.recorded g) = Causes.IsTraced.recorded (given_right a b why g)

@@ -1,0 +1,235 @@
+-- What holds of every line of a script, by what holds of what was told of the devices in the end.
+use Rattle.std.proofs.Common.{◌≡◌, ℕ, ◌<◌, List, [], ◌∷◌, ◌++◌, Bool, true, false, refl, sym, ◌∙◌, subst, arith}
+use Rattle.std.specs.Prelude.{All, Option, Some, None, option_map, suc, unwrap_or, zero}
+use Rattle.std.proofs.lemmas.List.Elements.{All-append, All-cons, All-head, All-nil, All-tail}
+use Rattle.tape_base.specs.declared.geometries.BadGeometry.{BadGeometry}
+use Rattle.tape_base.specs.declared.geometries.Geometry.{Geometry}
+use Rattle.tape_base.specs.Limits.{first_refusal}
+use Rattle.cache_model.specs.declared.cause.Cause.{Cause}
+use Rattle.cache_model.specs.declared.record.Rec.{Rec}
+use Rattle.cache_model.specs.State.{State, after_all, nothing_yet}
+use Rattle.cache_model.specs.Legal.{format_records}
+use Rattle.cache_model.proofs.Found.{no_truth}
+use Rattle.stripe_core.specs.Unharmed.{has_damage, is_damage}
+use Rattle.script_lang.specs.declared.step.Step.{Step}
+use Rattle.script_lang.specs.declared.step.Step.TheVariants as step
+use Rattle.script_lang.specs.declared.line.LineAnswer.{LineAnswer}
+use Rattle.script_lang.specs.declared.line.LineAnswer.TheVariants as line
+use Rattle.script_lang.specs.declared.answer.StepAnswer.{StepAnswer}
+use Rattle.script_lang.specs.declared.answer.StepAnswer.TheVariants as answer
+use Rattle.script_lang.specs.Grammar.{reading_of}
+use Rattle.script_run.specs.Run.{Harm, Run, fresh}
+use Rattle.script_run.specs.Turn.{Turn}
+use Rattle.script_run.specs.Asked.{asked}
+use Rattle.script_run.specs.Answers.{format_said, session_said, step_said}
+use Rattle.script_run.specs.Behind.{after_format, after_line, after_reading, behind, harm_in, harm_of, harms_of}
+use Rattle.script_run.specs.Takes.{FormatTakes, IsRun, ReadingTakes, SessionTakes, Takes, run_after}
+use Rattle.script_laws.specs.Causes.{cause_answered}
+use Rattle.script_laws.specs.Troubles.{NoLossIsAFault, is_fault}
+use Rattle.script_laws.specs.Runs.{NoneAnswers, ReadsWithout, answers_damage, answers_fault}
+use Rattle.script_laws.proofs.Losses.{formats_lose_none, losses_stay}
+use Rattle.script_laws.proofs.Walking.{fault_stays}
+use Rattle.script_laws.proofs.Faults.{fault_is_recorded, named_is_recorded}
+use Rattle.script_laws.proofs.Damages.{damage_is_recorded, damage_stays}
+
+-- ---- lists
+
+all_front : {X : Type 0} (P : X → Type 0) (xs ys : List X) → All P (xs ++ ys) → All P xs
+all_front P [] ys all = All-nil P
+all_front P (x ∷ xs) ys all = All-cons P x xs (All-head P x (xs ++ ys) all) (all_front P xs ys (All-tail P x (xs ++ ys) all))
+
+all_behind : {X : Type 0} (P : X → Type 0) (xs ys : List X) → All P (xs ++ ys) → All P ys
+all_behind P [] ys all = all
+all_behind P (x ∷ xs) ys all = all_behind P xs ys (All-tail P x (xs ++ ys) all)
+
+-- ---- a line of a session
+
+-- what is asked of a way to answer: what was told of the device behind a line shows that the line was not
+-- answered so, and was told before it
+record IsWitnessed (test : StepAnswer → Bool) (Fine : Harm → Type 0) (Sound : State → Type 0) : Type 0 where
+  formats : (geometry : Geometry) → Sound (after_all nothing_yet (format_records geometry))
+  stays : (run : Run) (s : State) (turn : Turn) (step : Step) → SessionTakes run s turn step → Sound s → Sound (after_all s turn.added)
+  before : (run : Run) (s : State) (turn : Turn) (step : Step) → SessionTakes run s turn step → Fine (harm_in (after_all s turn.added)) → Fine (harm_in s)
+  without : (run : Run) (s : State) (turn : Turn) (step : Step) → SessionTakes run s turn step → Sound s → Fine (harm_in (after_all s turn.added))
+      → test (session_said run s (after_all s turn.added) turn step) ≡ false
+  format : (added : List Rec) (bad : Option BadGeometry) → test (format_said added bad) ≡ false
+  moment : (at : ℕ) → test (answer.Now at) ≡ false
+
+module _ (test : StepAnswer → Bool) (Fine : Harm → Type 0) (Sound : State → Type 0) (w : IsWitnessed test Fine Sound) where
+  abbrev IsSound : Option State → Type 0
+  IsSound None = Unit {0}
+  IsSound (Some s) = Sound s
+
+  abbrev AreFine : List Harm → Type 0
+  AreFine harms = All Fine harms
+
+  -- what a line leaves, and what was told behind it shows
+  record IsPlayed (run : Run) (state : Option State) (next : Run) (Without : Type 0) : Type 0 where
+    sound : IsSound next.state
+    back : AreFine (harms_of next) → Without × AreFine (run.ended ++ harm_of state)
+
+  in_session : (run : Run) (s : State) (turn : Turn) (step : Step) (next : Run) → next.state ≡ Some (after_all s turn.added) → next.ended ≡ run.ended → Sound s → SessionTakes run s turn step
+      → IsPlayed run (Some s) next (test (session_said run s (after_all s turn.added) turn step) ≡ false)
+  in_session run s turn step next state ended sound takes =
+      let t : State = after_all s turn.added in
+      record {
+        sound = subst IsSound (sym state) (w.stays run s turn step takes sound);
+        back = λ (fine : AreFine (harms_of next)).
+            let told : AreFine (run.ended ++ harm_in t ∷ []) = rw (ended, state) at fine in
+            let last : Fine (harm_in t) = All-head Fine (harm_in t) [] (all_behind Fine run.ended (harm_in t ∷ []) told) in
+            let here : Fine (harm_in s) = w.before run s turn step takes last in (
+              w.without run s turn step takes sound last,
+              All-append Fine run.ended (harm_in s ∷ []) (all_front Fine run.ended (harm_in t ∷ []) told) (All-cons Fine (harm_in s) [] here (All-nil Fine)),
+            );
+      }
+
+  by_format : (run : Run) (turn : Turn) (name : List ℕ) (segments buckets content agg reach fragment generation : ℕ) (bad : Option BadGeometry) → IsSound run.state
+      → FormatTakes turn.added segments buckets content agg reach fragment generation bad
+      → IsPlayed run run.state (after_format run name turn.added bad) (test (format_said turn.added bad) ≡ false)
+  by_format run turn name segments buckets content agg reach fragment generation (Some bad) sound takes =
+      record { sound = sound; back = λ fine. (w.format turn.added (Some bad), fine) }
+  by_format run turn name segments buckets content agg reach fragment generation None sound takes = record {
+    sound = subst (λ added. Sound (after_all nothing_yet added)) (sym takes.2) (w.formats takes.0);
+    back = λ fine. (w.format turn.added None, all_front Fine (harms_of run) (harm_in (after_all nothing_yet turn.added) ∷ []) fine);
+  }
+
+  -- ---- each line
+
+  played : (run : Run) (turn : Turn) (o : Option State) (step : Step) → run.state ≡ o → IsSound o → Takes run turn o step
+      → IsPlayed run o (behind run turn o step) (test (step_said run turn o step) ≡ false)
+  played run turn o (step.Format name segments buckets content agg reach fragment generation) e sound takes =
+      let bad : Option BadGeometry = first_refusal segments buckets content agg reach fragment in
+      subst (λ (x : Option State). IsPlayed run x (after_format run name turn.added bad) (test (format_said turn.added bad) ≡ false)) e
+      (by_format run turn name segments buckets content agg reach fragment generation bad (subst IsSound (sym e) sound) takes)
+  played run turn o (step.Now at) e sound takes = record {
+    sound = subst IsSound (sym e) sound;
+    back = λ fine. (w.moment at, subst (λ (x : Option State). AreFine (run.ended ++ harm_of x)) e fine);
+  }
+  played run turn (Some s) (step.Put key body request response) e sound takes = in_session run s turn (step.Put key body request response) (behind run turn (Some s) (step.Put key body request response)) refl refl sound takes
+  played run turn (Some s) (step.Get key request) e sound takes = in_session run s turn (step.Get key request) (behind run turn (Some s) (step.Get key request)) refl refl sound takes
+  played run turn (Some s) (step.OpenWrite actor key pin request response) e sound takes = in_session run s turn (step.OpenWrite actor key pin request response) (behind run turn (Some s) (step.OpenWrite actor key pin request response)) refl refl sound takes
+  played run turn (Some s) (step.Feed actor body) e sound takes = in_session run s turn (step.Feed actor body) (behind run turn (Some s) (step.Feed actor body)) refl refl sound takes
+  played run turn (Some s) (step.Close actor) e sound takes = in_session run s turn (step.Close actor) (behind run turn (Some s) (step.Close actor)) refl refl sound takes
+  played run turn (Some s) (step.Abort actor) e sound takes = in_session run s turn (step.Abort actor) (behind run turn (Some s) (step.Abort actor)) refl refl sound takes
+  played run turn (Some s) (step.OpenRead actor key request) e sound takes = in_session run s turn (step.OpenRead actor key request) (behind run turn (Some s) (step.OpenRead actor key request)) refl refl sound takes
+  played run turn (Some s) (step.Next actor) e sound takes = in_session run s turn (step.Next actor) (behind run turn (Some s) (step.Next actor)) refl refl sound takes
+  played run turn (Some s) (step.Done actor) e sound takes = in_session run s turn (step.Done actor) (behind run turn (Some s) (step.Done actor)) refl refl sound takes
+  played run turn (Some s) (step.Remove key) e sound takes = in_session run s turn (step.Remove key) (behind run turn (Some s) (step.Remove key)) refl refl sound takes
+  played run turn (Some s) step.Flush e sound takes = in_session run s turn step.Flush (behind run turn (Some s) step.Flush) refl refl sound takes
+  played run turn None (step.Put key body request response) e sound takes = absurd takes
+  played run turn None (step.Get key request) e sound takes = absurd takes
+  played run turn None (step.OpenWrite actor key pin request response) e sound takes = absurd takes
+  played run turn None (step.Feed actor body) e sound takes = absurd takes
+  played run turn None (step.Close actor) e sound takes = absurd takes
+  played run turn None (step.Abort actor) e sound takes = absurd takes
+  played run turn None (step.OpenRead actor key request) e sound takes = absurd takes
+  played run turn None (step.Next actor) e sound takes = absurd takes
+  played run turn None (step.Done actor) e sound takes = absurd takes
+  played run turn None (step.Remove key) e sound takes = absurd takes
+  played run turn None step.Flush e sound takes = absurd takes
+
+  read : (run : Run) (turn : Turn) (reading : LineAnswer) → IsSound run.state → ReadingTakes run turn reading
+      → IsPlayed run run.state (after_reading run turn reading) (ReadsWithout test run turn reading)
+  read run turn (line.Step s) sound takes = played run turn run.state s refl sound takes
+  read run turn line.Nothing sound takes = record { sound = sound; back = λ fine. (tt, fine) }
+  read run turn (line.Bad fault) sound takes = absurd takes
+
+  -- ---- all lines
+
+  along : (run : Run) (lines : List (List ℕ)) (turns : List Turn) → IsRun run lines turns → IsSound run.state → AreFine (harms_of (run_after run lines turns))
+      → NoneAnswers test run lines turns × AreFine (harms_of run)
+  along run [] [] is sound fine = (tt, fine)
+  along run [] (turn ∷ turns) is sound fine = absurd is
+  along run (bytes ∷ lines) [] is sound fine = absurd is
+  along run (bytes ∷ lines) (turn ∷ turns) is sound fine =
+      let one : IsPlayed run run.state (after_line run turn bytes) (ReadsWithout test run turn (reading_of bytes)) = read run turn (reading_of bytes) sound is.0 in
+      let rest : NoneAnswers test (after_line run turn bytes) lines turns × AreFine (harms_of (after_line run turn bytes)) = along (after_line run turn bytes) lines turns is.1 one.sound fine in
+      let here = one.back rest.1 in
+      ((here.0, rest.0), here.1)
+
+  whole : (lines : List (List ℕ)) (turns : List Turn) → IsRun fresh lines turns → AreFine (harms_of (run_after fresh lines turns)) → NoneAnswers test fresh lines turns
+  whole lines turns is fine = (along fresh lines turns is tt fine).0
+
+-- ---- causes
+
+not_true : (b : Bool) → (b ≡ true → ⊥) → b ≡ false
+not_true true h = absurd (h refl)
+not_true false h = refl
+
+none_named : (test : Cause → Bool) (o : Option Cause) → ((why : Cause) → o ≡ Some why → test why ≡ true → ⊥) → unwrap_or (option_map test o) false ≡ false
+none_named test None h = refl
+none_named test (Some why) h = not_true (test why) (h why refl)
+
+-- ---- device faults
+
+no_fault : (a : StepAnswer) → ((count : ℕ) (took : Option ℕ) → a ≡ answer.DeviceFault count took → ⊥) → ((why : Cause) → cause_answered a ≡ Some why → is_fault why ≡ true → ⊥)
+    → answers_fault a ≡ false
+no_fault (answer.DeviceFault count took) h named = absurd (h count took refl)
+no_fault (answer.Formatted serial cursor floor) h named = none_named is_fault (cause_answered (answer.Formatted serial cursor floor)) named
+no_fault (answer.Put put length fragments) h named = none_named is_fault (cause_answered (answer.Put put length fragments)) named
+no_fault (answer.Got put length bytes) h named = none_named is_fault (cause_answered (answer.Got put length bytes)) named
+no_fault (answer.Miss why) h named = none_named is_fault (cause_answered (answer.Miss why)) named
+no_fault (answer.Broken why) h named = none_named is_fault (cause_answered (answer.Broken why)) named
+no_fault (answer.Follow put) h named = none_named is_fault (cause_answered (answer.Follow put)) named
+no_fault (answer.Writer put) h named = none_named is_fault (cause_answered (answer.Writer put)) named
+no_fault (answer.Took count) h named = none_named is_fault (cause_answered (answer.Took count)) named
+no_fault (answer.Aborted put) h named = none_named is_fault (cause_answered (answer.Aborted put)) named
+no_fault (answer.Hit put length) h named = none_named is_fault (cause_answered (answer.Hit put length)) named
+no_fault (answer.Piece index length bytes) h named = none_named is_fault (cause_answered (answer.Piece index length bytes)) named
+no_fault (answer.End length) h named = none_named is_fault (cause_answered (answer.End length)) named
+no_fault (answer.NotYet cut) h named = none_named is_fault (cause_answered (answer.NotYet cut)) named
+no_fault answer.Done h named = none_named is_fault (cause_answered answer.Done) named
+no_fault (answer.Removed put) h named = none_named is_fault (cause_answered (answer.Removed put)) named
+no_fault (answer.Absent why) h named = none_named is_fault (cause_answered (answer.Absent why)) named
+no_fault (answer.Flushed blocks cursor floor synced) h named = none_named is_fault (cause_answered (answer.Flushed blocks cursor floor synced)) named
+no_fault (answer.Now at) h named = none_named is_fault (cause_answered (answer.Now at)) named
+no_fault (answer.Refused why took) h named = none_named is_fault (cause_answered (answer.Refused why took)) named
+
+none_below : (n : ℕ) → n ≡ 0 → 0 < n → ⊥
+none_below n e h = omega (arith, e, h)
+
+none_before : (n m : ℕ) → (0 < n → 0 < m) → m ≡ 0 → n ≡ 0
+none_before zero m rises e = refl
+none_before (suc n) m rises e = absurd (none_below m e (rises (omega arith)))
+
+no_format_fault : (added : List Rec) (bad : Option BadGeometry) → answers_fault (format_said added bad) ≡ false
+no_format_fault added None = refl
+no_format_fault added (Some bad) = refl
+
+faultless : IsWitnessed answers_fault (λ harm. harm.fault ≡ 0) NoLossIsAFault
+faultless = record {
+  formats = λ geometry. formats_lose_none nothing_yet geometry;
+  stays = λ run s turn step takes sound. losses_stay s turn.added sound;
+  before = λ run s turn step takes fine. none_before s.fault (after_all s turn.added).fault (fault_stays turn.device s (asked run s step) turn.added turn.refused takes.legal) fine;
+  without = λ run s turn step takes sound fine. no_fault (session_said run s (after_all s turn.added) turn step)
+      (λ count took answered. none_below (after_all s turn.added).fault fine (fault_is_recorded run s turn step count took takes sound answered).told)
+      (λ why answered fault. none_below (after_all s turn.added).fault fine (named_is_recorded run s turn step why takes sound answered fault));
+  format = no_format_fault;
+  moment = λ at. refl;
+}
+
+pub faultless_runs : (lines : List (List ℕ)) (turns : List Turn) → IsRun fresh lines turns → All (λ (harm : Harm). harm.fault ≡ 0) (harms_of (run_after fresh lines turns)) → NoneAnswers answers_fault fresh lines turns
+faultless_runs = whole answers_fault (λ harm. harm.fault ≡ 0) NoLossIsAFault faultless
+
+-- ---- damage
+
+was_not_true : (a b : Bool) → (a ≡ true → b ≡ true) → b ≡ false → a ≡ false
+was_not_true a b stays e = not_true a (λ h. no_truth (sym (stays h) ∙ e))
+
+no_format_damage : (added : List Rec) (bad : Option BadGeometry) → answers_damage (format_said added bad) ≡ false
+no_format_damage added None = refl
+no_format_damage added (Some bad) = refl
+
+undamaged : IsWitnessed answers_damage (λ harm. harm.damaged ≡ false) (λ s. Unit {0})
+undamaged = record {
+  formats = λ geometry. tt;
+  stays = λ run s turn step takes sound. tt;
+  before = λ run s turn step takes fine. was_not_true (has_damage s) (has_damage (after_all s turn.added)) (damage_stays turn.device s (asked run s step) turn.added turn.refused takes.legal) fine;
+  without = λ run s turn step takes sound fine. none_named is_damage (cause_answered (session_said run s (after_all s turn.added) turn step))
+      (λ why answered damage. no_truth (sym (damage_is_recorded run s turn step why takes answered damage) ∙ fine));
+  format = no_format_damage;
+  moment = λ at. refl;
+}
+
+pub undamaged_runs : (lines : List (List ℕ)) (turns : List Turn) → IsRun fresh lines turns → All (λ (harm : Harm). harm.damaged ≡ false) (harms_of (run_after fresh lines turns)) → NoneAnswers answers_damage fresh lines turns
+undamaged_runs = whole answers_damage (λ harm. harm.damaged ≡ false) (λ s. Unit {0}) undamaged

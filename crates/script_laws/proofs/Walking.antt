@@ -1,0 +1,129 @@
+-- What is kept, told and refused along a step, group after group.
+use Rattle.std.proofs.Common.{◌≡◌, ℕ, ◌+◌, ◌-◌, ◌^◌, ◌<◌, ◌≤◌, List, [], ◌∷◌, ◌++◌, refl, sym, ◌∙◌, ap, subst, inl, inr, ◌⊎◌, arith}
+use Rattle.std.specs.Prelude.{Option, Some, min}
+use Rattle.std.specs.List.{AllByRecursion}
+use Rattle.cache_model.specs.declared.cause.Cause.{Cause}
+use Rattle.cache_model.specs.declared.record.Rec.{Rec}
+use Rattle.cache_model.specs.declared.record.Rec.TheVariants as rec
+use Rattle.cache_model.specs.State.{State, after_all, state_after}
+use Rattle.cache_model.specs.Permit.{Permit, Intent, IsAmong, End, Stays, Done, Fails, Faulted, Reason, Work, work_after}
+use Rattle.cache_model.specs.Legal.{Advances, MayGrow, nothing, more, IsStep}
+use Rattle.cache_model.proofs.Found.{none_is}
+use Rattle.script_laws.specs.Causes.{IsTraced, cause_told}
+use Rattle.script_laws.specs.Troubles.{IsCounted, IsFaultRecorded}
+use Rattle.script_laws.proofs.Among.{all_among, all_append, all_map, among_left, among_right}
+use Rattle.script_laws.proofs.Losses.{traced_left, traced_right}
+use Rattle.script_laws.proofs.Groups.{EndIsRecorded, IsGroup, IsKept, TellsTraced, group}
+
+-- ---- what is kept, and what is told
+
+pub record IsWalked (p : Permit) (s : State) (recs : List Rec) : Type 0 where
+  pub kept : AllByRecursion (IsKept p) recs
+  pub traced : AllByRecursion (TellsTraced s recs) recs
+
+told_left : (s : State) (a b : List Rec) (r : Rec) → TellsTraced s a r → TellsTraced s (a ++ b) r
+told_left s a b r tells why told = traced_left s a b why (tells why told)
+
+told_right : (s : State) (a b : List Rec) (r : Rec) → TellsTraced (after_all s a) b r → TellsTraced s (a ++ b) r
+told_right s a b r tells why told = traced_right s a b why (tells why told)
+
+joined : (p : Permit) (s : State) (a b : List Rec) (e : End) → IsGroup p s a e → IsWalked p (after_all s a) b → IsWalked p s (a ++ b)
+joined p s a b e first rest = record {
+  kept = all_append (IsKept p) a b first.kept rest.kept;
+  traced = all_append (TellsTraced s (a ++ b)) a b
+      (all_map (TellsTraced s a) (TellsTraced s (a ++ b)) a (told_left s a b) first.traced)
+      (all_map (TellsTraced (after_all s a) b) (TellsTraced s (a ++ b)) b (told_right s a b) rest.traced);
+}
+
+first_then : (p : Permit) (s : State) (is : List Intent) (why : Option Reason) (added tail : List Rec) (between : Work) → Advances p s is why added between
+    → IsWalked p (after_all s added) tail → IsWalked p s (added ++ tail)
+first_then p s [] why added tail between h rest = absurd h
+first_then p s (i ∷ is) why added tail between h rest = joined p s added tail h.0 (group p s i added h.0 h.1) rest
+
+pub walked : {p : Permit} {s : State} {w after : Work} {recs : List Rec} → MayGrow p s w recs after → IsWalked p s recs
+walked nothing = record { kept = tt; traced = tt }
+walked {p} {s} {w} (more {rest = tail} added between one others) = first_then p s w.intents w.refused added tail between one (walked others)
+
+pub causes_are_traced : (p : Permit) (s : State) (intents : List Intent) (added : List Rec) (refused : Option Reason) → IsStep p s intents added refused
+    → (r : Rec) (why : Cause) → IsAmong r added → cause_told r ≡ Some why → IsTraced s added why
+causes_are_traced p s intents added refused h r why among told = all_among (TellsTraced s added) added r (walked h.grows).traced among why told
+
+-- ---- refusals
+
+refused_by : (i : Intent) (is : List Intent) (why : Option Reason) (added : List Rec) (count : ℕ) (e : End) → EndIsRecorded added e
+    → (work_after i is why e).refused ≡ Some (Faulted count) → (why ≡ Some (Faulted count)) ⊎ IsAmong (rec.Fault count) added
+refused_by i is why added count Stays end h = inl h
+refused_by i is why added count Done end h = inl h
+refused_by i is why added count (Fails reason) end h =
+    let same : reason ≡ Faulted count = cc in
+    inr (subst (λ r. EndIsRecorded added (Fails r)) same end)
+
+refused_first : (p : Permit) (s : State) (is : List Intent) (why : Option Reason) (added : List Rec) (between : Work) (count : ℕ) → Advances p s is why added between
+    → between.refused ≡ Some (Faulted count) → (why ≡ Some (Faulted count)) ⊎ IsAmong (rec.Fault count) added
+refused_first p s [] why added between count h e = absurd h
+refused_first p s (i ∷ is) why added between count h e =
+    refused_by i is why added count h.0 (group p s i added h.0 h.1).failed (ap (λ (w : Work). w.refused) (sym h.2) ∙ e)
+
+pub refused_along : {p : Permit} {s : State} {w after : Work} {recs : List Rec} (count : ℕ) → MayGrow p s w recs after
+    → after.refused ≡ Some (Faulted count) → (w.refused ≡ Some (Faulted count)) ⊎ IsAmong (rec.Fault count) recs
+refused_along count nothing e = inl e
+refused_along {p} {s} {w} count (more {rest = tail} added between one others) e = elim (refused_along count others e) [
+  | inl first ↦ elim (refused_first p s w.intents w.refused added between count one first) [
+    | inl before ↦ inl before
+    | inr among ↦ inr (among_left (rec.Fault count) added tail among)
+  ]
+  | inr later ↦ inr (among_right (rec.Fault count) added tail later)
+]
+
+pub refusal_recorded : (p : Permit) (s : State) (intents : List Intent) (added : List Rec) (count : ℕ) → IsStep p s intents added (Some (Faulted count)) → IsAmong (rec.Fault count) added
+refusal_recorded p s intents added count h = elim (refused_along count h.grows refl) [ inl before ↦ none_is before | inr among ↦ among ]
+
+-- ---- the last fault
+
+above : (p : Permit) (count : ℕ) → IsCounted p count → 0 < count
+above p count c =
+    let rose : min (p.faults_before + 1) (2 ^ 64 - 1) ≤ count = c.risen in
+    omega (arith, rose)
+
+fault_kept : (p : Permit) (s : State) (r : Rec) → IsKept p r → 0 < s.fault → 0 < (state_after s r).fault
+fault_kept p s (rec.Formatted geometry) k h = absurd k
+fault_kept p s (rec.Began cursor floor) k h = h
+fault_kept p s (rec.Placed piece place blocks digest pin) k h = h
+fault_kept p s (rec.Moved piece from place digest) k h = h
+fault_kept p s (rec.Unsaved piece place fault) k h = h
+fault_kept p s (rec.Displaced piece segment live) k h = h
+fault_kept p s (rec.Damaged piece place kept found) k h = h
+fault_kept p s (rec.WriteOpened actor put key request response pin) k h = h
+fault_kept p s (rec.Cut put index length digest) k h = h
+fault_kept p s (rec.Committed put key length) k h = h
+fault_kept p s (rec.Aborted put key) k h = h
+fault_kept p s (rec.Removed put key) k h = h
+fault_kept p s (rec.ReadOpened reader actor key request answer) k h = h
+fault_kept p s (rec.Gave reader index length) k h = h
+fault_kept p s (rec.Ended reader length) k h = h
+fault_kept p s (rec.Waited reader cut) k h = h
+fault_kept p s (rec.Broke reader why) k h = h
+fault_kept p s (rec.ReadClosed reader) k h = h
+fault_kept p s (rec.Fault count) k h = above p count k
+
+faults_kept : (p : Permit) (s : State) (recs : List Rec) → AllByRecursion (IsKept p) recs → 0 < s.fault → 0 < (after_all s recs).fault
+faults_kept p s [] k h = h
+faults_kept p s (r ∷ recs) k h = faults_kept p (state_after s r) recs k.1 (fault_kept p s r k.0 h)
+
+-- behind a recorded fault
+told_behind : (p : Permit) (s : State) (recs : List Rec) (count : ℕ) → AllByRecursion (IsKept p) recs → IsAmong (rec.Fault count) recs → 0 < (after_all s recs).fault
+told_behind p s [] count k h = absurd h
+told_behind p s (r ∷ recs) count k h = elim h [
+  | inl same ↦ faults_kept p (state_after s r) recs k.1 (subst (λ x. IsKept p x → 0 < (state_after s x).fault) same (above p count) k.0)
+  | inr later ↦ told_behind p (state_after s r) recs count k.1 later
+]
+
+pub fault_stays : (p : Permit) (s : State) (intents : List Intent) (added : List Rec) (refused : Option Reason) → IsStep p s intents added refused
+    → 0 < s.fault → 0 < (after_all s added).fault
+fault_stays p s intents added refused h above = faults_kept p s added (walked h.grows).kept above
+
+pub fault_is_told : (p : Permit) (s : State) (intents : List Intent) (added : List Rec) (refused : Option Reason) (count : ℕ) → IsStep p s intents added refused
+    → IsAmong (rec.Fault count) added → IsFaultRecorded p s added count
+fault_is_told p s intents added refused count h among =
+    let kept : AllByRecursion (IsKept p) added = (walked h.grows).kept in
+    record { recorded = among; counted = all_among (IsKept p) added (rec.Fault count) kept among; told = told_behind p s added count kept among }

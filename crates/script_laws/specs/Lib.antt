@@ -1,0 +1,4 @@
+pub mod Causes
+pub mod Troubles
+pub mod Damages
+pub mod Runs

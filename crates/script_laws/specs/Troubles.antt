@@ -1,0 +1,63 @@
+-- Device faults that lines answer.
+use Rattle.std.specs.Prelude.{ℕ, ◌≡◌, ◌<◌, ◌≤◌, Bool, true, false, List, Option, Some}
+use Rattle.std.specs.List.{AllByRecursion}
+use Rattle.edge_io.specs.Causes.{Rose}
+use Rattle.tape_base.specs.declared.pieces.PieceId.{PieceId}
+use Rattle.tape_base.specs.declared.geometries.Geometry.{Geometry}
+use Rattle.cache_model.specs.declared.cause.Cause.{Cause}
+use Rattle.cache_model.specs.declared.cause.Cause.TheVariants as cause
+use Rattle.cache_model.specs.declared.record.Rec.{Rec}
+use Rattle.cache_model.specs.declared.record.Rec.TheVariants as rec
+use Rattle.cache_model.specs.State.{State, after_all}
+use Rattle.cache_model.specs.Permit.{Intent, IsAmong, Permit, Reason, Faulted}
+use Rattle.cache_model.specs.Legal.{IsStep, format_records}
+use Rattle.script_lang.specs.declared.step.Step.{Step}
+use Rattle.script_lang.specs.declared.answer.StepAnswer.TheVariants as answer
+use Rattle.script_run.specs.Run.{Run}
+use Rattle.script_run.specs.Turn.{Turn}
+use Rattle.script_run.specs.Answers.{session_said}
+use Rattle.script_run.specs.Takes.{SessionTakes}
+
+-- the cause is a fault of the device
+abbrev pub is_fault : Cause → Bool
+is_fault (cause.DeviceFault count) = true
+is_fault _ = false
+
+-- no piece was lost by a fault: pieces are displaced or damaged
+abbrev pub NoLossIsAFault : State → Type 0
+NoLossIsAFault s = AllByRecursion (λ (lost : PieceId × Cause). is_fault lost.1 ≡ false) s.lost
+
+-- behind a format no piece was lost
+abbrev pub FormatsLoseNone : Type 0
+FormatsLoseNone = (s : State) (geometry : Geometry) → NoLossIsAFault (after_all s (format_records geometry))
+
+-- and whatever records follow, none is lost by a fault
+abbrev pub LossesStay : Type 0
+LossesStay = (s : State) (added : List Rec) → NoLossIsAFault s → NoLossIsAFault (after_all s added)
+
+-- once a fault was told, the count of the last one is above 0 behind each step
+abbrev pub FaultStays : Type 0
+FaultStays = (p : Permit) (s : State) (intents : List Intent) (added : List Rec) (refused : Option Reason) → IsStep p s intents added refused
+    → 0 < s.fault → 0 < (after_all s added).fault
+
+-- the device counted the fault in the step: at its end it had come to this count, which rose above the one before
+pub record IsCounted (p : Permit) (count : ℕ) : Type 0 where
+  pub risen : Rose p.faults_before count
+  pub reached : count ≤ p.faults
+
+-- a fault of this count is recorded that the device counted in the step, and the count of the last fault is above 0
+pub record IsFaultRecorded (p : Permit) (s : State) (added : List Rec) (count : ℕ) : Type 0 where
+  pub recorded : IsAmong (rec.Fault count) added
+  pub counted : IsCounted p count
+  pub told : 0 < (after_all s added).fault
+
+-- a step that the device refused recorded that fault
+abbrev pub RefusalIsRecorded : Type 0
+RefusalIsRecorded = (p : Permit) (s : State) (intents : List Intent) (added : List Rec) (count : ℕ)
+    → IsStep p s intents added (Some (Faulted count)) → IsFaultRecorded p s added count
+
+-- a line on a session that answers a device fault recorded that fault
+abbrev pub FaultIsRecorded : Type 0
+FaultIsRecorded = (run : Run) (s : State) (turn : Turn) (step : Step) (count : ℕ) (took : Option ℕ) → SessionTakes run s turn step → NoLossIsAFault s
+    → session_said run s (after_all s turn.added) turn step ≡ answer.DeviceFault count took
+    → IsFaultRecorded turn.device s turn.added count

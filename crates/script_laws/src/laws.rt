@@ -1,0 +1,62 @@
+// Laws of what lines answer. These functions do nothing when they run.
+ghost use Rattle.script_laws.specs.Causes.{AnswersAreTraced, CausesAreTraced};
+ghost use Rattle.script_laws.specs.Damages.{DamageIsRecorded, DamageStays};
+ghost use Rattle.script_laws.specs.Runs.{FaultlessRuns, UndamagedRuns};
+ghost use Rattle.script_laws.specs.Troubles.{FaultIsRecorded, FaultStays, FormatsLoseNone, LossesStay, RefusalIsRecorded};
+
+/// Each cause that a step tells to those who read is how things stand, or that of a piece that was lost
+/// before, or that of a record of the step.
+pub fn causes_are_traced()
+    ensures { CausesAreTraced }
+{}
+
+/// And so is each cause that a line answers: of a miss, of a break, of what is absent, or of a fragment
+/// that is gone.
+pub fn answers_are_traced()
+    ensures { AnswersAreTraced }
+{}
+
+/// Behind a format no piece was lost.
+pub fn formats_lose_none()
+    ensures { FormatsLoseNone }
+{}
+
+/// No piece is lost by a fault, whatever records follow.
+pub fn losses_stay()
+    ensures { LossesStay }
+{}
+
+/// Once a fault was told, the count of the last one stays above 0.
+pub fn fault_stays()
+    ensures { FaultStays }
+{}
+
+/// A step that the device refused recorded that fault.
+pub fn refusal_is_recorded()
+    ensures { RefusalIsRecorded }
+{}
+
+/// A line that answers a device fault recorded that fault.
+pub fn fault_is_recorded()
+    ensures { FaultIsRecorded }
+{}
+
+/// Behind a line that answers damage, a piece was told as damaged.
+pub fn damage_is_recorded()
+    ensures { DamageIsRecorded }
+{}
+
+/// Once a piece was told as damaged, one stays so told.
+pub fn damage_stays()
+    ensures { DamageStays }
+{}
+
+/// Where no fault was told of any device in the end, no line of the script answered or named one.
+pub fn faultless_runs()
+    ensures { FaultlessRuns }
+{}
+
+/// Where no piece of any device was told as damaged, no line of the script answered damage.
+pub fn undamaged_runs()
+    ensures { UndamagedRuns }
+{}

@@ -1,0 +1,10 @@
+//! Laws of whole lines of a script, which follow from the definitions of what lines do and answer.
+#![tactic(auto)]
+
+mod laws;
+
+pub use laws::{
+    answers_are_traced, causes_are_traced, damage_is_recorded, damage_stays, fault_is_recorded,
+    fault_stays, faultless_runs, formats_lose_none, losses_stay, refusal_is_recorded,
+    undamaged_runs,
+};
