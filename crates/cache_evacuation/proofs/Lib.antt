@@ -1,0 +1,12 @@
+mod Alike
+mod Chosen
+mod Walks
+mod Backed
+mod Copies
+mod Flushed
+mod Written
+mod Live
+mod Fixed
+mod Tried
+mod ToldFlush
+mod Worked

@@ -1,0 +1,22 @@
+-- Which pieces a flush copies ahead: those that the next floor passes, and that are pinned past the
+-- moment or that an open reader has still to be given.
+use Rattle.std.specs.Prelude.{ℕ, ◌==◌, Bool, not, ◌&&◌, ◌||◌, nat_le, nat_lt, List, filter}
+use Rattle.std.specs.List.{list_any}
+use Rattle.tape_base.specs.declared.pieces.PieceId.{PieceId}
+use Rattle.tape_base.specs.Piece.{is_vector}
+use Rattle.cache_model.specs.State.{State, Row, ReaderRow, floor_next, live_rows}
+
+-- a reader has still to be given the piece: a fragment of its put, of an index that it has not taken
+abbrev pub is_due_to : PieceId → ReaderRow → Bool
+is_due_to id r = not (is_vector id) && (r.put == id.put && nat_le r.next id.index)
+
+abbrev pub is_awaited : State → PieceId → Bool
+is_awaited s id = list_any (is_due_to id) s.readers
+
+-- a pin that equals the moment holds nothing
+abbrev pub is_due : State → ℕ → Row → Bool
+is_due s now row = nat_lt now row.pin || is_awaited s row.id
+
+-- the live pieces that the next floor passes and that are due, in rising place
+abbrev pub due_pieces : State → ℕ → List Row
+due_pieces s now = filter (λ row. nat_lt row.place (floor_next s) && is_due s now row) (live_rows s)

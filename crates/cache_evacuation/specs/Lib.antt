@@ -1,0 +1,5 @@
+pub mod Due
+pub mod Outcomes
+pub mod Laws
+pub mod Choices
+pub mod Vectors
