@@ -364,7 +364,7 @@ impl Bay for FaultyBay {
     ghost told = { λ bay. map (λ name. None) bay.names.items };
 
     // No device could be trusted.
-    ghost returned = { λ bay. map (λ (count : ℕ). record Return { faults = count; trust = 0 }) bay.returned.items };
+    ghost returned = { λ bay. let back : ℕ → Return = λ count. record { faults = count; trust = 0 } in map back bay.returned.items };
 
     ghost faultless = { false };
 
