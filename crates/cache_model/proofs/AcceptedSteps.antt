@@ -18,6 +18,7 @@ use Rattle.cache_model.specs.declared.answer.NextAnswer.TheVariants as next
 use Rattle.cache_model.specs.State.{State, Row, PutRow, Open, Complete, nothing_yet, after_all, list_of_put, vector_piece}
 use Rattle.cache_model.specs.Permit.{Permit, Intent, Write, Fragment, Weigh, Finish, Commit, GiveUp, Look, ReadAll, StopReading, End, Stays, Done, Fails, Reason, Faulted, work_after}
 use Rattle.cache_model.specs.Room.{placed_record, greatest_pin}
+use Rattle.cache_model.specs.Given
 use Rattle.cache_model.specs.Legal
 use Rattle.cache_model.specs.Legal.{Does, MayGrow, IsStep, AreLiveTo, IsWriting, aborted_record, format_records, next_fragment_of, vector_length, vector_payload}
 use Rattle.cache_model.proofs.Steps.{grows_on, grows_by}
@@ -56,7 +57,7 @@ formatted = after_all nothing_yet (format_records geometry)
 
 -- a device that did not fail and gave nothing
 abbrev idle : Permit
-idle = record { packed = false; faults_before = 0; faults = 0; reads = [] }
+idle = record { packed = false; now = 0; faults_before = 0; faults = 0; reads = [] }
 
 -- ---- a put of four bytes
 
@@ -173,10 +174,10 @@ abbrev stopped : List Rec
 stopped = rec.ReadClosed 1 ∷ []
 
 looks : Does idle s4 (Look 0 k []) hit Done
-looks = Legal.looks (record { who = record { 0 = 0 }; before = []; answer = read.Hit 1; number = refl; quiet = refl; right = Legal.IsLookup.verdict (Legal.IsRead.buffered (lit≤ tt)); is = refl })
+looks = Legal.looks (record { who = record { 0 = 0 }; before = []; answer = read.Hit 1; number = refl; quiet = refl; right = Legal.IsLookup.verdict (Given.IsRead.buffered (lit≤ tt)); is = refl })
 
 gives : Does idle r0 (ReadAll 1) given Stays
-gives = Legal.DoesReadAll.reads_on (next.Gave 1 4) refl (record { r = _; before = []; quiet = refl; reading = refl; right = Legal.IsReading.verdict (Legal.IsRead.buffered (lit≤ tt)); is = refl }) refl
+gives = Legal.DoesReadAll.reads_on (next.Gave 1 4) refl (record { r = _; before = []; quiet = refl; reading = refl; right = Legal.IsReading.verdict (Given.IsRead.buffered (lit≤ tt)); is = refl }) refl
 
 ends : Does idle r1 (ReadAll 1) ended Done
 ends = Legal.DoesReadAll.reads_on (next.Ended 4) refl (record { r = _; before = []; quiet = refl; reading = refl; right = Legal.IsReading.verdict tt; is = refl }) refl
@@ -200,7 +201,7 @@ abbrev full : State
 full = record formatted { filled = 8 }
 
 abbrev faulty : Permit
-faulty = record { packed = false; faults_before = 0; faults = 1; reads = [] }
+faulty = record { packed = false; now = 0; faults_before = 0; faults = 1; reads = [] }
 
 abbrev f1 : State
 f1 = after_all full opened
@@ -221,7 +222,9 @@ faults : Does faulty f1 (Fragment 1 1 body) fault (Fails (Faulted 1))
 faults = Legal.DoesFragment.rooms w1
     (record { writing = record { quiet = refl; found = refl; is_open = refl }; next = refl; few = lit< tt; full = refl; some = lit< tt; small = lit≤ tt })
     (Legal.MakesRoom.stops 1 refl (record {
+      outcomes = [];
       can = record { quiet = refl; filled = lit< tt; below = refl };
+      are = tt;
       counts = record { rose = lit≤ tt; reached = lit≤ tt };
       is = refl;
     }))
@@ -267,7 +270,7 @@ all_live_c1 i low high = let one : i ≡ 1 = omega arith in rw one (_, refl)
 
 flushes : Does idle full_of (Finish 1 1) began Stays
 flushes = Legal.DoesFinish.rooms w2 (record { writing = is_writing_full; count = refl; alone = lit≤ tt })
-    (Legal.MakesRoom.flushes refl (record { can = record { quiet = refl; filled = lit< tt; below = refl }; is = refl }))
+    (Legal.MakesRoom.flushes refl (record { outcomes = []; can = record { quiet = refl; filled = lit< tt; below = refl }; are = tt; is = refl }))
 
 finishes_behind : Does idle c1 (Finish 1 1) vector_behind Done
 finishes_behind = Legal.DoesFinish.places refl (record {
@@ -297,7 +300,7 @@ abbrev junk : List ℕ
 junk = replicate 512 0
 
 abbrev reading : Permit
-reading = record { packed = false; faults_before = 0; faults = 0; reads = record { place = 65; bytes = junk } ∷ [] }
+reading = record { packed = false; now = 0; faults_before = 0; faults = 0; reads = record { place = 65; bytes = junk } ∷ [] }
 
 abbrev stored_row : Digest → Row
 stored_row kept = record { id = vector_piece k 1; place = 65; blocks = 1; digest = kept; pin = 0; alternates = Some [] }
@@ -321,7 +324,7 @@ misses kept differ = Legal.looks (record {
   number = refl;
   quiet = refl;
   right = Legal.IsLookup.trouble (stored_row kept) _ _ refl
-      (Legal.Trouble.damaged (document_digest junk) (record {
+      (Given.Trouble.damaged (document_digest junk) (record {
         bytes = junk;
         given = record { written = lit< tt; given = inl refl; whole = refl };
         digest = refl;
@@ -355,7 +358,7 @@ abbrev kept_state : List ℕ → State
 kept_state bytes = record formatted { cursor = 66; rows = kept_row bytes ∷ []; vectors = (k, Complete 1) ∷ [] }
 
 abbrev giving : List ℕ → Permit
-giving bytes = record { packed = false; faults_before = 0; faults = 0; reads = record { place = 65; bytes = bytes } ∷ [] }
+giving bytes = record { packed = false; now = 0; faults_before = 0; faults = 0; reads = record { place = 65; bytes = bytes } ∷ [] }
 
 abbrev g1 : List ℕ → State
 g1 bytes = after_all (kept_state bytes) hit
@@ -373,7 +376,7 @@ looks_up bytes whole = Legal.looks (record {
   answer = read.Hit 1;
   number = refl;
   quiet = refl;
-  right = Legal.IsLookup.verdict (Legal.IsRead.given bytes (record { written = lit< tt; given = inl refl; whole = whole }) refl);
+  right = Legal.IsLookup.verdict (Given.IsRead.given bytes (record { written = lit< tt; given = inl refl; whole = whole }) refl);
   is = refl;
 })
 

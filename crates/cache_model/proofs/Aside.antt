@@ -11,6 +11,7 @@ use Rattle.cache_model.specs.declared.record.Rec.{Rec}
 use Rattle.cache_model.specs.declared.record.Rec.TheVariants as rec
 use Rattle.cache_model.specs.State.{State, Row, ReaderRow}
 use Rattle.cache_model.specs.Permit.{Permit}
+use Rattle.cache_model.specs.Given
 use Rattle.cache_model.specs.Legal
 use Rattle.cache_model.specs.Legal.{answer_record}
 use Rattle.cache_model.proofs.Sound.{LeavesTape, AllLeaveTape}
@@ -44,9 +45,9 @@ OneAside = (Unit {0} × Unit {0}) × Unit {0}
 pub one_aside : OneAside
 one_aside = ((tt, tt), tt)
 
-trouble_aside : (p : Permit) (s : State) (row : Row) (before : List Rec) (why : Cause) → Legal.Trouble p s row before why → AllAside before
-trouble_aside p s row before why (Legal.Trouble.faulted count w m) = one_aside
-trouble_aside p s row before why (Legal.Trouble.damaged found d) = one_aside
+trouble_aside : (p : Permit) (s : State) (row : Row) (before : List Rec) (why : Cause) → Given.Trouble p s row before why → AllAside before
+trouble_aside p s row before why (Given.Trouble.faulted count w m) = one_aside
+trouble_aside p s row before why (Given.Trouble.damaged found d) = one_aside
 
 pub lookup_aside : (p : Permit) (s : State) (key : Key) (request : List Field) (before : List Rec) (answer : ReadAnswer) → Legal.IsLookup p s key request before answer → AllAside before
 lookup_aside p s key request before answer (Legal.IsLookup.verdict r) = tt

@@ -1,7 +1,7 @@
 -- Where the device is faithful and the directory displaces nothing, what is asked fixes the records of a
 -- group and how it ends.
-use Rattle.std.proofs.Common.{◌≡◌, ℕ, ◌+◌, ◌-◌, ◌^◌, ◌<◌, ◌≤◌, List, [], ◌∷◌, ◌++◌, refl, sym, ◌∙◌, ap, subst, arith, false, true}
-use Rattle.std.specs.Prelude.{Option, Some, None, min, max, option_and_then, ◌&&◌, map, length, unwrap_or, option_map, cond}
+use Rattle.std.proofs.Common.{◌≡◌, ℕ, ◌+◌, ◌<◌, ◌≤◌, List, [], ◌∷◌, ◌++◌, refl, sym, ◌∙◌, ap, subst, arith, false, true}
+use Rattle.std.specs.Prelude.{Option, Some, None, option_and_then, ◌&&◌, map, length, unwrap_or, option_map, cond}
 use Rattle.tape_base.specs.declared.digests.Digest.{Digest}
 use Rattle.tape_base.specs.declared.keys.Key.{Key}
 use Rattle.alternate_vector.specs.Field.{Field}
@@ -21,33 +21,23 @@ use Rattle.cache_model.specs.Permit.{Permit, Intent, Flush, Write, Fragment, Ove
 use Rattle.tape_base.specs.Blocks.{blocks_of}
 use Rattle.cache_model.specs.Room.{HasPlace, MayDisplace, displaced_record, greatest_pin, has_room, is_full_for, placed_record, rows_of_segment, segment_of_piece}
 use Rattle.cache_model.specs.Choices.{IsFaithful}
+use Rattle.cache_model.specs.Given
 use Rattle.cache_model.specs.Legal
-use Rattle.cache_model.specs.Legal.{Does, MayCount, MayFlush, MayStop, CanFlush, IsGiven, IsDamaged, Trouble, DoesFlush, DoesWrite, MakesRoom, DoesFragment, MayPlaceFragment, next_fragment_of, AreLiveTo, IsFragmentLive, HasLost, MayPlaceVector, DoesOverflow, DoesWeigh, DoesFinish, DoesCommit, DoesGiveUp, DoesRemove, DoesLook, DoesReadOn, DoesReadAll, DoesStopReading, IsLookup, IsReading, ReadTrouble, MayLook, MayReadOn, IsWriting, aborted_record, answer_record, is_given, is_writing, has_hit, size_alone, vector_length, vector_payload, HasNoPlace}
+use Rattle.cache_model.specs.Given.{Trouble}
+use Rattle.cache_model.specs.Legal.{Does, MayFlush, DoesFlush, DoesWrite, MakesRoom, DoesFragment, MayPlaceFragment, next_fragment_of, AreLiveTo, IsFragmentLive, HasLost, MayPlaceVector, DoesOverflow, DoesWeigh, DoesFinish, DoesCommit, DoesGiveUp, DoesRemove, DoesLook, DoesReadOn, DoesReadAll, DoesStopReading, IsLookup, IsReading, ReadTrouble, MayLook, MayReadOn, IsWriting, aborted_record, answer_record, is_given, is_writing, size_alone, vector_length, vector_payload, HasNoPlace}
+use Rattle.cache_model.specs.Due.{due_pieces}
+use Rattle.cache_model.specs.Outcomes.{flush_records}
+use Rattle.cache_model.specs.Tape.{IsSound}
+use Rattle.cache_model.proofs.FixedFlush.{IsLive, no_count, no_damage, outcomes_are_fixed}
 use Rattle.cache_model.proofs.Found.{none_is, number_of, same_some}
 
 record Same (a b : List Rec) (e f : End) : Type 0 where
   pub records : a ≡ b
   pub end : e ≡ f
 
-no_count : {p : Permit} {s : State} (count : ℕ) → IsFaithful p s → MayCount p s count → ⊥
-no_count {p} {s} count still counts =
-    let rose : min (max p.faults_before s.fault + 1) (2 ^ 64 - 1) ≤ count = counts.rose in
-    let above : p.faults_before ≤ max p.faults_before s.fault = omega arith in
-    let reached = counts.reached in
-    let counted = still.counted in
-    let countable = still.countable in
-    omega (arith, rose, above, reached, counted, countable)
-
--- the row is that of a live piece
-abbrev IsLive : State → Row → Type 0
-IsLive s row = (id : PieceId) × (live_row_of s id ≡ Some row)
-
-no_damage : {p : Permit} {s : State} {row : Row} {found : Digest} → IsFaithful p s → IsLive s row → IsDamaged p s row found → ⊥
-no_damage {row = row} still live damaged = damaged.differ (still.kept live.0 row damaged.bytes live.1 damaged.given ∙ sym damaged.digest)
-
 no_trouble : {p : Permit} {s : State} {row : Row} {before : List Rec} {why : Cause} → IsFaithful p s → IsLive s row → Trouble p s row before why → ⊥
-no_trouble still live (Legal.Trouble.faulted count written counts) = no_count count still counts
-no_trouble still live (Legal.Trouble.damaged found damaged) = no_damage still live damaged
+no_trouble still live (Given.Trouble.faulted count written counts) = no_count count still counts
+no_trouble still live (Given.Trouble.damaged found damaged) = no_damage still live refl damaged
 
 live_by : (s : State) (o : Option PieceId) (row : Row) → option_and_then (live_row_of s) o ≡ Some row → IsLive s row
 live_by s None row h = none_is h
@@ -57,18 +47,23 @@ live_by s (Some id) row h = (id, h)
 live_vector : (s : State) (key : Key) (row : Row) → live_vector_of s key ≡ Some row → IsLive s row
 live_vector s key row h = live_by s (vector_of s key) row h
 
-same_flush : {p : Permit} {s : State} {a b : List Rec} {e f : End} → IsFaithful p s → DoesFlush p s a e → DoesFlush p s b f → Same a b e f
-same_flush still (Legal.DoesFlush.stops count stop) h = absurd (no_count count still stop.counts)
-same_flush still h (Legal.DoesFlush.stops count stop) = absurd (no_count count still stop.counts)
-same_flush still (Legal.DoesFlush.empty quiet is none) (Legal.DoesFlush.empty quiet2 is2 none2) = record { records = none ∙ sym none2; end = refl }
-same_flush still (Legal.DoesFlush.empty quiet is none) (Legal.DoesFlush.flushes flush) = let some = flush.can.filled in absurd (omega (arith, is, some))
-same_flush still (Legal.DoesFlush.empty quiet is none) (Legal.DoesFlush.exhausted quiet2 some high none2) = absurd (omega (arith, is, some))
-same_flush still (Legal.DoesFlush.flushes flush) (Legal.DoesFlush.empty quiet is none) = let some = flush.can.filled in absurd (omega (arith, is, some))
-same_flush still (Legal.DoesFlush.flushes flush) (Legal.DoesFlush.flushes flush2) = record { records = flush.is ∙ sym flush2.is; end = refl }
-same_flush still (Legal.DoesFlush.flushes flush) (Legal.DoesFlush.exhausted quiet some high none) = let below = flush.can.below in cc
-same_flush still (Legal.DoesFlush.exhausted quiet some high none) (Legal.DoesFlush.empty quiet2 is none2) = absurd (omega (arith, is, some))
-same_flush still (Legal.DoesFlush.exhausted quiet some high none) (Legal.DoesFlush.flushes flush) = let below = flush.can.below in cc
-same_flush still (Legal.DoesFlush.exhausted quiet some high none) (Legal.DoesFlush.exhausted quiet2 some2 high2 none2) = record { records = none ∙ sym none2; end = refl }
+-- flushes copy the same
+same_records : {p : Permit} {s : State} {a b : List Rec} → IsSound s → IsFaithful p s → MayFlush p s a → MayFlush p s b → a ≡ b
+same_records {p} {s} sound still m n =
+    m.is ∙ (ap (flush_records s (due_pieces s p.now)) (outcomes_are_fixed p s p.now (budget_of s.geometry) m.outcomes n.outcomes sound still m.are n.are) ∙ sym n.is)
+
+same_flush : {p : Permit} {s : State} {a b : List Rec} {e f : End} → IsSound s → IsFaithful p s → DoesFlush p s a e → DoesFlush p s b f → Same a b e f
+same_flush sound still (Legal.DoesFlush.stops count stop) h = absurd (no_count count still stop.counts)
+same_flush sound still h (Legal.DoesFlush.stops count stop) = absurd (no_count count still stop.counts)
+same_flush sound still (Legal.DoesFlush.empty quiet is none) (Legal.DoesFlush.empty quiet2 is2 none2) = record { records = none ∙ sym none2; end = refl }
+same_flush sound still (Legal.DoesFlush.empty quiet is none) (Legal.DoesFlush.flushes flush) = let some = flush.can.filled in absurd (omega (arith, is, some))
+same_flush sound still (Legal.DoesFlush.empty quiet is none) (Legal.DoesFlush.exhausted quiet2 some high none2) = absurd (omega (arith, is, some))
+same_flush sound still (Legal.DoesFlush.flushes flush) (Legal.DoesFlush.empty quiet is none) = let some = flush.can.filled in absurd (omega (arith, is, some))
+same_flush sound still (Legal.DoesFlush.flushes flush) (Legal.DoesFlush.flushes flush2) = record { records = same_records sound still flush flush2; end = refl }
+same_flush sound still (Legal.DoesFlush.flushes flush) (Legal.DoesFlush.exhausted quiet some high none) = let below = flush.can.below in cc
+same_flush sound still (Legal.DoesFlush.exhausted quiet some high none) (Legal.DoesFlush.empty quiet2 is none2) = absurd (omega (arith, is, some))
+same_flush sound still (Legal.DoesFlush.exhausted quiet some high none) (Legal.DoesFlush.flushes flush) = let below = flush.can.below in cc
+same_flush sound still (Legal.DoesFlush.exhausted quiet some high none) (Legal.DoesFlush.exhausted quiet2 some2 high2 none2) = record { records = none ∙ sym none2; end = refl }
 
 -- ---- writers
 
@@ -86,13 +81,13 @@ same_write (Legal.DoesWrite.exhausted quiet few high none) (Legal.DoesWrite.open
 same_write (Legal.DoesWrite.exhausted quiet few high none) (Legal.DoesWrite.many quiet2 many none2) = absurd (omega (arith, few, many))
 same_write (Legal.DoesWrite.exhausted quiet few high none) (Legal.DoesWrite.exhausted quiet2 few2 high2 none2) = record { records = none ∙ sym none2; end = refl }
 
-same_room : {p : Permit} {s : State} {bytes : ℕ} {a b : List Rec} {e f : End} → IsFaithful p s → MakesRoom p s bytes a e → MakesRoom p s bytes b f → Same a b e f
-same_room still (Legal.MakesRoom.stops count room stop) h = absurd (no_count count still stop.counts)
-same_room still h (Legal.MakesRoom.stops count room stop) = absurd (no_count count still stop.counts)
-same_room still (Legal.MakesRoom.flushes room flush) (Legal.MakesRoom.flushes room2 flush2) = record { records = flush.is ∙ sym flush2.is; end = refl }
-same_room still (Legal.MakesRoom.flushes room flush) (Legal.MakesRoom.exhausted room2 high none) = let below = flush.can.below in cc
-same_room still (Legal.MakesRoom.exhausted room2 high none) (Legal.MakesRoom.flushes room flush) = let below = flush.can.below in cc
-same_room still (Legal.MakesRoom.exhausted room high none) (Legal.MakesRoom.exhausted room2 high2 none2) = record { records = none ∙ sym none2; end = refl }
+same_room : {p : Permit} {s : State} {bytes : ℕ} {a b : List Rec} {e f : End} → IsSound s → IsFaithful p s → MakesRoom p s bytes a e → MakesRoom p s bytes b f → Same a b e f
+same_room sound still (Legal.MakesRoom.stops count room stop) h = absurd (no_count count still stop.counts)
+same_room sound still h (Legal.MakesRoom.stops count room stop) = absurd (no_count count still stop.counts)
+same_room sound still (Legal.MakesRoom.flushes room flush) (Legal.MakesRoom.flushes room2 flush2) = record { records = same_records sound still flush flush2; end = refl }
+same_room sound still (Legal.MakesRoom.flushes room flush) (Legal.MakesRoom.exhausted room2 high none) = let below = flush.can.below in cc
+same_room sound still (Legal.MakesRoom.exhausted room2 high none) (Legal.MakesRoom.flushes room flush) = let below = flush.can.below in cc
+same_room sound still (Legal.MakesRoom.exhausted room high none) (Legal.MakesRoom.exhausted room2 high2 none2) = record { records = none ∙ sym none2; end = refl }
 
 none_displaced : {p : Permit} {s : State} {piece : PieceId} {added : List Rec} → IsFaithful p s → MayDisplace p s piece added → added ≡ []
 none_displaced {p} {s} {piece} still m =
@@ -126,17 +121,17 @@ no_place place none =
     let above = none.above in
     omega (arith, below, above)
 
-same_fragment : {p : Permit} {s : State} {put index : ℕ} {payload : List ℕ} {a b : List Rec} {e f : End} → IsFaithful p s
+same_fragment : {p : Permit} {s : State} {put index : ℕ} {payload : List ℕ} {a b : List Rec} {e f : End} → IsSound s → IsFaithful p s
     → DoesFragment p s put index payload a e → DoesFragment p s put index payload b f → Same a b e f
-same_fragment still (Legal.DoesFragment.places is m) (Legal.DoesFragment.places is2 n) = record { records = placed_alike still m n; end = is ∙ sym is2 }
-same_fragment still (Legal.DoesFragment.places is m) (Legal.DoesFragment.rooms w cut room) = absurd (no_room m.place.room room)
-same_fragment still (Legal.DoesFragment.places is m) (Legal.DoesFragment.exhausted w is2 cut none) = absurd (no_place m.place none)
-same_fragment still (Legal.DoesFragment.rooms w cut room) (Legal.DoesFragment.places is m) = absurd (no_room m.place.room room)
-same_fragment still (Legal.DoesFragment.rooms w cut room) (Legal.DoesFragment.rooms w2 cut2 room2) = same_room still room room2
-same_fragment still (Legal.DoesFragment.rooms w cut room) (Legal.DoesFragment.exhausted w2 is cut2 none) = absurd (no_room none.room room)
-same_fragment still (Legal.DoesFragment.exhausted w is cut none) (Legal.DoesFragment.places is2 m) = absurd (no_place m.place none)
-same_fragment still (Legal.DoesFragment.exhausted w is cut none) (Legal.DoesFragment.rooms w2 cut2 room) = absurd (no_room none.room room)
-same_fragment still (Legal.DoesFragment.exhausted w is cut none) (Legal.DoesFragment.exhausted w2 is2 cut2 none2) = record { records = none.is ∙ sym none2.is; end = is ∙ sym is2 }
+same_fragment sound still (Legal.DoesFragment.places is m) (Legal.DoesFragment.places is2 n) = record { records = placed_alike still m n; end = is ∙ sym is2 }
+same_fragment sound still (Legal.DoesFragment.places is m) (Legal.DoesFragment.rooms w cut room) = absurd (no_room m.place.room room)
+same_fragment sound still (Legal.DoesFragment.places is m) (Legal.DoesFragment.exhausted w is2 cut none) = absurd (no_place m.place none)
+same_fragment sound still (Legal.DoesFragment.rooms w cut room) (Legal.DoesFragment.places is m) = absurd (no_room m.place.room room)
+same_fragment sound still (Legal.DoesFragment.rooms w cut room) (Legal.DoesFragment.rooms w2 cut2 room2) = same_room sound still room room2
+same_fragment sound still (Legal.DoesFragment.rooms w cut room) (Legal.DoesFragment.exhausted w2 is cut2 none) = absurd (no_room none.room room)
+same_fragment sound still (Legal.DoesFragment.exhausted w is cut none) (Legal.DoesFragment.places is2 m) = absurd (no_place m.place none)
+same_fragment sound still (Legal.DoesFragment.exhausted w is cut none) (Legal.DoesFragment.rooms w2 cut2 room) = absurd (no_room none.room room)
+same_fragment sound still (Legal.DoesFragment.exhausted w is cut none) (Legal.DoesFragment.exhausted w2 is2 cut2 none2) = record { records = none.is ∙ sym none2.is; end = is ∙ sym is2 }
 
 same_row : {s : State} {put : ℕ} {w v : PutRow} → IsWriting s put w → IsWriting s put v → w ≡ v
 same_row {w = w} {v = v} m n = same_some w v _ m.found n.found
@@ -154,9 +149,9 @@ not_too_large s rest w v same fits large =
     omega (arith, fits, large2)
 
 same_weigh : {p : Permit} {s : State} {put rest : ℕ} {a b : List Rec} {e f : End} → IsFaithful p s → DoesWeigh p s put rest a e → DoesWeigh p s put rest b f → Same a b e f
-same_weigh {s = s} still (Legal.DoesWeigh.damaged w row found m live damaged is) h = absurd (no_damage still (live_vector s w.key row live) damaged)
+same_weigh {s = s} still (Legal.DoesWeigh.damaged w row found m live damaged is) h = absurd (no_damage still (live_vector s w.key row live) refl damaged)
 same_weigh still (Legal.DoesWeigh.faulted w row count m live written counts is) h = absurd (no_count count still counts)
-same_weigh {s = s} still h (Legal.DoesWeigh.damaged w row found m live damaged is) = absurd (no_damage still (live_vector s w.key row live) damaged)
+same_weigh {s = s} still h (Legal.DoesWeigh.damaged w row found m live damaged is) = absurd (no_damage still (live_vector s w.key row live) refl damaged)
 same_weigh still h (Legal.DoesWeigh.faulted w row count m live written counts is) = absurd (no_count count still counts)
 same_weigh still (Legal.DoesWeigh.weighs w m read fits is) (Legal.DoesWeigh.weighs v n read2 fits2 is2) = record { records = is ∙ sym is2; end = refl }
 same_weigh {s = s} {rest = rest} still (Legal.DoesWeigh.weighs w m read fits is) (Legal.DoesWeigh.too_large v n read2 large is2) = absurd (not_too_large s rest w v (same_row m n) fits large)
@@ -191,23 +186,23 @@ whole_or_lost : {s : State} {put fragments index : ℕ} {w v : PutRow} → IsWri
 whole_or_lost {s} {put} {index = index} {w = w} {v = v} m whole n =
     not_lost s w v put index (same_row m n.cut.writing) (number_of s put w m.found) (whole index n.some n.within) n.lost
 
-same_finish : {p : Permit} {s : State} {put fragments : ℕ} {a b : List Rec} {e f : End} → IsFaithful p s → DoesFinish p s put fragments a e → DoesFinish p s put fragments b f → Same a b e f
-same_finish still (Legal.DoesFinish.places is m) (Legal.DoesFinish.places is2 n) = record { records = vectors_alike still m n; end = is ∙ sym is2 }
-same_finish still (Legal.DoesFinish.places is m) (Legal.DoesFinish.rooms w cut room) = absurd (no_room m.place.room room)
-same_finish still (Legal.DoesFinish.places is m) (Legal.DoesFinish.loses w index is2 n gone) = absurd (whole_or_lost m.cut.writing m.whole n)
-same_finish still (Legal.DoesFinish.places is m) (Legal.DoesFinish.exhausted w is2 cut whole none) = absurd (no_place m.place none)
-same_finish still (Legal.DoesFinish.rooms w cut room) (Legal.DoesFinish.places is m) = absurd (no_room m.place.room room)
-same_finish still (Legal.DoesFinish.rooms w cut room) (Legal.DoesFinish.rooms w2 cut2 room2) = same_room still room room2
-same_finish still (Legal.DoesFinish.rooms w cut room) (Legal.DoesFinish.loses v index is n gone) = absurd (no_room n.room room)
-same_finish still (Legal.DoesFinish.rooms w cut room) (Legal.DoesFinish.exhausted v is cut2 whole none) = absurd (no_room none.room room)
-same_finish still (Legal.DoesFinish.loses w index is m gone) (Legal.DoesFinish.places is2 n) = absurd (whole_or_lost n.cut.writing n.whole m)
-same_finish still (Legal.DoesFinish.loses w index is m gone) (Legal.DoesFinish.rooms v cut room) = absurd (no_room m.room room)
-same_finish still (Legal.DoesFinish.loses w index is m gone) (Legal.DoesFinish.exhausted v is2 cut whole none) = absurd (whole_or_lost cut.writing whole m)
-same_finish still (Legal.DoesFinish.exhausted w is cut whole none) (Legal.DoesFinish.places is2 n) = absurd (no_place n.place none)
-same_finish still (Legal.DoesFinish.exhausted w is cut whole none) (Legal.DoesFinish.rooms v cut2 room) = absurd (no_room none.room room)
-same_finish still (Legal.DoesFinish.exhausted w is cut whole none) (Legal.DoesFinish.loses v index is2 n gone) = absurd (whole_or_lost cut.writing whole n)
-same_finish still (Legal.DoesFinish.exhausted w is cut whole none) (Legal.DoesFinish.exhausted v is2 cut2 whole2 none2) = record { records = none.is ∙ sym none2.is; end = is ∙ sym is2 }
-same_finish {put = put} still (Legal.DoesFinish.loses w index is m gone) (Legal.DoesFinish.loses v index2 is2 n gone2) =
+same_finish : {p : Permit} {s : State} {put fragments : ℕ} {a b : List Rec} {e f : End} → IsSound s → IsFaithful p s → DoesFinish p s put fragments a e → DoesFinish p s put fragments b f → Same a b e f
+same_finish sound still (Legal.DoesFinish.places is m) (Legal.DoesFinish.places is2 n) = record { records = vectors_alike still m n; end = is ∙ sym is2 }
+same_finish sound still (Legal.DoesFinish.places is m) (Legal.DoesFinish.rooms w cut room) = absurd (no_room m.place.room room)
+same_finish sound still (Legal.DoesFinish.places is m) (Legal.DoesFinish.loses w index is2 n gone) = absurd (whole_or_lost m.cut.writing m.whole n)
+same_finish sound still (Legal.DoesFinish.places is m) (Legal.DoesFinish.exhausted w is2 cut whole none) = absurd (no_place m.place none)
+same_finish sound still (Legal.DoesFinish.rooms w cut room) (Legal.DoesFinish.places is m) = absurd (no_room m.place.room room)
+same_finish sound still (Legal.DoesFinish.rooms w cut room) (Legal.DoesFinish.rooms w2 cut2 room2) = same_room sound still room room2
+same_finish sound still (Legal.DoesFinish.rooms w cut room) (Legal.DoesFinish.loses v index is n gone) = absurd (no_room n.room room)
+same_finish sound still (Legal.DoesFinish.rooms w cut room) (Legal.DoesFinish.exhausted v is cut2 whole none) = absurd (no_room none.room room)
+same_finish sound still (Legal.DoesFinish.loses w index is m gone) (Legal.DoesFinish.places is2 n) = absurd (whole_or_lost n.cut.writing n.whole m)
+same_finish sound still (Legal.DoesFinish.loses w index is m gone) (Legal.DoesFinish.rooms v cut room) = absurd (no_room m.room room)
+same_finish sound still (Legal.DoesFinish.loses w index is m gone) (Legal.DoesFinish.exhausted v is2 cut whole none) = absurd (whole_or_lost cut.writing whole m)
+same_finish sound still (Legal.DoesFinish.exhausted w is cut whole none) (Legal.DoesFinish.places is2 n) = absurd (no_place n.place none)
+same_finish sound still (Legal.DoesFinish.exhausted w is cut whole none) (Legal.DoesFinish.rooms v cut2 room) = absurd (no_room none.room room)
+same_finish sound still (Legal.DoesFinish.exhausted w is cut whole none) (Legal.DoesFinish.loses v index is2 n gone) = absurd (whole_or_lost cut.writing whole n)
+same_finish sound still (Legal.DoesFinish.exhausted w is cut whole none) (Legal.DoesFinish.exhausted v is2 cut2 whole2 none2) = record { records = none.is ∙ sym none2.is; end = is ∙ sym is2 }
+same_finish {put = put} sound still (Legal.DoesFinish.loses w index is m gone) (Legal.DoesFinish.loses v index2 is2 n gone2) =
     let below = none_below m n in
     let above = none_below n m in
     let same : index ≡ index2 = omega (arith, below, above) in
@@ -300,21 +295,21 @@ same_stop (Legal.DoesStopReading.closed quiet none is) (Legal.DoesStopReading.cl
 same_stop (Legal.DoesStopReading.closed quiet none is) (Legal.DoesStopReading.closed quiet2 none2 is2) = record { records = is ∙ sym is2; end = refl }
 
 -- one group at most fits what is asked, and it ends in one way
-one_group_fits : (p : Permit) (s : State) (i : Intent) (a b : List Rec) (e f : End) → IsFaithful p s → Does p s i a e → Does p s i b f → Same a b e f
-one_group_fits p s Flush a b e f still h k = same_flush still h k
-one_group_fits p s (Write actor key request response pin) a b e f still h k = same_write h k
-one_group_fits p s (Fragment put index payload) a b e f still h k = same_fragment still h k
-one_group_fits p s (Overflow put) a b e f still h k = same_overflow h k
-one_group_fits p s (Weigh put rest) a b e f still h k = same_weigh still h k
-one_group_fits p s (Finish put fragments) a b e f still h k = same_finish still h k
-one_group_fits p s (Commit put) a b e f still h k = same_commit h k
-one_group_fits p s (GiveUp put) a b e f still h k = same_give_up h k
-one_group_fits p s (Remove key) a b e f still h k = same_remove h k
-one_group_fits p s (Look actor key request) a b e f still h k = same_look still h k
-one_group_fits p s (ReadOn reader) a b e f still h k = same_read_on still h k
-one_group_fits p s (ReadAll reader) a b e f still h k = same_read_all still h k
-one_group_fits p s (StopReading reader) a b e f still h k = same_stop h k
+one_group_fits : (p : Permit) (s : State) (i : Intent) (a b : List Rec) (e f : End) → IsSound s → IsFaithful p s → Does p s i a e → Does p s i b f → Same a b e f
+one_group_fits p s Flush a b e f sound still h k = same_flush sound still h k
+one_group_fits p s (Write actor key request response pin) a b e f sound still h k = same_write h k
+one_group_fits p s (Fragment put index payload) a b e f sound still h k = same_fragment sound still h k
+one_group_fits p s (Overflow put) a b e f sound still h k = same_overflow h k
+one_group_fits p s (Weigh put rest) a b e f sound still h k = same_weigh still h k
+one_group_fits p s (Finish put fragments) a b e f sound still h k = same_finish sound still h k
+one_group_fits p s (Commit put) a b e f sound still h k = same_commit h k
+one_group_fits p s (GiveUp put) a b e f sound still h k = same_give_up h k
+one_group_fits p s (Remove key) a b e f sound still h k = same_remove h k
+one_group_fits p s (Look actor key request) a b e f sound still h k = same_look still h k
+one_group_fits p s (ReadOn reader) a b e f sound still h k = same_read_on still h k
+one_group_fits p s (ReadAll reader) a b e f sound still h k = same_read_all still h k
+one_group_fits p s (StopReading reader) a b e f sound still h k = same_stop h k
 
-pub group_is_fixed : (p : Permit) (s : State) (i : Intent) (one other : List Rec) (e f : End) → IsFaithful p s
+pub group_is_fixed : (p : Permit) (s : State) (i : Intent) (one other : List Rec) (e f : End) → IsSound s → IsFaithful p s
     → Does p s i one e → Does p s i other f → (one ≡ other) × (e ≡ f)
-group_is_fixed p s i one other e f still h k = let same : Same one other e f = one_group_fits p s i one other e f still h k in (same.records, same.end)
+group_is_fixed p s i one other e f sound still h k = let same : Same one other e f = one_group_fits p s i one other e f sound still h k in (same.records, same.end)

@@ -5,7 +5,7 @@ pub mod Rows
 mod Places
 pub mod Steps
 pub mod Sound
-mod Aside
+pub mod Aside
 pub mod Onward
 pub mod Known
 pub mod Answered
@@ -22,3 +22,15 @@ mod Merged
 mod VectorLaws
 mod Told
 mod ToldGroups
+mod Alike
+mod Chosen
+pub mod Walks
+pub mod BackedFlush
+pub mod Copies
+pub mod SoundFlush
+pub mod Written
+pub mod Live
+mod FixedFlush
+pub mod TriedFlush
+mod ToldFlush
+mod WorkedFlush

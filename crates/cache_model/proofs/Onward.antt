@@ -11,22 +11,26 @@ use Rattle.cache_model.specs.declared.record.Rec.TheVariants as rec
 use Rattle.cache_model.specs.State.{State, after_all, nothing_yet, floor_now}
 use Rattle.cache_model.specs.Permit.{Permit, Intent, Flush, Write, Fragment, Overflow, Weigh, Finish, Commit, GiveUp, Remove, Look, ReadOn, ReadAll, StopReading, End, Work, Reason}
 use Rattle.cache_model.specs.Legal
-use Rattle.cache_model.specs.Legal.{Does, Advances, MayGrow, nothing, more, IsStep, IsLegal, Course, answer_record, format_records}
+use Rattle.cache_model.specs.Legal.{Does, Advances, MayGrow, nothing, more, IsStep, IsLegal, Course, format_records}
 use Rattle.cache_model.specs.Tape.{IsSound}
-use Rattle.cache_model.proofs.Laps.{next_fits}
+use Rattle.cache_model.specs.Due.{due_pieces}
 use Rattle.cache_model.proofs.Steps.{after_all-append}
 use Rattle.cache_model.proofs.Aside.{aside_append, aside_leaves, lookup_aside, one_aside, reading_on_aside}
-use Rattle.cache_model.proofs.Sound.{AllLeaveTape, IsLater, later_self, later_trans, later_leaves, later_began, later_insert, displaced_leave}
+use Rattle.cache_model.proofs.Sound.{AllLeaveTape, IsLater, later_self, later_trans, later_leaves, later_insert, displaced_leave}
+use Rattle.cache_model.proofs.SoundFlush.{flush_is_later, stopped_aside}
 
 leaving : (s : State) (added other : List Rec) → added ≡ other → AllLeaveTape other → IsSound s → IsLater s (after_all s added)
 leaving s added other is leave h = later_leaves s added (subst AllLeaveTape (sym is) leave) h
 
-flushed : (s : State) (added : List Rec) → Legal.MayFlush s added → IsSound s → IsLater s (after_all s added)
-flushed s added m h = subst (λ xs. IsLater s (after_all s xs)) (sym m.is) (later_began s h)
+flushed : (p : Permit) (s : State) (added : List Rec) → Legal.MayFlush p s added → IsSound s → IsLater s (after_all s added)
+flushed p s added m h = subst (λ xs. IsLater s (after_all s xs)) (sym m.is) (flush_is_later p s p.now m.outcomes h m.are).later
+
+stopped : (p : Permit) (s : State) (count : ℕ) (added : List Rec) → Legal.MayStop p s count added → IsSound s → IsLater s (after_all s added)
+stopped p s count added m h = leaving s added _ m.is (aside_leaves _ (stopped_aside (due_pieces s p.now) m.outcomes count)) h
 
 roomed : (p : Permit) (s : State) (bytes : ℕ) (added : List Rec) (e : End) → Legal.MakesRoom p s bytes added e → IsSound s → IsLater s (after_all s added)
-roomed p s bytes added e (Legal.MakesRoom.flushes x m) h = flushed s added m h
-roomed p s bytes added e (Legal.MakesRoom.stops count x m) h = leaving s added _ m.is (tt, tt) h
+roomed p s bytes added e (Legal.MakesRoom.flushes x m) h = flushed p s added m h
+roomed p s bytes added e (Legal.MakesRoom.stops count x m) h = stopped p s count added m h
 roomed p s bytes added e (Legal.MakesRoom.exhausted x q is) h = leaving s added [] is tt h
 
 read_on : (p : Permit) (s : State) (reader : ℕ) (answer : NextAnswer) (added : List Rec) → Legal.MayReadOn p s reader answer added → IsSound s → IsLater s (after_all s added)
@@ -34,8 +38,8 @@ read_on p s reader answer added m h = leaving s added _ m.is (aside_leaves _ (re
 
 pub later_group : (p : Permit) (s : State) (i : Intent) (added : List Rec) (e : End) → Does p s i added e → IsSound s → IsLater s (after_all s added)
 later_group p s Flush added e (Legal.DoesFlush.empty q f is) h = leaving s added [] is tt h
-later_group p s Flush added e (Legal.DoesFlush.flushes m) h = flushed s added m h
-later_group p s Flush added e (Legal.DoesFlush.stops count m) h = leaving s added _ m.is (tt, tt) h
+later_group p s Flush added e (Legal.DoesFlush.flushes m) h = flushed p s added m h
+later_group p s Flush added e (Legal.DoesFlush.stops count m) h = stopped p s count added m h
 later_group p s Flush added e (Legal.DoesFlush.exhausted q f b is) h = leaving s added [] is tt h
 later_group p s (Write actor key request response pin) added e (Legal.DoesWrite.opens m) h = leaving s added _ m.is (tt, tt) h
 later_group p s (Write actor key request response pin) added e (Legal.DoesWrite.many q m is) h = leaving s added [] is tt h
@@ -69,14 +73,14 @@ later_group p s (ReadAll reader) added e (Legal.DoesReadAll.has_none q x is y) h
 later_group p s (StopReading reader) added e (Legal.DoesStopReading.closes r q l is) h = leaving s added _ is (tt, tt) h
 later_group p s (StopReading reader) added e (Legal.DoesStopReading.closed q l is) h = leaving s added [] is tt h
 
-advanced : (p : Permit) (s : State) (is : List Intent) (why : Option Reason) (added : List Rec) (after : Work) → Advances p s is why added after → IsSound s → IsLater s (after_all s added)
-advanced p s [] why added after a h = absurd a
-advanced p s (i ∷ is) why added after a h = later_group p s i added a.0 a.1 h
+pub later_advanced : (p : Permit) (s : State) (is : List Intent) (why : Option Reason) (added : List Rec) (after : Work) → Advances p s is why added after → IsSound s → IsLater s (after_all s added)
+later_advanced p s [] why added after a h = absurd a
+later_advanced p s (i ∷ is) why added after a h = later_group p s i added a.0 a.1 h
 
 pub later_grown : {p : Permit} {s : State} {w after : Work} {recs : List Rec} → MayGrow p s w recs after → IsSound s → IsLater s (after_all s recs)
 later_grown {s = s} nothing h = later_self s h
 later_grown {p} {s} {w} (more {rest = tail} added between one others) h =
-    let first : IsLater s (after_all s added) = advanced p s w.intents w.refused added between one h in
+    let first : IsLater s (after_all s added) = later_advanced p s w.intents w.refused added between one h in
     subst (IsLater s) (sym (after_all-append s added tail)) (later_trans s (after_all s added) _ first (later_grown others first.sound))
 
 pub steps_are_sound : (p : Permit) (s : State) (intents : List Intent) (added : List Rec) (why : Option Reason)

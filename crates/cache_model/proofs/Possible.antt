@@ -21,13 +21,17 @@ use Rattle.cache_model.specs.declared.record.Rec.{Rec}
 use Rattle.cache_model.specs.State.{State, Row, PutRow, ReaderRow, Writing, Open, Closed, GivenUp, put_of, reader_of, alternate_of, fragment_piece, list_among, live_row_of, merged_list, most_alternates, most_payload, place_now, vector_piece}
 use Rattle.cache_model.specs.Permit.{Permit, Intent, Flush, Write, Fragment, Overflow, Weigh, Finish, Commit, GiveUp, Remove, Look, ReadOn, ReadAll, StopReading, End, Done}
 use Rattle.cache_model.specs.Room.{HasPlace, has_room, is_flush_exhausted, limit}
+use Rattle.cache_model.specs.Given
 use Rattle.cache_model.specs.Legal
-use Rattle.cache_model.specs.Legal.{Does, IsQuiet, IsRead, IsReadWhereLive, IsGiven, IsDamaged, IsWritten, MayCount, MayReadOn, Trouble, DoesWrite, DoesOverflow, DoesCommit, DoesGiveUp, DoesReadAll, DoesStopReading, most_writers, open_writers, live_next, has_hit, MakesRoom, DoesFragment, DoesFinish, IsNext, IsCut, HasLost, AreLiveTo, IsFragmentLive, HasNoPlace, IsWriting, DoesWeigh, DoesFlush, DoesLook, DoesReadOn, DoesRemove, IsLookup, IsReading, FitsAlone, next_fragment_of, size_alone, vector_length}
+use Rattle.cache_model.specs.Given.{IsRead, IsReadWhereLive, IsGiven, IsDamaged, IsWritten, MayCount, Trouble}
+use Rattle.cache_model.specs.Legal.{CanFlush, Does, IsQuiet, MayFlush, MayReadOn, DoesWrite, DoesOverflow, DoesCommit, DoesGiveUp, DoesReadAll, DoesStopReading, most_writers, open_writers, live_next, has_hit, MakesRoom, DoesFragment, DoesFinish, IsNext, IsCut, AreLiveTo, IsFragmentLive, HasNoPlace, IsWriting, DoesWeigh, DoesFlush, DoesLook, DoesReadOn, DoesRemove, IsLookup, IsReading, FitsAlone, next_fragment_of, size_alone, vector_length}
 use Rattle.cache_model.specs.Choices
-use Rattle.cache_model.specs.Choices.{IsTried, IsTriedWhereLive, MayAsk, MayAskWrite, to_read}
+use Rattle.cache_model.specs.Choices.{AreDueTried, IsTried, IsTriedWhereLive, MayAsk, MayAskWrite, to_read}
+use Rattle.cache_model.specs.Due.{due_pieces}
 use Rattle.cache_model.specs.Tape.{IsSound}
 use Rattle.cache_model.proofs.Found.{none_is, number_of}
 use Rattle.cache_model.proofs.Purged.{can_displace}
+use Rattle.cache_model.proofs.TriedFlush.{DueIsTried, outcomes_are_found}
 
 -- ---- sizes
 
@@ -84,18 +88,25 @@ filled_by s bytes small none =
     let over = leb-false (s.filled + blocks_of bytes) s.geometry.agg none in
     omega (arith, small, over)
 
-room_case : (p : Permit) (s : State) (bytes : ℕ) (room flush place : Bool) → IsQuiet s → blocks_of bytes ≤ budget_of s.geometry
-    → has_room s bytes ≡ room → is_flush_exhausted s ≡ flush → nat_le limit (place_now s + blocks_of bytes) ≡ place → Room p s bytes
-room_case p s bytes true flush false quiet small room below place =
-    has (record { small = small; room = room; below = leb-false limit (place_now s + blocks_of bytes) place })
-room_case p s bytes true flush true quiet small room below place =
-    ends (record { room = room; above = leb-true limit (place_now s + blocks_of bytes) place; is = refl })
-room_case p s bytes false false place quiet small room below end =
-    makes _ _ (Legal.MakesRoom.flushes room (record { can = record { quiet = quiet; filled = filled_by s bytes small room; below = below }; is = refl }))
-room_case p s bytes false true place quiet small room below end = makes [] _ (Legal.MakesRoom.exhausted room below refl)
+-- where what it is to copy was tried, a flush may be made
+a_flush : (p : Permit) (s : State) → CanFlush s → DueIsTried p s → (added : List Rec) × MayFlush p s added
+a_flush p s can due =
+    let o = outcomes_are_found p s (budget_of s.geometry) (due_pieces s p.now) due in
+    (_, record { outcomes = o.0; can = can; are = o.1; is = refl })
 
-room_of : (p : Permit) (s : State) (bytes : ℕ) → IsQuiet s → blocks_of bytes ≤ budget_of s.geometry → Room p s bytes
-room_of p s bytes quiet small = room_case p s bytes _ _ _ quiet small refl refl refl
+room_case : (p : Permit) (s : State) (bytes : ℕ) (room flush place : Bool) → IsQuiet s → blocks_of bytes ≤ budget_of s.geometry
+    → (has_room s bytes ≡ false → CanFlush s → DueIsTried p s) → has_room s bytes ≡ room → is_flush_exhausted s ≡ flush → nat_le limit (place_now s + blocks_of bytes) ≡ place → Room p s bytes
+room_case p s bytes true flush false quiet small due room below place =
+    has (record { small = small; room = room; below = leb-false limit (place_now s + blocks_of bytes) place })
+room_case p s bytes true flush true quiet small due room below place =
+    ends (record { room = room; above = leb-true limit (place_now s + blocks_of bytes) place; is = refl })
+room_case p s bytes false false place quiet small due room below end =
+    let can : CanFlush s = record { quiet = quiet; filled = filled_by s bytes small room; below = below } in
+    makes _ _ (Legal.MakesRoom.flushes room (a_flush p s can (due room can)).1)
+room_case p s bytes false true place quiet small due room below end = makes [] _ (Legal.MakesRoom.exhausted room below refl)
+
+room_of : (p : Permit) (s : State) (bytes : ℕ) → IsQuiet s → blocks_of bytes ≤ budget_of s.geometry → (not (has_room s bytes) ≡ true → CanFlush s → DueIsTried p s) → Room p s bytes
+room_of p s bytes quiet small due = room_case p s bytes _ _ _ quiet small (λ none. due (ap not none)) refl refl refl
 
 -- ---- fragments
 
@@ -109,8 +120,9 @@ fragment_by_room p s put index payload w sound cut (makes added e room) = (added
 
 -- the next fragment of an open put is placed, or a flush for it is made, or it is refused
 a_fragment_can_be_asked : (p : Permit) (s : State) (put index : ℕ) (payload : List ℕ) (w : PutRow) → IsSound s → IsNext s put index payload w
-    → (added : List Rec) × (e : End) × DoesFragment p s put index payload added e
-a_fragment_can_be_asked p s put index payload w sound cut = fragment_by_room p s put index payload w sound cut (room_of p s (length payload) cut.writing.quiet (fragment_fits cut))
+    → AreDueTried p s (Fragment put index payload) → (added : List Rec) × (e : End) × DoesFragment p s put index payload added e
+a_fragment_can_be_asked p s put index payload w sound cut due =
+    fragment_by_room p s put index payload w sound cut (room_of p s (length payload) cut.writing.quiet (fragment_fits cut) due)
 
 -- ---- vectors
 
@@ -170,9 +182,9 @@ finish_case p s put fragments w room sound cut is lives (makes added e m) = (add
 
 -- the vector of a put that is cut is placed, or a flush for it is made, or it is refused
 a_vector_can_be_asked : (p : Permit) (s : State) (put fragments : ℕ) (w : PutRow) → IsSound s → IsCut s put fragments w
-    → (added : List Rec) × (e : End) × DoesFinish p s put fragments added e
-a_vector_can_be_asked p s put fragments w sound cut =
-    finish_case p s put fragments w _ sound cut refl (lives_of s w fragments) (room_of p s (vector_length s put) cut.writing.quiet (vector_fits cut))
+    → AreDueTried p s (Finish put fragments) → (added : List Rec) × (e : End) × DoesFinish p s put fragments added e
+a_vector_can_be_asked p s put fragments w sound cut due =
+    finish_case p s put fragments w _ sound cut refl (lives_of s w fragments) (room_of p s (vector_length s put) cut.writing.quiet (vector_fits cut) due)
 
 -- ---- what has to be read
 
@@ -183,7 +195,7 @@ data Comes (p : Permit) (s : State) (row : Row) : Type 0 where
   faulted : (count : ℕ) → IsWritten s row → MayCount p s count → Comes p s row
 
 given_by : (p : Permit) (s : State) (row : Row) (bytes : List ℕ) (t : Bool) → t ≡ pointwise nat_eq row.digest.0 (document_digest bytes).0 → IsGiven p s row bytes → Comes p s row
-given_by p s row bytes true e given = read (Legal.IsRead.given bytes given (ap (λ x. record { 0 = x }) (same_text row.digest.0 (document_digest bytes).0 e)))
+given_by p s row bytes true e given = read (Given.IsRead.given bytes given (ap (λ x. record { 0 = x }) (same_text row.digest.0 (document_digest bytes).0 e)))
 given_by p s row bytes false e given = damaged (document_digest bytes) (record {
   bytes = bytes;
   given = given;
@@ -192,7 +204,7 @@ given_by p s row bytes false e given = damaged (document_digest bytes) (record {
 })
 
 comes : (p : Permit) (s : State) (row : Row) → IsTried p s row → Comes p s row
-comes p s row (Choices.IsTried.buffered in_buffer) = read (Legal.IsRead.buffered in_buffer)
+comes p s row (Choices.IsTried.buffered in_buffer) = read (Given.IsRead.buffered in_buffer)
 comes p s row (Choices.IsTried.given bytes given) = given_by p s row bytes (pointwise nat_eq row.digest.0 (document_digest bytes).0) refl given
 comes p s row (Choices.IsTried.refused count written counts) = faulted count written counts
 
@@ -224,11 +236,12 @@ close_by p s put rest w m (faulted row count live written counts) = (_, _, Legal
 
 -- ---- what is asked between puts
 
-flush_case : (p : Permit) (s : State) (empty below : Bool) → IsQuiet s → nat_le s.filled 0 ≡ empty → is_flush_exhausted s ≡ below → (added : List Rec) × (e : End) × DoesFlush p s added e
-flush_case p s true below quiet empty is = let least = leb-true s.filled 0 empty in (_, _, Legal.DoesFlush.empty quiet (omega (arith, least)) refl)
-flush_case p s false false quiet empty is =
-    (_, _, Legal.DoesFlush.flushes (record { can = record { quiet = quiet; filled = leb-false s.filled 0 empty; below = is }; is = refl }))
-flush_case p s false true quiet empty is = (_, _, Legal.DoesFlush.exhausted quiet (leb-false s.filled 0 empty) is refl)
+flush_case : (p : Permit) (s : State) (empty below : Bool) → IsQuiet s → (CanFlush s → DueIsTried p s) → nat_le s.filled 0 ≡ empty → is_flush_exhausted s ≡ below → (added : List Rec) × (e : End) × DoesFlush p s added e
+flush_case p s true below quiet due empty is = let least = leb-true s.filled 0 empty in (_, _, Legal.DoesFlush.empty quiet (omega (arith, least)) refl)
+flush_case p s false false quiet due empty is =
+    let can : CanFlush s = record { quiet = quiet; filled = leb-false s.filled 0 empty; below = is } in
+    (_, _, Legal.DoesFlush.flushes (a_flush p s can (due can)).1)
+flush_case p s false true quiet due empty is = (_, _, Legal.DoesFlush.exhausted quiet (leb-false s.filled 0 empty) is refl)
 
 write_case : (s : State) (actor : ℕ) (key : Key) (request response : List Field) (pin : ℕ) (many high : Bool) → MayAskWrite s actor request response pin
     → nat_le most_writers (open_writers s) ≡ many → nat_le limit (s.next_put + 1) ≡ high → (added : List Rec) × (e : End) × DoesWrite s actor key request response pin added e
@@ -279,7 +292,7 @@ look_by p s who key request quiet (damaged row found live d) = (
     answer = _;
     number = refl;
     quiet = quiet;
-    right = Legal.IsLookup.trouble row _ _ live (Legal.Trouble.damaged found d);
+    right = Legal.IsLookup.trouble row _ _ live (Given.Trouble.damaged found d);
     is = refl;
   }),
 )
@@ -292,7 +305,7 @@ look_by p s who key request quiet (faulted row count live written counts) = (
     answer = _;
     number = refl;
     quiet = quiet;
-    right = Legal.IsLookup.trouble row _ _ live (Legal.Trouble.faulted count written counts);
+    right = Legal.IsLookup.trouble row _ _ live (Given.Trouble.faulted count written counts);
     is = refl;
   }),
 )
@@ -306,8 +319,8 @@ trouble_next p s r (Some entry) row before why next live trouble =
 
 reading_by : (p : Permit) (s : State) (r : ReaderRow) → Looks p s (live_next s r) → (before : List Rec) × (answer : NextAnswer) × IsReading p s r before answer
 reading_by p s r (read x) = ([], _, Legal.IsReading.verdict x)
-reading_by p s r (damaged row found live d) = trouble_next p s r (next_row s r) row _ _ refl live (Legal.Trouble.damaged found d)
-reading_by p s r (faulted row count live written counts) = trouble_next p s r (next_row s r) row _ _ refl live (Legal.Trouble.faulted count written counts)
+reading_by p s r (damaged row found live d) = trouble_next p s r (next_row s r) row _ _ refl live (Given.Trouble.damaged found d)
+reading_by p s r (faulted row count live written counts) = trouble_next p s r (next_row s r) row _ _ refl live (Given.Trouble.faulted count written counts)
 
 read_on_by : (p : Permit) (s : State) (reader : ℕ) (r : ReaderRow) → IsQuiet s → reader_of s reader ≡ Some r → IsTriedWhereLive p s (live_next s r)
     → (answer : NextAnswer) × (added : List Rec) × MayReadOn p s reader answer added
@@ -349,20 +362,20 @@ look_asked : (p : Permit) (s : State) (actor : ℕ) (key : Key) (request : List 
 look_asked p s actor key request who number quiet tried =
     subst (λ n. (added : List Rec) × (e : End) × DoesLook p s n key request added e) number (look_by p s who key request quiet (looked p s (live_vector_of s key) tried))
 
-pub asked_is_answered : (p : Permit) (s : State) (i : Intent) → IsSound s → MayAsk s i → IsTriedWhereLive p s (to_read s i)
+pub asked_is_answered : (p : Permit) (s : State) (i : Intent) → IsSound s → MayAsk s i → IsTriedWhereLive p s (to_read s i) → AreDueTried p s i
     → (added : List Rec) × (e : End) × Does p s i added e
-asked_is_answered p s Flush sound may tried = flush_case p s _ _ may refl refl
-asked_is_answered p s (Write actor key request response pin) sound may tried = write_case s actor key request response pin _ _ may refl refl
-asked_is_answered p s (Fragment put index payload) sound may tried = a_fragment_can_be_asked p s put index payload may.0 sound may.1
-asked_is_answered p s (Overflow put) sound may tried = (_, _, Legal.DoesOverflow.aborts may.0 may.1 may.2 refl)
-asked_is_answered p s (Weigh put rest) sound may tried =
+asked_is_answered p s Flush sound may tried due = flush_case p s _ _ may (due refl) refl refl
+asked_is_answered p s (Write actor key request response pin) sound may tried due = write_case s actor key request response pin _ _ may refl refl
+asked_is_answered p s (Fragment put index payload) sound may tried due = a_fragment_can_be_asked p s put index payload may.0 sound may.1 due
+asked_is_answered p s (Overflow put) sound may tried due = (_, _, Legal.DoesOverflow.aborts may.0 may.1 may.2 refl)
+asked_is_answered p s (Weigh put rest) sound may tried due =
     close_by p s put rest may.0 may.1
     (looked p s (live_vector_of s may.0.key) (subst (λ o. IsTriedWhereLive p s (option_and_then (λ (w : PutRow). live_vector_of s w.key) o)) may.1.found tried))
-asked_is_answered p s (Finish put fragments) sound may tried = a_vector_can_be_asked p s put fragments may.0 sound may.1
-asked_is_answered p s (Commit put) sound may tried = (_, _, Legal.DoesCommit.commits may.0 may.1.found may.1.is_open may.1.pending refl)
-asked_is_answered p s (GiveUp put) sound may tried = give_up_case s put _ may refl
-asked_is_answered p s (Remove key) sound may tried = remove_case s key _ may refl
-asked_is_answered p s (Look actor key request) sound may tried = look_asked p s actor key request may.1.0 may.1.1 may.0 tried
-asked_is_answered p s (ReadOn reader) sound may tried = read_on_asked p s reader may.1.0 may.0 may.1.1 tried
-asked_is_answered p s (ReadAll reader) sound may tried = read_all_asked p s reader _ refl may tried
-asked_is_answered p s (StopReading reader) sound may tried = stop_case s reader _ may refl
+asked_is_answered p s (Finish put fragments) sound may tried due = a_vector_can_be_asked p s put fragments may.0 sound may.1 due
+asked_is_answered p s (Commit put) sound may tried due = (_, _, Legal.DoesCommit.commits may.0 may.1.found may.1.is_open may.1.pending refl)
+asked_is_answered p s (GiveUp put) sound may tried due = give_up_case s put _ may refl
+asked_is_answered p s (Remove key) sound may tried due = remove_case s key _ may refl
+asked_is_answered p s (Look actor key request) sound may tried due = look_asked p s actor key request may.1.0 may.1.1 may.0 tried
+asked_is_answered p s (ReadOn reader) sound may tried due = read_on_asked p s reader may.1.0 may.0 may.1.1 tried
+asked_is_answered p s (ReadAll reader) sound may tried due = read_all_asked p s reader _ refl may tried
+asked_is_answered p s (StopReading reader) sound may tried due = stop_case s reader _ may refl

@@ -23,16 +23,16 @@ use Rattle.cache_model.proofs.Aside.{AllAside, LeavesPuts}
 
 -- ---- rows
 
-each_part : {some all : List Row} (P : Row → Type 0) → ArePart some all → AllByRecursion P all → AllByRecursion P some
+pub each_part : {some all : List Row} (P : Row → Type 0) → ArePart some all → AllByRecursion P all → AllByRecursion P some
 each_part P done each = tt
 each_part P (keep p) each = (each.0, each_part P p each.1)
 each_part P (skip p) each = each_part P p each.1
 
-each_map : (P Q : Row → Type 0) → ((row : Row) → P row → Q row) → (rows : List Row) → AllByRecursion P rows → AllByRecursion Q rows
+pub each_map : (P Q : Row → Type 0) → ((row : Row) → P row → Q row) → (rows : List Row) → AllByRecursion P rows → AllByRecursion Q rows
 each_map P Q f [] each = tt
 each_map P Q f (row ∷ rows) each = (f row each.0, each_map P Q f rows each.1)
 
-listed_stays : (s t : State) → t.geometry ≡ s.geometry → (row : Row) → IsListed s row → IsListed t row
+pub listed_stays : (s t : State) → t.geometry ≡ s.geometry → (row : Row) → IsListed s row → IsListed t row
 listed_stays s t same row listed vector =
     let l = listed vector in
     let v : IsVectorRow s row l.0 = l.1 in

@@ -1,5 +1,5 @@
 -- Each group of records, each step and each legal chronicle leaves vectors that list their alternates.
-use Rattle.std.proofs.Common.{◌≡◌, ℕ, ◌+◌, ◌^◌, ◌<◌, ◌≤◌, List, [], ◌∷◌, ◌++◌, length, refl, sym, ap, subst, arith, Bool}
+use Rattle.std.proofs.Common.{◌≡◌, ℕ, ◌+◌, ◌^◌, ◌<◌, ◌≤◌, ◌⊎◌, List, [], ◌∷◌, ◌++◌, length, append_assoc, refl, sym, ◌∙◌, ap, subst, arith, inl, inr, Bool}
 use Rattle.std.specs.Prelude.{Option, Some}
 use Rattle.std.proofs.lemmas.Bool.{eqb-true}
 use Rattle.tape_base.specs.declared.digests.Digest.{Digest}
@@ -8,6 +8,7 @@ use Rattle.tape_base.specs.declared.keys.Key.{Key}
 use Rattle.tape_base.specs.declared.pieces.PieceId.{PieceId}
 use Rattle.tape_base.specs.Blocks.{blocks_of}
 use Rattle.tape_base.specs.Digest.{digest_of}
+use Rattle.tape_base.specs.Geometry.{budget_of}
 use Rattle.doc_header.proofs.ReadingLaws.{length-sha256}
 use Rattle.fragment_table.specs.Table.{IsRow, made_row}
 use Rattle.alternate_vector.specs.Field.{Field}
@@ -15,33 +16,42 @@ use Rattle.alternate_vector.specs.Alternates.{Stored}
 use Rattle.alternate_vector.proofs.Lengths.{length-vector}
 use Rattle.cache_model.specs.declared.record.Rec.{Rec}
 use Rattle.cache_model.specs.declared.record.Rec.TheVariants as rec
-use Rattle.cache_model.specs.State.{State, after_all, cursor_next, floor_next, list_of_put, nothing_yet, opened_put, place_now, placed_row, state_after, vector_piece}
-use Rattle.cache_model.specs.Permit.{Permit, Intent, Flush, Write, Fragment, Overflow, Weigh, Finish, Commit, GiveUp, Remove, Look, ReadOn, ReadAll, StopReading, End, Work, Reason}
+use Rattle.cache_model.specs.State.{State, after_all, list_of_put, nothing_yet, opened_put, place_now, placed_row, state_after, vector_piece}
+use Rattle.cache_model.specs.Permit.{Permit, IsAmong, Intent, Flush, Write, Fragment, Overflow, Weigh, Finish, Commit, GiveUp, Remove, Look, ReadOn, ReadAll, StopReading, End, Work, Reason}
 use Rattle.cache_model.specs.Room.{MayDisplace, greatest_pin}
 use Rattle.cache_model.specs.Legal
-use Rattle.cache_model.specs.Legal.{Does, Advances, MayGrow, nothing, more, IsStep, IsLegal, Course, format_records, next_fragment_of, vector_length, vector_payload}
-use Rattle.cache_model.specs.Vectors.{ArePuts, AreTold, AreVectors, IsListed}
+use Rattle.cache_model.specs.Legal.{Does, Advances, MayGrow, nothing, more, IsStep, IsLegal, Course, format_records, next_fragment_of, vector_length}
+use Rattle.cache_model.specs.Due.{due_pieces}
+use Rattle.cache_model.specs.Tape.{IsSound}
+use Rattle.cache_model.specs.Vectors.{ArePuts, AreTold, AreVectors, IsListed, IsOtherVector, IsShownIn, ShowsVector}
 use Rattle.cache_model.proofs.Steps.{after_all-append}
 use Rattle.cache_model.proofs.Rows.{part_all}
-use Rattle.cache_model.proofs.Sound.{AllLeaveTape, buffer_left, displaced_leave}
+use Rattle.cache_model.proofs.Sound.{AllLeaveTape, IsLater, buffer_left, displaced_leave}
+use Rattle.cache_model.proofs.Onward.{later_advanced, legal_is_sound}
 use Rattle.cache_model.proofs.Aside.{AllAside, aside_append, lookup_aside, one_aside, reading_on_aside}
 use Rattle.cache_model.proofs.Merged.{IsMerged, put_told}
-use Rattle.cache_model.proofs.Told.{AreFit, IsBehind, displaced_behind, no_puts, puts_cut, puts_opened, told_aside, told_left, vectors_leave, vectors_part, vectors_placed}
+use Rattle.cache_model.proofs.Told.{AreFit, IsBehind, displaced_behind, no_puts, puts_cut, puts_opened, told_aside, vectors_leave, vectors_part, vectors_placed}
+use Rattle.cache_model.proofs.ToldFlush.{flush_tells, stopped_tells}
+
+-- what a group of records leaves
+abbrev Tells : Permit → State → List Rec → Type 0
+Tells p s added = AreTold (after_all s added) ⊎ IsOtherVector p s
 
 -- ---- groups that place nothing
 
-aside : (s : State) (added other : List Rec) → added ≡ other → AllAside other → AreTold s → AreTold (after_all s added)
-aside s added other is h told = told_aside s added (subst AllAside (sym is) h) told
+aside : (p : Permit) (s : State) (added other : List Rec) → added ≡ other → AllAside other → AreTold s → Tells p s added
+aside p s added other is h told = inl (told_aside s added (subst AllAside (sym is) h) told)
 
-begun : (s : State) (added : List Rec) → Legal.MayFlush s added → AreTold s → AreTold (after_all s added)
-begun s added m told =
-    let began : Rec = rec.Began (cursor_next s) (floor_next s) in
-    subst (λ xs. AreTold (after_all s xs)) (sym m.is) (told_left s began tt (vectors_part s (state_after s began) refl (part_all s.rows) told.vectors) told)
+flushed : (p : Permit) (s : State) (added : List Rec) → Legal.MayFlush p s added → IsSound s → AreTold s → Tells p s added
+flushed p s added m h told = subst (Tells p s) (sym m.is) (flush_tells p s p.now (budget_of s.geometry) m.outcomes h told m.are)
 
-roomed : (p : Permit) (s : State) (bytes : ℕ) (added : List Rec) (e : End) → Legal.MakesRoom p s bytes added e → AreTold s → AreTold (after_all s added)
-roomed p s bytes added e (Legal.MakesRoom.flushes x m) told = begun s added m told
-roomed p s bytes added e (Legal.MakesRoom.stops count x m) told = aside s added _ m.is one_aside told
-roomed p s bytes added e (Legal.MakesRoom.exhausted x q is) told = aside s added [] is tt told
+stopped : (p : Permit) (s : State) (count : ℕ) (added : List Rec) → Legal.MayStop p s count added → AreTold s → Tells p s added
+stopped p s count added m told = subst (Tells p s) (sym m.is) (inl (stopped_tells s (due_pieces s p.now) m.outcomes count told))
+
+roomed : (p : Permit) (s : State) (bytes : ℕ) (added : List Rec) (e : End) → Legal.MakesRoom p s bytes added e → IsSound s → AreTold s → Tells p s added
+roomed p s bytes added e (Legal.MakesRoom.flushes x m) h told = flushed p s added m h told
+roomed p s bytes added e (Legal.MakesRoom.stops count x m) h told = stopped p s count added m told
+roomed p s bytes added e (Legal.MakesRoom.exhausted x q is) h told = aside p s added [] is tt told
 
 opened : (s : State) (actor : ℕ) (key : Key) (request response : List Field) (pin : ℕ) (added : List Rec) → Legal.MayOpenWrite s actor key request response pin added → AreTold s → AreTold (after_all s added)
 opened s actor key request response pin added m told =
@@ -118,60 +128,135 @@ vector_placed p s put fragments added m told =
 
 -- ---- each group
 
-pub told_group : (p : Permit) (s : State) (i : Intent) (added : List Rec) (e : End) → AreTold s → Does p s i added e → AreTold (after_all s added)
-told_group p s Flush added e told (Legal.DoesFlush.empty q f is) = aside s added [] is tt told
-told_group p s Flush added e told (Legal.DoesFlush.flushes m) = begun s added m told
-told_group p s Flush added e told (Legal.DoesFlush.stops count m) = aside s added _ m.is one_aside told
-told_group p s Flush added e told (Legal.DoesFlush.exhausted q f b is) = aside s added [] is tt told
-told_group p s (Write actor key request response pin) added e told (Legal.DoesWrite.opens m) = opened s actor key request response pin added m told
-told_group p s (Write actor key request response pin) added e told (Legal.DoesWrite.many q m is) = aside s added [] is tt told
-told_group p s (Write actor key request response pin) added e told (Legal.DoesWrite.exhausted q m l is) = aside s added [] is tt told
-told_group p s (Fragment put index payload) added e told (Legal.DoesFragment.places d m) = fragment_placed p s put index payload added m told
-told_group p s (Fragment put index payload) added e told (Legal.DoesFragment.rooms w n m) = roomed p s _ added e m told
-told_group p s (Fragment put index payload) added e told (Legal.DoesFragment.exhausted w x n q) = aside s added [] q.is tt told
-told_group p s (Overflow put) added e told (Legal.DoesOverflow.aborts w q l is) = aside s added _ is one_aside told
-told_group p s (Weigh put rest) added e told (Legal.DoesWeigh.weighs w q r f is) = aside s added [] is tt told
-told_group p s (Weigh put rest) added e told (Legal.DoesWeigh.too_large w q r f is) = aside s added _ is one_aside told
-told_group p s (Weigh put rest) added e told (Legal.DoesWeigh.damaged w row found q live d is) = aside s added _ is one_aside told
-told_group p s (Weigh put rest) added e told (Legal.DoesWeigh.faulted w row count q live r m is) = aside s added _ is one_aside told
-told_group p s (Finish put fragments) added e told (Legal.DoesFinish.places d m) = vector_placed p s put fragments added m told
-told_group p s (Finish put fragments) added e told (Legal.DoesFinish.rooms w c m) = roomed p s _ added e m told
-told_group p s (Finish put fragments) added e told (Legal.DoesFinish.exhausted w x c l q) = aside s added [] q.is tt told
-told_group p s (Finish put fragments) added e told (Legal.DoesFinish.loses w index d m is) = aside s added _ is one_aside told
-told_group p s (Commit put) added e told (Legal.DoesCommit.commits w f o q is) = aside s added _ is one_aside told
-told_group p s (GiveUp put) added e told (Legal.DoesGiveUp.aborts w q is) = aside s added _ is one_aside told
-told_group p s (GiveUp put) added e told (Legal.DoesGiveUp.over q o is) = aside s added [] is tt told
-told_group p s (Remove key) added e told (Legal.DoesRemove.removes row q l is) = aside s added _ is one_aside told
-told_group p s (Remove key) added e told (Legal.DoesRemove.absent q l is) = aside s added [] is tt told
-told_group p s (Look actor key request) added e told (Legal.DoesLook.looks m) =
-    aside s added _ m.is (aside_append m.before _ (lookup_aside p s key request m.before m.answer m.right) one_aside) told
-told_group p s (ReadOn reader) added e told (Legal.DoesReadOn.reads_on answer m) = aside s added _ m.is (reading_on_aside p s reader answer added m) told
-told_group p s (ReadAll reader) added e told (Legal.DoesReadAll.reads_on answer x m y) = aside s added _ m.is (reading_on_aside p s reader answer added m) told
-told_group p s (ReadAll reader) added e told (Legal.DoesReadAll.has_none q x is y) = aside s added [] is tt told
-told_group p s (StopReading reader) added e told (Legal.DoesStopReading.closes r q l is) = aside s added _ is one_aside told
-told_group p s (StopReading reader) added e told (Legal.DoesStopReading.closed q l is) = aside s added [] is tt told
+pub told_group : (p : Permit) (s : State) (i : Intent) (added : List Rec) (e : End) → IsSound s → AreTold s → Does p s i added e → Tells p s added
+told_group p s Flush added e h told (Legal.DoesFlush.empty q f is) = aside p s added [] is tt told
+told_group p s Flush added e h told (Legal.DoesFlush.flushes m) = flushed p s added m h told
+told_group p s Flush added e h told (Legal.DoesFlush.stops count m) = stopped p s count added m told
+told_group p s Flush added e h told (Legal.DoesFlush.exhausted q f b is) = aside p s added [] is tt told
+told_group p s (Write actor key request response pin) added e h told (Legal.DoesWrite.opens m) = inl (opened s actor key request response pin added m told)
+told_group p s (Write actor key request response pin) added e h told (Legal.DoesWrite.many q m is) = aside p s added [] is tt told
+told_group p s (Write actor key request response pin) added e h told (Legal.DoesWrite.exhausted q m l is) = aside p s added [] is tt told
+told_group p s (Fragment put index payload) added e h told (Legal.DoesFragment.places d m) = inl (fragment_placed p s put index payload added m told)
+told_group p s (Fragment put index payload) added e h told (Legal.DoesFragment.rooms w n m) = roomed p s _ added e m h told
+told_group p s (Fragment put index payload) added e h told (Legal.DoesFragment.exhausted w x n q) = aside p s added [] q.is tt told
+told_group p s (Overflow put) added e h told (Legal.DoesOverflow.aborts w q l is) = aside p s added _ is one_aside told
+told_group p s (Weigh put rest) added e h told (Legal.DoesWeigh.weighs w q r f is) = aside p s added [] is tt told
+told_group p s (Weigh put rest) added e h told (Legal.DoesWeigh.too_large w q r f is) = aside p s added _ is one_aside told
+told_group p s (Weigh put rest) added e h told (Legal.DoesWeigh.damaged w row found q live d is) = aside p s added _ is one_aside told
+told_group p s (Weigh put rest) added e h told (Legal.DoesWeigh.faulted w row count q live r m is) = aside p s added _ is one_aside told
+told_group p s (Finish put fragments) added e h told (Legal.DoesFinish.places d m) = inl (vector_placed p s put fragments added m told)
+told_group p s (Finish put fragments) added e h told (Legal.DoesFinish.rooms w c m) = roomed p s _ added e m h told
+told_group p s (Finish put fragments) added e h told (Legal.DoesFinish.exhausted w x c l q) = aside p s added [] q.is tt told
+told_group p s (Finish put fragments) added e h told (Legal.DoesFinish.loses w index d m is) = aside p s added _ is one_aside told
+told_group p s (Commit put) added e h told (Legal.DoesCommit.commits w f o q is) = aside p s added _ is one_aside told
+told_group p s (GiveUp put) added e h told (Legal.DoesGiveUp.aborts w q is) = aside p s added _ is one_aside told
+told_group p s (GiveUp put) added e h told (Legal.DoesGiveUp.over q o is) = aside p s added [] is tt told
+told_group p s (Remove key) added e h told (Legal.DoesRemove.removes row q l is) = aside p s added _ is one_aside told
+told_group p s (Remove key) added e h told (Legal.DoesRemove.absent q l is) = aside p s added [] is tt told
+told_group p s (Look actor key request) added e h told (Legal.DoesLook.looks m) =
+    aside p s added _ m.is (aside_append m.before _ (lookup_aside p s key request m.before m.answer m.right) one_aside) told
+told_group p s (ReadOn reader) added e h told (Legal.DoesReadOn.reads_on answer m) = aside p s added _ m.is (reading_on_aside p s reader answer added m) told
+told_group p s (ReadAll reader) added e h told (Legal.DoesReadAll.reads_on answer x m y) = aside p s added _ m.is (reading_on_aside p s reader answer added m) told
+told_group p s (ReadAll reader) added e h told (Legal.DoesReadAll.has_none q x is y) = aside p s added [] is tt told
+told_group p s (StopReading reader) added e h told (Legal.DoesStopReading.closes r q l is) = aside p s added _ is one_aside told
+told_group p s (StopReading reader) added e h told (Legal.DoesStopReading.closed q l is) = aside p s added [] is tt told
 
 -- ---- each step
 
-advanced : (p : Permit) (s : State) (is : List Intent) (why : Option Reason) (added : List Rec) (after : Work) → Advances p s is why added after → AreTold s → AreTold (after_all s added)
-advanced p s [] why added after a told = absurd a
-advanced p s (i ∷ is) why added after a told = told_group p s i added a.0 told a.1
+advanced : (p : Permit) (s : State) (is : List Intent) (why : Option Reason) (added : List Rec) (after : Work) → Advances p s is why added after → IsSound s → AreTold s → Tells p s added
+advanced p s [] why added after a h told = absurd a
+advanced p s (i ∷ is) why added after a h told = told_group p s i added a.0 h told a.1
 
-told_grown : {p : Permit} {s : State} {w after : Work} {recs : List Rec} → MayGrow p s w recs after → AreTold s → AreTold (after_all s recs)
-told_grown nothing told = told
-told_grown {p} {s} {w} (more {rest = tail} added between one others) told =
-    subst AreTold (sym (after_all-append s added tail)) (told_grown others (advanced p s w.intents w.refused added between one told))
+-- so it is some way on from some work
+record IsShownFrom (p : Permit) (s : State) (w : Work) (recs : List Rec) : Type 0 where
+  before : List Rec
+  rest : List Rec
+  left : Work
+  grows : MayGrow p s w before left
+  is : recs ≡ before ++ rest
+  other : IsOtherVector p (after_all s before)
 
-pub told_step : (p : Permit) (s : State) (intents : List Intent) (added : List Rec) (why : Option Reason) → AreTold s → IsStep p s intents added why → AreTold (after_all s added)
-told_step p s intents added why told step = told_grown step.grows told
+-- at the first record
+shown_first : (p : Permit) (s : State) (w : Work) (recs : List Rec) → IsOtherVector p s → IsShownFrom p s w recs
+shown_first p s w recs other = record { before = []; rest = recs; left = w; grows = nothing; is = refl; other = other }
+
+-- or behind a group
+shown_later : (p : Permit) (s : State) (w between : Work) (added recs : List Rec) → Advances p s w.intents w.refused added between → IsShownFrom p (after_all s added) between recs
+    → IsShownFrom p s w (added ++ recs)
+shown_later p s w between added recs one v = record {
+  before = added ++ v.before;
+  rest = v.rest;
+  left = v.left;
+  grows = more added between one v.grows;
+  is = ap (λ xs. added ++ xs) v.is ∙ sym (append_assoc added v.before v.rest);
+  other = subst (IsOtherVector p) (sym (after_all-append s added v.before)) v.other;
+}
+
+told_grown : {p : Permit} {s : State} {w after : Work} {recs : List Rec} → MayGrow p s w recs after → IsSound s → AreTold s → AreTold (after_all s recs) ⊎ IsShownFrom p s w recs
+told_grown nothing h told = inl told
+told_grown {p} {s} {w} (more {rest = tail} added between one others) h told =
+    let later : IsLater s (after_all s added) = later_advanced p s w.intents w.refused added between one h in
+    elim (advanced p s w.intents w.refused added between one h told) [
+      | inr other ↦ inr (shown_first p s w (added ++ tail) other)
+      | inl first ↦ elim (told_grown others later.sound first) [
+        | inl last ↦ inl (subst AreTold (sym (after_all-append s added tail)) last)
+        | inr v ↦ inr (shown_later p s w between added tail one v)
+      ]
+    ]
+
+pub told_step : (p : Permit) (s : State) (intents : List Intent) (added : List Rec) (why : Option Reason) → IsSound s → AreTold s → IsStep p s intents added why
+    → AreTold (after_all s added) ⊎ ShowsVector p s intents added
+told_step p s intents added why h told step = elim (told_grown step.grows h told) [
+  | inl behind ↦ inl behind
+  | inr v ↦ inr (record { before = v.before; rest = v.rest; left = v.left; grows = v.grows; is = v.is; other = v.other })
+]
+
+-- ---- each chronicle
 
 pub told_format : (s : State) (geometry : Geometry) → AreTold (after_all s (format_records geometry))
 told_format s geometry = record { vectors = tt; puts = no_puts; displaced = refl }
 
-told_legal : (packed : Bool) (courses : List Course) (recs : List Rec) → IsLegal packed courses recs → AreTold (after_all nothing_yet recs)
-told_legal packed courses recs (Legal.IsLegal.begins geometry) = told_format nothing_yet geometry
-told_legal packed courses recs (Legal.IsLegal.steps {before = before} {added = added} course e legal step) =
-    subst AreTold (sym (after_all-append nothing_yet before added)) (told_grown step.grows (told_legal packed _ before legal))
+-- an element stays among those of a longer list
+among_front : (course : Course) (courses tail : List Course) → IsAmong course courses → IsAmong course (courses ++ tail)
+among_front course [] tail m = absurd m
+among_front course (c ∷ courses) tail m = elim m [ inl same ↦ inl same | inr k ↦ inr (among_front course courses tail k) ]
 
-pub vectors_are_kept : (packed : Bool) (courses : List Course) (recs : List Rec) → IsLegal packed courses recs → AreVectors (after_all nothing_yet recs)
-vectors_are_kept packed courses recs legal = (told_legal packed courses recs legal).vectors
+among_last : (course : Course) (courses : List Course) → IsAmong course (courses ++ course ∷ [])
+among_last course [] = inl refl
+among_last course (c ∷ courses) = inr (among_last course courses)
+
+shown_before : (courses : List Course) (course : Course) (before added : List Rec) → IsShownIn courses before → IsShownIn (courses ++ course ∷ []) (before ++ added)
+shown_before courses course before added v = record {
+  course = v.course;
+  among = among_front v.course courses (course ∷ []) v.among;
+  before = v.before;
+  rest = v.rest ++ added;
+  is = ap (λ xs. xs ++ added) v.is ∙ append_assoc v.before v.rest added;
+  other = v.other;
+}
+
+shown_last : (courses : List Course) (course : Course) (before added : List Rec) → ShowsVector course.permit (after_all nothing_yet before) course.intents added
+    → IsShownIn (courses ++ course ∷ []) (before ++ added)
+shown_last courses course before added v = record {
+  course = course;
+  among = among_last course courses;
+  before = before ++ v.before;
+  rest = v.rest;
+  is = ap (λ xs. before ++ xs) v.is ∙ sym (append_assoc before v.before v.rest);
+  other = subst (IsOtherVector course.permit) (sym (after_all-append nothing_yet before v.before)) v.other;
+}
+
+told_legal : (packed : Bool) (courses : List Course) (recs : List Rec) → IsLegal packed courses recs → AreTold (after_all nothing_yet recs) ⊎ IsShownIn courses recs
+told_legal packed courses recs (Legal.IsLegal.begins geometry) = inl (told_format nothing_yet geometry)
+told_legal packed courses recs (Legal.IsLegal.steps {courses = earlier} {before = before} {added = added} course e legal step) =
+    elim (told_legal packed earlier before legal) [
+      | inr v ↦ inr (shown_before earlier course before added v)
+      | inl told ↦ elim (told_step course.permit (after_all nothing_yet before) course.intents added course.refused (legal_is_sound packed earlier before legal) told step) [
+        | inl last ↦ inl (subst AreTold (sym (after_all-append nothing_yet before added)) last)
+        | inr v ↦ inr (shown_last earlier course before added v)
+      ]
+    ]
+
+pub vectors_are_kept : (packed : Bool) (courses : List Course) (recs : List Rec) → IsLegal packed courses recs
+    → AreVectors (after_all nothing_yet recs) ⊎ IsShownIn courses recs
+vectors_are_kept packed courses recs legal = elim (told_legal packed courses recs legal) [ inl told ↦ inl told.vectors | inr v ↦ inr v ]

@@ -1,7 +1,8 @@
 -- What a group has read.
-use Rattle.std.proofs.Common.{◌≡◌, ℕ, List, refl, sym, subst, inl, inr}
-use Rattle.std.specs.Prelude.{Option, Some, None, option_and_then, option_map, unwrap_or}
+use Rattle.std.proofs.Common.{◌≡◌, ℕ, List, length, refl, sym, ◌∙◌, ap, subst, arith, true, inl, inr}
+use Rattle.std.specs.Prelude.{Option, Some, None, not, option_and_then, option_map, unwrap_or}
 use Rattle.tape_base.specs.declared.keys.Key.{Key}
+use Rattle.tape_base.specs.Geometry.{budget_of}
 use Rattle.alternate_vector.specs.Field.{Field}
 use Rattle.fragment_table.specs.Table.{TableRow}
 use Rattle.cache_model.specs.declared.cause.Cause.{Cause}
@@ -12,27 +13,34 @@ use Rattle.cache_model.specs.declared.answer.NextAnswer.TheVariants as next
 use Rattle.cache_model.specs.declared.record.Rec.{Rec}
 use Rattle.cache_model.specs.State.{State, Row, PutRow, ReaderRow, live_row_of, put_of, reader_of}
 use Rattle.cache_model.specs.Verdict
-use Rattle.cache_model.specs.Verdict.{live_vector_of, next_piece, next_row, reader_verdict}
+use Rattle.cache_model.specs.Verdict.{live_vector_of, next_piece, next_row}
 use Rattle.cache_model.specs.Permit.{Permit, Intent, Flush, Write, Fragment, Overflow, Weigh, Finish, Commit, GiveUp, Remove, Look, ReadOn, ReadAll, StopReading, End}
+use Rattle.cache_model.specs.Due.{due_pieces}
+use Rattle.cache_model.specs.Outcomes.{AreOutcomes, Outcome}
+use Rattle.cache_model.specs.Room.{has_room, is_flush_exhausted}
+use Rattle.cache_model.specs.Given
 use Rattle.cache_model.specs.Legal
-use Rattle.cache_model.specs.Legal.{Does, IsLookup, IsRead, IsReadWhereLive, IsReading, MayReadOn, ReadTrouble, Trouble, has_hit, live_next}
+use Rattle.cache_model.specs.Given.{IsRead, IsReadWhereLive, Trouble}
+use Rattle.cache_model.specs.Legal.{CanFlush, Does, IsLookup, IsReading, MakesRoom, MayReadOn, ReadTrouble, live_next, vector_length}
 use Rattle.cache_model.specs.Choices
-use Rattle.cache_model.specs.Choices.{IsTried, IsTriedWhereLive, WasRead, to_read}
+use Rattle.cache_model.specs.Choices.{AreDueTried, IsTried, IsTriedWhereLive, WasRead, to_read}
 use Rattle.cache_model.proofs.Answered.{end_gives_none, given_in}
+use Rattle.cache_model.proofs.Found.{no_truth}
+use Rattle.cache_model.proofs.TriedFlush.{DueIsTried, outcomes_are_tried}
 
 -- ---- tried
 
 read_is_tried : (p : Permit) (s : State) (row : Row) → IsRead p s row → IsTried p s row
-read_is_tried p s row (Legal.IsRead.buffered in_buffer) = Choices.IsTried.buffered in_buffer
-read_is_tried p s row (Legal.IsRead.given bytes given own) = Choices.IsTried.given bytes given
+read_is_tried p s row (Given.IsRead.buffered in_buffer) = Choices.IsTried.buffered in_buffer
+read_is_tried p s row (Given.IsRead.given bytes given own) = Choices.IsTried.given bytes given
 
 where_live : (p : Permit) (s : State) (o : Option Row) → IsReadWhereLive p s o → IsTriedWhereLive p s o
 where_live p s None h = tt
 where_live p s (Some row) h = read_is_tried p s row h
 
 trouble_is_tried : (p : Permit) (s : State) (row : Row) (before : List Rec) (why : Cause) → Trouble p s row before why → IsTried p s row
-trouble_is_tried p s row before why (Legal.Trouble.faulted count written counts) = Choices.IsTried.refused count written counts
-trouble_is_tried p s row before why (Legal.Trouble.damaged found d) = Choices.IsTried.given d.bytes d.given
+trouble_is_tried p s row before why (Given.Trouble.faulted count written counts) = Choices.IsTried.refused count written counts
+trouble_is_tried p s row before why (Given.Trouble.damaged found d) = Choices.IsTried.given d.bytes d.given
 
 fragment_is_tried : (p : Permit) (s : State) (r : ReaderRow) (row : Row) (entry : TableRow) (before : List Rec) (why : Cause) → ReadTrouble p s r row entry before why → IsTried p s row
 fragment_is_tried p s r row entry before why (Legal.ReadTrouble.troubled b c t) = trouble_is_tried p s row before why t
@@ -60,32 +68,76 @@ weigh_is_tried : (p : Permit) (s : State) (put : ℕ) (w : PutRow) → put_of s 
     → IsTriedWhereLive p s (option_and_then (λ (x : PutRow). live_vector_of s x.key) (put_of s put))
 weigh_is_tried p s put w found h = subst (λ o. IsTriedWhereLive p s (option_and_then (λ (x : PutRow). live_vector_of s x.key) o)) (sym found) h
 
-pub answered_is_tried : (p : Permit) (s : State) (i : Intent) (added : List Rec) (e : End) → Does p s i added e → IsTriedWhereLive p s (to_read s i)
-answered_is_tried p s Flush added e d = tt
-answered_is_tried p s (Write actor key request response pin) added e d = tt
-answered_is_tried p s (Fragment put index payload) added e d = tt
-answered_is_tried p s (Overflow put) added e d = tt
-answered_is_tried p s (Weigh put rest) added e (Legal.DoesWeigh.weighs w q r f is) = weigh_is_tried p s put w q.found (where_live p s (live_vector_of s w.key) r)
-answered_is_tried p s (Weigh put rest) added e (Legal.DoesWeigh.too_large w q r f is) = weigh_is_tried p s put w q.found (where_live p s (live_vector_of s w.key) r)
-answered_is_tried p s (Weigh put rest) added e (Legal.DoesWeigh.damaged w row found q live d is) =
+asked_is_tried : (p : Permit) (s : State) (i : Intent) (added : List Rec) (e : End) → Does p s i added e → IsTriedWhereLive p s (to_read s i)
+asked_is_tried p s Flush added e d = tt
+asked_is_tried p s (Write actor key request response pin) added e d = tt
+asked_is_tried p s (Fragment put index payload) added e d = tt
+asked_is_tried p s (Overflow put) added e d = tt
+asked_is_tried p s (Weigh put rest) added e (Legal.DoesWeigh.weighs w q r f is) = weigh_is_tried p s put w q.found (where_live p s (live_vector_of s w.key) r)
+asked_is_tried p s (Weigh put rest) added e (Legal.DoesWeigh.too_large w q r f is) = weigh_is_tried p s put w q.found (where_live p s (live_vector_of s w.key) r)
+asked_is_tried p s (Weigh put rest) added e (Legal.DoesWeigh.damaged w row found q live d is) =
     weigh_is_tried p s put w q.found (tried_at p s (live_vector_of s w.key) row live (Choices.IsTried.given d.bytes d.given))
-answered_is_tried p s (Weigh put rest) added e (Legal.DoesWeigh.faulted w row count q live r m is) =
+asked_is_tried p s (Weigh put rest) added e (Legal.DoesWeigh.faulted w row count q live r m is) =
     weigh_is_tried p s put w q.found (tried_at p s (live_vector_of s w.key) row live (Choices.IsTried.refused count r m))
-answered_is_tried p s (Finish put fragments) added e d = tt
-answered_is_tried p s (Commit put) added e d = tt
-answered_is_tried p s (GiveUp put) added e d = tt
-answered_is_tried p s (Remove key) added e d = tt
-answered_is_tried p s (Look actor key request) added e (Legal.DoesLook.looks m) = lookup_is_tried p s key request m.before m.answer m.right
-answered_is_tried p s (ReadOn reader) added e (Legal.DoesReadOn.reads_on answer m) = read_on_is_tried p s reader answer added m
-answered_is_tried p s (ReadAll reader) added e (Legal.DoesReadAll.reads_on answer h m x) = rw h (read_on_is_tried p s reader answer added m)
-answered_is_tried p s (ReadAll reader) added e (Legal.DoesReadAll.has_none q h is x) = rw h tt
-answered_is_tried p s (StopReading reader) added e d = tt
+asked_is_tried p s (Finish put fragments) added e d = tt
+asked_is_tried p s (Commit put) added e d = tt
+asked_is_tried p s (GiveUp put) added e d = tt
+asked_is_tried p s (Remove key) added e d = tt
+asked_is_tried p s (Look actor key request) added e (Legal.DoesLook.looks m) = lookup_is_tried p s key request m.before m.answer m.right
+asked_is_tried p s (ReadOn reader) added e (Legal.DoesReadOn.reads_on answer m) = read_on_is_tried p s reader answer added m
+asked_is_tried p s (ReadAll reader) added e (Legal.DoesReadAll.reads_on answer h m x) = rw h (read_on_is_tried p s reader answer added m)
+asked_is_tried p s (ReadAll reader) added e (Legal.DoesReadAll.has_none q h is x) = rw h tt
+asked_is_tried p s (StopReading reader) added e d = tt
+
+-- ---- what a flush is to copy
+
+flush_is_tried : (p : Permit) (s : State) (outcomes : List Outcome) → AreOutcomes p s (budget_of s.geometry) (due_pieces s p.now) outcomes → DueIsTried p s
+flush_is_tried p s outcomes are = outcomes_are_tried p s (budget_of s.geometry) (due_pieces s p.now) outcomes are
+
+exhausted_not : (p : Permit) (s : State) → is_flush_exhausted s ≡ true → CanFlush s → DueIsTried p s
+exhausted_not p s high can = no_truth (sym high ∙ can.below)
+
+-- what has room is placed without one
+room_not : (p : Permit) (s : State) (bytes : ℕ) → has_room s bytes ≡ true → not (has_room s bytes) ≡ true → DueIsTried p s
+room_not p s bytes room first = no_truth (sym first ∙ ap not room)
+
+room_is_tried : (p : Permit) (s : State) (bytes : ℕ) (added : List Rec) (e : End) → MakesRoom p s bytes added e → CanFlush s → DueIsTried p s
+room_is_tried p s bytes added e (Legal.MakesRoom.flushes none m) can = flush_is_tried p s m.outcomes m.are
+room_is_tried p s bytes added e (Legal.MakesRoom.stops count none m) can = flush_is_tried p s m.outcomes m.are
+room_is_tried p s bytes added e (Legal.MakesRoom.exhausted none high is) can = exhausted_not p s high can
+
+due_is_tried : (p : Permit) (s : State) (i : Intent) (added : List Rec) (e : End) → Does p s i added e → AreDueTried p s i
+due_is_tried p s Flush added e (Legal.DoesFlush.empty q none is) first can = let some = can.filled in absurd (omega (arith, none, some))
+due_is_tried p s Flush added e (Legal.DoesFlush.flushes m) first can = flush_is_tried p s m.outcomes m.are
+due_is_tried p s Flush added e (Legal.DoesFlush.stops count m) first can = flush_is_tried p s m.outcomes m.are
+due_is_tried p s Flush added e (Legal.DoesFlush.exhausted q some high is) first can = exhausted_not p s high can
+due_is_tried p s (Fragment put index payload) added e (Legal.DoesFragment.places d m) first can = room_not p s (length payload) m.place.room first
+due_is_tried p s (Fragment put index payload) added e (Legal.DoesFragment.rooms w n m) first can = room_is_tried p s (length payload) added e m can
+due_is_tried p s (Fragment put index payload) added e (Legal.DoesFragment.exhausted w x n none) first can = room_not p s (length payload) none.room first
+due_is_tried p s (Finish put fragments) added e (Legal.DoesFinish.places d m) first can = room_not p s (vector_length s put) m.place.room first
+due_is_tried p s (Finish put fragments) added e (Legal.DoesFinish.rooms w c m) first can = room_is_tried p s (vector_length s put) added e m can
+due_is_tried p s (Finish put fragments) added e (Legal.DoesFinish.loses w index x m is) first can = room_not p s (vector_length s put) m.room first
+due_is_tried p s (Finish put fragments) added e (Legal.DoesFinish.exhausted w x c l none) first can = room_not p s (vector_length s put) none.room first
+due_is_tried p s (Write actor key request response pin) added e d first can = no_truth (sym first)
+due_is_tried p s (Overflow put) added e d first can = no_truth (sym first)
+due_is_tried p s (Weigh put rest) added e d first can = no_truth (sym first)
+due_is_tried p s (Commit put) added e d first can = no_truth (sym first)
+due_is_tried p s (GiveUp put) added e d first can = no_truth (sym first)
+due_is_tried p s (Remove key) added e d first can = no_truth (sym first)
+due_is_tried p s (Look actor key request) added e d first can = no_truth (sym first)
+due_is_tried p s (ReadOn reader) added e d first can = no_truth (sym first)
+due_is_tried p s (ReadAll reader) added e d first can = no_truth (sym first)
+due_is_tried p s (StopReading reader) added e d first can = no_truth (sym first)
+
+pub answered_is_tried : (p : Permit) (s : State) (i : Intent) (added : List Rec) (e : End) → Does p s i added e
+    → IsTriedWhereLive p s (to_read s i) × AreDueTried p s i
+answered_is_tried p s i added e d = (asked_is_tried p s i added e d, due_is_tried p s i added e d)
 
 -- ---- read
 
 was_read : (p : Permit) (s : State) (row : Row) → IsRead p s row → WasRead p s row
-was_read p s row (Legal.IsRead.buffered in_buffer) = inl in_buffer
-was_read p s row (Legal.IsRead.given bytes given own) = inr (bytes, given, own)
+was_read p s row (Given.IsRead.buffered in_buffer) = inl in_buffer
+was_read p s row (Given.IsRead.given bytes given own) = inr (bytes, given, own)
 
 hit_by : (p : Permit) (s : State) (key : Key) (request : List Field) (before : List Rec) (put : ℕ) (row : Row) (answer : ReadAnswer) → answer ≡ read.Hit put
     → live_vector_of s key ≡ Some row → IsLookup p s key request before answer → WasRead p s row

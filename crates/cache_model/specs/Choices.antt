@@ -1,10 +1,11 @@
 -- How many groups of records fit what is asked: one at most where the device is faithful, and one at
 -- least wherever it may be asked; and what a group has read.
-use Rattle.std.specs.Prelude.{ℕ, ◌≡◌, ◌-◌, ◌^◌, ◌<◌, ◌≤◌, ◌⊎◌, false, List, length, Option, Some, None, option_and_then, if◌then◌else◌}
+use Rattle.std.specs.Prelude.{ℕ, ◌≡◌, ◌-◌, ◌*◌, ◌^◌, ◌<◌, ◌≤◌, ◌⊎◌, Bool, true, false, not, List, [], ◌∷◌, length, Option, Some, None, option_and_then, if◌then◌else◌}
 use Rattle.tape_base.specs.declared.keys.Key.{Key}
 use Rattle.tape_base.specs.declared.pieces.PieceId.{PieceId}
 use Rattle.tape_base.specs.declared.actors.Actor.{Actor}
 use Rattle.tape_base.specs.Digest.{digest_of}
+use Rattle.tape_base.specs.Geometry.{budget_of}
 use Rattle.doc_header.specs.Reading.{document_digest, payload_of}
 use Rattle.fragment_table.specs.Table.{TableRow}
 use Rattle.alternate_vector.specs.Field.{Field, AreFields}
@@ -13,25 +14,35 @@ use Rattle.cache_model.specs.declared.answer.NextAnswer.TheVariants as next
 use Rattle.cache_model.specs.declared.record.Rec.{Rec}
 use Rattle.cache_model.specs.State.{State, Row, PutRow, ReaderRow, Open, live_row_of, put_of, reader_of, vector_piece}
 use Rattle.cache_model.specs.Verdict.{live_vector_of, next_piece, next_row}
-use Rattle.cache_model.specs.Permit.{Permit, Intent, Flush, Write, Fragment, Overflow, Weigh, Finish, Commit, GiveUp, Remove, Look, ReadOn, ReadAll, StopReading, End}
+use Rattle.cache_model.specs.Permit.{Permit, IsAmong, Intent, Flush, Write, Fragment, Overflow, Weigh, Finish, Commit, GiveUp, Remove, Look, ReadOn, ReadAll, StopReading, End}
+use Rattle.cache_model.specs.Room.{has_room}
+use Rattle.cache_model.specs.Due.{due_pieces}
 use Rattle.cache_model.specs.Tape.{IsSound}
-use Rattle.cache_model.specs.Legal.{Does, IsCut, IsGiven, IsNext, IsLookup, IsQuiet, IsReading, IsWriting, IsWritten, MayCount, has_hit, live_next, most_fragments}
+use Rattle.cache_model.specs.Given.{IsGiven, IsWritten, MayCount}
+use Rattle.cache_model.specs.Legal.{CanFlush, Does, IsCut, IsNext, IsLookup, IsQuiet, IsReading, IsWriting, has_hit, live_next, most_fragments, vector_length}
 
 -- ---- one at most
 
--- the directory displaces nothing, the device refuses nothing in the step, and what it gives for a live
--- piece is what was kept of it, and what the table of a reader that comes to it lists
+-- as many bytes as the device gave twice at one place in the step are the same
+abbrev pub GivesOnce : Permit → Type 0
+GivesOnce p = (place : ℕ) (one other : List ℕ) → IsAmong (record { place = place; bytes = one }) p.reads → IsAmong (record { place = place; bytes = other }) p.reads
+    → length one ≡ length other → one ≡ other
+
+-- the directory displaces nothing, the device refuses nothing in the step, what it gives at a place is
+-- one string of bytes, and for a live piece it is what was kept of it, and what the table of a reader
+-- that comes to it lists
 pub record IsFaithful (p : Permit) (s : State) : Type 0 where
   pub displaces_nothing : p.packed ≡ false
   pub counted : p.faults ≤ p.faults_before
   pub countable : p.faults_before < 2 ^ 64 - 1
+  pub once : GivesOnce p
   pub kept : (id : PieceId) (row : Row) (bytes : List ℕ) → live_row_of s id ≡ Some row → IsGiven p s row bytes → row.digest ≡ document_digest bytes
   pub listed : (reader : ℕ) (r : ReaderRow) (entry : TableRow) (row : Row) (bytes : List ℕ) → reader_of s reader ≡ Some r → next_row s r ≡ Some entry
       → live_row_of s (next_piece r) ≡ Some row → IsGiven p s row bytes → entry.digest ≡ (digest_of (payload_of bytes)).0
 
--- there, what is asked fixes the records of a group, and how it ends
+-- there, and on a sound tape, what is asked fixes the records of a group, and how it ends
 abbrev pub GroupIsFixed : Type 0
-GroupIsFixed = (p : Permit) (s : State) (i : Intent) (one other : List Rec) (e f : End) → IsFaithful p s
+GroupIsFixed = (p : Permit) (s : State) (i : Intent) (one other : List Rec) (e f : End) → IsSound s → IsFaithful p s
     → Does p s i one e → Does p s i other f → (one ≡ other) × (e ≡ f)
 
 -- ---- one at least
@@ -54,6 +65,37 @@ to_read s (Look actor key request) = live_vector_of s key
 to_read s (ReadOn reader) = option_and_then (live_next s) (reader_of s reader)
 to_read s (ReadAll reader) = if has_hit s reader then option_and_then (live_next s) (reader_of s reader) else None
 to_read s _ = None
+
+-- the device's last fault stands at this count
+abbrev pub with_fault : ℕ → State → State
+with_fault count s = record s { fault = count }
+
+-- the pieces within the budget were tried one behind the other: the device gave bytes for a piece,
+-- whatever they are, or refused it with a count that rose above those before
+pub data AreTried (p : Permit) : State → ℕ → List Row → Type 0 where
+  nothing : {s : State} {left : ℕ} → AreTried p s left []
+  no_room : {s : State} {left : ℕ} {row : Row} {rows : List Row} → left < row.blocks → AreTried p s left rows → AreTried p s left (row ∷ rows)
+  given : {s : State} {left : ℕ} {row : Row} {rows : List Row} (bytes : List ℕ) → row.blocks ≤ left → IsGiven p s row bytes
+      → AreTried p s (left - row.blocks) rows → AreTried p s left (row ∷ rows)
+  refused : {s : State} {left : ℕ} {row : Row} {rows : List Row} (count : ℕ) → row.blocks ≤ left → IsWritten s row → MayCount p s count
+      → AreTried p (with_fault count s) (left - row.blocks) rows → AreTried p s left (row ∷ rows)
+
+-- the device gave some bytes for the piece in the step, in one read of its blocks
+pub record HasBytes (p : Permit) (row : Row) : Type 0 where
+  pub bytes : List ℕ
+  pub given : IsAmong (record { place = row.place; bytes = bytes }) p.reads
+  pub whole : length bytes ≡ 512 * row.blocks
+
+-- what is asked begins with a flush: it is one, or a piece is to be placed that has no room
+abbrev pub flushes_first : State → Intent → Bool
+flushes_first s Flush = true
+flushes_first s (Fragment put index payload) = not (has_room s (length payload))
+flushes_first s (Finish put fragments) = not (has_room s (vector_length s put))
+flushes_first s _ = false
+
+-- where the flush may be made, what it is to copy was tried within the budget
+abbrev pub AreDueTried : Permit → State → Intent → Type 0
+AreDueTried p s i = flushes_first s i ≡ true → CanFlush s → AreTried p s (budget_of s.geometry) (due_pieces s p.now)
 
 -- an actor has this number
 abbrev pub IsActor : ℕ → Type 0
@@ -91,14 +133,16 @@ MayAsk s (StopReading reader) = IsQuiet s
 
 -- on a sound tape what may be asked can be done, or is refused, whatever the device gives
 abbrev pub AskedIsAnswered : Type 0
-AskedIsAnswered = (p : Permit) (s : State) (i : Intent) → IsSound s → MayAsk s i → IsTriedWhereLive p s (to_read s i)
+AskedIsAnswered = (p : Permit) (s : State) (i : Intent) → IsSound s → MayAsk s i → IsTriedWhereLive p s (to_read s i) → AreDueTried p s i
     → (added : List Rec) × (e : End) × Does p s i added e
 
 -- ---- what was read
 
--- what has to be read for an answer was in the buffer, or was read or refused in the step
+-- what has to be read for an answer was in the buffer, or was read or refused in the step, and so was
+-- what a flush is to copy
 abbrev pub AnsweredIsTried : Type 0
-AnsweredIsTried = (p : Permit) (s : State) (i : Intent) (added : List Rec) (e : End) → Does p s i added e → IsTriedWhereLive p s (to_read s i)
+AnsweredIsTried = (p : Permit) (s : State) (i : Intent) (added : List Rec) (e : End) → Does p s i added e
+    → IsTriedWhereLive p s (to_read s i) × AreDueTried p s i
 
 -- a piece is in the buffer, or the device gave its blocks in this step, with the digest that was kept
 abbrev pub WasRead : Permit → State → Row → Type 0

@@ -1,8 +1,7 @@
 -- Which records a step adds: groups that stand together, each of which ends, leaves or refuses what
 -- was asked first.
-use Rattle.std.specs.Prelude.{ℕ, ◌≡◌, ◌≢◌, ◌+◌, ◌-◌, ◌*◌, ◌^◌, ◌<◌, ◌≤◌, ◌==◌, Bool, true, false, if◌then◌else◌, List, [], ◌∷◌, ◌++◌, length, Option, Some, None, option_map, option_and_then, unwrap_or, is_some, cond, max}
+use Rattle.std.specs.Prelude.{ℕ, ◌≡◌, ◌≢◌, ◌+◌, ◌-◌, ◌*◌, ◌^◌, ◌<◌, ◌≤◌, ◌==◌, Bool, true, false, if◌then◌else◌, List, [], ◌∷◌, ◌++◌, length, Option, Some, None, option_map, option_and_then, unwrap_or, is_some, cond}
 use Rattle.std.specs.List.{count_by}
-use Rattle.edge_io.specs.Causes.{Rose}
 use Rattle.tape_base.specs.declared.keys.Key.{Key}
 use Rattle.tape_base.specs.declared.pieces.PieceId.{PieceId}
 use Rattle.tape_base.specs.declared.digests.Digest.{Digest}
@@ -18,16 +17,18 @@ use Rattle.alternate_vector.specs.Field.{Field, AreFields}
 use Rattle.alternate_vector.specs.Alternates.{vector_size}
 use Rattle.alternate_vector.specs.Spelling.{vector_bytes}
 use Rattle.cache_model.specs.declared.cause.Cause.{Cause}
-use Rattle.cache_model.specs.declared.cause.Cause.TheVariants as cause
 use Rattle.cache_model.specs.declared.answer.ReadAnswer.{ReadAnswer}
 use Rattle.cache_model.specs.declared.answer.ReadAnswer.TheVariants as read
 use Rattle.cache_model.specs.declared.answer.NextAnswer.{NextAnswer}
 use Rattle.cache_model.specs.declared.answer.NextAnswer.TheVariants as next
 use Rattle.cache_model.specs.declared.record.Rec.{Rec}
 use Rattle.cache_model.specs.declared.record.Rec.TheVariants as rec
-use Rattle.cache_model.specs.State.{State, Row, PutRow, ReaderRow, Open, after_all, nothing_yet, alternate_of, cursor_next, floor_next, fragment_piece, place_now, list_of_put, live_row_of, put_of, reader_of, vector_piece, with_cut}
+use Rattle.cache_model.specs.State.{State, Row, PutRow, ReaderRow, Open, after_all, nothing_yet, alternate_of, fragment_piece, place_now, list_of_put, live_row_of, put_of, reader_of, vector_piece, with_cut}
 use Rattle.cache_model.specs.Verdict.{is_open, live_vector_of, lookup_verdict, next_piece, next_row, reader_verdict}
-use Rattle.cache_model.specs.Permit.{Permit, IsAmong, Intent, Flush, Write, Fragment, Overflow, Weigh, Finish, Commit, GiveUp, Remove, Look, ReadOn, ReadAll, StopReading, Reason, ManyWriters, Exhausted, ManyFragments, TooLarge, Lost, Faulted, End, Stays, Done, Fails, Work, to_do, work_after}
+use Rattle.cache_model.specs.Permit.{Permit, Intent, Flush, Write, Fragment, Overflow, Weigh, Finish, Commit, GiveUp, Remove, Look, ReadOn, ReadAll, StopReading, Reason, ManyWriters, Exhausted, ManyFragments, TooLarge, Lost, Faulted, End, Stays, Done, Fails, Work, to_do, work_after}
+use Rattle.cache_model.specs.Given.{IsDamaged, IsGiven, IsReadWhereLive, IsWritten, MayCount, Trouble, damage_cause, damage_record}
+use Rattle.cache_model.specs.Due.{due_pieces}
+use Rattle.cache_model.specs.Outcomes.{AreOutcomes, Outcome, flush_records, stopped_front_of, stopped_records}
 use Rattle.cache_model.specs.Room.{limit, placed_record, greatest_pin, has_room, is_flush_exhausted, HasPlace, MayDisplace}
 
 -- no vector was placed that is not committed yet
@@ -53,54 +54,6 @@ pub record IsWriting (s : State) (put : ℕ) (w : PutRow) : Type 0 where
 abbrev pub is_writing : State → ℕ → Bool
 is_writing s put = unwrap_or (option_map is_open (put_of s put)) false
 
--- ---- the device
-
--- the count rose above that before the step and that of the last fault, and the device had counted as
--- far at the step's end
-pub record MayCount (p : Permit) (s : State) (count : ℕ) : Type 0 where
-  pub rose : Rose (max p.faults_before s.fault) count
-  pub reached : count ≤ p.faults
-
--- the piece is written out, and is not in the buffer any more
-abbrev pub IsWritten : State → Row → Type 0
-IsWritten s row = row.place < s.cursor
-
--- the device gave these bytes for the piece in this step, in one read of its blocks
-pub record IsGiven (p : Permit) (s : State) (row : Row) (bytes : List ℕ) : Type 0 where
-  pub written : IsWritten s row
-  pub given : IsAmong (record { place = row.place; bytes = bytes }) p.reads
-  pub whole : length bytes ≡ 512 * row.blocks
-
--- the piece is in the buffer, or the device gave its document in this step
-pub data IsRead (p : Permit) (s : State) (row : Row) : Type 0 where
-  buffered : s.cursor ≤ row.place → IsRead p s row
-  given : (bytes : List ℕ) → IsGiven p s row bytes → row.digest ≡ document_digest bytes → IsRead p s row
-
--- what is asked for was read, where it is live
-abbrev pub IsReadWhereLive : Permit → State → Option Row → Type 0
-IsReadWhereLive p s None = Unit {0}
-IsReadWhereLive p s (Some row) = IsRead p s row
-
--- the bytes that the device gave for the piece are not those of its digest
-pub record IsDamaged (p : Permit) (s : State) (row : Row) (found : Digest) : Type 0 where
-  pub bytes : List ℕ
-  pub given : IsGiven p s row bytes
-  pub digest : found ≡ document_digest bytes
-  pub differ : row.digest ≢ found
-
-abbrev pub damage_record : Row → Digest → Digest → Rec
-damage_record row kept found = rec.Damaged row.id row.place kept found
-
-abbrev pub damage_cause : Row → Digest → Digest → Cause
-damage_cause row kept found = cause.Damaged row.place kept found
-
--- the piece that is asked for cannot be read: the record of that, and the cause
-pub data Trouble (p : Permit) (s : State) (row : Row) : List Rec → Cause → Type 0 where
-  faulted : (count : ℕ) → IsWritten s row → MayCount p s count
-      → Trouble p s row (rec.Fault count ∷ []) (cause.DeviceFault count)
-  damaged : (found : Digest) → IsDamaged p s row found
-      → Trouble p s row (damage_record row row.digest found ∷ []) (damage_cause row row.digest found)
-
 -- ---- a flush
 
 -- a flush may be tried: no vector is pending, the buffer is not empty, and the next one may begin
@@ -109,26 +62,30 @@ pub record CanFlush (s : State) : Type 0 where
   pub filled : 0 < s.filled
   pub below : is_flush_exhausted s ≡ false
 
--- the buffer is written out, and the next one begins
-pub record MayFlush (s : State) (added : List Rec) : Type 0 where
+-- the buffer is written out, the next one begins, and what is due is copied into it within its budget
+pub record MayFlush (p : Permit) (s : State) (added : List Rec) : Type 0 where
+  pub outcomes : List Outcome
   pub can : CanFlush s
-  pub is : added ≡ rec.Began (cursor_next s) (floor_next s) ∷ []
+  pub are : AreOutcomes p s (budget_of s.geometry) (due_pieces s p.now) outcomes
+  pub is : added ≡ flush_records s (due_pieces s p.now) outcomes
 
--- the device refused to take the buffer
+-- the device refused to take the buffer, behind the reads of what is due
 pub record MayStop (p : Permit) (s : State) (count : ℕ) (added : List Rec) : Type 0 where
+  pub outcomes : List Outcome
   pub can : CanFlush s
-  pub counts : MayCount p s count
-  pub is : added ≡ rec.Fault count ∷ []
+  pub are : AreOutcomes p s (budget_of s.geometry) (due_pieces s p.now) outcomes
+  pub counts : MayCount p (after_all s (stopped_front_of (due_pieces s p.now) outcomes)) count
+  pub is : added ≡ stopped_records (due_pieces s p.now) outcomes count
 
 pub data DoesFlush (p : Permit) (s : State) (added : List Rec) : End → Type 0 where
   empty : IsQuiet s → s.filled ≡ 0 → added ≡ [] → DoesFlush p s added Done
-  flushes : MayFlush s added → DoesFlush p s added Done
+  flushes : MayFlush p s added → DoesFlush p s added Done
   stops : (count : ℕ) → MayStop p s count added → DoesFlush p s added (Fails (Faulted count))
   exhausted : IsQuiet s → 0 < s.filled → is_flush_exhausted s ≡ true → added ≡ [] → DoesFlush p s added (Fails Exhausted)
 
 -- a piece of so many bytes that is about to be placed has no room: a flush is tried
 pub data MakesRoom (p : Permit) (s : State) (bytes : ℕ) (added : List Rec) : End → Type 0 where
-  flushes : has_room s bytes ≡ false → MayFlush s added → MakesRoom p s bytes added Stays
+  flushes : has_room s bytes ≡ false → MayFlush p s added → MakesRoom p s bytes added Stays
   stops : (count : ℕ) → has_room s bytes ≡ false → MayStop p s count added → MakesRoom p s bytes added (Fails (Faulted count))
   exhausted : has_room s bytes ≡ false → is_flush_exhausted s ≡ true → added ≡ [] → MakesRoom p s bytes added (Fails Exhausted)
 

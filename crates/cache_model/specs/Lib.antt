@@ -2,6 +2,9 @@ pub mod State
 pub mod Verdict
 pub mod Permit
 pub mod Room
+pub mod Given
+pub mod Due
+pub mod Outcomes
 pub mod Legal
 pub mod Kept
 pub mod PlaceLaws
@@ -10,3 +13,4 @@ pub mod Choices
 pub mod VerdictLaws
 pub mod Tape
 pub mod Vectors
+pub mod FlushLaws

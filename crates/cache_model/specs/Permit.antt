@@ -77,10 +77,11 @@ pub record DeviceRead : Type 0 where
   pub place : ℕ
   pub bytes : List ℕ
 
--- whether the directory displaces entries, the device's count of faults before the step and at its
--- end, and what the device gave in it
+-- whether the directory displaces entries, the moment up to which pins hold, the device's count of faults
+-- before the step and at its end, and what the device gave in it
 pub record Permit : Type 0 where
   pub packed : Bool
+  pub now : ℕ
   pub faults_before : ℕ
   pub faults : ℕ
   pub reads : List DeviceRead

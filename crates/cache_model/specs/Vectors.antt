@@ -13,11 +13,15 @@ use Rattle.doc_header.specs.Reading.{document_digest, extent_of, payload_of}
 use Rattle.alternate_vector.specs.Alternates.{Stored, IsStored, vector_size}
 use Rattle.alternate_vector.specs.Spelling.{IsSpelling, vector_bytes}
 use Rattle.cache_model.specs.declared.record.Rec.{Rec}
-use Rattle.cache_model.specs.State.{State, Row, PutRow, after_all, alternate_of, alternates_of, list_of_put, nothing_yet, put_of}
+use Rattle.cache_model.specs.State.{State, Row, PutRow, after_all, alternate_of, alternates_of, list_of_put, live_row_of, nothing_yet, put_of}
 use Rattle.cache_model.specs.Verdict.{live_vector_of}
-use Rattle.cache_model.specs.Permit.{Permit, Intent, Reason, End}
+use Rattle.cache_model.specs.Permit.{Permit, IsAmong, Intent, Reason, End, Work, to_do}
+use Rattle.cache_model.specs.Due.{due_pieces}
+use Rattle.cache_model.specs.Given.{IsGiven}
+use Rattle.cache_model.specs.Outcomes.{AreOutcomes, Outcome, flush_records, stopped_records}
 use Rattle.cache_model.specs.Room.{greatest_pin}
-use Rattle.cache_model.specs.Legal.{Course, Does, FitsAlone, IsLegal, IsStep, format_records}
+use Rattle.cache_model.specs.Tape.{IsSound}
+use Rattle.cache_model.specs.Legal.{Course, Does, FitsAlone, IsLegal, IsStep, MayGrow, format_records}
 
 -- the document as which a vector was placed
 abbrev pub vector_doc : State → Row → Doc
@@ -54,24 +58,67 @@ pub record AreTold (s : State) : Type 0 where
   pub puts : ArePuts s
   pub displaced : s.displaced ≡ []
 
+-- ---- what a copy may show
+
+-- the document as which a live vector was placed, and other bytes that the device gave for it in the
+-- step, have one SHA-256
+pub record IsOtherVector (p : Permit) (s : State) : Type 0 where
+  pub row : Row
+  pub list : List Stored
+  pub bytes : List ℕ
+  pub vector : is_vector row.id ≡ true
+  pub live : live_row_of s row.id ≡ Some row
+  pub placed : IsVectorRow s row list
+  pub given : IsGiven p s row bytes
+  pub collide : Collide (take (extent_of bytes) bytes) (vector_document s row list)
+
+-- so it is some way into a step
+pub record ShowsVector (p : Permit) (s : State) (intents : List Intent) (added : List Rec) : Type 0 where
+  pub before : List Rec
+  pub rest : List Rec
+  pub left : Work
+  pub grows : MayGrow p s (to_do intents) before left
+  pub is : added ≡ before ++ rest
+  pub other : IsOtherVector p (after_all s before)
+
+-- and so in one of the steps of a chronicle
+pub record IsShownIn (courses : List Course) (recs : List Rec) : Type 0 where
+  pub course : Course
+  pub among : IsAmong course courses
+  pub before : List Rec
+  pub rest : List Rec
+  pub is : recs ≡ before ++ rest
+  pub other : IsOtherVector course.permit (after_all nothing_yet before)
+
 -- ---- laws
 
 -- a session begins so
 abbrev pub FormatsTell : Type 0
 FormatsTell = (s : State) (geometry : Geometry) → AreTold (after_all s (format_records geometry))
 
--- each group of records leaves it so
+-- a flush that copies what is due leaves it so, or two documents of one SHA-256 are shown
+abbrev pub FlushTells : Type 0
+FlushTells = (p : Permit) (s : State) (now left : ℕ) (outcomes : List Outcome) → IsSound s → AreTold s → AreOutcomes p s left (due_pieces s now) outcomes
+    → AreTold (after_all s (flush_records s (due_pieces s now) outcomes)) ⊎ IsOtherVector p s
+
+-- one that stops copies none
+abbrev pub StoppedTells : Type 0
+StoppedTells = (s : State) (rows : List Row) (outcomes : List Outcome) (count : ℕ) → AreTold s → AreTold (after_all s (stopped_records rows outcomes count))
+
+-- each group of records leaves it so, on a sound tape
 abbrev pub GroupsTell : Type 0
-GroupsTell = (p : Permit) (s : State) (i : Intent) (added : List Rec) (e : End) → AreTold s → Does p s i added e → AreTold (after_all s added)
+GroupsTell = (p : Permit) (s : State) (i : Intent) (added : List Rec) (e : End) → IsSound s → AreTold s → Does p s i added e
+    → AreTold (after_all s added) ⊎ IsOtherVector p s
 
 -- and so does each step
 abbrev pub StepsTell : Type 0
 StepsTell = (p : Permit) (s : State) (intents : List Intent) (added : List Rec) (why : Option Reason)
-    → AreTold s → IsStep p s intents added why → AreTold (after_all s added)
+    → IsSound s → AreTold s → IsStep p s intents added why → AreTold (after_all s added) ⊎ ShowsVector p s intents added
 
--- in each legal chronicle each vector lists its alternates
+-- in each legal chronicle each vector lists its alternates, or a step shows two documents of one SHA-256
 abbrev pub VectorsAreKept : Type 0
-VectorsAreKept = (packed : Bool) (courses : List Course) (recs : List Rec) → IsLegal packed courses recs → AreVectors (after_all nothing_yet recs)
+VectorsAreKept = (packed : Bool) (courses : List Course) (recs : List Rec) → IsLegal packed courses recs
+    → AreVectors (after_all nothing_yet recs) ⊎ IsShownIn courses recs
 
 -- what a key's live vector lists are the key's alternates
 abbrev pub LiveVectorIsListed : Type 0

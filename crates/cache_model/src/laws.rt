@@ -5,7 +5,8 @@ ghost use Rattle.cache_model.specs.Choices.{GroupIsFixed, AskedIsAnswered, Answe
 ghost use Rattle.cache_model.specs.StepLaws.{RefusalEnds, NumbersFollow, FaultsRise, OneGroup, NothingAsked, FragmentIsCut, LiveIsRemoved, EmptyFlush, LookupIsOne, TooLargeIsNotPlaced, AllIsCutFirst, ReaderIsClosed, WriterIsEnded, TroubleIsBacked};
 ghost use Rattle.cache_model.specs.VerdictLaws.{HitMatches, CompleteIsHit, RemovedIsMissed, PassedIsMissed, FormattedIsEmpty, GivenIsOwn, EndIsWhole, FollowedIsClosed, WaitsForOpen};
 ghost use Rattle.cache_model.specs.Tape.{StepsAreSound, LegalIsSound, LiveIsKnown};
-ghost use Rattle.cache_model.specs.Vectors.{FormatsTell, GroupsTell, StepsTell, VectorsAreKept, LiveVectorIsListed, VectorIsReadBack, MergedIsSpelled};
+ghost use Rattle.cache_model.specs.FlushLaws.{DueAreFound, FlushIsSound, FrontIsBacked, GivenAreTried, KeptAreChosen, OutcomesAreFixed, OutcomesAreFound, OutcomesAreTried, StoppedIsBacked, StoppedIsSound, WalkFinds, WalkGoesOn};
+ghost use Rattle.cache_model.specs.Vectors.{FlushTells, StoppedTells, FormatsTell, GroupsTell, StepsTell, VectorsAreKept, LiveVectorIsListed, VectorIsReadBack, MergedIsSpelled};
 
 /// What each record makes of the place of each piece.
 pub fn place_follows()
@@ -117,18 +118,20 @@ pub fn faults_rise()
     ensures { FaultsRise }
 {}
 
-/// On a faithful device, and with a directory that displaces nothing, what is asked fixes the records of
-/// a group and how it ends.
+/// On a sound tape and a faithful device, and with a directory that displaces nothing, what is asked
+/// fixes the records of a group and how it ends.
 pub fn group_is_fixed()
     ensures { GroupIsFixed }
 {}
 
-/// On a sound tape what may be asked can be done, or is refused, whatever the device gives.
+/// On a sound tape what may be asked can be done, or is refused, whatever the device gives for what was
+/// tried.
 pub fn asked_is_answered()
     ensures { AskedIsAnswered }
 {}
 
-/// What has to be read for an answer was in the buffer, or was read or refused in the step.
+/// What has to be read for an answer was in the buffer, or was read or refused in the step, and so was
+/// what a flush is to copy.
 pub fn answered_is_tried()
     ensures { AnsweredIsTried }
 {}
@@ -209,7 +212,7 @@ pub fn formats_tell()
 {}
 
 /// Each group of records leaves vectors that spell their alternates, and puts whose alternates may be
-/// kept.
+/// kept, or two documents of one SHA-256 are shown.
 pub fn groups_tell()
     ensures { GroupsTell }
 {}
@@ -219,7 +222,8 @@ pub fn steps_tell()
     ensures { StepsTell }
 {}
 
-/// In each legal chronicle each vector is the document that spells its alternates.
+/// In each legal chronicle each vector is the document that spells its alternates, or a step shows two
+/// documents of one SHA-256.
 pub fn vectors_are_kept()
     ensures { VectorsAreKept }
 {}
@@ -238,4 +242,74 @@ pub fn vector_is_read_back()
 /// The vector that a put is to have is a piece, where that of its own alternate alone is one.
 pub fn merged_is_spelled()
     ensures { MergedIsSpelled }
+{}
+
+/// Exactly the pieces that the walk within the budget keeps are read.
+pub fn kept_are_chosen()
+    ensures { KeptAreChosen }
+{}
+
+/// What is due stands from the floor on, below the next one.
+pub fn due_are_found()
+    ensures { DueAreFound }
+{}
+
+/// A piece that begins at a place is the next of a walk.
+pub fn walk_finds()
+    ensures { WalkFinds }
+{}
+
+/// Where no live piece begins, a walk goes on.
+pub fn walk_goes_on()
+    ensures { WalkGoesOn }
+{}
+
+/// A flush that copies leaves places in order, lowers no floor, and leaves room for any piece.
+pub fn flush_is_sound()
+    ensures { FlushIsSound }
+{}
+
+/// Faults are new ones, and damage is that of bytes that the device gave.
+pub fn front_is_backed()
+    ensures { FrontIsBacked }
+{}
+
+/// So they are where the flush stops behind its reads.
+pub fn stopped_is_backed()
+    ensures { StoppedIsBacked }
+{}
+
+/// What was tried has outcomes, whatever the device gave.
+pub fn outcomes_are_found()
+    ensures { OutcomesAreFound }
+{}
+
+/// What has outcomes was tried.
+pub fn outcomes_are_tried()
+    ensures { OutcomesAreTried }
+{}
+
+/// What is due was tried where the device gave bytes for it.
+pub fn given_are_tried()
+    ensures { GivenAreTried }
+{}
+
+/// What is due has one list of outcomes on a faithful device.
+pub fn outcomes_are_fixed()
+    ensures { OutcomesAreFixed }
+{}
+
+/// A flush leaves vectors that list their alternates, or two documents of one SHA-256 are shown.
+pub fn flush_tells()
+    ensures { FlushTells }
+{}
+
+/// A flush that stops leaves them so.
+pub fn stopped_tells()
+    ensures { StoppedTells }
+{}
+
+/// A flush that stops leaves a sound tape, and the buffer as it was.
+pub fn stopped_is_sound()
+    ensures { StoppedIsSound }
 {}

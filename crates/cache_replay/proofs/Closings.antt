@@ -30,6 +30,7 @@ use Rattle.script_run.specs.Asked.{asked}
 use Rattle.script_run.specs.Asked.{close_intents as run_close_intents, rest_intents as run_rest_intents, count_with}
 use Rattle.script_run.specs.Turn.{Turn}
 use Rattle.script_run.specs.Answers.{put_said, said}
+use Rattle.script_run.specs.Takes.{IsOther}
 use Rattle.script_run.specs.Behind.{of_put, sealed_by, still_open, streams_behind, streams_closed}
 use Rattle.cache_replay.specs.Plays.{IsStreamOf}
 use Rattle.cache_replay.specs.Putting.{refusal_answer}
@@ -109,7 +110,7 @@ cause_at : (t : State) (put index : ℕ) (key : Key) (o : Option PutRow) → opt
 cause_at t put index key None h = cc
 cause_at t put index key (Some row) h = let same : row.key ≡ key = cc in ap (λ k. cause_of_piece t (fragment_piece k put index)) same
 
-module _ (old new : Kept) (before after : ℕ) (w last : Writer) (left : Option Writer)
+module _ (now : ℕ) (old new : Kept) (before after : ℕ) (w last : Writer) (left : Option Writer)
     (quiet_then : IsQuiet (state_of new)) (writing : is_writing (state_of old) w.put ≡ true) (own : IsWriterOf (state_of old) w)
     (rested : IsRested w last) (open_left : LeftOpen (state_of new) last left) where
   abbrev s : State
@@ -137,12 +138,12 @@ module _ (old new : Kept) (before after : ℕ) (w last : Writer) (left : Option 
       ap (λ (r : Option PutRow). option_map (λ (p : PutRow). p.key) r) o.1 ∙ ap (λ (k : Key). Some k) (own o.0 o.1 o.2).key_is
 
   closed_moves : (result : Result Receipt Refusal) (e : End) (said_ : StepAnswer) (reads : List Rattle.cache_model.specs.Permit.DeviceRead) (added : List Rec) → new ≡ with_records old added
-      → SpendsAll (permit_of before after reads) s (close_intents w) added e
+      → SpendsAll (permit_of now before after reads) s (close_intents w) added e
       → (IsEnded (reason_of e) t w.put (rows_at_close w) (key_of s w.put) → (stream : Stream) → IsStreamOf stream w → is_writing t w.put ≡ true → IsStreamOf (sealed_by (reason_of e) stream) last)
       → (IsEnded (reason_of e) t w.put (rows_at_close w) (key_of s w.put) → said t None (reason_of e) (put_said t w.put) ≡ said_)
-      → (run : Run) (name : List ℕ) → IsPlayed run name s w → WriterEnds run name s t Closes left said_
-  closed_moves result e said_ reads added adds spends stream says run name played =
-      let p : Permit = permit_of before after reads in
+      → (run : Run) (name : List ℕ) → run.now ≡ now → IsPlayed run name s w → WriterEnds run name s t Closes left said_
+  closed_moves result e said_ reads added adds spends stream says run name moment played =
+      let p : Permit = permit_of now before after reads in
       let there = state_with old new added adds in
       let has = has_put run name s w played in
       let legal : IsStep p s (close_intents w) added (reason_of e) = whole_step p s (close_intents w) added e spends (subst IsQuiet there quiet_then) in
@@ -154,7 +155,7 @@ module _ (old new : Kept) (before after : ℕ) (w last : Writer) (left : Option 
       ap (λ o. of_put run o (streams_closed run (reason_of e)) last.put) has ∙ ap (λ (b : Bool). if b then x else run.streams last.put) (eq-eqb last.put w.put put_is) in
       inl (record {
         turn = turn;
-        takes = record { plain = refl; legal = subst (λ (is : List Intent). IsStep p s is added (reason_of e)) (sym (asks run name played)) legal; own = refl };
+        takes = record { plain = refl; moment = sym moment; legal = subst (λ (is : List Intent). IsStep p s is added (reason_of e)) (sym (asks run name played)) legal; own = refl };
         state = there;
         held = ap (still_open t) played.held ∙ held_open t w.put last left put_is open_left;
         stream = of_left (λ v. IsStreamOf (streams_behind run s t turn (step.Close name) v.put) v) t last left open_left
@@ -163,37 +164,37 @@ module _ (old new : Kept) (before after : ℕ) (w last : Writer) (left : Option 
       })
 
   shows : (p : Permit) → Rattle.stripe_vectors.specs.Reading.IsCollision p s w.key → (run : Run) (name : List ℕ) (said_ : StepAnswer) → WriterEnds run name s t Closes left said_
-  shows p collision run name said_ = inr (record { device = p; added = []; left = to_do (asked run s (step.Close name)); grows = nothing; other = inl (w.key, collision) })
+  shows p collision run name said_ = inr (record { device = p; added = []; left = to_do (asked run s (step.Close name)); grows = nothing; other = IsOther.vector_read w.key collision })
 
-  either : (result : Result Receipt Refusal) (said_ : StepAnswer) → ClosesAsAsked before after old new w result
-      → ((reads : List Rattle.cache_model.specs.Permit.DeviceRead) (run : Run) (name : List ℕ) → IsPlayed run name s w → ClosesAs (permit_of before after reads) old new w result → WriterEnds run name s t Closes left said_)
-      → (run : Run) (name : List ℕ) → IsPlayed run name s w → WriterEnds run name s t Closes left said_
-  either result said_ asked_ then_ run name played = elim (asked_.does (permit_of before after asked_.reads) (covers_own before after asked_.reads) played.told) [
-    | inl closes ↦ then_ asked_.reads run name played closes
-    | inr collision ↦ shows (permit_of before after asked_.reads) collision run name said_
+  either : (result : Result Receipt Refusal) (said_ : StepAnswer) → ClosesAsAsked now before after old new w result
+      → ((reads : List Rattle.cache_model.specs.Permit.DeviceRead) (run : Run) (name : List ℕ) → run.now ≡ now → IsPlayed run name s w → ClosesAs (permit_of now before after reads) old new w result → WriterEnds run name s t Closes left said_)
+      → (run : Run) (name : List ℕ) → run.now ≡ now → IsPlayed run name s w → WriterEnds run name s t Closes left said_
+  either result said_ asked_ then_ run name moment played = elim (asked_.does (permit_of now before after asked_.reads) refl (covers_own now before after asked_.reads) played.told) [
+    | inl closes ↦ then_ asked_.reads run name moment played closes
+    | inr collision ↦ shows (permit_of now before after asked_.reads) collision run name said_
   ]
 
   -- each answer
-  pub closes_line : (result : Result Receipt Refusal) → ClosesWhere s t w result → ClosesAsAsked before after old new w result → SealsWhere w last result → WriterDoes s t Closes w left (closed_answer result)
-  closes_line (Ok receipt) where_ does seals = either (Ok receipt) (answer.Put receipt.put receipt.length receipt.fragments) does (λ reads run name played closes.
+  pub closes_line : (result : Result Receipt Refusal) → ClosesWhere s t w result → ClosesAsAsked now before after old new w result → SealsWhere w last result → WriterDoes now s t Closes w left (closed_answer result)
+  closes_line (Ok receipt) where_ does seals = either (Ok receipt) (answer.Put receipt.put receipt.length receipt.fragments) does (λ reads run name moment played closes.
       closed_moves (Ok receipt) Done (answer.Put receipt.put receipt.length receipt.fragments) reads closes.added closes.adds closes.does
       (λ end_ stream of o. clashes (is_writing t w.put) end_.0 o)
       (λ end_. ap (λ (rows : List TableRow). answer.Put w.put (total_length rows) (length rows)) end_.1
       ∙ (ap (λ n. answer.Put n (total_length (rows_at_close w)) (length (rows_at_close w))) (sym where_.1.put)
-      ∙ (ap (λ n. answer.Put receipt.put n (length (rows_at_close w))) (sym where_.1.bytes) ∙ ap (answer.Put receipt.put receipt.length) (sym where_.1.fragments)))) run name played)
-  closes_line (Err (refusal.VectorTooLarge size)) where_ does seals = either (Err (refusal.VectorTooLarge size)) (refusal_answer (refusal.VectorTooLarge size) None) does (λ reads run name played closes.
+      ∙ (ap (λ n. answer.Put receipt.put n (length (rows_at_close w))) (sym where_.1.bytes) ∙ ap (answer.Put receipt.put receipt.length) (sym where_.1.fragments)))) run name moment played)
+  closes_line (Err (refusal.VectorTooLarge size)) where_ does seals = either (Err (refusal.VectorTooLarge size)) (refusal_answer (refusal.VectorTooLarge size) None) does (λ reads run name moment played closes.
       closed_moves (Err (refusal.VectorTooLarge size)) (Fails (TooLarge w.put size)) (refusal_answer (refusal.VectorTooLarge size) None) reads closes.added closes.adds closes.does
-      (λ end_ stream of o. clashes (is_writing t w.put) end_ o) (λ end_. refl) run name played)
-  closes_line (Err (refusal.Lost index why)) where_ does seals = either (Err (refusal.Lost index why)) (refusal_answer (refusal.Lost index why) None) does (λ reads run name played closes.
+      (λ end_ stream of o. clashes (is_writing t w.put) end_ o) (λ end_. refl) run name moment played)
+  closes_line (Err (refusal.Lost index why)) where_ does seals = either (Err (refusal.Lost index why)) (refusal_answer (refusal.Lost index why) None) does (λ reads run name moment played closes.
       closed_moves (Err (refusal.Lost index why)) (Fails (Lost w.put index)) (refusal_answer (refusal.Lost index why) None) reads closes.added closes.adds closes.does
       (λ end_ stream of o. clashes (is_writing t w.put) end_.0 o)
-      (λ end_. ap (λ (c : Cause). answer.Refused (refused.Lost index c) None) (cause_at t w.put index w.key (put_of t w.put) (end_.1 ∙ key_at) ∙ sym where_.1)) run name played)
-  closes_line (Err (refusal.DeviceFault count)) where_ does seals = either (Err (refusal.DeviceFault count)) (refusal_answer (refusal.DeviceFault count) None) does (λ reads run name played closes.
+      (λ end_. ap (λ (c : Cause). answer.Refused (refused.Lost index c) None) (cause_at t w.put index w.key (put_of t w.put) (end_.1 ∙ key_at) ∙ sym where_.1)) run name moment played)
+  closes_line (Err (refusal.DeviceFault count)) where_ does seals = either (Err (refusal.DeviceFault count)) (refusal_answer (refusal.DeviceFault count) None) does (λ reads run name moment played closes.
       closed_moves (Err (refusal.DeviceFault count)) (Fails (Faulted count)) (refusal_answer (refusal.DeviceFault count) None) reads closes.added closes.adds closes.does
-      (λ end_ stream of o. sealed_stream stream w last of rested seals) (λ end_. refl) run name played)
-  closes_line (Err (refusal.Exhausted number)) where_ does seals = either (Err (refusal.Exhausted number)) (refusal_answer (refusal.Exhausted number) None) does (λ reads run name played closes.
+      (λ end_ stream of o. sealed_stream stream w last of rested seals) (λ end_. refl) run name moment played)
+  closes_line (Err (refusal.Exhausted number)) where_ does seals = either (Err (refusal.Exhausted number)) (refusal_answer (refusal.Exhausted number) None) does (λ reads run name moment played closes.
       closed_moves (Err (refusal.Exhausted number)) (Fails Exhausted) (refusal_answer (refusal.Exhausted number) None) reads closes.added closes.adds closes.does
-      (λ end_ stream of o. sealed_stream stream w last of rested seals) (λ end_. refl) run name played)
+      (λ end_ stream of o. sealed_stream stream w last of rested seals) (λ end_. refl) run name moment played)
   closes_line (Err (refusal.Memory e)) where_ does seals = tt
   closes_line (Err refusal.NoSuchWriter) where_ does seals = let clash : true ≡ false = sym writing ∙ where_ in cc
   closes_line (Err refusal.TooManyWriters) where_ does seals = absurd where_

@@ -26,9 +26,9 @@ use Rattle.script_run.specs.Behind.{still_open}
 use Rattle.script_run.specs.Laws.{StepsOwn}
 use Rattle.cache_replay.specs.declared.session.Part.{Part}
 use Rattle.cache_replay.specs.Session.{AreApart, IsActive}
-use Rattle.cache_replay.specs.ReaderLines.{PartMoves, PlaysPart, reader_held, slots_of}
+use Rattle.cache_replay.specs.ReaderLines.{PartEnds, PartMoves, PlaysPart, reader_held, slots_of}
 use Rattle.cache_replay.proofs.ReaderFrames.{closed_leaves, kept_leaves, state_behind}
-use Rattle.cache_replay.proofs.ReaderLines.{Goes, Took, apart_else, goes_active, held_reader, part_behind, line_moves, reads_none, still_held, still_moves, still_permit}
+use Rattle.cache_replay.proofs.ReaderLines.{Goes, Took, apart_else, goes_active, held_reader, part_behind, line_ends, reads_none, still_held, still_moves, still_permit}
 
 -- it is closed then
 closed_is_none : (s : State) (reader : ℕ) → reader_of (state_after s (rec.ReadClosed reader)) reader ≡ None
@@ -59,16 +59,16 @@ module _ {D R C : Type 0} (disk : DiskGhosts D) (directory : DirectoryGhosts R) 
       goes_active disk directory chronicle old new slots later n r.reader None active
       (part_behind disk directory chronicle old new active.part stripe quiet (ap (λ p. length p.items) page) goes.leaves.geometry) goes tt
 
-  pub done_moves : (tell : GroupsTell) (own : StepsOwn) (old new : Part D R C) (before after : Seen Rattle.cache_replay.specs.declared.session.Holding.Holding) (name : List ℕ) (n : ℕ) (r : Reader)
+  pub done_ends : (tell : GroupsTell) (own : StepsOwn) (old new : Part D R C) (before after : Seen Rattle.cache_replay.specs.declared.session.Holding.Holding) (name : List ℕ) (n : ℕ) (r : Reader)
       → n ≡ number_of before.names name → after.names ≡ with_actor before.names name → Took (slots_of before) (slots_of after) n r
       → kept_in chronicle new.stripe ≡ with_records (kept_in chronicle old.stripe) (rec.ReadClosed r.reader ∷ [])
       → ClosesAsAsked (state_in chronicle old.stripe) r → IsQuiet (state_in chronicle new.stripe) → IsActive disk directory chronicle old (slots_of before)
-      → (run : Run) → PlaysPart disk directory chronicle run old before → PartMoves disk directory chronicle run (state_in chronicle old.stripe) (step.Done name) new after answer.Done
-  done_moves tell own old new before after name n r number names taken adds closes quiet active run plays =
+      → (run : Run) → PlaysPart disk directory chronicle run old before → PartEnds disk directory chronicle run (state_in chronicle old.stripe) (step.Done name) new after answer.Done
+  done_ends tell own old new before after name n r number names taken adds closes quiet active run plays =
       let s : State = state_in chronicle old.stripe in
       let by : held_by run name ≡ Some (Reads r.reader) = (held_reader disk directory chronicle run old before name n r number taken.had plays).0 in
       let reads : reader_by run name ≡ Some r.reader = ap (option_and_then reader_in) by in
-      line_moves disk directory chronicle tell own run old new before after (step.Done name) name n (StopReading r.reader) still_permit (rec.ReadClosed r.reader ∷ []) [] r.reader None answer.Done
+      line_ends disk directory chronicle tell own run old new before after (step.Done name) name n (StopReading r.reader) (still_permit run.now) (rec.ReadClosed r.reader ∷ []) [] r.reader None answer.Done
       (record {
         actor = refl;
         number = number;
@@ -77,8 +77,9 @@ module _ {D R C : Type 0} (disk : DiskGhosts D) (directory : DirectoryGhosts R) 
         behind = state_behind (kept_in chronicle old.stripe) (kept_in chronicle new.stripe) (rec.ReadClosed r.reader ∷ []) adds;
         quiet = quiet;
         plain = refl;
+        moment = refl;
         asks = ap (λ (o : Option ℕ). asks.if_has o (λ reader. StopReading reader ∷ [])) reads;
-        does = closes still_permit;
+        does = closes (still_permit run.now);
         gives = refl;
       })
       (closed_has run s name r.reader by) tt active plays (done_goes old new (slots_of before) (slots_of after) n r taken adds active.apart)

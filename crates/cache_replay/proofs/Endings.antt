@@ -12,6 +12,8 @@ use Rattle.cache_model.specs.State.{Closed, GivenUp, PutRow, Row, State, after_a
 use Rattle.cache_model.specs.Verdict.{cuts_of, is_open}
 use Rattle.cache_model.specs.Permit.{Commit, Done, End, Exhausted, Fails, Faulted, Finish, Flush, Fragment, GiveUp, Intent, Look, Lost, ManyFragments, ManyWriters, Overflow, Permit, ReadAll, ReadOn, Reason, Remove, Stays, StopReading, TooLarge, Weigh, Work, Write, is_cleanup, work_after}
 use Rattle.cache_model.specs.Legal.{Advances, Does, DoesCommit, DoesFinish, DoesFragment, DoesWeigh, MakesRoom, MayGrow, is_writing, more, next_fragment_of, nothing, vector_length, vector_payload}
+use Rattle.cache_model.specs.Due.{due_pieces}
+use Rattle.cache_model.specs.Outcomes.{Copy, Outcome, began_record, copies_of, flush_records, front_of, moved_record, moved_records, records_of}
 use Rattle.cache_model.specs.Room.{MayDisplace, displaced_record, greatest_pin, placed_record}
 use Rattle.cache_model.proofs.Steps.{after_all-append, none_left}
 use Rattle.stripe_actors.proofs.Rows.{find-changed}
@@ -135,6 +137,31 @@ all_displaced segment live (row ∷ rows) t = all_displaced segment live rows (s
 displaced_puts : (p : Permit) (s : State) (id : PieceId) (recs : List Rec) → MayDisplace p s id recs → (t : State) → (after_all t recs).puts ≡ t.puts
 displaced_puts p s id recs d t = subst (λ (rs : List Rec). (after_all t rs).puts ≡ t.puts) (sym d.is) (all_displaced _ _ d.purged t)
 
+-- ---- the records of a flush
+
+outcome_puts : (s : State) (row : Row) (o : Outcome) → (after_all s (records_of row o)).puts ≡ s.puts
+outcome_puts s row Outcome.NoRoom = refl
+outcome_puts s row (Outcome.Copied bytes) = refl
+outcome_puts s row (Outcome.Spoiled found) = refl
+outcome_puts s row (Outcome.Refused count) = refl
+
+front_puts : (s : State) (rows : List Row) (outcomes : List Outcome) → (after_all s (front_of rows outcomes)).puts ≡ s.puts
+front_puts s [] outcomes = refl
+front_puts s (row ∷ rows) [] = refl
+front_puts s (row ∷ rows) (o ∷ outcomes) =
+    ap (λ (t : State). t.puts) (after_all-append s (records_of row o) (front_of rows outcomes)) ∙ (front_puts (after_all s (records_of row o)) rows outcomes ∙ outcome_puts s row o)
+
+moved_puts : (s : State) (copies : List Copy) → (after_all s (moved_records s copies)).puts ≡ s.puts
+moved_puts s [] = refl
+moved_puts s (c ∷ copies) = moved_puts (state_after s (moved_record s c)) copies
+
+flush_puts : (s : State) (rows : List Row) (outcomes : List Outcome) → (after_all s (flush_records s rows outcomes)).puts ≡ s.puts
+flush_puts s rows outcomes =
+    let front : State = after_all s (front_of rows outcomes) in
+    let began : State = state_after front (began_record s) in
+    ap (λ (t : State). t.puts) (after_all-append s (front_of rows outcomes) (began_record s ∷ moved_records began (copies_of rows outcomes)))
+    ∙ (moved_puts began (copies_of rows outcomes) ∙ front_puts s rows outcomes)
+
 -- ---- one group of records
 
 abbrev HasFailed : Reason → State → State → ℕ → Type 0
@@ -155,7 +182,8 @@ then_same : (i : Intent) (s mid t : State) (put : ℕ) → put_of t put ≡ put_
 then_same i s mid t put same done = record { cuts = ap cuts_in same ∙ done.cuts; key = ap keys_in same ∙ done.key; ended = λ e. ap open_in same ∙ done.ended e }
 
 rooms_group : (p : Permit) (s : State) (i : Intent) (put bytes : ℕ) (added : List Rec) (e : End) → MakesRoom p s bytes added e → IsGroup i e s (after_all s added) put
-rooms_group p s i put bytes added e (MakesRoom.flushes full may) = subst (λ (rs : List Rec). put_of (after_all s rs) put ≡ put_of s put) (sym may.is) refl
+rooms_group p s i put bytes added e (MakesRoom.flushes full may) =
+    subst (λ (rs : List Rec). put_of (after_all s rs) put ≡ put_of s put) (sym may.is) (same_puts s (after_all s (flush_records s (due_pieces s p.now) may.outcomes)) put (flush_puts s (due_pieces s p.now) may.outcomes))
 rooms_group p s i put bytes added e (MakesRoom.stops count full may) = tt
 rooms_group p s i put bytes added e (MakesRoom.exhausted full above none) = tt
 

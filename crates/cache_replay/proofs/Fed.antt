@@ -20,7 +20,7 @@ use Rattle.script_lang.specs.declared.answer.StepAnswer.TheVariants as answer
 use Rattle.script_run.specs.Run.{Run, Stream, with_value, gathered_of}
 use Rattle.script_run.specs.Asked.{asked, feed_intents}
 use Rattle.script_run.specs.Turn.{Turn}
-use Rattle.script_run.specs.Answers.{feed_said, refusal_said, said, session_said, took_of}
+use Rattle.script_run.specs.Answers.{feed_said, said, took_of}
 use Rattle.script_run.specs.Behind.{fed, of_put, still_open, streams_behind, streams_fed}
 use Rattle.cache_replay.specs.Feeding.{FeedsAsAsked, FeedsWhere, IsFed, feed_end}
 use Rattle.cache_replay.specs.Plays.{IsStreamOf}
@@ -42,7 +42,7 @@ stream_fed stream w new body taken of fed_ most =
       sealed = fed_.sealed ∙ of.sealed;
     }
 
-module _ (old new : Kept) (before after : ℕ) (w last : Writer) (body : List ℕ) (taken : ℕ) (left : Option Writer)
+module _ (now : ℕ) (old new : Kept) (before after : ℕ) (w last : Writer) (body : List ℕ) (taken : ℕ) (left : Option Writer)
     (quiet : IsQuiet (state_of old)) (quiet_then : IsQuiet (state_of new)) (writing : is_writing (state_of old) w.put ≡ true) (own : IsWriterOf (state_of old) w)
     (fed_ : IsFed w body taken last) (most : taken ≤ length body) (open_left : LeftOpen (state_of new) last left) where
   abbrev s : State
@@ -66,13 +66,13 @@ module _ (old new : Kept) (before after : ℕ) (w last : Writer) (body : List �
       ap (λ k. total_length (cuts_of t w.put) - k) all
 
   -- fed, with this reason not to go on
-  fed_moves : (e : End) (why : Option Refusal) (said_ : StepAnswer) → FeedsAsAsked before after old new w body why → feed_end w.put why ≡ e
+  fed_moves : (e : End) (why : Option Refusal) (said_ : StepAnswer) → FeedsAsAsked now before after old new w body why → feed_end w.put why ≡ e
       → ((run : Run) → took_of run t w.put ≡ Rattle.cache_replay.specs.Feeding.taken_of t w body (Some refusal.Sealed) → Rattle.script_run.specs.Behind.taken_of run t body (reason_of e) w.put ≡ taken)
       → ((run : Run) → took_of run t w.put ≡ Rattle.cache_replay.specs.Feeding.taken_of t w body (Some refusal.Sealed) → said t (Some (took_of run t w.put)) (reason_of e) (answer.Took (length body)) ≡ said_)
-      → WriterDoes s t (Feeds body) w left (Some said_)
-  fed_moves e why said_ feeds is takes says = λ run name played.
-      let p : Permit = permit_of before after [] in
-      let f = feeds.does p (covers_own before after []) in
+      → WriterDoes now s t (Feeds body) w left (Some said_)
+  fed_moves e why said_ feeds is takes says = λ run name moment played.
+      let p : Permit = permit_of now before after feeds.reads in
+      let f = feeds.does p refl (covers_own now before after feeds.reads) in
       let there = state_with old new f.added f.adds in
       let nope : (run.streams w.put).sealed ≡ false = sym played.stream.sealed ∙ feeds.open_still in
       let has = has_put run name s w played in
@@ -89,6 +89,7 @@ module _ (old new : Kept) (before after : ℕ) (w last : Writer) (body : List �
         turn = turn;
         takes = record {
           plain = refl;
+          moment = sym moment;
           legal = subst (λ (is : List Intent). IsStep p s is f.added (reason_of e)) (sym (asks run name played ∙ ap (λ (b : Bool). if b then [] else feed_intents s.geometry.fragment w.put (length w.table.rows) (w.gathered.items ++ body)) nope)) legal;
           own = refl;
         };
@@ -105,11 +106,12 @@ module _ (old new : Kept) (before after : ℕ) (w last : Writer) (body : List �
       ap (λ (r : List TableRow). total_length r - (total_length w.table.rows + length w.gathered.items)) rows ∙ (omega arith)
 
   -- a sealed writer takes nothing
-  sealed_moves : w.sealed ≡ true → new ≡ old → taken ≡ Rattle.cache_replay.specs.Feeding.taken_of t w body (Some refusal.Sealed) → WriterDoes s t (Feeds body) w left (Some (refusal_answer refusal.Sealed (Some taken)))
-  sealed_moves sealed same is = λ run name played.
+  sealed_moves : w.sealed ≡ true → new ≡ old → taken ≡ Rattle.cache_replay.specs.Feeding.taken_of t w body (Some refusal.Sealed)
+      → WriterDoes now s t (Feeds body) w left (Some (refusal_answer refusal.Sealed (Some taken)))
+  sealed_moves sealed same is = λ run name moment played.
       let yea : (run.streams w.put).sealed ≡ true = sym played.stream.sealed ∙ sealed in
       let zero : taken ≡ 0 = is ∙ none_taken same in
-      let p : Permit = permit_of before after [] in
+      let p : Permit = permit_of now before after [] in
       let has = has_put run name s w played in
       let turn : Turn = record { added = []; refused = None; device = p; given = [] } in
       let legal : IsStep p s [] [] None = record { grows = nothing; quiet = quiet } in
@@ -123,6 +125,7 @@ module _ (old new : Kept) (before after : ℕ) (w last : Writer) (body : List �
         turn = turn;
         takes = record {
           plain = refl;
+          moment = sym moment;
           legal = subst (λ (is : List Intent). IsStep p s is [] None) (sym (asks run name played ∙ ap (λ (b : Bool). if b then [] else feed_intents s.geometry.fragment w.put (length w.table.rows) (w.gathered.items ++ body)) yea)) legal;
           own = refl;
         };
@@ -135,7 +138,8 @@ module _ (old new : Kept) (before after : ℕ) (w last : Writer) (body : List �
       })
 
   -- each answer
-  pub feeds_line : (why : Option Refusal) → FeedsWhere before after old new w body why → taken ≡ Rattle.cache_replay.specs.Feeding.taken_of t w body why → WriterDoes s t (Feeds body) w left (fed_answer (length body) taken why)
+  pub feeds_line : (why : Option Refusal) → FeedsWhere now before after old new w body why → taken ≡ Rattle.cache_replay.specs.Feeding.taken_of t w body why
+      → WriterDoes now s t (Feeds body) w left (fed_answer (length body) taken why)
   feeds_line None h is = fed_moves Done None _ h refl (λ run took. sym is) (λ run took. refl)
   feeds_line (Some refusal.TooManyFragments) h is = fed_moves (Fails (ManyFragments w.put)) (Some refusal.TooManyFragments) _ h refl (λ run took. took ∙ sym is)
       (λ run took. ap (λ (k : ℕ). answer.Refused refused.TooManyFragments (Some k)) (took ∙ sym is))

@@ -1,52 +1,42 @@
 -- How feeding ends: one write behind the other, up to the last.
-use Rattle.std.proofs.Common.{◌≡◌, ℕ, ◌+◌, ◌-◌, ◌<◌, ◌≤◌, List, [], ◌∷◌, ◌++◌, sym, ◌∙◌, ap, subst, arith, true, false, length, take, drop, Ok}
+use Rattle.std.proofs.Common.{◌≡◌, ℕ, ◌+◌, ◌-◌, ◌<◌, ◌≤◌, List, [], ◌∷◌, ◌++◌, sym, ◌∙◌, ap, subst, arith, true, false, length, take, drop}
 use Rattle.std.specs.Prelude.{Option, Some, None, ◌==◌}
 use Rattle.std.proofs.lemmas.List.{append_assoc, length-append, length-drop, length-take-le}
 use Rattle.std.proofs.Math.Seq.{take-append-add, drop-append-add, take-add}
 use Rattle.std.proofs.lemmas.List.Sums.{sum_by-append}
+use Rattle.ats_disk.specs.Device.{State as Device}
 use Rattle.tape_base.specs.declared.geometries.Geometry.{Geometry}
 use Rattle.fragment_table.specs.Table.{TableRow, total_length}
 use Rattle.cache_model.specs.declared.record.Rec.{Rec}
 use Rattle.cache_model.specs.State.{State, after_all}
-use Rattle.cache_model.specs.Kept.{Kept, state_of, with_records}
+use Rattle.cache_model.specs.Kept.{Kept, state_of}
 use Rattle.cache_model.specs.Verdict.{cuts_of}
-use Rattle.cache_model.specs.Permit.{Done, Fragment, Intent, Permit}
+use Rattle.cache_model.specs.Permit.{Done, Fragment, Intent}
 use Rattle.cache_model.specs.Legal.{most_fragments}
-use Rattle.cache_model.proofs.Steps.{after_all-append}
 use Rattle.stripe_core.specs.declared.refusal.Refusal.{Refusal}
 use Rattle.stripe_core.specs.declared.refusal.Refusal.TheVariants as refusal
-use Rattle.stripe_core.specs.Covers.{Covers, Spends}
+use Rattle.stripe_core.specs.Covers.{Spends}
 use Rattle.stripe_write.specs.declared.writer.Writer.{Writer}
 use Rattle.stripe_write.specs.Closing.{SpendsAll}
 use Rattle.stripe_write.specs.Others.{AddsOfPut}
-use Rattle.stripe_write.specs.Writes.{cuts_fragment, gathered_with, is_cut, write_adds}
-use Rattle.stripe_write.proofs.Owning.{owns, then_owns, writes_are_own}
-use Rattle.stripe_write.proofs.Spending.{then_all}
+use Rattle.stripe_write.specs.Writes.{cuts_fragment, gathered_with, is_cut}
+use Rattle.stripe_write.proofs.Owning.{owns, then_owns}
+use Rattle.stripe_write.proofs.Spending.{covers_first, covers_last, state_behind, then_all, then_more}
 use Rattle.script_run.specs.Asked.{feed_intents, rest_behind, whole_fragments}
 use Rattle.cache_replay.specs.Feeding.{FeedsAsAsked, FeedsWhere, Feeds, IsCutUp, IsCutWhere, IsFed, IsOpenBehind, feed_end, taken_of}
 use Rattle.cache_replay.proofs.CutBodies.{cut_first, not_most, rest_first, whole_first}
-use Rattle.cache_replay.proofs.FeedRounds.{Cuts, Wrote, few, within}
+use Rattle.cache_replay.proofs.FeedRounds.{Cuts, Wrote, cut_next, few, within}
 
 -- ---- what holds where feeding ends
 
-pub record Ends (before after : ℕ) (old new : Kept) (w v : Writer) (bytes : List ℕ) (taken : ℕ) (why : Option Refusal) : Type 0 where
-  pub feeds : FeedsWhere before after old new w bytes why
+pub record Ends (moment before after : ℕ) (old new : Kept) (w v : Writer) (bytes : List ℕ) (taken : ℕ) (why : Option Refusal) : Type 0 where
+  pub feeds : FeedsWhere moment before after old new w bytes why
   pub takes : taken ≡ taken_of (state_of new) w bytes why
   pub fed : IsFed w bytes taken v
   pub cut : IsCutWhere (state_of old).geometry.fragment w bytes why v
   pub writing : IsOpenBehind (state_of new) w.put why
   pub own : AddsOfPut w.put old new
   pub grown : total_length w.table.rows ≤ total_length (cuts_of (state_of new) w.put)
-
-covers_first : (p : Permit) (before mid after : ℕ) → mid ≤ after → Covers p before after [] → Covers p before mid []
-covers_first p before mid after later c = record { plain = c.plain; from = c.from; upto = omega (arith, later, c.upto); knows = c.knows }
-
-covers_last : (p : Permit) (before mid after : ℕ) → before ≤ mid → Covers p before after [] → Covers p mid after []
-covers_last p before mid after later c = record { plain = c.plain; from = omega (arith, later, c.from); upto = c.upto; knows = c.knows }
-
-adds_more : (old mid new : Kept) (a b : List Rec) → mid ≡ with_records old a → new ≡ with_records mid b → new ≡ with_records old (a ++ b)
-adds_more old mid new a b first second =
-    second ∙ (ap (λ k. with_records k b) first ∙ ap (λ recs. let k : Kept = record { base = old.base; since = recs } in k) (append_assoc old.since a b))
 
 pub total_more : (rows more : List TableRow) (row : TableRow) → more ≡ rows ++ row ∷ [] → total_length more ≡ total_length rows + row.length
 total_more rows more row is =
@@ -61,8 +51,8 @@ length_more rows more row is = ap length is ∙ length-append rows (row ∷ [])
 
 -- ---- a fragment is cut, and then the rest is fed
 
-module _ (before mid after : ℕ) (old now new : Kept) (w v end : Writer) (bytes : List ℕ) (n : ℕ)
-    (h : Wrote before mid old now w v bytes n) (c : Cuts old now w v n) (cut : is_cut (state_of old).geometry w n ≡ true) (earlier : before ≤ mid) (later : mid ≤ after) where
+module _ (moment before : ℕ) (mid : Device) (after : ℕ) (old now new : Kept) (w v end : Writer) (bytes : List ℕ) (n : ℕ)
+    (h : Wrote moment before mid old now w v bytes n) (c : Cuts old now w v n) (cut : is_cut (state_of old).geometry w n ≡ true) (earlier : before ≤ mid.faults) (later : mid.faults ≤ after) where
   abbrev s : State
   s = state_of old
 
@@ -76,7 +66,7 @@ module _ (before mid after : ℕ) (old now new : Kept) (w v end : Writer) (bytes
   some = s.geometry.accepted.fragment_fits.0
 
   in_time : n ≤ length bytes
-  in_time = (within before mid old now w v bytes n h).0
+  in_time = (within moment before mid old now w v bytes n h).0
 
   whole : f ≤ length all
   whole = let size : length all ≡ length w.gathered.items + length bytes = length-append w.gathered.items bytes in omega (arith, size, c.full, in_time)
@@ -91,7 +81,7 @@ module _ (before mid after : ℕ) (old now new : Kept) (w v end : Writer) (bytes
   rest_is = ap (λ xs. xs ++ drop n bytes) c.empty ∙ sym drop_is
 
   bytes_some : 0 < length bytes
-  bytes_some = let few : length w.gathered.items < f = few before mid old now w v bytes n h in omega (arith, few, c.full, in_time)
+  bytes_some = let few : length w.gathered.items < f = few moment before mid old now w v bytes n h in omega (arith, few, c.full, in_time)
 
   room : (length w.table.rows == most_fragments) ≡ false
   room = not_most (length w.table.rows) (h.takes.2 bytes_some)
@@ -113,26 +103,28 @@ module _ (before mid after : ℕ) (old now new : Kept) (w v end : Writer) (bytes
       ∙ (ap (λ q. feed_intents f q (length v.table.rows) (v.gathered.items ++ drop n bytes)) (sym h.gathers.put)
       ∙ ap (λ (g : Geometry). feed_intents g.fragment v.put (length v.table.rows) (v.gathered.items ++ drop n bytes)) (sym c.stands.geometry)))))
 
-  asks : (why : Option Refusal) → FeedsAsAsked mid after now new v (drop n bytes) why → FeedsAsAsked before after old new w bytes why
+  asks : (why : Option Refusal) → FeedsAsAsked moment mid.faults after now new v (drop n bytes) why → FeedsAsAsked moment before after old new w bytes why
   asks why rest = record {
     open_still = h.takes.0.1;
-    does = λ p covers.
-        let a : List Rec = write_adds s w bytes (Ok n) in
+    reads = h.does.reads ++ rest.reads;
+    does = λ p at covers.
+        let a : List Rec = h.does.added in
         let is : List Intent = feed_intents (state_of now).geometry.fragment v.put (length v.table.rows) (v.gathered.items ++ drop n bytes) in
-        let first : Spends p s (cuts_fragment w (gathered_with w bytes n)) a Done = h.does cut p (covers_first p before mid after later covers) in
-        let then_ : Feeds p now new v (drop n bytes) why = rest.does p (covers_last p before mid after earlier covers) in
-        let state : state_of now ≡ after_all s a = ap state_of h.adds ∙ after_all-append old.base old.since a in
+        let first : Spends p s (cuts_fragment w (gathered_with w bytes n)) a Done =
+        (cut_next moment before mid old now w v bytes n h cut).1.does p at (covers_first p before mid.faults after h.does.reads rest.reads later covers) in
+        let then_ : Feeds p now new v (drop n bytes) why = rest.does p at (covers_last p before mid.faults after h.does.reads rest.reads earlier covers) in
         let others : SpendsAll p (after_all s a) is then_.added (feed_end w.put why) =
-        subst (λ x. SpendsAll p x is then_.added (feed_end w.put why)) state (subst (λ q. SpendsAll p (state_of now) is then_.added (feed_end q why)) h.gathers.put then_.does) in
+        subst (λ x. SpendsAll p x is then_.added (feed_end w.put why)) (state_behind old now a h.does.adds)
+        (subst (λ q. SpendsAll p (state_of now) is then_.added (feed_end q why)) h.gathers.put then_.does) in
         record {
           added = a ++ then_.added;
-          adds = adds_more old now new a then_.added h.adds then_.adds;
+          adds = then_more old now new a then_.added h.does.adds then_.adds;
           does = subst (λ x. SpendsAll p s x (a ++ then_.added) (feed_end w.put why)) (sym intents_are)
               (then_all p s (cuts_fragment w (gathered_with w bytes n)) is a then_.added (feed_end w.put why) first others);
         };
   }
 
-  then_feeds : (why : Option Refusal) → FeedsWhere mid after now new v (drop n bytes) why → FeedsWhere before after old new w bytes why
+  then_feeds : (why : Option Refusal) → FeedsWhere moment mid.faults after now new v (drop n bytes) why → FeedsWhere moment before after old new w bytes why
   then_feeds None rest = asks None rest
   then_feeds (Some refusal.TooManyFragments) rest = asks (Some refusal.TooManyFragments) rest
   then_feeds (Some (refusal.DeviceFault count)) rest = asks (Some (refusal.DeviceFault count)) rest
@@ -193,14 +185,14 @@ module _ (before mid after : ℕ) (old now new : Kept) (w v end : Writer) (bytes
   open_behind : (why : Option Refusal) → IsOpenBehind (state_of new) v.put why → IsOpenBehind (state_of new) w.put why
   open_behind why rest = subst (λ q. IsOpenBehind (state_of new) q why) h.gathers.put rest
 
-  pub then_ends : (more : ℕ) (why : Option Refusal) → Ends mid after now new v end (drop n bytes) more why → Ends before after old new w end bytes (n + more) why
+  pub then_ends : (more : ℕ) (why : Option Refusal) → Ends moment mid.faults after now new v end (drop n bytes) more why → Ends moment before after old new w end bytes (n + more) why
   then_ends more why rest = record {
     feeds = then_feeds why rest.feeds;
     takes = then_takes more why rest.grown rest.takes;
     fed = then_fed more rest.fed;
     cut = then_cut why rest.cut;
     writing = open_behind why rest.writing;
-    own = then_owns w.put old now new (owns w.put old now (write_adds s w bytes (Ok n)) h.adds (writes_are_own s w bytes (Ok n))) (subst (λ q. AddsOfPut q now new) h.gathers.put rest.own);
+    own = then_owns w.put old now new (owns w.put old now h.does.added h.does.adds h.does.own) (subst (λ q. AddsOfPut q now new) h.gathers.put rest.own);
     grown =
         let up : total_length v.table.rows ≤ total_length (cuts_of (state_of new) w.put) = subst (λ q. total_length v.table.rows ≤ total_length (cuts_of (state_of new) q)) h.gathers.put rest.grown in
         omega (arith, up, rows_total);

@@ -1,35 +1,34 @@
 -- Feeding ends where a write is refused.
-use Rattle.std.proofs.Common.{◌≡◌, ℕ, ◌+◌, ◌-◌, ◌<◌, ◌≤◌, List, [], ◌∷◌, ◌++◌, refl, sym, ◌∙◌, ap, subst, arith, Bool, true, false, length, take, drop, Err}
-use Rattle.std.specs.Prelude.{Option, Some, option_map, unwrap_or, find, ◌==◌, if◌then◌else◌, filter}
+use Rattle.std.proofs.Common.{◌≡◌, ℕ, ◌+◌, ◌-◌, ◌<◌, ◌≤◌, List, [], ◌∷◌, ◌++◌, refl, sym, ◌∙◌, ap, subst, arith, true, false, length, take, drop, Err}
+use Rattle.std.specs.Prelude.{Option, Some, option_map, unwrap_or, find, ◌==◌, filter}
 use Rattle.std.proofs.lemmas.Bool.{eqb-true, eq-eqb}
 use Rattle.std.proofs.lemmas.List.{append-nil, length-append}
 use Rattle.std.proofs.Math.Seq.{take-append-add, drop-append_seam}
+use Rattle.ats_disk.specs.Device.{State as Device}
 use Rattle.fragment_table.specs.Table.{total_length}
 use Rattle.cache_model.specs.declared.record.Rec.{Rec}
 use Rattle.cache_model.specs.declared.record.Rec.TheVariants as rec
 use Rattle.cache_model.specs.State.{GivenUp, PutRow, State, after_all, put_of, state_after, with_writing}
 use Rattle.cache_model.specs.Kept.{Kept, state_of, with_records}
 use Rattle.cache_model.specs.Verdict.{cuts_of, is_open}
-use Rattle.cache_model.specs.Permit.{Exhausted, Fails, Faulted, Fragment, Intent, ManyFragments, Overflow, Permit, Reason, is_cleanup}
+use Rattle.cache_model.specs.Permit.{DeviceRead, Exhausted, Fails, Faulted, Fragment, Intent, ManyFragments, Overflow, Permit, Reason, is_cleanup}
 use Rattle.cache_model.specs.Legal.{MayGrow, is_writing, most_fragments}
-use Rattle.cache_model.specs.Room.{has_room, is_flush_exhausted}
-use Rattle.cache_model.proofs.Steps.{after_all-append}
 use Rattle.stripe_core.specs.declared.refusal.Refusal.{Refusal}
 use Rattle.stripe_core.specs.declared.refusal.Refusal.TheVariants as refusal
-use Rattle.stripe_core.specs.Covers.{Spends}
-use Rattle.stripe_core.specs.Place.{room_records}
+use Rattle.stripe_core.specs.Covers.{Covers, Spends}
+use Rattle.stripe_core.specs.Flush.{AreOfFlush}
 use Rattle.stripe_write.specs.declared.writer.Writer.{Writer}
 use Rattle.stripe_write.specs.Closing.{SpendsAll}
 use Rattle.stripe_write.specs.Writers.{IsWriterOf}
-use Rattle.stripe_write.specs.Writes.{IsCutting, SameWriter, WritesAsAsked, WritesWhere, cuts_fragment, gathered_with, write_adds}
+use Rattle.stripe_write.specs.Writes.{IsCutting, SameWriter, WritesAs, WritesAsAsked, WritesWhere, cuts_fragment, gathered_with}
 use Rattle.stripe_write.specs.Writes.{taken_of as write_takes}
-use Rattle.stripe_write.proofs.Completing.{nothing_more}
-use Rattle.stripe_write.proofs.Owning.{owns, writes_are_own}
-use Rattle.stripe_write.proofs.Spending.{one_group}
+use Rattle.stripe_write.proofs.Flushed.{flush_leaves}
+use Rattle.stripe_write.proofs.Owning.{owns}
+use Rattle.stripe_write.proofs.Spending.{nothing_more, one_group, state_behind}
 use Rattle.script_run.specs.Asked.{feed_intents}
-use Rattle.cache_replay.specs.Feeding.{FeedsWhere, IsOpenBehind}
+use Rattle.cache_replay.specs.Feeding.{FeedsAsAsked, FeedsWhere, IsOpenBehind, feed_end}
 use Rattle.cache_replay.proofs.CutBodies.{cut_first, cut_many, no_cleanup, not_most}
-use Rattle.cache_replay.proofs.FeedRounds.{cuts_found, few_of, found_changed, put_found, room_puts, takes_within, writing_found}
+use Rattle.cache_replay.proofs.FeedRounds.{cuts_found, few_of, found_changed, put_found, takes_within, writing_found}
 use Rattle.cache_replay.proofs.FeedEnds.{Ends}
 
 -- ---- it is refused
@@ -60,21 +59,25 @@ aborted s w writing =
       writing = writing_found t w.put (with_writing GivenUp o.0) there;
     }
 
-nothing_or_room : (s : State) (bytes : ℕ) (b : Bool) → (after_all s (if b then [] else room_records s bytes)).puts ≡ s.puts
-nothing_or_room s bytes true = refl
-nothing_or_room s bytes false = (room_puts s (has_room s bytes)).0
+-- a flush, or nothing
+module _ (s : State) (added : List Rec) (put : ℕ) (why : Refusal) (stays : is_writing (after_all s added) put ≡ true → IsOpenBehind (after_all s added) put (Some why)) (writing : is_writing s put ≡ true) where
+  flushed : AreOfFlush added → Leaves s (after_all s added) put why
+  flushed kinds = same_puts s (after_all s added) put why (flush_leaves s added kinds).puts stays writing
 
-leaves : (s : State) (w : Writer) (bytes : List ℕ) (why : Refusal) → is_writing s w.put ≡ true → WritesWhere s w bytes (Err why) → Leaves s (after_all s (write_adds s w bytes (Err why))) w.put why
-leaves s w bytes (refusal.DeviceFault count) writing where_ = same_puts s _ w.put (refusal.DeviceFault count) refl (λ x. x) writing
-leaves s w bytes (refusal.Exhausted number) writing where_ =
-    same_puts s _ w.put (refusal.Exhausted number) (nothing_or_room s (length (gathered_with w bytes (write_takes s.geometry w bytes))) (is_flush_exhausted s)) (λ x. x) writing
-leaves s w bytes refusal.TooManyFragments writing where_ = aborted s w writing
-leaves s w bytes (refusal.Memory e) writing where_ = same_puts s _ w.put (refusal.Memory e) refl (λ x. x) writing
-leaves s w bytes refusal.Sealed writing where_ = same_puts s _ w.put refusal.Sealed refl (λ x. x) writing
-leaves s w bytes refusal.NoSuchWriter writing where_ = same_puts s _ w.put refusal.NoSuchWriter refl (λ x. x) writing
-leaves s w bytes refusal.TooManyWriters writing where_ = absurd where_
-leaves s w bytes (refusal.VectorTooLarge bytes_) writing where_ = absurd where_
-leaves s w bytes (refusal.Lost index cause) writing where_ = absurd where_
+  none_added : added ≡ [] → Leaves s (after_all s added) put why
+  none_added none = same_puts s (after_all s added) put why (ap (λ xs. (after_all s xs).puts) none) stays writing
+
+leaves : (moment : ℕ) (s : State) (before after : ℕ) (w : Writer) (bytes : List ℕ) (why : Refusal) (added : List Rec) (reads : List DeviceRead) → is_writing s w.put ≡ true
+    → WritesWhere s w bytes (Err why) → WritesAs moment s before after w bytes (Err why) added reads → Leaves s (after_all s added) w.put why
+leaves moment s before after w bytes (refusal.DeviceFault count) added reads writing where_ does = flushed s added w.put (refusal.DeviceFault count) (λ x. x) writing does.shape.kinds
+leaves moment s before after w bytes (refusal.Exhausted number) added reads writing where_ does = flushed s added w.put (refusal.Exhausted number) (λ x. x) writing does.shape.kinds
+leaves moment s before after w bytes refusal.TooManyFragments added reads writing where_ does = subst (λ xs. Leaves s (after_all s xs) w.put refusal.TooManyFragments) (sym does.0) (aborted s w writing)
+leaves moment s before after w bytes (refusal.Memory e) added reads writing where_ does = none_added s added w.put (refusal.Memory e) (λ x. x) writing does
+leaves moment s before after w bytes refusal.Sealed added reads writing where_ does = none_added s added w.put refusal.Sealed (λ x. x) writing does
+leaves moment s before after w bytes refusal.NoSuchWriter added reads writing where_ does = none_added s added w.put refusal.NoSuchWriter (λ x. x) writing does
+leaves moment s before after w bytes refusal.TooManyWriters added reads writing where_ does = absurd where_
+leaves moment s before after w bytes (refusal.VectorTooLarge size) added reads writing where_ does = absurd where_
+leaves moment s before after w bytes (refusal.Lost index cause) added reads writing where_ does = absurd where_
 
 -- the first fragment fails, and nothing behind it is done
 first_fails : (p : Permit) (s : State) (i : Intent) (is : List Intent) (a : List Rec) (reason : Reason) → ((rest : List Intent) → filter is_cleanup (is ++ rest) ≡ filter is_cleanup rest)
@@ -82,7 +85,7 @@ first_fails : (p : Permit) (s : State) (i : Intent) (is : List Intent) (a : List
 first_fails p s i is a reason none h = λ rest why.
     subst (λ xs. MayGrow p s (record { intents = i ∷ (is ++ rest); refused = why }) a (record { intents = xs; refused = Some reason })) (none rest) (h (is ++ rest) why)
 
-module _ (before after : ℕ) (old new : Kept) (w v : Writer) (bytes : List ℕ) (own : IsWriterOf (state_of old) w) (writing : is_writing (state_of old) w.put ≡ true) (same : SameWriter w v) where
+module _ (moment before : ℕ) (after : Device) (old new : Kept) (w v : Writer) (bytes : List ℕ) (own : IsWriterOf (state_of old) w) (writing : is_writing (state_of old) w.put ≡ true) (same : SameWriter w v) where
   abbrev s : State
   s = state_of old
 
@@ -112,41 +115,52 @@ module _ (before after : ℕ) (old new : Kept) (w v : Writer) (bytes : List ℕ)
       subst (λ x. SpendsAll p s x a (Fails reason)) (sym intents)
       (first_fails p s (cuts_fragment w (gathered_with w bytes n)) others a reason (no_cleanup (length (drop f all)) f w.put (length w.table.rows + 1) (drop f all)) h)
 
-  feeds : (why : Refusal) → new ≡ with_records old (write_adds s w bytes (Err why)) → WritesWhere s w bytes (Err why) → WritesAsAsked s before after w bytes (Err why) → FeedsWhere before after old new w bytes (Some why)
-  feeds (refusal.DeviceFault count) adds where_ does =
-      record { open_still = where_.taking.1; does = λ p covers. record { added = rec.Fault count ∷ []; adds = adds; does = fails (Faulted count) (rec.Fault count ∷ []) where_ p (does p covers) } }
-  feeds (refusal.Exhausted number) adds where_ does =
-      record { open_still = where_.taking.1; does = λ p covers. record { added = write_adds s w bytes (Err (refusal.Exhausted number)); adds = adds; does = fails Exhausted (write_adds s w bytes (Err (refusal.Exhausted number))) where_ p (does p covers) } }
-  feeds refusal.TooManyFragments adds where_ does =
+  stopped : (why : Refusal) (reason : Reason) → IsCutting s w bytes → (h : WritesAsAsked moment old new before after w bytes (Err why)) → feed_end w.put (Some why) ≡ Fails reason
+      → ((p : Permit) → p.now ≡ moment → Covers p before after.faults h.reads → Spends p s (cuts_fragment w (gathered_with w bytes (write_takes s.geometry w bytes))) h.added (Fails reason))
+      → FeedsAsAsked moment before after.faults old new w bytes (Some why)
+  stopped why reason cutting h is spends = record {
+    open_still = cutting.taking.1;
+    reads = h.reads;
+    does = λ p at covers. record {
+      added = h.added;
+      adds = h.adds;
+      does = subst (λ e. SpendsAll p s (feed_intents f w.put (length w.table.rows) all) h.added e) (sym is) (fails reason h.added cutting p (spends p at covers));
+    };
+  }
+
+  feeds : (why : Refusal) → WritesWhere s w bytes (Err why) → WritesAsAsked moment old new before after w bytes (Err why) → FeedsWhere moment before after.faults old new w bytes (Some why)
+  feeds (refusal.DeviceFault count) where_ h = stopped (refusal.DeviceFault count) (Faulted count) where_ h refl (λ p at covers. h.does.does p at covers)
+  feeds (refusal.Exhausted number) where_ h = stopped (refusal.Exhausted number) Exhausted where_ h refl (λ p at covers. h.does.does p at covers)
+  feeds refusal.TooManyFragments where_ h =
       let size : length all ≡ length w.gathered.items + length bytes = length-append w.gathered.items bytes in
       let many : (length w.table.rows == most_fragments) ≡ true = eq-eqb (length w.table.rows) most_fragments where_.2 in
       record {
         open_still = where_.0.1;
-        does = λ p covers. record {
-          added = rec.Aborted w.put w.key ∷ [];
-          adds = adds;
-          does = subst (λ x. SpendsAll p s x (rec.Aborted w.put w.key ∷ []) (Fails (ManyFragments w.put))) (sym (cut_many f w.put (length w.table.rows) all some (omega (arith, size, where_.1)) many))
-              (λ rest why. one_group p s (Overflow w.put) (rec.Aborted w.put w.key ∷ []) (Fails (ManyFragments w.put)) (does p) rest why);
+        reads = h.reads;
+        does = λ p at covers. record {
+          added = h.added;
+          adds = h.adds;
+          does = subst (λ x. SpendsAll p s x h.added (Fails (ManyFragments w.put))) (sym (cut_many f w.put (length w.table.rows) all some (omega (arith, size, where_.1)) many))
+              (λ rest why. one_group p s (Overflow w.put) h.added (Fails (ManyFragments w.put)) (h.does.1 p) rest why);
         };
       }
-  feeds (refusal.Memory e) adds where_ does = tt
-  feeds refusal.Sealed adds where_ does = (where_.1, adds ∙ nothing_more old)
-  feeds refusal.NoSuchWriter adds where_ does = let clash : true ≡ false = sym writing ∙ where_ in cc
-  feeds refusal.TooManyWriters adds where_ does = absurd where_
-  feeds (refusal.VectorTooLarge size) adds where_ does = absurd where_
-  feeds (refusal.Lost index cause) adds where_ does = absurd where_
+  feeds (refusal.Memory e) where_ h = tt
+  feeds refusal.Sealed where_ h = (where_.1, h.adds ∙ (ap (with_records old) h.does ∙ nothing_more old))
+  feeds refusal.NoSuchWriter where_ h = let clash : true ≡ false = sym writing ∙ where_ in cc
+  feeds refusal.TooManyWriters where_ h = absurd where_
+  feeds (refusal.VectorTooLarge size) where_ h = absurd where_
+  feeds (refusal.Lost index cause) where_ h = absurd where_
 
-  pub refused_ends : (why : Refusal) → new ≡ with_records old (write_adds s w bytes (Err why)) → WritesWhere s w bytes (Err why) → WritesAsAsked s before after w bytes (Err why) → Ends before after old new w v bytes 0 (Some why)
-  refused_ends why adds where_ does =
-      let a : List Rec = write_adds s w bytes (Err why) in
+  pub refused_ends : (why : Refusal) → WritesWhere s w bytes (Err why) → WritesAsAsked moment old new before after w bytes (Err why) → Ends moment before after.faults old new w v bytes 0 (Some why)
+  refused_ends why where_ h =
       let o = put_found s w writing in
-      let state : state_of new ≡ after_all s a = ap state_of adds ∙ after_all-append old.base old.since a in
-      let left : Leaves s (state_of new) w.put why = subst (λ x. Leaves s x w.put why) (sym state) (leaves s w bytes why writing where_) in
+      let left : Leaves s (state_of new) w.put why = subst (λ x. Leaves s x w.put why) (sym (state_behind old new h.added h.adds))
+      (leaves moment s before after.faults w bytes why h.added h.reads writing where_ h.does) in
       let rows : cuts_of (state_of new) w.put ≡ w.table.rows = left.cuts ∙ (cuts_found s w.put o.0 o.1 ∙ (own o.0 o.1 o.2).cuts_are) in
       let total : total_length (cuts_of (state_of new) w.put) ≡ total_length w.table.rows = ap total_length rows in
       let mine : total_length v.table.rows ≡ total_length w.table.rows = ap total_length same.rows in
       record {
-        feeds = feeds why adds where_ does;
+        feeds = feeds why where_ h;
         takes = let none : 0 ≡ total_length (cuts_of (state_of new) w.put) - (total_length w.table.rows + length w.gathered.items) = omega (arith, total) in none;
         fed = record {
           put = same.put;
@@ -159,6 +173,6 @@ module _ (before after : ℕ) (old new : Kept) (w v : Writer) (bytes : List ℕ)
         };
         cut = tt;
         writing = left.writing;
-        own = owns w.put old new a adds (writes_are_own s w bytes (Err why));
+        own = owns w.put old new h.added h.adds h.own;
         grown = omega (arith, total);
       }

@@ -1,27 +1,27 @@
 -- What a writer that is fed does, one write behind the other.
-use Rattle.std.proofs.Common.{◌≡◌, ℕ, ◌+◌, ◌-◌, ◌<◌, ◌≤◌, List, [], ◌∷◌, ◌++◌, inl, inr, refl, sym, ◌∙◌, ap, arith, Bool, true, false, length, take, Ok}
-use Rattle.std.specs.Prelude.{Option, Some, option_map, unwrap_or, find, ◌==◌, min, if◌then◌else◌}
+use Rattle.std.proofs.Common.{◌≡◌, ℕ, ◌+◌, ◌-◌, ◌<◌, ◌≤◌, List, [], ◌∷◌, ◌++◌, inl, inr, refl, sym, ◌∙◌, ap, subst, arith, true, false, length, take, Ok}
+use Rattle.std.specs.Prelude.{Option, Some, option_map, unwrap_or, find, ◌==◌, min, if◌then◌else◌, MatchBool}
 use Rattle.std.proofs.lemmas.Bool.{eqb-true, eq-eqb}
 use Rattle.std.proofs.lemmas.Bool.Decides.{eqb_tells}
 use Rattle.std.proofs.lemmas.List.{length-append, length-take-le}
+use Rattle.ats_disk.specs.Device.{State as Device}
 use Rattle.tape_base.specs.Digest.{digest_of}
 use Rattle.fragment_table.specs.Table.{TableRow, made_row}
-use Rattle.cache_model.specs.declared.record.Rec.TheVariants as rec
-use Rattle.cache_model.specs.State.{GivenUp, PutRow, State, after_all, change_put, cursor_next, floor_next, put_of, state_after, with_cut, with_writing}
+use Rattle.cache_model.specs.declared.record.Rec.{Rec}
+use Rattle.cache_model.specs.State.{PutRow, State, after_all, change_put, put_of, with_cut}
 use Rattle.cache_model.specs.Kept.{Kept, state_of, with_records}
 use Rattle.cache_model.specs.Verdict.{cuts_of, is_open}
 use Rattle.cache_model.specs.Legal.{is_writing}
-use Rattle.cache_model.specs.Room.{has_room}
-use Rattle.cache_model.proofs.Steps.{after_all-append}
 use Rattle.stripe_actors.proofs.Rows.{find-changed}
 use Rattle.stripe_core.specs.declared.refusal.Placed.{Placed}
-use Rattle.stripe_core.specs.Place.{with_room}
+use Rattle.stripe_core.specs.Place.{IsCutAs}
 use Rattle.stripe_write.specs.declared.writer.Writer.{Writer}
 use Rattle.stripe_write.specs.Writers.{IsAtHand, IsWriterOf}
-use Rattle.stripe_write.specs.Writes.{GathersAsAsked, WritesAsAsked, WritesWhere, cut_adds, gathered_with, is_cut, next_id, next_start, write_adds}
-use Rattle.stripe_write.proofs.Completing.{nothing_more}
+use Rattle.stripe_write.specs.Writes.{CutsNext, GathersAsAsked, WritesAsAsked, WritesWhere, gathered_with, is_cut, next_id, next_start}
 use Rattle.stripe_write.proofs.Cutting.{cut_state, next_no_vector}
 use Rattle.stripe_write.proofs.Ended.{open_put}
+use Rattle.stripe_write.proofs.Flushed.{LeavesActors, flush_leaves}
+use Rattle.stripe_write.proofs.Spending.{nothing_more, state_behind}
 
 -- ---- the put behind a cut
 
@@ -30,34 +30,28 @@ pub found_changed : (put : ℕ) (f : PutRow → PutRow) (puts : List PutRow) (w 
 found_changed put f puts w keeps found =
     find-changed (λ (p : PutRow). p.put) f keeps put put puts ∙ rw (eq-eqb put put refl) (ap (option_map f) found)
 
-pub room_puts : (s : State) (b : Bool) → let t : State = after_all s (if b then [] else rec.Began (cursor_next s) (floor_next s) ∷ []) in (t.puts ≡ s.puts) × (t.geometry ≡ s.geometry)
-room_puts s true = (refl, refl)
-room_puts s false = (refl, refl)
-
 abbrev row_for : List ℕ → TableRow
 row_for payload = made_row (length payload) (digest_of payload).0
 
-abbrev placed_for : List ℕ → Placed
-placed_for payload = record { place = 0; payload = digest_of payload }
+module _ (s : State) (w : Writer) (payload : List ℕ) (added : List Rec) (placed : Placed) (c : IsCutAs s (next_id w) w.pin (next_start w) payload added placed) where
+  room_left : LeavesActors s (after_all s c.room)
+  room_left = flush_leaves s c.room c.kinds
 
-cut_found : (s : State) (w : Writer) (payload : List ℕ) (row : PutRow) → put_of s w.put ≡ Some row → put_of (after_all s (cut_adds s w payload)) w.put ≡ Some (with_cut (row_for payload) row)
-cut_found s w payload row found =
-    let room : State = with_room s (length payload) in
-    let same = room_puts s (has_room s (length payload)) in
-    ap (λ (x : State). put_of x w.put) (cut_state s (next_id w) w.pin (next_start w) payload (placed_for payload) (next_no_vector w))
-    ∙ found_changed w.put (with_cut (row_for payload)) room.puts row (λ x. refl) (ap (find (λ (p : PutRow). p.put == w.put)) same.0 ∙ found)
+  cut_found : (row : PutRow) → put_of s w.put ≡ Some row → put_of (after_all s added) w.put ≡ Some (with_cut (row_for payload) row)
+  cut_found row found =
+      let room : State = after_all s c.room in
+      ap (λ (x : State). put_of x w.put) (cut_state s (next_id w) w.pin (next_start w) payload added placed (next_no_vector w) c)
+      ∙ found_changed w.put (with_cut (row_for payload)) room.puts row (λ x. refl) (ap (find (λ (p : PutRow). p.put == w.put)) room_left.puts ∙ found)
 
-cut_geometry : (s : State) (w : Writer) (payload : List ℕ) → (after_all s (cut_adds s w payload)).geometry ≡ s.geometry
-cut_geometry s w payload =
-    ap (λ (x : State). x.geometry) (cut_state s (next_id w) w.pin (next_start w) payload (placed_for payload) (next_no_vector w)) ∙ (room_puts s (has_room s (length payload))).1
+  cut_geometry : (after_all s added).geometry ≡ s.geometry
+  cut_geometry = ap (λ (x : State). x.geometry) (cut_state s (next_id w) w.pin (next_start w) payload added placed (next_no_vector w) c) ∙ room_left.geometry
 
 -- ---- a write that took bytes
 
-pub record Wrote (before after : ℕ) (old new : Kept) (w v : Writer) (bytes : List ℕ) (n : ℕ) : Type 0 where
+pub record Wrote (moment before : ℕ) (after : Device) (old new : Kept) (w v : Writer) (bytes : List ℕ) (n : ℕ) : Type 0 where
   pub own : IsWriterOf (state_of old) w
-  pub adds : new ≡ with_records old (write_adds (state_of old) w bytes (Ok n))
   pub takes : WritesWhere (state_of old) w bytes (Ok n)
-  pub does : WritesAsAsked (state_of old) before after w bytes (Ok n)
+  pub does : WritesAsAsked moment old new before after w bytes (Ok n)
   pub gathers : GathersAsAsked (state_of old).geometry w bytes n v
   pub next_own : IsWriterOf (state_of new) v
 
@@ -77,12 +71,12 @@ pub record Cuts (old new : Kept) (w v : Writer) (n : ℕ) : Type 0 where
   pub empty : v.gathered.items ≡ []
 
 -- or gathered
-pub record Gathers (old new : Kept) (w v : Writer) (bytes : List ℕ) (n : ℕ) : Type 0 where
+pub record Gathers (old new : Kept) (w v : Writer) (bytes : List ℕ) (n : ℕ) (added : List Rec) : Type 0 where
   pub stands : Stands old new w v
   pub short : length w.gathered.items + n < (state_of old).geometry.fragment
   pub rows : v.table.rows ≡ w.table.rows
   pub items : v.gathered.items ≡ w.gathered.items ++ take n bytes
-  pub nothing : write_adds (state_of old) w bytes (Ok n) ≡ []
+  pub nothing : added ≡ []
 
 -- how many were taken
 pub takes_within : (f g len n : ℕ) → g < f → n ≡ min len (f - g) → (n ≤ len) × (g + n ≤ f)
@@ -100,7 +94,7 @@ writing_found s put row h = ap (λ (o : Option PutRow). unwrap_or (option_map is
 pub few_of : (s : State) (w : Writer) → is_writing s w.put ≡ true → IsWriterOf s w → length w.gathered.items < s.geometry.fragment
 few_of s w writing own = let o = put_found s w writing in (own o.0 o.1 o.2).few
 
-module _ (before after : ℕ) (old new : Kept) (w v : Writer) (bytes : List ℕ) (n : ℕ) (h : Wrote before after old new w v bytes n) where
+module _ (moment before : ℕ) (after : Device) (old new : Kept) (w v : Writer) (bytes : List ℕ) (n : ℕ) (h : Wrote moment before after old new w v bytes n) where
   abbrev s : State
   s = state_of old
 
@@ -116,19 +110,30 @@ module _ (before after : ℕ) (old new : Kept) (w v : Writer) (bytes : List ℕ)
   taken_size : length (gathered_with w bytes n) ≡ length w.gathered.items + n
   taken_size = length-append w.gathered.items (take n bytes) ∙ ap (λ k. length w.gathered.items + k) (length-take-le n bytes within.0)
 
+  -- what it did
+  pub cut_next : is_cut s.geometry w n ≡ true → (placed : Placed) × CutsNext moment s before after.faults w (gathered_with w bytes n) h.does.added h.does.reads (Ok placed)
+  cut_next cut =
+      subst (λ b. MatchBool b ((placed : Placed) × CutsNext moment s before after.faults w (gathered_with w bytes n) h.does.added h.does.reads (Ok placed)) (h.does.added ≡ [])) cut h.does.does
+
+  none_next : is_cut s.geometry w n ≡ false → h.does.added ≡ []
+  none_next cut =
+      subst (λ b. MatchBool b ((placed : Placed) × CutsNext moment s before after.faults w (gathered_with w bytes n) h.does.added h.does.reads (Ok placed)) (h.does.added ≡ [])) cut h.does.does
+
+  behind : t ≡ after_all s h.does.added
+  behind = state_behind old new h.does.added h.does.adds
+
   pub cuts : is_cut s.geometry w n ≡ true → Cuts old new w v n
   cuts cut =
       let payload : List ℕ = gathered_with w bytes n in
       let o = put_found s w h.takes.0.0 in
-      let state : t ≡ after_all s (cut_adds s w payload) =
-      ap state_of h.adds ∙ (after_all-append old.base old.since (write_adds s w bytes (Ok n)) ∙ ap (λ b. after_all s (if b then cut_adds s w payload else [])) cut) in
-      let found : put_of t w.put ≡ Some (with_cut (row_for payload) o.0) = ap (λ (x : State). put_of x w.put) state ∙ cut_found s w payload o.0 o.1 in
+      let c = cut_next cut in
+      let found : put_of t w.put ≡ Some (with_cut (row_for payload) o.0) = ap (λ (x : State). put_of x w.put) behind ∙ cut_found s w payload h.does.added c.0 c.1.shape o.0 o.1 in
       let there : IsAtHand t.geometry (with_cut (row_for payload) o.0) v = h.next_own (with_cut (row_for payload) o.0) (ap (put_of t) h.gathers.put ∙ found) o.2 in
       let full : length w.gathered.items + n ≡ s.geometry.fragment = eqb-true (length w.gathered.items + n) s.geometry.fragment cut in
       record {
         stands = record {
           writing = writing_found t w.put (with_cut (row_for payload) o.0) found ∙ (sym (writing_found s w.put o.0 o.1) ∙ h.takes.0.0);
-          geometry = ap (λ (x : State). x.geometry) state ∙ cut_geometry s w payload;
+          geometry = ap (λ (x : State). x.geometry) behind ∙ cut_geometry s w payload h.does.added c.0 c.1.shape;
           cuts = cuts_found t w.put (with_cut (row_for payload) o.0) found ∙ there.cuts_are;
         };
         full = full;
@@ -138,12 +143,12 @@ module _ (before after : ℕ) (old new : Kept) (w v : Writer) (bytes : List ℕ)
         empty = h.gathers.gathered ∙ ap (λ b. if b then [] else payload) cut;
       }
 
-  pub gathers : is_cut s.geometry w n ≡ false → Gathers old new w v bytes n
+  pub gathers : is_cut s.geometry w n ≡ false → Gathers old new w v bytes n h.does.added
   gathers cut =
       let payload : List ℕ = gathered_with w bytes n in
       let o = put_found s w h.takes.0.0 in
-      let none : write_adds s w bytes (Ok n) ≡ [] = ap (λ b. if b then cut_adds s w payload else []) cut in
-      let same : new ≡ old = h.adds ∙ (ap (with_records old) none ∙ nothing_more old) in
+      let none : h.does.added ≡ [] = none_next cut in
+      let same : new ≡ old = h.does.adds ∙ (ap (with_records old) none ∙ nothing_more old) in
       let state : t ≡ s = ap state_of same in
       let found : put_of t w.put ≡ Some o.0 = ap (λ (x : State). put_of x w.put) state ∙ o.1 in
       let there : IsAtHand t.geometry o.0 v = h.next_own o.0 (ap (put_of t) h.gathers.put ∙ found) o.2 in

@@ -2,10 +2,11 @@
 use Rattle.std.proofs.Common.{◌≡◌, ℕ, ◌+◌, ◌<◌, ◌≤◌, List, sym, subst, arith, true, length, drop, take, ◌-◌, Err}
 use Rattle.std.specs.Prelude.{Option, Some, None}
 use Rattle.std.proofs.lemmas.List.{drop-drop, length-drop, take_all}
+use Rattle.ats_disk.specs.Device.{State as Device}
 use Rattle.ats_disk.specs.declared.device.Disk.{Ghosts as DiskGhosts}
 use Rattle.dir_table.specs.declared.directory.Directory.{Ghosts as DirectoryGhosts}
 use Rattle.cache_chronicle.specs.declared.chronicle.Chronicle.{Ghosts as ChronicleGhosts}
-use Rattle.cache_model.specs.Kept.{Kept, with_records}
+use Rattle.cache_model.specs.Kept.{Kept}
 use Rattle.cache_model.specs.Legal.{IsQuiet, is_writing}
 use Rattle.stripe_core.specs.declared.stripe.Stripe.{Stripe}
 use Rattle.stripe_core.specs.declared.refusal.Refusal.{Refusal}
@@ -14,19 +15,19 @@ use Rattle.stripe_core.specs.Unharmed.{StaysUnharmed}
 use Rattle.stripe_core.proofs.Unharmed.{stays_unharmed-trans}
 use Rattle.stripe_write.specs.declared.writer.Writer.{Writer}
 use Rattle.stripe_write.specs.Writers.{IsWriterOf}
-use Rattle.stripe_write.specs.Writes.{SameWriter, WritesAsAsked, WritesWhere, write_adds}
+use Rattle.stripe_write.specs.Writes.{SameWriter, WritesAsAsked, WritesWhere}
 use Rattle.cache_replay.proofs.FeedRounds.{Cuts, Wrote, cut_or_all, cuts, few, within}
 use Rattle.cache_replay.proofs.FeedEnds.{Ends, then_ends}
 use Rattle.cache_replay.proofs.FeedWhole.{last_ends}
 use Rattle.cache_replay.proofs.FeedRefused.{refused_ends}
 
 -- however it ends with what is left, so it ends with all
-abbrev pub Onward : (before mid : ℕ) (old now : Kept) (w v : Writer) (bytes : List ℕ) (taken : ℕ) → Type 0
-Onward before mid old now w v bytes taken =
+abbrev pub Onward : (moment before mid : ℕ) (old now : Kept) (w v : Writer) (bytes : List ℕ) (taken : ℕ) → Type 0
+Onward moment before mid old now w v bytes taken =
     (after : ℕ) (new : Kept) (end : Writer) (more : ℕ) (why : Option Refusal) → mid ≤ after
-    → Ends mid after now new v end (drop taken bytes) more why → Ends before after old new w end bytes (taken + more) why
+    → Ends moment mid after now new v end (drop taken bytes) more why → Ends moment before after old new w end bytes (taken + more) why
 
-pub record Turned {D R C : Type 0} (disk : DiskGhosts D) (directory : DirectoryGhosts R) (chronicle : ChronicleGhosts C) (first now : Stripe D R C) (w v : Writer) (bytes : List ℕ) (taken : ℕ) : Type 0 where
+pub record Turned {D R C : Type 0} (disk : DiskGhosts D) (directory : DirectoryGhosts R) (chronicle : ChronicleGhosts C) (moment : ℕ) (first now : Stripe D R C) (w v : Writer) (bytes : List ℕ) (taken : ℕ) : Type 0 where
   pub stripe : IsStripe disk directory chronicle now
   pub quiet : IsQuiet (state_in chronicle now)
   pub writer : IsWriterOf (state_in chronicle now) v
@@ -34,46 +35,46 @@ pub record Turned {D R C : Type 0} (disk : DiskGhosts D) (directory : DirectoryG
   pub within : taken ≤ length bytes
   pub later : (seen_in disk directory first).device.faults ≤ (seen_in disk directory now).device.faults
   pub unharmed : StaysUnharmed disk directory chronicle first now
-  pub onward : Onward (seen_in disk directory first).device.faults (seen_in disk directory now).device.faults (kept_in chronicle first) (kept_in chronicle now) w v bytes taken
+  pub onward : Onward moment (seen_in disk directory first).device.faults (seen_in disk directory now).device.faults (kept_in chronicle first) (kept_in chronicle now) w v bytes taken
 
-pub none_yet : (before : ℕ) (old : Kept) (w : Writer) (bytes : List ℕ) → Onward before before old old w w bytes 0
-none_yet before old w bytes = λ after new end more why later ends. subst (λ m. Ends before after old new w end bytes m why) (sym (zero_more more)) ends
+pub none_yet : (moment before : ℕ) (old : Kept) (w : Writer) (bytes : List ℕ) → Onward moment before before old old w w bytes 0
+none_yet moment before old w bytes = λ after new end more why later ends. subst (λ m. Ends moment before after old new w end bytes m why) (sym (zero_more more)) ends
   where
     zero_more : (k : ℕ) → 0 + k ≡ k
     zero_more k = omega arith
 
 -- a write that left bytes over
-pub one_more : (before mid next : ℕ) (old now then_ : Kept) (w v u : Writer) (bytes : List ℕ) (taken n : ℕ) → mid ≤ next → n < length (drop taken bytes)
-    → Wrote mid next now then_ v u (drop taken bytes) n → Onward before mid old now w v bytes taken → Onward before next old then_ w u bytes (taken + n)
-one_more before mid next old now then_ w v u bytes taken n later left h onward = λ after new end more why le ends.
-    let cut = cut_or_all mid next now then_ v u (drop taken bytes) n h left in
-    let rest : Ends next after then_ new u end (drop n (drop taken bytes)) more why =
-    subst (λ xs. Ends next after then_ new u end xs more why) (sym (drop-drop n taken bytes)) ends in
-    subst (λ m. Ends before after old new w end bytes m why) (sum taken n more)
+pub one_more : (moment before mid : ℕ) (next : Device) (old now then_ : Kept) (w v u : Writer) (bytes : List ℕ) (taken n : ℕ) → mid ≤ next.faults → n < length (drop taken bytes)
+    → Wrote moment mid next now then_ v u (drop taken bytes) n → Onward moment before mid old now w v bytes taken → Onward moment before next.faults old then_ w u bytes (taken + n)
+one_more moment before mid next old now then_ w v u bytes taken n later left h onward = λ after new end more why le ends.
+    let cut = cut_or_all moment mid next now then_ v u (drop taken bytes) n h left in
+    let rest : Ends moment next.faults after then_ new u end (drop n (drop taken bytes)) more why =
+    subst (λ xs. Ends moment next.faults after then_ new u end xs more why) (sym (drop-drop n taken bytes)) ends in
+    subst (λ m. Ends moment before after old new w end bytes m why) (sum taken n more)
     (onward after new end (n + more) why (omega (arith, later, le))
-    (then_ends mid next after now then_ new v u end (drop taken bytes) n h (cuts mid next now then_ v u (drop taken bytes) n h cut) cut later le more why rest))
+    (then_ends moment mid next after now then_ new v u end (drop taken bytes) n h (cuts moment mid next now then_ v u (drop taken bytes) n h cut) cut later le more why rest))
   where
     sum : (a b c : ℕ) → a + (b + c) ≡ (a + b) + c
     sum a b c = omega arith
 
 -- ---- a stripe between two writes
 
-module _ {D R C : Type 0} (disk : DiskGhosts D) (directory : DirectoryGhosts R) (chronicle : ChronicleGhosts C) (first now next : Stripe D R C) (w v u : Writer) (bytes : List ℕ) (taken : ℕ)
-    (turned : Turned disk directory chronicle first now w v bytes taken) where
+module _ {D R C : Type 0} (disk : DiskGhosts D) (directory : DirectoryGhosts R) (chronicle : ChronicleGhosts C) (moment : ℕ) (first now next : Stripe D R C) (w v u : Writer) (bytes : List ℕ) (taken : ℕ)
+    (turned : Turned disk directory chronicle moment first now w v bytes taken) where
   abbrev before : ℕ
   before = (seen_in disk directory first).device.faults
 
   abbrev mid : ℕ
   mid = (seen_in disk directory now).device.faults
 
-  abbrev after : ℕ
-  after = (seen_in disk directory next).device.faults
+  abbrev after : Device
+  after = (seen_in disk directory next).device
 
   abbrev left : List ℕ
   left = drop taken bytes
 
   abbrev Writes : ℕ → Type 0
-  Writes n = Wrote mid after (kept_in chronicle now) (kept_in chronicle next) v u left n
+  Writes n = Wrote moment mid after (kept_in chronicle now) (kept_in chronicle next) v u left n
 
   -- what is left, as the code names it
   abbrev part : List ℕ
@@ -82,15 +83,15 @@ module _ {D R C : Type 0} (disk : DiskGhosts D) (directory : DirectoryGhosts R) 
   part_is : part ≡ left
   part_is = let cut : length left ≡ length bytes - taken = length-drop taken bytes in take_all (length bytes - taken) left (omega (arith, cut))
 
-  pub wrote : (n : ℕ) → Wrote mid after (kept_in chronicle now) (kept_in chronicle next) v u part n → Writes n
-  wrote n h = subst (λ xs. Wrote mid after (kept_in chronicle now) (kept_in chronicle next) v u xs n) part_is h
+  pub wrote : (n : ℕ) → Wrote moment mid after (kept_in chronicle now) (kept_in chronicle next) v u part n → Writes n
+  wrote n h = subst (λ xs. Wrote moment mid after (kept_in chronicle now) (kept_in chronicle next) v u xs n) part_is h
 
   left_size : length left + taken ≡ length bytes
   left_size = let cut : length left ≡ length bytes - taken = length-drop taken bytes in let in_time : taken ≤ length bytes = turned.within in omega (arith, cut, in_time)
 
   -- what a write takes is no more than what is left, and something where it leaves some
   pub bounds : (n : ℕ) → Writes n → taken + n ≤ length bytes
-  bounds n h = let most : n ≤ length left = (within mid after (kept_in chronicle now) (kept_in chronicle next) v u left n h).0 in omega (arith, most, left_size)
+  bounds n h = let most : n ≤ length left = (within moment mid after (kept_in chronicle now) (kept_in chronicle next) v u left n h).0 in omega (arith, most, left_size)
 
   leaves_some : (n : ℕ) → Writes n → (taken + n ≡ length bytes → ⊥) → n < length left
   leaves_some n h other = below n taken (length bytes) (length left) (bounds n h) other left_size
@@ -100,34 +101,34 @@ module _ {D R C : Type 0} (disk : DiskGhosts D) (directory : DirectoryGhosts R) 
 
   pub some_taken : (n : ℕ) → Writes n → (taken + n ≡ length bytes → ⊥) → 0 < n
   some_taken n h other =
-      let cut = cut_or_all mid after (kept_in chronicle now) (kept_in chronicle next) v u left n h (leaves_some n h other) in
-      let full = (cuts mid after (kept_in chronicle now) (kept_in chronicle next) v u left n h cut).full in
-      let less = few mid after (kept_in chronicle now) (kept_in chronicle next) v u left n h in
+      let cut = cut_or_all moment mid after (kept_in chronicle now) (kept_in chronicle next) v u left n h (leaves_some n h other) in
+      let full = (cuts moment mid after (kept_in chronicle now) (kept_in chronicle next) v u left n h cut).full in
+      let less = few moment mid after (kept_in chronicle now) (kept_in chronicle next) v u left n h in
       omega (arith, full, less)
 
-  pub all_ends : (n : ℕ) → Writes n → taken + n ≡ length bytes → mid ≤ after → Ends before after (kept_in chronicle first) (kept_in chronicle next) w u bytes (taken + n) None
+  pub all_ends : (n : ℕ) → Writes n → taken + n ≡ length bytes → mid ≤ after.faults → Ends moment before after.faults (kept_in chronicle first) (kept_in chronicle next) w u bytes (taken + n) None
   all_ends n h whole later =
-      turned.onward after (kept_in chronicle next) u n None later
-      (last_ends mid after (kept_in chronicle now) (kept_in chronicle next) v u left n h (omega (arith, whole, left_size)))
+      turned.onward after.faults (kept_in chronicle next) u n None later
+      (last_ends moment mid after (kept_in chronicle now) (kept_in chronicle next) v u left n h (omega (arith, whole, left_size)))
 
-  pub fails_ends : (why : Refusal) → kept_in chronicle next ≡ with_records (kept_in chronicle now) (write_adds (state_in chronicle now) v part (Err why)) → WritesWhere (state_in chronicle now) v part (Err why)
-      → WritesAsAsked (state_in chronicle now) mid after v part (Err why) → SameWriter v u → mid ≤ after → Ends before after (kept_in chronicle first) (kept_in chronicle next) w u bytes taken (Some why)
-  fails_ends why adds where_ does same later =
-      subst (λ m. Ends before after (kept_in chronicle first) (kept_in chronicle next) w u bytes m (Some why)) (no_more taken)
-      (turned.onward after (kept_in chronicle next) u 0 (Some why) later
-      (refused_ends mid after (kept_in chronicle now) (kept_in chronicle next) v u left turned.writer turned.writing same why
-      (subst (λ xs. kept_in chronicle next ≡ with_records (kept_in chronicle now) (write_adds (state_in chronicle now) v xs (Err why))) part_is adds)
+  pub fails_ends : (why : Refusal) → WritesWhere (state_in chronicle now) v part (Err why) → WritesAsAsked moment (kept_in chronicle now) (kept_in chronicle next) mid after v part (Err why)
+      → SameWriter v u → mid ≤ after.faults → Ends moment before after.faults (kept_in chronicle first) (kept_in chronicle next) w u bytes taken (Some why)
+  fails_ends why where_ does same later =
+      subst (λ m. Ends moment before after.faults (kept_in chronicle first) (kept_in chronicle next) w u bytes m (Some why)) (no_more taken)
+      (turned.onward after.faults (kept_in chronicle next) u 0 (Some why) later
+      (refused_ends moment mid after (kept_in chronicle now) (kept_in chronicle next) v u left turned.writer turned.writing same why
       (subst (λ xs. WritesWhere (state_in chronicle now) v xs (Err why)) part_is where_)
-      (subst (λ xs. WritesAsAsked (state_in chronicle now) mid after v xs (Err why)) part_is does)))
+      (subst (λ xs. WritesAsAsked moment (kept_in chronicle now) (kept_in chronicle next) mid after v xs (Err why)) part_is does)))
     where
       no_more : (k : ℕ) → k + 0 ≡ k
       no_more k = omega arith
 
-  pub goes_on : (n : ℕ) → Writes n → (taken + n ≡ length bytes → ⊥) → IsStripe disk directory chronicle next → IsQuiet (state_in chronicle next) → mid ≤ after → StaysUnharmed disk directory chronicle now next → Turned disk directory chronicle first next w u bytes (taken + n)
+  pub goes_on : (n : ℕ) → Writes n → (taken + n ≡ length bytes → ⊥) → IsStripe disk directory chronicle next → IsQuiet (state_in chronicle next) → mid ≤ after.faults
+      → StaysUnharmed disk directory chronicle now next → Turned disk directory chronicle moment first next w u bytes (taken + n)
   goes_on n h other stripe quiet later stays =
       let some : n < length left = leaves_some n h other in
-      let cut = cut_or_all mid after (kept_in chronicle now) (kept_in chronicle next) v u left n h some in
-      let c : Cuts (kept_in chronicle now) (kept_in chronicle next) v u n = cuts mid after (kept_in chronicle now) (kept_in chronicle next) v u left n h cut in
+      let cut = cut_or_all moment mid after (kept_in chronicle now) (kept_in chronicle next) v u left n h some in
+      let c : Cuts (kept_in chronicle now) (kept_in chronicle next) v u n = cuts moment mid after (kept_in chronicle now) (kept_in chronicle next) v u left n h cut in
       record {
         stripe = stripe;
         quiet = quiet;
@@ -136,5 +137,5 @@ module _ {D R C : Type 0} (disk : DiskGhosts D) (directory : DirectoryGhosts R) 
         within = bounds n h;
         later = let earlier : before ≤ mid = turned.later in omega (arith, earlier, later);
         unharmed = stays_unharmed-trans _ _ _ _ _ _ turned.unharmed stays;
-        onward = one_more before mid after (kept_in chronicle first) (kept_in chronicle now) (kept_in chronicle next) w v u bytes taken n later some h turned.onward;
+        onward = one_more moment before mid after (kept_in chronicle first) (kept_in chronicle now) (kept_in chronicle next) w v u bytes taken n later some h turned.onward;
       }

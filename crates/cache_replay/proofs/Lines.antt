@@ -5,6 +5,7 @@ use Rattle.std.proofs.lemmas.Bool.{eqb-true, eq-eqb}
 use Rattle.cache_model.specs.State.{PutRow, State, after_all, put_of, reader_of}
 use Rattle.cache_model.specs.Verdict.{is_open}
 use Rattle.stripe_actors.specs.Actors.{FallBelow, put_numbers}
+use Rattle.cache_model.specs.Tape.{IsSound}
 use Rattle.cache_model.specs.Vectors.{AreTold, StepsTell}
 use Rattle.cache_model.specs.Legal.{IsQuiet, MayGrow, is_writing, nothing}
 use Rattle.cache_model.specs.Permit.{Intent, to_do}
@@ -29,11 +30,11 @@ use Rattle.script_lang.specs.declared.answer.StepAnswer.TheVariants as answer
 use Rattle.script_run.specs.Run.{Run, Reads, Stream, Writes, held_by, no_stream, put_in, with_value, writer_of}
 use Rattle.script_run.specs.Run.{Holding as Held}
 use Rattle.script_run.specs.Asked.{asked}
-use Rattle.script_run.specs.Turn.{Turn, no_turn}
+use Rattle.script_run.specs.Turn.{Turn}
 use Rattle.script_run.specs.Answers.{busy, idle, session_said, step_answer, step_said}
 use Rattle.script_run.specs.Behind.{after_step, behind, holds_behind, in_session, of_put, or_else, reader_at, still_open, streams_behind, streams_closed, streams_fed, streams_opened, writer_at}
-use Rattle.script_run.specs.Own.{AreOwn, AreWriting}
-use Rattle.script_run.specs.Takes.{SessionTakes, Shows, StepShows, StepTakes, Takes}
+use Rattle.script_run.specs.Own.{AreOwn}
+use Rattle.script_run.specs.Takes.{SessionTakes, StepShows, StepTakes, Takes}
 use Rattle.script_run.specs.Laws.{StepsOwn}
 use Rattle.cache_replay.specs.declared.session.Holding.{Holding}
 use Rattle.cache_replay.specs.declared.session.Holding.TheVariants as holding
@@ -41,6 +42,8 @@ use Rattle.cache_replay.specs.Session.{AreApart, AreHeld, Differ, IsActive, IsHe
 use Rattle.cache_replay.specs.Plays.{IsHeldAs, IsStreamOf, PlaysIn}
 use Rattle.cache_replay.specs.WriterLines.{Closes, Feeds, GivesUp, Opens, HasNoWriter, IsLeft, IsPlayed, OpenDoes, PartEnds, PartPlays, TakesWriter, WriterDoes, WriterEnds, WriterLine, WriterMoves, held_in, slots_at, step_of, writes_in}
 use Rattle.cache_replay.proofs.Frames.{Changed, IsElse, OthersElse, SameStreams, all_held, all_held_as}
+use Rattle.cache_replay.proofs.OnSession.{StandsBehind, stands_behind}
+use Rattle.cache_replay.proofs.ReaderLines.{still_permit, still_turn}
 
 -- ---- what the actors have
 
@@ -178,7 +181,7 @@ says_is Closes run turn name s h = ap (λ o. step_said run turn o (step.Close na
 says_is GivesUp run turn name s h = ap (λ o. step_said run turn o (step.Abort name)) h
 says_is (Opens key pin request response) run turn name s h = ap (λ o. step_said run turn o (step.OpenWrite name key pin request response)) h
 
-pub shows_is : (line : WriterLine) (run : Run) (name : List ℕ) (s : State) → run.state ≡ Some s → Shows run s (asked run s (step_of line name)) → StepShows run run.state (step_of line name)
+pub shows_is : (line : WriterLine) (run : Run) (name : List ℕ) (s : State) → run.state ≡ Some s → StepShows run (Some s) (step_of line name) → StepShows run run.state (step_of line name)
 shows_is line run name s h shows = subst (λ o. StepShows run o (step_of line name)) (sym h) shows
 
 -- what the actor has behind it, and what the others have
@@ -247,37 +250,29 @@ is_played run name s slots n w is mine plays =
     let here : IsHeldAs run s n (Some (holding.Writer w)) = subst (IsHeldAs run s n) mine (plays.held n) in
     record { held = ap run.held (sym is) ∙ here.0; stream = here.1; told = plays.told }
 
--- ---- what writers have open
-
-writes_by : (run : Run) (s : State) (n put : ℕ) (o : Option Holding) → IfSome o (IsHeld s) → IsHeldAs run s n o → option_and_then put_in (run.held n) ≡ Some put → is_writing s put ≡ true
-writes_by run s n put None held said_ has = let none : option_and_then put_in (run.held n) ≡ None = ap (writes run) said_ in cc
-writes_by run s n put (Some (holding.Reader r)) held said_ has = let none : option_and_then put_in (run.held n) ≡ None = ap (writes run) said_.0 in cc
-writes_by run s n put (Some (holding.Writer w)) held said_ has =
-    let some : option_and_then put_in (run.held n) ≡ Some w.put = ap (writes run) said_.0 in
-    let same : w.put ≡ put = cc in
-    ap (is_writing s) (sym same) ∙ held.0
-
--- each put that an actor writes is open
-pub are_writing : (run : Run) (s : State) (slots : ℕ → Option Holding) → AreHeld s slots → PlaysIn run s slots → AreWriting run s
-are_writing run s slots held plays = λ name put has. writes_by run s (number_of run.actors name) put (slots (number_of run.actors name)) (held (number_of run.actors name)) (plays.held (number_of run.actors name)) has
-
--- it plays what is left
+-- it plays what is left, or two documents of one SHA-256 are shown
 pub plays_on : (own : StepsOwn) (tell : StepsTell) (line : WriterLine) (run : Run) (name : List ℕ) (s t : State) (slots new : ℕ → Option Holding) (n put : ℕ) (left : Option Writer) (said : StepAnswer)
-    → n ≡ number_of run.actors name → IsQuiet s → IsPutOf run s line name put → LeavesOthers put s t → Changed slots new n (held_in left) → OthersElse slots n (Some put) None → AreHeld s slots → PlaysIn run s slots
-    → (moves : WriterMoves run name s t line left said) → PlaysIn (in_session run s (after_all s moves.turn.added) moves.turn (step_of line name)) t new
-plays_on own tell line run name s t slots new n put left said is quiet of leaves changed others held plays moves =
-    let st : Step = step_of line name in
-    let turn = moves.turn in
-    let told : AreTold (after_all s turn.added) = tell turn.device s (asked run s st) turn.added turn.refused plays.told moves.takes.legal in
-    let owned : AreOwn (after_all s turn.added) (streams_behind run s (after_all s turn.added) turn st) = own run s turn st plays.told quiet plays.own (are_writing run s slots held plays) moves.takes.legal in
-    subst (λ x. PlaysIn (in_session run s x turn st) t new) moves.state (record {
-      state = refl;
-      told = subst AreTold (sym moves.state) told;
-      own = subst (λ x. AreOwn x (streams_behind run s x turn st)) (sym moves.state) owned;
-      held = all_held_as (Some put) None run (in_session run s t turn st) s t slots new n (held_in left) (leaves_but put s t leaves) (same_streams line run s t turn name put of)
-          (λ m nope. held_there line run s t turn name n m is nope) changed others plays.held
-          (here_left (in_session run s t turn st) t n left (held_here line run s t turn name n is ∙ moves.held) moves.stream);
-    })
+    → n ≡ number_of run.actors name → IsSound s → IsQuiet s → IsPutOf run s line name put → LeavesOthers put s t → Changed slots new n (held_in left) → OthersElse slots n (Some put) None → AreHeld s slots → PlaysIn run s slots
+    → (moves : WriterMoves run name s t line left said)
+    → PlaysIn (in_session run s (after_all s moves.turn.added) moves.turn (step_of line name)) t new ⊎ StepShows run (Some s) (step_of line name)
+plays_on own tell line run name s t slots new n put left said is sound quiet of leaves changed others held plays moves =
+    elim (stands_behind tell own run s (after_all s moves.turn.added) moves.turn (step_of line name) slots moves.takes refl sound quiet held plays) [
+      | inl there ↦ inl (plays_then there)
+      | inr shows ↦ inr shows
+    ]
+  where
+    plays_then : StandsBehind run s (after_all s moves.turn.added) moves.turn (step_of line name) → PlaysIn (in_session run s (after_all s moves.turn.added) moves.turn (step_of line name)) t new
+    plays_then there =
+        let st : Step = step_of line name in
+        let turn = moves.turn in
+        subst (λ x. PlaysIn (in_session run s x turn st) t new) moves.state (record {
+          state = refl;
+          told = subst AreTold (sym moves.state) there.0;
+          own = subst (λ x. AreOwn x (streams_behind run s x turn st)) (sym moves.state) there.1;
+          held = all_held_as (Some put) None run (in_session run s t turn st) s t slots new n (held_in left) (leaves_but put s t leaves) (same_streams line run s t turn name put of)
+              (λ m nope. held_there line run s t turn name n m is nope) changed others plays.held
+              (here_left (in_session run s t turn st) t n left (held_here line run s t turn name n is ∙ moves.held) moves.stream);
+        })
 
 -- ---- a line that has no writer
 
@@ -315,9 +310,9 @@ none_written run s n (Some (holding.Reader r)) nope h =
     (ap (writes run) h.0, ap (still_open s) h.0 ∙ (ap (λ o. if is_some o then Some (Reads r.reader) else None) h.1.found ∙ sym h.0))
 
 pub record Idles (line : WriterLine) (run : Run) (name : List ℕ) (s : State) (new : ℕ → Option Holding) (said : StepAnswer) : Type 0 where
-  pub takes : SessionTakes run s no_turn (step_of line name)
-  pub plays : PlaysIn (in_session run s s no_turn (step_of line name)) s new
-  pub says : session_said run s s no_turn (step_of line name) ≡ said
+  pub takes : SessionTakes run s (still_turn run.now) (step_of line name)
+  pub plays : PlaysIn (in_session run s s (still_turn run.now) (step_of line name)) s new
+  pub says : session_said run s s (still_turn run.now) (step_of line name) ≡ said
 
 given_none : (line : WriterLine) (run : Run) (s : State) (name : List ℕ) (turn : Turn) → turn.given ≡ [] → Rattle.script_run.specs.Takes.GivesOwn run s turn (step_of line name)
 given_none (Feeds body) run s name turn h = h
@@ -333,11 +328,11 @@ holds_same Closes run s name on h = h
 holds_same GivesUp run s name on h = h
 
 held_same : (line : WriterLine) (run : Run) (s : State) (name : List ℕ) (n m : ℕ) (b : Bool) → (m == n) ≡ b → n ≡ number_of run.actors name → holds_behind run s s (step_of line name) name ≡ held_by run name
-    → (in_session run s s no_turn (step_of line name)).held m ≡ run.held m
+    → (in_session run s s (still_turn run.now) (step_of line name)).held m ≡ run.held m
 held_same line run s name n m true e is still =
     let at : m ≡ n = eqb-true m n e in
-    held_here line run s s no_turn name m (at ∙ is) ∙ (still ∙ ap run.held (sym (at ∙ is)))
-held_same line run s name n m false e is still = held_there line run s s no_turn name n m is e
+    held_here line run s s (still_turn run.now) name m (at ∙ is) ∙ (still ∙ ap run.held (sym (at ∙ is)))
+held_same line run s name n m false e is still = held_there line run s s (still_turn run.now) name n m is e
 
 as_same : (run later : Run) (s : State) (n : ℕ) (o : Option Holding) → later.held n ≡ run.held n → later.streams ≡ run.streams → IsHeldAs run s n o → IsHeldAs later s n o
 as_same run later s n None held streams h = held ∙ h
@@ -346,25 +341,26 @@ as_same run later s n (Some (holding.Reader r)) held streams h = (held ∙ h.0, 
 
 -- a line that asks nothing, changes no stream, and leaves its actor what it has
 idle_by : (line : WriterLine) (run : Run) (name : List ℕ) (s : State) (slots new : ℕ → Option Holding) (n : ℕ) (said : StepAnswer) → n ≡ number_of run.actors name → IsQuiet s
-    → asked run s (step_of line name) ≡ [] → streams_behind run s s no_turn (step_of line name) ≡ run.streams → session_said run s s no_turn (step_of line name) ≡ said
+    → asked run s (step_of line name) ≡ [] → streams_behind run s s (still_turn run.now) (step_of line name) ≡ run.streams → session_said run s s (still_turn run.now) (step_of line name) ≡ said
     → holds_behind run s s (step_of line name) name ≡ held_by run name → ((m : ℕ) → new m ≡ slots m) → PlaysIn run s slots → Idles line run name s new said
 idle_by line run name s slots new n said is quiet none streams says holds same plays =
     let st : Step = step_of line name in
     record {
       takes = record {
         plain = refl;
+        moment = refl;
         legal = record {
-          grows = subst (λ (asks : List Intent). MayGrow no_turn.device s (to_do asks) [] (record { intents = []; refused = None })) (sym none) nothing;
+          grows = subst (λ (asks : List Intent). MayGrow (still_permit run.now) s (to_do asks) [] (record { intents = []; refused = None })) (sym none) nothing;
           quiet = quiet;
         };
-        own = given_none line run s name no_turn refl;
+        own = given_none line run s name (still_turn run.now) refl;
       };
       plays = record {
         state = refl;
         told = plays.told;
         own = subst (AreOwn s) (sym streams) plays.own;
-        held = λ m. subst (IsHeldAs (in_session run s s no_turn st) s m) (sym (same m))
-            (as_same run (in_session run s s no_turn st) s m (slots m) (held_same line run s name n m (m == n) refl is holds) streams (plays.held m));
+        held = λ m. subst (IsHeldAs (in_session run s s (still_turn run.now) st) s m) (sym (same m))
+            (as_same run (in_session run s s (still_turn run.now) st) s m (slots m) (held_same line run s name n m (m == n) refl is holds) streams (plays.held m));
       };
       says = says;
     }
@@ -373,7 +369,7 @@ pub idles : (line : WriterLine) (run : Run) (name : List ℕ) (s : State) (slots
     → ((m : ℕ) → new m ≡ slots m) → PlaysIn run s slots → Idles line run name s new idle
 idles line run name s slots new n on is quiet nope same plays =
     let none = none_written run s n (slots n) nope (plays.held n) in
-    let by = no_writer line run s s no_turn name on (ap (λ k. option_and_then put_in (run.held k)) (sym is) ∙ none.0) in
+    let by = no_writer line run s s (still_turn run.now) name on (ap (λ k. option_and_then put_in (run.held k)) (sym is) ∙ none.0) in
     idle_by line run name s slots new n idle is quiet by.0 by.1 by.2
     (holds_same line run s name on (ap (λ k. still_open s (run.held k)) (sym is) ∙ (none.1 ∙ ap run.held is))) same plays
 
@@ -431,15 +427,18 @@ module _ {D R C : Type 0} (disk : DiskGhosts D) (directory : DirectoryGhosts R) 
       → WriterEnds run name s t line left said → PartEnds chronicle run (step_of line name) new last said
   moves_by own tell line run name put left said is old of others changed adds names plays (inl moves) =
       let at : n ≡ number_of run.actors name = is ∙ ap (λ (all : List (List ℕ)). number_of all name) (sym plays.names) in
-      let on = plays_on own tell line run name s t (slots_at actors) (slots_at last) n put left said at old.part.quiet of (stay put (kept_in chronicle part.stripe) (kept_in chronicle new.stripe) adds) changed others
-      old.held plays.at moves in
       let after = after_is line run moves.turn name s plays.at.state in
-      inl (record {
-        turn = moves.turn;
-        takes = takes_is line run moves.turn name s plays.at.state moves.takes;
-        plays = subst (λ r. PartPlays chronicle r new last) (sym after) (record { names = names_is line run s (after_all s moves.turn.added) moves.turn name last.names (ap (λ (all : List (List ℕ)). with_actor all name) plays.names ∙ sym names); at = on });
-        says = says_is line run moves.turn name s plays.at.state ∙ (ap (λ x. session_said run s x moves.turn (step_of line name)) (sym moves.state) ∙ moves.says);
-      })
+      elim (plays_on own tell line run name s t (slots_at actors) (slots_at last) n put left said at old.part.stripe.pieces.sound old.part.quiet of (stay put (kept_in chronicle part.stripe) (kept_in chronicle new.stripe) adds) changed others
+      old.held plays.at moves) [
+        | inl on ↦ inl (record {
+          turn = moves.turn;
+          takes = takes_is line run moves.turn name s plays.at.state moves.takes;
+          plays = subst (λ r. PartPlays chronicle r new last) (sym after)
+              (record { names = names_is line run s (after_all s moves.turn.added) moves.turn name last.names (ap (λ (all : List (List ℕ)). with_actor all name) plays.names ∙ sym names); at = on });
+          says = says_is line run moves.turn name s plays.at.state ∙ (ap (λ x. session_said run s x moves.turn (step_of line name)) (sym moves.state) ∙ moves.says);
+        })
+        | inr shows ↦ inr (shows_is line run name s plays.at.state shows)
+      ]
   moves_by own tell line run name put left said is old of others changed adds names plays (inr shows) = inr (shows_is line run name s plays.at.state shows)
 
   put_played : (line : WriterLine) (run : Run) (name : List ℕ) (w : Writer) → IsOnWriter line → IsPlayed run name s w → IsPutOf run s line name w.put
@@ -452,14 +451,14 @@ module _ {D R C : Type 0} (disk : DiskGhosts D) (directory : DirectoryGhosts R) 
       → n ≡ number_of actors.names name
       → IsActive disk directory chronicle part (slots_at actors) → slots_at actors n ≡ Some (holding.Writer w) → Changed (slots_at actors) (slots_at last) n (held_in left)
       → AddsOfPut w.put (kept_in chronicle part.stripe) (kept_in chronicle new.stripe) → last.names ≡ with_actor actors.names name
-      → WriterDoes s t line w left answer → (run : Run) → PartPlays chronicle run part actors → PartEnds chronicle run (step_of line name) new last said
-  ends_by own tell line name w left None said on answered is old mine changed adds names does = λ run plays. cc
-  ends_by own tell line name w left (Some other) said on answered is old mine changed adds names does = λ run plays.
+      → (now : ℕ) → WriterDoes now s t line w left answer → (run : Run) → run.now ≡ now → PartPlays chronicle run part actors → PartEnds chronicle run (step_of line name) new last said
+  ends_by own tell line name w left None said on answered is old mine changed adds names now does = λ run moment plays. cc
+  ends_by own tell line name w left (Some other) said on answered is old mine changed adds names now does = λ run moment plays.
       let same : other ≡ said = cc in
       let at : n ≡ number_of run.actors name = is ∙ ap (λ (all : List (List ℕ)). number_of all name) (sym plays.names) in
       let played = is_played run name s (slots_at actors) n w at mine plays.at in
       moves_by own tell line run name w.put left said is old (put_played line run name w on played) (others_else (slots_at actors) n w old.apart mine) changed adds names plays
-      (subst (WriterEnds run name s t line left) same (does run name played))
+      (subst (WriterEnds run name s t line left) same (does run name moment played))
 
   -- an actor that has nothing opens a writer
   pub opens_by : (own : StepsOwn) (tell : StepsTell) (name : List ℕ) (key : Key) (pin : ℕ) (request response : List Field) (left : Option Writer) (answer : Option StepAnswer) (said : StepAnswer) → answer ≡ Some said
@@ -484,11 +483,11 @@ module _ {D R C : Type 0} (disk : DiskGhosts D) (directory : DirectoryGhosts R) 
       let at : n ≡ number_of run.actors name = is ∙ ap (λ (all : List (List ℕ)). number_of all name) (sym plays.names) in
       let none = busies run name s key pin request response (slots_at actors) (slots_at last) n h has at old.part.quiet same plays.at in
       inl (record {
-        turn = no_turn;
-        takes = takes_is line run no_turn name s plays.at.state none.takes;
-        plays = subst (λ r. PartPlays chronicle r part last) (sym (after_is line run no_turn name s plays.at.state))
-            (record { names = names_is line run s s no_turn name last.names (ap (λ (all : List (List ℕ)). with_actor all name) plays.names ∙ sym names); at = none.plays });
-        says = says_is line run no_turn name s plays.at.state ∙ none.says;
+        turn = still_turn run.now;
+        takes = takes_is line run (still_turn run.now) name s plays.at.state none.takes;
+        plays = subst (λ r. PartPlays chronicle r part last) (sym (after_is line run (still_turn run.now) name s plays.at.state))
+            (record { names = names_is line run s s (still_turn run.now) name last.names (ap (λ (all : List (List ℕ)). with_actor all name) plays.names ∙ sym names); at = none.plays });
+        says = says_is line run (still_turn run.now) name s plays.at.state ∙ none.says;
       })
 
   -- an actor that has no writer
@@ -498,11 +497,11 @@ module _ {D R C : Type 0} (disk : DiskGhosts D) (directory : DirectoryGhosts R) 
       let at : n ≡ number_of run.actors name = is ∙ ap (λ (all : List (List ℕ)). number_of all name) (sym plays.names) in
       let none = idles line run name s (slots_at actors) (slots_at last) n on at old.part.quiet nope same plays.at in
       inl (record {
-        turn = no_turn;
-        takes = takes_is line run no_turn name s plays.at.state none.takes;
-        plays = subst (λ r. PartPlays chronicle r part last) (sym (after_is line run no_turn name s plays.at.state))
-            (record { names = names_is line run s s no_turn name last.names (ap (λ (all : List (List ℕ)). with_actor all name) plays.names ∙ sym names); at = none.plays });
-        says = says_is line run no_turn name s plays.at.state ∙ none.says;
+        turn = still_turn run.now;
+        takes = takes_is line run (still_turn run.now) name s plays.at.state none.takes;
+        plays = subst (λ r. PartPlays chronicle r part last) (sym (after_is line run (still_turn run.now) name s plays.at.state))
+            (record { names = names_is line run s s (still_turn run.now) name last.names (ap (λ (all : List (List ℕ)). with_actor all name) plays.names ∙ sym names); at = none.plays });
+        says = says_is line run (still_turn run.now) name s plays.at.state ∙ none.says;
       })
 
 -- the slots are those of before, and so they are all that holds of them

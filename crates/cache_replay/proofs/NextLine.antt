@@ -17,7 +17,6 @@ use Rattle.cache_model.specs.Legal.{Does, IsQuiet, answer_record, live_next, not
 use Rattle.cache_model.specs.Vectors.{GroupsTell}
 use Rattle.stripe_core.specs.Find.{IsDocumentOf, cause_records}
 use Rattle.stripe_core.specs.Stripe.{state_in}
-use Rattle.stripe_vectors.proofs.Finding.{own_covers, own_permit}
 use Rattle.stripe_read.specs.declared.reader.Reader.{Reader}
 use Rattle.stripe_read.specs.declared.reading.NextPiece.{NextPiece}
 use Rattle.stripe_read.specs.declared.reading.NextPiece.TheVariants as piece
@@ -33,14 +32,15 @@ use Rattle.script_run.specs.Answers as says
 use Rattle.script_run.specs.Behind.{still_open}
 use Rattle.script_run.specs.Laws.{ReadIsOwn, StepsOwn}
 use Rattle.script_run.specs.Own.{AreOwn, IsOtherFragment, piece_of}
-use Rattle.script_run.specs.Takes.{IsNextPiece, IsPiece, Shows}
+use Rattle.script_run.specs.Takes.{IsNextPiece, IsOther, IsPiece, Shows}
 use Rattle.cache_replay.specs.declared.session.Holding.{Holding}
 use Rattle.cache_replay.specs.declared.session.Holding.TheVariants as holding
 use Rattle.cache_replay.specs.declared.session.Part.{Part}
 use Rattle.cache_replay.specs.Session.{AreApart, IsActive, LeavesBut}
 use Rattle.cache_replay.specs.ReaderLines.{IsWithin, NextEnds, NextMoves, PartEnds, PartMoves, PlaysPart, next_answer, reader_held, slots_of}
 use Rattle.cache_replay.proofs.ReaderFrames.{state_behind}
-use Rattle.cache_replay.proofs.ReaderLines.{Goes, Took, apart_else, given_back, held_reader, line_moves, line_turn, reads_none, still_held, still_moves, still_turn}
+use Rattle.cache_replay.proofs.WholeReads.{call_covered, call_permit}
+use Rattle.cache_replay.proofs.ReaderLines.{Goes, Took, apart_else, given_back, held_reader, line_ends, line_turn, reads_none, still_held, still_moves, still_turn}
 
 -- ---- what the reader was told
 
@@ -85,10 +85,10 @@ gives_within p s r (piece.Broken why) into h = tt
 
 pub reads_within : (s : State) (old new : Device) (r : Reader) (given : NextPiece) (into : List ℕ) → ReadsOn s old new r given into → IsWithin given into
 reads_within s old new r given into reads =
-    gives_within (own_permit old.faults new.faults reads.reads) s r given into (reads.gives (own_permit old.faults new.faults reads.reads) (own_covers old.faults new.faults reads.reads))
+    gives_within (call_permit 0 old.faults new.faults reads.reads) s r given into (reads.gives (call_permit 0 old.faults new.faults reads.reads) (call_covered 0 old.faults new.faults reads.reads))
 
 -- what comes of the answer
-module _ (own : ReadIsOwn) (run : Run) (k new : Kept) (p : Permit) (r later : Reader) (plain : p.packed ≡ false) (first : 1 ≤ r.next) (owned : AreOwn (state_of k) run.streams) (reader : IsReaderOf (state_of k) r) (keeps : IsReaderOf (state_of new) later) where
+module _ (own : ReadIsOwn) (run : Run) (k new : Kept) (p : Permit) (r later : Reader) (plain : p.packed ≡ false) (moment : p.now ≡ run.now) (first : 1 ≤ r.next) (owned : AreOwn (state_of k) run.streams) (reader : IsReaderOf (state_of k) r) (keeps : IsReaderOf (state_of new) later) where
   moves_with : (given : NextPiece) (bytes : List ℕ) (said : StepAnswer) → new ≡ with_records k (read_adds (state_of k) r given)
       → Does p (state_of k) (ReadOn r.reader) (read_adds (state_of k) r given) Done
       → IsPiece run (state_of k) r.reader bytes (told_in (answer_record r.reader (noted (listed_length (state_of k) r) given) ∷ []))
@@ -99,6 +99,7 @@ module _ (own : ReadIsOwn) (run : Run) (k new : Kept) (p : Permit) (r later : Re
     added = read_adds (state_of k) r given;
     given = bytes;
     plain = plain;
+    moment = moment;
     behind = state_behind k new (read_adds (state_of k) r given) adds;
     does = does;
     own = subst (IsPiece run (state_of k) r.reader bytes) (sym (told_last (state_of k) r given)) whose;
@@ -106,8 +107,8 @@ module _ (own : ReadIsOwn) (run : Run) (k new : Kept) (p : Permit) (r later : Re
     keeps = keeps;
   }
 
-  shows_other : IsOtherFragment p (state_of k) run.streams → Shows run (state_of k) (ReadOn r.reader ∷ [])
-  shows_other other = record { device = p; added = []; left = to_do (ReadOn r.reader ∷ []); grows = nothing; other = inr other }
+  shows_other : IsOtherFragment p (state_of k) run.streams → Shows run.streams (state_of k) (ReadOn r.reader ∷ [])
+  shows_other other = record { device = p; added = []; left = to_do (ReadOn r.reader ∷ []); grows = nothing; other = IsOther.fragment other }
 
   ends_with : (given : NextPiece) (into : List ℕ) → new ≡ with_records k (read_adds (state_of k) r given)
       → Does p (state_of k) (ReadOn r.reader) (read_adds (state_of k) r given) Done
@@ -127,9 +128,9 @@ pub next_ends : (own : ReadIsOwn) (k new : Kept) (before after : Device) (r late
     → ReadsOn (state_of k) before after r given into → (IsReaderOf (state_of k) r → IsReaderOf (state_of new) later) → 1 ≤ r.next
     → (run : Run) → AreOwn (state_of k) run.streams → IsReaderOf (state_of k) r → NextEnds run (state_of k) (state_of new) r later (next_answer given into)
 next_ends own k new before after r later given into adds reads keeps first run owned reader =
-    let p : Permit = own_permit before.faults after.faults reads.reads in
-    let covers = own_covers before.faults after.faults reads.reads in
-    ends_with own run k new p r later refl first owned reader (keeps reader) given into adds (reads.does p covers reader) (reads.gives p covers)
+    let p : Permit = call_permit run.now before.faults after.faults reads.reads in
+    let covers = call_covered run.now before.faults after.faults reads.reads in
+    ends_with own run k new p r later refl refl first owned reader (keeps reader) given into adds (reads.does p covers reader) (reads.gives p covers)
 
 -- ---- the line
 
@@ -173,7 +174,7 @@ module _ {D R C : Type 0} (disk : DiskGhosts D) (directory : DirectoryGhosts R) 
       let reads : reader_by run name ≡ Some r.reader = ap (option_and_then reader_in) by.0 in
       let asked_is : asks.asked run s (step.Next name) ≡ ReadOn r.reader ∷ [] = next_asks run old before name n r number had plays in
       elim (ends run plays.inside.own by.1) [
-        | inl m ↦ inl (line_moves disk directory chronicle tell own run old new before after (step.Next name) name n (ReadOn r.reader) m.device m.added m.given r.reader (Some later) said
+        | inl m ↦ line_ends disk directory chronicle tell own run old new before after (step.Next name) name n (ReadOn r.reader) m.device m.added m.given r.reader (Some later) said
             (record {
               actor = refl;
               number = number;
@@ -182,22 +183,23 @@ module _ {D R C : Type 0} (disk : DiskGhosts D) (directory : DirectoryGhosts R) 
               behind = m.behind;
               quiet = quiet;
               plain = m.plain;
+              moment = m.moment;
               asks = asked_is;
               does = m.does;
               gives = subst (IsNextPiece run s (line_turn m.device m.added m.given)) (sym reads) m.own;
             })
             (next_has run (after_all s m.added) name r later by.0 same (subst (λ t. IsReaderOf t later) m.behind m.keeps)) m.keeps active plays goes
-            (ap (λ (o : Option ℕ). says.if_has o (λ reader. says.next_said m.given (told_in m.added))) reads ∙ m.says))
-        | inr shown ↦ inr (subst (Shows run s) (sym asked_is) shown)
+            (ap (λ (o : Option ℕ). says.if_has o (λ reader. says.next_said m.given (told_in m.added))) reads ∙ m.says)
+        | inr shown ↦ inr (subst (Shows run.streams s) (sym asked_is) shown)
       ]
 
   -- more pieces are told as damaged only where two documents of one SHA-256 are shown
   pub next_line_harms : {X : Type 0} (part : Part D R C) (before : Seen Holding) (name : List ℕ) (n : ℕ) (r : Reader) → n ≡ number_of before.names name → slots_of before n ≡ Some (holding.Reader r)
-      → ((run : Run) → AreOwn (state_in chronicle part.stripe) run.streams → IsReaderOf (state_in chronicle part.stripe) r → X ⊎ Shows run (state_in chronicle part.stripe) (ReadOn r.reader ∷ []))
-      → (run : Run) → PlaysPart disk directory chronicle run part before → X ⊎ Shows run (state_in chronicle part.stripe) (asks.asked run (state_in chronicle part.stripe) (step.Next name))
+      → ((run : Run) → AreOwn (state_in chronicle part.stripe) run.streams → IsReaderOf (state_in chronicle part.stripe) r → X ⊎ Shows run.streams (state_in chronicle part.stripe) (ReadOn r.reader ∷ []))
+      → (run : Run) → PlaysPart disk directory chronicle run part before → X ⊎ Shows run.streams (state_in chronicle part.stripe) (asks.asked run (state_in chronicle part.stripe) (step.Next name))
   next_line_harms {X} part before name n r number had harms run plays =
       let by = held_reader disk directory chronicle run part before name n r number had plays in
-      subst (λ is. X ⊎ Shows run (state_in chronicle part.stripe) is) (sym (next_asks run part before name n r number had plays)) (harms run plays.inside.own by.1)
+      subst (λ is. X ⊎ Shows run.streams (state_in chronicle part.stripe) is) (sym (next_asks run part before name n r number had plays)) (harms run plays.inside.own by.1)
 
   -- an actor without a reader
   pub next_idle : (part : Part D R C) (before after : Seen Holding) (name : List ℕ) (n : ℕ) (said : StepAnswer) → said ≡ says.idle
@@ -209,7 +211,7 @@ module _ {D R C : Type 0} (disk : DiskGhosts D) (directory : DirectoryGhosts R) 
       let reads : reader_by run name ≡ None = reads_none disk directory chronicle run part before name n number none plays in
       still_moves disk directory chronicle run part before after (step.Next name) name n said refl number names same
       (ap (λ (o : Option ℕ). asks.if_has o (λ reader. ReadOn reader ∷ [])) reads)
-      (subst (IsNextPiece run s still_turn) (sym reads) refl) refl
+      (subst (IsNextPiece run s (still_turn run.now)) (sym reads) refl) refl
       (still_held disk directory chronicle run part before name n number active plays)
       (ap (λ (o : Option ℕ). says.if_has o (λ reader. says.next_said [] None)) reads ∙ sym is)
       active.part.quiet plays

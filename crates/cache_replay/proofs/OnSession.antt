@@ -1,5 +1,5 @@
 -- A call of a stripe as a line on a session.
-use Rattle.std.proofs.Common.{◌≡◌, ℕ, ◌≤◌, refl, arith, sym, ◌∙◌, ap, subst, inl, true, Result, Ok, Err}
+use Rattle.std.proofs.Common.{◌≡◌, ℕ, ◌≤◌, refl, arith, sym, ◌∙◌, ap, subst, ◌⊎◌, inl, inr, true, Result, Ok, Err}
 use Rattle.std.specs.Prelude.{Option, Some, None, IfSome, IfOk, OnErr, option_and_then}
 use Rattle.ats_disk.specs.declared.device.Disk.{Ghosts as DiskGhosts}
 use Rattle.dir_table.specs.declared.directory.Directory.{Ghosts as DirectoryGhosts}
@@ -7,6 +7,7 @@ use Rattle.cache_chronicle.specs.declared.chronicle.Chronicle.{Ghosts as Chronic
 use Rattle.tape_base.specs.declared.keys.Key.{Key}
 use Rattle.cache_model.specs.State.{State, after_all}
 use Rattle.cache_model.specs.Legal.{IsQuiet, is_writing}
+use Rattle.cache_model.specs.Tape.{IsSound}
 use Rattle.cache_model.specs.Vectors.{AreTold, StepsTell}
 use Rattle.stripe_core.specs.Stripe.{seen_in, state_in}
 use Rattle.stripe_core.specs.Unharmed.{StaysUnharmed}
@@ -14,11 +15,12 @@ use Rattle.script_lang.specs.declared.step.Step.{Step}
 use Rattle.script_lang.specs.declared.step.Step.TheVariants as step
 use Rattle.script_lang.specs.declared.answer.StepAnswer.{StepAnswer}
 use Rattle.script_run.specs.Run.{Run, put_in}
+use Rattle.script_run.specs.Asked.{asked}
 use Rattle.script_run.specs.Turn.{Turn}
 use Rattle.script_run.specs.Answers.{session_said, step_said}
 use Rattle.script_run.specs.Behind.{behind, harm_of, streams_behind}
 use Rattle.script_run.specs.Own.{AreOwn, AreWriting}
-use Rattle.script_run.specs.Takes.{SessionTakes, Takes}
+use Rattle.script_run.specs.Takes.{IsOther, SessionTakes, StepShows, Takes}
 use Rattle.script_run.specs.Laws.{StepsOwn}
 use Rattle.cache_replay.specs.declared.session.Session.{Session}
 use Rattle.cache_replay.specs.declared.session.Part.{Part}
@@ -48,14 +50,38 @@ are_writing run s slots plays held = λ name put is.
 
 -- ---- behind a line
 
-pub told_behind : (tell : StepsTell) (run : Run) (s t : State) (turn : Turn) (step : Step) → SessionTakes run s turn step → after_all s turn.added ≡ t → AreTold s → AreTold t
-told_behind tell run s t turn step takes is told = subst AreTold is (tell turn.device s (Rattle.script_run.specs.Asked.asked run s step) turn.added turn.refused told takes.legal)
+-- vectors and puts are told behind a line, or it shows two documents of one SHA-256
+pub told_behind : (tell : StepsTell) (run : Run) (s t : State) (turn : Turn) (step : Step) → SessionTakes run s turn step → after_all s turn.added ≡ t → IsSound s → AreTold s
+    → AreTold t ⊎ StepShows run (Some s) step
+told_behind tell run s t turn step takes is sound told =
+    elim (tell turn.device s (asked run s step) turn.added turn.refused sound told takes.legal) [
+      | inl kept ↦ inl (subst AreTold is kept)
+      | inr v ↦ inr (record { device = turn.device; added = v.before; left = v.left; grows = v.grows; other = IsOther.vector_copied v.other })
+    ]
 
-pub own_behind : (own : StepsOwn) (run : Run) (s t : State) (turn : Turn) (step : Step) (slots : ℕ → Option Holding) → SessionTakes run s turn step → after_all s turn.added ≡ t → IsQuiet s → AreHeld s slots → PlaysIn run s slots
-    → AreOwn t (streams_behind run s (after_all s turn.added) turn step)
-own_behind own run s t turn step slots takes is quiet held plays =
-    subst (λ u. AreOwn u (streams_behind run s (after_all s turn.added) turn step)) is
-    (own run s turn step plays.told quiet plays.own (are_writing run s slots plays held) takes.legal)
+-- and so does what stands belong to what writers took
+pub own_behind : (own : StepsOwn) (run : Run) (s t : State) (turn : Turn) (step : Step) (slots : ℕ → Option Holding) → SessionTakes run s turn step → after_all s turn.added ≡ t
+    → IsSound s → IsQuiet s → AreHeld s slots → PlaysIn run s slots → AreOwn t (streams_behind run s (after_all s turn.added) turn step) ⊎ StepShows run (Some s) step
+own_behind own run s t turn step slots takes is sound quiet held plays =
+    elim (own run s turn step sound plays.told quiet plays.own (are_writing run s slots plays held) takes.legal) [
+      | inl kept ↦ inl (subst (λ u. AreOwn u (streams_behind run s (after_all s turn.added) turn step)) is kept)
+      | inr shows ↦ inr shows.shows
+    ]
+
+-- what stands behind a line
+abbrev pub StandsBehind : Run → (s t : State) → Turn → Step → Type 0
+StandsBehind run s t turn step = AreTold t × AreOwn t (streams_behind run s (after_all s turn.added) turn step)
+
+pub stands_behind : (tell : StepsTell) (own : StepsOwn) (run : Run) (s t : State) (turn : Turn) (step : Step) (slots : ℕ → Option Holding) → SessionTakes run s turn step → after_all s turn.added ≡ t
+    → IsSound s → IsQuiet s → AreHeld s slots → PlaysIn run s slots → StandsBehind run s t turn step ⊎ StepShows run (Some s) step
+stands_behind tell own run s t turn step slots takes is sound quiet held plays =
+    elim (told_behind tell run s t turn step takes is sound plays.told) [
+      | inl told ↦ elim (own_behind own run s t turn step slots takes is sound quiet held plays) [
+        | inl owned ↦ inl (told, owned)
+        | inr shows ↦ inr shows
+      ]
+      | inr shows ↦ inr shows
+    ]
 
 module _ {D R C : Type 0} (disk : DiskGhosts D) (directory : DirectoryGhosts R) (chronicle : ChronicleGhosts C) where
   -- ---- a session that has a cache
@@ -87,21 +113,17 @@ module _ {D R C : Type 0} (disk : DiskGhosts D) (directory : DirectoryGhosts R) 
       record { part = part; held = still_held None None (state_in chronicle old.stripe) (state_in chronicle new.stripe) (slots_in session) leaves (none_else (slots_in session)) a.held; apart = a.apart }
 
   -- what a removal or a flush is for a session
-  pub line_plays : (tell : StepsTell) (owns : StepsOwn) (run : Run) (session new : Session D R C) (old part : Part D R C) (turn : Turn) (step : Step) → session.part ≡ Some old
-      → new.part ≡ Some part → names_in new ≡ names_in session → new.now ≡ session.now → ((n : ℕ) → slots_in new n ≡ slots_in session n)
-      → LeavesBut None None (state_in chronicle old.stripe) (state_in chronicle part.stripe) → StaysUnharmed disk directory chronicle old.stripe part.stripe → IsSession disk directory chronicle session → Plays disk directory chronicle run session
-      → (takes : SessionTakes run (state_in chronicle old.stripe) turn step) → after_all (state_in chronicle old.stripe) turn.added ≡ state_in chronicle part.stripe
-      → (later : Run) → later.actors ≡ run.actors → later.now ≡ run.now → later.streams ≡ run.streams → later.held ≡ run.held → later.state ≡ Some (after_all (state_in chronicle old.stripe) turn.added)
-      → streams_behind run (state_in chronicle old.stripe) (after_all (state_in chronicle old.stripe) turn.added) turn step ≡ run.streams
-      → Plays disk directory chronicle later new
-  line_plays tell owns run session new old part turn step is now names kept slots leaves stays h plays takes behind later actors moment streams held state same =
-      let s : State = state_in chronicle old.stripe in
+  pub line_plays : (run : Run) (session new : Session D R C) (old part : Part D R C) → session.part ≡ Some old → new.part ≡ Some part
+      → names_in new ≡ names_in session → new.now ≡ session.now → ((n : ℕ) → slots_in new n ≡ slots_in session n)
+      → LeavesBut None None (state_in chronicle old.stripe) (state_in chronicle part.stripe) → StaysUnharmed disk directory chronicle old.stripe part.stripe → Plays disk directory chronicle run session
+      → (later : Run) → later.actors ≡ run.actors → later.now ≡ run.now → later.streams ≡ run.streams → later.held ≡ run.held → later.state ≡ Some (state_in chronicle part.stripe)
+      → AreTold (state_in chronicle part.stripe) → AreOwn (state_in chronicle part.stripe) run.streams → Plays disk directory chronicle later new
+  line_plays run session new old part is now names kept slots leaves stays plays later actors moment streams held state told owned =
       let t : State = state_in chronicle part.stripe in
-      let a = active session old is h in
-      let p = playing run session old is plays in
-      let own : AreOwn t later.streams = subst (AreOwn t) (sym streams) (subst (AreOwn t) same (own_behind owns run s t turn step (slots_in session) takes behind a.part.quiet a.held p)) in
-      let here : PlaysIn later t (slots_in session) = still_plays None None run later s t (slots_in session) leaves (none_else (slots_in session)) (λ q no. ap (λ (f : ℕ → Rattle.script_run.specs.Run.Stream). f q) streams)
-      (λ m. ap (λ (f : ℕ → Option Rattle.script_run.specs.Run.Holding). f m) held) (state ∙ ap Some behind) (told_behind tell run s t turn step takes behind p.told) own p in
+      let own : AreOwn t later.streams = subst (AreOwn t) (sym streams) owned in
+      let here : PlaysIn later t (slots_in session) = still_plays None None run later (state_in chronicle old.stripe) t (slots_in session) leaves (none_else (slots_in session))
+      (λ q no. ap (λ (f : ℕ → Rattle.script_run.specs.Run.Stream). f q) streams)
+      (λ m. ap (λ (f : ℕ → Option Rattle.script_run.specs.Run.Holding). f m) held) state told own (playing run session old is plays) in
       record {
         names = actors ∙ (plays.names ∙ sym names);
         now = moment ∙ (plays.now ∙ sym kept);
@@ -151,23 +173,38 @@ flush_plain = record {
   same = λ run s t turn. refl;
 }
 
+-- what is so of each run is so of each at that moment
+pub at_moment : (step : Step) (s t : State) (moment : ℕ) (result : Result StepAnswer Stop) → IfOk result (λ said. (run : Run) → Plainly run step s t said)
+    → IfOk result (λ said. (run : Run) → run.now ≡ moment → Plainly run step s t said)
+at_moment step s t moment (Ok said) ends = λ run is. ends run
+at_moment step s t moment (Err why) ends = tt
+
 module _ {D R C : Type 0} (disk : DiskGhosts D) (directory : DirectoryGhosts R) (chronicle : ChronicleGhosts C) where
   plain_ends : (tell : StepsTell) (owns : StepsOwn) (session new : Session D R C) (old part : Part D R C) (step : Step) (said : StepAnswer) → IsPlain step → session.part ≡ Some old → new.part ≡ Some part
       → names_in new ≡ names_in session → new.now ≡ session.now → ((n : ℕ) → slots_in new n ≡ slots_in session n) → LeavesBut None None (state_in chronicle old.stripe) (state_in chronicle part.stripe)
-      → StaysUnharmed disk directory chronicle old.stripe part.stripe → IsSession disk directory chronicle session → ((run : Run) → Plainly run step (state_in chronicle old.stripe) (state_in chronicle part.stripe) said)
+      → StaysUnharmed disk directory chronicle old.stripe part.stripe → IsSession disk directory chronicle session
+      → ((run : Run) → run.now ≡ session.now → Plainly run step (state_in chronicle old.stripe) (state_in chronicle part.stripe) said)
       → (run : Run) → Plays disk directory chronicle run session → StepEnds disk directory chronicle run step new said
   plain_ends tell owns session new old part step said plain is now names kept slots leaves stays h ends run plays =
       let s : State = state_in chronicle old.stripe in
-      let e = ends run in
+      let t : State = state_in chronicle part.stripe in
+      let e = ends run plays.now in
+      let a = active disk directory chronicle session old is h in
       let p = playing disk directory chronicle run session old is plays in
-      inl (moves disk directory chronicle run s e.turn step new said p.state (plain.takes run s e.turn e.takes)
-      (plain.says run s e.turn ∙ (ap (λ u. session_said run s u e.turn step) e.behind ∙ e.says))
-      (line_plays disk directory chronicle tell owns run session new old part e.turn step is now names kept slots leaves stays h plays e.takes e.behind (behind run e.turn (Some s) step)
-      (plain.actors run s e.turn) (plain.moment run s e.turn) (plain.streams run s e.turn) (plain.held run s e.turn) (plain.state run s e.turn) (plain.same run s (after_all s e.turn.added) e.turn)))
+      elim (stands_behind tell owns run s t e.turn step (slots_in session) e.takes e.behind a.part.stripe.pieces.sound a.part.quiet a.held p) [
+        | inl there ↦
+            inl (moves disk directory chronicle run s e.turn step new said p.state (plain.takes run s e.turn e.takes)
+            (plain.says run s e.turn ∙ (ap (λ u. session_said run s u e.turn step) e.behind ∙ e.says))
+            (line_plays disk directory chronicle run session new old part is now names kept slots leaves stays plays (behind run e.turn (Some s) step)
+            (plain.actors run s e.turn) (plain.moment run s e.turn) (plain.streams run s e.turn) (plain.held run s e.turn) (plain.state run s e.turn ∙ ap Some e.behind)
+            there.0 (subst (AreOwn t) (plain.same run s (after_all s e.turn.added) e.turn) there.1)))
+        | inr shows ↦ inr (subst (λ o. StepShows run o step) (sym p.state) shows)
+      ]
 
   pub line_ends : (tell : StepsTell) (owns : StepsOwn) (session new : Session D R C) (old part : Part D R C) (step : Step) (result : Result StepAnswer Stop) → IsPlain step → session.part ≡ Some old → new.part ≡ Some part
       → names_in new ≡ names_in session → new.now ≡ session.now → ((n : ℕ) → slots_in new n ≡ slots_in session n) → LeavesBut None None (state_in chronicle old.stripe) (state_in chronicle part.stripe)
-      → StaysUnharmed disk directory chronicle old.stripe part.stripe → IsSession disk directory chronicle session → IfOk result (λ said. (run : Run) → Plainly run step (state_in chronicle old.stripe) (state_in chronicle part.stripe) said)
+      → StaysUnharmed disk directory chronicle old.stripe part.stripe → IsSession disk directory chronicle session
+      → IfOk result (λ said. (run : Run) → run.now ≡ session.now → Plainly run step (state_in chronicle old.stripe) (state_in chronicle part.stripe) said)
       → IfOk result (λ said. (run : Run) → Plays disk directory chronicle run session → StepEnds disk directory chronicle run step new said)
   line_ends tell owns session new old part step (Ok said) plain is now names kept slots leaves stays h ends = plain_ends tell owns session new old part step said plain is now names kept slots leaves stays h ends
   line_ends tell owns session new old part step (Err why) plain is now names kept slots leaves stays h ends = tt

@@ -25,7 +25,6 @@ use Rattle.stripe_actors.specs.Actors.{FallBelow, reader_numbers}
 use Rattle.stripe_actors.proofs.Telling.{was_given}
 use Rattle.stripe_core.specs.Find.{cause_records}
 use Rattle.stripe_core.specs.Stripe.{IsStripe, kept_in, seen_in, state_in}
-use Rattle.stripe_vectors.proofs.Finding.{own_covers, own_permit}
 use Rattle.stripe_read.specs.declared.reader.Reader.{Reader}
 use Rattle.stripe_read.specs.declared.opening.Opened.{Opened}
 use Rattle.stripe_read.specs.declared.opening.Opened.TheVariants as opened
@@ -41,6 +40,7 @@ use Rattle.script_run.specs.Asked as asks
 use Rattle.script_run.specs.Answers as says
 use Rattle.script_run.specs.Behind.{or_else, reader_at}
 use Rattle.script_run.specs.Laws.{StepsOwn}
+use Rattle.script_run.specs.Takes.{IsOther}
 use Rattle.cache_replay.specs.declared.session.Holding.{Holding}
 use Rattle.cache_replay.specs.declared.session.Holding.TheVariants as holding
 use Rattle.cache_replay.specs.declared.session.Part.{Part}
@@ -49,7 +49,8 @@ use Rattle.cache_replay.specs.Plays.{IsHeldAs}
 use Rattle.cache_replay.specs.ReaderLines.{PartEnds, PartMoves, PlaysPart, as_held, opened_answer, reader_opened, slots_of}
 use Rattle.cache_replay.proofs.Frames.{Changed, IsElse, OthersElse}
 use Rattle.cache_replay.proofs.ReaderFrames.{kept_leaves, miss_leaves, open_leaves, state_behind}
-use Rattle.cache_replay.proofs.ReaderLines.{Goes, as_run, goes_active, part_behind, holds_none, line_moves, none_some, some_same, still_moves}
+use Rattle.cache_replay.proofs.WholeReads.{call_covered, call_permit}
+use Rattle.cache_replay.proofs.ReaderLines.{Goes, as_run, goes_active, part_behind, holds_none, line_ends, none_some, some_same, still_moves}
 
 -- ---- what the lookup was answered
 
@@ -181,14 +182,14 @@ module _ {D R C : Type 0} (disk : DiskGhosts D) (directory : DirectoryGhosts R) 
       let recs : List Rec = open_adds s who key request (answer_in given) in
       let fall : FallBelow s.next_reader (reader_numbers s.readers) = active.part.stripe.actors.readers_fall in
       let behind : t ≡ after_all s recs = state_behind (kept_in chronicle old.stripe) (kept_in chronicle new.stripe) recs adds in
-      let p : Permit = own_permit (seen_in disk directory old.stripe).device.faults (seen_in disk directory new.stripe).device.faults opens.reads in
-      let covers = own_covers (seen_in disk directory old.stripe).device.faults (seen_in disk directory new.stripe).device.faults opens.reads in
+      let p : Permit = call_permit run.now (seen_in disk directory old.stripe).device.faults (seen_in disk directory new.stripe).device.faults opens.reads in
+      let covers = call_covered run.now (seen_in disk directory old.stripe).device.faults (seen_in disk directory new.stripe).device.faults opens.reads in
       let nobody : held_by run name ≡ None = holds_none disk directory chronicle run old before name n number free plays in
       let whose : who.0 ≡ number_of run.actors name = who_is ∙ (number ∙ ap (λ all. number_of all name) (sym plays.names)) in
       let asked_is : asks.asked run s (step.OpenRead name key request) ≡ Look who.0 key request ∷ [] =
       ap (λ (o : Option running.Holding). asks.if_free o (Look (number_of run.actors name) key request ∷ [])) nobody ∙ ap (λ m. Look m key request ∷ []) (sym whose) in
       elim (opens.does p covers plays.inside.told.vectors) [
-        | inl right ↦ inl (line_moves disk directory chronicle tell own run old new before after (step.OpenRead name key request) name n (Look who.0 key request) p recs [] s.next_reader (reader_opened given) (opened_answer given)
+        | inl right ↦ line_ends disk directory chronicle tell own run old new before after (step.OpenRead name key request) name n (Look who.0 key request) p recs [] s.next_reader (reader_opened given) (opened_answer given)
             (record {
               actor = refl;
               number = number;
@@ -197,6 +198,7 @@ module _ {D R C : Type 0} (disk : DiskGhosts D) (directory : DirectoryGhosts R) 
               behind = behind;
               quiet = quiet;
               plain = refl;
+              moment = refl;
               asks = asked_is;
               does = right.0;
               gives = refl;
@@ -205,8 +207,8 @@ module _ {D R C : Type 0} (disk : DiskGhosts D) (directory : DirectoryGhosts R) 
             (if_opened (IsReaderOf t) given right.1) active plays (open_goes old new (slots_of before) (slots_of after) n who key request given active changed adds tells)
             (ap (λ (o : Option running.Holding). says.if_free o (says.lookup_said (after_all s recs) s.next_reader (lookup_in recs))) nobody
             ∙ (ap (says.lookup_said (after_all s recs) s.next_reader) (looked_up s who key request (answer_in given))
-            ∙ opened_says (after_all s recs) s.next_reader given tells (if_behind t (after_all s recs) given behind right.1))))
-        | inr other ↦ inr (record { device = p; added = []; left = to_do (asks.asked run s (step.OpenRead name key request)); grows = nothing; other = inl (key, other) })
+            ∙ opened_says (after_all s recs) s.next_reader given tells (if_behind t (after_all s recs) given behind right.1)))
+        | inr other ↦ inr (record { device = p; added = []; left = to_do (asks.asked run s (step.OpenRead name key request)); grows = nothing; other = IsOther.vector_read key other })
       ]
 
   pub open_answers : (tell : GroupsTell) (own : StepsOwn) (old new : Part D R C) (before after : Seen Holding) (name : List ℕ) (n : ℕ) (who : Actor) (key : Key) (request : List Field) (given : Opened) (said : StepAnswer)

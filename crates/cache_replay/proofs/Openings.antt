@@ -87,7 +87,7 @@ pub opens : (old new : Kept) (who : Actor) (key : Key) (request response : List 
 opens old new who key request response pin w quiet adds does own none open_ = λ run name free is.
     let s : State = state_of old in
     let t : State = state_of new in
-    let p : Permit = permit_of 0 0 [] in
+    let p : Permit = permit_of run.now 0 0 [] in
     let added : List Rec = opened_record s who key request response pin ∷ [] in
     let there = state_with old new added adds in
     let legal : IsStep p s (Write who.0 key request response pin ∷ []) added None = record {
@@ -100,7 +100,7 @@ opens old new who key request response pin w quiet adds does own none open_ = λ
     ap (λ o. streams_opened run s o w.put) free ∙ ap (λ (b : Bool). if b then no_stream else run.streams w.put) (eq-eqb w.put s.next_put does.0) in
     record {
       turn = record { added = added; refused = None; device = p; given = [] };
-      takes = record { plain = refl; legal = subst (λ (is_ : List Intent). IsStep p s is_ added None) (sym (asks run name s who key request response pin free is)) legal; own = refl };
+      takes = record { plain = refl; moment = refl; legal = subst (λ (is_ : List Intent). IsStep p s is_ added None) (sym (asks run name s who key request response pin free is)) legal; own = refl };
       state = there;
       held = ap (λ o. or_else o (writer_at t s.next_put)) free ∙ (ap (λ (b : Bool). if b then Some (Writes s.next_put) else None) writing ∙ ap (λ (n : ℕ). Some (Writes n)) (sym does.0));
       stream = subst (λ x. IsStreamOf x w) (sym at) (new_stream w rows none open_);
@@ -114,7 +114,7 @@ refused_by : (old new : Kept) (who : Actor) (key : Key) (request response : List
 refused_by old new who key request response pin why said quiet fall same does says = λ run name free is.
     let s : State = state_of old in
     let t : State = state_of new in
-    let p : Permit = permit_of 0 0 [] in
+    let p : Permit = permit_of run.now 0 0 [] in
     let there : t ≡ s = ap state_of same in
     let legal : IsStep p s (Write who.0 key request response pin ∷ []) [] (Some why) = record {
       grows = grows_by p s (to_do (Write who.0 key request response pin ∷ [])) (record { intents = []; refused = Some why }) [] (Fails why, does p, refl);
@@ -123,7 +123,7 @@ refused_by old new who key request response pin why said quiet fall same does sa
     let none : is_writing t s.next_put ≡ false = ap (λ x. is_writing x s.next_put) there ∙ next_is_free s fall in
     record {
       turn = record { added = []; refused = Some why; device = p; given = [] };
-      takes = record { plain = refl; legal = subst (λ (is_ : List Intent). IsStep p s is_ [] (Some why)) (sym (asks run name s who key request response pin free is)) legal; own = refl };
+      takes = record { plain = refl; moment = refl; legal = subst (λ (is_ : List Intent). IsStep p s is_ [] (Some why)) (sym (asks run name s who key request response pin free is)) legal; own = refl };
       state = there;
       held = ap (λ o. or_else o (writer_at t s.next_put)) free ∙ ap (λ (b : Bool). if b then Some (Writes s.next_put) else None) none;
       stream = tt;

@@ -4,7 +4,6 @@ use Rattle.std.proofs.Common.{◌≡◌, ℕ, ◌≤◌, ◌⊎◌, inl, inr, Li
 use Rattle.std.specs.Prelude.{Option, Some, None, option_map}
 use Rattle.ats_disk.specs.Device.{State as Device}
 use Rattle.fragment_table.specs.Table.{Table}
-use Rattle.tape_base.specs.declared.digests.Digest.{Digest}
 use Rattle.cache_model.specs.State.{State}
 use Rattle.cache_model.specs.Kept.{Kept, state_of}
 use Rattle.cache_model.specs.Permit.{DeviceRead, IsAmong, Permit, ReadAll, ReadOn, StopReading, to_do}
@@ -20,7 +19,7 @@ use Rattle.stripe_read.specs.Nexts.{IsOtherNext}
 use Rattle.script_run.specs.Run.{Run, Stream}
 use Rattle.script_run.specs.Laws.{OtherShows}
 use Rattle.script_run.specs.Own.{AreOwn, IsOtherFragment}
-use Rattle.script_run.specs.Takes.{Shows}
+use Rattle.script_run.specs.Takes.{IsOther, Shows}
 use Rattle.cache_replay.specs.Getting.{Began, IsUnderway}
 use Rattle.cache_replay.proofs.ReaderFrames.{state_behind}
 
@@ -63,15 +62,15 @@ other_shown shows p s streams r other among owned reader first = by_table r.tabl
 
 -- a reader that reads on alone
 pub next_harms : {X : Type 0} (shows : OtherShows) (s : State) (r : Reader) → 1 ≤ r.next → X ⊎ IsOtherNext s r
-    → (run : Run) → AreOwn s run.streams → IsReaderOf s r → X ⊎ Shows run s (ReadOn r.reader ∷ [])
+    → (run : Run) → AreOwn s run.streams → IsReaderOf s r → X ⊎ Shows run.streams s (ReadOn r.reader ∷ [])
 next_harms shows s r first (inl stays) run owned reader = inl stays
 next_harms shows s r first (inr other) run owned reader =
     let p : Permit = own_permit 0 0 (other_read s r other ∷ []) in
-    inr (record { device = p; added = []; left = to_do (ReadOn r.reader ∷ []); grows = nothing; other = inr (other_shown shows p s run.streams r other (inl refl) owned reader first) })
+    inr (record { device = p; added = []; left = to_do (ReadOn r.reader ∷ []); grows = nothing; other = IsOther.fragment (other_shown shows p s run.streams r other (inl refl) owned reader first) })
 
 -- one that reads on some way into a step
 pub more_harms : {X : Type 0} (shows : OtherShows) (b : Began) (now : ℕ) (k : Kept) (r : Reader) (body : List ℕ) → 1 ≤ r.next → X ⊎ IsOtherNext (state_of k) r
-    → (run : Run) → IsUnderway b now k r body → AreTold (state_of b.kept) → AreOwn (state_of b.kept) run.streams → X ⊎ Shows run (state_of b.kept) b.asks
+    → (run : Run) → IsUnderway b now k r body → AreTold (state_of b.kept) → AreOwn (state_of b.kept) run.streams → X ⊎ Shows run.streams (state_of b.kept) b.asks
 more_harms shows b now k r body first (inl stays) run under told owned = inl stays
 more_harms shows b now k r body first (inr other) run under told owned =
     let x : DeviceRead = other_read (state_of k) r other in
@@ -82,7 +81,7 @@ more_harms shows b now k r body first (inr other) run under told owned =
         added = way.added;
         left = to_do (ReadAll r.reader ∷ StopReading r.reader ∷ []);
         grows = way.grows;
-        other = inr (subst (λ t. IsOtherFragment p t run.streams) (state_behind b.kept k way.added way.adds) (other_shown shows p (state_of k) run.streams r other (inl refl) way.own way.reader first));
+        other = IsOther.fragment (subst (λ t. IsOtherFragment p t run.streams) (state_behind b.kept k way.added way.adds) (other_shown shows p (state_of k) run.streams r other (inl refl) way.own way.reader first));
       })
       | inr shown ↦ inr shown
     ]

@@ -1,11 +1,14 @@
 -- Removals and flushes as lines of a run.
-use Rattle.std.proofs.Common.{◌≡◌, ℕ, List, [], ◌∷◌, refl, sym, ◌∙◌, ap, subst, arith, true, false, Result, Ok, Err}
-use Rattle.std.specs.Prelude.{IfOk, Option, Some, None, ◌==◌, Bool, if◌then◌else◌}
+use Rattle.std.proofs.Common.{◌≡◌, ℕ, ◌*◌, List, [], ◌∷◌, refl, sym, ◌∙◌, ap, subst, arith, false, inl, inr, Result, Ok, Err}
+use Rattle.std.specs.Prelude.{IfOk, Option, Some, None, ◌==◌, find}
+use Rattle.std.specs.List.{AllByRecursion}
+use Rattle.ats_disk.specs.Device.{State as Device}
+use Rattle.tape_base.specs.Geometry.{budget_of}
 use Rattle.tape_base.specs.declared.keys.Key.{Key}
 use Rattle.cache_model.specs.declared.record.Rec.{Rec}
 use Rattle.cache_model.specs.declared.record.Rec.TheVariants as rec
-use Rattle.cache_model.specs.State.{State, after_all, floor_now}
-use Rattle.cache_model.specs.Permit.{Done, Fails, Flush, Intent, Permit, Reason, Remove, Faulted, Exhausted, to_do}
+use Rattle.cache_model.specs.State.{PutRow, ReaderRow, State, after_all, floor_now}
+use Rattle.cache_model.specs.Permit.{DeviceRead, Done, Fails, Flush, Intent, IsAmong, Permit, Reason, Remove, Faulted, Exhausted, to_do}
 use Rattle.cache_model.specs.Legal.{Does, IsQuiet, IsStep}
 use Rattle.cache_model.proofs.Steps.{grows_by}
 use Rattle.cache_model.specs.Kept.{Kept, state_of, with_records}
@@ -17,7 +20,8 @@ use Rattle.cache_replay.proofs.Frames.{state_behind}
 use Rattle.stripe_core.specs.declared.refusal.Stop.{Stop}
 use Rattle.stripe_core.specs.declared.refusal.Stop.TheVariants as stop
 use Rattle.stripe_core.specs.Covers.{Covers}
-use Rattle.stripe_core.specs.Flush.{DoesAsAsked, Tells, flush_adds}
+use Rattle.stripe_core.specs.Flush.{AreOfFlush, FlushesAsAsked, Tells, flush_end}
+use Rattle.stripe_write.proofs.Flushed.{LeavesActors, flush_leaves, leaves_all}
 use Rattle.stripe_write.specs.declared.removal.Removal.{Removal}
 use Rattle.stripe_write.specs.declared.removal.Removal.TheVariants as removal
 use Rattle.stripe_write.specs.Removals.{RemovesAsIsAsked, RemovesWhere, removal_adds}
@@ -27,6 +31,7 @@ use Rattle.script_lang.specs.declared.answer.StepAnswer.{StepAnswer}
 use Rattle.script_lang.specs.declared.answer.StepAnswer.TheVariants as answer
 use Rattle.script_run.specs.Run.{Run}
 use Rattle.script_run.specs.Turn.{Turn}
+use Rattle.script_run.specs.Answers.{session_said}
 use Rattle.cache_replay.specs.Session.{LeavesBut}
 use Rattle.cache_replay.specs.Plain.{Plainly, flush_refused}
 
@@ -38,12 +43,20 @@ step_done p s i added does quiet = record { grows = grows_by p s (to_do (i ∷ [
 pub step_fails : (p : Permit) (s : State) (i : Intent) (added : List Rec) (why : Reason) → Does p s i added (Fails why) → IsQuiet (after_all s added) → IsStep p s (i ∷ []) added (Some why)
 step_fails p s i added why does quiet = record { grows = grows_by p s (to_do (i ∷ [])) (record { intents = []; refused = Some why }) added (Fails why, does, refl); quiet = quiet }
 
--- what the device did between two counts, and gave nothing
-abbrev pub between : ℕ → ℕ → Permit
-between before after = record { packed = false; faults_before = before; faults = after; reads = [] }
+-- a step at a moment that is no more than one call: what the device did between two counts, and what it gave
+abbrev pub between : (moment before after : ℕ) → List DeviceRead → Permit
+between moment before after reads = record { packed = false; now = moment; faults_before = before; faults = after; reads = reads }
 
-pub covers_between : (before after : ℕ) → Covers (between before after) before after []
-covers_between before after = record { plain = refl; from = omega arith; upto = omega arith; knows = tt }
+known_more : (x : DeviceRead) (ys xs : List DeviceRead) → AllByRecursion (λ r. IsAmong r ys) xs → AllByRecursion (λ r. IsAmong r (x ∷ ys)) xs
+known_more x ys [] h = tt
+known_more x ys (z ∷ xs) h = (inr h.0, known_more x ys xs h.1)
+
+known : (xs : List DeviceRead) → AllByRecursion (λ r. IsAmong r xs) xs
+known [] = tt
+known (x ∷ xs) = (inl refl, known_more x xs xs (known xs))
+
+pub covers_between : (moment before after : ℕ) (reads : List DeviceRead) → Covers (between moment before after reads) before after reads
+covers_between moment before after reads = record { plain = refl; from = omega arith; upto = omega arith; knows = known reads }
 
 abbrev pub turn_of : List Rec → Option Reason → Permit → Turn
 turn_of added why p = record { added = added; refused = why; device = p; given = [] }
@@ -62,84 +75,107 @@ remove_leaves s t key (removal.Removed put) is = subst (LeavesBut None None s) (
 remove_leaves s t key (removal.Absent why) is = subst (LeavesBut None None s) (sym is) (record { puts = λ q no. refl; readers = λ n no. refl; geometry = refl })
 
 pub removes : (run : Run) (s t : State) (key : Key) (result : Removal) → t ≡ after_all s (removal_adds key result) → IsQuiet t → RemovesWhere s key result → RemovesAsIsAsked s key result → Plainly run (step.Remove key) s t (removed_as result)
-removes run s t key (removal.Removed put) is quiet where_ does = record {
-  turn = turn_of (rec.Removed put key ∷ []) None (between 0 0);
-  takes = record { plain = refl; legal = step_done (between 0 0) s (Remove key) (rec.Removed put key ∷ []) (does (between 0 0)) (quiet_behind s t (rec.Removed put key ∷ []) is quiet); own = refl };
-  behind = sym is;
-  says = refl;
-}
-removes run s t key (removal.Absent why) is quiet where_ does = record {
-  turn = turn_of [] None (between 0 0);
-  takes = record { plain = refl; legal = step_done (between 0 0) s (Remove key) [] (does (between 0 0)) (quiet_behind s t [] is quiet); own = refl };
-  behind = sym is;
-  says = ap answer.Absent (sym where_.1);
-}
+removes run s t key (removal.Removed put) is quiet where_ does =
+    let p : Permit = between run.now 0 0 [] in
+    record {
+      turn = turn_of (rec.Removed put key ∷ []) None p;
+      takes = record { plain = refl; moment = refl; legal = step_done p s (Remove key) (rec.Removed put key ∷ []) (does p) (quiet_behind s t (rec.Removed put key ∷ []) is quiet); own = refl };
+      behind = sym is;
+      says = refl;
+    }
+removes run s t key (removal.Absent why) is quiet where_ does =
+    let p : Permit = between run.now 0 0 [] in
+    record {
+      turn = turn_of [] None p;
+      takes = record { plain = refl; moment = refl; legal = step_done p s (Remove key) [] (does p) (quiet_behind s t [] is quiet); own = refl };
+      behind = sym is;
+      says = ap answer.Absent (sym where_.1);
+    }
 
 -- ---- flushes
 
 abbrev pub flushed_as : Flushed → StepAnswer
 flushed_as flushed = answer.Flushed flushed.blocks flushed.cursor flushed.floor None
 
-began_leaves : (s : State) (b : Bool) (cursor floor : ℕ) → LeavesBut None None s (after_all s (if b then [] else rec.Began cursor floor ∷ []))
-began_leaves s true cursor floor = record { puts = λ q no. refl; readers = λ n no. refl; geometry = refl }
-began_leaves s false cursor floor = record { puts = λ q no. refl; readers = λ n no. refl; geometry = refl }
+flush_behind : (k new : Kept) (added : List Rec) → new ≡ with_records k added → AreOfFlush added → LeavesActors (state_of k) (state_of new)
+flush_behind k new added adds kinds = subst (LeavesActors (state_of k)) (sym (state_behind k new added adds)) (flush_leaves (state_of k) added kinds)
 
-pub flush_leaves : (s t : State) (result : Result Flushed Stop) → t ≡ after_all s (flush_adds s result) → LeavesBut None None s t
-flush_leaves s t (Ok flushed) is = subst (LeavesBut None None s) (sym is) (began_leaves s (s.filled == 0) (Rattle.cache_model.specs.State.cursor_next s) (Rattle.cache_model.specs.State.floor_next s))
-flush_leaves s t (Err (stop.DeviceFault count)) is = subst (LeavesBut None None s) (sym is) (record { puts = λ q no. refl; readers = λ n no. refl; geometry = refl })
-flush_leaves s t (Err (stop.Exhausted number)) is = subst (LeavesBut None None s) (sym is) (record { puts = λ q no. refl; readers = λ n no. refl; geometry = refl })
+leaves_but_none : (s t : State) → LeavesActors s t → LeavesBut None None s t
+leaves_but_none s t h = record {
+  puts = λ q no. ap (find (λ (p : PutRow). p.put == q)) h.puts;
+  readers = λ n no. ap (find (λ (r : ReaderRow). r.reader == n)) h.readers;
+  geometry = h.geometry;
+}
 
-began_quiet : (s : State) (b : Bool) (cursor floor : ℕ) → IsQuiet s → IsQuiet (after_all s (if b then [] else rec.Began cursor floor ∷ []))
-began_quiet s true cursor floor quiet = quiet
-began_quiet s false cursor floor quiet = quiet
+module _ (run : Run) (now : ℕ) (moment : run.now ≡ now) (k new : Kept) (before : ℕ) (after : Device) (quiet : IsQuiet (state_of k)) where
+  -- one that came to this end is the whole step
+  flush_turns : (result : Result Flushed Stop) (why : Option Reason) (said : StepAnswer) → (h : FlushesAsAsked now k new before after result)
+      → ((p : Permit) → Does p (state_of k) Flush h.added (flush_end result) → IsQuiet (after_all (state_of k) h.added) → IsStep p (state_of k) (Flush ∷ []) h.added why)
+      → ((p : Permit) → session_said run (state_of k) (state_of new) (turn_of h.added why p) step.Flush ≡ said) → Plainly run step.Flush (state_of k) (state_of new) said
+  flush_turns result why said h steps says =
+      let p : Permit = between run.now before after.faults h.reads in
+      let is : state_of new ≡ after_all (state_of k) h.added = state_behind k new h.added h.adds in
+      record {
+        turn = turn_of h.added why p;
+        takes = record {
+          plain = refl;
+          moment = refl;
+          legal = steps p (h.does p moment (covers_between run.now before after.faults h.reads)) (subst IsQuiet is ((flush_behind k new h.added h.adds h.kinds).pending ∙ quiet));
+          own = refl;
+        };
+        behind = sym is;
+        says = says p;
+      }
 
-pub flush_quiet : (s t : State) (result : Result Flushed Stop) → t ≡ after_all s (flush_adds s result) → IsQuiet s → IsQuiet t
-flush_quiet s t (Ok flushed) is quiet = subst IsQuiet (sym is) (began_quiet s (s.filled == 0) (Rattle.cache_model.specs.State.cursor_next s) (Rattle.cache_model.specs.State.floor_next s) quiet)
-flush_quiet s t (Err (stop.DeviceFault count)) is quiet = subst IsQuiet (sym is) quiet
-flush_quiet s t (Err (stop.Exhausted number)) is quiet = subst IsQuiet (sym is) quiet
+  pub flushes : (flushed : Flushed) → FlushesAsAsked now k new before after (Ok flushed) → Tells (state_of k) (state_of new) flushed
+      → Plainly run step.Flush (state_of k) (state_of new) (flushed_as flushed)
+  flushes flushed h tells =
+      let t : State = state_of new in
+      flush_turns (Ok flushed) None (flushed_as flushed) h (λ p does still. step_done p (state_of k) Flush h.added does still)
+      (λ p. ap (λ n. answer.Flushed n t.cursor (floor_now t) None) (sym tells.blocks)
+      ∙ (ap (λ n. answer.Flushed flushed.blocks n (floor_now t) None) (sym tells.cursor) ∙ ap (λ n. answer.Flushed flushed.blocks flushed.cursor n None) (sym tells.floor)))
 
-pub flushes : (run : Run) (s t : State) (before after : ℕ) (flushed : Flushed) → t ≡ after_all s (flush_adds s (Ok flushed)) → IsQuiet s → DoesAsAsked s before after (Ok flushed) → Tells s t flushed
-    → Plainly run step.Flush s t (flushed_as flushed)
-flushes run s t before after flushed is still does tells =
-    let p : Permit = between before after in
-    let quiet = flush_quiet s t (Ok flushed) is still in
-    record {
-      turn = turn_of (flush_adds s (Ok flushed)) None p;
-      takes = record { plain = refl; legal = step_done p s Flush (flush_adds s (Ok flushed)) (does p (covers_between before after)) (quiet_behind s t (flush_adds s (Ok flushed)) is quiet); own = refl };
-      behind = sym is;
-      says = ap (λ n. answer.Flushed n t.cursor (floor_now t) None) (sym tells.blocks)
-          ∙ (ap (λ n. answer.Flushed flushed.blocks n (floor_now t) None) (sym tells.cursor) ∙ ap (λ n. answer.Flushed flushed.blocks flushed.cursor n None) (sym tells.floor));
-    }
+  pub flush_faults : (count : ℕ) → FlushesAsAsked now k new before after (Err (stop.DeviceFault count)) → Plainly run step.Flush (state_of k) (state_of new) (answer.DeviceFault count None)
+  flush_faults count h =
+      flush_turns (Err (stop.DeviceFault count)) (Some (Faulted count)) (answer.DeviceFault count None) h (λ p does still. step_fails p (state_of k) Flush h.added (Faulted count) does still) (λ p. refl)
 
-pub flush_faults : (run : Run) (s t : State) (before after count : ℕ) → t ≡ after_all s (rec.Fault count ∷ []) → IsQuiet t → DoesAsAsked s before after (Err (stop.DeviceFault count)) → Plainly run step.Flush s t (answer.DeviceFault count None)
-flush_faults run s t before after count is quiet does =
-    let p : Permit = between before after in
-    record {
-      turn = turn_of (rec.Fault count ∷ []) (Some (Faulted count)) p;
-      takes = record { plain = refl; legal = step_fails p s Flush (rec.Fault count ∷ []) (Faulted count) (does p (covers_between before after)) (quiet_behind s t (rec.Fault count ∷ []) is quiet); own = refl };
-      behind = sym is;
-      says = refl;
-    }
-
-pub flush_exhausts : (run : Run) (s t : State) (before after number : ℕ) → t ≡ after_all s [] → IsQuiet t → DoesAsAsked s before after (Err (stop.Exhausted number)) → Plainly run step.Flush s t (answer.Refused refused.Exhausted None)
-flush_exhausts run s t before after number is quiet does =
-    let p : Permit = between before after in
-    record {
-      turn = turn_of [] (Some Exhausted) p;
-      takes = record { plain = refl; legal = step_fails p s Flush [] Exhausted (does p (covers_between before after)) (quiet_behind s t [] is quiet); own = refl };
-      behind = sym is;
-      says = refl;
-    }
+  pub flush_exhausts : (number : ℕ) → FlushesAsAsked now k new before after (Err (stop.Exhausted number)) → Plainly run step.Flush (state_of k) (state_of new) (answer.Refused refused.Exhausted None)
+  flush_exhausts number h =
+      flush_turns (Err (stop.Exhausted number)) (Some Exhausted) (answer.Refused refused.Exhausted None) h (λ p does still. step_fails p (state_of k) Flush h.added Exhausted does still) (λ p. refl)
 
 -- a flush that is refused
-pub flush_refuses : (k new : Kept) (before after : ℕ) (why : Refusal) → Answers {X = Flushed} (Err why) (λ r. new ≡ with_records k (flush_adds (state_of k) r)) (new ≡ k) → IsQuiet (state_of k)
-    → Answers {X = Flushed} (Err why) (DoesAsAsked (state_of k) before after) (Unit {0}) → IfOk (flush_refused why) (λ said. (run : Run) → Plainly run step.Flush (state_of k) (state_of new) said)
-flush_refuses k new before after (refusal.DeviceFault count) adds quiet does = λ run. flush_faults run (state_of k) (state_of new) before after count (state_behind k new (rec.Fault count ∷ []) adds) (flush_quiet (state_of k) (state_of new) (Err (stop.DeviceFault count)) (state_behind k new (rec.Fault count ∷ []) adds) quiet) does
-flush_refuses k new before after (refusal.Exhausted number) adds quiet does = λ run. flush_exhausts run (state_of k) (state_of new) before after number (state_behind k new [] adds) (flush_quiet (state_of k) (state_of new) (Err (stop.Exhausted number)) (state_behind k new [] adds) quiet) does
-flush_refuses k new before after (refusal.Memory e) adds quiet does = tt
-flush_refuses k new before after refusal.TooManyWriters adds quiet does = tt
-flush_refuses k new before after refusal.TooManyFragments adds quiet does = tt
-flush_refuses k new before after (refusal.VectorTooLarge size) adds quiet does = tt
-flush_refuses k new before after (refusal.Lost index cause) adds quiet does = tt
-flush_refuses k new before after refusal.Sealed adds quiet does = tt
-flush_refuses k new before after refusal.NoSuchWriter adds quiet does = tt
+pub flush_refuses : (now : ℕ) (k new : Kept) (before : ℕ) (after : Device) (why : Refusal) → Answers {X = Flushed} (Err why) (FlushesAsAsked now k new before after) (new ≡ k) → IsQuiet (state_of k)
+    → IfOk (flush_refused why) (λ said. (run : Run) → run.now ≡ now → Plainly run step.Flush (state_of k) (state_of new) said)
+flush_refuses now k new before after (refusal.DeviceFault count) h quiet = λ run moment. flush_faults run now moment k new before after quiet count h
+flush_refuses now k new before after (refusal.Exhausted number) h quiet = λ run moment. flush_exhausts run now moment k new before after quiet number h
+flush_refuses now k new before after (refusal.Memory e) h quiet = tt
+flush_refuses now k new before after refusal.TooManyWriters h quiet = tt
+flush_refuses now k new before after refusal.TooManyFragments h quiet = tt
+flush_refuses now k new before after (refusal.VectorTooLarge size) h quiet = tt
+flush_refuses now k new before after (refusal.Lost index cause) h quiet = tt
+flush_refuses now k new before after refusal.Sealed h quiet = tt
+flush_refuses now k new before after refusal.NoSuchWriter h quiet = tt
+
+-- what it leaves to a cache: nothing is pending, and the page is as long as any piece
+module _ (now : ℕ) (k new : Kept) (before : ℕ) (after : Device) where
+  flush_leaves_all : (result : Result Flushed Refusal) → Answers result (FlushesAsAsked now k new before after) (new ≡ k) → LeavesActors (state_of k) (state_of new)
+  flush_leaves_all (Ok flushed) h = flush_behind k new h.added h.adds h.kinds
+  flush_leaves_all (Err (refusal.DeviceFault count)) h = flush_behind k new h.added h.adds h.kinds
+  flush_leaves_all (Err (refusal.Exhausted number)) h = flush_behind k new h.added h.adds h.kinds
+  flush_leaves_all (Err (refusal.Memory e)) h = subst (λ (x : Kept). LeavesActors (state_of k) (state_of x)) (sym h) (leaves_all (state_of k))
+  flush_leaves_all (Err refusal.TooManyWriters) h = absurd h
+  flush_leaves_all (Err refusal.TooManyFragments) h = absurd h
+  flush_leaves_all (Err (refusal.VectorTooLarge size)) h = absurd h
+  flush_leaves_all (Err (refusal.Lost index cause)) h = absurd h
+  flush_leaves_all (Err refusal.Sealed) h = absurd h
+  flush_leaves_all (Err refusal.NoSuchWriter) h = absurd h
+
+  pub flush_leaves_puts : (result : Result Flushed Refusal) → Answers result (FlushesAsAsked now k new before after) (new ≡ k) → LeavesBut None None (state_of k) (state_of new)
+  flush_leaves_puts result h = leaves_but_none (state_of k) (state_of new) (flush_leaves_all result h)
+
+  pub flush_quiet : (result : Result Flushed Refusal) → Answers result (FlushesAsAsked now k new before after) (new ≡ k) → IsQuiet (state_of k) → IsQuiet (state_of new)
+  flush_quiet result h quiet = (flush_leaves_all result h).pending ∙ quiet
+
+  pub flush_page : (size : ℕ) (result : Result Flushed Refusal) → Answers result (FlushesAsAsked now k new before after) (new ≡ k)
+      → size ≡ 512 * budget_of (state_of k).geometry → size ≡ 512 * budget_of (state_of new).geometry
+  flush_page size result h page = page ∙ ap (λ g. 512 * budget_of g) (sym (flush_leaves_all result h).geometry)

@@ -1,7 +1,6 @@
 -- A body that is fed to a new writer, which is then closed.
-use Rattle.std.proofs.Common.{◌≡◌, ℕ, ◌+◌, ◌≤◌, List, [], ◌∷◌, ◌++◌, length, refl, sym, ◌∙◌, ap, subst, arith, true, false, inl, inr, Ok, Err, Result}
+use Rattle.std.proofs.Common.{◌≡◌, ℕ, ◌+◌, ◌≤◌, List, [], ◌∷◌, ◌++◌, length, refl, sym, ◌∙◌, ap, subst, arith, true, false, ◌⊎◌, inl, inr, Ok, Err, Result}
 use Rattle.std.specs.Prelude.{Option, Some, None, option_map, unwrap_or, filter}
-use Rattle.std.specs.List.{AllByRecursion}
 use Rattle.std.proofs.lemmas.List.{append-nil, append_assoc, length-append}
 use Rattle.tape_base.specs.declared.keys.Key.{Key}
 use Rattle.fragment_table.specs.Table.{TableRow, total_length}
@@ -13,7 +12,9 @@ use Rattle.cache_model.specs.Kept.{Kept, state_of, with_records}
 use Rattle.cache_model.specs.Verdict.{cause_of_piece, cuts_of}
 use Rattle.cache_model.specs.Permit.{Commit, Exhausted, Fails, Faulted, Finish, Intent, Lost, ManyFragments, Permit, Reason, TooLarge, Weigh, Work, is_cleanup, to_do}
 use Rattle.cache_model.specs.Legal.{Advances, MayGrow, is_writing, more, nothing}
-use Rattle.cache_model.specs.Vectors.{AreTold, GroupsTell}
+use Rattle.cache_model.specs.Tape.{IsSound}
+use Rattle.cache_model.specs.Vectors.{AreTold, GroupsTell, IsOtherVector}
+use Rattle.cache_model.proofs.Onward.{later_advanced}
 use Rattle.cache_model.proofs.Steps.{after_all-append, grows_on}
 use Rattle.stripe_core.specs.declared.refusal.Refusal.{Refusal}
 use Rattle.stripe_core.specs.declared.refusal.Refusal.TheVariants as refusal
@@ -24,25 +25,51 @@ use Rattle.stripe_write.specs.Writers.{IsAtHand, IsWriterOf}
 use Rattle.stripe_write.specs.Closes.{Closes, ClosesAsAsked, ClosesWhere, IsComplete}
 use Rattle.stripe_write.specs.Closing.{SpendsAll, close_intents, rest_intents, rest_rows, rows_at_close}
 use Rattle.stripe_write.proofs.Ended.{open_put}
+use Rattle.stripe_write.proofs.Spending.{covers_first, covers_last}
 use Rattle.script_lang.specs.declared.answer.StepAnswer.TheVariants as answer
 use Rattle.script_lang.specs.declared.answer.Refused.TheVariants as refused
 use Rattle.script_run.specs.Asked.{body_intents, count_with, feed_intents, rest_behind, whole_fragments}
 use Rattle.script_run.specs.Asked.{close_intents as closing_of, rest_intents as resting_of}
 use Rattle.script_run.specs.Answers.{put_said, said}
 use Rattle.cache_replay.specs.Feeding.{FeedsAsAsked, FeedsWhere, Feeds, IsCutUp, feed_end}
-use Rattle.cache_replay.specs.Putting.{Fills, FillsAsAsked, FillsWhere, IsFresh, IsOver, ShowsBody, left_behind, receipt_answer}
+use Rattle.cache_replay.specs.Putting.{Fills, FillsAsAsked, FillsWhere, IsFresh, IsOver, IsVectorPair, ShowsPair, left_behind, receipt_answer}
 use Rattle.cache_replay.proofs.Endings.{AreClosing, EndsInCommit, IsEnded, ended_along, key_of, rows_then}
 
 -- ---- vectors and puts may be kept along the way
 
-pub told_along : GroupsTell → {p : Permit} {s : State} {w after : Work} {recs : List Rec} → MayGrow p s w recs after → AreTold s → AreTold (after_all s recs)
-told_along tells nothing told = told
-told_along tells {p} {s} {w} {after} (more {rest = rest} added between one others) told =
-    subst AreTold (sym (after_all-append s added rest)) (told_along tells others (told_first tells p s w.intents w.refused added between one told))
-  where
-    told_first : GroupsTell → (p : Permit) (s : State) (is : List Intent) (why : Option Reason) (added : List Rec) (between : Work) → Advances p s is why added between → AreTold s → AreTold (after_all s added)
-    told_first tells p s [] why added between h told = absurd h
-    told_first tells p s (i ∷ is) why added between h told = tells p s i added h.0 told h.1
+-- or some way along it a copied vector shows two documents of one SHA-256
+pub record ShownAlong (p : Permit) (s : State) (w : Work) : Type 0 where
+  pub before : List Rec
+  pub left : Work
+  pub grows : MayGrow p s w before left
+  pub other : IsOtherVector p (after_all s before)
+
+told_first : GroupsTell → (p : Permit) (s : State) (is : List Intent) (why : Option Reason) (added : List Rec) (between : Work) → Advances p s is why added between → IsSound s → AreTold s
+    → AreTold (after_all s added) ⊎ IsOtherVector p s
+told_first tells p s [] why added between h sound told = absurd h
+told_first tells p s (i ∷ is) why added between h sound told = tells p s i added h.0 sound told h.1
+
+shown_later : (p : Permit) (s : State) (w between : Work) (added : List Rec) → Advances p s w.intents w.refused added between → ShownAlong p (after_all s added) between → ShownAlong p s w
+shown_later p s w between added one h = record {
+  before = added ++ h.before;
+  left = h.left;
+  grows = more added between one h.grows;
+  other = subst (IsOtherVector p) (sym (after_all-append s added h.before)) h.other;
+}
+
+pub told_along : GroupsTell → {p : Permit} {s : State} {w after : Work} {recs : List Rec} → MayGrow p s w recs after → IsSound s → AreTold s → AreTold (after_all s recs) ⊎ ShownAlong p s w
+told_along tells nothing sound told = inl told
+told_along tells {p} {s} {w} {after} (more {rest = rest} added between one others) sound told =
+    elim (told_first tells p s w.intents w.refused added between one sound told) [
+      | inl there ↦ elim (told_along tells others (later_advanced p s w.intents w.refused added between one sound).sound there) [
+        | inl all ↦ inl (subst AreTold (sym (after_all-append s added rest)) all)
+        | inr shown ↦ inr (shown_later p s w between added one shown)
+      ]
+      | inr other ↦ inr (record { before = []; left = w; grows = nothing; other = other })
+    ]
+
+pub copied_pair : (p : Permit) (s : State) (asks : List Intent) → ShownAlong p s (to_do asks) → ShowsPair p s asks
+copied_pair p s asks h = record { added = h.before; left = h.left; grows = h.grows; other = IsVectorPair.copied_other h.other }
 
 -- ---- what closing is asked
 
@@ -160,11 +187,20 @@ module _ (p : Permit) (old mid new : Kept) (w v : Writer) (body : List ℕ) (tel
     pub fed_grows : (rest : List Intent) → MayGrow p before (to_do (body_intents f w.put body ++ rest)) fed.added (to_do (close_intents v ++ rest))
     fed_grows rest = subst (λ is. MayGrow p before (to_do is) fed.added (to_do (close_intents v ++ rest))) (all_are rest) (fed.does (close_intents v ++ rest) None)
 
-    pub fed_told : AreTold before → AreTold (state_of mid)
-    fed_told told = subst AreTold (sym state_mid) (told_along tells (fed_grows []) told)
+    pub fed_told : IsSound before → AreTold before → (rest : List Intent) → AreTold (state_of mid) ⊎ ShowsPair p before (body_intents f w.put body ++ rest)
+    fed_told sound told rest =
+        elim (told_along tells (fed_grows rest) sound told) [
+          | inl there ↦ inl (subst AreTold (sym state_mid) there)
+          | inr shown ↦ inr (copied_pair p before (body_intents f w.put body ++ rest) shown)
+        ]
 
-    pub shown : IsCollision p (state_of mid) v.key → ShowsBody p before w.put body
-    shown other = record { added = fed.added; left = λ rest. to_do (close_intents v ++ rest); key = v.key; grows = fed_grows; other = subst (λ x. IsCollision p x v.key) state_mid other }
+    pub shown : IsCollision p (state_of mid) v.key → (rest : List Intent) → ShowsPair p before (body_intents f w.put body ++ rest)
+    shown other rest = record {
+      added = fed.added;
+      left = to_do (close_intents v ++ rest);
+      grows = fed_grows rest;
+      other = IsVectorPair.read_other v.key (subst (λ x. IsCollision p x v.key) state_mid other);
+    }
 
     both_grow : (b : List Rec) (why : Option Reason) (rest : List Intent) → MayGrow p (state_of mid) (to_do (close_intents v ++ rest)) b (left_behind rest why) → MayGrow p before (to_do (body_intents f w.put body ++ rest)) (fed.added ++ b) (left_behind rest why)
     both_grow b why rest h = grows_on (fed_grows rest) (subst (λ x. MayGrow p x (to_do (close_intents v ++ rest)) b (left_behind rest why)) state_mid h)
@@ -203,22 +239,26 @@ module _ (p : Permit) (old mid new : Kept) (w v : Writer) (body : List ℕ) (tel
 
 -- ---- all is fed, and the writer closed
 
-module _ (before mid after : ℕ) (old now new : Kept) (w v : Writer) (body : List ℕ) (tells : GroupsTell) (fresh : IsFresh w) (number : v.put ≡ w.put)
+module _ (moment before mid after : ℕ) (old now new : Kept) (w v : Writer) (body : List ℕ) (tells : GroupsTell) (sound : IsSound (state_of old)) (fresh : IsFresh w) (number : v.put ≡ w.put)
     (cut : IsCutUp (state_of old).geometry.fragment w body v) (own_mid : IsWriterOf (state_of now) v) (writing_mid : is_writing (state_of now) v.put ≡ true)
-    (fed : FeedsAsAsked before mid old now w body None) (earlier : before ≤ mid) (later : mid ≤ after) where
-  closed_asks : (result : Result Receipt Refusal) → ClosesAsAsked mid after now new v result → ClosesWhere (state_of now) (state_of new) v result
-      → ((e : Rattle.std.specs.declared.alloc.AllocError.AllocError) → result ≡ Err (refusal.Memory e) → ⊥) → FillsAsAsked before after old new w body result
+    (fed : FeedsAsAsked moment before mid old now w body None) (earlier : before ≤ mid) (later : mid ≤ after) where
+  closed_asks : (result : Result Receipt Refusal) → ClosesAsAsked moment mid after now new v result → ClosesWhere (state_of now) (state_of new) v result
+      → ((e : Rattle.std.specs.declared.alloc.AllocError.AllocError) → result ≡ Err (refusal.Memory e) → ⊥) → FillsAsAsked moment before after old new w body result
   closed_asks result closes where_ memory = record {
-    reads = closes.reads;
-    does = λ p covers told.
-        let here : Feeds p old now w body None = fed.does p (record { plain = covers.plain; from = covers.from; upto = omega (arith, later, covers.upto); knows = tt }) in
-        elim (closes.does p (record { plain = covers.plain; from = omega (arith, earlier, covers.from); upto = covers.upto; knows = covers.knows }) (fed_told p old now new w v body tells fresh number cut own_mid writing_mid here told)) [
-          | inl c ↦ inl (closed_fills p old now new w v body tells fresh number cut own_mid writing_mid here result c where_ memory)
-          | inr other ↦ inr (shown p old now new w v body tells fresh number cut own_mid writing_mid here other)
+    reads = fed.reads ++ closes.reads;
+    does = λ p at covers told rest.
+        let here : Feeds p old now w body None = fed.does p at (covers_first p before mid after fed.reads closes.reads later covers) in
+        elim (fed_told p old now new w v body tells fresh number cut own_mid writing_mid here sound told rest) [
+          | inl there ↦ elim (closes.does p at (covers_last p before mid after fed.reads closes.reads earlier covers) there) [
+            | inl c ↦ inl (closed_fills p old now new w v body tells fresh number cut own_mid writing_mid here result c where_ memory)
+            | inr other ↦ inr (shown p old now new w v body tells fresh number cut own_mid writing_mid here other rest)
+          ]
+          | inr pair ↦ inr pair
         ];
   }
 
-  pub closes_fill : (result : Result Receipt Refusal) → ClosesAsAsked mid after now new v result → ClosesWhere (state_of now) (state_of new) v result → FillsWhere before after old new w body result
+  pub closes_fill : (result : Result Receipt Refusal) → ClosesAsAsked moment mid after now new v result → ClosesWhere (state_of now) (state_of new) v result
+      → FillsWhere moment before after old new w body result
   closes_fill (Err (refusal.Memory e)) closes where_ = tt
   closes_fill (Ok receipt) closes where_ = closed_asks (Ok receipt) closes where_ (λ e h. cc)
   closes_fill (Err (refusal.VectorTooLarge bytes)) closes where_ = closed_asks (Err (refusal.VectorTooLarge bytes)) closes where_ (λ e h. cc)
@@ -232,19 +272,20 @@ module _ (before mid after : ℕ) (old now new : Kept) (w v : Writer) (body : Li
 
 -- ---- a write is refused
 
-module _ (before after : ℕ) (old new : Kept) (w : Writer) (body : List ℕ) (fresh : IsFresh w) where
+module _ (moment before after : ℕ) (old new : Kept) (w : Writer) (body : List ℕ) (fresh : IsFresh w) where
   abbrev fragment : ℕ
   fragment = (state_of old).geometry.fragment
 
   feed_is : feed_intents fragment w.put (length w.table.rows) (w.gathered.items ++ body) ≡ feed_intents fragment w.put 0 body
   feed_is = ap (λ (rows : List TableRow). feed_intents fragment w.put (length rows) (w.gathered.items ++ body)) fresh.rows ∙ ap (λ xs. feed_intents fragment w.put 0 (xs ++ body)) fresh.gathered
 
-  fails : (result : Refusal) (why : Reason) → FeedsAsAsked before after old new w body (Some result) → feed_end w.put (Some result) ≡ Fails why
-      → said (state_of new) None (Some why) (put_said (state_of new) w.put) ≡ receipt_answer (Err result) → IsOver (state_of new) w.put (Some why) → FillsAsAsked before after old new w body (Err result)
+  fails : (result : Refusal) (why : Reason) → FeedsAsAsked moment before after old new w body (Some result) → feed_end w.put (Some result) ≡ Fails why
+      → said (state_of new) None (Some why) (put_said (state_of new) w.put) ≡ receipt_answer (Err result) → IsOver (state_of new) w.put (Some why)
+      → FillsAsAsked moment before after old new w body (Err result)
   fails result why fed end says over = record {
-    reads = [];
-    does = λ p covers told.
-        let here : Feeds p old new w body (Some result) = fed.does p covers in
+    reads = fed.reads;
+    does = λ p at covers told behind.
+        let here : Feeds p old new w body (Some result) = fed.does p at covers in
         let closing : List Intent = closing_of w.put (whole_fragments fragment body) (rest_behind fragment body) in
         let does : SpendsAll p (state_of old) (feed_intents fragment w.put 0 body) here.added (Fails why) =
         subst (λ is. SpendsAll p (state_of old) is here.added (Fails why)) feed_is (subst (λ e. SpendsAll p (state_of old) (feed_intents fragment w.put (length w.table.rows) (w.gathered.items ++ body)) here.added e) end here.does) in
@@ -261,7 +302,7 @@ module _ (before after : ℕ) (old new : Kept) (w : Writer) (body : List ℕ) (f
         });
   }
 
-  pub refused_fill : (why : Refusal) → FeedsWhere before after old new w body (Some why) → FillsWhere before after old new w body (Err why)
+  pub refused_fill : (why : Refusal) → FeedsWhere moment before after old new w body (Some why) → FillsWhere moment before after old new w body (Err why)
   refused_fill refusal.TooManyFragments fed = fails refusal.TooManyFragments (ManyFragments w.put) fed refl refl tt
   refused_fill (refusal.DeviceFault count) fed = fails (refusal.DeviceFault count) (Faulted count) fed refl refl tt
   refused_fill (refusal.Exhausted number) fed = fails (refusal.Exhausted number) Exhausted fed refl refl tt

@@ -22,7 +22,7 @@ use Rattle.script_run.specs.Run.{Run, Stream}
 use Rattle.script_run.specs.Answers.{session_said}
 use Rattle.script_run.specs.Behind.{in_session, with_bytes}
 use Rattle.script_run.specs.Laws.{StepsOwn}
-use Rattle.script_run.specs.Takes.{StepShows}
+use Rattle.script_run.specs.Takes.{IsOther, StepShows}
 use Rattle.cache_replay.specs.declared.session.Session.{Session}
 use Rattle.cache_replay.specs.declared.session.Part.{Part}
 use Rattle.cache_replay.specs.declared.session.Holding.{Holding}
@@ -30,37 +30,48 @@ use Rattle.cache_replay.specs.declared.stop.Stop.{Stop}
 use Rattle.cache_replay.specs.Session.{IsActive, IsHeld, IsPart, IsSession, LeavesBut, names_in, slots_in}
 use Rattle.cache_replay.specs.Plays.{Plays, PlaysAt, PlaysIn, StepEnds}
 use Rattle.cache_replay.specs.Plain.{Plainly}
-use Rattle.cache_replay.specs.Putting.{PutsAsAsked, PutsWhere, receipt_answer}
+use Rattle.cache_replay.specs.Putting.{IsVectorPair, PutsAsAsked, PutsWhere, receipt_answer}
 use Rattle.cache_replay.specs.WriterLines.{closed_answer}
 use Rattle.cache_replay.proofs.Frames.{some_is, state_behind}
 use Rattle.cache_replay.proofs.Lines.{free_of, next_is_free}
-use Rattle.cache_replay.proofs.OnSession.{active, moves, own_behind, playing, told_behind}
+use Rattle.cache_replay.proofs.OnSession.{StandsBehind, active, moves, playing, stands_behind}
 use Rattle.cache_replay.proofs.Plain.{AllElse, still_held, still_plays}
+use Rattle.cache_replay.proofs.PlainTurns.{between, covers_between}
 use Rattle.cache_replay.proofs.Unharming.{session_unharmed}
-use Rattle.cache_replay.proofs.WholeReads.{call_covered, call_permit}
 
 -- ---- what a put is for a cache
 
 abbrev Ends : Run → (s t : State) → Key → List ℕ → (request response : List Field) → StepAnswer → Type 0
 Ends run s t key body request response said = Plainly run (step.Put key body request response) s t said ⊎ StepShows run (Some s) (step.Put key body request response)
 
-module _ (before after : ℕ) (k new : Kept) (key : Key) (body : List ℕ) (request response : List Field) (run : Run) (told : AreTold (state_of k)) where
-  asked_puts : (result : Result Receipt Refusal) (said : StepAnswer) → receipt_answer result ≡ said → PutsAsAsked before after k new key body request response result
+-- the pair is one that the line shows
+shown_in : (p : Permit) (s : State) (streams : ℕ → Stream) → IsVectorPair p s → IsOther p s streams
+shown_in p s streams (IsVectorPair.read_other key other) = IsOther.vector_read key other
+shown_in p s streams (IsVectorPair.copied_other other) = IsOther.vector_copied other
+
+module _ (now before after : ℕ) (k new : Kept) (key : Key) (body : List ℕ) (request response : List Field) (run : Run) (moment : run.now ≡ now) (told : AreTold (state_of k)) where
+  asked_puts : (result : Result Receipt Refusal) (said : StepAnswer) → receipt_answer result ≡ said → PutsAsAsked now before after k new key body request response result
       → Ends run (state_of k) (state_of new) key body request response said
   asked_puts result said is puts =
-      let p : Permit = call_permit before after puts.reads in
-      elim (puts.does p (call_covered before after puts.reads) told) [
+      let p : Permit = between run.now before after puts.reads in
+      elim (puts.does p moment (covers_between run.now before after puts.reads) told) [
         | inl x ↦ inl (record {
           turn = record { added = x.added; refused = x.why; device = p; given = [] };
-          takes = record { plain = refl; legal = x.step; own = refl };
+          takes = record { plain = refl; moment = refl; legal = x.step; own = refl };
           behind = sym (state_behind k new x.added x.adds);
           says = x.says ∙ is;
         })
-        | inr shows ↦ inr (record { device = p; added = shows.added; left = shows.left; grows = shows.grows; other = inl (shows.key, shows.other) })
+        | inr pair ↦ inr (record {
+          device = p;
+          added = pair.added;
+          left = pair.left;
+          grows = pair.grows;
+          other = shown_in p (after_all (state_of k) pair.added) (with_bytes run.streams (state_of k).next_put body) pair.other;
+        })
       ]
 
   -- a put that is answered
-  pub puts : (result : Result Receipt Refusal) (said : StepAnswer) → closed_answer result ≡ Some said → PutsWhere before after k new key body request response result
+  pub puts : (result : Result Receipt Refusal) (said : StepAnswer) → closed_answer result ≡ Some said → PutsWhere now before after k new key body request response result
       → Ends run (state_of k) (state_of new) key body request response said
   puts (Ok receipt) said is h = asked_puts (Ok receipt) said (some_is StepAnswer (receipt_answer (Ok receipt)) said is) h
   puts (Err (refusal.Memory e)) said is h = cc is
@@ -97,43 +108,49 @@ module _ {D R C : Type 0} (disk : DiskGhosts D) (directory : DirectoryGhosts R) 
       let a = active disk directory chronicle session old is h in
       record { part = part; held = still_held (Some s.next_put) None s (state_in chronicle new.stripe) (slots_in session) leaves (none_writes old (slots_in session) a) a.held; apart = a.apart }
 
-  put_plays : (tell : StepsTell) (owns : StepsOwn) (run : Run) (session : Session D R C) (old part : Part D R C) (key : Key) (body : List ℕ) (request response : List Field) (said : StepAnswer) → session.part ≡ Some old
+  put_plays : (run : Run) (session : Session D R C) (old part : Part D R C) (key : Key) (body : List ℕ) (request response : List Field) (said : StepAnswer) → session.part ≡ Some old
       → LeavesBut (Some (state_in chronicle old.stripe).next_put) None (state_in chronicle old.stripe) (state_in chronicle part.stripe) → IsSession disk directory chronicle session → Plays disk directory chronicle run session
       → (x : Plainly run (step.Put key body request response) (state_in chronicle old.stripe) (state_in chronicle part.stripe) said)
+      → StandsBehind run (state_in chronicle old.stripe) (state_in chronicle part.stripe) x.turn (step.Put key body request response)
       → PlaysIn (in_session run (state_in chronicle old.stripe) (after_all (state_in chronicle old.stripe) x.turn.added) x.turn (step.Put key body request response)) (state_in chronicle part.stripe) (slots_in session)
-  put_plays tell owns run session old part key body request response said is leaves h plays x =
+  put_plays run session old part key body request response said is leaves h plays x there =
       let s : State = state_in chronicle old.stripe in
       let t : State = state_in chronicle part.stripe in
-      let a = active disk directory chronicle session old is h in
-      let p = playing disk directory chronicle run session old is plays in
       let later : Run = in_session run s (after_all s x.turn.added) x.turn (step.Put key body request response) in
-      still_plays (Some s.next_put) None run later s t (slots_in session) leaves (none_writes old (slots_in session) a) (λ q other. other_stream run.streams s.next_put q body other) (λ m. refl) (ap Some x.behind)
-      (told_behind tell run s t x.turn (step.Put key body request response) x.takes x.behind p.told)
-      (own_behind owns run s t x.turn (step.Put key body request response) (slots_in session) x.takes x.behind a.part.quiet a.held p) p
+      still_plays (Some s.next_put) None run later s t (slots_in session) leaves (none_writes old (slots_in session) (active disk directory chronicle session old is h))
+      (λ q other. other_stream run.streams s.next_put q body other) (λ m. refl) (ap Some x.behind) there.0 there.1 (playing disk directory chronicle run session old is plays)
 
   put_moves : (tell : StepsTell) (owns : StepsOwn) (session new : Session D R C) (old part : Part D R C) (key : Key) (body : List ℕ) (request response : List Field) (said : StepAnswer) → session.part ≡ Some old → new.part ≡ Some part
       → names_in new ≡ names_in session → new.now ≡ session.now → slots_in new ≡ slots_in session → LeavesBut (Some (state_in chronicle old.stripe).next_put) None (state_in chronicle old.stripe) (state_in chronicle part.stripe)
-      → StaysUnharmed disk directory chronicle old.stripe part.stripe → IsSession disk directory chronicle session → ((run : Run) → AreTold (state_in chronicle old.stripe) → Ends run (state_in chronicle old.stripe) (state_in chronicle part.stripe) key body request response said)
+      → StaysUnharmed disk directory chronicle old.stripe part.stripe → IsSession disk directory chronicle session
+      → ((run : Run) → run.now ≡ session.now → AreTold (state_in chronicle old.stripe) → Ends run (state_in chronicle old.stripe) (state_in chronicle part.stripe) key body request response said)
       → (run : Run) → Plays disk directory chronicle run session → StepEnds disk directory chronicle run (step.Put key body request response) new said
   put_moves tell owns session new old part key body request response said is now names kept slots leaves stays h ends run plays =
       let s : State = state_in chronicle old.stripe in
+      let t : State = state_in chronicle part.stripe in
+      let line = step.Put key body request response in
+      let a = active disk directory chronicle session old is h in
       let p = playing disk directory chronicle run session old is plays in
-      elim (ends run p.told) [
-        | inl x ↦
-            let later : Run = in_session run s (after_all s x.turn.added) x.turn (step.Put key body request response) in
-            inl (moves disk directory chronicle run s x.turn (step.Put key body request response) new said p.state x.takes (ap (λ u. session_said run s u x.turn (step.Put key body request response)) x.behind ∙ x.says) (record {
-              names = plays.names ∙ sym names;
-              now = plays.now ∙ sym kept;
-              at = subst (λ o. PlaysAt disk directory chronicle later o (slots_in new)) (sym now)
-                  (subst (PlaysIn later (state_in chronicle part.stripe)) (sym slots) (put_plays tell owns run session old part key body request response said is leaves h plays x));
-              unharmed = session_unharmed disk directory chronicle session new old part is now stays plays.unharmed;
-            }))
-        | inr shows ↦ inr (subst (λ o. StepShows run o (step.Put key body request response)) (sym p.state) shows)
+      elim (ends run plays.now p.told) [
+        | inl x ↦ elim (stands_behind tell owns run s t x.turn line (slots_in session) x.takes x.behind a.part.stripe.pieces.sound a.part.quiet a.held p) [
+          | inl there ↦
+              let later : Run = in_session run s (after_all s x.turn.added) x.turn line in
+              inl (moves disk directory chronicle run s x.turn line new said p.state x.takes (ap (λ u. session_said run s u x.turn line) x.behind ∙ x.says) (record {
+                names = plays.names ∙ sym names;
+                now = plays.now ∙ sym kept;
+                at = subst (λ o. PlaysAt disk directory chronicle later o (slots_in new)) (sym now)
+                    (subst (PlaysIn later t) (sym slots) (put_plays run session old part key body request response said is leaves h plays x there));
+                unharmed = session_unharmed disk directory chronicle session new old part is now stays plays.unharmed;
+              }))
+          | inr shows ↦ inr (subst (λ o. StepShows run o line) (sym p.state) shows)
+        ]
+        | inr shows ↦ inr (subst (λ o. StepShows run o line) (sym p.state) shows)
       ]
 
   pub put_ends : (tell : StepsTell) (owns : StepsOwn) (session new : Session D R C) (old part : Part D R C) (key : Key) (body : List ℕ) (request response : List Field) (result : Result StepAnswer Stop) → session.part ≡ Some old → new.part ≡ Some part
       → names_in new ≡ names_in session → new.now ≡ session.now → slots_in new ≡ slots_in session → LeavesBut (Some (state_in chronicle old.stripe).next_put) None (state_in chronicle old.stripe) (state_in chronicle part.stripe)
-      → StaysUnharmed disk directory chronicle old.stripe part.stripe → IsSession disk directory chronicle session → IfOk result (λ said. (run : Run) → AreTold (state_in chronicle old.stripe) → Ends run (state_in chronicle old.stripe) (state_in chronicle part.stripe) key body request response said)
+      → StaysUnharmed disk directory chronicle old.stripe part.stripe → IsSession disk directory chronicle session
+      → IfOk result (λ said. (run : Run) → run.now ≡ session.now → AreTold (state_in chronicle old.stripe) → Ends run (state_in chronicle old.stripe) (state_in chronicle part.stripe) key body request response said)
       → IfOk result (λ said. (run : Run) → Plays disk directory chronicle run session → StepEnds disk directory chronicle run (step.Put key body request response) new said)
   put_ends tell owns session new old part key body request response (Ok said) is now names kept slots leaves stays h ends = put_moves tell owns session new old part key body request response said is now names kept slots leaves stays h ends
   put_ends tell owns session new old part key body request response (Err why) is now names kept slots leaves stays h ends = tt

@@ -1,5 +1,5 @@
 -- A whole put: it is opened and ends, or is not opened.
-use Rattle.std.proofs.Common.{◌≡◌, ℕ, ◌≤◌, List, [], ◌∷◌, ◌++◌, length, refl, sym, ◌∙◌, ap, subst, arith, false, inl, inr, Ok, Err, Result}
+use Rattle.std.proofs.Common.{◌≡◌, ℕ, ◌≤◌, List, [], ◌∷◌, ◌++◌, length, refl, sym, ◌∙◌, ap, subst, arith, false, ◌⊎◌, inl, inr, Ok, Err, Result}
 use Rattle.std.specs.Prelude.{Some, None, filter}
 use Rattle.std.proofs.lemmas.List.{append_assoc}
 use Rattle.tape_base.specs.declared.keys.Key.{Key}
@@ -9,25 +9,25 @@ use Rattle.cache_model.specs.declared.record.Rec.{Rec}
 use Rattle.cache_model.specs.State.{State, after_all}
 use Rattle.cache_model.specs.Kept.{Kept, state_of, with_records}
 use Rattle.cache_model.specs.Permit.{Done, Exhausted, Fails, GiveUp, Intent, ManyWriters, Permit, Reason, Write, is_cleanup, to_do}
-use Rattle.cache_model.specs.Legal.{Does, DoesGiveUp, IsQuiet, MayGrow}
-use Rattle.cache_model.specs.Vectors.{AreTold, GroupsTell}
+use Rattle.cache_model.specs.Legal.{Does, DoesGiveUp, IsQuiet, MayGrow, nothing}
+use Rattle.cache_model.specs.Tape.{IsSound}
+use Rattle.cache_model.specs.Vectors.{AreTold, GroupsTell, IsOtherVector}
 use Rattle.cache_model.proofs.Steps.{after_all-append, grows_by, grows_on}
 use Rattle.stripe_actors.specs.Actors.{FallBelow, put_numbers}
 use Rattle.stripe_core.specs.declared.refusal.Refusal.{Refusal}
 use Rattle.stripe_core.specs.declared.refusal.Refusal.TheVariants as refusal
 use Rattle.stripe_core.specs.Acts.{OpensAsAsked, opened_record}
-use Rattle.stripe_vectors.specs.Reading.{IsCollision}
 use Rattle.stripe_write.specs.declared.finishing.Receipt.{Receipt}
 use Rattle.stripe_write.specs.declared.writer.Writer.{Writer}
 use Rattle.stripe_write.specs.Others.{AddsOfPut, OthersStay}
 use Rattle.stripe_write.specs.Writers.{IsWriterOf}
-use Rattle.stripe_write.proofs.Completing.{nothing_more}
+use Rattle.stripe_write.proofs.Spending.{nothing_more}
 use Rattle.stripe_write.proofs.Owning.{then_owns}
 use Rattle.script_run.specs.Asked.{feed_intents, put_intents, rest_behind, whole_fragments}
 use Rattle.script_run.specs.Asked.{close_intents as closing_of}
 use Rattle.script_run.specs.Answers.{put_said, said}
 use Rattle.cache_replay.specs.Session.{LeavesBut}
-use Rattle.cache_replay.specs.Putting.{BodyEnds, BodyEndsAsAsked, BodyEndsWhere, IsFresh, Puts, PutsAsAsked, PutsWhere, ShowsVector, ending_intents, receipt_answer}
+use Rattle.cache_replay.specs.Putting.{BodyEnds, BodyEndsAsAsked, BodyEndsWhere, IsFresh, IsVectorPair, Puts, PutsAsAsked, PutsWhere, ShowsPair, ending_intents, receipt_answer}
 use Rattle.cache_replay.proofs.CutBodies.{no_cleanup}
 use Rattle.cache_replay.proofs.Lines.{leaves_but, next_is_free}
 use Rattle.cache_replay.proofs.Openings.{nothing_cut, owns_opened}
@@ -56,7 +56,7 @@ module _ (old now : Kept) (who : Actor) (key : Key) (request response : List Fie
       leaves_but s.next_put s (state_of new) (stay s.next_put old new
       (then_owns s.next_put old now new (owns_opened old now who key request response 0 adds) (subst (λ q. AddsOfPut q now new) is own)))
 
-  module _ (before mid after : ℕ) (new : Kept) (body : List ℕ) (tells : GroupsTell) (number : who.0 ≡ 0) (quiet : IsQuiet (state_of new))
+  module _ (moment before mid after : ℕ) (new : Kept) (body : List ℕ) (tells : GroupsTell) (sound : IsSound (state_of old)) (number : who.0 ≡ 0) (quiet : IsQuiet (state_of new))
       (does : OpensAsAsked s who key request response 0 (Ok w.put)) (earlier : before ≤ mid) where
     abbrev ending : List Intent
     ending = ending_intents (state_of now) w.put body
@@ -67,8 +67,12 @@ module _ (old now : Kept) (who : Actor) (key : Key) (request response : List Fie
     asked_is : Write who.0 key request response 0 ∷ ending ≡ put_intents s key body request response
     asked_is = ap (λ is. Write who.0 key request response 0 ∷ is) same_ending ∙ ap (λ n. Write n key request response 0 ∷ ending_intents s s.next_put body) number
 
-    told : (p : Permit) → AreTold s → AreTold (state_of now)
-    told p h = subst AreTold (sym there) (tells p s (Write who.0 key request response 0) opened Done h (does.1 p))
+    told : (p : Permit) → AreTold s → AreTold (state_of now) ⊎ IsOtherVector p s
+    told p h =
+        elim (tells p s (Write who.0 key request response 0) opened Done sound h (does.1 p)) [
+          | inl all ↦ inl (subst AreTold (sym there) all)
+          | inr other ↦ inr other
+        ]
 
     first : (p : Permit) → MayGrow p s (to_do (Write who.0 key request response 0 ∷ ending)) opened (to_do ending)
     first p = grows_by p s (to_do (Write who.0 key request response 0 ∷ ending)) (to_do ending) opened (Done, does.1 p, refl)
@@ -89,26 +93,31 @@ module _ (old now : Kept) (who : Actor) (key : Key) (request response : List Fie
           says = subst (λ n. said (state_of new) None b.why (put_said (state_of new) n) ≡ receipt_answer result) does.0 b.says;
         }
 
-    shows_behind : (p : Permit) → ShowsVector p (state_of now) ending → ShowsVector p s (put_intents s key body request response)
+    shows_behind : (p : Permit) → ShowsPair p (state_of now) ending → ShowsPair p s (put_intents s key body request response)
     shows_behind p v = record {
       added = opened ++ v.added;
       left = v.left;
-      key = v.key;
       grows = goes_on p v.added v.left v.grows;
-      other = subst (λ x. IsCollision p x v.key) (ap (λ x. after_all x v.added) there ∙ sym (after_all-append s opened v.added)) v.other;
+      other = subst (IsVectorPair p) (ap (λ x. after_all x v.added) there ∙ sym (after_all-append s opened v.added)) v.other;
     }
 
-    puts_as : (result : Result Receipt Refusal) → BodyEndsAsAsked mid after now new w.put body result → PutsAsAsked before after old new key body request response result
+    shows_first : (p : Permit) → IsOtherVector p s → ShowsPair p s (put_intents s key body request response)
+    shows_first p other = record { added = []; left = to_do (put_intents s key body request response); grows = nothing; other = IsVectorPair.copied_other other }
+
+    puts_as : (result : Result Receipt Refusal) → BodyEndsAsAsked moment mid after now new w.put body result → PutsAsAsked moment before after old new key body request response result
     puts_as result b = record {
       reads = b.reads;
-      does = λ p covers h.
-          elim (b.does p (record { plain = covers.plain; from = omega (arith, earlier, covers.from); upto = covers.upto; knows = covers.knows }) (told p h)) [
-            | inl ends ↦ inl (puts_behind p result ends)
-            | inr shows ↦ inr (shows_behind p shows)
+      does = λ p at covers h.
+          elim (told p h) [
+            | inl all ↦ elim (b.does p at (record { plain = covers.plain; from = omega (arith, earlier, covers.from); upto = covers.upto; knows = covers.knows }) all) [
+              | inl ends ↦ inl (puts_behind p result ends)
+              | inr pair ↦ inr (shows_behind p pair)
+            ]
+            | inr other ↦ inr (shows_first p other)
           ];
     }
 
-    pub puts_opened : (result : Result Receipt Refusal) → BodyEndsWhere mid after now new w.put body result → PutsWhere before after old new key body request response result
+    pub puts_opened : (result : Result Receipt Refusal) → BodyEndsWhere moment mid after now new w.put body result → PutsWhere moment before after old new key body request response result
     puts_opened (Err (refusal.Memory e)) b = tt
     puts_opened (Ok receipt) b = puts_as (Ok receipt) b
     puts_opened (Err (refusal.VectorTooLarge bytes)) b = puts_as (Err (refusal.VectorTooLarge bytes)) b
@@ -129,7 +138,7 @@ ending_cleaned s put body =
     ap (filter is_cleanup) (append_assoc (feed_intents f put 0 body) closing (GiveUp put ∷ []))
     ∙ (no_cleanup (length body) f put 0 body (closing ++ GiveUp put ∷ []) ∙ closing_is_work put (whole_fragments f body) (rest_behind f body) (GiveUp put ∷ []))
 
-module _ (before after : ℕ) (old new : Kept) (who : Actor) (key : Key) (body : List ℕ) (request response : List Field) (number : who.0 ≡ 0) (same : new ≡ old)
+module _ (moment before after : ℕ) (old new : Kept) (who : Actor) (key : Key) (body : List ℕ) (request response : List Field) (number : who.0 ≡ 0) (same : new ≡ old)
     (quiet : IsQuiet (state_of new)) (fall : FallBelow (state_of old).next_put (put_numbers (state_of old).puts)) where
   abbrev u : State
   u = state_of old
@@ -148,10 +157,10 @@ module _ (before after : ℕ) (old new : Kept) (who : Actor) (key : Key) (body :
       (grows_on (grows_by p u (to_do (Write who.0 key request response 0 ∷ rest)) (record { intents = filter is_cleanup rest; refused = Some why }) [] (Fails why, does, refl)) gone)
 
   refused_at : (why : Reason) (result : Refusal) → ((p : Permit) → Does p u (Write who.0 key request response 0) [] (Fails why))
-      → said (state_of new) None (Some why) (put_said (state_of new) u.next_put) ≡ receipt_answer (Err result) → PutsAsAsked before after old new key body request response (Err result)
+      → said (state_of new) None (Some why) (put_said (state_of new) u.next_put) ≡ receipt_answer (Err result) → PutsAsAsked moment before after old new key body request response (Err result)
   refused_at why result does says = record {
     reads = [];
-    does = λ p covers told.
+    does = λ p at covers told.
         inl (record {
           added = [];
           why = Some why;
@@ -161,7 +170,7 @@ module _ (before after : ℕ) (old new : Kept) (who : Actor) (key : Key) (body :
         });
   }
 
-  pub puts_refused : (why : Refusal) → OpensAsAsked u who key request response 0 (Err why) → PutsWhere before after old new key body request response (Err why)
+  pub puts_refused : (why : Refusal) → OpensAsAsked u who key request response 0 (Err why) → PutsWhere moment before after old new key body request response (Err why)
   puts_refused refusal.TooManyWriters does = refused_at ManyWriters refusal.TooManyWriters does.1 refl
   puts_refused (refusal.Exhausted number_) does = refused_at Exhausted (refusal.Exhausted number_) does.1 refl
   puts_refused (refusal.Memory e) does = tt

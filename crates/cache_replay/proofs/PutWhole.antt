@@ -14,9 +14,9 @@ use Rattle.stripe_core.specs.declared.refusal.Refusal.TheVariants as refusal
 use Rattle.stripe_write.specs.declared.finishing.Receipt.{Receipt}
 use Rattle.stripe_write.specs.declared.writer.Writer.{Writer}
 use Rattle.stripe_write.specs.Writes.{AbortsAsAsked, AbortsWhere, abort_adds}
-use Rattle.stripe_write.proofs.Completing.{nothing_more}
+use Rattle.stripe_write.proofs.Spending.{nothing_more}
 use Rattle.script_run.specs.Answers.{put_said, said}
-use Rattle.cache_replay.specs.Putting.{BodyEnds, BodyEndsAsAsked, BodyEndsWhere, Fills, FillsAsAsked, FillsWhere, IsOver, ShowsBody, ShowsVector, ending_intents, left_behind, receipt_answer, unless_memory}
+use Rattle.cache_replay.specs.Putting.{BodyEnds, BodyEndsAsAsked, BodyEndsWhere, Fills, FillsAsAsked, FillsWhere, IsOver, left_behind, receipt_answer, unless_memory}
 
 -- ---- one behind the other
 
@@ -67,25 +67,21 @@ module _ (p : Permit) (old mid new : Kept) (w : Writer) (body : List ℕ) (resul
     says = says;
   }
 
-shows_ends : (p : Permit) (s : State) (put : ℕ) (body : List ℕ) → ShowsBody p s put body → ShowsVector p s (ending_intents s put body)
-shows_ends p s put body shows =
-    record { added = shows.added; left = shows.left (GiveUp put ∷ []); key = shows.key; grows = shows.grows (GiveUp put ∷ []); other = shows.other }
-
-module _ (before mid after : ℕ) (old now new : Kept) (w : Writer) (body : List ℕ) (key : Key) (later : mid ≤ after) where
+module _ (moment before mid after : ℕ) (old now new : Kept) (w : Writer) (body : List ℕ) (key : Key) (later : mid ≤ after) where
   abbrev Ending : Result Receipt Refusal → Type 0
   Ending result = (p : Permit) → Fills p old now w body result → BodyEnds p old new w.put body result
 
-  ends_asks : (result : Result Receipt Refusal) → FillsAsAsked before mid old now w body result → Ending result → BodyEndsAsAsked before after old new w.put body result
+  ends_asks : (result : Result Receipt Refusal) → FillsAsAsked moment before mid old now w body result → Ending result → BodyEndsAsAsked moment before after old new w.put body result
   ends_asks result fills ending = record {
     reads = fills.reads;
-    does = λ p covers told.
-        elim (fills.does p (record { plain = covers.plain; from = covers.from; upto = omega (arith, later, covers.upto); knows = covers.knows }) told) [
+    does = λ p at covers told.
+        elim (fills.does p at (record { plain = covers.plain; from = covers.from; upto = omega (arith, later, covers.upto); knows = covers.knows }) told (GiveUp w.put ∷ [])) [
           | inl here ↦ inl (ending p here)
-          | inr shows ↦ inr (shows_ends p (state_of old) w.put body shows)
+          | inr pair ↦ inr pair
         ];
   }
 
-  ends_where : (result : Result Receipt Refusal) → FillsWhere before mid old now w body result → Ending result → BodyEndsWhere before after old new w.put body result
+  ends_where : (result : Result Receipt Refusal) → FillsWhere moment before mid old now w body result → Ending result → BodyEndsWhere moment before after old new w.put body result
   ends_where (Err (refusal.Memory e)) fills ending = tt
   ends_where (Ok receipt) fills ending = ends_asks (Ok receipt) fills ending
   ends_where (Err (refusal.VectorTooLarge bytes)) fills ending = ends_asks (Err (refusal.VectorTooLarge bytes)) fills ending
@@ -101,8 +97,8 @@ module _ (before mid after : ℕ) (old now new : Kept) (w : Writer) (body : List
       → said (state_of new) None why (put_said (state_of new) w.put) ≡ receipt_answer result
   same_says same why result says = subst (λ (k : Kept). said (state_of k) None why (put_said (state_of k) w.put) ≡ receipt_answer result) (sym same) says
 
-  body_ends : (end : Result ℕ Refusal) (result : Result Receipt Refusal) → FillsWhere before mid old now w body result → new ≡ with_records now (abort_adds key end)
-      → AbortsWhere (state_of now) w.put end → AbortsAsAsked (state_of now) w.put key end → BodyEndsWhere before after old new w.put body (unless_memory end result)
+  body_ends : (end : Result ℕ Refusal) (result : Result Receipt Refusal) → FillsWhere moment before mid old now w body result → new ≡ with_records now (abort_adds key end)
+      → AbortsWhere (state_of now) w.put end → AbortsAsAsked (state_of now) w.put key end → BodyEndsWhere moment before after old new w.put body (unless_memory end result)
   body_ends (Ok number) result fills adds where_ does =
       ends_where result fills (λ p here. ends_with p old now new w body result (abort_adds key (Ok number)) adds (does p) here
       (says_still (state_of now) (state_of new) w.put here.why result where_.1 here.over here.says))
@@ -118,10 +114,10 @@ module _ (before mid after : ℕ) (old now new : Kept) (w : Writer) (body : List
   body_ends (Err refusal.Sealed) result fills adds where_ does = absurd where_
 
 -- the same, where the writer that is given up is the one that was fed
-pub body_ends_at : (before mid after : ℕ) (old now new : Kept) (w v : Writer) (body : List ℕ) (end : Result ℕ Refusal) (result answer : Result Receipt Refusal) → mid ≤ after
-    → v.put ≡ w.put → FillsWhere before mid old now w body result → new ≡ with_records now (abort_adds v.key end)
-    → AbortsWhere (state_of now) v.put end → AbortsAsAsked (state_of now) v.put v.key end → answer ≡ unless_memory end result → BodyEndsWhere before after old new w.put body answer
-body_ends_at before mid after old now new w v body end result answer later number fills adds where_ does is =
-    subst (BodyEndsWhere before after old new w.put body) (sym is)
-    (body_ends before mid after old now new w body v.key later end result fills adds
+pub body_ends_at : (moment before mid after : ℕ) (old now new : Kept) (w v : Writer) (body : List ℕ) (end : Result ℕ Refusal) (result answer : Result Receipt Refusal) → mid ≤ after
+    → v.put ≡ w.put → FillsWhere moment before mid old now w body result → new ≡ with_records now (abort_adds v.key end)
+    → AbortsWhere (state_of now) v.put end → AbortsAsAsked (state_of now) v.put v.key end → answer ≡ unless_memory end result → BodyEndsWhere moment before after old new w.put body answer
+body_ends_at moment before mid after old now new w v body end result answer later number fills adds where_ does is =
+    subst (BodyEndsWhere moment before after old new w.put body) (sym is)
+    (body_ends moment before mid after old now new w body v.key later end result fills adds
     (subst (λ q. AbortsWhere (state_of now) q end) number where_) (subst (λ q. AbortsAsAsked (state_of now) q v.key end) number does))

@@ -1,5 +1,6 @@
 -- A line of a reader, from what its calls did.
-use Rattle.std.proofs.Common.{◌≡◌, ℕ, ◌*◌, List, [], ◌∷◌, length, refl, sym, ◌∙◌, ap, subst, Bool, true, false}
+use Rattle.std.proofs.Common.{◌≡◌, ℕ, ◌*◌, List, [], ◌∷◌, length, refl, sym, ◌∙◌, ap, subst, Bool, true, false, inl, inr}
+use Rattle.std.specs.Global.{Vec}
 use Rattle.std.specs.Prelude.{Option, Some, None, IfSome, ◌==◌, if◌then◌else◌, option_map, option_and_then}
 use Rattle.std.proofs.lemmas.Bool.{eqb-true, eq-eqb}
 use Rattle.ats_disk.specs.declared.device.Disk.{Ghosts as DiskGhosts}
@@ -8,12 +9,14 @@ use Rattle.cache_chronicle.specs.declared.chronicle.Chronicle.{Ghosts as Chronic
 use Rattle.actor_table.specs.Table.{Seen, number_of, with_actor}
 use Rattle.cache_model.specs.State.{State, after_all, reader_of}
 use Rattle.tape_base.specs.Geometry.{budget_of}
+use Rattle.cache_model.specs.Kept.{state_of}
 use Rattle.cache_model.specs.Permit.{Done, Intent, Permit, to_do}
 use Rattle.cache_model.specs.Legal.{Does, IsQuiet, IsStep, MayGrow, is_writing, nothing}
 use Rattle.cache_model.specs.declared.record.Rec.{Rec}
 use Rattle.cache_model.proofs.Steps.{grows_by}
+use Rattle.cache_model.specs.Tape.{IsSound}
 use Rattle.cache_model.specs.Vectors.{AreTold, GroupsTell}
-use Rattle.stripe_core.specs.Stripe.{IsStripe, state_in}
+use Rattle.stripe_core.specs.Stripe.{IsStripe, kept_in, state_in}
 use Rattle.stripe_read.specs.declared.reader.Reader.{Reader}
 use Rattle.stripe_read.specs.Readers.{IsOpenReader, IsReaderOf}
 use Rattle.script_lang.specs.declared.step.Step.{Step}
@@ -25,13 +28,13 @@ use Rattle.script_run.specs.Answers.{session_said}
 use Rattle.script_run.specs.Behind.{actors_behind, held_behind, holds_behind, in_session, still_open, streams_behind}
 use Rattle.script_run.specs.Laws.{StepsOwn}
 use Rattle.script_run.specs.Own.{AreOwn, AreWriting}
-use Rattle.script_run.specs.Takes.{GivesOwn}
+use Rattle.script_run.specs.Takes.{GivesOwn, IsOther}
 use Rattle.cache_replay.specs.declared.session.Part.{Part}
 use Rattle.cache_replay.specs.declared.session.Holding.{Holding}
 use Rattle.cache_replay.specs.declared.session.Holding.TheVariants as holding
 use Rattle.cache_replay.specs.Session.{AreApart, AreHeld, Differ, IsActive, IsHeld, IsPart, LeavesBut}
 use Rattle.cache_replay.specs.Plays.{IsHeldAs, IsStreamOf, PlaysIn}
-use Rattle.cache_replay.specs.ReaderLines.{PartMoves, PlaysPart, as_held, reader_held, slots_of, without_reader}
+use Rattle.cache_replay.specs.ReaderLines.{PartEnds, PartMoves, PlaysPart, as_held, reader_held, slots_of, without_reader}
 use Rattle.cache_replay.proofs.Frames.{Changed, IsElse, OthersElse, all_held, all_held_as}
 
 -- ---- the actors behind a line
@@ -150,12 +153,12 @@ are_writing run s slots held own = λ name put is.
 abbrev pub line_turn : Permit → List Rec → List ℕ → Turn
 line_turn device added given = record { added = added; refused = None; device = device; given = given }
 
--- a line that does nothing
-abbrev pub still_permit : Permit
-still_permit = record { packed = false; faults_before = 0; faults = 0; reads = [] }
+-- a line that does nothing, at a moment
+abbrev pub still_permit : (now : ℕ) → Permit
+still_permit now = record { packed = false; now = now; faults_before = 0; faults = 0; reads = [] }
 
-abbrev pub still_turn : Turn
-still_turn = record { added = []; refused = None; device = still_permit; given = [] }
+abbrev pub still_turn : (now : ℕ) → Turn
+still_turn now = record { added = []; refused = None; device = still_permit now; given = [] }
 
 as_before : (run later : Run) (s : State) (m : ℕ) (o : Option Holding) → later.held m ≡ run.held m → later.streams ≡ run.streams → IsHeldAs run s m o → IsHeldAs later s m o
 as_before run later s m None held streams own = held ∙ own
@@ -167,10 +170,10 @@ with_same f n m true e = ap f (sym (eqb-true m n e))
 with_same f n m false e = refl
 
 plays_still : (run : Run) (s : State) (step : Step) (name : List ℕ) (slots new : ℕ → Option Holding) → actor_of step ≡ Some name
-    → streams_behind run s s still_turn step ≡ run.streams → holds_behind run s s step name ≡ held_by run name → ((m : ℕ) → new m ≡ slots m)
-    → PlaysIn run s slots → PlaysIn (in_session run s s still_turn step) s new
+    → streams_behind run s s (still_turn run.now) step ≡ run.streams → holds_behind run s s step name ≡ held_by run name → ((m : ℕ) → new m ≡ slots m)
+    → PlaysIn run s slots → PlaysIn (in_session run s s (still_turn run.now) step) s new
 plays_still run s step name slots new actor streams holds same plays =
-    let later : Run = in_session run s s still_turn step in
+    let later : Run = in_session run s s (still_turn run.now) step in
     let n : ℕ = number_of run.actors name in
     record {
       state = refl;
@@ -195,11 +198,12 @@ module _ {D R C : Type 0} (disk : DiskGhosts D) (directory : DirectoryGhosts R) 
     pub behind : state_in chronicle new.stripe ≡ after_all (state_in chronicle old.stripe) added
     pub quiet : IsQuiet (state_in chronicle new.stripe)
     pub plain : device.packed ≡ false
+    pub moment : device.now ≡ run.now
     pub asks : asked run (state_in chronicle old.stripe) step ≡ i ∷ []
     pub does : Does device (state_in chronicle old.stripe) i added Done
     pub gives : GivesOwn run (state_in chronicle old.stripe) (line_turn device added given) step
 
-  pub line_moves : (tell : GroupsTell) (own : StepsOwn) (run : Run) (old new : Part D R C) (before after : Seen Holding) (step : Step) (name : List ℕ) (n : ℕ) (i : Intent) (device : Permit) (added : List Rec) (given : List ℕ)
+  pub line_ends : (tell : GroupsTell) (own : StepsOwn) (run : Run) (old new : Part D R C) (before after : Seen Holding) (step : Step) (name : List ℕ) (n : ℕ) (i : Intent) (device : Permit) (added : List Rec) (given : List ℕ)
       (reader : ℕ) (has : Option Reader) (said : StepAnswer)
       → IsLine run old new before after step name n i device added given
       → holds_behind run (state_in chronicle old.stripe) (after_all (state_in chronicle old.stripe) added) step name ≡ as_run has
@@ -208,26 +212,31 @@ module _ {D R C : Type 0} (disk : DiskGhosts D) (directory : DirectoryGhosts R) 
       → PlaysPart disk directory chronicle run old before
       → Goes reader (state_in chronicle old.stripe) (state_in chronicle new.stripe) (slots_of before) (slots_of after) n has
       → session_said run (state_in chronicle old.stripe) (after_all (state_in chronicle old.stripe) added) (line_turn device added given) step ≡ said
-      → PartMoves disk directory chronicle run (state_in chronicle old.stripe) step new after said
-  line_moves tell own run old new before after step name n i device added given reader has said line holds mine active plays g says =
+      → PartEnds disk directory chronicle run (state_in chronicle old.stripe) step new after said
+  line_ends tell own run old new before after step name n i device added given reader has said line holds mine active plays g says =
       let s : State = state_in chronicle old.stripe in
+      let sound : IsSound s = active.part.stripe.pieces.sound in
       let turn : Turn = line_turn device added given in
       let legal : IsStep device s (asked run s step) added None = record {
         grows = subst (λ is. MayGrow device s (to_do is) added (record { intents = []; refused = None })) (sym line.asks) (grows_by device s (to_do (i ∷ [])) (record { intents = []; refused = None }) added (Done, line.does, refl));
         quiet = subst IsQuiet line.behind line.quiet;
       } in
-      record {
-        turn = turn;
-        takes = record { plain = line.plain; legal = legal; own = line.gives };
-        plays = record {
-          names = names_are run s (after_all s added) turn step name before.names after.names line.actor plays.names line.names;
-          inside = plays_behind run s (state_in chronicle new.stripe) turn step name n reader (slots_of before) (slots_of after) has
-              line.actor (line.number ∙ ap (λ names. number_of names name) (sym plays.names)) line.streams holds line.behind
-              (tell device s i added Done plays.inside.told line.does)
-              (own run s turn step plays.inside.told active.part.quiet plays.inside.own (are_writing run s (slots_of before) active.held plays.inside.held) legal) mine plays.inside g;
-        };
-        says = says;
-      }
+      elim (tell device s i added Done sound plays.inside.told line.does) [
+        | inr other ↦ inr (record { device = device; added = []; left = to_do (asked run s step); grows = nothing; other = IsOther.vector_copied other })
+        | inl told ↦ elim (own run s turn step sound plays.inside.told active.part.quiet plays.inside.own (are_writing run s (slots_of before) active.held plays.inside.held) legal) [
+          | inr shown ↦ inr shown.shows
+          | inl owned ↦ inl (record {
+            turn = turn;
+            takes = record { plain = line.plain; moment = line.moment; legal = legal; own = line.gives };
+            plays = record {
+              names = names_are run s (after_all s added) turn step name before.names after.names line.actor plays.names line.names;
+              inside = plays_behind run s (state_in chronicle new.stripe) turn step name n reader (slots_of before) (slots_of after) has
+                  line.actor (line.number ∙ ap (λ names. number_of names name) (sym plays.names)) line.streams holds line.behind told owned mine plays.inside g;
+            };
+            says = says;
+          })
+        ]
+      ]
 
   -- ---- the session behind a line
 
@@ -256,29 +265,42 @@ module _ {D R C : Type 0} (disk : DiskGhosts D) (directory : DirectoryGhosts R) 
     apart = λ m k a b ne ma kb. active.apart m k a b ne (sym (same m) ∙ ma) (sym (same k) ∙ kb);
   }
 
+  -- where its records are as they were
+  pub kept_active : (old new : Part D R C) (slots later : ℕ → Option Holding) → IsActive disk directory chronicle old slots → IsStripe disk directory chronicle new.stripe → IsQuiet (state_in chronicle new.stripe)
+      → new.page ≡ old.page → kept_in chronicle new.stripe ≡ kept_in chronicle old.stripe → ((m : ℕ) → later m ≡ slots m) → IsActive disk directory chronicle new later
+  kept_active old new slots later active stripe quiet page kept same =
+      let there : state_in chronicle new.stripe ≡ state_in chronicle old.stripe = ap state_of kept in
+      let still = same_active old slots later same active in
+      record {
+        part = part_behind old new active.part stripe quiet (ap (λ (p : Vec ℕ). length p.items) page) (ap (λ (t : State). t.geometry) there);
+        held = subst (λ t. AreHeld t later) (sym there) still.held;
+        apart = still.apart;
+      }
+
   -- ---- a line that does nothing
 
   pub still_moves : (run : Run) (part : Part D R C) (before after : Seen Holding) (step : Step) (name : List ℕ) (n : ℕ) (said : StepAnswer)
       → actor_of step ≡ Some name → n ≡ number_of before.names name → after.names ≡ with_actor before.names name → ((m : ℕ) → slots_of after m ≡ slots_of before m)
       → asked run (state_in chronicle part.stripe) step ≡ []
-      → GivesOwn run (state_in chronicle part.stripe) still_turn step
-      → streams_behind run (state_in chronicle part.stripe) (state_in chronicle part.stripe) still_turn step ≡ run.streams
+      → GivesOwn run (state_in chronicle part.stripe) (still_turn run.now) step
+      → streams_behind run (state_in chronicle part.stripe) (state_in chronicle part.stripe) (still_turn run.now) step ≡ run.streams
       → holds_behind run (state_in chronicle part.stripe) (state_in chronicle part.stripe) step name ≡ held_by run name
-      → session_said run (state_in chronicle part.stripe) (state_in chronicle part.stripe) still_turn step ≡ said
+      → session_said run (state_in chronicle part.stripe) (state_in chronicle part.stripe) (still_turn run.now) step ≡ said
       → IsQuiet (state_in chronicle part.stripe)
       → PlaysPart disk directory chronicle run part before
       → PartMoves disk directory chronicle run (state_in chronicle part.stripe) step part after said
   still_moves run part before after step name n said actor number names same nothing_asked own streams holds says quiet plays =
       let s : State = state_in chronicle part.stripe in
       record {
-        turn = still_turn;
+        turn = still_turn run.now;
         takes = record {
           plain = refl;
-          legal = record { grows = subst (λ is. MayGrow still_turn.device s (to_do is) [] (record { intents = []; refused = None })) (sym nothing_asked) nothing; quiet = quiet };
+          moment = refl;
+          legal = record { grows = subst (λ is. MayGrow (still_permit run.now) s (to_do is) [] (record { intents = []; refused = None })) (sym nothing_asked) nothing; quiet = quiet };
           own = own;
         };
         plays = record {
-          names = names_are run s s still_turn step name before.names after.names actor plays.names names;
+          names = names_are run s s (still_turn run.now) step name before.names after.names actor plays.names names;
           inside = plays_still run s step name (slots_of before) (slots_of after) actor streams holds same plays.inside;
         };
         says = says;

@@ -13,12 +13,11 @@ use Rattle.script_lang.specs.declared.step.Step.{Step}
 use Rattle.script_lang.specs.declared.step.Step.TheVariants as step
 use Rattle.script_lang.specs.declared.answer.StepAnswer.{StepAnswer}
 use Rattle.script_run.specs.Run.{Run}
-use Rattle.script_run.specs.Asked.{asked}
 use Rattle.script_run.specs.Turn.{Turn}
 use Rattle.script_run.specs.Answers.{session_said, step_said}
 use Rattle.script_run.specs.Behind as then
 use Rattle.script_run.specs.Behind.{harm_of, in_session}
-use Rattle.script_run.specs.Takes.{SessionTakes, Shows, StepShows, Takes}
+use Rattle.script_run.specs.Takes.{SessionTakes, StepShows, Takes}
 use Rattle.cache_replay.specs.declared.session.Session.{Session}
 use Rattle.cache_replay.specs.declared.session.Part.{Part}
 use Rattle.cache_replay.specs.declared.stop.Stop.{Stop}
@@ -78,11 +77,11 @@ module _ {D R C : Type 0} (disk : DiskGhosts D) (directory : DirectoryGhosts R) 
 
   -- some way into it two documents of one SHA-256 are shown
   pub line_shows : (run : Run) (old : Session D R C) (before : Part D R C) (step : Step) → old.part ≡ Some before → Plays disk directory chronicle run old
-      → Shows run (state_in chronicle before.stripe) (asked run (state_in chronicle before.stripe) step) → StepShows run run.state step
+      → StepShows run (Some (state_in chronicle before.stripe)) step → StepShows run run.state step
   line_shows run old before step was plays shown = subst (λ o. StepShows run o step) (sym (part_plays run old before was plays).inside.state) shown
 
   line_ends : (run : Run) (old new : Session D R C) (before after : Part D R C) (step : Step) (said : StepAnswer) → IsOnSession step → old.part ≡ Some before → new.part ≡ Some after → new.now ≡ old.now → Plays disk directory chronicle run old
-      → StaysUnharmed disk directory chronicle before.stripe after.stripe ⊎ Shows run (state_in chronicle before.stripe) (asked run (state_in chronicle before.stripe) step)
+      → StaysUnharmed disk directory chronicle before.stripe after.stripe ⊎ StepShows run (Some (state_in chronicle before.stripe)) step
       → PartEnds disk directory chronicle run (state_in chronicle before.stripe) step after new.actors said → StepEnds disk directory chronicle run step new said
   line_ends run old new before after step said on was is kept plays (inr shown) ends = inr (line_shows run old before step was plays shown)
   line_ends run old new before after step said on was is kept plays (inl stays) (inr shown) = inr (line_shows run old before step was plays shown)
@@ -90,7 +89,7 @@ module _ {D R C : Type 0} (disk : DiskGhosts D) (directory : DirectoryGhosts R) 
 
   pub line_answers : (old new : Session D R C) (before after : Part D R C) (step : Step) (result : Result StepAnswer Stop) → IsOnSession step → old.part ≡ Some before → new.part ≡ Some after → new.now ≡ old.now
       → ((run : Run) → PlaysPart disk directory chronicle run before old.actors
-      → StaysUnharmed disk directory chronicle before.stripe after.stripe ⊎ Shows run (state_in chronicle before.stripe) (asked run (state_in chronicle before.stripe) step))
+      → StaysUnharmed disk directory chronicle before.stripe after.stripe ⊎ StepShows run (Some (state_in chronicle before.stripe)) step)
       → IfOk result (λ said. (run : Run) → PlaysPart disk directory chronicle run before old.actors → PartEnds disk directory chronicle run (state_in chronicle before.stripe) step after new.actors said)
       → IfOk result (λ said. (run : Run) → Plays disk directory chronicle run old → StepEnds disk directory chronicle run step new said)
   line_answers old new before after step (Ok said) on was is kept harms ends = λ run plays.

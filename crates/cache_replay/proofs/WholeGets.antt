@@ -31,6 +31,7 @@ use Rattle.script_run.specs.Turn.{later, lookup_in, told_in}
 use Rattle.script_run.specs.Answers.{miss_said}
 use Rattle.script_run.specs.Laws.{ReadsOwn}
 use Rattle.script_run.specs.Own.{AreOwn}
+use Rattle.script_run.specs.Takes.{IsOther}
 use Rattle.script_lang.specs.declared.answer.StepAnswer.TheVariants as answer
 use Rattle.cache_replay.specs.declared.getting.Got.{Got}
 use Rattle.cache_replay.specs.Session.{LeavesBut}
@@ -152,7 +153,7 @@ module _ (owns : ReadsOwn) (k k1 : Kept) (old new : Device) (key : Key) (request
             hit = opened_finds (state_of k) nobody key request (read.Hit put) ∙ ap (λ n. Some (read.Hit n)) tells.1;
             front = none_yet (state_of k1).geometry.fragment r.next (run.streams r.put).bytes (first_next k k1 key request put r is tells.0 d.1);
           })
-          | inr collision ↦ inr (record { device = p; added = []; left = to_do (get_intents (state_of k) key request); grows = nothing; other = inl (key, collision) })
+          | inr collision ↦ inr (record { device = p; added = []; left = to_do (get_intents (state_of k) key request); grows = nothing; other = IsOther.vector_read key collision })
         ];
   }
 
@@ -173,7 +174,7 @@ module _ (owns : ReadsOwn) (k k1 : Kept) (old new : Device) (key : Key) (request
             body = rw (opened_tells (state_of k) nobody key request (read.Follow put)) refl;
             says = rw (opened_finds (state_of k) nobody key request (read.Follow put)) refl;
           })
-          | inr collision ↦ inr (record { device = p; added = []; left = to_do (get_intents (state_of k) key request); grows = nothing; other = inl (key, collision) })
+          | inr collision ↦ inr (record { device = p; added = []; left = to_do (get_intents (state_of k) key request); grows = nothing; other = IsOther.vector_read key collision })
         ];
   }
 
@@ -196,7 +197,7 @@ module _ (owns : ReadsOwn) (k k1 : Kept) (old new : Device) (key : Key) (request
                 body = rw (opened_tells (state_of k) nobody key request (read.Miss why)) refl;
                 says = rw (opened_finds (state_of k) nobody key request (read.Miss why)) refl;
               })
-              | inr collision ↦ inr (record { device = p; added = []; left = to_do (get_intents (state_of k) key request); grows = nothing; other = inl (key, collision) })
+              | inr collision ↦ inr (record { device = p; added = []; left = to_do (get_intents (state_of k) key request); grows = nothing; other = IsOther.vector_read key collision })
             ];
       }
 

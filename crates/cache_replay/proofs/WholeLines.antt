@@ -1,5 +1,5 @@
 -- The line of a whole read.
-use Rattle.std.proofs.Common.{◌≡◌, ℕ, ◌+◌, ◌-◌, ◌*◌, ◌≤◌, min, take, drop, length, length-append, length-drop, length-take, List, [], ◌∷◌, ◌++◌, refl, sym, ◌∙◌, ap, subst, Bool, true, false, ◌⊎◌, inl, inr, arith}
+use Rattle.std.proofs.Common.{◌≡◌, ℕ, ◌+◌, ◌-◌, ◌*◌, min, take, drop, length, length-append, length-drop, length-take, List, [], ◌∷◌, ◌++◌, refl, sym, ◌∙◌, ap, subst, Bool, true, false, ◌⊎◌, inl, inr, arith}
 use Rattle.std.specs.Prelude.{Option, Some, None, IfSome, if◌then◌else◌}
 use Rattle.std.specs.List.{AllByRecursion, filter}
 use Rattle.ats_disk.specs.declared.device.Disk.{Ghosts as DiskGhosts}
@@ -13,6 +13,7 @@ use Rattle.cache_model.specs.State.{ReaderRow, State, after_all, reader_of}
 use Rattle.cache_model.specs.Kept.{Kept, state_of}
 use Rattle.cache_model.specs.Permit.{Done, End, Fails, Intent, Permit, Reason, Stays, Work, is_cleanup, work_after}
 use Rattle.cache_model.specs.Legal.{Advances, IsQuiet, MayGrow, more, nothing}
+use Rattle.cache_model.specs.Tape.{IsSound}
 use Rattle.cache_model.specs.Vectors.{AreTold, StepsTell}
 use Rattle.cache_model.proofs.Found.{none_is}
 use Rattle.cache_model.proofs.Steps.{after_all-append}
@@ -29,7 +30,7 @@ use Rattle.script_run.specs.Turn.{Turn}
 use Rattle.script_run.specs.Behind.{in_session}
 use Rattle.script_run.specs.Laws.{ReadsOwn, is_reading}
 use Rattle.script_run.specs.Own.{AreOwn}
-use Rattle.script_run.specs.Takes.{Shows, StepShows}
+use Rattle.script_run.specs.Takes.{SessionTakes, Shows, StepShows}
 use Rattle.cache_replay.specs.declared.session.Session.{Session}
 use Rattle.cache_replay.specs.declared.session.Part.{Part}
 use Rattle.cache_replay.specs.declared.session.Holding.{Holding}
@@ -39,6 +40,7 @@ use Rattle.cache_replay.specs.Session.{AreHeld, IsActive, IsAt, IsHeld, IsPart, 
 use Rattle.cache_replay.specs.Plays.{IsHeldAs, Plays, PlaysIn, StepEnds}
 use Rattle.cache_replay.specs.Getting.{Gets, GetsAsAsked, LineEnds, given_in, got_answer}
 use Rattle.cache_replay.proofs.Frames.{IsElse, held_as_stays, held_stays}
+use Rattle.cache_replay.proofs.OnSession.{told_behind}
 use Rattle.cache_replay.proofs.WholeReads.{call_covered, call_permit, state_behind}
 use Rattle.cache_replay.proofs.ReaderSessions.{get_on, line_moved, line_shows, part_plays}
 
@@ -101,26 +103,38 @@ one_held_as run new s t n m (Some h) leaves none streams same held own =
     held_as_stays None (Some n) run new s t m h leaves (λ q other. ap (λ (f : ℕ → Stream). f q) streams) (ap (λ (f : ℕ → Option Rattle.script_run.specs.Run.Holding). f m) same) (not_next s n h none held) own
 
 pub line_ends : (owns : ReadsOwn) (tell : StepsTell) (run : Run) (before after n : ℕ) (k k2 : Kept) (key : Key) (request : List Field) (slots : ℕ → Option Holding) (got : Got) (said : StepAnswer)
-    → GetsAsAsked before after k k2 key request got → said ≡ got_answer got → LeavesBut None (Some n) (state_of k) (state_of k2) → reader_of (state_of k) n ≡ None → AreHeld (state_of k) slots
+    → GetsAsAsked before after k k2 key request got → said ≡ got_answer got → IsSound (state_of k) → LeavesBut None (Some n) (state_of k) (state_of k2) → reader_of (state_of k) n ≡ None → AreHeld (state_of k) slots
     → PlaysIn run (state_of k) slots → LineEnds run (state_of k) (state_of k2) key request slots said
-line_ends owns tell run before after n k k2 key request slots got said gets is leaves none held plays =
-    let p : Permit = call_permit before after gets.reads in
-    elim (gets.does p run (call_covered before after gets.reads) plays.told plays.own) [
-      | inl x ↦ inl (moves p refl x)
+line_ends owns tell run before after n k k2 key request slots got said gets is sound leaves none held plays =
+    let p : Permit = call_permit run.now before after gets.reads in
+    elim (gets.does p run (call_covered run.now before after gets.reads) plays.told plays.own) [
+      | inl x ↦
+          let takes = takes_by p refl refl x in
+          elim (told_behind tell run (state_of k) (after_all (state_of k) x.added) (turn_by p x) (step.Get key request) takes refl sound plays.told) [
+            | inl told ↦ inl (moves p x takes told)
+            | inr shows ↦ inr shows
+          ]
       | inr shows ↦ inr shows
     ]
   where
-    moves : (p : Permit) → p.packed ≡ false → Gets p k k2 run key request got → Rattle.cache_replay.specs.Getting.LineGets run (state_of k) (state_of k2) key request slots said
-    moves p plain x =
-        let turn : Turn = record { added = x.added; refused = None; device = p; given = given_in got } in
+    turn_by : (p : Permit) → Gets p k k2 run key request got → Turn
+    turn_by p x = record { added = x.added; refused = None; device = p; given = given_in got }
+
+    takes_by : (p : Permit) → p.packed ≡ false → p.now ≡ run.now → (x : Gets p k k2 run key request got) → SessionTakes run (state_of k) (turn_by p x) (step.Get key request)
+    takes_by p plain moment x = record { plain = plain; moment = moment; legal = x.step; own = x.body }
+
+    moves : (p : Permit) (x : Gets p k k2 run key request got) → SessionTakes run (state_of k) (turn_by p x) (step.Get key request) → AreTold (after_all (state_of k) x.added)
+        → Rattle.cache_replay.specs.Getting.LineGets run (state_of k) (state_of k2) key request slots said
+    moves p x takes told =
+        let turn : Turn = turn_by p x in
         let there : state_of k2 ≡ after_all (state_of k) x.added = state_behind k k2 x.added x.adds in
         let later : Run = in_session run (state_of k) (after_all (state_of k) x.added) turn (step.Get key request) in
         record {
           turn = turn;
-          takes = record { plain = plain; legal = x.step; own = x.body };
+          takes = takes;
           plays = record {
             state = ap Some (sym there);
-            told = subst AreTold (sym there) (tell p (state_of k) (get_intents (state_of k) key request) x.added None plays.told x.step);
+            told = subst AreTold (sym there) told;
             own = subst (λ t. AreOwn t run.streams) (sym there) (all_own owns run.streams x.step.grows (refl, (refl, (refl, tt))) plays.own);
             held = λ m. one_held_as run later (state_of k) (state_of k2) n m (slots m) leaves none refl refl (held m) (plays.held m);
           };
@@ -167,13 +181,13 @@ module _ {D R C : Type 0} (disk : DiskGhosts D) (directory : DirectoryGhosts R) 
   pub session_ends : (run : Run) (old new : Session D R C) (part part2 : Part D R C) (key : Key) (request : List Field) (said : StepAnswer) → old.part ≡ Some part → new.part ≡ Some part2 → names_in new ≡ names_in old → new.now ≡ old.now
       → ((m : ℕ) → slots_in new m ≡ slots_in old m) → Plays disk directory chronicle run old → IsActive disk directory chronicle part (slots_in old)
       → ((run : Run) → AreTold (state_in chronicle part.stripe) → AreOwn (state_in chronicle part.stripe) run.streams
-      → StaysUnharmed disk directory chronicle part.stripe part2.stripe ⊎ Shows run (state_in chronicle part.stripe) (get_intents (state_in chronicle part.stripe) key request))
+      → StaysUnharmed disk directory chronicle part.stripe part2.stripe ⊎ Shows run.streams (state_in chronicle part.stripe) (get_intents (state_in chronicle part.stripe) key request))
       → ((slots : ℕ → Option Holding) → AreHeld (state_in chronicle part.stripe) slots → PlaysIn run (state_in chronicle part.stripe) slots → LineEnds run (state_in chronicle part.stripe) (state_in chronicle part2.stripe) key request slots said)
       → StepEnds disk directory chronicle run (step.Get key request) new said
   session_ends run old new part part2 key request said was is names kept slots plays active harms ends =
       let s : State = state_in chronicle part.stripe in
       let there = part_plays disk directory chronicle run old part was plays in
-      let shows : Shows run s (get_intents s key request) → StepShows run run.state (step.Get key request) = λ shown. line_shows disk directory chronicle run old part (step.Get key request) was plays shown in
+      let shows : Shows run.streams s (get_intents s key request) → StepShows run run.state (step.Get key request) = λ shown. line_shows disk directory chronicle run old part (step.Get key request) was plays shown in
       elim (harms run there.inside.told there.inside.own) [
         | inr shown ↦ inr (shows shown)
         | inl stays ↦ elim (ends (slots_in old) active.held there.inside) [

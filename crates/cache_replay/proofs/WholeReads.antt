@@ -35,7 +35,7 @@ use Rattle.script_run.specs.Turn.{is_told, later, lookup_in, told_in}
 use Rattle.script_run.specs.Answers.{broken_said}
 use Rattle.script_run.specs.Laws.{AllIsGiven, ReadIsOwn, ReadsOwn}
 use Rattle.script_run.specs.Own.{AreOwn, IsOtherFragment, piece_of}
-use Rattle.script_run.specs.Takes.{Shows}
+use Rattle.script_run.specs.Takes.{IsOther, Shows}
 use Rattle.script_lang.specs.declared.answer.StepAnswer.{StepAnswer}
 use Rattle.script_lang.specs.declared.answer.StepAnswer.TheVariants as answer
 use Rattle.cache_replay.specs.Getting.{Answered, Began, IsAnswered, IsUnderway, Underway, rows_left}
@@ -236,7 +236,7 @@ module _ (owns : ReadsOwn) (reads_own_bytes : ReadIsOwn) (given_all : AllIsGiven
 
   pub piece_way : (index size : ℕ) (into : List ℕ) (r2 : Reader) → k2 ≡ with_records k (adds_of (piece.Piece index size)) → Does p (state_of k) (ReadOn r.reader) (adds_of (piece.Piece index size)) Done
       → GoesOn r (piece.Piece index size) r2 → IsReaderOf (state_of k2) r2 → IsFragment p (state_of k) r index size into
-      → Underway p b k2 run r2 (body ++ take size into) ⊎ Shows run (state_of b.kept) b.asks
+      → Underway p b k2 run r2 (body ++ take size into) ⊎ Shows run.streams (state_of b.kept) b.asks
   piece_way index size into r2 is d goes own f =
       elim (reads_own_bytes p (state_of k) run.streams (as_row r) f.row size into way.own some f.live f.document) [
         | inl same ↦ inl (record {
@@ -248,7 +248,7 @@ module _ (owns : ReadsOwn) (reads_own_bytes : ReadIsOwn) (given_all : AllIsGiven
           hit = lookup_first way.added (adds_of (piece.Piece index size)) (read.Hit r2.put) (way.hit ∙ ap (λ n. Some (read.Hit n)) (sym goes.put));
           front = front_behind index size into r2 is goes same;
         })
-        | inr other ↦ inr (record { device = p; added = way.added; left = _; grows = way.grows; other = inr (subst (λ t. IsOtherFragment p t run.streams) (state_behind b.kept k way.added way.adds) other) })
+        | inr other ↦ inr (record { device = p; added = way.added; left = _; grows = way.grows; other = IsOther.fragment (subst (λ t. IsOtherFragment p t run.streams) (state_behind b.kept k way.added way.adds) other) })
       ]
     where
       front_behind : (index size : ℕ) (into : List ℕ) (r2 : Reader) → k2 ≡ with_records k (adds_of (piece.Piece index size)) → GoesOn r (piece.Piece index size) r2
@@ -374,16 +374,16 @@ all_among : (xs : List DeviceRead) → AllByRecursion (λ r. IsAmong r xs) xs
 all_among [] = tt
 all_among (x ∷ xs) = (inl refl, all_among_more x xs xs (all_among xs))
 
--- a step that is no more than the call
-abbrev pub call_permit : (before after : ℕ) → List DeviceRead → Permit
-call_permit before after reads = record { packed = false; faults_before = before; faults = after; reads = reads }
+-- a step at a moment that is no more than the call
+abbrev pub call_permit : (now before after : ℕ) → List DeviceRead → Permit
+call_permit now before after reads = record { packed = false; now = now; faults_before = before; faults = after; reads = reads }
 
-pub call_covered : (before after : ℕ) (reads : List DeviceRead) → Covers (call_permit before after reads) before after reads
-call_covered before after reads = record { plain = refl; from = omega arith; upto = omega arith; knows = all_among reads }
+pub call_covered : (now before after : ℕ) (reads : List DeviceRead) → Covers (call_permit now before after reads) before after reads
+call_covered now before after reads = record { plain = refl; from = omega arith; upto = omega arith; knows = all_among reads }
 
 pub fragment_of : (s : State) (old new : Device) (r : Reader) (index size : ℕ) (into : List ℕ) (reading : ReadsOn s old new r (piece.Piece index size) into)
-    → IsFragment (call_permit old.faults new.faults reading.reads) s r index size into
-fragment_of s old new r index size into reading = reading.gives (call_permit old.faults new.faults reading.reads) (call_covered old.faults new.faults reading.reads)
+    → IsFragment (call_permit 0 old.faults new.faults reading.reads) s r index size into
+fragment_of s old new r index size into reading = reading.gives (call_permit 0 old.faults new.faults reading.reads) (call_covered 0 old.faults new.faults reading.reads)
 
 pub size_within : (s : State) (old new : Device) (r : Reader) (index size : ℕ) (into : List ℕ) → ReadsOn s old new r (piece.Piece index size) into → size ≤ length into
 size_within s old new r index size into reading =

@@ -48,6 +48,11 @@ module _ {D R C : Type 0} (disk : DiskGhosts D) (directory : DirectoryGhosts R) 
   ends run step said needs plays (inr shows) = inr shows
 
   -- where the line is what it must be for the part and its actors, it is so for the session
-  pub writer_ends : (step : Step) → NeedsSession step → (said : StepAnswer) → ((run : Run) → PartPlays chronicle run old session.actors → PartEnds chronicle run step part new.actors said)
+  pub writer_ends : (step : Step) → NeedsSession step → (said : StepAnswer) → ((run : Run) → run.now ≡ session.now → PartPlays chronicle run old session.actors → PartEnds chronicle run step part new.actors said)
       → (run : Run) → Plays disk directory chronicle run session → StepEnds disk directory chronicle run step new said
-  writer_ends step needs said part_ends = λ run plays. ends run step said needs plays (part_ends run (part_plays run plays))
+  writer_ends step needs said part_ends = λ run plays. ends run step said needs plays (part_ends run plays.now (part_plays run plays))
+
+  -- one that is so at any moment
+  pub writer_ends_ever : (step : Step) → NeedsSession step → (said : StepAnswer) → ((run : Run) → PartPlays chronicle run old session.actors → PartEnds chronicle run step part new.actors said)
+      → (run : Run) → Plays disk directory chronicle run session → StepEnds disk directory chronicle run step new said
+  writer_ends_ever step needs said part_ends = writer_ends step needs said (λ run moment. part_ends run)

@@ -55,11 +55,11 @@ ended_at : (t : State) (put : ℕ) → is_writing t put ≡ false → still_open
 ended_at t put none = ap (λ (b : Bool). if b then Some (Writes put) else None) none
 
 gives_up : (law : WriterIsEnded) (old new : Kept) (w : Writer) (put : ℕ) → IsQuiet (state_of new) → new ≡ with_records old (rec.Aborted put w.key ∷ []) → put ≡ w.put
-    → ((p : Permit) → Does p (state_of old) (GiveUp w.put) (rec.Aborted put w.key ∷ []) Done) → WriterDoes (state_of old) (state_of new) GivesUp w None (Some (answer.Aborted put))
-gives_up law old new w put quiet adds is does = λ run name played.
+    → ((p : Permit) → Does p (state_of old) (GiveUp w.put) (rec.Aborted put w.key ∷ []) Done) → (now : ℕ) → WriterDoes now (state_of old) (state_of new) GivesUp w None (Some (answer.Aborted put))
+gives_up law old new w put quiet adds is does now = λ run name moment played.
     let s : State = state_of old in
     let t : State = state_of new in
-    let p : Permit = record { packed = false; faults_before = 0; faults = 0; reads = [] } in
+    let p : Permit = record { packed = false; now = run.now; faults_before = 0; faults = 0; reads = [] } in
     let added : List Rec = rec.Aborted put w.key ∷ [] in
     let there = state_with old new added adds in
     let legal : IsStep p s (GiveUp w.put ∷ []) added None = record { grows = grows_by p s (to_do (GiveUp w.put ∷ [])) (record { intents = []; refused = None }) added (Done, does p, refl); quiet = subst IsQuiet there quiet } in
@@ -68,6 +68,7 @@ gives_up law old new w put quiet adds is does = λ run name played.
       turn = record { added = added; refused = None; device = p; given = [] };
       takes = record {
         plain = refl;
+        moment = refl;
         legal = subst (λ (asks : List Intent). IsStep p s asks added None) (sym (ap (λ o. Rattle.script_run.specs.Asked.if_has o (λ n. GiveUp n ∷ [])) has)) legal;
         own = refl;
       };
@@ -79,19 +80,19 @@ gives_up law old new w put quiet adds is does = λ run name played.
 
 pub aborted : (law : WriterIsEnded) (old new : Kept) (w : Writer) (put : ℕ) → IsQuiet (state_of new) → new ≡ with_records old (abort_adds w.key (Rattle.std.specs.Prelude.Ok put))
     → AbortsWhere (state_of old) w.put (Rattle.std.specs.Prelude.Ok put) → AbortsAsAsked (state_of old) w.put w.key (Rattle.std.specs.Prelude.Ok put)
-    → WriterDoes (state_of old) (state_of new) GivesUp w None (Some (answer.Aborted put))
+    → (now : ℕ) → WriterDoes now (state_of old) (state_of new) GivesUp w None (Some (answer.Aborted put))
 aborted law old new w put quiet adds where_ does = gives_up law old new w put quiet adds where_.0 does
 
-pub not_aborted : (s t : State) (w : Writer) (why : Refusal) → is_writing s w.put ≡ true → AbortsWhere s w.put (Rattle.std.specs.Prelude.Err why) → WriterDoes s t GivesUp w None (refused_answer why None)
-not_aborted s t w (refusal.Memory e) writing h = tt
-not_aborted s t w refusal.NoSuchWriter writing h = let clash : true ≡ false = sym writing ∙ h in cc
-not_aborted s t w (refusal.DeviceFault count) writing h = absurd h
-not_aborted s t w (refusal.Exhausted number) writing h = absurd h
-not_aborted s t w refusal.TooManyWriters writing h = absurd h
-not_aborted s t w refusal.TooManyFragments writing h = absurd h
-not_aborted s t w (refusal.VectorTooLarge size) writing h = absurd h
-not_aborted s t w (refusal.Lost index why) writing h = absurd h
-not_aborted s t w refusal.Sealed writing h = absurd h
+pub not_aborted : (now : ℕ) (s t : State) (w : Writer) (why : Refusal) → is_writing s w.put ≡ true → AbortsWhere s w.put (Rattle.std.specs.Prelude.Err why) → WriterDoes now s t GivesUp w None (refused_answer why None)
+not_aborted now s t w (refusal.Memory e) writing h = tt
+not_aborted now s t w refusal.NoSuchWriter writing h = let clash : true ≡ false = sym writing ∙ h in cc
+not_aborted now s t w (refusal.DeviceFault count) writing h = absurd h
+not_aborted now s t w (refusal.Exhausted number) writing h = absurd h
+not_aborted now s t w refusal.TooManyWriters writing h = absurd h
+not_aborted now s t w refusal.TooManyFragments writing h = absurd h
+not_aborted now s t w (refusal.VectorTooLarge size) writing h = absurd h
+not_aborted now s t w (refusal.Lost index why) writing h = absurd h
+not_aborted now s t w refusal.Sealed writing h = absurd h
 
 pub owns_abort : (old new : Kept) (w : Writer) (put : ℕ) → put ≡ w.put → new ≡ with_records old (rec.Aborted put w.key ∷ []) → AddsOfPut w.put old new
 owns_abort old new w put is adds = record { added = rec.Aborted put w.key ∷ []; adds = adds; own = (is, tt) }
@@ -135,9 +136,9 @@ is_left t put w left is own l = left_by t put w left (is_writing t put) is refl 
 
 -- ---- what was asked of a writer was spent
 
--- a permit that covers a call that reads nothing, or this
-abbrev pub permit_of : ℕ → ℕ → List Rattle.cache_model.specs.Permit.DeviceRead → Permit
-permit_of before after reads = record { packed = false; faults_before = before; faults = after; reads = reads }
+-- a permit of a moment that covers a call that reads this
+abbrev pub permit_of : (now before after : ℕ) → List Rattle.cache_model.specs.Permit.DeviceRead → Permit
+permit_of now before after reads = record { packed = false; now = now; faults_before = before; faults = after; reads = reads }
 
 all_among : (before reads : List Rattle.cache_model.specs.Permit.DeviceRead) → Rattle.std.specs.List.AllByRecursion (λ r. Rattle.cache_model.specs.Permit.IsAmong r reads) reads
     → (more : Rattle.cache_model.specs.Permit.DeviceRead) → Rattle.std.specs.List.AllByRecursion (λ r. Rattle.cache_model.specs.Permit.IsAmong r (more ∷ reads)) reads
@@ -152,8 +153,8 @@ knows : (reads : List Rattle.cache_model.specs.Permit.DeviceRead) → Rattle.std
 knows [] = tt
 knows (r ∷ reads) = (inl refl, all_among [] reads (knows reads) r)
 
-pub covers_own : (before after : ℕ) (reads : List Rattle.cache_model.specs.Permit.DeviceRead) → Covers (permit_of before after reads) before after reads
-covers_own before after reads = record { plain = refl; from = omega arith; upto = omega arith; knows = knows reads }
+pub covers_own : (now before after : ℕ) (reads : List Rattle.cache_model.specs.Permit.DeviceRead) → Covers (permit_of now before after reads) before after reads
+covers_own now before after reads = record { plain = refl; from = omega arith; upto = omega arith; knows = knows reads }
 
 -- why less was done, by how it ended
 abbrev pub reason_of : End → Option Reason

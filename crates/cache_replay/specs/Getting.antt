@@ -58,7 +58,7 @@ pub record Gets (p : Permit) (old new : Kept) (run : Run) (key : Key) (request :
 pub record GetsAsAsked (before after : ℕ) (old new : Kept) (key : Key) (request : List Field) (got : Got) : Type 0 where
   pub reads : List DeviceRead
   pub does : (p : Permit) (run : Run) → Covers p before after reads → AreTold (state_of old) → AreOwn (state_of old) run.streams
-      → Gets p old new run key request got ⊎ Shows run (state_of old) (get_intents (state_of old) key request)
+      → Gets p old new run key request got ⊎ Shows run.streams (state_of old) (get_intents (state_of old) key request)
 
 -- ---- on the way through it
 
@@ -82,7 +82,7 @@ pub record IsUnderway (b : Began) (now : ℕ) (new : Kept) (r : Reader) (body : 
   pub reads : List DeviceRead
   pub since : b.faults ≤ now
   pub does : (p : Permit) (run : Run) → Covers p b.faults now reads → AreTold (state_of b.kept) → AreOwn (state_of b.kept) run.streams
-      → Underway p b new run r body ⊎ Shows run (state_of b.kept) b.asks
+      → Underway p b new run r body ⊎ Shows run.streams (state_of b.kept) b.asks
 
 -- this is answered, with these bytes, and so much is left to be done
 pub record Answered (p : Permit) (b : Began) (new : Kept) (run : Run) (left : List Intent) (given : List ℕ) (said : StepAnswer) : Type 0 where
@@ -95,7 +95,7 @@ pub record Answered (p : Permit) (b : Began) (new : Kept) (run : Run) (left : Li
 pub record IsAnswered (b : Began) (now : ℕ) (new : Kept) (left : List Intent) (given : List ℕ) (said : StepAnswer) : Type 0 where
   pub reads : List DeviceRead
   pub does : (p : Permit) (run : Run) → Covers p b.faults now reads → AreTold (state_of b.kept) → AreOwn (state_of b.kept) run.streams
-      → Answered p b new run left given said ⊎ Shows run (state_of b.kept) b.asks
+      → Answered p b new run left given said ⊎ Shows run.streams (state_of b.kept) b.asks
 
 -- ---- one fragment after the other
 
@@ -125,4 +125,4 @@ pub record LineGets (run : Run) (s t : State) (key : Key) (request : List Field)
 
 -- so it is, or two documents of one SHA-256 are shown
 abbrev pub LineEnds : Run → (s t : State) → Key → List Field → (ℕ → Option Holding) → StepAnswer → Type 0
-LineEnds run s t key request slots said = LineGets run s t key request slots said ⊎ Shows run s (get_intents s key request)
+LineEnds run s t key request slots said = LineGets run s t key request slots said ⊎ Shows run.streams s (get_intents s key request)

@@ -7,7 +7,7 @@ use Rattle.cache_model.specs.State.{State, after_all}
 use Rattle.cache_model.specs.Kept.{Kept, state_of, with_records}
 use Rattle.cache_model.specs.Permit.{DeviceRead, GiveUp, Intent, Lost, Permit, Reason, Work, is_cleanup, to_do}
 use Rattle.cache_model.specs.Legal.{IsStep, MayGrow, is_writing}
-use Rattle.cache_model.specs.Vectors.{AreTold}
+use Rattle.cache_model.specs.Vectors.{AreTold, IsOtherVector}
 use Rattle.stripe_core.specs.declared.refusal.Refusal.{Refusal}
 use Rattle.stripe_core.specs.declared.refusal.Refusal.TheVariants as refusal
 use Rattle.stripe_core.specs.Covers.{Covers}
@@ -22,13 +22,19 @@ use Rattle.script_run.specs.Answers.{put_said, said}
 
 -- ---- two documents of one SHA-256
 
--- some way into what is asked, the document of a key's vector and other bytes that were read for it
-pub record ShowsVector (p : Permit) (s : State) (asks : List Intent) : Type 0 where
+-- the document of a vector, and other bytes that the device gave for it
+pub data IsVectorPair (p : Permit) (s : State) : Type 0 where
+  -- as a key's vector was read
+  read_other : (key : Key) → IsCollision p s key → IsVectorPair p s
+  -- as a vector was copied
+  copied_other : IsOtherVector p s → IsVectorPair p s
+
+-- so it is some way into what is asked
+pub record ShowsPair (p : Permit) (s : State) (asks : List Intent) : Type 0 where
   pub added : List Rec
   pub left : Work
-  pub key : Key
   pub grows : MayGrow p s (to_do asks) added left
-  pub other : IsCollision p (after_all s added) key
+  pub other : IsVectorPair p (after_all s added)
 
 -- ---- answers
 
@@ -75,22 +81,17 @@ pub record Fills (p : Permit) (old new : Kept) (w : Writer) (body : List ℕ) (r
   pub says : said (state_of new) None why (put_said (state_of new) w.put) ≡ receipt_answer result
   pub over : IsOver (state_of new) w.put why
 
--- all is fed, and then two documents of one SHA-256 are shown
-pub record ShowsBody (p : Permit) (s : State) (put : ℕ) (body : List ℕ) : Type 0 where
-  pub added : List Rec
-  pub left : List Intent → Work
-  pub key : Key
-  pub grows : (rest : List Intent) → MayGrow p s (to_do (body_intents s.geometry.fragment put body ++ rest)) added (left rest)
-  pub other : IsCollision p (after_all s added) key
-
-pub record FillsAsAsked (before after : ℕ) (old new : Kept) (w : Writer) (body : List ℕ) (result : Result Receipt Refusal) : Type 0 where
+-- what the device gave, and what came of it in any step at that moment that covers the call; or whatever
+-- is asked behind it, two documents of one SHA-256 are shown
+pub record FillsAsAsked (now before after : ℕ) (old new : Kept) (w : Writer) (body : List ℕ) (result : Result Receipt Refusal) : Type 0 where
   pub reads : List DeviceRead
-  pub does : (p : Permit) → Covers p before after reads → AreTold (state_of old) → Fills p old new w body result ⊎ ShowsBody p (state_of old) w.put body
+  pub does : (p : Permit) → p.now ≡ now → Covers p before after reads → AreTold (state_of old) → (rest : List Intent)
+      → Fills p old new w body result ⊎ ShowsPair p (state_of old) (body_intents (state_of old).geometry.fragment w.put body ++ rest)
 
 -- where memory is wanting nothing is said
-abbrev pub FillsWhere : (before after : ℕ) → (old new : Kept) → Writer → List ℕ → Result Receipt Refusal → Type 0
-FillsWhere before after old new w body (Err (refusal.Memory e)) = Unit {0}
-FillsWhere before after old new w body result = FillsAsAsked before after old new w body result
+abbrev pub FillsWhere : (now before after : ℕ) → (old new : Kept) → Writer → List ℕ → Result Receipt Refusal → Type 0
+FillsWhere now before after old new w body (Err (refusal.Memory e)) = Unit {0}
+FillsWhere now before after old new w body result = FillsAsAsked now before after old new w body result
 
 -- ---- a body that is put, with the put given up where it is still open
 
@@ -105,15 +106,15 @@ pub record BodyEnds (p : Permit) (old new : Kept) (put : ℕ) (body : List ℕ) 
   pub grows : MayGrow p (state_of old) (to_do (ending_intents (state_of old) put body)) added (record { intents = []; refused = why })
   pub says : said (state_of new) None why (put_said (state_of new) put) ≡ receipt_answer result
 
-pub record BodyEndsAsAsked (before after : ℕ) (old new : Kept) (put : ℕ) (body : List ℕ) (result : Result Receipt Refusal) : Type 0 where
+pub record BodyEndsAsAsked (now before after : ℕ) (old new : Kept) (put : ℕ) (body : List ℕ) (result : Result Receipt Refusal) : Type 0 where
   pub reads : List DeviceRead
-  pub does : (p : Permit) → Covers p before after reads → AreTold (state_of old)
-      → BodyEnds p old new put body result ⊎ ShowsVector p (state_of old) (ending_intents (state_of old) put body)
+  pub does : (p : Permit) → p.now ≡ now → Covers p before after reads → AreTold (state_of old)
+      → BodyEnds p old new put body result ⊎ ShowsPair p (state_of old) (ending_intents (state_of old) put body)
 
 -- where memory is wanting nothing is said
-abbrev pub BodyEndsWhere : (before after : ℕ) → (old new : Kept) → ℕ → List ℕ → Result Receipt Refusal → Type 0
-BodyEndsWhere before after old new put body (Err (refusal.Memory e)) = Unit {0}
-BodyEndsWhere before after old new put body result = BodyEndsAsAsked before after old new put body result
+abbrev pub BodyEndsWhere : (now before after : ℕ) → (old new : Kept) → ℕ → List ℕ → Result Receipt Refusal → Type 0
+BodyEndsWhere now before after old new put body (Err (refusal.Memory e)) = Unit {0}
+BodyEndsWhere now before after old new put body result = BodyEndsAsAsked now before after old new put body result
 
 -- a result, unless memory was wanting at the end
 abbrev pub unless_memory : Result ℕ Refusal → Result Receipt Refusal → Result Receipt Refusal
@@ -130,14 +131,14 @@ pub record Puts (p : Permit) (old new : Kept) (key : Key) (body : List ℕ) (req
   pub step : IsStep p (state_of old) (put_intents (state_of old) key body request response) added why
   pub says : said (state_of new) None why (put_said (state_of new) (state_of old).next_put) ≡ receipt_answer result
 
--- what was read, and what came of it in any step that covers the call; or two documents of one SHA-256
--- are shown
-pub record PutsAsAsked (before after : ℕ) (old new : Kept) (key : Key) (body : List ℕ) (request response : List Field) (result : Result Receipt Refusal) : Type 0 where
+-- what the device gave, and what came of it in any step at that moment that covers the call; or two
+-- documents of one SHA-256 are shown
+pub record PutsAsAsked (now before after : ℕ) (old new : Kept) (key : Key) (body : List ℕ) (request response : List Field) (result : Result Receipt Refusal) : Type 0 where
   pub reads : List DeviceRead
-  pub does : (p : Permit) → Covers p before after reads → AreTold (state_of old)
-      → Puts p old new key body request response result ⊎ ShowsVector p (state_of old) (put_intents (state_of old) key body request response)
+  pub does : (p : Permit) → p.now ≡ now → Covers p before after reads → AreTold (state_of old)
+      → Puts p old new key body request response result ⊎ ShowsPair p (state_of old) (put_intents (state_of old) key body request response)
 
 -- where memory is wanting nothing is said
-abbrev pub PutsWhere : (before after : ℕ) → (old new : Kept) → Key → List ℕ → (request response : List Field) → Result Receipt Refusal → Type 0
-PutsWhere before after old new key body request response (Err (refusal.Memory e)) = Unit {0}
-PutsWhere before after old new key body request response result = PutsAsAsked before after old new key body request response result
+abbrev pub PutsWhere : (now before after : ℕ) → (old new : Kept) → Key → List ℕ → (request response : List Field) → Result Receipt Refusal → Type 0
+PutsWhere now before after old new key body request response (Err (refusal.Memory e)) = Unit {0}
+PutsWhere now before after old new key body request response result = PutsAsAsked now before after old new key body request response result

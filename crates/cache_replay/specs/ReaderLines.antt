@@ -20,10 +20,9 @@ use Rattle.script_lang.specs.declared.answer.StepAnswer.{StepAnswer}
 use Rattle.script_lang.specs.declared.answer.StepAnswer.TheVariants as answer
 use Rattle.script_run.specs.Run.{Run}
 use Rattle.script_run.specs.Turn.{Turn, told_in}
-use Rattle.script_run.specs.Asked.{asked}
 use Rattle.script_run.specs.Answers.{broken_said, miss_said, next_said, session_said}
 use Rattle.script_run.specs.Behind.{in_session}
-use Rattle.script_run.specs.Takes.{IsPiece, SessionTakes, Shows}
+use Rattle.script_run.specs.Takes.{IsPiece, SessionTakes, Shows, StepShows}
 use Rattle.cache_replay.specs.declared.session.Part.{Part}
 use Rattle.cache_replay.specs.declared.session.Holding.{Holding}
 use Rattle.cache_replay.specs.declared.session.Holding.TheVariants as holding
@@ -83,6 +82,7 @@ pub record NextMoves (run : Run) (s t : State) (r new : Reader) (said : StepAnsw
   pub added : List Rec
   pub given : List ℕ
   pub plain : device.packed ≡ false
+  pub moment : device.now ≡ run.now
   pub behind : t ≡ after_all s added
   pub does : Does device s (ReadOn r.reader) added Done
   pub own : IsPiece run s r.reader given (told_in added)
@@ -91,7 +91,7 @@ pub record NextMoves (run : Run) (s t : State) (r new : Reader) (said : StepAnsw
 
 -- or two documents of one SHA-256 are shown
 abbrev pub NextEnds : Run → (s t : State) → (r new : Reader) → StepAnswer → Type 0
-NextEnds run s t r new said = NextMoves run s t r new said ⊎ Shows run s (ReadOn r.reader ∷ [])
+NextEnds run s t r new said = NextMoves run s t r new said ⊎ Shows run.streams s (ReadOn r.reader ∷ [])
 
 -- ---- a line
 
@@ -110,4 +110,4 @@ module _ {D R C : Type 0} (disk : DiskGhosts D) (directory : DirectoryGhosts R) 
 
   -- so it is, or two documents of one SHA-256 are shown
   abbrev pub PartEnds : Run → State → Step → Part D R C → Seen Holding → StepAnswer → Type 0
-  PartEnds run s step part actors said = PartMoves run s step part actors said ⊎ Shows run s (asked run s step)
+  PartEnds run s step part actors said = PartMoves run s step part actors said ⊎ StepShows run (Some s) step

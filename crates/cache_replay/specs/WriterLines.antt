@@ -18,11 +18,10 @@ use Rattle.script_lang.specs.declared.step.Step.TheVariants as step
 use Rattle.script_lang.specs.declared.answer.StepAnswer.{StepAnswer}
 use Rattle.script_lang.specs.declared.answer.StepAnswer.TheVariants as answer
 use Rattle.script_run.specs.Run.{Run, Writes, held_by}
-use Rattle.script_run.specs.Asked.{asked}
 use Rattle.script_run.specs.Turn.{Turn}
 use Rattle.script_run.specs.Answers.{session_said, step_answer}
 use Rattle.script_run.specs.Behind.{after_step, holds_behind, streams_behind}
-use Rattle.script_run.specs.Takes.{SessionTakes, Shows, StepShows, StepTakes}
+use Rattle.script_run.specs.Takes.{SessionTakes, StepShows, StepTakes}
 use Rattle.cache_replay.specs.declared.session.Part.{Part}
 use Rattle.cache_replay.specs.declared.session.Holding.{Holding}
 use Rattle.cache_replay.specs.declared.session.Holding.TheVariants as holding
@@ -96,14 +95,14 @@ pub record WriterMoves (run : Run) (name : List ℕ) (s t : State) (line : Write
 
 -- so it is, or two documents of one SHA-256 are shown
 abbrev pub WriterEnds : Run → List ℕ → State → State → WriterLine → Option Writer → StepAnswer → Type 0
-WriterEnds run name s t line left said = WriterMoves run name s t line left said ⊎ Shows run s (asked run s (step_of line name))
+WriterEnds run name s t line left said = WriterMoves run name s t line left said ⊎ StepShows run (Some s) (step_of line name)
 
--- where memory is wanting nothing is answered
-abbrev pub WriterDoes : State → State → WriterLine → Writer → Option Writer → Option StepAnswer → Type 0
-WriterDoes s t line w left None = Unit {0}
-WriterDoes s t line w left (Some said) = (run : Run) (name : List ℕ) → IsPlayed run name s w → WriterEnds run name s t line left said
+-- at a moment; where memory is wanting nothing is answered
+abbrev pub WriterDoes : ℕ → State → State → WriterLine → Writer → Option Writer → Option StepAnswer → Type 0
+WriterDoes now s t line w left None = Unit {0}
+WriterDoes now s t line w left (Some said) = (run : Run) (name : List ℕ) → run.now ≡ now → IsPlayed run name s w → WriterEnds run name s t line left said
 
--- the same of a line that asks for a writer, of an actor that has nothing
+-- the same, at any moment, of a line that asks for a writer, of an actor that has nothing
 abbrev pub OpenDoes : State → State → ℕ → WriterLine → Option Writer → Option StepAnswer → Type 0
 OpenDoes s t n line left None = Unit {0}
 OpenDoes s t n line left (Some said) = (run : Run) (name : List ℕ) → held_by run name ≡ None → n ≡ number_of run.actors name → WriterMoves run name s t line left said

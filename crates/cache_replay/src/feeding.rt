@@ -25,6 +25,7 @@ pub(crate) fn feed<D: Disk, R: Directory + Drop, C: Chronicle>(
     stripe: &mut Stripe<D, R, C>,
     writer: &mut Writer,
     bytes: &[u8],
+    now: u64,
 ) -> Fed
     requires stripe { IsStripe D.Disk R.Directory C.Chronicle stripe.old }
     requires quiet { IsQuiet (state_in C.Chronicle stripe.old) }
@@ -33,7 +34,7 @@ pub(crate) fn feed<D: Disk, R: Directory + Drop, C: Chronicle>(
     ensures stripe { IsStripe D.Disk R.Directory C.Chronicle stripe.new }
     ensures quiet { IsQuiet (state_in C.Chronicle stripe.new) }
     ensures writer { IsWriterOf (state_in C.Chronicle stripe.new) writer.new }
-    ensures feeds { FeedsWhere (seen_in D.Disk R.Directory stripe.old).device.faults (seen_in D.Disk R.Directory stripe.new).device.faults
+    ensures feeds { FeedsWhere now (seen_in D.Disk R.Directory stripe.old).device.faults (seen_in D.Disk R.Directory stripe.new).device.faults
         (kept_in C.Chronicle stripe.old) (kept_in C.Chronicle stripe.new) writer.old bytes.now result.refused }
     ensures most { result.taken ≤ length bytes.now }
     ensures taken { result.taken ≡ taken_of (state_in C.Chronicle stripe.new) writer.old bytes.now result.refused }
@@ -46,7 +47,7 @@ pub(crate) fn feed<D: Disk, R: Directory + Drop, C: Chronicle>(
 {
     let mut taken = 0;
     'feed: loop {
-        match write(stripe, writer, &bytes[taken..]) {
+        match write(stripe, writer, &bytes[taken..], now) {
             Ok(count) => taken += count,
             Err(why) => {
                 return Fed {

@@ -68,7 +68,7 @@ pub(crate) fn get<D: Disk, R: Directory + Drop, C: Chronicle>(
     ensures leaves { LeavesBut None (Some (state_in C.Chronicle stripe.old).next_reader) (state_in C.Chronicle stripe.old) (state_in C.Chronicle stripe.new) }
     ensures later { (seen_in D.Disk R.Directory stripe.old).device.faults ≤ (seen_in D.Disk R.Directory stripe.new).device.faults }
     ensures unharmed { (run : Run) → AreTold (state_in C.Chronicle stripe.old) → AreOwn (state_in C.Chronicle stripe.old) run.streams
-        → StaysUnharmed D.Disk R.Directory C.Chronicle stripe.old stripe.new ⊎ Shows run (state_in C.Chronicle stripe.old) (get_intents (state_in C.Chronicle stripe.old) key request) }
+        → StaysUnharmed D.Disk R.Directory C.Chronicle stripe.old stripe.new ⊎ Shows run.streams (state_in C.Chronicle stripe.old) (get_intents (state_in C.Chronicle stripe.old) key request) }
     ensures trust { (seen_in D.Disk R.Directory stripe.new).device.trust ≤ (seen_in D.Disk R.Directory stripe.old).device.trust }
 {
     reads_own();
@@ -103,7 +103,7 @@ fn read_whole<D: Disk, R: Directory + Drop, C: Chronicle>(
     ensures leaves { LeavesBut None (Some reader.reader) (state_in C.Chronicle stripe.old) (state_in C.Chronicle stripe.new) }
     ensures later { (seen_in D.Disk R.Directory stripe.old).device.faults ≤ (seen_in D.Disk R.Directory stripe.new).device.faults }
     ensures unharmed { (b : Began) (run : Run) → IsUnderway b (seen_in D.Disk R.Directory stripe.old).device.faults (kept_in C.Chronicle stripe.old) reader []
-        → AreTold (state_of b.kept) → AreOwn (state_of b.kept) run.streams → StaysUnharmed D.Disk R.Directory C.Chronicle stripe.old stripe.new ⊎ Shows run (state_of b.kept) b.asks }
+        → AreTold (state_of b.kept) → AreOwn (state_of b.kept) run.streams → StaysUnharmed D.Disk R.Directory C.Chronicle stripe.old stripe.new ⊎ Shows run.streams (state_of b.kept) b.asks }
     ensures trust { (seen_in D.Disk R.Directory stripe.new).device.trust ≤ (seen_in D.Disk R.Directory stripe.old).device.trust }
 {
     let mut reader = reader;
@@ -139,7 +139,7 @@ fn read_to_end<D: Disk, R: Directory + Drop, C: Chronicle>(
     ensures leaves { LeavesBut None (Some reader.old.reader) (state_in C.Chronicle stripe.old) (state_in C.Chronicle stripe.new) }
     ensures later { (seen_in D.Disk R.Directory stripe.old).device.faults ≤ (seen_in D.Disk R.Directory stripe.new).device.faults }
     ensures unharmed { (b : Began) (run : Run) → IsUnderway b (seen_in D.Disk R.Directory stripe.old).device.faults (kept_in C.Chronicle stripe.old) reader.old []
-        → AreTold (state_of b.kept) → AreOwn (state_of b.kept) run.streams → StaysUnharmed D.Disk R.Directory C.Chronicle stripe.old stripe.new ⊎ Shows run (state_of b.kept) b.asks }
+        → AreTold (state_of b.kept) → AreOwn (state_of b.kept) run.streams → StaysUnharmed D.Disk R.Directory C.Chronicle stripe.old stripe.new ⊎ Shows run.streams (state_of b.kept) b.asks }
     ensures trust { (seen_in D.Disk R.Directory stripe.new).device.trust ≤ (seen_in D.Disk R.Directory stripe.old).device.trust }
 {
     let mut body = Vec::new(alloc);
@@ -177,7 +177,7 @@ fn read_more<D: Disk, R: Directory + Drop, C: Chronicle>(
     ensures leaves { LeavesBut None (Some reader.old.reader) (state_in C.Chronicle stripe.old) (state_in C.Chronicle stripe.new) }
     ensures later { (seen_in D.Disk R.Directory stripe.old).device.faults ≤ (seen_in D.Disk R.Directory stripe.new).device.faults }
     ensures unharmed { (b : Began) (run : Run) → IsUnderway b (seen_in D.Disk R.Directory stripe.old).device.faults (kept_in C.Chronicle stripe.old) reader.old body.old.items
-        → AreTold (state_of b.kept) → AreOwn (state_of b.kept) run.streams → StaysUnharmed D.Disk R.Directory C.Chronicle stripe.old stripe.new ⊎ Shows run (state_of b.kept) b.asks }
+        → AreTold (state_of b.kept) → AreOwn (state_of b.kept) run.streams → StaysUnharmed D.Disk R.Directory C.Chronicle stripe.old stripe.new ⊎ Shows run.streams (state_of b.kept) b.asks }
     ensures trust { (seen_in D.Disk R.Directory stripe.new).device.trust ≤ (seen_in D.Disk R.Directory stripe.old).device.trust }
 {
     read_is_own();
@@ -256,7 +256,7 @@ fn get_in_part<D: Disk, R: Directory + Drop, C: Chronicle>(
         → LineEnds run (state_in C.Chronicle part.old.stripe) (state_in C.Chronicle part.new.stripe) key request slots said) }
     ensures later { (seen_in D.Disk R.Directory part.old.stripe).device.faults ≤ (seen_in D.Disk R.Directory part.new.stripe).device.faults }
     ensures unharmed { (run : Run) → AreTold (state_in C.Chronicle part.old.stripe) → AreOwn (state_in C.Chronicle part.old.stripe) run.streams
-        → StaysUnharmed D.Disk R.Directory C.Chronicle part.old.stripe part.new.stripe ⊎ Shows run (state_in C.Chronicle part.old.stripe) (get_intents (state_in C.Chronicle part.old.stripe) key request) }
+        → StaysUnharmed D.Disk R.Directory C.Chronicle part.old.stripe part.new.stripe ⊎ Shows run.streams (state_in C.Chronicle part.old.stripe) (get_intents (state_in C.Chronicle part.old.stripe) key request) }
     ensures trust { (seen_in D.Disk R.Directory part.new.stripe).device.trust ≤ (seen_in D.Disk R.Directory part.old.stripe).device.trust }
 {
     reads_own();

@@ -80,7 +80,7 @@ pub(crate) fn flush_line<D: Disk, R: Directory + Drop, C: Chronicle>(
     steps_tell();
     steps_own();
     match &mut session.part {
-        Some(part) => flush(part),
+        Some(part) => flush(part, session.now),
         None => Err(Stop::NoCache),
     }
 }
@@ -88,16 +88,17 @@ pub(crate) fn flush_line<D: Disk, R: Directory + Drop, C: Chronicle>(
 // Writes the buffer of a cache out.
 fn flush<D: Disk, R: Directory + Drop, C: Chronicle>(
     part: &mut Part<D, R, C>,
+    now: u64,
 ) -> Result<StepAnswer, Stop>
     requires part { IsPart D.Disk R.Directory C.Chronicle part.old }
     ensures part { IsPart D.Disk R.Directory C.Chronicle part.new }
     ensures leaves { LeavesBut None None (state_in C.Chronicle part.old.stripe) (state_in C.Chronicle part.new.stripe) }
-    ensures ends { IfOk result (λ said. (run : Run) → Plainly run step.Flush (state_in C.Chronicle part.old.stripe) (state_in C.Chronicle part.new.stripe) said) }
+    ensures ends { IfOk result (λ said. (run : Run) → run.now ≡ now → Plainly run step.Flush (state_in C.Chronicle part.old.stripe) (state_in C.Chronicle part.new.stripe) said) }
     ensures stop { IfErr result (λ stop. stop ≡ Stop.Memory) }
     ensures later { (seen_in D.Disk R.Directory part.old.stripe).device.faults ≤ (seen_in D.Disk R.Directory part.new.stripe).device.faults }
     ensures unharmed { StaysUnharmed D.Disk R.Directory C.Chronicle part.old.stripe part.new.stripe }
 {
-    match part.stripe.flush() {
+    match part.stripe.flush(now) {
         Ok(flushed) => Ok(StepAnswer::Flushed {
             blocks: flushed.blocks,
             cursor: flushed.cursor,

@@ -45,7 +45,7 @@ pub(crate) fn put_line<D: Disk, R: Directory + Drop, C: Chronicle>(
     steps_tell();
     steps_own();
     match &mut session.part {
-        Some(part) => put_in(part, key, body, request, response),
+        Some(part) => put_in(part, key, body, request, response, session.now),
         None => Err(Stop::NoCache),
     }
 }
@@ -57,18 +57,19 @@ fn put_in<D: Disk, R: Directory + Drop, C: Chronicle>(
     body: &[u8],
     request: Fields,
     response: Fields,
+    now: u64,
 ) -> Result<StepAnswer, Stop>
     requires part { IsPart D.Disk R.Directory C.Chronicle part.old }
     ensures part { IsPart D.Disk R.Directory C.Chronicle part.new }
     ensures leaves { LeavesBut (Some (state_in C.Chronicle part.old.stripe).next_put) None (state_in C.Chronicle part.old.stripe) (state_in C.Chronicle part.new.stripe) }
-    ensures ends { IfOk result (λ said. (run : Run) → AreTold (state_in C.Chronicle part.old.stripe)
+    ensures ends { IfOk result (λ said. (run : Run) → run.now ≡ now → AreTold (state_in C.Chronicle part.old.stripe)
         → Plainly run (step.Put key body.now request response) (state_in C.Chronicle part.old.stripe) (state_in C.Chronicle part.new.stripe) said
         ⊎ StepShows run (Some (state_in C.Chronicle part.old.stripe)) (step.Put key body.now request response)) }
     ensures stop { IfErr result (λ stop. stop ≡ Stop.Memory) }
     ensures later { (seen_in D.Disk R.Directory part.old.stripe).device.faults ≤ (seen_in D.Disk R.Directory part.new.stripe).device.faults }
     ensures unharmed { StaysUnharmed D.Disk R.Directory C.Chronicle part.old.stripe part.new.stripe }
 {
-    match closed_answer(put(&mut part.stripe, key, body, request, response)) {
+    match closed_answer(put(&mut part.stripe, key, body, request, response, now)) {
         Some(said) => Ok(said),
         None => Err(Stop::Memory),
     }

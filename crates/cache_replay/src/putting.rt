@@ -25,12 +25,13 @@ pub(crate) fn put<D: Disk, R: Directory + Drop, C: Chronicle>(
     body: &[u8],
     request: Fields,
     response: Fields,
+    now: u64,
 ) -> Result<Receipt, Refusal>
     requires stripe { IsStripe D.Disk R.Directory C.Chronicle stripe.old }
     requires quiet { IsQuiet (state_in C.Chronicle stripe.old) }
     ensures stripe { IsStripe D.Disk R.Directory C.Chronicle stripe.new }
     ensures quiet { IsQuiet (state_in C.Chronicle stripe.new) }
-    ensures puts { PutsWhere (seen_in D.Disk R.Directory stripe.old).device.faults (seen_in D.Disk R.Directory stripe.new).device.faults
+    ensures puts { PutsWhere now (seen_in D.Disk R.Directory stripe.old).device.faults (seen_in D.Disk R.Directory stripe.new).device.faults
         (kept_in C.Chronicle stripe.old) (kept_in C.Chronicle stripe.new) key body.now request response result }
     ensures leaves { LeavesBut (Some (state_in C.Chronicle stripe.old).next_put) None (state_in C.Chronicle stripe.old) (state_in C.Chronicle stripe.new) }
     ensures later { (seen_in D.Disk R.Directory stripe.old).device.faults ≤ (seen_in D.Disk R.Directory stripe.new).device.faults }
@@ -41,7 +42,7 @@ pub(crate) fn put<D: Disk, R: Directory + Drop, C: Chronicle>(
     others_stay();
     groups_tell();
     match open_write(stripe, Actor(0), key, request, response, 0) {
-        Ok(mut writer) => put_open(stripe, &mut writer, body),
+        Ok(mut writer) => put_open(stripe, &mut writer, body, now),
         Err(why) => Err(why),
     }
 }
@@ -51,6 +52,7 @@ fn put_open<D: Disk, R: Directory + Drop, C: Chronicle>(
     stripe: &mut Stripe<D, R, C>,
     writer: &mut Writer,
     body: &[u8],
+    now: u64,
 ) -> Result<Receipt, Refusal>
     requires stripe { IsStripe D.Disk R.Directory C.Chronicle stripe.old }
     requires quiet { IsQuiet (state_in C.Chronicle stripe.old) }
@@ -59,13 +61,13 @@ fn put_open<D: Disk, R: Directory + Drop, C: Chronicle>(
     requires fresh { IsFresh writer.old }
     ensures stripe { IsStripe D.Disk R.Directory C.Chronicle stripe.new }
     ensures quiet { IsQuiet (state_in C.Chronicle stripe.new) }
-    ensures ends { BodyEndsWhere (seen_in D.Disk R.Directory stripe.old).device.faults (seen_in D.Disk R.Directory stripe.new).device.faults
+    ensures ends { BodyEndsWhere now (seen_in D.Disk R.Directory stripe.old).device.faults (seen_in D.Disk R.Directory stripe.new).device.faults
         (kept_in C.Chronicle stripe.old) (kept_in C.Chronicle stripe.new) writer.old.put body.now result }
     ensures own { AddsOfPut writer.old.put (kept_in C.Chronicle stripe.old) (kept_in C.Chronicle stripe.new) }
     ensures later { (seen_in D.Disk R.Directory stripe.old).device.faults ≤ (seen_in D.Disk R.Directory stripe.new).device.faults }
     ensures unharmed { StaysUnharmed D.Disk R.Directory C.Chronicle stripe.old stripe.new }
 {
-    let result = fill(stripe, writer, body);
+    let result = fill(stripe, writer, body, now);
     let end = abort_write(stripe, writer);
     unless_memory(end, result)
 }
@@ -88,6 +90,7 @@ fn fill<D: Disk, R: Directory + Drop, C: Chronicle>(
     stripe: &mut Stripe<D, R, C>,
     writer: &mut Writer,
     body: &[u8],
+    now: u64,
 ) -> Result<Receipt, Refusal>
     requires stripe { IsStripe D.Disk R.Directory C.Chronicle stripe.old }
     requires quiet { IsQuiet (state_in C.Chronicle stripe.old) }
@@ -98,7 +101,7 @@ fn fill<D: Disk, R: Directory + Drop, C: Chronicle>(
     ensures quiet { IsQuiet (state_in C.Chronicle stripe.new) }
     ensures writer { IsWriterOf (state_in C.Chronicle stripe.new) writer.new }
     ensures put { writer.new.put ≡ writer.old.put }
-    ensures fills { FillsWhere (seen_in D.Disk R.Directory stripe.old).device.faults (seen_in D.Disk R.Directory stripe.new).device.faults
+    ensures fills { FillsWhere now (seen_in D.Disk R.Directory stripe.old).device.faults (seen_in D.Disk R.Directory stripe.new).device.faults
         (kept_in C.Chronicle stripe.old) (kept_in C.Chronicle stripe.new) writer.old body.now result }
     ensures own { AddsOfPut writer.old.put (kept_in C.Chronicle stripe.old) (kept_in C.Chronicle stripe.new) }
     ensures later { (seen_in D.Disk R.Directory stripe.old).device.faults ≤ (seen_in D.Disk R.Directory stripe.new).device.faults }
@@ -106,8 +109,8 @@ fn fill<D: Disk, R: Directory + Drop, C: Chronicle>(
 {
     // The law tells that vectors and puts may be kept when the writer closes.
     groups_tell();
-    match feed(stripe, writer, body).refused {
-        None => close_write(stripe, writer),
+    match feed(stripe, writer, body, now).refused {
+        None => close_write(stripe, writer, now),
         Some(why) => Err(why),
     }
 }

@@ -9,9 +9,8 @@ ghost use Rattle.stripe_read.specs.Readers.{IsOpenReader, IsReaderOf};
 ghost use Rattle.script_lang.specs.declared.step.Step.TheVariants as step;
 ghost use Rattle.script_lang.specs.declared.answer.StepAnswer.TheVariants as answer;
 ghost use Rattle.script_run.specs.Run.{Run};
-ghost use Rattle.script_run.specs.Asked.{asked};
 ghost use Rattle.script_run.specs.Own.{AreOwn};
-ghost use Rattle.script_run.specs.Takes.{Shows};
+ghost use Rattle.script_run.specs.Takes.{Shows, StepShows};
 ghost use Rattle.cache_replay.specs.declared.stop.Stop.TheVariants as stop;
 ghost use Rattle.cache_replay.specs.Session.{IsActive, IsPart, IsSession, LeavesBut, devices_of, names_in};
 ghost use Rattle.cache_replay.specs.Plays.{HasReached, Plays, StepEnds};
@@ -151,7 +150,7 @@ fn next<D: Disk, R: Directory + Drop, C: Chronicle>(
     ensures ends { IfOk result (λ said. (run : Run) → PlaysPart D.Disk R.Directory C.Chronicle run part.old actors.old
         → PartEnds D.Disk R.Directory C.Chronicle run (state_in C.Chronicle part.old.stripe) (step.Next actor.now) part.new actors.new said) }
     ensures unharmed { (run : Run) → PlaysPart D.Disk R.Directory C.Chronicle run part.old actors.old
-        → StaysUnharmed D.Disk R.Directory C.Chronicle part.old.stripe part.new.stripe ⊎ Shows run (state_in C.Chronicle part.old.stripe) (asked run (state_in C.Chronicle part.old.stripe) (step.Next actor.now)) }
+        → StaysUnharmed D.Disk R.Directory C.Chronicle part.old.stripe part.new.stripe ⊎ StepShows run (Some (state_in C.Chronicle part.old.stripe)) (step.Next actor.now) }
     ensures trust { (seen_in D.Disk R.Directory part.new.stripe).device.trust ≤ (seen_in D.Disk R.Directory part.old.stripe).device.trust }
     ensures stop { IfErr result (λ why. why ≡ stop.Memory) }
     ensures names { length actors.new.names ≤ length actors.old.names + 1 }
@@ -185,7 +184,7 @@ fn read_on<D: Disk, R: Directory + Drop, C: Chronicle>(
     ensures ends { IfOk result (λ said. (run : Run) → AreOwn (state_in C.Chronicle part.old.stripe) run.streams → IsReaderOf (state_in C.Chronicle part.old.stripe) reader.old
         → NextEnds run (state_in C.Chronicle part.old.stripe) (state_in C.Chronicle part.new.stripe) reader.old reader.new said) }
     ensures unharmed { (run : Run) → AreOwn (state_in C.Chronicle part.old.stripe) run.streams → IsReaderOf (state_in C.Chronicle part.old.stripe) reader.old
-        → StaysUnharmed D.Disk R.Directory C.Chronicle part.old.stripe part.new.stripe ⊎ Shows run (state_in C.Chronicle part.old.stripe) (ReadOn reader.old.reader ∷ []) }
+        → StaysUnharmed D.Disk R.Directory C.Chronicle part.old.stripe part.new.stripe ⊎ Shows run.streams (state_in C.Chronicle part.old.stripe) (ReadOn reader.old.reader ∷ []) }
     ensures trust { (seen_in D.Disk R.Directory part.new.stripe).device.trust ≤ (seen_in D.Disk R.Directory part.old.stripe).device.trust }
     ensures stop { IfErr result (λ why. why ≡ stop.Memory) }
     ensures told { OnErr result ((state_in C.Chronicle part.old.stripe).fault ≤ (seen_in D.Disk R.Directory part.new.stripe).device.faults) }
@@ -211,7 +210,7 @@ fn read_to<D: Disk, R: Directory + Drop, C: Chronicle>(
     ensures ends { IfOk result (λ said. (run : Run) → AreOwn (state_in C.Chronicle stripe.old) run.streams → IsReaderOf (state_in C.Chronicle stripe.old) reader.old
         → NextEnds run (state_in C.Chronicle stripe.old) (state_in C.Chronicle stripe.new) reader.old reader.new said) }
     ensures unharmed { (run : Run) → AreOwn (state_in C.Chronicle stripe.old) run.streams → IsReaderOf (state_in C.Chronicle stripe.old) reader.old
-        → StaysUnharmed D.Disk R.Directory C.Chronicle stripe.old stripe.new ⊎ Shows run (state_in C.Chronicle stripe.old) (ReadOn reader.old.reader ∷ []) }
+        → StaysUnharmed D.Disk R.Directory C.Chronicle stripe.old stripe.new ⊎ Shows run.streams (state_in C.Chronicle stripe.old) (ReadOn reader.old.reader ∷ []) }
     ensures trust { (seen_in D.Disk R.Directory stripe.new).device.trust ≤ (seen_in D.Disk R.Directory stripe.old).device.trust }
     ensures stop { IfErr result (λ why. why ≡ stop.Memory) }
     ensures later { (seen_in D.Disk R.Directory stripe.old).device.faults ≤ (seen_in D.Disk R.Directory stripe.new).device.faults }

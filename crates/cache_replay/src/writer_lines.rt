@@ -253,7 +253,7 @@ pub(crate) fn data_line<D: Disk, R: Directory + Drop, C: Chronicle>(
     ensures names { length (names_in session.new) ≤ length (names_in session.old) + 1 }
 {
     match &mut session.part {
-        Some(part) => data_in(part, &mut session.actors, actor, body),
+        Some(part) => data_in(part, &mut session.actors, actor, body, session.now),
         None => Err(Stop::NoCache),
     }
 }
@@ -263,11 +263,12 @@ fn data_in<D: Disk, R: Directory + Drop, C: Chronicle>(
     actors: &mut Actors<Holding>,
     actor: &[u8],
     body: &[u8],
+    now: u64,
 ) -> Result<StepAnswer, Stop>
     requires active { IsActive D.Disk R.Directory C.Chronicle part.old (slots_at actors.old) }
     requires few { length actors.old.names < 2 ^ 32 - 1 }
     ensures active { IsActive D.Disk R.Directory C.Chronicle part.new (slots_at actors.new) }
-    ensures ends { IfOk result (λ said. (run : Run) → PartPlays C.Chronicle run part.old actors.old
+    ensures ends { IfOk result (λ said. (run : Run) → run.now ≡ now → PartPlays C.Chronicle run part.old actors.old
         → PartEnds C.Chronicle run (step.Feed actor.now body.now) part.new actors.new said) }
     ensures stop { IfErr result (λ why. why ≡ stop.Memory) }
     ensures later { (seen_in D.Disk R.Directory part.old.stripe).device.faults ≤ (seen_in D.Disk R.Directory part.new.stripe).device.faults }
@@ -283,7 +284,7 @@ fn data_in<D: Disk, R: Directory + Drop, C: Chronicle>(
     };
     match take_writer(actors, number) {
         Some(writer) => {
-            let outcome = give_bytes(&mut part.stripe, writer, body);
+            let outcome = give_bytes(&mut part.stripe, writer, body, now);
             set_back(actors, number, outcome)
         }
         None => Ok(idle()),
@@ -295,6 +296,7 @@ fn give_bytes<D: Disk, R: Directory + Drop, C: Chronicle>(
     stripe: &mut Stripe<D, R, C>,
     mut writer: Writer,
     body: &[u8],
+    now: u64,
 ) -> Outcome
     requires stripe { IsStripe D.Disk R.Directory C.Chronicle stripe.old }
     requires quiet { IsQuiet (state_in C.Chronicle stripe.old) }
@@ -306,9 +308,9 @@ fn give_bytes<D: Disk, R: Directory + Drop, C: Chronicle>(
     ensures unharmed { StaysUnharmed D.Disk R.Directory C.Chronicle stripe.old stripe.new }
     ensures own { AddsOfPut writer.put (kept_in C.Chronicle stripe.old) (kept_in C.Chronicle stripe.new) }
     ensures left { IsLeft (state_in C.Chronicle stripe.new) writer.put result.left }
-    ensures does { WriterDoes (state_in C.Chronicle stripe.old) (state_in C.Chronicle stripe.new) (Feeds body.now) writer result.left result.answer }
+    ensures does { WriterDoes now (state_in C.Chronicle stripe.old) (state_in C.Chronicle stripe.new) (Feeds body.now) writer result.left result.answer }
 {
-    let Fed { taken, refused } = feed(stripe, &mut writer, body);
+    let Fed { taken, refused } = feed(stripe, &mut writer, body, now);
     Outcome {
         answer: fed_answer(body.len() as u64, taken, refused),
         left: keep_open(stripe, writer),
@@ -342,7 +344,7 @@ pub(crate) fn close_line<D: Disk, R: Directory + Drop, C: Chronicle>(
     ensures names { length (names_in session.new) ≤ length (names_in session.old) + 1 }
 {
     match &mut session.part {
-        Some(part) => close_in(part, &mut session.actors, actor),
+        Some(part) => close_in(part, &mut session.actors, actor, session.now),
         None => Err(Stop::NoCache),
     }
 }
@@ -351,11 +353,12 @@ fn close_in<D: Disk, R: Directory + Drop, C: Chronicle>(
     part: &mut Part<D, R, C>,
     actors: &mut Actors<Holding>,
     actor: &[u8],
+    now: u64,
 ) -> Result<StepAnswer, Stop>
     requires active { IsActive D.Disk R.Directory C.Chronicle part.old (slots_at actors.old) }
     requires few { length actors.old.names < 2 ^ 32 - 1 }
     ensures active { IsActive D.Disk R.Directory C.Chronicle part.new (slots_at actors.new) }
-    ensures ends { IfOk result (λ said. (run : Run) → PartPlays C.Chronicle run part.old actors.old
+    ensures ends { IfOk result (λ said. (run : Run) → run.now ≡ now → PartPlays C.Chronicle run part.old actors.old
         → PartEnds C.Chronicle run (step.Close actor.now) part.new actors.new said) }
     ensures stop { IfErr result (λ why. why ≡ stop.Memory) }
     ensures later { (seen_in D.Disk R.Directory part.old.stripe).device.faults ≤ (seen_in D.Disk R.Directory part.new.stripe).device.faults }
@@ -371,7 +374,7 @@ fn close_in<D: Disk, R: Directory + Drop, C: Chronicle>(
     };
     match take_writer(actors, number) {
         Some(writer) => {
-            let outcome = finish(&mut part.stripe, writer);
+            let outcome = finish(&mut part.stripe, writer, now);
             set_back(actors, number, outcome)
         }
         None => Ok(idle()),
@@ -382,6 +385,7 @@ fn close_in<D: Disk, R: Directory + Drop, C: Chronicle>(
 fn finish<D: Disk, R: Directory + Drop, C: Chronicle>(
     stripe: &mut Stripe<D, R, C>,
     mut writer: Writer,
+    now: u64,
 ) -> Outcome
     requires stripe { IsStripe D.Disk R.Directory C.Chronicle stripe.old }
     requires quiet { IsQuiet (state_in C.Chronicle stripe.old) }
@@ -393,9 +397,9 @@ fn finish<D: Disk, R: Directory + Drop, C: Chronicle>(
     ensures unharmed { StaysUnharmed D.Disk R.Directory C.Chronicle stripe.old stripe.new }
     ensures own { AddsOfPut writer.put (kept_in C.Chronicle stripe.old) (kept_in C.Chronicle stripe.new) }
     ensures left { IsLeft (state_in C.Chronicle stripe.new) writer.put result.left }
-    ensures does { WriterDoes (state_in C.Chronicle stripe.old) (state_in C.Chronicle stripe.new) Closes writer result.left result.answer }
+    ensures does { WriterDoes now (state_in C.Chronicle stripe.old) (state_in C.Chronicle stripe.new) Closes writer result.left result.answer }
 {
-    let result = close_write(stripe, &mut writer);
+    let result = close_write(stripe, &mut writer, now);
     Outcome {
         answer: closed_answer(result),
         left: keep_open(stripe, writer),
@@ -471,7 +475,7 @@ fn give_up<D: Disk, R: Directory + Drop, C: Chronicle>(
     ensures unharmed { StaysUnharmed D.Disk R.Directory C.Chronicle stripe.old stripe.new }
     ensures own { AddsOfPut writer.put (kept_in C.Chronicle stripe.old) (kept_in C.Chronicle stripe.new) }
     ensures left { IsLeft (state_in C.Chronicle stripe.new) writer.put result.left }
-    ensures does { WriterDoes (state_in C.Chronicle stripe.old) (state_in C.Chronicle stripe.new) GivesUp writer result.left result.answer }
+    ensures does { (now : ℕ) → WriterDoes now (state_in C.Chronicle stripe.old) (state_in C.Chronicle stripe.new) GivesUp writer result.left result.answer }
 {
     writer_is_ended();
     match abort_write(stripe, &mut writer) {

@@ -119,10 +119,9 @@ pub record BeginsNext (old new : Seen) : Type 0 where
   pub spare : old.spare ≤ new.spare
   pub device : new.device ≡ old.device
 
--- the next buffer begins, and the device has the one before
-pub record IsFlushed (old new : Seen) : Type 0 where
-  pub begins : BeginsNext (record old { device = new.device }) new
-  pub written : IsTold new.device → span new.device.seen (slot_of old.geometry old.buffer.cursor) (filled_of old.buffer) ≡ old.buffer.bytes
+-- the device has what is in the buffer, where it tells its content
+abbrev pub HasBuffer : Seen → Type 0
+HasBuffer c = IsTold c.device → span c.device.seen (slot_of c.geometry c.buffer.cursor) (filled_of c.buffer) ≡ c.buffer.bytes
 
 -- what a write of the buffer does to the device, also where it fails
 pub record WritesBuffer (old new : Seen) (result : Result (Unit {0}) Failed) : Type 0 where

@@ -45,7 +45,7 @@ pub struct Put {
 }
 
 impl<D: Disk, R: Directory + Drop> Cyclone<D, R> {
-    ghost use Rattle.cyclone.specs.Cyclone.{IsCyclone, IsFlushed, IsFresh, IsPut, IsMoved, BeginsNext, IsStored, Reads, SameButRoom, SameButRows, SameTape, WritesBuffer, row_of_piece, cursor_next, seen};
+    ghost use Rattle.cyclone.specs.Cyclone.{IsCyclone, HasBuffer, IsFresh, IsPut, IsMoved, BeginsNext, IsStored, Reads, SameButRoom, SameButRows, SameTape, WritesBuffer, row_of_piece, cursor_next, seen};
 
     /// An empty cyclone over a device, from the start of its second lap on. A refusal gives the
     /// device back.
@@ -129,7 +129,7 @@ impl<D: Disk, R: Directory + Drop> Cyclone<D, R> {
     }
 
     /// Makes room for so many pieces, and on the device for so many more flushes.
-    pub fn prepare(&mut self, pieces: u32, flushes: u32) -> Result<(), AllocError>
+    pub fn prepare(&mut self, pieces: usize, flushes: u32) -> Result<(), AllocError>
         requires turns { IsCyclone D.Disk R.Directory self.old }
         ensures turns { IsCyclone D.Disk R.Directory self.new }
         ensures same { SameButRoom (seen D.Disk R.Directory self.old) (seen D.Disk R.Directory self.new) }
@@ -138,7 +138,7 @@ impl<D: Disk, R: Directory + Drop> Cyclone<D, R> {
             OnOk result (Grows flushes (flushes * (seen D.Disk R.Directory self.old).geometry.agg) old (seen D.Disk R.Directory self.new).device) }
         ensures none { OnErr result (Grows 0 0 (seen D.Disk R.Directory self.old).device (seen D.Disk R.Directory self.new).device) }
     {
-        self.directory.reserve(pieces as usize)?;
+        self.directory.reserve(pieces)?;
         self.disk
             .make_room(flushes, flushes as u64 * self.geometry.agg as u64)
     }
@@ -194,23 +194,37 @@ impl<D: Disk, R: Directory + Drop> Cyclone<D, R> {
         document_digest(self.buffer.get(place, blocks))
     }
 
-    /// Writes the buffer out by one write, and begins the next one. The blocks that are written may
-    /// hold any bytes where the device refuses.
-    pub fn flush(&mut self) -> Result<(), Failed>
+    /// Writes the buffer out by one write. The blocks that are written may hold any bytes where the
+    /// device refuses.
+    pub fn write_out(&mut self) -> Result<(), Failed>
         requires turns { IsCyclone D.Disk R.Directory self.old }
         requires some { 0 < filled_of (seen D.Disk R.Directory self.old).buffer }
         requires calls { 1 ≤ (seen D.Disk R.Directory self.old).device.calls }
         requires blocks { filled_of (seen D.Disk R.Directory self.old).buffer ≤ (seen D.Disk R.Directory self.old).device.blocks }
-        requires below { cursor_next (seen D.Disk R.Directory self.old) < 2 ^ 62 }
         ensures turns { IsCyclone D.Disk R.Directory self.new }
-        ensures ok { OnOk result (IsFlushed (seen D.Disk R.Directory self.old) (seen D.Disk R.Directory self.new)) }
-        ensures err { OnErr result (SameTape (seen D.Disk R.Directory self.old) (seen D.Disk R.Directory self.new)) }
+        ensures same { SameTape (seen D.Disk R.Directory self.old) (seen D.Disk R.Directory self.new) }
+        ensures ok { OnOk result (HasBuffer (seen D.Disk R.Directory self.new)) }
         ensures device { WritesBuffer (seen D.Disk R.Directory self.old) (seen D.Disk R.Directory self.new) result }
     {
         let first = slot(&self.geometry, self.buffer.cursor());
-        self.disk.write(first, self.buffer.bytes())?;
-        self.begin_next();
-        Ok(())
+        self.disk.write(first, self.buffer.bytes())
+    }
+
+    /// Begins the next buffer, and forgets what is in this one.
+    pub fn begin_next(&mut self)
+        requires turns { IsCyclone D.Disk R.Directory self.old }
+        requires below { cursor_next (seen D.Disk R.Directory self.old) < 2 ^ 62 }
+        ensures turns { IsCyclone D.Disk R.Directory self.new }
+        ensures begins { BeginsNext (seen D.Disk R.Directory self.old) (seen D.Disk R.Directory self.new) }
+    {
+        let cursor = self.buffer.cursor();
+        let here = Cursor {
+            cursor,
+            synced: cursor,
+        };
+        let next = here.plan(&self.geometry, self.buffer.filled());
+        self.buffer.begin(next.cursor);
+        self.directory.wrap(next.cursor, next.floor);
     }
 
     /// Reads the blocks from a place on, from the buffer where they stand there.
@@ -254,22 +268,6 @@ impl<D: Disk, R: Directory + Drop> Cyclone<D, R> {
         ensures displaced { R.displaced result.now ≡ (seen D.Disk R.Directory self.now).displaced }
     {
         &self.directory
-    }
-
-    fn begin_next(&mut self)
-        requires turns { IsCyclone D.Disk R.Directory self.old }
-        requires below { cursor_next (seen D.Disk R.Directory self.old) < 2 ^ 62 }
-        ensures turns { IsCyclone D.Disk R.Directory self.new }
-        ensures begins { BeginsNext (seen D.Disk R.Directory self.old) (seen D.Disk R.Directory self.new) }
-    {
-        let cursor = self.buffer.cursor();
-        let here = Cursor {
-            cursor,
-            synced: cursor,
-        };
-        let next = here.plan(&self.geometry, self.buffer.filled());
-        self.buffer.begin(next.cursor);
-        self.directory.wrap(next.cursor, next.floor);
     }
 }
 

@@ -67,7 +67,8 @@ fn flush<D: Disk, R: Directory + Drop>(cyclone: &mut Cyclone<D, R>) -> Result<()
     if cyclone.next_place() == cyclone.cursor() || cyclone.next_cursor() >= 1 << 62 {
         return Err("nothing to flush".into());
     }
-    cyclone.flush().map_err(|_| "a fault")?;
+    cyclone.write_out().map_err(|_| "a fault")?;
+    cyclone.begin_next();
     Ok(())
 }
 

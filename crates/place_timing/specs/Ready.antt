@@ -1,17 +1,25 @@
 -- What holds between the calls that place a piece: before its put is opened, then, and behind its cut.
-use Rattle.std.specs.Prelude.{ℕ, ◌≡◌, ◌+◌, ◌<◌, ◌≤◌, List, ◌∷◌, length}
+use Rattle.std.specs.Prelude.{ℕ, ◌≡◌, ◌+◌, ◌<◌, ◌≤◌, Bool, true, false, List, ◌∷◌, filter, length}
 use Rattle.std.specs.List.{AllByRecursion}
 use Rattle.tape_base.specs.declared.keys.Key.{Key}
 use Rattle.tape_base.specs.declared.geometries.Geometry.{Geometry}
 use Rattle.tape_base.specs.declared.pieces.PieceId.{PieceId}
 use Rattle.tape_base.specs.Geometry.{budget_of}
 use Rattle.alternate_vector.specs.Field.{Field}
+use Rattle.cache_model.specs.declared.record.Rec.{Rec}
+use Rattle.cache_model.specs.declared.record.Rec.TheVariants as rec
+use Rattle.cache_model.specs.Kept.{Kept}
 use Rattle.cache_model.specs.State.{Open, PutRow, Row, State, fragment_piece, opened_put}
 use Rattle.cache_model.specs.Legal.{IsQuiet}
 
+-- the record tells that a piece was placed
+abbrev pub is_placed : Rec → Bool
+is_placed (rec.Placed piece place blocks digest pin) = true
+is_placed _ = false
+
 -- how many pieces were placed
-abbrev pub placed_in : State → ℕ
-placed_in s = length s.places
+abbrev pub placed_in : Kept → ℕ
+placed_in k = length (filter is_placed k.since)
 
 -- the piece is of a put with a lesser number
 abbrev pub IsBelow : ℕ → Row → Type 0

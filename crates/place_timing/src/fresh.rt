@@ -1,6 +1,6 @@
 // The stripe that is timed.
 ghost use Rattle.std.specs.Prelude.{◌≡◌, IfOk};
-ghost use Rattle.stripe_core.specs.Stripe.{IsStripe, state_in};
+ghost use Rattle.stripe_core.specs.Stripe.{IsStripe, kept_in, state_in};
 ghost use Rattle.place_timing.specs.Ready.{IsReady, placed_in};
 
 use crate::device::FlatDisk;
@@ -21,7 +21,7 @@ pub type Tape = Stripe<FlatDisk, ListDirectory, FullChronicle>;
 /// A stripe on which so many pieces were placed one behind the other.
 pub fn filled_tape(alloc: Global, count: u32) -> Result<Tape, Refusal>
     ensures stripe { IfOk result (IsStripe ⟦<FlatDisk as Disk>⟧ ⟦<ListDirectory as Directory>⟧ ⟦<FullChronicle as Chronicle>⟧) }
-    ensures placed { IfOk result (λ tape. placed_in (state_in ⟦<FullChronicle as Chronicle>⟧ tape) ≡ count) }
+    ensures placed { IfOk result (λ tape. placed_in (kept_in ⟦<FullChronicle as Chronicle>⟧ tape) ≡ count) }
 {
     let mut tape = fresh_tape(alloc)?;
     place_many(&mut tape, count)?;
@@ -31,7 +31,7 @@ pub fn filled_tape(alloc: Global, count: u32) -> Result<Tape, Refusal>
 fn fresh_tape(alloc: Global) -> Result<Tape, Refusal>
     ensures stripe { IfOk result (IsStripe ⟦<FlatDisk as Disk>⟧ ⟦<ListDirectory as Directory>⟧ ⟦<FullChronicle as Chronicle>⟧) }
     ensures ready { IfOk result (λ tape. IsReady (state_in ⟦<FullChronicle as Chronicle>⟧ tape)) }
-    ensures empty { IfOk result (λ tape. placed_in (state_in ⟦<FullChronicle as Chronicle>⟧ tape) ≡ 0) }
+    ensures empty { IfOk result (λ tape. placed_in (kept_in ⟦<FullChronicle as Chronicle>⟧ tape) ≡ 0) }
 {
     let geometry = Geometry::check(64, 1024, u64::from(CONTENT), 1024, 1024, 1000, 7).unwrap();
     let disk = FlatDisk::new(alloc, CONTENT)?;

@@ -1,6 +1,6 @@
 // How pieces are placed, each as the first fragment of a put that is then given up.
 ghost use Rattle.std.specs.Prelude.{◌≡◌, ◌+◌, ◌≤◌, length, IfOk, OnOk};
-ghost use Rattle.stripe_core.specs.Stripe.{IsStripe, state_in, units_in};
+ghost use Rattle.stripe_core.specs.Stripe.{IsStripe, kept_in, state_in, units_in};
 ghost use Rattle.place_timing.specs.Ready.{IsCut, IsOpened, IsReady, placed_in};
 
 use alternate_vector::Fields;
@@ -21,8 +21,8 @@ pub fn place_many<D: Disk, R: Directory + Drop, C: Chronicle>(
     requires stripe { IsStripe D.Disk R.Directory C.Chronicle stripe.old }
     requires ready { IsReady (state_in C.Chronicle stripe.old) }
     ensures stripe { IsStripe D.Disk R.Directory C.Chronicle stripe.new }
-    ensures placed { OnOk result (placed_in (state_in C.Chronicle stripe.new)
-        ≡ placed_in (state_in C.Chronicle stripe.old) + count) }
+    ensures placed { OnOk result (placed_in (kept_in C.Chronicle stripe.new)
+        ≡ placed_in (kept_in C.Chronicle stripe.old) + count) }
 {
     let payload = [0x5a; BYTES];
     for number in 0..count {
@@ -47,8 +47,8 @@ fn place_one<D: Disk, R: Directory + Drop, C: Chronicle>(
     requires payload { length payload.now ≡ 1000 }
     ensures stripe { IsStripe D.Disk R.Directory C.Chronicle stripe.new }
     ensures ready { OnOk result (IsReady (state_in C.Chronicle stripe.new)) }
-    ensures placed { OnOk result (placed_in (state_in C.Chronicle stripe.new)
-        ≡ placed_in (state_in C.Chronicle stripe.old) + 1) }
+    ensures placed { OnOk result (placed_in (kept_in C.Chronicle stripe.new)
+        ≡ placed_in (kept_in C.Chronicle stripe.old) + 1) }
 {
     stripe.prepare(None, 2)?;
     let put = open(stripe, key)?;
@@ -65,8 +65,8 @@ fn open<D: Disk, R: Directory + Drop, C: Chronicle>(
     requires ready { IsReady (state_in C.Chronicle stripe.old) }
     ensures stripe { IsStripe D.Disk R.Directory C.Chronicle stripe.new }
     ensures opened { IfOk result (λ put. IsOpened (state_in C.Chronicle stripe.new) put key) }
-    ensures placed { OnOk result (placed_in (state_in C.Chronicle stripe.new)
-        ≡ placed_in (state_in C.Chronicle stripe.old)) }
+    ensures placed { OnOk result (placed_in (kept_in C.Chronicle stripe.new)
+        ≡ placed_in (kept_in C.Chronicle stripe.old)) }
     ensures unit { units_in stripe.new ≡ units_in stripe.old }
 {
     let alloc = stripe.alloc();
@@ -84,8 +84,8 @@ fn place<D: Disk, R: Directory + Drop, C: Chronicle>(
     requires payload { length payload.now ≡ 1000 }
     ensures stripe { IsStripe D.Disk R.Directory C.Chronicle stripe.new }
     ensures cut { OnOk result (IsCut (state_in C.Chronicle stripe.new) put key) }
-    ensures placed { OnOk result (placed_in (state_in C.Chronicle stripe.new)
-        ≡ placed_in (state_in C.Chronicle stripe.old) + 1) }
+    ensures placed { OnOk result (placed_in (kept_in C.Chronicle stripe.new)
+        ≡ placed_in (kept_in C.Chronicle stripe.old) + 1) }
     ensures unit { units_in stripe.old ≤ units_in stripe.new + 1 }
 {
     let id = PieceId {
@@ -93,7 +93,7 @@ fn place<D: Disk, R: Directory + Drop, C: Chronicle>(
         put,
         index: 1,
     };
-    match stripe.place_piece(id, 0, 0, payload) {
+    match stripe.place_piece(id, 0, 0, payload, 0) {
         Ok(_) => Ok(()),
         Err(refusal) => Err(refusal),
     }
@@ -109,8 +109,8 @@ fn give_up<D: Disk, R: Directory + Drop, C: Chronicle>(
     requires unit { 1 ≤ units_in stripe.old }
     ensures stripe { IsStripe D.Disk R.Directory C.Chronicle stripe.new }
     ensures ready { IsReady (state_in C.Chronicle stripe.new) }
-    ensures placed { placed_in (state_in C.Chronicle stripe.new)
-        ≡ placed_in (state_in C.Chronicle stripe.old) }
+    ensures placed { placed_in (kept_in C.Chronicle stripe.new)
+        ≡ placed_in (kept_in C.Chronicle stripe.old) }
 {
     stripe.give_up(put, key);
 }

@@ -11,9 +11,12 @@ use Rattle.cache_model.specs.declared.answer.ReadAnswer.{ReadAnswer}
 use Rattle.cache_model.specs.declared.cause.Cause.{Cause}
 use Rattle.cache_model.specs.declared.record.Rec.{Rec}
 use Rattle.cache_model.specs.declared.record.Rec.TheVariants as rec
-use Rattle.cache_model.specs.State.{PutRow, put_of, State, Row, ReaderRow}
+use Rattle.cache_model.specs.State.{PutRow, put_of, State, Row, ReaderRow, state_after}
 use Rattle.cache_model.specs.Permit.{Permit, Intent, Flush, Write, Fragment, Overflow, Weigh, Finish, Commit, GiveUp, Remove, Look, ReadOn, ReadAll, StopReading, End, Stays, Done, Fails, Work, Reason, is_cleanup, work_after}
 use Rattle.cache_model.specs.Room.{MayDisplace, displaced_record}
+use Rattle.cache_model.specs.Due.{due_pieces}
+use Rattle.cache_model.specs.Outcomes.{Copied, Copy, NoRoom, Outcome, Refused, Spoiled, copies_of, flush_records, front_of, moved_record, moved_records, records_of, stopped_front_of, stopped_records, stopped_records_of}
+use Rattle.cache_model.specs.Given
 use Rattle.cache_model.specs.Legal
 use Rattle.cache_model.specs.Legal.{Advances, Does, MayGrow, nothing, more, aborted_record, answer_record}
 use Rattle.cache_model.proofs.Found.{number_of}
@@ -69,9 +72,9 @@ module _ (R P : ℕ → Type 0) where
 
   -- ---- groups
 
-  trouble_beside : (p : Permit) (s : State) (row : Row) (before : List Rec) (why : Cause) → Legal.Trouble p s row before why → AllBeside R P before
-  trouble_beside p s row before why (Legal.Trouble.faulted count w m) = (tt, tt)
-  trouble_beside p s row before why (Legal.Trouble.damaged found d) = (tt, tt)
+  trouble_beside : (p : Permit) (s : State) (row : Row) (before : List Rec) (why : Cause) → Given.Trouble p s row before why → AllBeside R P before
+  trouble_beside p s row before why (Given.Trouble.faulted count w m) = (tt, tt)
+  trouble_beside p s row before why (Given.Trouble.damaged found d) = (tt, tt)
 
   lookup_beside : (p : Permit) (s : State) (key : Key) (request : List Field) (before : List Rec) (answer : ReadAnswer) → Legal.IsLookup p s key request before answer → AllBeside R P before
   lookup_beside p s key request before answer (Legal.IsLookup.verdict r) = tt
@@ -102,9 +105,48 @@ module _ (R P : ℕ → Type 0) where
   displaced_beside : (p : Permit) (s : State) (piece : PieceId) (added : List Rec) → MayDisplace p s piece added → AllBeside R P added
   displaced_beside p s piece added m = adds added _ m.is (displacements_beside _ _ m.purged)
 
+  -- ---- a flush
+
+  outcome_beside : (row : Row) (o : Outcome) → AllBeside R P (records_of row o)
+  outcome_beside row NoRoom = (tt, tt)
+  outcome_beside row (Copied bytes) = tt
+  outcome_beside row (Spoiled found) = (tt, tt)
+  outcome_beside row (Refused count) = (tt, (tt, tt))
+
+  front_beside : (rows : List Row) (outcomes : List Outcome) → AllBeside R P (front_of rows outcomes)
+  front_beside [] outcomes = tt
+  front_beside (row ∷ rows) [] = tt
+  front_beside (row ∷ rows) (o ∷ outcomes) = beside_append (records_of row o) (front_of rows outcomes) (outcome_beside row o) (front_beside rows outcomes)
+
+  copies_beside : (s : State) (copies : List Copy) → AllBeside R P (moved_records s copies)
+  copies_beside s [] = tt
+  copies_beside s (c ∷ copies) = (tt, copies_beside (state_after s (moved_record s c)) copies)
+
+  flushed : (p : Permit) (s : State) (added : List Rec) → Legal.MayFlush p s added → AllBeside R P added
+  flushed p s added m =
+      let rows : List Row = due_pieces s p.now in
+      adds added (flush_records s rows m.outcomes) m.is (beside_append (front_of rows m.outcomes) _ (front_beside rows m.outcomes) (tt, copies_beside _ (copies_of rows m.outcomes)))
+
+  stopped_outcome_beside : (row : Row) (o : Outcome) → AllBeside R P (stopped_records_of row o)
+  stopped_outcome_beside row NoRoom = tt
+  stopped_outcome_beside row (Copied bytes) = tt
+  stopped_outcome_beside row (Spoiled found) = (tt, tt)
+  stopped_outcome_beside row (Refused count) = (tt, tt)
+
+  stopped_front_beside : (rows : List Row) (outcomes : List Outcome) → AllBeside R P (stopped_front_of rows outcomes)
+  stopped_front_beside [] outcomes = tt
+  stopped_front_beside (row ∷ rows) [] = tt
+  stopped_front_beside (row ∷ rows) (o ∷ outcomes) =
+      beside_append (stopped_records_of row o) (stopped_front_of rows outcomes) (stopped_outcome_beside row o) (stopped_front_beside rows outcomes)
+
+  stopped : (p : Permit) (s : State) (count : ℕ) (added : List Rec) → Legal.MayStop p s count added → AllBeside R P added
+  stopped p s count added m =
+      let rows : List Row = due_pieces s p.now in
+      adds added (stopped_records rows m.outcomes count) m.is (beside_append (stopped_front_of rows m.outcomes) _ (stopped_front_beside rows m.outcomes) (tt, tt))
+
   roomed : (p : Permit) (s : State) (bytes : ℕ) (added : List Rec) (e : End) → Legal.MakesRoom p s bytes added e → AllBeside R P added
-  roomed p s bytes added e (Legal.MakesRoom.flushes x m) = adds added _ m.is (tt, tt)
-  roomed p s bytes added e (Legal.MakesRoom.stops count x m) = adds added _ m.is (tt, tt)
+  roomed p s bytes added e (Legal.MakesRoom.flushes x m) = flushed p s added m
+  roomed p s bytes added e (Legal.MakesRoom.stops count x m) = stopped p s count added m
   roomed p s bytes added e (Legal.MakesRoom.exhausted x q is) = adds added [] is tt
 
   aborts : (s : State) (put : ℕ) (w : PutRow) (added : List Rec) → P put → added ≡ aborted_record w ∷ [] → put_of s put ≡ Some w → AllBeside R P added
@@ -112,8 +154,8 @@ module _ (R P : ℕ → Type 0) where
 
   pub group_beside : (p : Permit) (s : State) (i : Intent) (added : List Rec) (e : End) → IsOther R P i → Does p s i added e → AllBeside R P added
   group_beside p s Flush added e other (Legal.DoesFlush.empty q f is) = adds added [] is tt
-  group_beside p s Flush added e other (Legal.DoesFlush.flushes m) = adds added _ m.is (tt, tt)
-  group_beside p s Flush added e other (Legal.DoesFlush.stops count m) = adds added _ m.is (tt, tt)
+  group_beside p s Flush added e other (Legal.DoesFlush.flushes m) = flushed p s added m
+  group_beside p s Flush added e other (Legal.DoesFlush.stops count m) = stopped p s count added m
   group_beside p s Flush added e other (Legal.DoesFlush.exhausted q f b is) = adds added [] is tt
   group_beside p s (Write actor key request response pin) added e other (Legal.DoesWrite.opens m) = adds added _ m.is (tt, tt)
   group_beside p s (Write actor key request response pin) added e other (Legal.DoesWrite.many q m is) = adds added [] is tt

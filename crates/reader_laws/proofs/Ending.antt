@@ -11,6 +11,7 @@ use Rattle.cache_model.specs.declared.record.Rec.TheVariants as rec
 use Rattle.cache_model.specs.State.{State, PutRow, Row, ReaderRow, reader_of}
 use Rattle.cache_model.specs.Verdict.{next_row, reader_verdict, verdict_at_end, verdict_of_fragment}
 use Rattle.cache_model.specs.Permit.{End, Permit, ReadOn}
+use Rattle.cache_model.specs.Given
 use Rattle.cache_model.specs.Legal
 use Rattle.cache_model.specs.Legal.{IsQuiet, IsStep, answer_record}
 use Rattle.cache_model.proofs.Answered.{end_is_whole, followed_is_closed}
@@ -53,10 +54,10 @@ verdict_ends n s r given size (next.Ended told) verdict h = let same : told ≡ 
 verdict_ends n s r given size (next.Waited cut) verdict h = absurd cc
 verdict_ends n s r given size (next.Broke why) verdict h = absurd (broken_ends_none why size h)
 
-trouble_ends_none : (p : Permit) (s : State) (row : Row) (before : List Rec) (why last : Cause) (n : ℕ) (given : List ℕ) (size : ℕ) → Legal.Trouble p s row before why
+trouble_ends_none : (p : Permit) (s : State) (row : Row) (before : List Rec) (why last : Cause) (n : ℕ) (given : List ℕ) (size : ℕ) → Given.Trouble p s row before why
     → next_said given (told_in (before ++ rec.Broke n last ∷ [])) ≡ answer.End size → ⊥
-trouble_ends_none p s row before why last n given size (Legal.Trouble.faulted count w m) h = broken_ends_none last size h
-trouble_ends_none p s row before why last n given size (Legal.Trouble.damaged found d) h = broken_ends_none last size h
+trouble_ends_none p s row before why last n given size (Given.Trouble.faulted count w m) h = broken_ends_none last size h
+trouble_ends_none p s row before why last n given size (Given.Trouble.damaged found d) h = broken_ends_none last size h
 
 reading_ends_none : (p : Permit) (s : State) (r : ReaderRow) (row : Row) (entry : TableRow) (before : List Rec) (why last : Cause) (n : ℕ) (given : List ℕ) (size : ℕ)
     → Legal.ReadTrouble p s r row entry before why → next_said given (told_in (before ++ rec.Broke n last ∷ [])) ≡ answer.End size → ⊥

@@ -9,5 +9,6 @@ pub mod Running
 pub mod Ending
 pub mod Opening
 pub mod Writing
+pub mod Shown
 pub mod Standing
 pub mod Joining

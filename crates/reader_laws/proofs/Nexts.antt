@@ -11,6 +11,7 @@ use Rattle.cache_model.specs.declared.record.Rec.TheVariants as rec
 use Rattle.cache_model.specs.State.{State, Row, PutRow, ReaderRow, Writing, Open, Closed, GivenUp, change_reader, put_of, reader_of, state_after}
 use Rattle.cache_model.specs.Verdict.{cuts_of, next_row, reader_verdict, table_of, verdict_at_end, verdict_of_followed, verdict_of_fragment, verdict_of_writing}
 use Rattle.cache_model.specs.Permit.{Permit}
+use Rattle.cache_model.specs.Given
 use Rattle.cache_model.specs.Legal
 use Rattle.cache_model.specs.Legal.{answer_record}
 use Rattle.cache_model.proofs.Answered.{given_is_own}
@@ -115,10 +116,10 @@ verdict_next n run s r given (next.Ended size) found verdict piece = beside (tt,
 verdict_next n run s r given (next.Waited cut) found verdict piece = beside (tt, tt) piece
 verdict_next n run s r given (next.Broke why) found verdict piece = beside (tt, tt) piece
 
-trouble_told : (p : Permit) (s : State) (row : Row) (before : List Rec) (why : Cause) (run : Run) (n : ℕ) (given : List ℕ) (last : Cause) → Legal.Trouble p s row before why
+trouble_told : (p : Permit) (s : State) (row : Row) (before : List Rec) (why : Cause) (run : Run) (n : ℕ) (given : List ℕ) (last : Cause) → Given.Trouble p s row before why
     → IsPiece run s n given (told_in (before ++ rec.Broke n last ∷ [])) → given ≡ []
-trouble_told p s row before why run n given last (Legal.Trouble.faulted count w m) piece = piece
-trouble_told p s row before why run n given last (Legal.Trouble.damaged found d) piece = piece
+trouble_told p s row before why run n given last (Given.Trouble.faulted count w m) piece = piece
+trouble_told p s row before why run n given last (Given.Trouble.damaged found d) piece = piece
 
 broken_told : (p : Permit) (s : State) (r : ReaderRow) (row : Row) (entry : TableRow) (before : List Rec) (why : Cause) (run : Run) (n : ℕ) (given : List ℕ) (last : Cause)
     → Legal.ReadTrouble p s r row entry before why → IsPiece run s n given (told_in (before ++ rec.Broke n last ∷ [])) → given ≡ []

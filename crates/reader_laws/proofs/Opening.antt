@@ -13,6 +13,7 @@ use Rattle.cache_model.specs.declared.record.Rec.TheVariants as rec
 use Rattle.cache_model.specs.State.{State, PutRow, ReaderRow, after_all, put_of, reader_of, state_after, table_of_hit}
 use Rattle.cache_model.specs.Verdict.{cause_of_miss, follow_answer, followed, hit, hit_answer, lookup_verdict, may_follow}
 use Rattle.cache_model.specs.Permit.{End, Look, Permit}
+use Rattle.cache_model.specs.Given
 use Rattle.cache_model.specs.Legal
 use Rattle.cache_model.specs.Legal.{IsStep}
 use Rattle.cache_model.specs.StepLaws.{NothingAsked, OneGroup}
@@ -77,10 +78,10 @@ none_before s t streams r own readers found =
     let below : s.next_reader < s.next_reader = own_begun s streams s.next_reader r own (ap (find (λ (x : ReaderRow). x.reader == s.next_reader)) (sym readers) ∙ found) in
     omega (arith, below)
 
-trouble_readers : (p : Permit) (s : State) (row : Rattle.cache_model.specs.State.Row) (before : List Rec) (why : Rattle.cache_model.specs.declared.cause.Cause.Cause) → Legal.Trouble p s row before why
+trouble_readers : (p : Permit) (s : State) (row : Rattle.cache_model.specs.State.Row) (before : List Rec) (why : Rattle.cache_model.specs.declared.cause.Cause.Cause) → Given.Trouble p s row before why
     → (after_all s before).readers ≡ s.readers
-trouble_readers p s row before why (Legal.Trouble.faulted count w m) = refl
-trouble_readers p s row before why (Legal.Trouble.damaged found d) = refl
+trouble_readers p s row before why (Given.Trouble.faulted count w m) = refl
+trouble_readers p s row before why (Given.Trouble.damaged found d) = refl
 
 opened_by : (s : State) (streams : ℕ → Stream) (who : Actor) (key : Key) (request : List Field) (answer : ReadAnswer) (r : ReaderRow) → AreOwn s streams → lookup_verdict s key request ≡ answer
     → (let t : State = state_after s (rec.ReadOpened s.next_reader who key request answer) in AreOwn t streams → reader_of t s.next_reader ≡ Some r → OpensAt t.next_put r)

@@ -1,5 +1,5 @@
 -- Lines of one session, along which what stands is what writers took.
-use Rattle.std.specs.Prelude.{ℕ, ◌≡◌, ◌-◌, ◌<◌, ◌≤◌, Bool, false, is_none, List, [], ◌∷◌, length, Option, Some, None}
+use Rattle.std.specs.Prelude.{ℕ, ◌≡◌, ◌-◌, ◌<◌, ◌≤◌, Bool, false, is_none, List, [], ◌∷◌, ◌++◌, length, Option, Some, None}
 use Rattle.tape_base.specs.declared.keys.Key.{Key}
 use Rattle.tape_base.specs.Limits.{first_refusal}
 use Rattle.alternate_vector.specs.Field.{Field}
@@ -15,7 +15,7 @@ use Rattle.script_run.specs.Run.{Run, fresh}
 use Rattle.script_run.specs.Turn.{Turn}
 use Rattle.script_run.specs.Behind.{after_line}
 use Rattle.script_run.specs.Own.{AreOwn, AreWriting}
-use Rattle.script_run.specs.Takes.{IsRun, LineTakes, run_after}
+use Rattle.script_run.specs.Takes.{IsRun, LineShownIn, LineTakes, run_after}
 
 -- a format that is not refused begins another session
 abbrev pub begins_session : Step → Bool
@@ -78,3 +78,17 @@ pub record Opens (run : Run) (s : State) (turn : Turn) (bytes : List ℕ) (r : R
   pub reading : reading_of bytes ≡ line.Step (step.OpenRead actor key request)
   pub takes : LineTakes run turn bytes
   pub found : reader_of (after_all s turn.added) s.next_reader ≡ Some r
+
+-- a line of these shows two documents of one SHA-256, in the run that the lines before it left, by bytes
+-- that the device gave in the turn of that line
+pub record ShowsAlong (run : Run) (lines : List (List ℕ)) (turns : List Turn) : Type 0 where
+  pub before : List (List ℕ)
+  pub earlier : List Turn
+  pub bytes : List ℕ
+  pub turn : Turn
+  pub later : List (List ℕ)
+  pub rest : List Turn
+  pub lines_are : lines ≡ before ++ bytes ∷ later
+  pub turns_are : turns ≡ earlier ++ turn ∷ rest
+  pub legal : IsRun run before earlier
+  pub shows : LineShownIn turn.device (run_after run before earlier) bytes

@@ -1,5 +1,5 @@
 -- All that a reader is given, line after line, is in order what the writer of its put took.
-use Rattle.std.specs.Prelude.{ℕ, ◌≡◌, ◌-◌, ◌*◌, ◌≤◌, List, length, drop, take, Some}
+use Rattle.std.specs.Prelude.{ℕ, ◌≡◌, ◌-◌, ◌*◌, ◌≤◌, ◌⊎◌, List, ◌∷◌, ◌++◌, length, drop, take, Some}
 use Rattle.tape_base.specs.declared.keys.Key.{Key}
 use Rattle.alternate_vector.specs.Field.{Field}
 use Rattle.cache_model.specs.State.{State, ReaderRow, after_all, reader_of}
@@ -12,14 +12,16 @@ use Rattle.script_run.specs.Behind.{after_line}
 use Rattle.script_run.specs.Answers.{step_answer}
 use Rattle.script_run.specs.Own.{AreOwn}
 use Rattle.script_run.specs.Takes.{IsRun, SessionTakes, StepTakes, run_after}
-use Rattle.reader_laws.specs.Along.{AreOfSession, IsOfScript, IsOpenAt, Opens, OwnAlong, QuietWhere}
+use Rattle.reader_laws.specs.Along.{AreOfSession, IsOfScript, IsOpenAt, Opens, OwnAlong, QuietWhere, ShowsAlong}
 use Rattle.reader_laws.specs.Given.{fragments_between, given_to}
 
 -- along lines of a legal script that begin no other session what stands is what writers took, each put
--- that an actor writes is open, and no vector is pending before them
+-- that an actor writes is open, and no vector is pending before them; or a line of the script shows two
+-- documents of one SHA-256, by bytes that the device gave in its turn
 abbrev pub LegalIsOwn : Type 0
 LegalIsOwn = (before lines : List (List ℕ)) (earlier turns : List Turn) → IsRun fresh before earlier → IsRun (run_after fresh before earlier) lines turns → AreOfSession lines
-    → OwnAlong (run_after fresh before earlier) lines turns × QuietWhere (run_after fresh before earlier).state
+    → (OwnAlong (run_after fresh before earlier) lines turns × QuietWhere (run_after fresh before earlier).state)
+    ⊎ ShowsAlong fresh (before ++ lines) (earlier ++ turns)
 
 -- a reader that a line opens is at its first fragment
 abbrev pub OpensFirst : Type 0
@@ -57,19 +59,21 @@ EndIsAll = (run : Run) (lines : List (List ℕ)) (turns : List Turn) (s : State)
 -- ---- from the line that opens a reader
 
 -- in each legal script all that lines give to a reader that a line opened are the first fragments of what
--- the writer of its put took
+-- the writer of its put took, or a line of the script shows such a pair
 abbrev pub FirstGiven : Type 0
-FirstGiven = (run : Run) (s t : State) (turn : Turn) (bytes : List ℕ) (lines : List (List ℕ)) (turns : List Turn) (r u : ReaderRow) → IsOfScript run → Opens run s turn bytes r
+FirstGiven = (run : Run) (s t : State) (turn : Turn) (bytes : List ℕ) (lines : List (List ℕ)) (turns : List Turn) (r u : ReaderRow) (script : IsOfScript run) → Opens run s turn bytes r
     → IsRun (after_line run turn bytes) lines turns → AreOfSession lines
     → (run_after (after_line run turn bytes) lines turns).state ≡ Some t → reader_of t s.next_reader ≡ Some u
-    → given_to s.next_reader (after_line run turn bytes) lines turns
-    ≡ take ((u.next - 1) * t.geometry.fragment) ((run_after (after_line run turn bytes) lines turns).streams r.put).bytes
+    → (given_to s.next_reader (after_line run turn bytes) lines turns
+    ≡ take ((u.next - 1) * t.geometry.fragment) ((run_after (after_line run turn bytes) lines turns).streams r.put).bytes)
+    ⊎ ShowsAlong fresh (script.lines ++ bytes ∷ lines) (script.turns ++ turn ∷ turns)
 
 -- and where the reader is then answered the end, they are all of it
 abbrev pub AllGiven : Type 0
-AllGiven = (run : Run) (s : State) (turn : Turn) (bytes : List ℕ) (lines : List (List ℕ)) (turns : List Turn) (r : ReaderRow) (actor : List ℕ) (last : Turn) (size : ℕ) → IsOfScript run → Opens run s turn bytes r
-    → IsRun (after_line run turn bytes) lines turns → AreOfSession lines
+AllGiven = (run : Run) (s : State) (turn : Turn) (bytes : List ℕ) (lines : List (List ℕ)) (turns : List Turn) (r : ReaderRow) (actor : List ℕ) (last : Turn) (size : ℕ) (script : IsOfScript run)
+    → Opens run s turn bytes r → IsRun (after_line run turn bytes) lines turns → AreOfSession lines
     → reader_by (run_after (after_line run turn bytes) lines turns) actor ≡ Some s.next_reader
     → StepTakes (run_after (after_line run turn bytes) lines turns) last (step.Next actor)
     → step_answer (run_after (after_line run turn bytes) lines turns) last (step.Next actor) ≡ answer.End size
     → HasGivenAll 0 ((run_after (after_line run turn bytes) lines turns).streams r.put).bytes (given_to s.next_reader (after_line run turn bytes) lines turns) size
+    ⊎ ShowsAlong fresh (script.lines ++ bytes ∷ lines) (script.turns ++ turn ∷ turns)

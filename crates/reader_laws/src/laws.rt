@@ -2,16 +2,20 @@
 ghost use Rattle.reader_laws.specs.Laws.{AllGiven, EndIsAll, FirstGiven, FragmentsGiven, LegalIsOwn, OpensFirst};
 
 use cache_model::{
-    formats_tell, nothing_asked, numbers_follow, one_group, reader_is_closed, steps_tell,
+    formats_tell, legal_is_sound, nothing_asked, numbers_follow, one_group, reader_is_closed,
+    steps_are_sound, steps_tell,
 };
 use script_run::{formats_own, steps_own};
 
 /// Along the lines of each legal script what stands is what writers took, and each put that an actor
-/// writes is open.
+/// writes is open; or a line of it shows two documents of one SHA-256, by bytes that the device gave in its
+/// turn.
 pub fn legal_is_own()
     ensures { LegalIsOwn }
 {
     numbers_follow();
+    legal_is_sound();
+    steps_are_sound();
     formats_tell();
     steps_tell();
     formats_own();
@@ -46,7 +50,7 @@ pub fn end_is_all()
 }
 
 /// In each legal script all that lines give to a reader that a line opened are the first fragments of what
-/// the writer of its put took.
+/// the writer of its put took, or a line of the script shows such a pair.
 pub fn first_given()
     ensures { FirstGiven }
 {
@@ -54,6 +58,8 @@ pub fn first_given()
     nothing_asked();
     numbers_follow();
     reader_is_closed();
+    legal_is_sound();
+    steps_are_sound();
     formats_tell();
     steps_tell();
     formats_own();
@@ -68,6 +74,8 @@ pub fn all_given()
     nothing_asked();
     numbers_follow();
     reader_is_closed();
+    legal_is_sound();
+    steps_are_sound();
     formats_tell();
     steps_tell();
     formats_own();

@@ -5,6 +5,7 @@ use Rattle.std.specs.List.{AllByRecursion}
 use Rattle.tape_base.specs.declared.actors.Actor.{Actor}
 use Rattle.tape_base.specs.declared.keys.Key.{Key}
 use Rattle.tape_base.specs.declared.pieces.PieceId.{PieceId}
+use Rattle.tape_base.specs.Geometry.{budget_of}
 use Rattle.fragment_table.specs.Table.{TableRow}
 use Rattle.alternate_vector.specs.Field.{Field}
 use Rattle.cache_model.specs.declared.cause.Cause.{Cause}
@@ -14,17 +15,20 @@ use Rattle.cache_model.specs.declared.answer.NextAnswer.{NextAnswer}
 use Rattle.cache_model.specs.declared.answer.NextAnswer.TheVariants as next
 use Rattle.cache_model.specs.declared.record.Rec.{Rec}
 use Rattle.cache_model.specs.declared.record.Rec.TheVariants as rec
-use Rattle.cache_model.specs.State.{State, Row, ReaderRow}
+use Rattle.cache_model.specs.State.{State, Row, ReaderRow, after_all, state_after}
 use Rattle.cache_model.specs.Permit.{Permit, Intent, Flush, Write, Fragment, Overflow, Weigh, Finish, Commit, GiveUp, Remove, Look, ReadOn, ReadAll, StopReading, End, Stays, Done, Fails, Faulted, Exhausted, Lost}
 use Rattle.cache_model.specs.Room.{MayDisplace, displaced_record}
 use Rattle.cache_model.specs.Permit.{IsAmong}
+use Rattle.cache_model.specs.Due.{due_pieces}
+use Rattle.cache_model.specs.Outcomes.{AreOutcomes, Copied, Copy, IsOutcome, NoRoom, Outcome, Refused, Spoiled, copies_of, flush_records, front_of, left_behind, moved_record, moved_records, records_of, stopped_front_of, stopped_records_of}
+use Rattle.cache_model.specs.Given
 use Rattle.cache_model.specs.Legal
 use Rattle.cache_model.specs.Legal.{Does, answer_record, aborted_record, is_given}
 use Rattle.cache_model.proofs.Found.{none_is}
 use Rattle.script_laws.specs.Causes
 use Rattle.script_laws.specs.Causes.{IsGivenBy, IsTraced, cause_given, cause_told}
 use Rattle.script_laws.specs.Troubles.{IsCounted}
-use Rattle.script_laws.proofs.Among.{all_append}
+use Rattle.script_laws.proofs.Among.{all_append, among_right}
 use Rattle.script_laws.proofs.Losses.{given_left}
 use Rattle.script_laws.proofs.Standing.{LookIsTraced, NextIsTraced, look_stands, next_stands}
 
@@ -75,12 +79,12 @@ module _ (p : Permit) where
 
   -- ---- faults
 
-  counted : (s : State) (count : ℕ) → Legal.MayCount p s count → IsCounted p count
+  counted : (s : State) (count : ℕ) → Given.MayCount p s count → IsCounted p count
   counted s count m =
       let rose : min (max p.faults_before s.fault + 1) (2 ^ 64 - 1) ≤ count = m.rose in
       record { risen = omega (arith, rose); reached = m.reached }
 
-  fault : (s : State) (count : ℕ) (added : List Rec) → Legal.MayCount p s count → added ≡ rec.Fault count ∷ [] → IsGroup s added (Fails (Faulted count))
+  fault : (s : State) (count : ℕ) (added : List Rec) → Given.MayCount p s count → added ≡ rec.Fault count ∷ [] → IsGroup s added (Fails (Faulted count))
   fault s count added m is = silent s added (rec.Fault count ∷ []) (Fails (Faulted count)) is (inl refl) ((counted s count m, refl), tt)
 
   -- ---- what comes before an answer
@@ -93,13 +97,13 @@ module _ (p : Permit) where
   one : (r : Rec) (why : Cause) → IsSilent r → cause_given r ≡ Some why → Gives (r ∷ []) why
   one r why quiet gives = record { silent = (quiet, tt); given = record { r = r; among = inl refl; gives = gives } }
 
-  trouble : (s : State) (row : Row) (before : List Rec) (why : Cause) → Legal.Trouble p s row before why → Gives before why
-  trouble s row before why (Legal.Trouble.faulted count w m) = one (rec.Fault count) why (counted s count m, refl) refl
-  trouble s row before why (Legal.Trouble.damaged found d) = one (Legal.damage_record row row.digest found) why (tt, refl) refl
+  trouble : (s : State) (row : Row) (before : List Rec) (why : Cause) → Given.Trouble p s row before why → Gives before why
+  trouble s row before why (Given.Trouble.faulted count w m) = one (rec.Fault count) why (counted s count m, refl) refl
+  trouble s row before why (Given.Trouble.damaged found d) = one (Given.damage_record row row.digest found) why (tt, refl) refl
 
   read_trouble : (s : State) (r : ReaderRow) (row : Row) (entry : TableRow) (before : List Rec) (why : Cause) → Legal.ReadTrouble p s r row entry before why → Gives before why
   read_trouble s r row entry before why (Legal.ReadTrouble.troubled b c t) = trouble s row before why t
-  read_trouble s r row entry before why (Legal.ReadTrouble.mismatched found hit m) = one (Legal.damage_record row (Legal.digest_in entry) found) why (tt, refl) refl
+  read_trouble s r row entry before why (Legal.ReadTrouble.mismatched found hit m) = one (Given.damage_record row (Legal.digest_in entry) found) why (tt, refl) refl
 
   by_given : (s : State) (before rest : List Rec) (why : Cause) → Gives before why → IsTraced s (before ++ rest) why
   by_given s before rest why g = Causes.IsTraced.recorded (given_left before rest why g.given)
@@ -180,9 +184,54 @@ module _ (p : Permit) where
   displaced : (s : State) (piece : PieceId) (added : List Rec) → MayDisplace p s piece added → AreSilent added
   displaced s piece added m = subst AreSilent (sym m.is) (displacements _ _ m.purged)
 
+  -- ---- a flush
+
+  outcome_silent : (s : State) (left : ℕ) (row : Row) (o : Outcome) → IsOutcome p s left row o → AreSilent (records_of row o)
+  outcome_silent s left row NoRoom h = ((tt, refl), tt)
+  outcome_silent s left row (Copied bytes) h = tt
+  outcome_silent s left row (Spoiled found) h = ((tt, refl), tt)
+  outcome_silent s left row (Refused count) h = ((counted s count h.2, refl), ((tt, refl), tt))
+
+  front_silent : (s : State) (left : ℕ) (rows : List Row) (outcomes : List Outcome) → AreOutcomes p s left rows outcomes → AreSilent (front_of rows outcomes)
+  front_silent s left [] outcomes h = tt
+  front_silent s left (row ∷ rows) [] h = tt
+  front_silent s left (row ∷ rows) (o ∷ outcomes) h =
+      all_append IsSilent (records_of row o) (front_of rows outcomes) (outcome_silent s left row o h.0) (front_silent (after_all s (records_of row o)) (left_behind left row o) rows outcomes h.1)
+
+  copies_silent : (s : State) (copies : List Copy) → AreSilent (moved_records s copies)
+  copies_silent s [] = tt
+  copies_silent s (c ∷ copies) = ((tt, refl), copies_silent (state_after s (moved_record s c)) copies)
+
+  flush : (s : State) (added : List Rec) (e : End) → EndIsRecorded added e → Legal.MayFlush p s added → IsGroup s added e
+  flush s added e end m =
+      let rows : List Row = due_pieces s p.now in
+      silent s added (flush_records s rows m.outcomes) e m.is (subst (λ recs. EndIsRecorded recs e) m.is end)
+      (all_append IsSilent (front_of rows m.outcomes) _ (front_silent s (budget_of s.geometry) rows m.outcomes m.are) ((tt, refl), copies_silent _ (copies_of rows m.outcomes)))
+
+  stopped_outcome_silent : (s : State) (left : ℕ) (row : Row) (o : Outcome) → IsOutcome p s left row o → AreSilent (stopped_records_of row o)
+  stopped_outcome_silent s left row NoRoom h = tt
+  stopped_outcome_silent s left row (Copied bytes) h = tt
+  stopped_outcome_silent s left row (Spoiled found) h = ((tt, refl), tt)
+  stopped_outcome_silent s left row (Refused count) h = ((counted s count h.2, refl), tt)
+
+  stopped_front_silent : (s : State) (left : ℕ) (rows : List Row) (outcomes : List Outcome) → AreOutcomes p s left rows outcomes → AreSilent (stopped_front_of rows outcomes)
+  stopped_front_silent s left [] outcomes h = tt
+  stopped_front_silent s left (row ∷ rows) [] h = tt
+  stopped_front_silent s left (row ∷ rows) (o ∷ outcomes) h =
+      all_append IsSilent (stopped_records_of row o) (stopped_front_of rows outcomes) (stopped_outcome_silent s left row o h.0)
+      (stopped_front_silent (after_all s (records_of row o)) (left_behind left row o) rows outcomes h.1)
+
+  -- the fault for which it stops comes behind those of the reads
+  stop : (s : State) (count : ℕ) (added : List Rec) → Legal.MayStop p s count added → IsGroup s added (Fails (Faulted count))
+  stop s count added m =
+      let front : List Rec = stopped_front_of (due_pieces s p.now) m.outcomes in
+      let last : List Rec = rec.Fault count ∷ [] in
+      silent s added (front ++ last) (Fails (Faulted count)) m.is (among_right (rec.Fault count) front last (inl refl))
+      (all_append IsSilent front last (stopped_front_silent s (budget_of s.geometry) (due_pieces s p.now) m.outcomes m.are) ((counted (after_all s front) count m.counts, refl), tt))
+
   room : (s : State) (bytes : ℕ) (added : List Rec) (e : End) → Legal.MakesRoom p s bytes added e → IsGroup s added e
-  room s bytes added e (Legal.MakesRoom.flushes h m) = silent s added _ e m.is tt ((tt, refl), tt)
-  room s bytes added e (Legal.MakesRoom.stops count h m) = fault s count added m.counts m.is
+  room s bytes added e (Legal.MakesRoom.flushes h m) = flush s added e tt m
+  room s bytes added e (Legal.MakesRoom.stops count h m) = stop s count added m
   room s bytes added e (Legal.MakesRoom.exhausted h q is) = silent s added [] e is tt tt
 
   -- a group that comes to an end at which no fault is recorded
@@ -193,8 +242,8 @@ module _ (p : Permit) where
 
   pub group : (s : State) (i : Intent) (added : List Rec) (e : End) → Does p s i added e → IsGroup s added e
   group s Flush added e (Legal.DoesFlush.empty q f is) = silent s added [] e is tt tt
-  group s Flush added e (Legal.DoesFlush.flushes m) = silent s added _ e m.is tt ((tt, refl), tt)
-  group s Flush added e (Legal.DoesFlush.stops count m) = fault s count added m.counts m.is
+  group s Flush added e (Legal.DoesFlush.flushes m) = flush s added e tt m
+  group s Flush added e (Legal.DoesFlush.stops count m) = stop s count added m
   group s Flush added e (Legal.DoesFlush.exhausted q f b is) = silent s added [] e is tt tt
   group s (Write actor key request response pin) added e (Legal.DoesWrite.opens m) = silent s added _ e m.is tt ((tt, refl), tt)
   group s (Write actor key request response pin) added e (Legal.DoesWrite.many q m is) = silent s added [] e is tt tt

@@ -1,8 +1,9 @@
 -- Each group of records leaves what stands that of what writers took, where the fragments that are cut
--- are those of that.
-use Rattle.std.proofs.Common.{◌≡◌, ℕ, ◌≤◌, List, [], ◌∷◌, ◌++◌, length, refl, sym, subst, arith, Bool, true, false}
+-- are those of that, or a copy shows two documents of one SHA-256.
+use Rattle.std.proofs.Common.{◌≡◌, ℕ, ◌≤◌, List, [], ◌∷◌, ◌++◌, length, refl, sym, subst, arith, inl, inr, ◌⊎◌, Bool, true, false}
 use Rattle.std.specs.Prelude.{Option, cond, filter}
 use Rattle.tape_base.specs.declared.geometries.Geometry.{Geometry}
+use Rattle.tape_base.specs.Geometry.{budget_of}
 use Rattle.fragment_table.specs.Table.{TableRow, total_length}
 use Rattle.alternate_vector.specs.Field.{Field}
 use Rattle.tape_base.specs.declared.keys.Key.{Key}
@@ -14,12 +15,18 @@ use Rattle.cache_model.specs.declared.record.Rec.{Rec}
 use Rattle.cache_model.specs.declared.record.Rec.TheVariants as rec
 use Rattle.cache_model.specs.State.{State, Row, PutRow, ReaderRow, after_all, state_after}
 use Rattle.cache_model.specs.Permit.{Permit, Intent, Flush, Write, Fragment, Overflow, Weigh, Finish, Commit, GiveUp, Remove, Look, ReadOn, ReadAll, StopReading, End, Stays, Done, Fails, Work, Reason, is_cleanup, work_after}
+use Rattle.cache_model.specs.Given
 use Rattle.cache_model.specs.Legal
 use Rattle.cache_model.specs.Legal.{Advances, Does, MayGrow, nothing, more, IsWriting, aborted_record, answer_record}
+use Rattle.cache_model.specs.Due.{due_pieces}
+use Rattle.cache_model.specs.Tape.{IsSound}
+use Rattle.cache_model.proofs.Onward.{later_advanced}
+use Rattle.cache_model.proofs.Sound.{IsLater}
 use Rattle.cache_model.proofs.Steps.{after_all-append}
 use Rattle.script_run.specs.Run.{Stream}
 use Rattle.script_run.specs.Own.{rows_from}
 use Rattle.script_run.proofs.Carried.{same_carries}
+use Rattle.script_run.proofs.Flushing.{IsOtherCopy, go_on, held_flushed, held_stopped}
 use Rattle.script_run.proofs.Held.{IsHeld, IsPlain, held_aborted, held_plain}
 use Rattle.script_run.proofs.Opened.{held_opened, held_read_opened, verdict_own}
 use Rattle.script_run.proofs.Placed.{IsPiece, held_committed, held_fragment, held_vector}
@@ -69,6 +76,11 @@ cleanups_fit fragment streams (i ∷ is) = cleanups_by fragment streams i (filte
 -- ---- groups
 
 module _ (g : Geometry) (streams : ℕ → Stream) where
+  -- what a group of records leaves: it is held still, or a copy that it makes shows two documents of one
+  -- SHA-256
+  abbrev pub Leaves : Permit → State → List Rec → Type 0
+  Leaves p s added = IsHeld g streams (after_all s added) ⊎ IsOtherCopy p s streams
+
   -- records that change no put
   abbrev AllPlain : List Rec → Type 0
   AllPlain [] = Unit {0}
@@ -84,10 +96,16 @@ module _ (g : Geometry) (streams : ℕ → Stream) where
   aborts : (s : State) (put : ℕ) (w : PutRow) (added : List Rec) → added ≡ aborted_record w ∷ [] → IsWriting s put w → IsHeld g streams s → IsHeld g streams (after_all s added)
   aborts s put w added is writing h = subst (λ xs. IsHeld g streams (after_all s xs)) (sym is) (held_aborted g streams s put w writing h)
 
-  roomed : (p : Permit) (s : State) (bytes : ℕ) (added : List Rec) (e : End) → Legal.MakesRoom p s bytes added e → IsHeld g streams s → IsHeld g streams (after_all s added)
-  roomed p s bytes added e (Legal.MakesRoom.flushes x m) h = adds s added _ m.is (tt, tt) h
-  roomed p s bytes added e (Legal.MakesRoom.stops count x m) h = adds s added _ m.is (tt, tt) h
-  roomed p s bytes added e (Legal.MakesRoom.exhausted x q is) h = adds s added [] is tt h
+  flushes : (p : Permit) (s : State) (added : List Rec) → Legal.MayFlush p s added → IsSound s → IsHeld g streams s → Leaves p s added
+  flushes p s added m sound h = subst (Leaves p s) (sym m.is) (held_flushed g streams p s p.now (budget_of s.geometry) m.outcomes sound h m.are)
+
+  stops : (p : Permit) (s : State) (count : ℕ) (added : List Rec) → Legal.MayStop p s count added → IsHeld g streams s → IsHeld g streams (after_all s added)
+  stops p s count added m h = subst (λ xs. IsHeld g streams (after_all s xs)) (sym m.is) (held_stopped g streams s (due_pieces s p.now) m.outcomes count h)
+
+  roomed : (p : Permit) (s : State) (bytes : ℕ) (added : List Rec) (e : End) → Legal.MakesRoom p s bytes added e → IsSound s → IsHeld g streams s → Leaves p s added
+  roomed p s bytes added e (Legal.MakesRoom.flushes x m) sound h = flushes p s added m sound h
+  roomed p s bytes added e (Legal.MakesRoom.stops count x m) sound h = inl (stops p s count added m h)
+  roomed p s bytes added e (Legal.MakesRoom.exhausted x q is) sound h = inl (adds s added [] is tt h)
 
   opens : (s : State) (actor : ℕ) (key : Key) (request response : List Field) (pin : ℕ) (added : List Rec) → Legal.MayOpenWrite s actor key request response pin added → IsHeld g streams s → IsHeld g streams (after_all s added)
   opens s actor key request response pin added m h =
@@ -95,9 +113,9 @@ module _ (g : Geometry) (streams : ℕ → Stream) where
 
   -- ---- readers
 
-  trouble_plain : (p : Permit) (s : State) (row : Row) (before : List Rec) (why : Cause) → Legal.Trouble p s row before why → AllPlain before
-  trouble_plain p s row before why (Legal.Trouble.faulted count w m) = (tt, tt)
-  trouble_plain p s row before why (Legal.Trouble.damaged found d) = (tt, tt)
+  trouble_plain : (p : Permit) (s : State) (row : Row) (before : List Rec) (why : Cause) → Given.Trouble p s row before why → AllPlain before
+  trouble_plain p s row before why (Given.Trouble.faulted count w m) = (tt, tt)
+  trouble_plain p s row before why (Given.Trouble.damaged found d) = (tt, tt)
 
   looked : (p : Permit) (s : State) (actor : ℕ) (key : Key) (request : List Field) (added : List Rec) (m : Legal.MayLook p s actor key request added) (before : List Rec) (answer : ReadAnswer)
       → Legal.IsLookup p s key request before answer → IsHeld g streams s → IsHeld g streams (after_all s (before ++ rec.ReadOpened s.next_reader m.who key request answer ∷ []))
@@ -111,9 +129,9 @@ module _ (g : Geometry) (streams : ℕ → Stream) where
       (subst (λ n. IsHeld g streams (state_after t (rec.ReadOpened n m.who key request answer))) same
       (held_read_opened g streams t m.who key request answer tt (plain s before (trouble_plain p s row before why trouble) h)))
     where
-      trouble_reader : {row : Row} {before : List Rec} {why : Cause} → Legal.Trouble p s row before why → (after_all s before).next_reader ≡ s.next_reader
-      trouble_reader (Legal.Trouble.faulted count w m) = refl
-      trouble_reader (Legal.Trouble.damaged found d) = refl
+      trouble_reader : {row : Row} {before : List Rec} {why : Cause} → Given.Trouble p s row before why → (after_all s before).next_reader ≡ s.next_reader
+      trouble_reader (Given.Trouble.faulted count w m) = refl
+      trouble_reader (Given.Trouble.damaged found d) = refl
 
   fragment_plain : (p : Permit) (s : State) (r : ReaderRow) (row : Row) (entry : TableRow) (before : List Rec) (why : Cause) → Legal.ReadTrouble p s r row entry before why → AllPlain before
   fragment_plain p s r row entry before why (Legal.ReadTrouble.troubled b c t) = trouble_plain p s row before why t
@@ -138,39 +156,44 @@ module _ (g : Geometry) (streams : ℕ → Stream) where
 
   -- ---- each group
 
-  pub held_group : (p : Permit) (s : State) (i : Intent) (added : List Rec) (e : End) → Fits g.fragment streams i → IsHeld g streams s → Does p s i added e → IsHeld g streams (after_all s added)
-  held_group p s Flush added e fits h (Legal.DoesFlush.empty q f is) = adds s added [] is tt h
-  held_group p s Flush added e fits h (Legal.DoesFlush.flushes m) = adds s added _ m.is (tt, tt) h
-  held_group p s Flush added e fits h (Legal.DoesFlush.stops count m) = adds s added _ m.is (tt, tt) h
-  held_group p s Flush added e fits h (Legal.DoesFlush.exhausted q f b is) = adds s added [] is tt h
-  held_group p s (Write actor key request response pin) added e fits h (Legal.DoesWrite.opens m) = opens s actor key request response pin added m h
-  held_group p s (Write actor key request response pin) added e fits h (Legal.DoesWrite.many q m is) = adds s added [] is tt h
-  held_group p s (Write actor key request response pin) added e fits h (Legal.DoesWrite.exhausted q m l is) = adds s added [] is tt h
-  held_group p s (Fragment put index payload) added e fits h (Legal.DoesFragment.places d m) = held_fragment g streams p s put index payload added fits m h
-  held_group p s (Fragment put index payload) added e fits h (Legal.DoesFragment.rooms w n m) = roomed p s _ added e m h
-  held_group p s (Fragment put index payload) added e fits h (Legal.DoesFragment.exhausted w x n q) = adds s added [] q.is tt h
-  held_group p s (Overflow put) added e fits h (Legal.DoesOverflow.aborts w q l is) = aborts s put w added is q h
-  held_group p s (Weigh put rest) added e fits h (Legal.DoesWeigh.weighs w q r f is) = adds s added [] is tt h
-  held_group p s (Weigh put rest) added e fits h (Legal.DoesWeigh.too_large w q r f is) = aborts s put w added is q h
-  held_group p s (Weigh put rest) added e fits h (Legal.DoesWeigh.damaged w row found q live d is) = adds s added _ is (tt, tt) h
-  held_group p s (Weigh put rest) added e fits h (Legal.DoesWeigh.faulted w row count q live r m is) = adds s added _ is (tt, tt) h
-  held_group p s (Finish put fragments) added e fits h (Legal.DoesFinish.places d m) = held_vector g streams p s put fragments added fits m h
-  held_group p s (Finish put fragments) added e fits h (Legal.DoesFinish.rooms w c m) = roomed p s _ added e m h
-  held_group p s (Finish put fragments) added e fits h (Legal.DoesFinish.exhausted w x c l q) = adds s added [] q.is tt h
-  held_group p s (Finish put fragments) added e fits h (Legal.DoesFinish.loses w index d m is) = aborts s put w added is m.cut.writing h
-  held_group p s (Commit put) added e fits h (Legal.DoesCommit.commits w f o q is) =
-      subst (λ xs. IsHeld g streams (after_all s xs)) (sym is) (held_committed g streams s put (total_length w.cuts) w f q h)
-  held_group p s (GiveUp put) added e fits h (Legal.DoesGiveUp.aborts w q is) = aborts s put w added is q h
-  held_group p s (GiveUp put) added e fits h (Legal.DoesGiveUp.over q o is) = adds s added [] is tt h
-  held_group p s (Remove key) added e fits h (Legal.DoesRemove.removes row q l is) = adds s added _ is (tt, tt) h
-  held_group p s (Remove key) added e fits h (Legal.DoesRemove.absent q l is) = adds s added [] is tt h
-  held_group p s (Look actor key request) added e fits h (Legal.DoesLook.looks m) =
-      subst (λ xs. IsHeld g streams (after_all s xs)) (sym m.is) (looked p s actor key request added m m.before m.answer m.right h)
-  held_group p s (ReadOn reader) added e fits h (Legal.DoesReadOn.reads_on answer m) = reads p s reader answer added m h
-  held_group p s (ReadAll reader) added e fits h (Legal.DoesReadAll.reads_on answer x m y) = reads p s reader answer added m h
-  held_group p s (ReadAll reader) added e fits h (Legal.DoesReadAll.has_none q x is y) = adds s added [] is tt h
-  held_group p s (StopReading reader) added e fits h (Legal.DoesStopReading.closes r q l is) = adds s added _ is (tt, tt) h
-  held_group p s (StopReading reader) added e fits h (Legal.DoesStopReading.closed q l is) = adds s added [] is tt h
+  -- a writer that opens
+  pub held_write : (p : Permit) (s : State) (actor : ℕ) (key : Key) (request response : List Field) (pin : ℕ) (added : List Rec) (e : End) → IsHeld g streams s
+      → Does p s (Write actor key request response pin) added e → IsHeld g streams (after_all s added)
+  held_write p s actor key request response pin added e h (Legal.DoesWrite.opens m) = opens s actor key request response pin added m h
+  held_write p s actor key request response pin added e h (Legal.DoesWrite.many q m is) = adds s added [] is tt h
+  held_write p s actor key request response pin added e h (Legal.DoesWrite.exhausted q m l is) = adds s added [] is tt h
+
+  pub held_group : (p : Permit) (s : State) (i : Intent) (added : List Rec) (e : End) → Fits g.fragment streams i → IsSound s → IsHeld g streams s → Does p s i added e → Leaves p s added
+  held_group p s Flush added e fits sound h (Legal.DoesFlush.empty q f is) = inl (adds s added [] is tt h)
+  held_group p s Flush added e fits sound h (Legal.DoesFlush.flushes m) = flushes p s added m sound h
+  held_group p s Flush added e fits sound h (Legal.DoesFlush.stops count m) = inl (stops p s count added m h)
+  held_group p s Flush added e fits sound h (Legal.DoesFlush.exhausted q f b is) = inl (adds s added [] is tt h)
+  held_group p s (Write actor key request response pin) added e fits sound h does = inl (held_write p s actor key request response pin added e h does)
+  held_group p s (Fragment put index payload) added e fits sound h (Legal.DoesFragment.places d m) = inl (held_fragment g streams p s put index payload added fits m h)
+  held_group p s (Fragment put index payload) added e fits sound h (Legal.DoesFragment.rooms w n m) = roomed p s _ added e m sound h
+  held_group p s (Fragment put index payload) added e fits sound h (Legal.DoesFragment.exhausted w x n q) = inl (adds s added [] q.is tt h)
+  held_group p s (Overflow put) added e fits sound h (Legal.DoesOverflow.aborts w q l is) = inl (aborts s put w added is q h)
+  held_group p s (Weigh put rest) added e fits sound h (Legal.DoesWeigh.weighs w q r f is) = inl (adds s added [] is tt h)
+  held_group p s (Weigh put rest) added e fits sound h (Legal.DoesWeigh.too_large w q r f is) = inl (aborts s put w added is q h)
+  held_group p s (Weigh put rest) added e fits sound h (Legal.DoesWeigh.damaged w row found q live d is) = inl (adds s added _ is (tt, tt) h)
+  held_group p s (Weigh put rest) added e fits sound h (Legal.DoesWeigh.faulted w row count q live r m is) = inl (adds s added _ is (tt, tt) h)
+  held_group p s (Finish put fragments) added e fits sound h (Legal.DoesFinish.places d m) = inl (held_vector g streams p s put fragments added fits m h)
+  held_group p s (Finish put fragments) added e fits sound h (Legal.DoesFinish.rooms w c m) = roomed p s _ added e m sound h
+  held_group p s (Finish put fragments) added e fits sound h (Legal.DoesFinish.exhausted w x c l q) = inl (adds s added [] q.is tt h)
+  held_group p s (Finish put fragments) added e fits sound h (Legal.DoesFinish.loses w index d m is) = inl (aborts s put w added is m.cut.writing h)
+  held_group p s (Commit put) added e fits sound h (Legal.DoesCommit.commits w f o q is) =
+      inl (subst (λ xs. IsHeld g streams (after_all s xs)) (sym is) (held_committed g streams s put (total_length w.cuts) w f q h))
+  held_group p s (GiveUp put) added e fits sound h (Legal.DoesGiveUp.aborts w q is) = inl (aborts s put w added is q h)
+  held_group p s (GiveUp put) added e fits sound h (Legal.DoesGiveUp.over q o is) = inl (adds s added [] is tt h)
+  held_group p s (Remove key) added e fits sound h (Legal.DoesRemove.removes row q l is) = inl (adds s added _ is (tt, tt) h)
+  held_group p s (Remove key) added e fits sound h (Legal.DoesRemove.absent q l is) = inl (adds s added [] is tt h)
+  held_group p s (Look actor key request) added e fits sound h (Legal.DoesLook.looks m) =
+      inl (subst (λ xs. IsHeld g streams (after_all s xs)) (sym m.is) (looked p s actor key request added m m.before m.answer m.right h))
+  held_group p s (ReadOn reader) added e fits sound h (Legal.DoesReadOn.reads_on answer m) = inl (reads p s reader answer added m h)
+  held_group p s (ReadAll reader) added e fits sound h (Legal.DoesReadAll.reads_on answer x m y) = inl (reads p s reader answer added m h)
+  held_group p s (ReadAll reader) added e fits sound h (Legal.DoesReadAll.has_none q x is y) = inl (adds s added [] is tt h)
+  held_group p s (StopReading reader) added e fits sound h (Legal.DoesStopReading.closes r q l is) = inl (adds s added _ is (tt, tt) h)
+  held_group p s (StopReading reader) added e fits sound h (Legal.DoesStopReading.closed q l is) = inl (adds s added [] is tt h)
 
   -- ---- along a step
 
@@ -205,18 +228,43 @@ module _ (g : Geometry) (streams : ℕ → Stream) where
     held : IsHeld g streams s
     fits : AllFit g.fragment streams w.intents
 
-  advanced : (p : Permit) (s : State) (is : List Intent) (why : Option Reason) (added : List Rec) (between : Work) → AllFit g.fragment streams is → IsHeld g streams s → Advances p s is why added between
-      → IsOn (after_all s added) between
-  advanced p s [] why added between fits h a = absurd a
-  advanced p s (i ∷ is) why added between fits h a =
+  advanced : (p : Permit) (s : State) (is : List Intent) (why : Option Reason) (added : List Rec) (between : Work) → AllFit g.fragment streams is → IsSound s → IsHeld g streams s
+      → Advances p s is why added between → IsOn (after_all s added) between ⊎ IsOtherCopy p s streams
+  advanced p s [] why added between fits sound h a = absurd a
+  advanced p s (i ∷ is) why added between fits sound h a =
       let now = fits (is_small p s i added a.0 h.geometry a.1) in
-      record {
-        held = held_group p s i added a.0 now.0 h a.1;
+      go_on (held_group p s i added a.0 now.0 sound h a.1) (λ held. inl (record {
+        held = held;
         fits = subst (λ (w : Work). AllFit g.fragment streams w.intents) (sym a.2) (left_fit i is why a.0 fits now.1);
-      }
+      }))
 
-  pub held_grown : {p : Permit} {s : State} {w after : Work} {recs : List Rec} → AllFit g.fragment streams w.intents → IsHeld g streams s → MayGrow p s w recs after → IsHeld g streams (after_all s recs)
-  held_grown fits h nothing = h
-  held_grown {p} {s} {w} fits h (more {rest = tail} added between one others) =
-      let on : IsOn (after_all s added) between = advanced p s w.intents w.refused added between fits h one in
-      subst (IsHeld g streams) (sym (after_all-append s added tail)) (held_grown on.fits on.held others)
+  -- some way on from some work a copy shows two documents of one SHA-256
+  pub record IsShownFrom (p : Permit) (s : State) (w : Work) : Type 0 where
+    pub added : List Rec
+    pub left : Work
+    pub grows : MayGrow p s w added left
+    pub copy : IsOtherCopy p (after_all s added) streams
+
+  shown_here : (p : Permit) (s : State) (w : Work) → IsOtherCopy p s streams → IsShownFrom p s w
+  shown_here p s w copy = record { added = []; left = w; grows = nothing; copy = copy }
+
+  shown_later : (p : Permit) (s : State) (w between : Work) (added : List Rec) → Advances p s w.intents w.refused added between → IsShownFrom p (after_all s added) between → IsShownFrom p s w
+  shown_later p s w between added one v = record {
+    added = added ++ v.added;
+    left = v.left;
+    grows = more added between one v.grows;
+    copy = subst (λ t. IsOtherCopy p t streams) (sym (after_all-append s added v.added)) v.copy;
+  }
+
+  pub held_grown : {p : Permit} {s : State} {w after : Work} {recs : List Rec} → AllFit g.fragment streams w.intents → IsSound s → IsHeld g streams s → MayGrow p s w recs after
+      → IsHeld g streams (after_all s recs) ⊎ IsShownFrom p s w
+  held_grown fits sound h nothing = inl h
+  held_grown {p} {s} {w} fits sound h (more {rest = tail} added between one others) =
+      let later : IsLater s (after_all s added) = later_advanced p s w.intents w.refused added between one sound in
+      elim (advanced p s w.intents w.refused added between fits sound h one) [
+        | inr copy ↦ inr (shown_here p s w copy)
+        | inl on ↦ elim (held_grown on.fits later.sound on.held others) [
+          | inl last ↦ inl (subst (IsHeld g streams) (sym (after_all-append s added tail)) last)
+          | inr v ↦ inr (shown_later p s w between added one v)
+        ]
+      ]

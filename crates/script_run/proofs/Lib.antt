@@ -5,6 +5,7 @@ pub mod Carried
 pub mod Reading
 pub mod Others
 pub mod Held
+pub mod Flushing
 pub mod Listed
 pub mod Opened
 pub mod Placed
@@ -12,5 +13,6 @@ pub mod Grown
 pub mod Streams
 pub mod Fitting
 pub mod Ended
+pub mod Showing
 pub mod Stepping
 pub mod OnlyReading

@@ -20,6 +20,7 @@ use Rattle.cache_model.specs.declared.record.Rec.TheVariants as rec
 use Rattle.cache_model.specs.State.{State, Row, PutRow, ReaderRow, LastVector, Complete, TakenOut, after_all, alternates_of, change_reader, is_live, last_vector, list_of_last, list_of_row, put_of, row_in, state_after, table_of_hit, vector_piece, without_reader}
 use Rattle.cache_model.specs.Verdict.{cause_of_miss, follow_answer, followed, hit, hit_answer, lookup_verdict}
 use Rattle.cache_model.specs.Permit.{IsAmong, Permit, Intent, Flush, Write, Fragment, Overflow, Weigh, Finish, Commit, GiveUp, Remove, Look, ReadOn, ReadAll, StopReading, End}
+use Rattle.cache_model.specs.Given
 use Rattle.cache_model.specs.Legal
 use Rattle.cache_model.specs.Legal.{Does, answer_record}
 use Rattle.cache_model.proofs.Answered.{hit_matches}
@@ -230,13 +231,13 @@ verdict_hits s streams key request (read.Hit put) is own = hit_table s streams k
 verdict_hits s streams key request (read.Follow put) is own = tt
 verdict_hits s streams key request (read.Miss why) is own = tt
 
-troubled_own : (p : Permit) (s : State) (streams : ℕ → Stream) (row : Row) (before : List Rec) (why : Cause) → Legal.Trouble p s row before why → AreOwn s streams → AreOwn (after_all s before) streams
-troubled_own p s streams row before why (Legal.Trouble.faulted count w m) own = fault_own s streams count own
-troubled_own p s streams row before why (Legal.Trouble.damaged found d) own = damaged_own s streams row.id row.place row.digest found own
+troubled_own : (p : Permit) (s : State) (streams : ℕ → Stream) (row : Row) (before : List Rec) (why : Cause) → Given.Trouble p s row before why → AreOwn s streams → AreOwn (after_all s before) streams
+troubled_own p s streams row before why (Given.Trouble.faulted count w m) own = fault_own s streams count own
+troubled_own p s streams row before why (Given.Trouble.damaged found d) own = damaged_own s streams row.id row.place row.digest found own
 
-trouble_number : (p : Permit) (s : State) (row : Row) (before : List Rec) (why : Cause) → Legal.Trouble p s row before why → (after_all s before).next_reader ≡ s.next_reader
-trouble_number p s row before why (Legal.Trouble.faulted count w m) = refl
-trouble_number p s row before why (Legal.Trouble.damaged found d) = refl
+trouble_number : (p : Permit) (s : State) (row : Row) (before : List Rec) (why : Cause) → Given.Trouble p s row before why → (after_all s before).next_reader ≡ s.next_reader
+trouble_number p s row before why (Given.Trouble.faulted count w m) = refl
+trouble_number p s row before why (Given.Trouble.damaged found d) = refl
 
 looked_own : (p : Permit) (s : State) (streams : ℕ → Stream) (who : Actor) (key : Key) (request : List Field) (before : List Rec) (answer : ReadAnswer)
     → Legal.IsLookup p s key request before answer → AreOwn s streams → AreOwn (state_after (after_all s before) (rec.ReadOpened s.next_reader who key request answer)) streams

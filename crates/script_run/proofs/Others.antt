@@ -8,7 +8,8 @@ use Rattle.fragment_table.specs.Table.{TableRow}
 use Rattle.cache_model.specs.State.{State, Row, PutRow, ReaderRow, live_row_of, put_of, reader_of}
 use Rattle.cache_model.specs.Verdict.{cuts_of, next_piece, next_row}
 use Rattle.cache_model.specs.Permit.{Permit}
-use Rattle.cache_model.specs.Legal.{IsGiven, digest_in}
+use Rattle.cache_model.specs.Given.{IsGiven}
+use Rattle.cache_model.specs.Legal.{digest_in}
 use Rattle.cache_model.proofs.Found.{none_is, number_of, same_some}
 use Rattle.stripe_core.specs.Find.{IsDocumentOf}
 use Rattle.script_run.specs.Run.{Stream}

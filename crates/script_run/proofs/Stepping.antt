@@ -1,5 +1,5 @@
--- Each line leaves what stands that of what writers took.
-use Rattle.std.proofs.Common.{◌≡◌, ℕ, ◌+◌, ◌*◌, ◌≤◌, List, [], ◌∷◌, ◌++◌, length, drop, refl, sym, ◌∙◌, ap, subst, arith, inl, inr, Bool, true, false, length-append}
+-- Each line leaves what stands that of what writers took, or shows two documents of one SHA-256.
+use Rattle.std.proofs.Common.{◌≡◌, ℕ, ◌+◌, ◌*◌, ◌≤◌, List, [], ◌∷◌, ◌++◌, length, drop, refl, sym, ◌∙◌, ap, subst, arith, inl, inr, ◌⊎◌, Bool, true, false, length-append}
 use Rattle.std.specs.Prelude.{Option, Some, None, if◌then◌else◌, option_map, unwrap_or}
 use Rattle.std.proofs.lemmas.List.{drop-append-le}
 use Rattle.tape_base.specs.declared.keys.Key.{Key}
@@ -8,31 +8,42 @@ use Rattle.fragment_table.specs.Table.{TableRow, total_length}
 use Rattle.cache_model.specs.declared.record.Rec.{Rec}
 use Rattle.cache_model.specs.State.{State, PutRow, Open, after_all, put_of}
 use Rattle.cache_model.specs.Verdict.{cuts_of}
-use Rattle.cache_model.specs.Permit.{Permit, Intent, Write, GiveUp, Look, ReadOn, StopReading, Reason}
-use Rattle.cache_model.specs.Legal.{IsQuiet, IsStep, is_writing}
+use Rattle.cache_model.specs.Permit.{Permit, Intent, Write, GiveUp, Look, ReadOn, StopReading, Reason, End, Stays}
+use Rattle.cache_model.specs.Legal
+use Rattle.cache_model.specs.Legal.{Does, IsQuiet, IsStep, is_writing}
+use Rattle.cache_model.specs.Tape.{IsSound}
 use Rattle.cache_model.specs.StepLaws.{EndsWith, WriterIsEnded}
 use Rattle.cache_model.specs.Vectors.{AreTold}
+use Rattle.cache_model.proofs.Steps.{alone}
 use Rattle.cache_model.proofs.Found.{no_truth, number_of, same_some}
 use Rattle.script_lang.specs.declared.step.Step.{Step}
 use Rattle.script_lang.specs.declared.step.Step.TheVariants as step
 use Rattle.script_run.specs.Run.{Run, Holding, Stream, gathered_of, held_by, no_stream, reader_by, with_value, writer_of}
 use Rattle.script_run.specs.Asked.{asked, body_intents, closing, feed_intents, feeding, if_free, if_has, put_intents}
 use Rattle.script_run.specs.Turn.{Turn}
-use Rattle.script_run.specs.Behind.{fed, of_put, seals, streams_behind, streams_closed, streams_fed, streams_opened, taken_of}
+use Rattle.script_run.specs.Behind.{fed, of_put, seals, streams_behind, streams_closed, streams_fed, streams_opened, taken_of, with_bytes}
 use Rattle.script_run.specs.Own.{AreOwn, AreWriting, IsOwnPut, rows_from}
+use Rattle.script_run.specs.Takes.{ShownIn, offered, streams_offered, streams_with}
 use Rattle.script_run.proofs.Held.{IsHeld, quiet_whole}
-use Rattle.script_run.proofs.Grown.{AllFit, held_grown}
+use Rattle.script_run.proofs.Grown.{AllFit, held_grown, held_write}
+use Rattle.script_run.proofs.Showing.{copy_shown, same_instead, same_with, shown_as}
 use Rattle.script_run.proofs.Streams.{own_begins, own_longer, own_sealed, own_shorter, own_unsealed, value_here}
 use Rattle.script_run.proofs.Fitting.{IsRest, all_fit_append, body_fits, closing_fits, cuts_fit}
 use Rattle.script_run.proofs.Ended.{EndsOrSeals, IsFoundOpen, close_ends, not_writing, open_row}
 
+-- what a step leaves
+abbrev Steps : Permit → (ℕ → Stream) → State → List Intent → List Rec → Type 0
+Steps p streams s asks added = AreOwn (after_all s added) streams ⊎ ShownIn p streams s asks
+
 -- a step whose asks fit
-stepped : (p : Permit) (s : State) (streams : ℕ → Stream) (intents : List Intent) (added : List Rec) (why : Option Reason) → AreTold s → IsQuiet s → AreOwn s streams
-    → AllFit s.geometry.fragment streams intents → IsStep p s intents added why → AreOwn (after_all s added) streams
-stepped p s streams intents added why told quiet own fits step =
+stepped : (p : Permit) (s : State) (streams : ℕ → Stream) (intents : List Intent) (added : List Rec) (why : Option Reason) → IsSound s → AreTold s → IsQuiet s → AreOwn s streams
+    → AllFit s.geometry.fragment streams intents → IsStep p s intents added why → Steps p streams s intents added
+stepped p s streams intents added why sound told quiet own fits step =
     let h : IsHeld s.geometry streams s = record { geometry = refl; own = own; displaced = told.displaced; pending = quiet_whole s streams quiet } in
-    let behind : IsHeld s.geometry streams (after_all s added) = held_grown s.geometry streams fits h step.grows in
-    behind.own
+    elim (held_grown s.geometry streams fits sound h step.grows) [
+      | inl behind ↦ inl behind.own
+      | inr v ↦ inr (copy_shown streams p s intents v)
+    ]
 
 -- ---- lines that give no bytes
 
@@ -53,9 +64,9 @@ ends_behind last (i ∷ []) = refl
 ends_behind last (i ∷ j ∷ is) = ends_behind last (j ∷ is)
 
 put_own : (ended : WriterIsEnded) (run : Run) (s : State) (turn : Turn) (key : Key) (body : List ℕ) (request response : List Field)
-    → AreTold s → IsQuiet s → AreOwn s run.streams → IsStep turn.device s (put_intents s key body request response) turn.added turn.refused
-    → AreOwn (after_all s turn.added) (with_value run.streams s.next_put (record { bytes = body; sealed = false }))
-put_own ended run s turn key body request response told quiet own step =
+    → IsSound s → AreTold s → IsQuiet s → AreOwn s run.streams → IsStep turn.device s (put_intents s key body request response) turn.added turn.refused
+    → Steps turn.device (with_bytes run.streams s.next_put body) s (put_intents s key body request response) turn.added
+put_own ended run s turn key body request response sound told quiet own step =
     let put : ℕ = s.next_put in
     let sealed : Stream = record { bytes = body; sealed = true } in
     let streams : ℕ → Stream = with_value run.streams put sealed in
@@ -64,21 +75,40 @@ put_own ended run s turn key body request response told quiet own step =
     body_fits s.geometry.fragment streams put (ap (λ (x : Stream). x.sealed) here) in
     let fits : AllFit s.geometry.fragment streams (body_intents s.geometry.fragment put body) =
     subst (λ (x : Stream). AllFit s.geometry.fragment streams (body_intents s.geometry.fragment put x.bytes)) here all in
-    let behind : AreOwn (after_all s turn.added) streams =
-    stepped turn.device s streams (put_intents s key body request response) turn.added turn.refused told quiet (own_begins s run.streams sealed own)
+    let behind : Steps turn.device streams s (put_intents s key body request response) turn.added =
+    stepped turn.device s streams (put_intents s key body request response) turn.added turn.refused sound told quiet (own_begins s run.streams sealed own)
     (λ small. (tt, all_fit_append s.geometry.fragment streams (body_intents s.geometry.fragment put body) (GiveUp put ∷ []) fits (λ a. (tt, tt)))) step in
     let over : is_writing (after_all s turn.added) put ≡ false =
     ended turn.device s (put_intents s key body request response) turn.added turn.refused put (ends_behind (GiveUp put) (Write 0 key request response 0 ∷ body_intents s.geometry.fragment put body)) step in
-    own_unsealed (after_all s turn.added) run.streams put body false (not_writing (after_all s turn.added) put over) behind
+    elim behind [
+      | inl owns ↦ inl (own_unsealed (after_all s turn.added) run.streams put body false (not_writing (after_all s turn.added) put over) owns)
+      | inr shown ↦ inr (shown_as turn.device streams (with_bytes run.streams put body) s (put_intents s key body request response)
+          (same_instead run.streams put sealed (record { bytes = body; sealed = false }) refl) shown)
+    ]
 
 -- ---- a writer that opens
 
-opened_own : (run : Run) (s : State) (turn : Turn) (i : Intent) (o : Option Holding) → AllFit s.geometry.fragment (with_value run.streams s.next_put no_stream) (i ∷ [])
-    → AreTold s → IsQuiet s → AreOwn s run.streams → IsStep turn.device s (if_free o (i ∷ [])) turn.added turn.refused
-    → AreOwn (after_all s turn.added) (streams_opened run s o)
-opened_own run s turn i None fits told quiet own step =
-    stepped turn.device s (with_value run.streams s.next_put no_stream) (i ∷ []) turn.added turn.refused told quiet (own_begins s run.streams no_stream own) fits step
-opened_own run s turn i (Some holding) fits told quiet own step = stepped turn.device s run.streams [] turn.added turn.refused told quiet own tt step
+never_stays : (p : Permit) (s : State) (actor : ℕ) (key : Key) (request response : List Field) (pin : ℕ) (added : List Rec) (e : End) → Does p s (Write actor key request response pin) added e → e ≡ Stays → ⊥
+never_stays p s actor key request response pin added e (Legal.DoesWrite.opens m) stays = cc
+never_stays p s actor key request response pin added e (Legal.DoesWrite.many q m is) stays = cc
+never_stays p s actor key request response pin added e (Legal.DoesWrite.exhausted q m l is) stays = cc
+
+-- it makes no copy
+written_own : (run : Run) (s : State) (turn : Turn) (actor : ℕ) (key : Key) (request response : List Field) (pin : ℕ) → AreTold s → IsQuiet s → AreOwn s run.streams
+    → IsStep turn.device s (Write actor key request response pin ∷ []) turn.added turn.refused → AreOwn (after_all s turn.added) (with_value run.streams s.next_put no_stream)
+written_own run s turn actor key request response pin told quiet own step =
+    let streams : ℕ → Stream = with_value run.streams s.next_put no_stream in
+    let begins : AreOwn s streams = own_begins s run.streams no_stream own in
+    let h : IsHeld s.geometry streams s = record { geometry = refl; own = begins; displaced = told.displaced; pending = quiet_whole s streams quiet } in
+    let does = alone turn.device s (Write actor key request response pin) turn.added turn.refused (never_stays turn.device s actor key request response pin) step.grows in
+    let behind : IsHeld s.geometry streams (after_all s turn.added) = held_write s.geometry streams turn.device s actor key request response pin turn.added does.0 h does.1 in
+    behind.own
+
+opened_own : (run : Run) (s : State) (turn : Turn) (actor : ℕ) (key : Key) (request response : List Field) (pin : ℕ) (o : Option Holding) → IsSound s → AreTold s → IsQuiet s → AreOwn s run.streams
+    → IsStep turn.device s (if_free o (Write actor key request response pin ∷ [])) turn.added turn.refused
+    → AreOwn (after_all s turn.added) (streams_opened run s o) ⊎ ShownIn turn.device run.streams s (if_free o (Write actor key request response pin ∷ []))
+opened_own run s turn actor key request response pin None sound told quiet own step = inl (written_own run s turn actor key request response pin told quiet own step)
+opened_own run s turn actor key request response pin (Some holding) sound told quiet own step = stepped turn.device s run.streams [] turn.added turn.refused sound told quiet own tt step
 
 -- ---- a writer that is fed
 
@@ -93,13 +123,16 @@ taken_covers run t body (Some why) put w found within =
     let same : total_length (cuts_of t put) ≡ total_length w.cuts = ap total_length (cuts_found t put w found) in
     omega (arith, same)
 
-module _ (run : Run) (s : State) (turn : Turn) (body : List ℕ) (put : ℕ) (told : AreTold s) (quiet : IsQuiet s) (own : AreOwn s run.streams) where
+module _ (run : Run) (s : State) (turn : Turn) (body : List ℕ) (put : ℕ) (sound : IsSound s) (told : AreTold s) (quiet : IsQuiet s) (own : AreOwn s run.streams) where
   abbrev Taken : List ℕ
   Taken = (run.streams put).bytes
 
   -- the stream with all of the line
   abbrev longer : Stream
-  longer = record { bytes = Taken ++ body; sealed = (run.streams put).sealed }
+  longer = offered (run.streams put) body
+
+  abbrev Asks : List Intent
+  Asks = feed_intents s.geometry.fragment put (length (cuts_of s put)) (gathered_of run s put ++ body)
 
   -- what is gathered with the line stands behind what is cut
   gathered_is : (w : PutRow) → put_of s put ≡ Some w → w.writing ≡ Open → (run.streams put).sealed ≡ false
@@ -116,8 +149,8 @@ module _ (run : Run) (s : State) (turn : Turn) (body : List ℕ) (put : ℕ) (to
       ∙ (ap (λ n. drop n (Taken ++ body)) full ∙ ap (λ (rows : List TableRow). drop (length rows * s.geometry.fragment) (Taken ++ body)) (sym cuts)))
 
   fed_open : is_writing s put ≡ true → (run.streams put).sealed ≡ false
-      → IsStep turn.device s (feed_intents s.geometry.fragment put (length (cuts_of s put)) (gathered_of run s put ++ body)) turn.added turn.refused
-      → AreOwn (after_all s turn.added) (with_value run.streams put (fed (run.streams put) body (taken_of run (after_all s turn.added) body turn.refused put)))
+      → IsStep turn.device s Asks turn.added turn.refused
+      → AreOwn (after_all s turn.added) (with_value run.streams put (fed (run.streams put) body (taken_of run (after_all s turn.added) body turn.refused put))) ⊎ ShownIn turn.device (with_value run.streams put longer) s Asks
   fed_open writing unsealed step =
       let f : IsFoundOpen s put = open_row s put writing in
       let streams : ℕ → Stream = with_value run.streams put longer in
@@ -126,24 +159,28 @@ module _ (run : Run) (s : State) (turn : Turn) (body : List ℕ) (put : ℕ) (to
       let gathered : gathered_of run s put ++ body ≡ drop (length (cuts_of s put) * s.geometry.fragment) (streams put).bytes =
       gathered_is f.w f.found f.is_open unsealed ∙ ap (λ (x : Stream). drop (length (cuts_of s put) * s.geometry.fragment) x.bytes) (sym here) in
       let t : State = after_all s turn.added in
-      let behind : AreOwn t streams =
-      stepped turn.device s streams (feed_intents s.geometry.fragment put (length (cuts_of s put)) (gathered_of run s put ++ body)) turn.added turn.refused told quiet
+      let behind : Steps turn.device streams s Asks turn.added =
+      stepped turn.device s streams Asks turn.added turn.refused sound told quiet
       (own_longer s run.streams put body opens unsealed own)
       (cuts_fit s.geometry.fragment streams put (length (gathered_of run s put ++ body)) (length (cuts_of s put)) (gathered_of run s put ++ body) gathered) step in
-      own_shorter t run.streams put Taken body (run.streams put).sealed (taken_of run t body turn.refused put) (taken_covers run t body turn.refused put) behind
+      elim behind [
+        | inl owns ↦ inl (own_shorter t run.streams put Taken body (run.streams put).sealed (taken_of run t body turn.refused put) (taken_covers run t body turn.refused put) owns)
+        | inr shown ↦ inr shown
+      ]
 
   -- a sealed writer takes nothing
   fed_by : (b : Bool) → (run.streams put).sealed ≡ b → is_writing s put ≡ true
-      → IsStep turn.device s (if b then [] else feed_intents s.geometry.fragment put (length (cuts_of s put)) (gathered_of run s put ++ body)) turn.added turn.refused
+      → IsStep turn.device s (if b then [] else Asks) turn.added turn.refused
       → AreOwn (after_all s turn.added) (if b then run.streams else with_value run.streams put (fed (run.streams put) body (taken_of run (after_all s turn.added) body turn.refused put)))
-  fed_by true sealed writing step = stepped turn.device s run.streams [] turn.added turn.refused told quiet own tt step
+      ⊎ ShownIn turn.device (if b then run.streams else with_value run.streams put longer) s (if b then [] else Asks)
+  fed_by true sealed writing step = stepped turn.device s run.streams [] turn.added turn.refused sound told quiet own tt step
   fed_by false unsealed writing step = fed_open writing unsealed step
 
-feeds_own : (run : Run) (s : State) (turn : Turn) (body : List ℕ) (o : Option ℕ) → ((put : ℕ) → o ≡ Some put → is_writing s put ≡ true) → AreTold s → IsQuiet s → AreOwn s run.streams
+feeds_own : (run : Run) (s : State) (turn : Turn) (body : List ℕ) (o : Option ℕ) → ((put : ℕ) → o ≡ Some put → is_writing s put ≡ true) → IsSound s → AreTold s → IsQuiet s → AreOwn s run.streams
     → IsStep turn.device s (if_has o (feeding run s body)) turn.added turn.refused
-    → AreOwn (after_all s turn.added) (of_put run o (streams_fed run (after_all s turn.added) body turn.refused))
-feeds_own run s turn body None writing told quiet own step = stepped turn.device s run.streams [] turn.added turn.refused told quiet own tt step
-feeds_own run s turn body (Some put) writing told quiet own step = fed_by run s turn body put told quiet own (run.streams put).sealed refl (writing put refl) step
+    → AreOwn (after_all s turn.added) (of_put run o (streams_fed run (after_all s turn.added) body turn.refused)) ⊎ ShownIn turn.device (of_put run o (streams_offered run body)) s (if_has o (feeding run s body))
+feeds_own run s turn body None writing sound told quiet own step = stepped turn.device s run.streams [] turn.added turn.refused sound told quiet own tt step
+feeds_own run s turn body (Some put) writing sound told quiet own step = fed_by run s turn body put sound told quiet own (run.streams put).sealed refl (writing put refl) step
 
 -- ---- a writer that closes
 
@@ -165,9 +202,9 @@ sealed_again run t put why true e ends own = own
 sealed_again run t put why false e (inl seal) own = no_truth (sym seal ∙ e)
 sealed_again run t put why false e (inr over) own = own_unsealed t run.streams put (run.streams put).bytes (run.streams put).sealed over own
 
-closed_own : (run : Run) (s : State) (turn : Turn) (put : ℕ) → AreTold s → IsQuiet s → AreOwn s run.streams → IsStep turn.device s (closing run s put) turn.added turn.refused
-    → AreOwn (after_all s turn.added) (streams_closed run turn.refused put)
-closed_own run s turn put told quiet own step =
+closed_own : (run : Run) (s : State) (turn : Turn) (put : ℕ) → IsSound s → AreTold s → IsQuiet s → AreOwn s run.streams → IsStep turn.device s (closing run s put) turn.added turn.refused
+    → AreOwn (after_all s turn.added) (streams_closed run turn.refused put) ⊎ ShownIn turn.device run.streams s (closing run s put)
+closed_own run s turn put sound told quiet own step =
     let sealed : Stream = record { bytes = (run.streams put).bytes; sealed = true } in
     let streams : ℕ → Stream = with_value run.streams put sealed in
     let here : streams put ≡ sealed = value_here run.streams put sealed put refl in
@@ -178,35 +215,38 @@ closed_own run s turn put told quiet own step =
       is = subst (λ (x : Stream). gathered_of run s put ≡ drop (total_length (rows_from s.geometry.fragment x.bytes 1 cut)) x.bytes) (sym here) rest;
       sealed = ap (λ (x : Stream). x.sealed) here;
     } in
-    let behind : AreOwn (after_all s turn.added) streams =
-    stepped turn.device s streams (closing run s put) turn.added turn.refused told quiet (own_sealed s run.streams put own) (closing_fits s.geometry.fragment streams put cut (gathered_of run s put) is_rest) step in
-    sealed_again run (after_all s turn.added) put turn.refused (seals turn.refused) refl (close_ends turn.device s put cut (gathered_of run s put) turn.added turn.refused step) behind
+    let behind : Steps turn.device streams s (closing run s put) turn.added =
+    stepped turn.device s streams (closing run s put) turn.added turn.refused sound told quiet (own_sealed s run.streams put own) (closing_fits s.geometry.fragment streams put cut (gathered_of run s put) is_rest) step in
+    elim behind [
+      | inl owns ↦ inl (sealed_again run (after_all s turn.added) put turn.refused (seals turn.refused) refl (close_ends turn.device s put cut (gathered_of run s put) turn.added turn.refused step) owns)
+      | inr shown ↦ inr (shown_as turn.device streams run.streams s (closing run s put) (same_with run.streams put sealed refl) shown)
+    ]
 
-closes_own : (run : Run) (s : State) (turn : Turn) (o : Option ℕ) → AreTold s → IsQuiet s → AreOwn s run.streams → IsStep turn.device s (if_has o (closing run s)) turn.added turn.refused
-    → AreOwn (after_all s turn.added) (of_put run o (streams_closed run turn.refused))
-closes_own run s turn None told quiet own step = stepped turn.device s run.streams [] turn.added turn.refused told quiet own tt step
-closes_own run s turn (Some put) told quiet own step = closed_own run s turn put told quiet own step
+closes_own : (run : Run) (s : State) (turn : Turn) (o : Option ℕ) → IsSound s → AreTold s → IsQuiet s → AreOwn s run.streams → IsStep turn.device s (if_has o (closing run s)) turn.added turn.refused
+    → AreOwn (after_all s turn.added) (of_put run o (streams_closed run turn.refused)) ⊎ ShownIn turn.device run.streams s (if_has o (closing run s))
+closes_own run s turn None sound told quiet own step = stepped turn.device s run.streams [] turn.added turn.refused sound told quiet own tt step
+closes_own run s turn (Some put) sound told quiet own step = closed_own run s turn put sound told quiet own step
 
 -- ---- each line
 
-pub steps_own : (ended : WriterIsEnded) (run : Run) (s : State) (turn : Turn) (step : Step) → AreTold s → IsQuiet s → AreOwn s run.streams → AreWriting run s
+pub steps_own : (ended : WriterIsEnded) (run : Run) (s : State) (turn : Turn) (step : Step) → IsSound s → AreTold s → IsQuiet s → AreOwn s run.streams → AreWriting run s
     → IsStep turn.device s (asked run s step) turn.added turn.refused
-    → AreOwn (after_all s turn.added) (streams_behind run s (after_all s turn.added) turn step)
-steps_own ended run s turn (step.Format name segments buckets content agg reach fragment generation) told quiet own writing step =
-    stepped turn.device s run.streams [] turn.added turn.refused told quiet own tt step
-steps_own ended run s turn (step.Put key body request response) told quiet own writing step = put_own ended run s turn key body request response told quiet own step
-steps_own ended run s turn (step.Get key request) told quiet own writing step = stepped turn.device s run.streams _ turn.added turn.refused told quiet own (λ a. (tt, λ b. (tt, λ c. (tt, tt)))) step
-steps_own ended run s turn (step.OpenWrite actor key pin request response) told quiet own writing step = opened_own run s turn _ (held_by run actor) (λ a. (tt, tt)) told quiet own step
-steps_own ended run s turn (step.Feed actor body) told quiet own writing step = feeds_own run s turn body (writer_of run actor) (writing actor) told quiet own step
-steps_own ended run s turn (step.Close actor) told quiet own writing step = closes_own run s turn (writer_of run actor) told quiet own step
-steps_own ended run s turn (step.Abort actor) told quiet own writing step =
-    stepped turn.device s run.streams _ turn.added turn.refused told quiet own (has_fits s.geometry.fragment run.streams (writer_of run actor) (λ put. GiveUp put) (λ n a. (tt, tt))) step
-steps_own ended run s turn (step.OpenRead actor key request) told quiet own writing step =
-    stepped turn.device s run.streams _ turn.added turn.refused told quiet own (free_fits s.geometry.fragment run.streams (held_by run actor) (Look _ key request) (λ a. (tt, tt))) step
-steps_own ended run s turn (step.Next actor) told quiet own writing step =
-    stepped turn.device s run.streams _ turn.added turn.refused told quiet own (has_fits s.geometry.fragment run.streams (reader_by run actor) (λ reader. ReadOn reader) (λ n a. (tt, tt))) step
-steps_own ended run s turn (step.Done actor) told quiet own writing step =
-    stepped turn.device s run.streams _ turn.added turn.refused told quiet own (has_fits s.geometry.fragment run.streams (reader_by run actor) (λ reader. StopReading reader) (λ n a. (tt, tt))) step
-steps_own ended run s turn (step.Remove key) told quiet own writing step = stepped turn.device s run.streams _ turn.added turn.refused told quiet own (λ a. (tt, tt)) step
-steps_own ended run s turn step.Flush told quiet own writing step = stepped turn.device s run.streams _ turn.added turn.refused told quiet own (λ a. (tt, tt)) step
-steps_own ended run s turn (step.Now at) told quiet own writing step = stepped turn.device s run.streams [] turn.added turn.refused told quiet own tt step
+    → AreOwn (after_all s turn.added) (streams_behind run s (after_all s turn.added) turn step) ⊎ ShownIn turn.device (streams_with run s step) s (asked run s step)
+steps_own ended run s turn (step.Format name segments buckets content agg reach fragment generation) sound told quiet own writing step =
+    stepped turn.device s run.streams [] turn.added turn.refused sound told quiet own tt step
+steps_own ended run s turn (step.Put key body request response) sound told quiet own writing step = put_own ended run s turn key body request response sound told quiet own step
+steps_own ended run s turn (step.Get key request) sound told quiet own writing step = stepped turn.device s run.streams _ turn.added turn.refused sound told quiet own (λ a. (tt, λ b. (tt, λ c. (tt, tt)))) step
+steps_own ended run s turn (step.OpenWrite actor key pin request response) sound told quiet own writing step = opened_own run s turn _ key request response pin (held_by run actor) sound told quiet own step
+steps_own ended run s turn (step.Feed actor body) sound told quiet own writing step = feeds_own run s turn body (writer_of run actor) (writing actor) sound told quiet own step
+steps_own ended run s turn (step.Close actor) sound told quiet own writing step = closes_own run s turn (writer_of run actor) sound told quiet own step
+steps_own ended run s turn (step.Abort actor) sound told quiet own writing step =
+    stepped turn.device s run.streams _ turn.added turn.refused sound told quiet own (has_fits s.geometry.fragment run.streams (writer_of run actor) (λ put. GiveUp put) (λ n a. (tt, tt))) step
+steps_own ended run s turn (step.OpenRead actor key request) sound told quiet own writing step =
+    stepped turn.device s run.streams _ turn.added turn.refused sound told quiet own (free_fits s.geometry.fragment run.streams (held_by run actor) (Look _ key request) (λ a. (tt, tt))) step
+steps_own ended run s turn (step.Next actor) sound told quiet own writing step =
+    stepped turn.device s run.streams _ turn.added turn.refused sound told quiet own (has_fits s.geometry.fragment run.streams (reader_by run actor) (λ reader. ReadOn reader) (λ n a. (tt, tt))) step
+steps_own ended run s turn (step.Done actor) sound told quiet own writing step =
+    stepped turn.device s run.streams _ turn.added turn.refused sound told quiet own (has_fits s.geometry.fragment run.streams (reader_by run actor) (λ reader. StopReading reader) (λ n a. (tt, tt))) step
+steps_own ended run s turn (step.Remove key) sound told quiet own writing step = stepped turn.device s run.streams _ turn.added turn.refused sound told quiet own (λ a. (tt, tt)) step
+steps_own ended run s turn step.Flush sound told quiet own writing step = stepped turn.device s run.streams _ turn.added turn.refused sound told quiet own (λ a. (tt, tt)) step
+steps_own ended run s turn (step.Now at) sound told quiet own writing step = stepped turn.device s run.streams [] turn.added turn.refused sound told quiet own tt step

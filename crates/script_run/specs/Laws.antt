@@ -6,7 +6,11 @@ use Rattle.cache_model.specs.State.{State, Row, PutRow, ReaderRow, Closed, after
 use Rattle.cache_model.specs.Verdict.{next_piece, next_row}
 use Rattle.cache_model.specs.declared.record.Rec.{Rec}
 use Rattle.cache_model.specs.Permit.{End, Intent, Look, Permit, ReadAll, ReadOn, StopReading}
-use Rattle.cache_model.specs.Legal.{Does, IsGiven, IsQuiet, IsStep, digest_in, format_records}
+use Rattle.cache_model.specs.Given.{IsGiven}
+use Rattle.cache_model.specs.Due.{due_pieces}
+use Rattle.cache_model.specs.Outcomes.{AreOutcomes, Outcome, flush_records, stopped_records}
+use Rattle.cache_model.specs.Tape.{IsSound}
+use Rattle.cache_model.specs.Legal.{Does, IsQuiet, IsStep, digest_in, format_records}
 use Rattle.tape_base.specs.Digest.{digest_of}
 use Rattle.doc_header.specs.Reading.{document_digest, payload_of}
 use Rattle.cache_model.specs.Vectors.{AreTold}
@@ -17,17 +21,32 @@ use Rattle.script_run.specs.Asked.{asked}
 use Rattle.script_run.specs.Turn.{Turn}
 use Rattle.script_run.specs.Behind.{streams_behind}
 use Rattle.script_run.specs.Own.{AreOwn, AreWriting, IsOtherFragment, piece_of}
+use Rattle.script_run.specs.Takes.{ShownIn, streams_with}
 
 -- behind a format nothing was put
 abbrev pub FormatsOwn : Type 0
 FormatsOwn = (s : State) (geometry : Geometry) (streams : ℕ → Stream) → AreOwn (after_all s (format_records geometry)) streams
 
+-- a flush that copies what is due leaves what stands to what writers took, or two documents of one SHA-256
+-- are shown
+abbrev pub FlushOwns : Type 0
+FlushOwns = (p : Permit) (s : State) (streams : ℕ → Stream) (now left : ℕ) (outcomes : List Outcome) → IsSound s → AreOwn s streams
+    → AreOutcomes p s left (due_pieces s now) outcomes
+    → AreOwn (after_all s (flush_records s (due_pieces s now) outcomes)) streams ⊎ IsOtherFragment p s streams
+
+-- one that stops copies none
+abbrev pub StoppedOwns : Type 0
+StoppedOwns = (s : State) (streams : ℕ → Stream) (rows : List Row) (outcomes : List Outcome) (count : ℕ) → AreOwn s streams
+    → AreOwn (after_all s (stopped_records rows outcomes count)) streams
+
 -- what stands belongs to what writers took, behind each line as before it, where each put that an actor
--- writes is open before it
+-- writes is open before it; or the line shows two documents of one SHA-256, by bytes that the device gave in
+-- its turn
 abbrev pub StepsOwn : Type 0
-StepsOwn = (run : Run) (s : State) (turn : Turn) (step : Step) → AreTold s → IsQuiet s → AreOwn s run.streams → AreWriting run s
+StepsOwn = (run : Run) (s : State) (turn : Turn) (step : Step) → IsSound s → AreTold s → IsQuiet s → AreOwn s run.streams → AreWriting run s
     → IsStep turn.device s (asked run s step) turn.added turn.refused
     → AreOwn (after_all s turn.added) (streams_behind run s (after_all s turn.added) turn step)
+    ⊎ ShownIn turn.device (streams_with run s step) s (asked run s step)
 
 -- the payload of a fragment that was read is that part of what the writer of its put took, or two
 -- documents of one SHA-256 are shown

@@ -10,7 +10,8 @@ use Rattle.fragment_table.specs.Table.{TableRow, made_row, total_length}
 use Rattle.alternate_vector.specs.Alternates.{Stored}
 use Rattle.cache_model.specs.State.{State, Row, PutRow, ReaderRow, Open, Closed, live_row_of, put_of, vector_piece}
 use Rattle.cache_model.specs.Permit.{Permit}
-use Rattle.cache_model.specs.Legal.{IsGiven, IsWritten, is_writing}
+use Rattle.cache_model.specs.Given.{IsGiven, IsWritten}
+use Rattle.cache_model.specs.Legal.{is_writing}
 use Rattle.script_run.specs.Run.{Run, Stream, writer_of}
 
 -- the fragment of this index, from 1, of a body that is cut into fragments of so many bytes

@@ -1,5 +1,5 @@
 -- What a line may do: all that it must, and no more.
-use Rattle.std.specs.Prelude.{ℕ, ◌≡◌, ◌⊎◌, ⊤, false, List, [], ◌∷◌, ◌++◌, Option, Some, None}
+use Rattle.std.specs.Prelude.{ℕ, ◌≡◌, ⊤, false, if◌then◌else◌, List, [], ◌∷◌, ◌++◌, Option, Some, None}
 use Rattle.tape_base.specs.declared.geometries.Geometry.{Geometry}
 use Rattle.tape_base.specs.declared.geometries.BadGeometry.{BadGeometry}
 use Rattle.tape_base.specs.declared.keys.Key.{Key}
@@ -11,7 +11,9 @@ use Rattle.cache_model.specs.declared.record.Rec.{Rec}
 use Rattle.cache_model.specs.declared.record.Rec.TheVariants as rec
 use Rattle.cache_model.specs.State.{State, ReaderRow, after_all, reader_of}
 use Rattle.cache_model.specs.Permit.{Intent, Permit, Work, to_do}
+use Rattle.cache_model.specs.Given.{IsGiven}
 use Rattle.cache_model.specs.Legal.{IsStep, MayGrow, format_records}
+use Rattle.cache_model.specs.Vectors.{IsOtherVector}
 use Rattle.stripe_vectors.specs.Reading.{IsCollision}
 use Rattle.script_lang.specs.declared.step.Step.{Step}
 use Rattle.script_lang.specs.declared.step.Step.TheVariants as step
@@ -19,11 +21,11 @@ use Rattle.script_lang.specs.declared.line.LineAnswer.{LineAnswer}
 use Rattle.script_lang.specs.declared.line.LineAnswer.TheVariants as line
 use Rattle.script_lang.specs.Grammar.{reading_of}
 use Rattle.script_lang.specs.Texts.{answer_line}
-use Rattle.script_run.specs.Run.{Run, reader_by}
+use Rattle.script_run.specs.Run.{Run, Stream, reader_by, with_value, writer_of}
 use Rattle.script_run.specs.Asked.{asked}
 use Rattle.script_run.specs.Turn.{Turn, lookup_in, no_turn, told_in}
 use Rattle.script_run.specs.Answers.{step_answer}
-use Rattle.script_run.specs.Behind.{after_line}
+use Rattle.script_run.specs.Behind.{Streams, after_line, of_put, with_bytes}
 use Rattle.script_run.specs.Own.{IsOtherFragment, piece_of}
 
 -- ---- the bytes that are given
@@ -56,10 +58,11 @@ FormatTakes added segments buckets content agg reach fragment generation (Some b
 FormatTakes added segments buckets content agg reach fragment generation None =
     (g : Geometry) × HasNumbers g segments buckets content agg reach fragment generation × (added ≡ format_records g)
 
--- a line on a session is one step of its records, with a directory that displaces nothing, and the bytes
--- that it gives are those that were put
+-- a line on a session is one step of its records, with a directory that displaces nothing, and with pins
+-- that hold up to the moment of the run; and the bytes that it gives are those that were put
 pub record SessionTakes (run : Run) (s : State) (turn : Turn) (step : Step) : Type 0 where
   pub plain : turn.device.packed ≡ false
+  pub moment : turn.device.now ≡ run.now
   pub legal : IsStep turn.device s (asked run s step) turn.added turn.refused
   pub own : GivesOwn run s turn step
 
@@ -93,20 +96,54 @@ line_text run turn bytes = reading_text run turn (reading_of bytes)
 -- ---- where SHA-256 fails
 
 -- two documents of one SHA-256: one that was put, and other bytes that were read for it
-abbrev pub IsOther : Permit → State → Run → Type 0
-IsOther p s run = ((key : Key) × IsCollision p s key) ⊎ IsOtherFragment p s run.streams
+pub data IsOther (p : Permit) (s : State) (streams : Streams) : Type 0 where
+  -- for a key's vector, which was asked for
+  vector_read : (key : Key) → IsCollision p s key → IsOther p s streams
+  -- for a vector that was copied
+  vector_copied : IsOtherVector p s → IsOther p s streams
+  -- for a fragment that was asked for or copied
+  fragment : IsOtherFragment p s streams → IsOther p s streams
 
 -- some way into a step such a pair is shown
-pub record Shows (run : Run) (s : State) (asks : List Intent) : Type 0 where
+pub record Shows (streams : Streams) (s : State) (asks : List Intent) : Type 0 where
   pub device : Permit
   pub added : List Rec
   pub left : Work
   pub grows : MayGrow device s (to_do asks) added left
-  pub other : IsOther device (after_all s added) run
+  pub other : IsOther device (after_all s added) streams
+
+-- the device gave the other bytes of such a pair, for the piece that was placed
+abbrev pub AreGiven : (p : Permit) (s : State) (streams : Streams) → IsOther p s streams → Type 0
+AreGiven p s streams (vector_read key o) = IsGiven p s o.row o.bytes
+AreGiven p s streams (vector_copied o) = IsGiven p s o.row o.bytes
+AreGiven p s streams (fragment o) = IsGiven p s o.row o.bytes
+
+-- such a pair is shown with this device, by bytes that are among its reads
+pub record ShownIn (device : Permit) (streams : Streams) (s : State) (asks : List Intent) : Type 0 where
+  pub shows : Shows streams s asks
+  pub same : shows.device ≡ device
+  pub given : AreGiven shows.device (after_all s shows.added) streams shows.other
+
+-- a writer with all of these bytes
+abbrev pub offered : Stream → List ℕ → Stream
+offered stream body = record { bytes = stream.bytes ++ body; sealed = stream.sealed }
+
+-- a sealed writer takes none
+abbrev pub streams_offered : Run → List ℕ → ℕ → Streams
+streams_offered run body put =
+    if (run.streams put).sealed then run.streams
+    else with_value run.streams put (offered (run.streams put) body)
+
+-- what writers have once all is taken that a line gives: what is cut in the line lies within that, and
+-- what was cut before it is the same in it
+abbrev pub streams_with : Run → State → Step → Streams
+streams_with run s (step.Put key body request response) = with_bytes run.streams s.next_put body
+streams_with run s (step.Feed actor body) = of_put run (writer_of run actor) (streams_offered run body)
+streams_with run s _ = run.streams
 
 abbrev pub StepShows : Run → Option State → Step → Type 0
 StepShows run None step = ⊥
-StepShows run (Some s) step = Shows run s (asked run s step)
+StepShows run (Some s) step = Shows (streams_with run s step) s (asked run s step)
 
 abbrev pub ReadingShows : Run → LineAnswer → Type 0
 ReadingShows run (line.Step s) = StepShows run run.state s
@@ -115,6 +152,19 @@ ReadingShows run (line.Bad fault) = ⊥
 
 abbrev pub LineShows : Run → List ℕ → Type 0
 LineShows run bytes = ReadingShows run (reading_of bytes)
+
+-- the same with the device of the line's turn
+abbrev pub StepShownIn : Permit → Run → Option State → Step → Type 0
+StepShownIn device run None step = ⊥
+StepShownIn device run (Some s) step = ShownIn device (streams_with run s step) s (asked run s step)
+
+abbrev pub ReadingShownIn : Permit → Run → LineAnswer → Type 0
+ReadingShownIn device run (line.Step s) = StepShownIn device run run.state s
+ReadingShownIn device run line.Nothing = ⊥
+ReadingShownIn device run (line.Bad fault) = ⊥
+
+abbrev pub LineShownIn : Permit → Run → List ℕ → Type 0
+LineShownIn device run bytes = ReadingShownIn device run (reading_of bytes)
 
 -- ---- a whole script
 

@@ -14,7 +14,7 @@ pub record Turn : Type 0 where
   pub given : List ℕ
 
 abbrev pub no_turn : Turn
-no_turn = record { added = []; refused = None; device = record { packed = false; faults_before = 0; faults = 0; reads = [] }; given = [] }
+no_turn = record { added = []; refused = None; device = record { packed = false; now = 0; faults_before = 0; faults = 0; reads = [] }; given = [] }
 
 -- what a lookup among these records was answered
 abbrev pub lookup_in : List Rec → Option ReadAnswer

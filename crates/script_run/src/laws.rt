@@ -1,5 +1,5 @@
 // Laws of the bytes that lines give. These functions do nothing when they run.
-ghost use Rattle.script_run.specs.Laws.{AllIsFollowed, AllIsGiven, FormatsOwn, GivenIsListed, OtherShows, ReadIsOwn, ReadsOwn, StepsOwn};
+ghost use Rattle.script_run.specs.Laws.{AllIsFollowed, AllIsGiven, FlushOwns, FormatsOwn, GivenIsListed, OtherShows, ReadIsOwn, ReadsOwn, StepsOwn, StoppedOwns};
 
 use cache_model::writer_is_ended;
 
@@ -8,8 +8,20 @@ pub fn formats_own()
     ensures { FormatsOwn }
 {}
 
+/// A flush that copies what is due leaves what stands to what writers took, or two documents of one SHA-256
+/// are shown.
+pub fn flush_owns()
+    ensures { FlushOwns }
+{}
+
+/// A flush that stops leaves it so too.
+pub fn stopped_owns()
+    ensures { StoppedOwns }
+{}
+
 /// What stands belongs to what writers took, behind each line as before it, where each put that an actor
-/// writes is open before it.
+/// writes is open before it; or the line shows two documents of one SHA-256, by bytes that the device gave in
+/// its turn.
 pub fn steps_own()
     ensures { StepsOwn }
 {

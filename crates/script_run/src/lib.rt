@@ -5,6 +5,6 @@
 mod laws;
 
 pub use laws::{
-    all_is_followed, all_is_given, formats_own, given_is_listed, other_shows, read_is_own,
-    reads_own, steps_own,
+    all_is_followed, all_is_given, flush_owns, formats_own, given_is_listed, other_shows,
+    read_is_own, reads_own, steps_own, stopped_owns,
 };

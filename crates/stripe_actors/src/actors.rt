@@ -5,7 +5,7 @@ ghost use Rattle.fragment_table.specs.Table.{CanGrow};
 ghost use Rattle.open_directory.specs.Directory.{IsHeld, cuts_of, is_open, room_of};
 ghost use Rattle.cache_model.specs.declared.record.Rec.TheVariants as rec;
 ghost use Rattle.stripe_actors.specs.Calls.{AnswersPut, BeginInStep, Commits, CutsNext, GaveFragment, GivesUp, KeepUpWith, Misses, OpensPut, OpensReader, StayInStep, with_room_of, with_room_of_readers};
-ghost use Rattle.stripe_actors.specs.Actors.{reader_room_of};
+ghost use Rattle.stripe_actors.specs.Actors.{IsNumbered, reader_room_of};
 
 use crate::refusal::OpenPutRefusal;
 use alternate_vector::Fields;
@@ -52,6 +52,7 @@ impl Actors {
     pub fn open_directory(&self) -> &OpenDirectory
         ensures same { result.now ≡ self.now.held }
         ensures held { IsHeld self.now.held }
+        ensures numbered { IsNumbered self.now }
     {
         let _writers = self.open.writers();
         &self.open

@@ -16,11 +16,11 @@ use Rattle.cache_model.specs.declared.cause.Cause.TheVariants as cause
 use Rattle.cache_model.specs.declared.record.Rec.{Rec}
 use Rattle.cache_model.specs.State.{State, Row, floor_now, live_row_of, row_in}
 use Rattle.cache_model.specs.Permit.{DeviceRead, IsAmong, Permit}
-use Rattle.cache_model.specs.Legal.{IsGiven, Trouble}
+use Rattle.cache_model.specs.Given.{IsGiven, Trouble}
 use Rattle.stripe_core.specs.declared.refusal.Found.{Found}
 use Rattle.stripe_core.specs.declared.refusal.Found.TheVariants as found
 use Rattle.stripe_core.specs.Held.{IsBufferedWhereNew, IsHeld, IsIntactWhereWritten}
-use Rattle.stripe_core.specs.Unharmed.{TellNoDamage}
+use Rattle.stripe_core.specs.Damages.{TellNoDamage}
 use Rattle.stripe_core.specs.Find.{Finds, IsFoundAs, IsJudged, IsRecorded, cause_records, find_adds, judged_records}
 use Rattle.stripe_core.proofs.Candidates.{live_is}
 use Rattle.stripe_core.proofs.Going.{own}
@@ -95,7 +95,7 @@ module _ (s : State) (c new : Seen) (id : PieceId) (row : Row) (bytes into : Lis
   }
 
   -- where the device tells its content, what was read has the recorded digest
-  right_by : ((s.cursor ≤ row.place) ⊎ (row.place < s.cursor)) → IsTold new.device → row.digest ≡ document_digest bytes
+  pub right_by : ((s.cursor ≤ row.place) ⊎ (row.place < s.cursor)) → IsTold new.device → row.digest ≡ document_digest bytes
   right_by (inl above) told = own_digest above
   right_by (inr below) told =
       let before : IsTold c.device = omega (arith, told, read.keeps.trust) in
@@ -137,7 +137,7 @@ written_by : (s : State) (c : Seen) (place : ℕ) (e : Failed) → IsHeld s c �
 written_by s c place e held ok (inl above) = let clash : IsOk (failed e) = ok (omega (arith, above, held.cursor)) in cc
 written_by s c place e held ok (inr below) = below
 
-lower_rose : (a b n : ℕ) → a ≤ b → Rose b n → Rose a n
+pub lower_rose : (a b n : ℕ) → a ≤ b → Rose b n → Rose a n
 lower_rose a b n h r = omega arith
 
 pub finds_fault : (s : State) (c new : Seen) (id : PieceId) (place blocks count : ℕ) (kept : Digest) (bytes into : List ℕ) (e : Failed) → IsHeld s c

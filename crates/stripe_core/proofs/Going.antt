@@ -131,13 +131,13 @@ not_stood : (s : State) (row : Row) (b : Bool) → is_live s row ≡ b → (if b
 not_stood s row true e h = cc
 not_stood s row false e h = leb-false (floor_now s) row.place e
 
-unseen_by : (b it : Bool) (n : ℕ) → (it ≡ true → b ≡ false) → kept b (one_more it n) ≡ kept b n
+pub unseen_by : (b it : Bool) (n : ℕ) → (it ≡ true → b ≡ false) → kept b (one_more it n) ≡ kept b n
 unseen_by false it n h = refl
 unseen_by true false n h = refl
 unseen_by true true n h = let f : true ≡ false = h refl in cc
 
 -- the pieces that may be read are the same
-same_live : (s : State) (id : PieceId) (x : DirRow) (o : Option Row) → row_in s.rows id ≡ o → AreApart s.rows → option_and_then (only_live s) o ≡ None
+pub same_live : (s : State) (id : PieceId) (x : DirRow) (o : Option Row) → row_in s.rows id ≡ o → AreApart s.rows → option_and_then (only_live s) o ≡ None
     → kept (nat_le (floor_now s) x.place) (times x (map (entry_of s.geometry) (without id s.rows))) ≡ kept (nat_le (floor_now s) x.place) (times x (map (entry_of s.geometry) s.rows))
 same_live s id x None e apart h = ap (λ rs. kept (nat_le (floor_now s) x.place) (times x (map (entry_of s.geometry) rs))) (without-none id s.rows e)
 same_live s id x (Some row) e apart h =

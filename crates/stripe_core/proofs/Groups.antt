@@ -1,27 +1,36 @@
 -- A fragment that is placed, by its groups of records.
-use Rattle.std.proofs.Common.{◌≡◌, ℕ, ◌+◌, ◌<◌, ◌≤◌, List, [], ◌∷◌, ◌++◌, refl, sym, ◌∙◌, ap, subst, arith, Bool, true, false, Result, Ok, Err, length}
-use Rattle.std.specs.Prelude.{if◌then◌else◌, ◌==◌, ◌&&◌, Option, Some, option_map, unwrap_or}
+use Rattle.std.proofs.Common.{◌≡◌, ℕ, ◌+◌, ◌*◌, ◌<◌, ◌≤◌, List, [], ◌∷◌, ◌++◌, refl, sym, ◌∙◌, ap, subst, arith, Bool, true, false, Result, Ok, Err, length}
+use Rattle.std.specs.Prelude.{if◌then◌else◌, ◌==◌, ◌&&◌, find, MatchBool, Option, None, Some, option_map, unwrap_or}
 use Rattle.std.proofs.lemmas.Bool.{eqb-true}
 use Rattle.std.proofs.lemmas.List.{append-nil}
+use Rattle.tape_base.specs.declared.geometries.Geometry.{Geometry}
 use Rattle.tape_base.specs.declared.pieces.PieceId.{PieceId}
 use Rattle.tape_base.specs.Blocks.{blocks_of}
 use Rattle.tape_base.specs.Digest.{digest_of}
 use Rattle.tape_base.specs.Geometry.{budget_of}
-use Rattle.tape_base.specs.Piece.{is_vector}
+use Rattle.tape_base.specs.Piece.{is_vector, same_piece}
 use Rattle.fragment_table.specs.Table.{total_length}
+use Rattle.ats_disk.specs.Device.{State as Device, IsTold}
 use Rattle.cache_model.specs.declared.record.Rec.{Rec}
 use Rattle.cache_model.specs.declared.record.Rec.TheVariants as rec
 use Rattle.cache_model.specs.Verdict.{cuts_of}
-use Rattle.cache_model.specs.State.{PutRow, State, list_of_put, put_of, vector_piece, after_all, cursor_next, floor_next, place_now, state_after}
-use Rattle.cache_model.specs.Permit.{End, Finish, Fragment, Intent, Permit, Stays, work_after}
-use Rattle.cache_model.specs.Room.{greatest_pin, HasPlace, MayDisplace, displaces, has_room, is_flush_exhausted, limit, placed_record}
+use Rattle.cache_model.specs.State.{PutRow, Row, State, list_of_put, moved_row, put_of, row_of, vector_piece, after_all, cursor_next, place_now, state_after}
+use Rattle.cache_model.specs.Kept.{Kept, state_of, with_records}
+use Rattle.cache_model.specs.Permit.{End, Exhausted, Fails, Finish, Fragment, Intent, Permit, Stays, work_after}
+use Rattle.cache_model.specs.Room.{greatest_pin, MayDisplace, has_room, is_full_for, limit, placed_record}
 use Rattle.cache_model.specs.Legal.{AreLiveTo, Does, DoesFinish, DoesFragment, vector_length, vector_payload, MakesRoom, MayGrow, next_fragment_of}
+use Rattle.cache_model.proofs.Lists.{row_in-copied, row_in-without}
 use Rattle.stripe_core.specs.declared.refusal.Placed.{Placed}
 use Rattle.stripe_core.specs.declared.refusal.Stop.{Stop}
 use Rattle.stripe_core.specs.declared.refusal.Stop.TheVariants as stop
-use Rattle.stripe_core.specs.Covers.{Spends}
-use Rattle.stripe_core.specs.Flush.{stop_end, stop_records}
-use Rattle.stripe_core.specs.Place.{IsFragmentOf, IsVectorOf, PlacesAt, fragment_adds, piece_records, place_adds, place_end, room_records, with_room}
+use Rattle.stripe_core.specs.Covers.{Covers, Spends}
+use Rattle.stripe_core.specs.Damages.{TellNoDamage}
+use Rattle.stripe_core.specs.Flush.{AreOfFlush, IsOfFlush, LiveBefore, StopsWith, stop_end}
+use Rattle.stripe_core.specs.Place.{CutsAsAsked, IsFragmentAs, IsFragmentOf, IsNew, IsStoppedAs, IsVectorOf, PlacesAt, ReachesLimit, RoomIsMade, RoomsAsAsked, StopsBehind, piece_records, place_adds, place_end}
+use Rattle.stripe_core.proofs.Flushes.{state_of-with_records, with_records-append}
+use Rattle.stripe_core.proofs.Looked.{own_covers, own_permit}
+use Rattle.stripe_core.proofs.Naming.{SamePuts, same_puts}
+use Rattle.stripe_core.proofs.Unharmed.{no_damage-append}
 
 -- ---- groups one behind the other
 
@@ -40,7 +49,7 @@ two_groups p s i a b e first second = λ rest why.
 pub displaces_nothing : (p : Permit) (s : State) (piece : PieceId) → p.packed ≡ false → MayDisplace p s piece []
 displaces_nothing p s piece plain = record {
   purged = [];
-  full = λ h. let f : false ≡ true = ap (λ b. b && Rattle.cache_model.specs.Room.is_full_for s piece) (sym plain) ∙ h in cc;
+  full = λ h. let f : false ≡ true = ap (λ b. b && is_full_for s piece) (sym plain) ∙ h in cc;
   free = λ h. refl;
   is = refl;
 }
@@ -80,90 +89,170 @@ fragment_group p s id pin start payload (Err (stop.DeviceFault count)) plain f s
 
 -- ---- the same behind a flush
 
--- the next buffer changes nothing of the puts
-later_fragment : (s : State) (cursor floor : ℕ) (id : PieceId) (pin start : ℕ) (payload : List ℕ) → IsFragmentOf s id pin start payload
-    → IsFragmentOf (state_after s (rec.Began cursor floor)) id pin start payload
-later_fragment s cursor floor id pin start payload f = record {
+-- a piece that stood nowhere stands nowhere behind the records of a flush
+none_either : (b : Bool) (one : Option Row) → one ≡ None → (if b then None else one) ≡ None
+none_either true one h = refl
+none_either false one h = h
+
+none_copied : (b : Bool) (f : Row → Row) (o : Option Row) → o ≡ None → (if b then option_map f o else o) ≡ None
+none_copied true f o h = ap (option_map f) h
+none_copied false f o h = h
+
+nowhere_after : (s : State) (r : Rec) (id : PieceId) → IsOfFlush r → row_of s id ≡ None → row_of (state_after s r) id ≡ None
+nowhere_after s (rec.Began cursor floor) id h none = none
+nowhere_after s (rec.Moved piece from place digest) id h none =
+    row_in-copied piece id s.rows place digest ∙ none_copied (same_piece piece id) (moved_row place digest) (row_of s id) none
+nowhere_after s (rec.Unsaved piece place fault) id h none = none
+nowhere_after s (rec.Damaged piece place kept found) id h none = row_in-without piece id s.rows ∙ none_either (same_piece piece id) (row_of s id) none
+nowhere_after s (rec.Fault count) id h none = none
+nowhere_after s _ id h none = absurd h
+
+still_nowhere : (s : State) (recs : List Rec) (id : PieceId) → AreOfFlush recs → row_of s id ≡ None → row_of (after_all s recs) id ≡ None
+still_nowhere s [] id h none = none
+still_nowhere s (r ∷ recs) id h none = still_nowhere (state_after s r) recs id h.1 (nowhere_after s r id h.0 none)
+
+later_fragment : (s t : State) (id : PieceId) (pin start : ℕ) (payload : List ℕ) → SamePuts s t → IsFragmentOf s id pin start payload → IsFragmentOf t id pin start payload
+later_fragment s t id pin start payload same f = record {
   w = f.w;
   next = record {
-    writing = record { quiet = f.next.writing.quiet; found = f.next.writing.found; is_open = f.next.writing.is_open };
+    writing = record { quiet = same.pending ∙ f.next.writing.quiet; found = ap (find (λ p. p.put == id.put)) same.puts ∙ f.next.writing.found; is_open = f.next.writing.is_open };
     next = f.next.next;
     few = f.next.few;
-    full = f.next.full;
+    full = f.next.full ∙ ap (λ (g : Geometry). length f.w.cuts * g.fragment) (sym same.geometry);
     some = f.next.some;
-    small = f.next.small;
+    small = rw same.geometry f.next.small;
   };
   id_is = f.id_is;
   pin_is = f.pin_is;
   start_is = f.start_is;
 }
 
-made_below : (p : Permit) (s : State) (bytes : ℕ) (added : List Rec) → MakesRoom p s bytes added Stays → is_flush_exhausted s ≡ false
-made_below p s bytes added (MakesRoom.flushes h m) = m.can.below
+-- ---- what was asked
 
-abbrev nothing : List Rec
-nothing = []
+no_damage_placed : (s : State) (id : PieceId) (pin start : ℕ) (payload : List ℕ) → TellNoDamage (piece_records s id pin start payload)
+no_damage_placed s id pin start payload = by (is_vector id)
+  where
+    by : (b : Bool) → TellNoDamage ((if b then [] else rec.Cut id.put id.index (length payload) (digest_of payload) ∷ []) ++ placed_record s id pin start (length payload) payload ∷ [])
+    by true = (refl, tt)
+    by false = (refl, (refl, tt))
 
-nothing_either_way : (b : Bool) → (if b then nothing else nothing) ≡ nothing
-nothing_either_way true = refl
-nothing_either_way false = refl
+no_damage_adds : (s : State) (id : PieceId) (pin start : ℕ) (payload : List ℕ) (result : Result Placed Stop) → TellNoDamage (place_adds s id pin start payload result)
+no_damage_adds s id pin start payload (Ok placed) = no_damage_placed s id pin start payload
+no_damage_adds s id pin start payload (Err why) = tt
 
--- what is added with room from the start
-adds_at_once : (s : State) (id : PieceId) (pin start : ℕ) (payload : List ℕ) (result : Result Placed Stop) → has_room s (length payload) ≡ true → PlacesAt s payload result
-    → place_adds s id pin start payload result ≡ fragment_adds s id pin start payload result
-adds_at_once s id pin start payload (Ok placed) h at = rw h refl
-adds_at_once s id pin start payload (Err (stop.Exhausted number)) h at = rw h (sym (nothing_either_way (is_flush_exhausted s)))
-adds_at_once s id pin start payload (Err (stop.DeviceFault count)) h at = absurd at
+module _ (now : ℕ) (old mid : Kept) (before : ℕ) (device : Device) (id : PieceId) (pin start : ℕ) (payload : List ℕ) (u : Unit {0}) (r : RoomsAsAsked now old mid before device (length payload) (Ok u)) where
+  abbrev s : State
+  s = state_of old
 
--- and behind a flush
-adds_behind : (s : State) (id : PieceId) (pin start : ℕ) (payload : List ℕ) (result : Result Placed Stop) → is_flush_exhausted s ≡ false
-    → PlacesAt (with_room s (length payload)) payload result
-    → room_records s (length payload) ++ place_adds (with_room s (length payload)) id pin start payload result ≡ fragment_adds s id pin start payload result
-adds_behind s id pin start payload (Ok placed) below at = refl
-adds_behind s id pin start payload (Err (stop.Exhausted number)) below at = append-nil (room_records s (length payload)) ∙ rw below refl
-adds_behind s id pin start payload (Err (stop.DeviceFault count)) below at = absurd at
+  abbrev t : State
+  t = after_all s r.added
 
-module _ (p : Permit) (s : State) (id : PieceId) (pin start : ℕ) (payload : List ℕ) (result : Result Placed Stop) (plain : p.packed ≡ false)
-    (f : IsFragmentOf s id pin start payload) (small : blocks_of (length payload) ≤ budget_of s.geometry)
-    (made : has_room s (length payload) ≡ false → MakesRoom p s (length payload) (room_records s (length payload)) Stays)
-    (room : has_room (with_room s (length payload)) (length payload) ≡ true) (at : PlacesAt (with_room s (length payload)) payload result) where
-  by_room : (b : Bool) → has_room s (length payload) ≡ b → Spends p s (Fragment id.put id.index payload) (fragment_adds s id pin start payload result) (place_end result)
-  by_room true h =
-      let same : with_room s (length payload) ≡ s = ap (λ b. after_all s (if b then [] else rec.Began (cursor_next s) (floor_next s) ∷ [])) h in
-      let here : PlacesAt s payload result = subst (λ t. PlacesAt t payload result) same at in
-      subst (λ added. Spends p s (Fragment id.put id.index payload) added (place_end result)) (adds_at_once s id pin start payload result h here)
-      (one_group p s _ _ _ (fragment_group p s id pin start payload result plain f small h here))
-  by_room false h =
-      let makes = made h in
-      let is : with_room s (length payload) ≡ state_after s (rec.Began (cursor_next s) (floor_next s)) =
-      ap (λ b. after_all s (if b then [] else rec.Began (cursor_next s) (floor_next s) ∷ [])) h in
-      let later : IsFragmentOf (with_room s (length payload)) id pin start payload =
-      subst (λ t. IsFragmentOf t id pin start payload) (sym is) (later_fragment s (cursor_next s) (floor_next s) id pin start payload f) in
-      let little : blocks_of (length payload) ≤ budget_of (with_room s (length payload)).geometry = subst (λ (t : State). blocks_of (length payload) ≤ budget_of t.geometry) (sym is) small in
-      subst (λ added. Spends p s (Fragment id.put id.index payload) added (place_end result))
-      (adds_behind s id pin start payload result (made_below p s (length payload) _ makes) at)
-      (two_groups p s _ _ _ _ (DoesFragment.rooms f.w f.next makes) (fragment_group p (with_room s (length payload)) id pin start payload result plain later little room at))
+  mid_is : state_of mid ≡ t
+  mid_is = ap state_of r.adds ∙ state_of-with_records old r.added
 
-pub fragment_grows : (p : Permit) (s : State) (id : PieceId) (pin start : ℕ) (payload : List ℕ) (result : Result Placed Stop) → p.packed ≡ false
-    → IsFragmentOf s id pin start payload → blocks_of (length payload) ≤ budget_of s.geometry
-    → (has_room s (length payload) ≡ false → MakesRoom p s (length payload) (room_records s (length payload)) Stays)
-    → has_room (with_room s (length payload)) (length payload) ≡ true → PlacesAt (with_room s (length payload)) payload result
-    → Spends p s (Fragment id.put id.index payload) (fragment_adds s id pin start payload result) (place_end result)
-fragment_grows p s id pin start payload result plain f small made room at = by_room p s id pin start payload result plain f small made room at (has_room s (length payload)) refl
+  pub mid_new : IsNew s id payload → IsNew (state_of mid) id payload
+  mid_new n =
+      subst (λ x. IsNew x id payload) (sym mid_is)
+      (record { nowhere = still_nowhere s r.added id r.kinds n.nowhere; small = rw (same_puts s r.added r.kinds).geometry n.small })
+
+  -- a flush made the room, or it was there
+  none_added : has_room s (length payload) ≡ true → r.added ≡ []
+  none_added h =
+      subst (λ b. MatchBool b (r.added ≡ []) (MakesRoom (own_permit now before device.faults r.reads) s (length payload) r.added Stays)) h
+      (r.does (own_permit now before device.faults r.reads) refl (own_covers now before device.faults r.reads))
+
+  by_room : (p : Permit) (result : Result Placed Stop) → p.packed ≡ false → RoomIsMade p s (length payload) r.added (Ok u) → IsFragmentOf s id pin start payload → blocks_of (length payload) ≤ budget_of s.geometry
+      → has_room t (length payload) ≡ true → PlacesAt t payload result → (b : Bool) → has_room s (length payload) ≡ b
+      → Spends p s (Fragment id.put id.index payload) (r.added ++ place_adds t id pin start payload result) (place_end result)
+  by_room p result plain made f small room at true h =
+      let none : r.added ≡ [] = none_added h in
+      let same : t ≡ s = ap (after_all s) none in
+      subst (λ xs. Spends p s (Fragment id.put id.index payload) (xs ++ place_adds (after_all s xs) id pin start payload result) (place_end result)) (sym none)
+      (one_group p s _ _ _ (fragment_group p s id pin start payload result plain f small h (subst (λ x. PlacesAt x payload result) same at)))
+  by_room p result plain made f small room at false h =
+      let makes : MakesRoom p s (length payload) r.added Stays = subst (λ b. MatchBool b (r.added ≡ []) (MakesRoom p s (length payload) r.added Stays)) h made in
+      let same : SamePuts s t = same_puts s r.added r.kinds in
+      two_groups p s _ _ _ _ (DoesFragment.rooms f.w f.next makes)
+      (fragment_group p t id pin start payload result plain (later_fragment s t id pin start payload same f) (rw same.geometry small) room at)
+
+  shape_by : (faults : ℕ) (result : Result Placed Stop) → has_room t (length payload) ≡ true → PlacesAt t payload result
+      → IsFragmentAs s faults id pin start payload (r.added ++ place_adds t id pin start payload result) result
+  shape_by faults (Ok placed) room at = record {
+    room = r.added;
+    kinds = r.kinds;
+    none = none_added;
+    live = subst (LiveBefore s) mid_is r.live;
+    is = refl;
+    place = at.0;
+    payload_is = at.1;
+  }
+  shape_by faults (Err (stop.Exhausted number)) room at =
+      subst (λ xs. IsStoppedAs s faults payload xs (stop.Exhausted number)) (sym (append-nil r.added)) (record {
+        kinds = r.kinds;
+        live = subst (LiveBefore s) mid_is r.live;
+        why_is = (at.0 ∙ sym (ap (λ b. if b then place_now t + blocks_of (length payload) else cursor_next t) room), at.1);
+      })
+  shape_by faults (Err (stop.DeviceFault count)) room at = absurd at
+
+  -- a fragment that was placed behind that
+  pub cuts_behind : (new : Kept) (after : Device) (result : Result Placed Stop) → after ≡ device → new ≡ with_records mid (place_adds (state_of mid) id pin start payload result)
+      → IsFragmentOf s id pin start payload → blocks_of (length payload) ≤ budget_of s.geometry → has_room (state_of mid) (length payload) ≡ true → PlacesAt (state_of mid) payload result
+      → CutsAsAsked now old new before after id pin start payload result
+  cuts_behind new after result still adds f small room at =
+      let here : has_room t (length payload) ≡ true = subst (λ x. has_room x (length payload) ≡ true) mid_is room in
+      let there : PlacesAt t payload result = subst (λ x. PlacesAt x payload result) mid_is at in
+      record {
+        added = r.added ++ place_adds t id pin start payload result;
+        reads = r.reads;
+        adds = adds
+            ∙ (ap (λ m. with_records m (place_adds (state_of mid) id pin start payload result)) r.adds
+            ∙ (with_records-append old r.added (place_adds (state_of mid) id pin start payload result)
+            ∙ ap (λ x. with_records old (r.added ++ place_adds x id pin start payload result)) mid_is));
+        shape = shape_by after.faults result here there;
+        unharmed = λ told. no_damage-append r.added _ (r.unharmed (subst IsTold still told)) (no_damage_adds t id pin start payload result);
+        does = λ p moment covers.
+            by_room p result covers.plain (r.does p moment (subst (λ (d : Device). Covers p before d.faults r.reads) still covers)) f small here there (has_room s (length payload)) refl;
+      }
 
 -- ---- no room could be made
 
-no_room_adds : (p : Permit) (s : State) (id : PieceId) (pin start : ℕ) (payload : List ℕ) (why : Stop) → MakesRoom p s (length payload) (stop_records why) (stop_end why)
-    → stop_records why ≡ fragment_adds s id pin start payload (Err why)
-no_room_adds p s id pin start payload (stop.DeviceFault count) m = refl
-no_room_adds p s id pin start payload (stop.Exhausted number) (MakesRoom.exhausted h above is) = rw above refl
+made_exhausted : (p : Permit) (s : State) (bytes : ℕ) (added : List Rec) → MakesRoom p s bytes added (Fails Exhausted) → added ≡ []
+made_exhausted p s bytes added (MakesRoom.exhausted h above is) = is
 
-pub fragment_stops : (p : Permit) (s : State) (id : PieceId) (pin start : ℕ) (payload : List ℕ) (why : Stop) → IsFragmentOf s id pin start payload
-    → MakesRoom p s (length payload) (stop_records why) (stop_end why)
-    → Spends p s (Fragment id.put id.index payload) (fragment_adds s id pin start payload (Err why)) (stop_end why)
-fragment_stops p s id pin start payload why f m =
-    subst (λ added. Spends p s (Fragment id.put id.index payload) added (stop_end why)) (no_room_adds p s id pin start payload why m)
-    (one_group p s _ _ _ (DoesFragment.rooms f.w f.next m))
+-- nothing is added where the tape has an end
+abbrev MakesNone : List Rec → Stop → Type 0
+MakesNone added (stop.DeviceFault count) = Unit {0}
+MakesNone added (stop.Exhausted number) = added ≡ []
+
+none_by : (p : Permit) (s : State) (bytes : ℕ) (added : List Rec) (why : Stop) → MakesRoom p s bytes added (stop_end why) → MakesNone added why
+none_by p s bytes added (stop.DeviceFault count) m = tt
+none_by p s bytes added (stop.Exhausted number) m = made_exhausted p s bytes added m
+
+stopped_by : (s : State) (faults bytes : ℕ) (added : List Rec) (why : Stop) → has_room s bytes ≡ false → StopsWith s faults why → MakesNone added why → StopsBehind s (after_all s added) faults bytes why
+stopped_by s faults bytes added (stop.DeviceFault count) full stops none = (stops, full)
+stopped_by s faults bytes added (stop.Exhausted number) full stops none =
+    subst (λ t. ReachesLimit t bytes number) (sym (ap (after_all s) none))
+    (stops.0 ∙ sym (ap (λ b. if b then place_now s + blocks_of bytes else cursor_next s) full), stops.1)
+
+pub cuts_stop : (now : ℕ) (old new : Kept) (before : ℕ) (after : Device) (id : PieceId) (pin start : ℕ) (payload : List ℕ) (why : Stop) → IsFragmentOf (state_of old) id pin start payload
+    → has_room (state_of old) (length payload) ≡ false → StopsWith (state_of old) after.faults why → RoomsAsAsked now old new before after (length payload) (Err why)
+    → CutsAsAsked now old new before after id pin start payload (Err why)
+cuts_stop now old new before after id pin start payload why f full stops r =
+    let s : State = state_of old in
+    let state : state_of new ≡ after_all s r.added = ap state_of r.adds ∙ state_of-with_records old r.added in
+    let own : Permit = own_permit now before after.faults r.reads in
+    record {
+      added = r.added;
+      reads = r.reads;
+      adds = r.adds;
+      shape = record {
+        kinds = r.kinds;
+        live = subst (LiveBefore s) state r.live;
+        why_is = stopped_by s after.faults (length payload) r.added why full stops (none_by own s (length payload) r.added why (r.does own refl (own_covers now before after.faults r.reads)));
+      };
+      unharmed = r.unharmed;
+      does = λ p moment covers. one_group p s _ _ _ (DoesFragment.rooms f.w f.next (r.does p moment covers));
+    }
 
 -- ---- a vector
 

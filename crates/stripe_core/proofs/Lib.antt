@@ -8,15 +8,29 @@ pub mod Going
 mod Starting
 pub mod Candidates
 mod Flushes
+mod Telling
+mod Told
+mod Readied
+mod LiveBehind
+mod Looked
+mod Copied
 mod Rooms
 mod Rowed
 mod Puts
 mod Groups
 mod Fronts
 mod Lives
+mod Moving
 mod Takings
 mod Findings
 mod Sparing
 mod Doings
 mod Naming
+mod Asked
+mod Making
 pub mod Unharmed
+mod ReadAhead
+mod Noting
+mod OneMore
+mod Kept
+mod Due

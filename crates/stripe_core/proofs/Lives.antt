@@ -47,7 +47,7 @@ all_found P id [] row all h = cc
 all_found P id (first ∷ rows) row all h = all_by P id first row rows (same_piece first.id id) all.0 (all_found P id rows row all.1) h
 
 -- it has blocks, and ends below the next piece
-within : (id : PieceId) (low high : ℕ) (rows : List Row) → AreRising low rows high → AllByRecursion (λ (row : Row). (0 < row.blocks) × (row.place + row.blocks ≤ high)) rows
+pub within : (id : PieceId) (low high : ℕ) (rows : List Row) → AreRising low rows high → AllByRecursion (λ (row : Row). (0 < row.blocks) × (row.place + row.blocks ≤ high)) rows
 within id low high [] r = tt
 within id low high (row ∷ rows) r = ((r.1, rising_ends (row.place + row.blocks) rows high r.2), within id (row.place + row.blocks) high rows r.2)
 

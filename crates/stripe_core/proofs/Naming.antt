@@ -1,9 +1,9 @@
 -- Which pieces stand, record by record.
-use Rattle.std.proofs.Common.{◌≡◌, ℕ, ◌+◌, ◌<◌, ◌≤◌, List, [], ◌∷◌, ◌++◌, refl, sym, ◌∙◌, ap, subst, arith, Bool, true, false, cond, length, ◌/◌, ◌^◌, Result, Ok, Err}
-use Rattle.std.specs.Prelude.{Option, Some, None, IsSome, option_map, find, if◌then◌else◌, ◌==◌}
+use Rattle.std.proofs.Common.{◌≡◌, ℕ, ◌+◌, ◌<◌, ◌≤◌, List, [], ◌∷◌, ◌++◌, refl, sym, ◌∙◌, ap, subst, arith, Bool, true, false, cond, length, ◌/◌, ◌^◌}
+use Rattle.std.specs.Prelude.{Option, Some, None, IsSome, map, option_map, option_to_list, find, if◌then◌else◌, ◌==◌}
 use Rattle.std.specs.List.{AllByRecursion}
 use Rattle.std.proofs.lemmas.Bool.{eq-eqb, eqb-true}
-use Rattle.std.proofs.lemmas.List.{length-append}
+use Rattle.std.proofs.lemmas.List.{append-nil, length-append}
 use Rattle.tape_base.specs.declared.actors.Actor.{Actor}
 use Rattle.tape_base.specs.declared.digests.Digest.{Digest}
 use Rattle.tape_base.specs.declared.keys.Key.{Key}
@@ -20,24 +20,21 @@ use Rattle.cache_model.specs.declared.cause.Cause.{Cause}
 use Rattle.cache_model.specs.declared.cause.Cause.TheVariants as cause
 use Rattle.cache_model.specs.declared.record.Rec.{Rec}
 use Rattle.cache_model.specs.declared.record.Rec.TheVariants as rec
-use Rattle.cache_model.specs.State.{Closed, Complete, GivenUp, LastVector, Open, PutRow, Row, State, TakenOut, Writing, after_all, change_put, cursor_next, floor_next, last_vector, live_row_of, opened_put, placed_row, put_of, row_in, row_of, state_after, vector_piece, with_cut, with_writing, without, without_earlier}
+use Rattle.cache_model.specs.State.{Closed, Complete, GivenUp, LastVector, Open, PutRow, Row, State, TakenOut, Writing, after_all, change_put, last_vector, live_row_of, moved_row, opened_put, placed_row, put_of, row_in, row_of, state_after, vector_piece, with_cut, with_writing, without, without_earlier}
 use Rattle.cache_model.specs.Kept.{Kept, state_of, with_records}
-use Rattle.cache_model.specs.Room.{has_room, is_flush_exhausted}
 use Rattle.cache_model.specs.Legal.{answer_record}
 use Rattle.stripe_actors.specs.Actors.{AreActors, Seen as Actors}
 use Rattle.stripe_actors.proofs.Rows.{find-changed}
 use Rattle.stripe_actors.proofs.Telling.{was_given}
-use Rattle.stripe_core.specs.declared.refusal.Flushed.{Flushed}
 use Rattle.stripe_core.specs.declared.refusal.Found.{Found}
 use Rattle.stripe_core.specs.declared.refusal.Found.TheVariants as found
-use Rattle.stripe_core.specs.declared.refusal.Stop.{Stop}
-use Rattle.stripe_core.specs.declared.refusal.Stop.TheVariants as stop
 use Rattle.stripe_core.specs.Find.{cause_records, find_adds, found_records}
-use Rattle.stripe_core.specs.Flush.{flush_adds, stop_records}
+use Rattle.stripe_core.specs.Flush.{AreOfFlush, IsOfFlush}
 use Rattle.stripe_core.specs.Named.{IsNamed, IsOwn, IsOwnOf, IsPieceOf}
-use Rattle.stripe_core.specs.Place.{IsFragmentOf, IsNew, IsVectorFor, fragment_adds, room_records, with_room}
+use Rattle.stripe_core.specs.Place.{IsFragmentOf, IsNew, IsVectorFor}
 use Rattle.stripe_core.proofs.Flushes.{state_of-with_records}
 use Rattle.stripe_core.proofs.Going.{all_left}
+use Rattle.stripe_core.proofs.Lives.{all_found}
 use Rattle.stripe_core.proofs.Placements.{all_append}
 
 all_map : (P Q : Row → Type 0) → ((row : Row) → P row → Q row) → (rows : List Row) → AllByRecursion P rows → AllByRecursion Q rows
@@ -50,7 +47,7 @@ abbrev pub leaves_names : Rec → Bool
 leaves_names (rec.Formatted geometry) = false
 leaves_names (rec.Began cursor floor) = true
 leaves_names (rec.Placed piece place blocks digest pin) = false
-leaves_names (rec.Moved piece from place digest) = false
+leaves_names (rec.Moved piece from place digest) = true
 leaves_names (rec.Unsaved piece place fault) = true
 leaves_names (rec.Displaced piece segment live) = true
 leaves_names (rec.Damaged piece place kept other) = true
@@ -79,11 +76,24 @@ named_left s t id n p q r h = subst (AllByRecursion (IsOwn t)) (sym r) (all_map 
 named_same : (s t : State) → t.next_put ≡ s.next_put → t.puts ≡ s.puts → t.pending ≡ s.pending → t.rows ≡ s.rows → IsNamed s → IsNamed t
 named_same s t n p q r h = subst (AllByRecursion (IsOwn t)) (sym r) (all_map (IsOwn s) (IsOwn t) (same s t n p q) s.rows h)
 
+-- a piece that is copied keeps its name
+moved_in : (P : Row → Type 0) (rows : List Row) (place : ℕ) (digest : Digest) (o : Option Row) → ((row : Row) → P row → P (moved_row place digest row))
+    → AllByRecursion P rows → ((row : Row) → o ≡ Some row → P row) → AllByRecursion P (rows ++ map (moved_row place digest) (option_to_list o))
+moved_in P rows place digest None keeps all h = subst (AllByRecursion P) (sym (append-nil rows)) all
+moved_in P rows place digest (Some row) keeps all h = all_append P rows (moved_row place digest row) all (keeps row (h row refl))
+
+named_moved : (s : State) (piece : PieceId) (from place : ℕ) (digest : Digest) → IsNamed s → IsNamed (state_after s (rec.Moved piece from place digest))
+named_moved s piece from place digest h =
+    let t : State = state_after s (rec.Moved piece from place digest) in
+    let kept : (row : Row) → IsOwn s row → IsOwn t row = same s t refl refl refl in
+    moved_in (IsOwn t) (without piece s.rows) place digest (row_of s piece) (λ row own. record { begun = own.begun; own = own.own })
+    (all_map (IsOwn s) (IsOwn t) kept (without piece s.rows) (all_left (IsOwn s) piece s.rows h)) (λ row found. kept row (all_found (IsOwn s) piece s.rows row h found))
+
 pub name_left : (s : State) (r : Rec) → leaves_names r ≡ true → IsNamed s → IsNamed (state_after s r)
 name_left s (rec.Formatted geometry) h named = cc
 name_left s (rec.Began cursor floor) h named = named_same s _ refl refl refl refl named
 name_left s (rec.Placed piece place blocks digest pin) h named = cc
-name_left s (rec.Moved piece from place digest) h named = cc
+name_left s (rec.Moved piece from place digest) h named = named_moved s piece from place digest named
 name_left s (rec.Unsaved piece place fault) h named = named_same s _ refl refl refl refl named
 name_left s (rec.Displaced piece segment live) h named = named_left s _ piece refl refl refl refl named
 name_left s (rec.Damaged piece place kept other) h named = named_left s _ piece refl refl refl refl named
@@ -323,28 +333,17 @@ found_leave (Some row) (found.Missing why) = causes_leave row why
 pub find_leaves : (s : State) (id : PieceId) (answer : Found) → AllLeaveNames (find_adds s id answer)
 find_leaves s id answer = found_leave (live_row_of s id) answer
 
-pub stop_leaves : (why : Stop) → AllLeaveNames (stop_records why)
-stop_leaves (stop.DeviceFault count) = (refl, tt)
-stop_leaves (stop.Exhausted number) = tt
+of_flush : (r : Rec) → IsOfFlush r → leaves_names r ≡ true
+of_flush (rec.Began cursor floor) h = refl
+of_flush (rec.Moved piece from place digest) h = refl
+of_flush (rec.Unsaved piece place fault) h = refl
+of_flush (rec.Damaged piece place kept found) h = refl
+of_flush (rec.Fault count) h = refl
+of_flush _ h = absurd h
 
-began_or_not : (s : State) (b : Bool) → AllLeaveNames (if b then [] else rec.Began (cursor_next s) (floor_next s) ∷ [])
-began_or_not s true = tt
-began_or_not s false = (refl, tt)
-
-room_leaves : (s : State) (bytes : ℕ) → AllLeaveNames (room_records s bytes)
-room_leaves s bytes = began_or_not s (has_room s bytes)
-
-pub flush_leaves : (s : State) (result : Result Flushed Stop) → AllLeaveNames (flush_adds s result)
-flush_leaves s (Ok flushed) = began_or_not s (s.filled == 0)
-flush_leaves s (Err why) = stop_leaves why
-
-nothing_or_room : (s : State) (bytes : ℕ) (b : Bool) → AllLeaveNames (if b then [] else room_records s bytes)
-nothing_or_room s bytes true = tt
-nothing_or_room s bytes false = room_leaves s bytes
-
-pub stopped_leaves : (s : State) (id : PieceId) (pin start : ℕ) (payload : List ℕ) (why : Stop) → AllLeaveNames (fragment_adds s id pin start payload (Err why))
-stopped_leaves s id pin start payload (stop.DeviceFault count) = (refl, tt)
-stopped_leaves s id pin start payload (stop.Exhausted number) = nothing_or_room s (length payload) (is_flush_exhausted s)
+pub flush_leaves : (recs : List Rec) → AreOfFlush recs → AllLeaveNames recs
+flush_leaves [] all = tt
+flush_leaves (r ∷ recs) all = (of_flush r all.0, flush_leaves recs all.1)
 
 pub answer_leaves_names : (s : State) (reader : ℕ) (answer : NextAnswer) → IsNamed s → IsNamed (state_after s (answer_record reader answer))
 answer_leaves_names s reader (next.Gave index length) h = name_left s (rec.Gave reader index length) refl h
@@ -357,17 +356,37 @@ named_kept k new is h = subst IsNamed (sym (ap state_of is)) h
 
 -- ---- a fragment behind the flush that it may need
 
--- a flush leaves the puts
-same_puts : (s : State) (b : Bool) → let t : State = after_all s (if b then [] else rec.Began (cursor_next s) (floor_next s) ∷ []) in
-    (t.pending ≡ s.pending) × (t.puts ≡ s.puts) × (t.next_put ≡ s.next_put)
-same_puts s true = (refl, refl, refl)
-same_puts s false = (refl, refl, refl)
+-- the geometry and the puts are the same
+pub record SamePuts (s t : State) : Type 0 where
+  pub geometry : t.geometry ≡ s.geometry
+  pub pending : t.pending ≡ s.pending
+  pub puts : t.puts ≡ s.puts
+  pub next_put : t.next_put ≡ s.next_put
 
-pub fragment_named : (s t : State) (id : PieceId) (place blocks pin start size : ℕ) (payload : List ℕ) (cut digest : Digest) (f : IsFragmentOf s id pin start payload) → IsNamed s → id.put < s.next_put
-    → t ≡ state_after (state_after (with_room s (length payload)) (rec.Cut id.put id.index size cut)) (rec.Placed id place blocks digest pin) → IsNamed t
-fragment_named s t id place blocks pin start size payload cut digest f h begun is =
-    let room : State = with_room s (length payload) in
-    let same = same_puts s (has_room s (length payload)) in
-    let next : room.next_put ≡ s.next_put = same.2 in
-    named_fragment room t id place blocks pin size cut digest f.w (names_left s (room_records s (length payload)) (room_leaves s (length payload)) h) (same.0 ∙ f.next.writing.quiet) (omega (arith, next, begun))
-    (ap (find (λ (p : PutRow). p.put == id.put)) same.1 ∙ f.next.writing.found) f.next.next is
+puts_after : (s : State) (r : Rec) → IsOfFlush r → SamePuts s (state_after s r)
+puts_after s (rec.Began cursor floor) h = record { geometry = refl; pending = refl; puts = refl; next_put = refl }
+puts_after s (rec.Moved piece from place digest) h = record { geometry = refl; pending = refl; puts = refl; next_put = refl }
+puts_after s (rec.Unsaved piece place fault) h = record { geometry = refl; pending = refl; puts = refl; next_put = refl }
+puts_after s (rec.Damaged piece place kept found) h = record { geometry = refl; pending = refl; puts = refl; next_put = refl }
+puts_after s (rec.Fault count) h = record { geometry = refl; pending = refl; puts = refl; next_put = refl }
+puts_after s _ h = absurd h
+
+-- a flush leaves them
+pub same_puts : (s : State) (recs : List Rec) → AreOfFlush recs → SamePuts s (after_all s recs)
+same_puts s [] all = record { geometry = refl; pending = refl; puts = refl; next_put = refl }
+same_puts s (r ∷ recs) all =
+    let first : SamePuts s (state_after s r) = puts_after s r all.0 in
+    let rest : SamePuts (state_after s r) (after_all (state_after s r) recs) = same_puts (state_after s r) recs all.1 in
+    record { geometry = rest.geometry ∙ first.geometry; pending = rest.pending ∙ first.pending; puts = rest.puts ∙ first.puts; next_put = rest.next_put ∙ first.next_put }
+
+pub geometry_with : (k new : Kept) (recs : List Rec) → new ≡ with_records k recs → AreOfFlush recs → (state_of new).geometry ≡ (state_of k).geometry
+geometry_with k new recs is all = ap (λ (t : State). t.geometry) (ap state_of is ∙ state_of-with_records k recs) ∙ (same_puts (state_of k) recs all).geometry
+
+pub fragment_named : (s t : State) (id : PieceId) (place blocks pin start size : ℕ) (payload : List ℕ) (room : List Rec) (cut digest : Digest) (f : IsFragmentOf s id pin start payload) → AreOfFlush room
+    → IsNamed s → id.put < s.next_put → t ≡ state_after (state_after (after_all s room) (rec.Cut id.put id.index size cut)) (rec.Placed id place blocks digest pin) → IsNamed t
+fragment_named s t id place blocks pin start size payload room cut digest f kinds h begun is =
+    let behind : State = after_all s room in
+    let same : SamePuts s behind = same_puts s room kinds in
+    let next : behind.next_put ≡ s.next_put = same.next_put in
+    named_fragment behind t id place blocks pin size cut digest f.w (names_left s room (flush_leaves room kinds) h) (same.pending ∙ f.next.writing.quiet) (omega (arith, next, begun))
+    (ap (find (λ (p : PutRow). p.put == id.put)) same.puts ∙ f.next.writing.found) f.next.next is

@@ -52,12 +52,12 @@ one_at_end : (b : Bool) (n : ℕ) → n + one_more b 0 ≡ one_more b n
 one_at_end true n = refl
 one_at_end false n = omega arith
 
-count_behind : (g : Geometry) (rows : List Row) (row : Row) (x : DirRow) → times x (map (entry_of g) (rows ++ row ∷ [])) ≡ one_more (same_entry (entry_of g row) x) (times x (map (entry_of g) rows))
+pub count_behind : (g : Geometry) (rows : List Row) (row : Row) (x : DirRow) → times x (map (entry_of g) (rows ++ row ∷ [])) ≡ one_more (same_entry (entry_of g row) x) (times x (map (entry_of g) rows))
 count_behind g rows row x =
     ap (times x) (entries_append g rows row)
     ∙ (times-append x (map (entry_of g) rows) (entry_of g row ∷ []) ∙ one_at_end (same_entry (entry_of g row) x) (times x (map (entry_of g) rows)))
 
-kept_more : (a b : Bool) (n : ℕ) → (b ≡ true → a ≡ true) → kept a (one_more b n) ≡ one_more b (kept a n)
+pub kept_more : (a b : Bool) (n : ℕ) → (b ≡ true → a ≡ true) → kept a (one_more b n) ≡ one_more b (kept a n)
 kept_more true b n h = refl
 kept_more false false n h = refl
 kept_more false true n h = let f : false ≡ true = h refl in cc
@@ -68,7 +68,7 @@ pub all_append : (P : Row → Type 0) (rows : List Row) (row : Row) → AllByRec
 all_append P [] row all h = (h, all)
 all_append P (first ∷ rows) row all h = (all.0, all_append P rows row all.1 h)
 
-still_buffered : (b after : Buffer) (piece : List ℕ) (rows : List Row) → Adds b after piece → after.cursor ≡ b.cursor → AllByRecursion (IsBufferedWhereNew b) rows → AllByRecursion (IsBufferedWhereNew after) rows
+pub still_buffered : (b after : Buffer) (piece : List ℕ) (rows : List Row) → Adds b after piece → after.cursor ≡ b.cursor → AllByRecursion (IsBufferedWhereNew b) rows → AllByRecursion (IsBufferedWhereNew after) rows
 still_buffered b after piece [] adds same all = tt
 still_buffered b after piece (row ∷ rows) adds same all = (one, still_buffered b after piece rows adds same all.1)
   where
@@ -92,7 +92,7 @@ none_goes : (segment live : ℕ) (rows : List DirRow) → rows_without (record {
 none_goes segment live [] = refl
 none_goes segment live (row ∷ rows) = stays_by (row.segment == segment) row (rows_without (record { places = []; segment = segment; live = live }) rows) rows (none_goes segment live rows)
 
-nothing_goes : (d : Displacement) (rows : List DirRow) → d.places ≡ [] → rows_without d rows ≡ rows
+pub nothing_goes : (d : Displacement) (rows : List DirRow) → d.places ≡ [] → rows_without d rows ≡ rows
 nothing_goes d rows h = ap (λ ps. rows_without (record { places = ps; segment = d.segment; live = d.live }) rows) h ∙ none_goes d.segment d.live rows
 
 -- ---- a piece that is put and recorded

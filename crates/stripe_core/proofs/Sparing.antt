@@ -1,6 +1,6 @@
 -- What is left of the memory that was made, and records that leave the actors as they are.
 use Rattle.std.proofs.Common.{◌≡◌, ℕ, ◌+◌, ◌-◌, ◌*◌, ◌<◌, ◌≤◌, List, [], ◌∷◌, ◌++◌, refl, sym, ◌∙◌, ap, subst, arith, Bool, true, false, length, Result, Ok, Err}
-use Rattle.std.specs.Prelude.{Option, Some, None, if◌then◌else◌, ◌==◌, nat_lt}
+use Rattle.std.specs.Prelude.{Option, Some, None, if◌then◌else◌, nat_lt}
 use Rattle.std.proofs.lemmas.Bool.{le-leb, ltb-false}
 use Rattle.agg_buffer.specs.Buffer.{filled_of, next_place_of, room_of}
 use Rattle.tape_base.specs.Blocks.{blocks_of}
@@ -17,15 +17,15 @@ use Rattle.cyclone.specs.Cyclone.{Seen}
 use Rattle.cache_model.specs.declared.cause.Cause.TheVariants as cause
 use Rattle.cache_model.specs.declared.record.Rec.{Rec}
 use Rattle.cache_model.specs.declared.record.Rec.TheVariants as rec
-use Rattle.cache_model.specs.State.{Row, State, after_all, cursor_next, floor_next, live_row_of, state_after}
+use Rattle.cache_model.specs.State.{Row, State, after_all, live_row_of, state_after}
 use Rattle.cache_model.specs.Kept.{Kept, state_of, with_records}
-use Rattle.cache_model.specs.Room.{has_room, is_flush_exhausted, placed_record}
+use Rattle.cache_model.specs.Room.{has_room, placed_record}
 use Rattle.cache_model.proofs.Steps.{after_all-append}
 use Rattle.stripe_actors.specs.Calls.{CutsNext}
 use Rattle.stripe_actors.specs.Actors.{AreActors, Seen as Actors}
 use Rattle.stripe_actors.specs.ActorLaws.{speaks_of_actors}
 use Rattle.stripe_actors.proofs.Telling.{others}
-use Rattle.stripe_core.specs.declared.refusal.Flushed.{Flushed}
+use Rattle.stripe_core.specs.declared.ahead.Ahead.{Ahead}
 use Rattle.stripe_core.specs.declared.refusal.Found.{Found}
 use Rattle.stripe_core.specs.declared.refusal.Found.TheVariants as found
 use Rattle.stripe_core.specs.declared.refusal.Placed.{Placed}
@@ -33,10 +33,12 @@ use Rattle.stripe_core.specs.declared.refusal.Refusal.{Refusal}
 use Rattle.stripe_core.specs.declared.refusal.Refusal.TheVariants as refusal
 use Rattle.stripe_core.specs.declared.refusal.Stop.{Stop}
 use Rattle.stripe_core.specs.declared.refusal.Stop.TheVariants as stop
+use Rattle.stripe_core.specs.Ahead.{IsMadeFor}
 use Rattle.stripe_core.specs.Covers.{Uses}
 use Rattle.stripe_core.specs.Find.{cause_records, find_adds, found_records}
-use Rattle.stripe_core.specs.Flush.{flush_adds, stop_records}
-use Rattle.stripe_core.specs.Place.{IsFragmentOf, fragment_adds, piece_records, place_adds, room_records, with_room}
+use Rattle.stripe_core.specs.Flush.{AreOfFlush, IsOfFlush}
+use Rattle.stripe_core.specs.Place.{IsFragmentOf, piece_records, place_adds}
+use Rattle.stripe_core.specs.Units.{entries_of_unit, records_of_unit}
 use Rattle.stripe_core.specs.Stripe.{Answers, IsSpared, refusal_of}
 use Rattle.stripe_core.proofs.Flushes.{state_of-with_records}
 use Rattle.stripe_core.proofs.Groups.{no_vector}
@@ -111,29 +113,35 @@ found_are_others (Some row) (found.Missing why) = causes_are_others row why
 pub find_are_others : (s : State) (id : PieceId) (answer : Found) → AllOthers (find_adds s id answer)
 find_are_others s id answer = found_are_others (live_row_of s id) answer
 
-pub stops_are_others : (why : Stop) → AllOthers (stop_records why)
-stops_are_others (stop.DeviceFault count) = (refl, tt)
-stops_are_others (stop.Exhausted number) = tt
+other : (r : Rec) → IsOfFlush r → speaks_of_actors r ≡ false
+other (rec.Began cursor floor) h = refl
+other (rec.Moved piece from place digest) h = refl
+other (rec.Unsaved piece place fault) h = refl
+other (rec.Damaged piece place kept found) h = refl
+other (rec.Fault count) h = refl
+other _ h = absurd h
 
-began_or_not : (s : State) (b : Bool) → AllOthers (if b then [] else rec.Began (cursor_next s) (floor_next s) ∷ [])
-began_or_not s true = tt
-began_or_not s false = (refl, tt)
-
-pub flush_is_others : (s : State) (result : Result Flushed Stop) → AllOthers (flush_adds s result)
-flush_is_others s (Ok flushed) = began_or_not s (s.filled == 0)
-flush_is_others s (Err why) = stops_are_others why
-
-pub room_is_others : (s : State) (bytes : ℕ) → AllOthers (room_records s bytes)
-room_is_others s bytes = began_or_not s (has_room s bytes)
+pub flush_is_others : (recs : List Rec) → AreOfFlush recs → AllOthers recs
+flush_is_others [] all = tt
+flush_is_others (r ∷ recs) all = (other r all.0, flush_is_others recs all.1)
 
 -- ---- memory
 
 products : (a b agg : ℕ) → (a + b) * agg ≡ a * agg + b * agg
 products a b agg = omega arith
 
+none_less : (f n : ℕ) → n ≡ 0 → f ≡ f - n
+none_less f n is = omega (arith, is)
+
+-- what is made for one call more is left, where it used no more than that
+left_by : (most units room left used : ℕ) → most * (units + 1) ≤ room → room ≤ left + used → used ≤ most → most * units ≤ left
+left_by most units room left used h more few =
+    let product : most * (units + 1) ≡ most * units + most = omega arith in
+    omega (arith, product, h, more, few)
+
 -- a call that used up so many flushes of the device
 spent : (units flushes room left records entries calls : ℕ) (c new : Seen) → IsSpared (units + 1) flushes room c → Uses records entries calls (calls * c.geometry.agg) room left c new
-    → records ≤ 3 → entries ≤ 1 → calls ≤ 1 → IsSpared units (flushes - calls) left new
+    → records ≤ records_of_unit c.geometry → entries ≤ entries_of_unit c.geometry → calls ≤ 1 → IsSpared units (flushes - calls) left new
 spent units flushes room left records entries calls c new h u r e k =
     let agg : new.geometry.agg ≡ c.geometry.agg = ap (λ (g : Geometry). g.agg) u.same in
     let of_calls : c.device.calls ≤ new.device.calls + calls = u.device.calls in
@@ -144,44 +152,42 @@ spent units flushes room left records entries calls c new h u r e k =
     let product : flushes * c.geometry.agg ≡ (flushes - calls) * c.geometry.agg + calls * c.geometry.agg =
     ap (λ n. n * c.geometry.agg) split ∙ products (flushes - calls) calls c.geometry.agg in
     record {
-      for_records = omega (arith, h.for_records, u.of_records, r);
-      entries = omega (arith, h.entries, u.of_entries, e);
+      for_records = subst (λ (g : Geometry). records_of_unit g * units ≤ left) (sym u.same) (left_by (records_of_unit c.geometry) units room left records h.for_records u.of_records r);
+      entries = subst (λ (g : Geometry). entries_of_unit g * units ≤ new.spare) (sym u.same) (left_by (entries_of_unit c.geometry) units c.spare new.spare entries h.entries u.of_entries e);
       one_each = omega (arith, h.one_each, k);
       calls = omega (arith, h.calls, of_calls);
       blocks = subst (λ a. (flushes - calls) * a ≤ new.device.blocks) (sym agg) (omega (arith, product, before, of_blocks));
     }
 
 -- a call that asked nothing of the device
-pub spent_calm : (u f room left records entries : ℕ) (c new : Seen) → IsSpared (u + 1) f room c → Uses records entries 0 0 room left c new → records ≤ 3 → entries ≤ 1 → IsSpared u f left new
+pub spent_calm : (u f room left records entries : ℕ) (c new : Seen) → IsSpared (u + 1) f room c → Uses records entries 0 0 room left c new
+    → records ≤ records_of_unit c.geometry → entries ≤ entries_of_unit c.geometry → IsSpared u f left new
 spent_calm u f room left records entries c new h uses r e =
-    let agg : new.geometry.agg ≡ c.geometry.agg = ap (λ (g : Geometry). g.agg) uses.same in
-    let of_calls : c.device.calls ≤ new.device.calls + 0 = uses.device.calls in
-    let of_blocks : c.device.blocks ≤ new.device.blocks + 0 = uses.device.blocks in
-    let before : f * c.geometry.agg ≤ c.device.blocks = h.blocks in
-    record {
-      for_records = omega (arith, h.for_records, uses.of_records, r);
-      entries = omega (arith, h.entries, uses.of_entries, e);
-      one_each = omega (arith, h.one_each);
-      calls = omega (arith, h.calls, of_calls);
-      blocks = subst (λ a. f * a ≤ new.device.blocks) (sym agg) (omega (arith, before, of_blocks));
-    }
+    subst (λ n. IsSpared u n left new) (sym (none_less f 0 refl))
+    (spent u f room left records entries 0 c new h (record {
+      same = uses.same;
+      of_records = uses.of_records;
+      of_entries = uses.of_entries;
+      device = subst (λ k. Keeps 0 k c.device new.device) (none_of c.geometry.agg) uses.device;
+      later = uses.later;
+    }) r e (omega arith))
+  where
+    none_of : (k : ℕ) → 0 ≡ 0 * k
+    none_of k = omega arith
 
 -- one record
 pub one_told : (u f room left : ℕ) (c : Seen) → IsSpared (u + 1) f room c → room ≤ left + 1 → IsSpared u f left c
 one_told u f room left c h more = record {
-  for_records = omega (arith, h.for_records, more);
-  entries = omega (arith, h.entries);
+  for_records = left_by (records_of_unit c.geometry) u room left 1 h.for_records more (omega arith);
+  entries = left_by (entries_of_unit c.geometry) u c.spare c.spare 0 h.entries (omega arith) (omega arith);
   one_each = omega (arith, h.one_each);
   calls = h.calls;
   blocks = h.blocks;
 }
 
-none_less : (f n : ℕ) → n ≡ 0 → f ≡ f - n
-none_less f n is = omega (arith, is)
-
 -- a call that may have flushed, and did where it was told so
-pub spent_by : (b : Bool) (u f n room left records entries : ℕ) (c new : Seen) → n ≡ (if b then 1 else 0) → IsSpared (u + 1) f room c → Uses records entries 1 c.geometry.agg room left c new → records ≤ 3 → entries ≤ 1
-    → (b ≡ false → new.device ≡ c.device) → IsSpared u (f - n) left new
+pub spent_by : (b : Bool) (u f n room left records entries : ℕ) (c new : Seen) → n ≡ (if b then 1 else 0) → IsSpared (u + 1) f room c → Uses records entries 1 c.geometry.agg room left c new
+    → records ≤ records_of_unit c.geometry → entries ≤ entries_of_unit c.geometry → (b ≡ false → new.device ≡ c.device) → IsSpared u (f - n) left new
 spent_by true u f n room left records entries c new is h uses r e still = subst (λ k. IsSpared u (f - k) left new) (sym is) (spent u f room left records entries 1 c new h (record {
   same = uses.same;
   of_records = uses.of_records;
@@ -199,6 +205,19 @@ spent_by false u f n room left records entries c new is h uses r e still = subst
   device = subst (λ d. Keeps 0 0 c.device d) (sym (still refl)) (record { size = refl; trust = omega arith; calls = omega arith; blocks = omega arith });
   later = uses.later;
 }) r e)
+
+-- room for a record beside those that are to come
+pub behind_one : (most records room left : ℕ) → records ≡ most → records + 1 ≤ room → room ≤ left + 1 → most ≤ left
+behind_one most records room left is made more = omega (arith, is, made, more)
+
+-- the memory of a flush, for the geometry that stays
+pub made_still : (s t : State) (c new : Seen) (a : Ahead) → IsHeld s c → IsHeld t new → new.geometry ≡ c.geometry → IsMadeFor s.geometry a → IsMadeFor t.geometry a
+made_still s t c new a h k same made = subst (λ g. IsMadeFor g a) (sym h.geometry ∙ sym same ∙ k.geometry) made
+
+pub made_behind : (k new : Kept) (r : Rec) (a : Ahead) → new ≡ with_records k (r ∷ []) → (state_after (state_of k) r).geometry ≡ (state_of k).geometry
+    → IsMadeFor (state_of k).geometry a → IsMadeFor (state_of new).geometry a
+made_behind k new r a is same made =
+    subst (λ g. IsMadeFor g a) (sym (ap (λ (t : State). t.geometry) (ap state_of is ∙ state_of-with_records k (r ∷ [])) ∙ same)) made
 
 -- an empty buffer, and a piece that has room
 pub nothing_in_buffer : (s : State) (c : Seen) (cursor next : ℕ) → IsHeld s c → cursor ≡ c.buffer.cursor → next ≡ next_place_of c.buffer → nat_lt cursor next ≡ false → s.filled ≡ 0
@@ -237,25 +256,26 @@ fragment_two : (s : State) (id : PieceId) (pin start : ℕ) (payload : List ℕ)
     → piece_records s id pin start payload ≡ rec.Cut id.put id.index (length payload) (digest_of payload) ∷ placed_record s id pin start (length payload) payload ∷ []
 fragment_two s id pin start payload kind = rw kind refl
 
-module _ (s : State) (id : PieceId) (pin start : ℕ) (payload : List ℕ) (kind : is_vector id ≡ false) where
+-- behind the flush that it may need
+module _ (s : State) (id : PieceId) (pin start : ℕ) (payload : List ℕ) (room : List Rec) (kinds : AreOfFlush room) (kind : is_vector id ≡ false) where
   abbrev t : State
-  t = with_room s (length payload)
+  t = after_all s room
 
   abbrev cut : State
   cut = state_after t (rec.Cut id.put id.index (length payload) (digest_of payload))
 
-  pub placed_state : after_all s (room_records s (length payload) ++ piece_records t id pin start payload) ≡ state_after cut (placed_record t id pin start (length payload) payload)
-  placed_state = after_all-append s (room_records s (length payload)) (piece_records t id pin start payload) ∙ ap (after_all t) (fragment_two t id pin start payload kind)
+  pub placed_state : after_all s (room ++ piece_records t id pin start payload) ≡ state_after cut (placed_record t id pin start (length payload) payload)
+  placed_state = after_all-append s room (piece_records t id pin start payload) ∙ ap (after_all t) (fragment_two t id pin start payload kind)
 
   pub fragment_actors : (a b : Actors) (digest : Digest) → digest ≡ digest_of payload → CutsNext id.put (length payload) digest a b → AreActors s a
-      → AreActors (after_all s (room_records s (length payload) ++ piece_records t id pin start payload)) b
+      → AreActors (after_all s (room ++ piece_records t id pin start payload)) b
   fragment_actors a b digest is cuts h =
-      let here : AreActors t a = others_keep s a (room_records s (length payload)) (room_is_others s (length payload)) h in
+      let here : AreActors t a = others_keep s a room (flush_is_others room kinds) h in
       let behind : AreActors cut b = subst (λ d. AreActors (state_after t (rec.Cut id.put id.index (length payload) d)) b) is (cuts id.index t here) in
       subst (λ x. AreActors x b) (sym placed_state) (others cut b (placed_record t id pin start (length payload) payload) refl behind)
 
-  pub fragment_readers : (after_all s (room_records s (length payload) ++ piece_records t id pin start payload)).next_reader ≡ s.next_reader
-  fragment_readers = ap (λ (x : State). x.next_reader) placed_state ∙ readers_stay s (room_records s (length payload)) (room_is_others s (length payload))
+  pub fragment_readers : (after_all s (room ++ piece_records t id pin start payload)).next_reader ≡ s.next_reader
+  fragment_readers = ap (λ (x : State). x.next_reader) placed_state ∙ readers_stay s room (flush_is_others room kinds)
 
 pub vector_alone : (s : State) (id : PieceId) (pin start : ℕ) (payload : List ℕ) → is_vector id ≡ true → piece_records s id pin start payload ≡ placed_record s id pin start (length payload) payload ∷ []
 vector_alone s id pin start payload kind = rw kind refl
@@ -263,14 +283,6 @@ vector_alone s id pin start payload kind = rw kind refl
 pub vector_others : (s : State) (id : PieceId) (pin start : ℕ) (payload : List ℕ) (result : Result Placed Stop) → is_vector id ≡ true → AllOthers (place_adds s id pin start payload result)
 vector_others s id pin start payload (Ok placed) kind = rw kind (refl, tt)
 vector_others s id pin start payload (Err why) kind = tt
-
-nothing_or_room : (s : State) (bytes : ℕ) (b : Bool) → AllOthers (if b then [] else room_records s bytes)
-nothing_or_room s bytes true = tt
-nothing_or_room s bytes false = room_is_others s bytes
-
-pub stopped_others : (s : State) (id : PieceId) (pin start : ℕ) (payload : List ℕ) (why : Stop) → AllOthers (fragment_adds s id pin start payload (Err why))
-stopped_others s id pin start payload (stop.DeviceFault count) = (refl, tt)
-stopped_others s id pin start payload (stop.Exhausted number) = nothing_or_room s (length payload) (is_flush_exhausted s)
 
 -- a fragment is no vector
 pub no_vector_id : (s : State) (id : PieceId) (pin start : ℕ) (payload : List ℕ) → IsFragmentOf s id pin start payload → is_vector id ≡ false

@@ -7,7 +7,8 @@ use Rattle.cache_model.specs.declared.record.Rec.TheVariants as rec
 use Rattle.cache_model.specs.State.{State, after_all, state_after}
 use Rattle.cache_model.specs.Kept.{Kept, state_of, with_records}
 use Rattle.cache_model.proofs.Steps.{after_all-append}
-use Rattle.stripe_core.specs.Unharmed.{IsUnharmed, StayUnharmed, TellNoDamage, has_damage, tells_damage}
+use Rattle.stripe_core.specs.Damages.{TellNoDamage, tells_damage}
+use Rattle.stripe_core.specs.Unharmed.{IsUnharmed, StayUnharmed, has_damage}
 
 -- where nothing changed, nothing more is told as damaged
 pub stays_unharmed-refl : (d : Device) (s : State) → StayUnharmed d d s s

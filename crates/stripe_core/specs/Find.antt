@@ -11,7 +11,7 @@ use Rattle.cache_model.specs.declared.record.Rec.TheVariants as rec
 use Rattle.cache_model.specs.State.{Row, State, live_row_of}
 use Rattle.cache_model.specs.Verdict.{cause_of_piece}
 use Rattle.cache_model.specs.Permit.{DeviceRead, Permit}
-use Rattle.cache_model.specs.Legal.{IsGiven, IsWritten, Trouble}
+use Rattle.cache_model.specs.Given.{IsGiven, IsWritten, Trouble}
 use Rattle.stripe_core.specs.declared.refusal.Found.{Found}
 use Rattle.stripe_core.specs.declared.refusal.Found.TheVariants as found
 use Rattle.stripe_core.specs.Covers.{AreSeen, Covers}

@@ -1,34 +1,57 @@
 -- What a flush adds to the records, and what it answers.
-use Rattle.std.specs.Prelude.{ℕ, ◌≡◌, ◌≤◌, ◌==◌, if◌then◌else◌, List, [], ◌∷◌, Result, Ok, Err}
+use Rattle.std.specs.Prelude.{ℕ, ◌≡◌, ◌≤◌, List, Some, Result, Ok, Err}
+use Rattle.std.specs.List.{AllByRecursion}
+use Rattle.tape_base.specs.declared.pieces.PieceId.{PieceId}
+use Rattle.ats_disk.specs.Device.{State as Device, IsTold}
 use Rattle.cache_model.specs.declared.record.Rec.{Rec}
 use Rattle.cache_model.specs.declared.record.Rec.TheVariants as rec
-use Rattle.cache_model.specs.State.{State, cursor_next, floor_next, floor_now}
-use Rattle.cache_model.specs.Permit.{Permit, End, Done, Fails, Exhausted, Faulted, Flush}
+use Rattle.cache_model.specs.State.{Row, State, cursor_next, floor_now, live_row_of}
+use Rattle.cache_model.specs.Kept.{Kept, state_of, with_records}
+use Rattle.cache_model.specs.Permit.{DeviceRead, Permit, End, Done, Fails, Exhausted, Faulted, Flush}
 use Rattle.cache_model.specs.Room.{limit}
 use Rattle.cache_model.specs.Legal.{Does}
 use Rattle.stripe_core.specs.declared.refusal.Flushed.{Flushed}
 use Rattle.stripe_core.specs.declared.refusal.Stop.{Stop}
 use Rattle.stripe_core.specs.declared.refusal.Stop.TheVariants as stop
 use Rattle.stripe_core.specs.Covers.{Covers}
+use Rattle.stripe_core.specs.Damages.{TellNoDamage}
 
--- what is recorded where a call stops
-abbrev pub stop_records : Stop → List Rec
-stop_records (stop.DeviceFault count) = rec.Fault count ∷ []
-stop_records (stop.Exhausted number) = []
+-- ---- its records
+
+-- the record may be one of a flush: it speaks of pieces and the device alone
+abbrev pub IsOfFlush : Rec → Type 0
+IsOfFlush (rec.Began cursor floor) = Unit {0}
+IsOfFlush (rec.Moved piece from place digest) = Unit {0}
+IsOfFlush (rec.Unsaved piece place fault) = Unit {0}
+IsOfFlush (rec.Damaged piece place kept found) = Unit {0}
+IsOfFlush (rec.Fault count) = Unit {0}
+IsOfFlush _ = ⊥
+
+abbrev pub AreOfFlush : List Rec → Type 0
+AreOfFlush recs = AllByRecursion IsOfFlush recs
+
+-- the same piece, where it stood or at another place
+pub record IsSamePiece (before row : Row) : Type 0 where
+  pub id : row.id ≡ before.id
+  pub blocks : row.blocks ≡ before.blocks
+  pub pin : row.pin ≡ before.pin
+  pub alternates : row.alternates ≡ before.alternates
+
+-- what is live then was live before
+abbrev pub LiveBefore : State → State → Type 0
+LiveBefore s t = (id : PieceId) (row : Row) → live_row_of t id ≡ Some row → (before : Row) × (live_row_of s id ≡ Some before) × IsSamePiece before row
+
+-- ---- its answer
 
 abbrev pub stop_end : Stop → End
 stop_end (stop.DeviceFault count) = Fails (Faulted count)
 stop_end (stop.Exhausted number) = Fails Exhausted
 
-abbrev pub flush_adds : State → Result Flushed Stop → List Rec
-flush_adds s (Ok flushed) = if s.filled == 0 then [] else rec.Began (cursor_next s) (floor_next s) ∷ []
-flush_adds s (Err why) = stop_records why
-
 abbrev pub flush_end : Result Flushed Stop → End
 flush_end (Ok flushed) = Done
 flush_end (Err why) = stop_end why
 
--- what a finished flush tells: the blocks, and the buffer that stands then
+-- what a finished flush tells: the blocks that were written, and the buffer that stands then
 pub record Tells (s t : State) (flushed : Flushed) : Type 0 where
   pub blocks : flushed.blocks ≡ s.filled
   pub cursor : flushed.cursor ≡ t.cursor
@@ -39,6 +62,15 @@ abbrev pub StopsWith : State → ℕ → Stop → Type 0
 StopsWith s faults (stop.DeviceFault count) = count ≡ faults
 StopsWith s faults (stop.Exhausted number) = (number ≡ cursor_next s) × (limit ≤ number)
 
--- a flush over a device whose count stood here before and there after, in any step that covers both
-abbrev pub DoesAsAsked : State → ℕ → ℕ → Result Flushed Stop → Type 0
-DoesAsAsked s before after result = (p : Permit) → Covers p before after [] → Does p s Flush (flush_adds s result) (flush_end result)
+-- a flush at a moment, over a device whose count stood at `before`, and that stands so then: the records
+-- that it added and what the device gave, and that in any step at that moment that covers it these are
+-- the records of a flush
+pub record FlushesAsAsked (now : ℕ) (old new : Kept) (before : ℕ) (after : Device) (result : Result Flushed Stop) : Type 0 where
+  pub added : List Rec
+  pub reads : List DeviceRead
+  pub adds : new ≡ with_records old added
+  pub kinds : AreOfFlush added
+  pub live : LiveBefore (state_of old) (state_of new)
+  -- a device that tells its content shows each piece as it was placed
+  pub unharmed : IsTold after → TellNoDamage added
+  pub does : (p : Permit) → p.now ≡ now → Covers p before after.faults reads → Does p (state_of old) Flush added (flush_end result)

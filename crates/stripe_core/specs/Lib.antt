@@ -3,10 +3,15 @@ pub mod Records
 pub mod Pieces
 pub mod This
 pub mod Covers
+pub mod Damages
+pub mod Ahead
+pub mod Copying
+pub mod Looks
 pub mod Flush
 pub mod Place
 pub mod Find
 pub mod Named
+pub mod Units
 pub mod Stripe
 pub mod Acts
 pub mod Unharmed

@@ -9,38 +9,44 @@ use Rattle.tape_base.specs.Piece.{is_vector}
 use Rattle.fragment_table.specs.Table.{total_length}
 use Rattle.cache_model.specs.declared.record.Rec.{Rec}
 use Rattle.cache_model.specs.declared.record.Rec.TheVariants as rec
-use Rattle.cache_model.specs.State.{PutRow, State, after_all, cursor_next, floor_next, list_of_put, place_now, row_of, vector_piece}
+use Rattle.ats_disk.specs.Device.{State as Device, IsTold}
+use Rattle.cache_model.specs.State.{PutRow, State, after_all, cursor_next, list_of_put, place_now, row_of, vector_piece}
+use Rattle.cache_model.specs.Kept.{Kept, state_of, with_records}
 use Rattle.cache_model.specs.Verdict.{cuts_of}
-use Rattle.cache_model.specs.Permit.{Done, End, Finish, Fragment, Permit, Stays}
-use Rattle.cache_model.specs.Room.{greatest_pin, has_room, is_flush_exhausted, limit, placed_record}
+use Rattle.cache_model.specs.Permit.{DeviceRead, Done, End, Finish, Fragment, Permit, Stays}
+use Rattle.cache_model.specs.Room.{greatest_pin, has_room, limit, placed_record}
 use Rattle.cache_model.specs.Legal.{AreLiveTo, Does, IsCut, IsNext, IsWriting, MakesRoom, next_fragment_of, vector_length, vector_payload}
 use Rattle.stripe_core.specs.declared.refusal.Placed.{Placed}
 use Rattle.stripe_core.specs.declared.refusal.Stop.{Stop}
 use Rattle.stripe_core.specs.declared.refusal.Stop.TheVariants as stop
 use Rattle.stripe_core.specs.Covers.{Covers, Spends}
-use Rattle.stripe_core.specs.Flush.{stop_end, stop_records}
+use Rattle.stripe_core.specs.Damages.{TellNoDamage}
+use Rattle.stripe_core.specs.Flush.{AreOfFlush, LiveBefore, stop_end}
 
 -- ---- room
 
--- the records of the flush that a piece of so many bytes needs
-abbrev pub room_records : State → ℕ → List Rec
-room_records s bytes = if has_room s bytes then [] else rec.Began (cursor_next s) (floor_next s) ∷ []
-
--- what stands when there is room
-abbrev pub with_room : State → ℕ → State
-with_room s bytes = after_all s (room_records s bytes)
-
-abbrev pub room_adds : State → ℕ → Result (Unit {0}) Stop → List Rec
-room_adds s bytes (Ok u) = room_records s bytes
-room_adds s bytes (Err why) = stop_records why
-
 -- room is made: by a flush, where there is none
-abbrev pub RoomIsMade : Permit → State → ℕ → Result (Unit {0}) Stop → Type 0
-RoomIsMade p s bytes (Ok u) = has_room s bytes ≡ false → MakesRoom p s bytes (room_records s bytes) Stays
-RoomIsMade p s bytes (Err why) = MakesRoom p s bytes (stop_records why) (stop_end why)
+abbrev pub RoomIsMade : Permit → State → ℕ → List Rec → Result (Unit {0}) Stop → Type 0
+RoomIsMade p s bytes added (Ok u) = MatchBool (has_room s bytes) (added ≡ []) (MakesRoom p s bytes added Stays)
+RoomIsMade p s bytes added (Err why) = MakesRoom p s bytes added (stop_end why)
 
-abbrev pub MakesRoomAsAsked : State → ℕ → ℕ → ℕ → Result (Unit {0}) Stop → Type 0
-MakesRoomAsAsked s bytes before after result = (p : Permit) → Covers p before after [] → RoomIsMade p s bytes result
+-- as `FlushesAsAsked`, of the flush that a piece of so many bytes needs
+pub record RoomsAsAsked (now : ℕ) (old new : Kept) (before : ℕ) (after : Device) (bytes : ℕ) (result : Result (Unit {0}) Stop) : Type 0 where
+  pub added : List Rec
+  pub reads : List DeviceRead
+  pub adds : new ≡ with_records old added
+  pub kinds : AreOfFlush added
+  pub live : LiveBefore (state_of old) (state_of new)
+  pub unharmed : IsTold after → TellNoDamage added
+  pub does : (p : Permit) → p.now ≡ now → Covers p before after.faults reads → RoomIsMade p (state_of old) bytes added result
+
+-- where a piece of so many bytes would end; or where it has no room, where the next buffer would begin
+abbrev pub number_over : State → ℕ → ℕ
+number_over t bytes = if has_room t bytes then place_now t + blocks_of bytes else cursor_next t
+
+-- that is the number, and it is the limit or above
+abbrev pub ReachesLimit : State → ℕ → ℕ → Type 0
+ReachesLimit t bytes number = (number ≡ number_over t bytes) × (limit ≤ number)
 
 -- ---- a piece that has room
 
@@ -88,27 +94,40 @@ pub record IsFragmentOf (s : State) (id : PieceId) (pin start : ℕ) (payload : 
   pub pin_is : pin ≡ w.pin
   pub start_is : start ≡ total_length w.cuts
 
-abbrev pub fragment_adds : State → PieceId → ℕ → ℕ → List ℕ → Result Placed Stop → List Rec
-fragment_adds s id pin start payload (Ok placed) =
-    room_records s (length payload) ++ piece_records (with_room s (length payload)) id pin start payload
-fragment_adds s id pin start payload (Err (stop.DeviceFault count)) = rec.Fault count ∷ []
-fragment_adds s id pin start payload (Err (stop.Exhausted number)) = if is_flush_exhausted s then [] else room_records s (length payload)
+-- what is recorded of a fragment that was placed: the flush that it may need, the cut, and the place
+pub record IsCutAs (s : State) (id : PieceId) (pin start : ℕ) (payload : List ℕ) (added : List Rec) (placed : Placed) : Type 0 where
+  pub room : List Rec
+  pub kinds : AreOfFlush room
+  pub none : has_room s (length payload) ≡ true → room ≡ []
+  pub live : LiveBefore s (after_all s room)
+  pub is : added ≡ room ++ piece_records (after_all s room) id pin start payload
+  pub place : placed.place ≡ place_now (after_all s room)
+  pub payload_is : placed.payload ≡ digest_of payload
 
--- the number that reaches the limit
-abbrev pub number_above : State → List ℕ → ℕ
-number_above s payload =
-    if has_room s (length payload) then end_of s payload
-    else if is_flush_exhausted s then cursor_next s
-    else end_of (with_room s (length payload)) payload
+-- why a fragment was not placed, with its number, behind the flush that it may have needed
+abbrev pub StopsBehind : State → State → ℕ → ℕ → Stop → Type 0
+StopsBehind s t faults bytes (stop.DeviceFault count) = (count ≡ faults) × (has_room s bytes ≡ false)
+StopsBehind s t faults bytes (stop.Exhausted number) = ReachesLimit t bytes number
 
-abbrev pub FragmentAt : State → ℕ → List ℕ → Result Placed Stop → Type 0
-FragmentAt s faults payload (Ok placed) = (placed.place ≡ place_now (with_room s (length payload))) × (placed.payload ≡ digest_of payload)
-FragmentAt s faults payload (Err (stop.DeviceFault count)) = (count ≡ faults) × (has_room s (length payload) ≡ false)
-FragmentAt s faults payload (Err (stop.Exhausted number)) = (number ≡ number_above s payload) × (limit ≤ number)
+-- what is recorded then: that flush alone
+pub record IsStoppedAs (s : State) (faults : ℕ) (payload : List ℕ) (added : List Rec) (why : Stop) : Type 0 where
+  pub kinds : AreOfFlush added
+  pub live : LiveBefore s (after_all s added)
+  pub why_is : StopsBehind s (after_all s added) faults (length payload) why
 
-abbrev pub CutsAsAsked : State → ℕ → ℕ → PieceId → ℕ → ℕ → List ℕ → Result Placed Stop → Type 0
-CutsAsAsked s before after id pin start payload result =
-    (p : Permit) → Covers p before after [] → Spends p s (Fragment id.put id.index payload) (fragment_adds s id pin start payload result) (place_end result)
+abbrev pub IsFragmentAs : State → ℕ → PieceId → ℕ → ℕ → List ℕ → List Rec → Result Placed Stop → Type 0
+IsFragmentAs s faults id pin start payload added (Ok placed) = IsCutAs s id pin start payload added placed
+IsFragmentAs s faults id pin start payload added (Err why) = IsStoppedAs s faults payload added why
+
+-- as `FlushesAsAsked`, of a fragment that is cut
+pub record CutsAsAsked (now : ℕ) (old new : Kept) (before : ℕ) (after : Device) (id : PieceId) (pin start : ℕ) (payload : List ℕ) (result : Result Placed Stop) : Type 0 where
+  pub added : List Rec
+  pub reads : List DeviceRead
+  pub adds : new ≡ with_records old added
+  pub shape : IsFragmentAs (state_of old) after.faults id pin start payload added result
+  pub unharmed : IsTold after → TellNoDamage added
+  pub does : (p : Permit) → p.now ≡ now → Covers p before after.faults reads
+      → Spends p (state_of old) (Fragment id.put id.index payload) added (place_end result)
 
 -- ---- a vector
 
@@ -143,13 +162,12 @@ FinishesAsAsked s before after id pin start payload fragments result = IsVectorO
 abbrev pub IsPlacing : State → PieceId → ℕ → ℕ → List ℕ → Type 0
 IsPlacing s id pin start payload = MatchBool (is_vector id) (IsVectorFor s id start payload) (IsFragmentOf s id pin start payload)
 
-abbrev pub placing_adds : State → PieceId → ℕ → ℕ → List ℕ → Result Placed Stop → List Rec
-placing_adds s id pin start payload result =
-    if is_vector id then place_adds s id pin start payload result else fragment_adds s id pin start payload result
+-- as `CutsAsAsked`, of a vector, which needs no flush
+pub record PlacesVector (old new : Kept) (before after : ℕ) (id : PieceId) (pin start : ℕ) (payload : List ℕ) (result : Result Placed Stop) : Type 0 where
+  pub adds : new ≡ with_records old (place_adds (state_of old) id pin start payload result)
+  pub at : PlacesAt (state_of old) payload result
+  pub does : FinishesAsAsked (state_of old) before after id pin start payload (length (cuts_of (state_of old) id.put)) result
 
-abbrev pub PlacesAsAsked : State → ℕ → ℕ → PieceId → ℕ → ℕ → List ℕ → Result Placed Stop → Type 0
-PlacesAsAsked s before after id pin start payload result = MatchBool (is_vector id)
-    (FinishesAsAsked s before after id pin start payload (length (cuts_of s id.put)) result) (CutsAsAsked s before after id pin start payload result)
-
-abbrev pub IsPlacedAt : State → ℕ → PieceId → List ℕ → Result Placed Stop → Type 0
-IsPlacedAt s faults id payload result = MatchBool (is_vector id) (PlacesAt s payload result) (FragmentAt s faults payload result)
+abbrev pub PlacesAsAsked : ℕ → Kept → Kept → ℕ → Device → PieceId → ℕ → ℕ → List ℕ → Result Placed Stop → Type 0
+PlacesAsAsked now old new before after id pin start payload result = MatchBool (is_vector id)
+    (PlacesVector old new before after.faults id pin start payload result) (CutsAsAsked now old new before after id pin start payload result)

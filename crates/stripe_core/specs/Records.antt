@@ -1,5 +1,5 @@
 -- How what a cyclone holds follows the records: the laws of the two together.
-use Rattle.std.specs.Prelude.{ℕ, ◌≡◌, ◌+◌, ◌≤◌, false, List, ◌∷◌, length, IsPermutation, Some, None}
+use Rattle.std.specs.Prelude.{ℕ, ◌≡◌, ◌+◌, ◌*◌, ◌<◌, ◌≤◌, false, List, ◌∷◌, length, IsPermutation, Some, None}
 use Rattle.tape_base.specs.declared.geometries.Geometry.{Geometry}
 use Rattle.tape_base.specs.declared.pieces.PieceId.{PieceId}
 use Rattle.tape_base.specs.declared.digests.Digest.{Digest}
@@ -8,11 +8,13 @@ use Rattle.tape_base.specs.Geometry.{budget_of}
 use Rattle.tape_base.specs.Place.{slot_of}
 use Rattle.doc_header.specs.declared.documents.Doc.{Doc}
 use Rattle.doc_header.specs.Document.{document_bytes}
+use Rattle.doc_header.specs.Moving.{moved_to}
 use Rattle.doc_header.specs.Reading.{document_digest}
 use Rattle.agg_buffer.specs.Buffer.{blocks_in, filled_of}
-use Rattle.cyclone.specs.Cyclone.{Seen, IsFresh, IsTurning, IsPut, BeginsNext, SameButRoom, SameButRows, SameTape, row_of_piece}
+use Rattle.cyclone.specs.Cyclone.{Seen, IsFresh, IsMoved, IsTurning, IsPut, BeginsNext, SameButRoom, SameButRows, SameTape, row_of_piece}
+use Rattle.cache_model.specs.declared.record.Rec.{Rec}
 use Rattle.cache_model.specs.declared.record.Rec.TheVariants as rec
-use Rattle.cache_model.specs.State.{State, Row, cursor_next, floor_next, live_row_of, nothing_yet, place_now, row_of, after_all, state_after, without}
+use Rattle.cache_model.specs.State.{State, Row, cursor_next, floor_next, floor_now, live_row_of, nothing_yet, place_now, row_of, after_all, state_after, without}
 use Rattle.cache_model.specs.Legal.{format_records}
 use Rattle.ats_disk.specs.Device.{State as Device, IsTold, SameBut, span}
 use Rattle.cache_model.specs.Tape.{IsSound}
@@ -32,6 +34,22 @@ abbrev pub PlacedIsHeld : Type 0
 PlacedIsHeld = (s : State) (c new : Seen) (doc : Doc) (payload : List ℕ) (digest : Digest) (pin : ℕ) → IsHeld s c → IsPlacedAs s doc payload digest
     → IsPut false c new doc payload → IsTurning new
     → IsHeld (state_after s (rec.Placed doc.id (place_now s) (blocks_of (length payload)) digest pin)) new
+
+-- a piece that the floor has passed, whose document stands in the bytes, and for which the buffer has room
+pub record IsMovable (s : State) (id : PieceId) (row : Row) (bytes : List ℕ) : Type 0 where
+  pub found : row_of s id ≡ Some row
+  pub passed : row.place < floor_now s
+  pub sized : length bytes ≡ 512 * row.blocks
+  pub room : s.filled + row.blocks ≤ s.geometry.agg
+
+-- the record of its copy
+abbrev pub moved_to_here : State → PieceId → Row → List ℕ → Rec
+moved_to_here s id row bytes = rec.Moved id row.place (place_now s) (document_digest (moved_to (place_now s) bytes))
+
+-- where it is copied into the buffer, and recorded as moved, it is held
+abbrev pub MovedIsHeld : Type 0
+MovedIsHeld = (s : State) (c new : Seen) (id : PieceId) (row : Row) (bytes : List ℕ) → IsHeld s c → IsMovable s id row bytes
+    → IsMoved false c new id row.place bytes → IsTurning new → IsHeld (state_after s (moved_to_here s id row bytes)) new
 
 -- the device has what is in the buffer, where it tells its content
 pub record IsWrittenOut (c : Seen) : Type 0 where

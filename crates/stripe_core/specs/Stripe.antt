@@ -18,7 +18,9 @@ use Rattle.stripe_core.specs.declared.refusal.Stop.{Stop}
 use Rattle.stripe_core.specs.declared.refusal.Stop.TheVariants as stop
 use Rattle.stripe_core.specs.declared.stripe.Stripe.{Stripe}
 use Rattle.std.specs.declared.alloc.Global.{Global}
+use Rattle.stripe_core.specs.Ahead.{IsMadeFor}
 use Rattle.stripe_core.specs.Named.{IsNamed}
+use Rattle.stripe_core.specs.Units.{entries_of_unit, records_of_unit}
 use Rattle.stripe_core.specs.Pieces.{ArePieces, kept_of, seen_of, state_now}
 
 abbrev pub kept_in : {D R C : Type 0} → ChronicleGhosts C → Stripe D R C → Kept
@@ -44,8 +46,8 @@ flushes_in t = t.flushes
 
 -- memory is made for so many calls: of each a flush, a piece, and their records; `IsStripe` has the readers
 pub record IsSpared (units flushes room : ℕ) (c : Seen) : Type 0 where
-  pub for_records : 3 * units ≤ room
-  pub entries : units ≤ c.spare
+  pub for_records : records_of_unit c.geometry * units ≤ room
+  pub entries : entries_of_unit c.geometry * units ≤ c.spare
   pub one_each : units ≤ flushes
   pub calls : flushes ≤ c.device.calls
   pub blocks : flushes * c.geometry.agg ≤ c.device.blocks
@@ -76,6 +78,8 @@ pub record IsStripe {D R C : Type 0} (disk : DiskGhosts D) (directory : Director
   pub named : IsNamed (state_in chronicle t)
   -- a call may open a reader
   pub readers : t.units ≤ reader_room_of t.actors
+  -- there is memory for what a flush copies
+  pub ahead : IsMadeFor (state_in chronicle t).geometry t.ahead
   -- each reader has a record
   pub numbered : (state_in chronicle t).next_reader < length (kept_in chronicle t).since
 

@@ -1,14 +1,12 @@
 -- Whether a piece was told as damaged, on a device that can be trusted.
-use Rattle.std.specs.Prelude.{◌≡◌, ◌≤◌, Bool, true, false, List}
-use Rattle.std.specs.List.{AllByRecursion, list_any}
+use Rattle.std.specs.Prelude.{◌≡◌, ◌≤◌, Bool, true, false}
+use Rattle.std.specs.List.{list_any}
 use Rattle.ats_disk.specs.Device.{IsTold, State as Device}
 use Rattle.ats_disk.specs.declared.device.Disk.{Ghosts as DiskGhosts}
 use Rattle.dir_table.specs.declared.directory.Directory.{Ghosts as DirectoryGhosts}
 use Rattle.cache_chronicle.specs.declared.chronicle.Chronicle.{Ghosts as ChronicleGhosts}
 use Rattle.cache_model.specs.declared.cause.Cause.{Cause}
 use Rattle.cache_model.specs.declared.cause.Cause.TheVariants as cause
-use Rattle.cache_model.specs.declared.record.Rec.{Rec}
-use Rattle.cache_model.specs.declared.record.Rec.TheVariants as rec
 use Rattle.cache_model.specs.State.{State}
 use Rattle.stripe_core.specs.declared.stripe.Stripe.{Stripe}
 use Rattle.stripe_core.specs.Stripe.{seen_in, state_in}
@@ -17,15 +15,6 @@ use Rattle.stripe_core.specs.Stripe.{seen_in, state_in}
 abbrev pub is_damage : Cause → Bool
 is_damage (cause.Damaged place kept found) = true
 is_damage _ = false
-
--- the record tells a piece as damaged
-abbrev pub tells_damage : Rec → Bool
-tells_damage (rec.Damaged piece place kept found) = true
-tells_damage _ = false
-
--- none of these records does
-abbrev pub TellNoDamage : List Rec → Type 0
-TellNoDamage recs = AllByRecursion (λ r. tells_damage r ≡ false) recs
 
 -- a piece was told as damaged
 abbrev pub has_damage : State → Bool

@@ -10,6 +10,7 @@ ghost use Rattle.stripe_actors.specs.Calls.{HasNumber, KeepUpWith, StayInStep};
 ghost use Rattle.stripe_core.specs.Acts.{AnswersLookup, CommitsAsAsked, GivesUpAsAsked, IsCommitting, IsFollowable, IsGivable, IsGivingUp, IsRefusedPut, OpensAsAsked, RefusesAsAsked, RemovesAsAsked, committed_record, opened_record};
 
 use crate::flushing::LIMIT;
+use crate::pieces::records_of;
 use crate::refusal::Refusal;
 use crate::{Stripe, records};
 use alternate_vector::Fields;
@@ -224,7 +225,9 @@ impl<D: Disk, R: Directory + Drop, C: Chronicle> Stripe<D, R, C> {
     {
         let kept_request = request.copy()?;
         let kept_response = response.copy()?;
-        self.pieces.chronicle.reserve(self.units as usize * 3 + 1)?;
+        // Its record stands beside those of the calls that memory is made for.
+        let most = records_of(self.pieces.cyclone.geometry(), self.units);
+        self.pieces.chronicle.reserve(most + 1)?;
         match self.actors.open_put(key, request, response) {
             Ok(put) => {
                 records::write_opened(

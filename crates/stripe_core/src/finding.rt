@@ -6,7 +6,7 @@ ghost use Rattle.cyclone.specs.Cyclone.{IsCyclone, IsStored, Reads, SameTape, se
 ghost use Rattle.cache_model.specs.Kept.{with_records};
 ghost use Rattle.ats_disk.specs.Device.{IsTold};
 ghost use Rattle.stripe_core.specs.Covers.{Uses};
-ghost use Rattle.stripe_core.specs.Unharmed.{TellNoDamage};
+ghost use Rattle.stripe_core.specs.Damages.{TellNoDamage};
 ghost use Rattle.stripe_core.specs.Find.{Finds, IsJudged, IsRecorded, find_adds, judged_records};
 
 use crate::refusal::Found;
@@ -125,7 +125,7 @@ impl<D: Disk, R: Directory + Drop, C: Chronicle> Pieces<D, R, C> {
 }
 
 // Reads blocks to the front of the bytes.
-fn load<D: Disk, R: Directory + Drop>(
+pub(crate) fn load<D: Disk, R: Directory + Drop>(
     cyclone: &mut Cyclone<D, R>,
     place: u64,
     blocks: u32,

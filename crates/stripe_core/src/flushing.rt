@@ -1,20 +1,24 @@
 // How the buffer is written out, and room made for a piece.
-ghost use Rattle.std.specs.Prelude.{◌≡◌, ◌+◌, ◌≤◌, true, false, IfOk, IfErr, OnOk, OnErr};
+ghost use Rattle.std.specs.Prelude.{◌≡◌, ◌+◌, ◌*◌, ◌≤◌, true, false, IfOk, IfErr, OnOk, OnErr};
 ghost use Rattle.tape_base.specs.Blocks.{blocks_of};
 ghost use Rattle.tape_base.specs.Geometry.{budget_of};
 ghost use Rattle.cache_model.specs.State.{floor_now};
-ghost use Rattle.cache_model.specs.Kept.{with_records};
 ghost use Rattle.cache_model.specs.Legal.{IsQuiet};
 ghost use Rattle.cache_model.specs.Room.{has_room};
+ghost use Rattle.stripe_actors.specs.Actors.{AreActors};
+ghost use Rattle.stripe_due.specs.Finding.{most_passed};
+ghost use Rattle.stripe_core.specs.Ahead.{IsMadeFor};
 ghost use Rattle.stripe_core.specs.Covers.{Uses};
-ghost use Rattle.stripe_core.specs.Flush.{DoesAsAsked, StopsWith, Tells, flush_adds};
-ghost use Rattle.stripe_core.specs.Place.{MakesRoomAsAsked, room_adds};
+ghost use Rattle.stripe_core.specs.Flush.{FlushesAsAsked, StopsWith, Tells};
+ghost use Rattle.stripe_core.specs.Place.{RoomsAsAsked};
 
+use crate::ahead::Ahead;
 use crate::refusal::{Flushed, Stop};
 use crate::{Pieces, records};
 use ats_disk::Disk;
 use cache_chronicle::Chronicle;
 use dir_table::Directory;
+use stripe_actors::Actors;
 use tape_base::blocks_of;
 
 // Places stay below this.
@@ -23,22 +27,28 @@ pub const LIMIT: u64 = 1 << 62;
 impl<D: Disk, R: Directory + Drop, C: Chronicle> Pieces<D, R, C> {
     ghost use Rattle.stripe_core.specs.Pieces.{ArePieces, kept_of, seen_of, state_now};
 
-    /// Writes the buffer out where it is not empty, and begins the next one.
-    pub fn flush(&mut self) -> Result<Flushed, Stop>
+    /// Writes the buffer out where it is not empty, begins the next one, and copies into it what is
+    /// due at a moment. What is due is read before the buffer is written.
+    pub fn flush(&mut self, now: u64, actors: &Actors, ahead: &mut Ahead) -> Result<Flushed, Stop>
         requires pieces { ArePieces D.Disk R.Directory C.Chronicle self.old }
         requires quiet { IsQuiet (state_now C.Chronicle self.old) }
-        requires record { 1 ≤ C.room self.old.chronicle }
+        requires plain { R.purges ≡ false }
+        requires actors { AreActors (state_now C.Chronicle self.old) actors.now }
+        requires ahead { IsMadeFor (state_now C.Chronicle self.old).geometry ahead.old }
+        requires records { 2 * most_passed (state_now C.Chronicle self.old).geometry + 1 ≤ C.room self.old.chronicle }
+        requires entries { budget_of (state_now C.Chronicle self.old).geometry ≤ (seen_of D.Disk R.Directory self.old).spare }
         requires calls { 1 ≤ (seen_of D.Disk R.Directory self.old).device.calls }
         requires blocks { (seen_of D.Disk R.Directory self.old).geometry.agg ≤ (seen_of D.Disk R.Directory self.old).device.blocks }
         ensures pieces { ArePieces D.Disk R.Directory C.Chronicle self.new }
-        ensures adds { kept_of C.Chronicle self.new
-            ≡ with_records (kept_of C.Chronicle self.old) (flush_adds (state_now C.Chronicle self.old) result) }
-        ensures does { DoesAsAsked (state_now C.Chronicle self.old) (seen_of D.Disk R.Directory self.old).device.faults
-            (seen_of D.Disk R.Directory self.new).device.faults result }
+        ensures does { FlushesAsAsked now (kept_of C.Chronicle self.old) (kept_of C.Chronicle self.new) (seen_of D.Disk R.Directory self.old).device.faults
+            (seen_of D.Disk R.Directory self.new).device result }
         ensures tells { IfOk result (Tells (state_now C.Chronicle self.old) (state_now C.Chronicle self.new)) }
         ensures stops { IfErr result (StopsWith (state_now C.Chronicle self.old) (seen_of D.Disk R.Directory self.new).device.faults) }
-        ensures uses { Uses 1 0 1 (seen_of D.Disk R.Directory self.old).geometry.agg (C.room self.old.chronicle) (C.room self.new.chronicle)
-            (seen_of D.Disk R.Directory self.old) (seen_of D.Disk R.Directory self.new) }
+        ensures ahead { IsMadeFor (state_now C.Chronicle self.old).geometry ahead.new }
+        ensures uses { let g = (seen_of D.Disk R.Directory self.old).geometry in Uses (2 * most_passed g + 1) (budget_of g) 1 g.agg
+            (C.room self.old.chronicle) (C.room self.new.chronicle) (seen_of D.Disk R.Directory self.old) (seen_of D.Disk R.Directory self.new) }
+        // Half of the buffer at least is free then.
+        ensures room { OnOk result ((state_now C.Chronicle self.new).filled ≤ budget_of (state_now C.Chronicle self.new).geometry) }
         // An empty buffer asks no device.
         ensures still { (state_now C.Chronicle self.old).filled ≡ 0
             → (seen_of D.Disk R.Directory self.new).device ≡ (seen_of D.Disk R.Directory self.old).device }
@@ -51,16 +61,13 @@ impl<D: Disk, R: Directory + Drop, C: Chronicle> Pieces<D, R, C> {
         if next >= LIMIT {
             return Err(Stop::Exhausted { number: next });
         }
-        match self.cyclone.flush() {
+        self.look_ahead(now, actors, ahead);
+        match self.cyclone.write_out() {
             Ok(()) => {
-                records::began(&mut self.chronicle, next, self.cyclone.floor());
+                self.go_on(next, ahead);
                 Ok(self.flushed(blocks))
             }
-            Err(_) => {
-                let count = self.cyclone.disk().faults();
-                records::fault(&mut self.chronicle, count);
-                Err(Stop::DeviceFault { count })
-            }
+            Err(_) => Err(self.stop(ahead)),
         }
     }
 
@@ -78,31 +85,40 @@ impl<D: Disk, R: Directory + Drop, C: Chronicle> Pieces<D, R, C> {
     }
 
     /// Flushes where a piece with so many bytes of payload has no room.
-    pub fn make_room(&mut self, bytes: u32) -> Result<(), Stop>
+    pub fn make_room(
+        &mut self,
+        bytes: u32,
+        now: u64,
+        actors: &Actors,
+        ahead: &mut Ahead,
+    ) -> Result<(), Stop>
         requires pieces { ArePieces D.Disk R.Directory C.Chronicle self.old }
         requires quiet { IsQuiet (state_now C.Chronicle self.old) }
+        requires plain { R.purges ≡ false }
+        requires actors { AreActors (state_now C.Chronicle self.old) actors.now }
+        requires ahead { IsMadeFor (state_now C.Chronicle self.old).geometry ahead.old }
         requires small { blocks_of bytes ≤ budget_of (state_now C.Chronicle self.old).geometry }
         requires size { bytes ≤ 2147483648 }
-        requires record { 1 ≤ C.room self.old.chronicle }
+        requires records { 2 * most_passed (state_now C.Chronicle self.old).geometry + 1 ≤ C.room self.old.chronicle }
+        requires entries { budget_of (state_now C.Chronicle self.old).geometry ≤ (seen_of D.Disk R.Directory self.old).spare }
         requires calls { 1 ≤ (seen_of D.Disk R.Directory self.old).device.calls }
         requires blocks { (seen_of D.Disk R.Directory self.old).geometry.agg ≤ (seen_of D.Disk R.Directory self.old).device.blocks }
         ensures pieces { ArePieces D.Disk R.Directory C.Chronicle self.new }
-        ensures adds { kept_of C.Chronicle self.new
-            ≡ with_records (kept_of C.Chronicle self.old) (room_adds (state_now C.Chronicle self.old) bytes result) }
+        ensures does { RoomsAsAsked now (kept_of C.Chronicle self.old) (kept_of C.Chronicle self.new) (seen_of D.Disk R.Directory self.old).device.faults
+            (seen_of D.Disk R.Directory self.new).device bytes result }
         ensures room { OnOk result (has_room (state_now C.Chronicle self.new) bytes ≡ true) }
         ensures full { OnErr result (has_room (state_now C.Chronicle self.old) bytes ≡ false) }
-        ensures does { MakesRoomAsAsked (state_now C.Chronicle self.old) bytes (seen_of D.Disk R.Directory self.old).device.faults
-            (seen_of D.Disk R.Directory self.new).device.faults result }
         ensures stops { IfErr result (StopsWith (state_now C.Chronicle self.old) (seen_of D.Disk R.Directory self.new).device.faults) }
+        ensures ahead { IsMadeFor (state_now C.Chronicle self.old).geometry ahead.new }
         ensures still { has_room (state_now C.Chronicle self.old) bytes ≡ true
             → (seen_of D.Disk R.Directory self.new).device ≡ (seen_of D.Disk R.Directory self.old).device }
-        ensures uses { Uses 1 0 1 (seen_of D.Disk R.Directory self.old).geometry.agg (C.room self.old.chronicle) (C.room self.new.chronicle)
-            (seen_of D.Disk R.Directory self.old) (seen_of D.Disk R.Directory self.new) }
+        ensures uses { let g = (seen_of D.Disk R.Directory self.old).geometry in Uses (2 * most_passed g + 1) (budget_of g) 1 g.agg
+            (C.room self.old.chronicle) (C.room self.new.chronicle) (seen_of D.Disk R.Directory self.old) (seen_of D.Disk R.Directory self.new) }
     {
         if blocks_of(bytes) <= self.cyclone.room() {
             return Ok(());
         }
-        match self.flush() {
+        match self.flush(now, actors, ahead) {
             Ok(_) => Ok(()),
             Err(why) => Err(why),
         }

@@ -1,10 +1,15 @@
 // Laws of what a cyclone holds and what the records say of it. These functions do nothing when they
 // run.
-ghost use Rattle.stripe_core.specs.Records.{PlacedIsHeld, BegunIsHeld, TakenIsHeld, PassedIsHeld, AlikeIsHeld, DeviceMayChange, FreshIsHeld, RoomMayGrow};
+ghost use Rattle.stripe_core.specs.Records.{PlacedIsHeld, MovedIsHeld, BegunIsHeld, TakenIsHeld, PassedIsHeld, AlikeIsHeld, DeviceMayChange, FreshIsHeld, RoomMayGrow};
 
 /// A piece that is put and recorded as placed is held.
 pub fn placed_is_held()
     ensures { PlacedIsHeld }
+{}
+
+/// A piece that is copied into the buffer and recorded as moved is held.
+pub fn moved_is_held()
+    ensures { MovedIsHeld }
 {}
 
 /// Where the next buffer begins and is recorded, what may still be read is held.

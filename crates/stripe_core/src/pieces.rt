@@ -1,9 +1,10 @@
 // The pieces of a stripe: on the cyclone, and in the records.
-ghost use Rattle.std.specs.Prelude.{◌≡◌, ◌*◌, ◌≤◌, [], IfOk, IfErr, OnOk, OnErr};
+ghost use Rattle.std.specs.Prelude.{◌≡◌, ◌*◌, ◌<◌, ◌≤◌, ◌^◌, [], IfOk, IfErr, OnOk, OnErr};
 ghost use Rattle.cache_model.specs.Kept.{all_of};
 ghost use Rattle.cache_model.specs.Legal.{format_records};
 ghost use Rattle.cyclone.specs.Cyclone.{IsCyclone, SameButRoom, seen};
 ghost use Rattle.ats_disk.specs.Device.{Grows};
+ghost use Rattle.stripe_core.specs.Units.{entries_of_unit, records_of_unit};
 ghost use Rattle.stripe_core.specs.This.{is_this};
 
 use crate::records;
@@ -14,8 +15,12 @@ use dir_table::Directory;
 use std::alloc::{AllocError, Global};
 use tape_base::{Geometry, Key, PieceId, Steps};
 
-// A piece that is placed adds the record of its cut, of its place, and of the flush before it.
-const RECORDS: usize = 3;
+// The records of a flush for each block of the buffer: the floor moves by two buffers at most, and of a
+// piece there are two records at most.
+const PER_BLOCK: usize = 4;
+
+// The records of the next buffer, of a cut, of a place, and one more.
+const RECORDS: usize = 4;
 
 /// The pieces on a device, and the chronicle that tells of them.
 #[derive(Drop)]
@@ -63,22 +68,24 @@ impl<D: Disk, R: Directory + Drop, C: Chronicle> Pieces<D, R, C> {
         Pieces { cyclone, chronicle }
     }
 
-    /// Makes room for so many calls, each with its piece and records, and on the device for so many
+    /// Makes room for so many calls, each with its pieces and records, and on the device for so many
     /// more flushes.
     pub fn prepare(&mut self, units: u32, flushes: u32) -> Result<(), AllocError>
         requires { ArePieces D.Disk R.Directory C.Chronicle self.old }
         ensures pieces { ArePieces D.Disk R.Directory C.Chronicle self.new }
         ensures records { kept_of C.Chronicle self.new ≡ kept_of C.Chronicle self.old }
         ensures same { SameButRoom (seen_of D.Disk R.Directory self.old) (seen_of D.Disk R.Directory self.new) }
-        ensures record { OnOk result (3 * units ≤ C.room self.new.chronicle) }
+        ensures record { OnOk result (records_of_unit (seen_of D.Disk R.Directory self.old).geometry * units ≤ C.room self.new.chronicle) }
         ensures room { C.room self.old.chronicle ≤ C.room self.new.chronicle }
-        ensures spare { OnOk result (units ≤ (seen_of D.Disk R.Directory self.new).spare) }
+        ensures spare { OnOk result (entries_of_unit (seen_of D.Disk R.Directory self.old).geometry * units ≤ (seen_of D.Disk R.Directory self.new).spare) }
         ensures device { let old = (seen_of D.Disk R.Directory self.old).device in
             OnOk result (Grows flushes (flushes * (seen_of D.Disk R.Directory self.old).geometry.agg) old (seen_of D.Disk R.Directory self.new).device) }
         ensures none { OnErr result (Grows 0 0 (seen_of D.Disk R.Directory self.old).device (seen_of D.Disk R.Directory self.new).device) }
     {
-        self.chronicle.reserve(units as usize * RECORDS)?;
-        self.cyclone.prepare(units, flushes)
+        let g = self.cyclone.geometry();
+        let entries = (g.agg as usize / 2 + 1) * units as usize;
+        self.chronicle.reserve(records_of(g, units))?;
+        self.cyclone.prepare(entries, flushes)
     }
 
     /// Gives the device and the chronicle back.
@@ -112,6 +119,14 @@ impl<D: Disk, R: Directory + Drop, C: Chronicle> Pieces<D, R, C> {
         }
         None
     }
+}
+
+/// How many records so many calls add at most.
+pub(crate) fn records_of(g: &Geometry, units: u32) -> usize
+    ensures count { result ≡ records_of_unit g.now * units }
+    ensures few { result < 2 ^ 48 }
+{
+    (PER_BLOCK * g.agg as usize + RECORDS) * units as usize
 }
 
 fn is_this(found: Option<PieceId>, id: PieceId) -> bool

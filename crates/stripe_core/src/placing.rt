@@ -1,12 +1,17 @@
 // How a piece is placed behind those of the buffer.
-ghost use Rattle.std.specs.Prelude.{◌≡◌, ◌+◌, ◌≤◌, ◌^◌, true, false, length};
+ghost use Rattle.std.specs.Prelude.{◌≡◌, ◌+◌, ◌*◌, ◌≤◌, ◌^◌, true, false, length};
 ghost use Rattle.tape_base.specs.Digest.{digest_of};
+ghost use Rattle.tape_base.specs.Geometry.{budget_of};
 ghost use Rattle.cache_model.specs.Kept.{with_records};
 ghost use Rattle.cache_model.specs.Legal.{IsQuiet};
 ghost use Rattle.cache_model.specs.Room.{doc_at, has_room};
+ghost use Rattle.stripe_actors.specs.Actors.{AreActors};
+ghost use Rattle.stripe_due.specs.Finding.{most_passed};
 ghost use Rattle.stripe_core.specs.Covers.{Uses};
-ghost use Rattle.stripe_core.specs.Place.{CutsAsAsked, FragmentAt, IsFragmentOf, IsNew, PlacesAt, fragment_adds, piece_records, place_adds};
+ghost use Rattle.stripe_core.specs.Ahead.{IsMadeFor};
+ghost use Rattle.stripe_core.specs.Place.{CutsAsAsked, IsFragmentOf, IsNew, PlacesAt, piece_records, place_adds};
 
+use crate::ahead::Ahead;
 use crate::flushing::LIMIT;
 use crate::refusal::{Placed, Stop};
 use crate::{Pieces, records};
@@ -14,6 +19,7 @@ use ats_disk::Disk;
 use cache_chronicle::Chronicle;
 use dir_table::Directory;
 use doc_header::Doc;
+use stripe_actors::Actors;
 use tape_base::{Digest, PieceId, blocks_of};
 
 impl<D: Disk, R: Directory + Drop, C: Chronicle> Pieces<D, R, C> {
@@ -26,28 +32,31 @@ impl<D: Disk, R: Directory + Drop, C: Chronicle> Pieces<D, R, C> {
         pin: u64,
         start: u64,
         payload: &[u8],
+        now: u64,
+        actors: &Actors,
+        ahead: &mut Ahead,
     ) -> Result<Placed, Stop>
         requires pieces { ArePieces D.Disk R.Directory C.Chronicle self.old }
         requires plain { R.purges ≡ false }
+        requires actors { AreActors (state_now C.Chronicle self.old) actors.now }
+        requires ahead { IsMadeFor (state_now C.Chronicle self.old).geometry ahead.old }
         requires new { IsNew (state_now C.Chronicle self.old) id payload.now }
         requires size { length payload.now ≤ 2 ^ 31 }
         requires fragment { IsFragmentOf (state_now C.Chronicle self.old) id pin start payload.now }
-        requires records { 3 ≤ C.room self.old.chronicle }
-        requires entry { 1 ≤ (seen_of D.Disk R.Directory self.old).spare }
+        requires records { 2 * most_passed (state_now C.Chronicle self.old).geometry + 3 ≤ C.room self.old.chronicle }
+        requires entries { budget_of (state_now C.Chronicle self.old).geometry + 1 ≤ (seen_of D.Disk R.Directory self.old).spare }
         requires calls { 1 ≤ (seen_of D.Disk R.Directory self.old).device.calls }
         requires blocks { (seen_of D.Disk R.Directory self.old).geometry.agg ≤ (seen_of D.Disk R.Directory self.old).device.blocks }
         ensures pieces { ArePieces D.Disk R.Directory C.Chronicle self.new }
-        ensures adds { kept_of C.Chronicle self.new
-            ≡ with_records (kept_of C.Chronicle self.old) (fragment_adds (state_now C.Chronicle self.old) id pin start payload.now result) }
-        ensures does { CutsAsAsked (state_now C.Chronicle self.old) (seen_of D.Disk R.Directory self.old).device.faults
-            (seen_of D.Disk R.Directory self.new).device.faults id pin start payload.now result }
-        ensures at { FragmentAt (state_now C.Chronicle self.old) (seen_of D.Disk R.Directory self.new).device.faults payload.now result }
+        ensures does { CutsAsAsked now (kept_of C.Chronicle self.old) (kept_of C.Chronicle self.new) (seen_of D.Disk R.Directory self.old).device.faults
+            (seen_of D.Disk R.Directory self.new).device id pin start payload.now result }
+        ensures ahead { IsMadeFor (state_now C.Chronicle self.old).geometry ahead.new }
         ensures still { has_room (state_now C.Chronicle self.old) (length payload.now) ≡ true
             → (seen_of D.Disk R.Directory self.new).device ≡ (seen_of D.Disk R.Directory self.old).device }
-        ensures uses { Uses 3 1 1 (seen_of D.Disk R.Directory self.old).geometry.agg (C.room self.old.chronicle) (C.room self.new.chronicle)
-            (seen_of D.Disk R.Directory self.old) (seen_of D.Disk R.Directory self.new) }
+        ensures uses { let g = (seen_of D.Disk R.Directory self.old).geometry in Uses (2 * most_passed g + 3) (budget_of g + 1) 1 g.agg
+            (C.room self.old.chronicle) (C.room self.new.chronicle) (seen_of D.Disk R.Directory self.old) (seen_of D.Disk R.Directory self.new) }
     {
-        match self.make_room(payload.len() as u32) {
+        match self.make_room(payload.len() as u32, now, actors, ahead) {
             Ok(()) => self.place(id, pin, start, payload),
             Err(why) => Err(why),
         }

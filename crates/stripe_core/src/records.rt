@@ -4,7 +4,7 @@ ghost use Rattle.std.specs.Prelude.{◌≡◌, ◌+◌, ◌≤◌, ◌^◌, [], 
 ghost use Rattle.tape_base.specs.Blocks.{blocks_of};
 ghost use Rattle.cache_model.specs.Kept.{with_record, with_records};
 ghost use Rattle.cache_model.specs.Legal.{answer_record, format_records};
-ghost use Rattle.cache_model.specs.declared.record.Rec.TheVariants.{Aborted, Began, Committed, Damaged, Fault, Placed, ReadClosed, ReadOpened, Removed, WriteOpened};
+ghost use Rattle.cache_model.specs.declared.record.Rec.TheVariants.{Aborted, Began, Committed, Damaged, Fault, Moved, Placed, ReadClosed, ReadOpened, Removed, Unsaved, WriteOpened};
 ghost use Rattle.stripe_core.specs.Place.{cut_record_of};
 
 use alternate_vector::Fields;
@@ -99,6 +99,33 @@ pub fn damaged<C: Chronicle>(
         place,
         kept,
         found,
+    });
+}
+
+/// A piece that was to be copied ahead was not: it does not fit, or the device refused to give it.
+pub fn unsaved<C: Chronicle>(chronicle: &mut C, piece: PieceId, place: u64, fault: bool)
+    requires { 1 ≤ C.room chronicle.old }
+    ensures kept { C.kept chronicle.new ≡ with_records (C.kept chronicle.old) (Unsaved piece place fault ∷ []) }
+    ensures room { C.room chronicle.old ≤ C.room chronicle.new + 1 }
+{
+    chronicle.push(Rec::Unsaved {
+        piece,
+        place,
+        fault,
+    });
+}
+
+/// A piece was copied ahead.
+pub fn moved<C: Chronicle>(chronicle: &mut C, piece: PieceId, from: u64, place: u64, digest: Digest)
+    requires { 1 ≤ C.room chronicle.old }
+    ensures kept { C.kept chronicle.new ≡ with_records (C.kept chronicle.old) (Moved piece from place digest ∷ []) }
+    ensures room { C.room chronicle.old ≤ C.room chronicle.new + 1 }
+{
+    chronicle.push(Rec::Moved {
+        piece,
+        from,
+        place,
+        digest,
     });
 }
 

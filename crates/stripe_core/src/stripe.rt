@@ -7,15 +7,16 @@ ghost use Rattle.cache_model.specs.State.{floor_now};
 ghost use Rattle.cache_model.specs.Kept.{all_of, with_records};
 ghost use Rattle.cache_model.specs.Legal.{IsQuiet, format_records};
 ghost use Rattle.cache_model.specs.Room.{has_room};
-ghost use Rattle.stripe_core.specs.Flush.{DoesAsAsked, StopsWith, Tells, flush_adds};
+ghost use Rattle.stripe_core.specs.Flush.{FlushesAsAsked, StopsWith, Tells};
 ghost use Rattle.cache_model.specs.Legal.{is_writing};
 ghost use Rattle.cache_model.specs.Verdict.{cuts_of};
 ghost use Rattle.stripe_actors.specs.Actors.{reader_room_of};
 ghost use Rattle.stripe_actors.specs.Calls.{with_room_of_readers};
 ghost use Rattle.stripe_core.specs.Find.{Finds, find_adds};
-ghost use Rattle.stripe_core.specs.Place.{CutsAsAsked, FinishesAsAsked, FragmentAt, IsFragmentOf, IsPlacedAt, IsPlacing, IsVectorFor, MakesRoomAsAsked, PlacesAsAsked, PlacesAt, fragment_adds, place_adds, placing_adds, room_adds};
+ghost use Rattle.stripe_core.specs.Place.{CutsAsAsked, IsFragmentOf, IsPlacing, IsVectorFor, PlacesAsAsked, PlacesVector, RoomsAsAsked};
 
 use crate::Pieces;
+use crate::ahead::Ahead;
 use crate::refusal::{Flushed, Found, Placed, Refusal};
 use ats_disk::Disk;
 use cache_chronicle::Chronicle;
@@ -31,6 +32,7 @@ pub struct Stripe<D: Disk, R: Directory + Drop, C: Chronicle> {
     alloc: Global,
     pub(crate) pieces: Pieces<D, R, C>,
     pub(crate) actors: Actors,
+    ahead: Ahead,
     pub(crate) units: u32,
     pub(crate) flushes: u32,
 }
@@ -56,11 +58,16 @@ impl<D: Disk, R: Directory + Drop, C: Chronicle> Stripe<D, R, C> {
         ensures alloc { IfOk result (λ t. alloc_in t ≡ alloc) }
         ensures back { IfErr result (λ r. (r.1 ≡ disk) × (C.kept r.2 ≡ all_of [])) }
     {
+        let ahead = match Ahead::new(alloc, &g) {
+            Ok(ahead) => ahead,
+            Err(e) => return Err((Refusal::Memory(e), disk, chronicle)),
+        };
         match Pieces::format(alloc, disk, chronicle, g) {
             Ok(pieces) => Ok(Stripe {
                 alloc,
                 pieces,
                 actors: Actors::new(alloc),
+                ahead,
                 units: 0,
                 flushes: 0,
             }),
@@ -141,18 +148,19 @@ impl<D: Disk, R: Directory + Drop, C: Chronicle> Stripe<D, R, C> {
         self.pieces.whereabouts(id)
     }
 
-    /// Writes the buffer out where it is not empty, and begins the next one.
-    pub fn flush(&mut self) -> Result<Flushed, Refusal>
+    /// Writes the buffer out where it is not empty, begins the next one, and copies into it, within half
+    /// a buffer, what the next floor passes of pieces that are pinned past `now` or that an open reader
+    /// has still to be given.
+    pub fn flush(&mut self, now: u64) -> Result<Flushed, Refusal>
         requires stripe { IsStripe D.Disk R.Directory C.Chronicle self.old }
         requires quiet { IsQuiet (state_in C.Chronicle self.old) }
         ensures stripe { IsStripe D.Disk R.Directory C.Chronicle self.new }
         ensures unharmed { StaysUnharmed D.Disk R.Directory C.Chronicle self.old self.new }
-        ensures adds { Answers result (λ r. kept_in C.Chronicle self.new
-            ≡ with_records (kept_in C.Chronicle self.old) (flush_adds (state_in C.Chronicle self.old) r)) (kept_in C.Chronicle self.new ≡ kept_in C.Chronicle self.old) }
-        ensures does { Answers result (DoesAsAsked (state_in C.Chronicle self.old) (seen_in D.Disk R.Directory self.old).device.faults
-            (seen_in D.Disk R.Directory self.new).device.faults) (Unit {0}) }
+        ensures does { Answers result (FlushesAsAsked now (kept_in C.Chronicle self.old) (kept_in C.Chronicle self.new)
+            (seen_in D.Disk R.Directory self.old).device.faults (seen_in D.Disk R.Directory self.new).device) (kept_in C.Chronicle self.new ≡ kept_in C.Chronicle self.old) }
         ensures row { (put : ℕ) → room_for put self.new.actors ≡ room_for put self.old.actors }
         ensures tells { IfOk result (Tells (state_in C.Chronicle self.old) (state_in C.Chronicle self.new)) }
+        ensures room { OnOk result ((state_in C.Chronicle self.new).filled ≤ budget_of (state_in C.Chronicle self.new).geometry) }
         ensures stops { Answers result (λ r. IfErr r (StopsWith (state_in C.Chronicle self.old) (seen_in D.Disk R.Directory self.new).device.faults)) (Unit {0}) }
         ensures later { (seen_in D.Disk R.Directory self.old).device.faults ≤ (seen_in D.Disk R.Directory self.new).device.faults }
         ensures memory { 0 < units_in self.old → HasMemory result }
@@ -162,24 +170,23 @@ impl<D: Disk, R: Directory + Drop, C: Chronicle> Stripe<D, R, C> {
         let cyclone = &self.pieces.cyclone;
         let writes = cyclone.next_place() > cyclone.cursor();
         self.flushes -= one_where(writes);
-        match self.pieces.flush() {
+        match self.pieces.flush(now, &self.actors, &mut self.ahead) {
             Ok(flushed) => Ok(flushed),
             Err(stop) => Err(Refusal::from(stop)),
         }
     }
 
     /// Flushes where a piece with so many bytes of payload has no room.
-    pub fn make_room(&mut self, bytes: u32) -> Result<(), Refusal>
+    pub fn make_room(&mut self, bytes: u32, now: u64) -> Result<(), Refusal>
         requires stripe { IsStripe D.Disk R.Directory C.Chronicle self.old }
         requires quiet { IsQuiet (state_in C.Chronicle self.old) }
         requires small { blocks_of bytes ≤ budget_of (state_in C.Chronicle self.old).geometry }
         ensures stripe { IsStripe D.Disk R.Directory C.Chronicle self.new }
         ensures unharmed { StaysUnharmed D.Disk R.Directory C.Chronicle self.old self.new }
-        ensures adds { Answers result (λ r. kept_in C.Chronicle self.new
-            ≡ with_records (kept_in C.Chronicle self.old) (room_adds (state_in C.Chronicle self.old) bytes r)) (kept_in C.Chronicle self.new ≡ kept_in C.Chronicle self.old) }
+        ensures does { Answers result (RoomsAsAsked now (kept_in C.Chronicle self.old) (kept_in C.Chronicle self.new)
+            (seen_in D.Disk R.Directory self.old).device.faults (seen_in D.Disk R.Directory self.new).device bytes) (kept_in C.Chronicle self.new ≡ kept_in C.Chronicle self.old) }
+        ensures room { OnOk result (has_room (state_in C.Chronicle self.new) bytes ≡ true) }
         ensures full { OnErr result (has_room (state_in C.Chronicle self.old) bytes ≡ false) }
-        ensures does { Answers result (MakesRoomAsAsked (state_in C.Chronicle self.old) bytes (seen_in D.Disk R.Directory self.old).device.faults
-            (seen_in D.Disk R.Directory self.new).device.faults) (Unit {0}) }
         ensures stops { Answers result (λ r. IfErr r (StopsWith (state_in C.Chronicle self.old) (seen_in D.Disk R.Directory self.new).device.faults)) (Unit {0}) }
         ensures later { (seen_in D.Disk R.Directory self.old).device.faults ≤ (seen_in D.Disk R.Directory self.new).device.faults }
         ensures row { (put : ℕ) → room_for put self.new.actors ≡ room_for put self.old.actors }
@@ -189,7 +196,7 @@ impl<D: Disk, R: Directory + Drop, C: Chronicle> Stripe<D, R, C> {
         if blocks_of(bytes) <= self.room() {
             return Ok(());
         }
-        match self.flush() {
+        match self.flush(now) {
             Ok(_) => Ok(()),
             Err(why) => Err(why),
         }
@@ -250,24 +257,21 @@ impl<D: Disk, R: Directory + Drop, C: Chronicle> Stripe<D, R, C> {
     }
 
     /// Places a piece: the next fragment of an open put, behind a flush where it has no room, or a
-    /// put's vector, for which there is room.
+    /// put's vector, for which there is room. Such a flush copies what is due at `now`.
     pub fn place_piece(
         &mut self,
         id: PieceId,
         pin: u64,
         start: u64,
         payload: &[u8],
+        now: u64,
     ) -> Result<Placed, Refusal>
         requires stripe { IsStripe D.Disk R.Directory C.Chronicle self.old }
         requires placing { IsPlacing (state_in C.Chronicle self.old) id pin start payload.now }
         ensures stripe { IsStripe D.Disk R.Directory C.Chronicle self.new }
         ensures unharmed { StaysUnharmed D.Disk R.Directory C.Chronicle self.old self.new }
-        ensures adds { Answers result (λ r. kept_in C.Chronicle self.new
-            ≡ with_records (kept_in C.Chronicle self.old) (placing_adds (state_in C.Chronicle self.old) id pin start payload.now r))
-            (kept_in C.Chronicle self.new ≡ kept_in C.Chronicle self.old) }
-        ensures does { Answers result (PlacesAsAsked (state_in C.Chronicle self.old) (seen_in D.Disk R.Directory self.old).device.faults
-            (seen_in D.Disk R.Directory self.new).device.faults id pin start payload.now) (Unit {0}) }
-        ensures at { Answers result (IsPlacedAt (state_in C.Chronicle self.old) (seen_in D.Disk R.Directory self.new).device.faults id payload.now) (Unit {0}) }
+        ensures does { Answers result (PlacesAsAsked now (kept_in C.Chronicle self.old) (kept_in C.Chronicle self.new) (seen_in D.Disk R.Directory self.old).device.faults
+            (seen_in D.Disk R.Directory self.new).device id pin start payload.now) (kept_in C.Chronicle self.new ≡ kept_in C.Chronicle self.old) }
         // Without a flush the device stays as it is, but for the memory of its calls.
         ensures still { has_room (state_in C.Chronicle self.old) (length payload.now) ≡ true
             → IsStill (seen_in D.Disk R.Directory self.old).device (seen_in D.Disk R.Directory self.new).device }
@@ -280,7 +284,7 @@ impl<D: Disk, R: Directory + Drop, C: Chronicle> Stripe<D, R, C> {
         if id.index == 0 {
             self.place_vector(id, pin, start, payload)
         } else {
-            self.place_fragment(id, pin, start, payload)
+            self.place_fragment(id, pin, start, payload, now)
         }
     }
 
@@ -297,11 +301,8 @@ impl<D: Disk, R: Directory + Drop, C: Chronicle> Stripe<D, R, C> {
         requires vector { IsVectorFor (state_in C.Chronicle self.old) id start payload.now }
         ensures stripe { IsStripe D.Disk R.Directory C.Chronicle self.new }
         ensures unharmed { StaysUnharmed D.Disk R.Directory C.Chronicle self.old self.new }
-        ensures adds { Answers result (λ r. kept_in C.Chronicle self.new
-            ≡ with_records (kept_in C.Chronicle self.old) (place_adds (state_in C.Chronicle self.old) id pin start payload.now r)) ⊥ }
-        ensures does { Answers result (FinishesAsAsked (state_in C.Chronicle self.old) (seen_in D.Disk R.Directory self.old).device.faults
-            (seen_in D.Disk R.Directory self.new).device.faults id pin start payload.now (length (cuts_of (state_in C.Chronicle self.old) id.put))) ⊥ }
-        ensures at { Answers result (PlacesAt (state_in C.Chronicle self.old) payload.now) ⊥ }
+        ensures does { Answers result (PlacesVector (kept_in C.Chronicle self.old) (kept_in C.Chronicle self.new) (seen_in D.Disk R.Directory self.old).device.faults
+            (seen_in D.Disk R.Directory self.new).device.faults id pin start payload.now) ⊥ }
         ensures still { (seen_in D.Disk R.Directory self.new).device ≡ (seen_in D.Disk R.Directory self.old).device }
         ensures unit { units_in self.new ≡ units_in self.old }
     {
@@ -317,18 +318,15 @@ impl<D: Disk, R: Directory + Drop, C: Chronicle> Stripe<D, R, C> {
         pin: u64,
         start: u64,
         payload: &[u8],
+        now: u64,
     ) -> Result<Placed, Refusal>
         requires stripe { IsStripe D.Disk R.Directory C.Chronicle self.old }
         requires spared { IsSpared (units_in self.old + 1) (flushes_in self.old) (C.room self.old.pieces.chronicle) (seen_in D.Disk R.Directory self.old) }
         requires fragment { IsFragmentOf (state_in C.Chronicle self.old) id pin start payload.now }
         ensures stripe { IsStripe D.Disk R.Directory C.Chronicle self.new }
         ensures unharmed { StaysUnharmed D.Disk R.Directory C.Chronicle self.old self.new }
-        ensures adds { Answers result (λ r. kept_in C.Chronicle self.new
-            ≡ with_records (kept_in C.Chronicle self.old) (fragment_adds (state_in C.Chronicle self.old) id pin start payload.now r))
-            (kept_in C.Chronicle self.new ≡ kept_in C.Chronicle self.old) }
-        ensures does { Answers result (CutsAsAsked (state_in C.Chronicle self.old) (seen_in D.Disk R.Directory self.old).device.faults
-            (seen_in D.Disk R.Directory self.new).device.faults id pin start payload.now) (Unit {0}) }
-        ensures at { Answers result (FragmentAt (state_in C.Chronicle self.old) (seen_in D.Disk R.Directory self.new).device.faults payload.now) (Unit {0}) }
+        ensures does { Answers result (CutsAsAsked now (kept_in C.Chronicle self.old) (kept_in C.Chronicle self.new) (seen_in D.Disk R.Directory self.old).device.faults
+            (seen_in D.Disk R.Directory self.new).device id pin start payload.now) (kept_in C.Chronicle self.new ≡ kept_in C.Chronicle self.old) }
         ensures still { has_room (state_in C.Chronicle self.old) (length payload.now) ≡ true
             → (seen_in D.Disk R.Directory self.new).device ≡ (seen_in D.Disk R.Directory self.old).device }
         ensures later { (seen_in D.Disk R.Directory self.old).device.faults ≤ (seen_in D.Disk R.Directory self.new).device.faults }
@@ -338,7 +336,8 @@ impl<D: Disk, R: Directory + Drop, C: Chronicle> Stripe<D, R, C> {
         self.actors.reserve_cut(id.put)?;
         let writes = blocks_of(payload.len() as u32) > self.pieces.cyclone.room();
         self.flushes -= one_where(writes);
-        match self.pieces.place_fragment(id, pin, start, payload) {
+        let pieces = &mut self.pieces;
+        match pieces.place_fragment(id, pin, start, payload, now, &self.actors, &mut self.ahead) {
             Ok(placed) => {
                 self.actors
                     .cut(id.put, payload.len() as u32, placed.payload);

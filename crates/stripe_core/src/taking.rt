@@ -25,6 +25,7 @@ impl<D: Disk, R: Directory + Drop, C: Chronicle> Pieces<D, R, C> {
         requires live { live_place_of (state_now C.Chronicle self.old) id ≡ Some place }
         ensures pieces { ArePieces D.Disk R.Directory C.Chronicle self.new }
         ensures adds { kept_of C.Chronicle self.new ≡ with_records (kept_of C.Chronicle self.old) (Damaged id place kept found ∷ []) }
+        ensures rest { SameButRows (seen_of D.Disk R.Directory self.old) (seen_of D.Disk R.Directory self.new) }
         ensures still { (seen_of D.Disk R.Directory self.new).device ≡ (seen_of D.Disk R.Directory self.old).device }
         ensures uses { Uses 1 0 0 0 (C.room self.old.chronicle) (C.room self.new.chronicle)
             (seen_of D.Disk R.Directory self.old) (seen_of D.Disk R.Directory self.new) }

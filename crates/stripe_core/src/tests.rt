@@ -56,7 +56,7 @@ fn a_fresh_stripe_is_empty(rt: HostRuntime) -> Result<(), Fail> {
 fn a_flush_of_an_empty_buffer_does_nothing(rt: HostRuntime) -> Result<(), Fail> {
     let mut stripe = empty(&rt)?;
     assert_eq!(rt;
-        stripe.flush(),
+        stripe.flush(0),
         Ok(Flushed {
             blocks: 0,
             cursor: 64,

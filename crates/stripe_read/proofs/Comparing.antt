@@ -12,7 +12,7 @@ use Rattle.cache_model.specs.declared.cause.Cause.TheVariants as cause
 use Rattle.cache_model.specs.declared.record.Rec.TheVariants as rec
 use Rattle.cache_model.specs.State.{Row, State, live_row_of, row_in}
 use Rattle.cache_model.specs.Permit.{Permit}
-use Rattle.cache_model.specs.Legal.{IsWritten}
+use Rattle.cache_model.specs.Given.{IsWritten}
 use Rattle.stripe_core.specs.declared.refusal.Found.{Found}
 use Rattle.stripe_core.specs.declared.refusal.Found.TheVariants as found
 use Rattle.stripe_core.specs.Find.{Finds, IsDocumentOf, IsFoundAs, find_adds, found_records}

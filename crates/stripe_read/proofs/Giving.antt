@@ -13,7 +13,8 @@ use Rattle.cache_model.specs.declared.record.Rec.{Rec}
 use Rattle.cache_model.specs.State.{ReaderRow, Row, State, live_row_of}
 use Rattle.cache_model.specs.Verdict.{cause_of_piece, next_piece, next_row, reader_verdict, verdict_at_end, verdict_of_fragment}
 use Rattle.cache_model.specs.Permit.{Done, Permit, ReadOn}
-use Rattle.cache_model.specs.Legal.{Does, DoesReadOn, IsQuiet, IsRead, IsReadWhereLive, IsReading, ReadTrouble, Trouble, answer_record, digest_in, live_next}
+use Rattle.cache_model.specs.Given.{IsRead, IsReadWhereLive, Trouble}
+use Rattle.cache_model.specs.Legal.{Does, DoesReadOn, IsQuiet, IsReading, ReadTrouble, answer_record, digest_in, live_next}
 use Rattle.cache_model.proofs.Answered.{end_gives_none}
 use Rattle.cache_model.proofs.Found.{no_truth}
 use Rattle.stripe_core.specs.declared.refusal.Found.{Found}
@@ -110,7 +111,7 @@ other_trouble : (p : Permit) (s : State) (r : Reader) (actor : ℕ) (row : Row) 
     → ReadTrouble p s (row_by actor r) row entry (cause_records row why) why
 other_trouble p s r actor row entry why x =
     let is = listed_by r.table (digest_in entry) x.kept x.listed_is in
-    let same : why ≡ Rattle.cache_model.specs.Legal.damage_cause row (digest_in entry) x.other = x.why_is ∙ ap (λ d. Rattle.cache_model.specs.Legal.damage_cause row d x.other) (sym is.1) in
+    let same : why ≡ Rattle.cache_model.specs.Given.damage_cause row (digest_in entry) x.other = x.why_is ∙ ap (λ d. Rattle.cache_model.specs.Given.damage_cause row d x.other) (sym is.1) in
     subst (λ (y : Cause). ReadTrouble p s (row_by actor r) row entry (cause_records row y) y) (sym same)
     (ReadTrouble.mismatched x.other is.0 (record {
       bytes = x.bytes;

@@ -13,7 +13,8 @@ use Rattle.cache_model.specs.State.{Complete, LastVector, PutRow, Row, State, Ta
 use Rattle.cache_model.specs.Kept.{Kept, state_of, with_records}
 use Rattle.cache_model.specs.Verdict.{cause_of_last, cause_of_miss, cause_of_piece, cause_without_vector, follow_answer, followed, hit, hit_answer, live_vector_of, lookup_verdict, no_match, vector_of_last}
 use Rattle.cache_model.specs.Permit.{Permit}
-use Rattle.cache_model.specs.Legal.{IsLookup, IsRead, IsReadWhereLive}
+use Rattle.cache_model.specs.Given.{IsRead, IsReadWhereLive}
+use Rattle.cache_model.specs.Legal.{IsLookup}
 use Rattle.stripe_actors.specs.Actors.{AreActors, Seen}
 use Rattle.stripe_actors.specs.ActorLaws.{number_in}
 use Rattle.stripe_actors.proofs.Telling.{followed_same}

@@ -28,7 +28,7 @@ all_among [] = tt
 all_among (x ∷ xs) = (inl refl, among_more x xs xs (all_among xs))
 
 abbrev pub own_permit : ℕ → ℕ → List DeviceRead → Permit
-own_permit before after reads = record { packed = false; faults_before = before; faults = after; reads = reads }
+own_permit before after reads = record { packed = false; now = 0; faults_before = before; faults = after; reads = reads }
 
 pub own_covers : (before after : ℕ) (reads : List DeviceRead) → Covers (own_permit before after reads) before after reads
 own_covers before after reads = record { plain = refl; from = omega arith; upto = omega arith; knows = all_among reads }

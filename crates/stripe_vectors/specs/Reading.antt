@@ -11,7 +11,7 @@ use Rattle.cache_model.specs.declared.record.Rec.{Rec}
 use Rattle.cache_model.specs.State.{Row, State, alternates_of}
 use Rattle.cache_model.specs.Verdict.{live_vector_of}
 use Rattle.cache_model.specs.Permit.{DeviceRead, Permit}
-use Rattle.cache_model.specs.Legal.{IsGiven, IsWritten, Trouble}
+use Rattle.cache_model.specs.Given.{IsGiven, IsWritten, Trouble}
 use Rattle.cache_model.specs.Vectors.{AreVectors, IsVectorRow, vector_document}
 use Rattle.stripe_core.specs.Covers.{AreSeen, Covers}
 use Rattle.stripe_core.specs.Find.{cause_records}

@@ -2,7 +2,7 @@
 use Rattle.std.proofs.Common.{◌≡◌, ℕ, ◌≤◌, List, [], ◌∷◌, ◌++◌, refl, sym, ◌∙◌, ap, subst, Bool, true, false, cond, length, Ok, Err}
 use Rattle.std.specs.Prelude.{Option, Some, None, IsSome, is_some, option_map, option_and_then, unwrap_or, if◌then◌else◌}
 use Rattle.std.proofs.lemmas.Bool.{eq-eqb}
-use Rattle.std.proofs.lemmas.List.{append-nil, append_assoc}
+use Rattle.std.proofs.lemmas.List.{append-nil}
 use Rattle.tape_base.specs.declared.geometries.Geometry.{Geometry}
 use Rattle.tape_base.specs.declared.keys.Key.{Key}
 use Rattle.tape_base.specs.declared.pieces.PieceId.{PieceId}
@@ -22,14 +22,14 @@ use Rattle.cache_model.specs.State.{after_all}
 use Rattle.cache_model.specs.Kept.{Kept, state_of, with_records}
 use Rattle.cache_model.specs.Permit.{Commit, Done, Exhausted, Fails, Finish}
 use Rattle.cache_model.specs.Legal.{Does}
-use Rattle.cache_model.proofs.Steps.{after_all-append}
 use Rattle.stripe_core.specs.declared.refusal.Placed.{Placed}
 use Rattle.stripe_core.specs.declared.refusal.Refusal.{Refusal}
 use Rattle.stripe_core.specs.declared.refusal.Refusal.TheVariants as refusal
 use Rattle.stripe_core.specs.declared.refusal.Stop.TheVariants as stop
 use Rattle.stripe_core.specs.Acts.{CommitsAsAsked, committed_record}
 use Rattle.stripe_core.specs.Stripe.{Answers, HasMemory}
-use Rattle.stripe_core.specs.Place.{IsPlacedAt, IsVectorFor, IsVectorOf, PlacesAsAsked, placing_adds}
+use Rattle.stripe_core.specs.Covers.{Covers}
+use Rattle.stripe_core.specs.Place.{IsVectorFor, IsVectorOf, PlacesAt, PlacesVector, ReachesLimit, place_adds}
 use Rattle.stripe_vectors.specs.declared.spelling.Spelled.{Spelled}
 use Rattle.stripe_vectors.specs.Spelled.{IsSpelled, listed_with}
 use Rattle.stripe_write.specs.declared.weighing.Vectors.{Vectors}
@@ -37,9 +37,8 @@ use Rattle.stripe_write.specs.declared.writer.Writer.{Writer}
 use Rattle.stripe_write.specs.Writers.{IsAtHand, IsWriterOf}
 use Rattle.stripe_write.specs.Closing.{AreSpelled, IsReadFor, alternate_at_close, rest_rows, rows_at_close, size_at_close}
 use Rattle.stripe_write.specs.Finishing.{AreLive, FinishesAsRead, IsCurrent, VectorStops, bytes_now, picked, vector_now}
-use Rattle.stripe_write.specs.Numbers.{ReachesLimit}
 use Rattle.stripe_write.specs.declared.finishing.Receipt.{Receipt}
-use Rattle.stripe_write.proofs.Spending.{last_done, one_group, then_all}
+use Rattle.stripe_write.proofs.Spending.{last_done, nothing_more, one_group, state_behind, then_all, then_more}
 use Rattle.stripe_write.proofs.Ended.{open_put, own_number}
 use Rattle.stripe_write.proofs.Reaching.{place_reaches}
 
@@ -202,10 +201,7 @@ cuts_at_hand s w c = cuts_of_put s w.put c.row c.writing.found ∙ c.cuts_are
 fragments : (s : State) (w : Writer) (c : IsClosing s w) → length (cuts_of s w.put) ≡ length w.table.rows
 fragments s w c = ap length (cuts_at_hand s w c)
 
-pub nothing_more : (k : Kept) → with_records k [] ≡ k
-nothing_more k = ap (λ recs. let x : Kept = record { base = k.base; since = recs } in x) (append-nil k.since)
-
-module _ (old new : Kept) (before after : ℕ) (w : Writer) (v : Vectors) (pin : ℕ) (payload : List ℕ)
+module _ (now : ℕ) (old new : Kept) (before after : ℕ) (w : Writer) (v : Vectors) (pin : ℕ) (payload : List ℕ)
     (c : IsClosing (state_of old) w) (of : (state_of old).displaced ≡ [] → IsReadFor (state_of old) w v → IsVectorOf (state_of old) (vector_piece w.key w.put) pin 0 payload) where
   abbrev s : State
   s = state_of old
@@ -213,55 +209,69 @@ module _ (old new : Kept) (before after : ℕ) (w : Writer) (v : Vectors) (pin :
   abbrev id : PieceId
   id = vector_piece w.key w.put
 
-  vector_at : (number : ℕ) → IsVectorOf s id pin 0 payload → IsPlacedAt s after id payload (Err (stop.Exhausted number)) → VectorStops s w (refusal.Exhausted number)
+  vector_at : (number : ℕ) → IsVectorOf s id pin 0 payload → PlacesAt s payload (Err (stop.Exhausted number)) → VectorStops s w (refusal.Exhausted number)
   vector_at number v at = (cuts_at_hand s w c, subst (λ n. ReachesLimit s n number) v.length_is (place_reaches s payload number v.room at))
 
-  pub refused_finishes : (why : Refusal) → Answers {X = Placed} (Err why) (λ r. new ≡ with_records old (placing_adds s id pin 0 payload r)) (new ≡ old)
-      → Answers {X = Placed} (Err why) (PlacesAsAsked s before after id pin 0 payload) (Unit {0}) → Answers {X = Placed} (Err why) (IsPlacedAt s after id payload) (Unit {0})
-      → HasMemory {X = Placed} (Err why) → FinishesAsRead before after old new w v (Err why)
-  refused_finishes (refusal.Exhausted number) adds does at memory = λ p covers none read.
-      let d : Does p s (Finish w.put (length w.table.rows)) [] (Fails Exhausted) =
-      subst (λ n. Does p s (Finish w.put n) [] (Fails Exhausted)) (fragments s w c) (does (of none read) p covers) in
-      record {
-        added = [];
-        adds = adds;
-        does = λ rest why. one_group p s (Finish w.put (length w.table.rows)) [] (Fails Exhausted) d (Commit w.put ∷ rest) why;
-        number = subst (λ k. VectorStops (state_of k) w (refusal.Exhausted number)) (sym (adds ∙ nothing_more old)) (vector_at number (of none read) at);
-      }
-  refused_finishes (refusal.DeviceFault count) adds does at memory = absurd at
-  refused_finishes (refusal.Memory e) adds does at memory = absurd memory
-  refused_finishes refusal.TooManyWriters adds does at memory = absurd adds
-  refused_finishes refusal.TooManyFragments adds does at memory = absurd adds
-  refused_finishes (refusal.VectorTooLarge size) adds does at memory = absurd adds
-  refused_finishes (refusal.Lost index why) adds does at memory = absurd adds
-  refused_finishes refusal.Sealed adds does at memory = absurd adds
-  refused_finishes refusal.NoSuchWriter adds does at memory = absurd adds
+  -- the vector that has no place
+  no_place : (number : ℕ) → PlacesVector old new before after id pin 0 payload (Err (stop.Exhausted number)) → FinishesAsRead now before after old new w v (Err (refusal.Exhausted number))
+  no_place number h = record {
+    reads = [];
+    does = λ p at covers none read.
+        let d : Does p s (Finish w.put (length w.table.rows)) [] (Fails Exhausted) =
+        subst (λ n. Does p s (Finish w.put n) [] (Fails Exhausted)) (fragments s w c) (h.does (of none read) p covers) in
+        record {
+          added = [];
+          adds = h.adds;
+          does = λ rest why. one_group p s (Finish w.put (length w.table.rows)) [] (Fails Exhausted) d (Commit w.put ∷ rest) why;
+          number = subst (λ k. VectorStops (state_of k) w (refusal.Exhausted number)) (sym (h.adds ∙ nothing_more old)) (vector_at number (of none read) h.at);
+        };
+  }
 
-  pub completes : (mid : Kept) (placed : Placed) (receipt : Receipt) → mid ≡ with_records old (placing_adds s id pin 0 payload (Ok placed)) → PlacesAsAsked s before after id pin 0 payload (Ok placed)
-      → new ≡ with_records mid (committed_record (state_of mid) w.put w.key ∷ []) → CommitsAsAsked (state_of mid) w.put w.key → FinishesAsRead before after old new w v (Ok receipt)
-  completes mid placed receipt first places last commits = λ p covers none read.
-      let a : List Rec = placing_adds s id pin 0 payload (Ok placed) in
-      let b : Rec = committed_record (state_of mid) w.put w.key in
-      let there : state_of mid ≡ after_all s a = ap state_of first ∙ after_all-append old.base old.since a in
-      let d : Does p s (Finish w.put (length w.table.rows)) a Done = subst (λ n. Does p s (Finish w.put n) a Done) (fragments s w c) (places (of none read) p covers) in
-      record {
-        added = a ++ b ∷ [];
-        adds = last ∙ (ap (λ k. with_records k (b ∷ [])) first ∙ ap (λ recs. let k : Kept = record { base = old.base; since = recs } in k) (append_assoc old.since a (b ∷ [])));
-        does = then_all p s (Finish w.put (length w.table.rows)) (Commit w.put ∷ []) a (b ∷ []) Done (one_group p s (Finish w.put (length w.table.rows)) a Done d)
-            (last_done p (after_all s a) (Commit w.put) (b ∷ []) (one_group p (after_all s a) (Commit w.put) (b ∷ []) Done (subst (λ t. Does p t (Commit w.put) (b ∷ []) Done) there (commits p))));
-        number = tt;
-      }
+  pub refused_finishes : (why : Refusal) → Answers {X = Placed} (Err why) (PlacesVector old new before after id pin 0 payload) (new ≡ old)
+      → HasMemory {X = Placed} (Err why) → FinishesAsRead now before after old new w v (Err why)
+  refused_finishes (refusal.Exhausted number) h memory = no_place number h
+  refused_finishes (refusal.DeviceFault number) h memory = absurd h.at
+  refused_finishes (refusal.Memory e) h memory = absurd memory
+  refused_finishes refusal.TooManyWriters h memory = absurd h
+  refused_finishes refusal.TooManyFragments h memory = absurd h
+  refused_finishes (refusal.VectorTooLarge size) h memory = absurd h
+  refused_finishes (refusal.Lost index why) h memory = absurd h
+  refused_finishes refusal.Sealed h memory = absurd h
+  refused_finishes refusal.NoSuchWriter h memory = absurd h
 
--- ---- a writer whose records are as they were
+  pub completes : (mid : Kept) (between : ℕ) (placed : Placed) (receipt : Receipt) → after ≡ between → PlacesVector old mid before between id pin 0 payload (Ok placed)
+      → new ≡ with_records mid (committed_record (state_of mid) w.put w.key ∷ []) → CommitsAsAsked (state_of mid) w.put w.key → FinishesAsRead now before after old new w v (Ok receipt)
+  completes mid between placed receipt same h last commits = record {
+    reads = [];
+    does = λ p at covers none read.
+        let a : List Rec = place_adds s id pin 0 payload (Ok placed) in
+        let b : Rec = committed_record (state_of mid) w.put w.key in
+        let there : state_of mid ≡ after_all s a = state_behind old mid a h.adds in
+        let early : Covers p before between [] = subst (λ n. Covers p before n []) same covers in
+        let d : Does p s (Finish w.put (length w.table.rows)) a Done = subst (λ n. Does p s (Finish w.put n) a Done) (fragments s w c) (h.does (of none read) p early) in
+        record {
+          added = a ++ b ∷ [];
+          adds = then_more old mid new a (b ∷ []) h.adds last;
+          does = then_all p s (Finish w.put (length w.table.rows)) (Commit w.put ∷ []) a (b ∷ []) Done (one_group p s (Finish w.put (length w.table.rows)) a Done d)
+              (last_done p (after_all s a) (Commit w.put) (b ∷ []) (one_group p (after_all s a) (Commit w.put) (b ∷ []) Done (subst (λ t. Does p t (Commit w.put) (b ∷ []) Done) there (commits p))));
+          number = tt;
+        };
+  }
 
-pub refused_writer : (old new : Kept) (w : Writer) (pin : ℕ) (payload : List ℕ) (why : Refusal)
-    → Answers {X = Placed} (Err why) (λ r. new ≡ with_records old (placing_adds (state_of old) (vector_piece w.key w.put) pin 0 payload r)) (new ≡ old) → IsWriterOf (state_of old) w → IsWriterOf (state_of new) w
-refused_writer old new w pin payload (refusal.Exhausted number) adds own = subst (λ k. IsWriterOf (state_of k) w) (sym (adds ∙ nothing_more old)) own
-refused_writer old new w pin payload (refusal.DeviceFault count) adds own = subst (λ k. IsWriterOf (state_of k) w) (sym (adds ∙ nothing_more old)) own
-refused_writer old new w pin payload (refusal.Memory e) adds own = subst (λ k. IsWriterOf (state_of k) w) (sym adds) own
-refused_writer old new w pin payload refusal.TooManyWriters adds own = absurd adds
-refused_writer old new w pin payload refusal.TooManyFragments adds own = absurd adds
-refused_writer old new w pin payload (refusal.VectorTooLarge size) adds own = absurd adds
-refused_writer old new w pin payload (refusal.Lost index why) adds own = absurd adds
-refused_writer old new w pin payload refusal.Sealed adds own = absurd adds
-refused_writer old new w pin payload refusal.NoSuchWriter adds own = absurd adds
+-- ---- a vector that was not placed
+
+-- nothing was recorded
+pub not_placed : (old new : Kept) (before after : ℕ) (piece : PieceId) (pin : ℕ) (payload : List ℕ) (why : Refusal) → Answers {X = Placed} (Err why) (PlacesVector old new before after piece pin 0 payload) (new ≡ old) → new ≡ old
+not_placed old new before after piece pin payload (refusal.Exhausted number) h = h.adds ∙ nothing_more old
+not_placed old new before after piece pin payload (refusal.DeviceFault count) h = h.adds ∙ nothing_more old
+not_placed old new before after piece pin payload (refusal.Memory e) h = h
+not_placed old new before after piece pin payload refusal.TooManyWriters h = absurd h
+not_placed old new before after piece pin payload refusal.TooManyFragments h = absurd h
+not_placed old new before after piece pin payload (refusal.VectorTooLarge size) h = absurd h
+not_placed old new before after piece pin payload (refusal.Lost index why) h = absurd h
+not_placed old new before after piece pin payload refusal.Sealed h = absurd h
+not_placed old new before after piece pin payload refusal.NoSuchWriter h = absurd h
+
+pub refused_writer : (old new : Kept) (before after : ℕ) (w : Writer) (pin : ℕ) (payload : List ℕ) (why : Refusal)
+    → Answers {X = Placed} (Err why) (PlacesVector old new before after (vector_piece w.key w.put) pin 0 payload) (new ≡ old) → IsWriterOf (state_of old) w → IsWriterOf (state_of new) w
+refused_writer old new before after w pin payload why h own = subst (λ k. IsWriterOf (state_of k) w) (sym (not_placed old new before after (vector_piece w.key w.put) pin payload why h)) own

@@ -1,15 +1,17 @@
 -- Puts that are open or given up, and objects that are not there.
-use Rattle.std.proofs.Common.{◌≡◌, ℕ, [], refl, sym, ◌∙◌, ap, true, false, cond, Bool, List, length, ◌∷◌}
+use Rattle.std.proofs.Common.{◌≡◌, ℕ, [], refl, sym, ◌∙◌, ap, subst, arith, inr, true, false, cond, Bool, List, length, ◌∷◌}
 use Rattle.std.specs.Prelude.{Option, Some, None, is_some, option_map, unwrap_or, find, ◌==◌}
 use Rattle.std.proofs.lemmas.Bool.{eq-eqb, eqb-true}
+use Rattle.tape_base.specs.declared.actors.Actor.{Actor}
 use Rattle.tape_base.specs.declared.keys.Key.{Key}
+use Rattle.alternate_vector.specs.Field.{Field}
 use Rattle.cache_model.specs.declared.record.Rec.TheVariants as rec
-use Rattle.cache_model.specs.State.{Closed, GivenUp, Open, PutRow, Row, State, put_of, state_after, with_writing}
+use Rattle.cache_model.specs.State.{Closed, GivenUp, Open, PutRow, Row, State, opened_put, put_of, state_after, with_writing}
 use Rattle.cache_model.specs.Verdict.{is_open, live_vector_of}
 use Rattle.cache_model.specs.Permit.{Done, Fails, GiveUp, ManyFragments, Overflow, Permit, Remove}
 use Rattle.cache_model.specs.Legal.{Does, DoesGiveUp, DoesOverflow, DoesRemove, IsQuiet, is_writing, most_fragments}
 use Rattle.stripe_actors.proofs.Rows.{find-changed}
-use Rattle.stripe_core.specs.Acts.{IsGivingUp}
+use Rattle.stripe_core.specs.Acts.{IsGivingUp, opened_record}
 use Rattle.stripe_write.specs.declared.writer.Writer.{Writer}
 use Rattle.stripe_write.specs.Writers.{IsAtHand, IsWriterOf}
 
@@ -42,6 +44,26 @@ pub no_writer : (s : State) (w : Writer) (key : Key) → IsWriterOf (state_after
 no_writer s w key = λ row found o.
     absurd (given_up (put_of s w.put) row
     (sym (find-changed (λ (p : PutRow). p.put) (with_writing GivenUp) (λ p. refl) w.put w.put s.puts ∙ ap (λ b. cond b (option_map (with_writing GivenUp) (put_of s w.put)) (put_of s w.put)) (eq-eqb w.put w.put refl)) ∙ found) o)
+
+-- the writer of a put that opens
+pub new_writer : (s : State) (who : Actor) (key : Key) (request response : List Field) (pin : ℕ) (w : Writer) → w.put ≡ s.next_put → w.key ≡ key → w.request ≡ request → w.response ≡ response → w.pin ≡ pin → w.table.rows ≡ [] → w.gathered.items ≡ []
+    → IsWriterOf (state_after s (opened_record s who key request response pin)) w
+new_writer s who key request response pin w put key_is request_is response_is pin_is rows gathered = λ row found o.
+    let own : PutRow = opened_put who.0 s.next_put key request response pin in
+    let t : State = state_after s (opened_record s who key request response pin) in
+    let first : put_of t s.next_put ≡ Some own = ap (λ b. cond b (Some own) (find (λ (p : PutRow). p.put == s.next_put) s.puts)) (eq-eqb s.next_put s.next_put refl) in
+    let same : Some row ≡ Some own = sym found ∙ (ap (put_of t) put ∙ first) in
+    let row_is : row ≡ own = cc in
+    subst (λ (x : PutRow). IsAtHand t.geometry x w) (sym row_is) (record {
+      key_is = sym key_is;
+      request_is = sym request_is;
+      response_is = sym response_is;
+      pin_is = sym pin_is;
+      cuts_are = sym rows;
+      whole = inr (omega arith);
+      few = rw gathered s.geometry.accepted.fragment_fits.0;
+      more = λ some. let none : length w.gathered.items ≡ 0 = ap length gathered in absurd (omega (arith, some, none));
+    })
 
 none_of : (o : Option Row) → is_some o ≡ false → o ≡ None
 none_of None h = refl

@@ -1,6 +1,8 @@
 -- Bytes that are taken.
 use Rattle.std.proofs.Common.{◌≡◌, ℕ, ◌+◌, ◌<◌, ◌≤◌, inl, inr, ◌⊎◌, ◌*◌, List, [], ◌∷◌, refl, sym, ◌∙◌, ap, subst, arith, Bool, true, false, length, take, Result, Ok, Err}
-use Rattle.std.specs.Prelude.{◌==◌, if◌then◌else◌, min, find}
+use Rattle.std.specs.Prelude.{◌==◌, if◌then◌else◌, min, find, MatchBool}
+use Rattle.std.specs.List.{AllByRecursion}
+use Rattle.std.specs.declared.alloc.AllocError.{AllocError}
 use Rattle.std.proofs.lemmas.Bool.{eq-eqb, eqb-true}
 use Rattle.std.proofs.lemmas.List.{append-nil, length-append, length-take, take-append-le, take_all}
 use Rattle.tape_base.specs.declared.geometries.Geometry.{Geometry}
@@ -8,24 +10,26 @@ use Rattle.tape_base.specs.declared.pieces.PieceId.{PieceId}
 use Rattle.fragment_table.specs.Table.{TableRow, total_length}
 use Rattle.cache_model.specs.declared.record.Rec.{Rec}
 use Rattle.cache_model.specs.declared.record.Rec.TheVariants as rec
-use Rattle.cache_model.specs.State.{PutRow, State, after_all, cursor_next, floor_next, fragment_piece, put_of}
-use Rattle.cache_model.specs.Room.{has_room, is_flush_exhausted}
-use Rattle.cache_model.proofs.Steps.{after_all-append}
+use Rattle.cache_model.specs.State.{PutRow, State, fragment_piece, put_of}
 use Rattle.cache_model.specs.Kept.{Kept, state_of, with_records}
-use Rattle.cache_model.specs.Permit.{Done}
+use Rattle.ats_disk.specs.Device.{State as Device}
 use Rattle.cache_model.specs.Legal.{is_writing, most_fragments}
 use Rattle.stripe_core.specs.declared.refusal.Placed.{Placed}
 use Rattle.stripe_core.specs.declared.refusal.Refusal.{Refusal}
 use Rattle.stripe_core.specs.declared.refusal.Refusal.TheVariants as refusal
 use Rattle.stripe_core.specs.declared.refusal.Stop.{Stop}
 use Rattle.stripe_core.specs.declared.refusal.Stop.TheVariants as stop
-use Rattle.stripe_core.specs.Covers.{Spends}
-use Rattle.stripe_core.specs.Place.{CutsAsAsked, fragment_adds, room_records}
+use Rattle.stripe_core.specs.Flush.{AreOfFlush}
+use Rattle.stripe_core.specs.Place.{CutsAsAsked, RoomsAsAsked}
 use Rattle.stripe_core.specs.Stripe.{Answers}
 use Rattle.stripe_write.specs.declared.writer.Writer.{Writer}
 use Rattle.stripe_write.specs.Writers.{IsAllCut, IsAtHand, IsWriterOf}
-use Rattle.stripe_write.specs.Writes.{IsCutting, IsReady, SameWriter, WritesAsAsked, WritesWhere, cut_adds, cuts_fragment, gathered_with, is_cut, left_of, next_id, next_start, taken_of, write_adds}
+use Rattle.stripe_write.specs.Writes.{CutsNext, IsCutting, IsOverflow, IsReady, OverflowsAsAsked, SameWriter, WritesAs, WritesAsAsked, WritesWhere, gathered_with, is_cut, left_of, next_id, next_payload, next_start, overflow_adds, taken_of}
+use Rattle.stripe_write.specs.Others.{IsOfPut}
 use Rattle.stripe_write.proofs.Ended.{open_put}
+use Rattle.stripe_write.proofs.Flushed.{LeavesActors, flush_is_own, flush_leaves, leaves_all}
+use Rattle.stripe_write.proofs.Spending.{nothing_more, state_behind}
+use Rattle.stripe_write.proofs.Cutting.{cut_is_own, next_no_vector}
 
 -- ---- a writer that is as it was, or has gathered more
 
@@ -122,78 +126,124 @@ not_cut g w n h = by (length w.gathered.items + n == g.fragment) refl
 
 -- ---- the fragment of the writer that has gathered is the one that is asked for
 
-pub same_adds : (s : State) (w new : Writer) (r : Result Placed Stop) → SameButGathered w new
-    → fragment_adds s (next_id new) new.pin (next_start new) new.gathered.items r ≡ fragment_adds s (next_id w) w.pin (next_start w) new.gathered.items r
-same_adds s w new r same =
-    let id : next_id new ≡ next_id w =
-    ap (λ k. fragment_piece k new.put (length new.table.rows + 1)) same.key ∙ (ap (λ n. fragment_piece w.key n (length new.table.rows + 1)) same.put ∙ ap (λ (rows : List TableRow). fragment_piece w.key w.put (length rows + 1)) same.rows) in
-    ap (λ i. fragment_adds s i new.pin (next_start new) new.gathered.items r) id
-    ∙ (ap (λ n. fragment_adds s (next_id w) n (next_start new) new.gathered.items r) same.pin ∙ ap (λ (rows : List TableRow). fragment_adds s (next_id w) w.pin (total_length rows) new.gathered.items r) same.rows)
-
-pub same_cuts : (s : State) (before after : ℕ) (w new : Writer) (r : Result Placed Stop) → SameButGathered w new
-    → CutsAsAsked s before after (next_id new) new.pin (next_start new) new.gathered.items r → CutsAsAsked s before after (next_id w) w.pin (next_start w) new.gathered.items r
-same_cuts s before after w new r same h =
-    let id : next_id new ≡ next_id w =
-    ap (λ k. fragment_piece k new.put (length new.table.rows + 1)) same.key ∙ (ap (λ n. fragment_piece w.key n (length new.table.rows + 1)) same.put ∙ ap (λ (rows : List TableRow). fragment_piece w.key w.put (length rows + 1)) same.rows) in
-    subst (λ (rows : List TableRow). CutsAsAsked s before after (next_id w) w.pin (total_length rows) new.gathered.items r) same.rows
-    (subst (λ n. CutsAsAsked s before after (next_id w) n (next_start new) new.gathered.items r) same.pin
-    (subst (λ i. CutsAsAsked s before after i new.pin (next_start new) new.gathered.items r) id h))
-
--- ---- a cut that was made
-
-pub took_adds : (kept kept1 new : Kept) (w w' : Writer) (bytes : List ℕ) (n : ℕ) (placed : Placed) → kept1 ≡ kept → SameButGathered w w' → w'.gathered.items ≡ gathered_with w bytes n → is_cut (state_of kept).geometry w n ≡ true
-    → new ≡ with_records kept1 (fragment_adds (state_of kept1) (next_id w') w'.pin (next_start w') w'.gathered.items (Ok placed)) → new ≡ with_records kept (write_adds (state_of kept) w bytes (Ok n))
-took_adds kept kept1 new w w' bytes n placed e same g cut h =
-    h ∙ (ap (λ k. with_records k (fragment_adds (state_of k) (next_id w') w'.pin (next_start w') w'.gathered.items (Ok placed))) e
-    ∙ (ap (with_records kept) (same_adds (state_of kept) w w' (Ok placed) same)
-    ∙ (ap (λ p. with_records kept (fragment_adds (state_of kept) (next_id w) w.pin (next_start w) p (Ok placed))) g
-    ∙ ap (λ b. with_records kept (if b then cut_adds (state_of kept) w (gathered_with w bytes n) else [])) (sym cut))))
+same_cuts : (now : ℕ) (old new : Kept) (before : ℕ) (after : Device) (w w' : Writer) (r : Result Placed Stop) → SameButGathered w w'
+    → CutsAsAsked now old new before after (next_id w') w'.pin (next_start w') w'.gathered.items r → CutsAsAsked now old new before after (next_id w) w.pin (next_start w) w'.gathered.items r
+same_cuts now old new before after w w' r same h =
+    let id : next_id w' ≡ next_id w =
+    ap (λ k. fragment_piece k w'.put (length w'.table.rows + 1)) same.key ∙ (ap (λ n. fragment_piece w.key n (length w'.table.rows + 1)) same.put ∙ ap (λ (rows : List TableRow). fragment_piece w.key w.put (length rows + 1)) same.rows) in
+    subst (λ (rows : List TableRow). CutsAsAsked now old new before after (next_id w) w.pin (total_length rows) w'.gathered.items r) same.rows
+    (subst (λ n. CutsAsAsked now old new before after (next_id w) n (next_start w') w'.gathered.items r) same.pin
+    (subst (λ i. CutsAsAsked now old new before after i w'.pin (next_start w') w'.gathered.items r) id h))
 
 -- what was asked of the writer that has gathered was asked of the one that took the bytes
-asked_does : (kept kept1 : Kept) (before before1 after : ℕ) (w w' : Writer) (bytes : List ℕ) (n : ℕ) (r : Result Placed Stop) → kept1 ≡ kept → before1 ≡ before → SameButGathered w w' → w'.gathered.items ≡ gathered_with w bytes n
-    → CutsAsAsked (state_of kept1) before1 after (next_id w') w'.pin (next_start w') w'.gathered.items r → CutsAsAsked (state_of kept) before after (next_id w) w.pin (next_start w) (gathered_with w bytes n) r
-asked_does kept kept1 before before1 after w w' bytes n r e f same g h =
-    subst (λ q. CutsAsAsked (state_of kept) before after (next_id w) w.pin (next_start w) q r) g
-    (subst (λ m. CutsAsAsked (state_of kept) m after (next_id w) w.pin (next_start w) w'.gathered.items r) f
-    (subst (λ k. CutsAsAsked (state_of k) before1 after (next_id w) w.pin (next_start w) w'.gathered.items r) e
-    (same_cuts (state_of kept1) before1 after w w' r same h)))
+asked_does : (now : ℕ) (kept kept1 new : Kept) (before before1 : ℕ) (after : Device) (w w' : Writer) (bytes : List ℕ) (n : ℕ) (r : Result Placed Stop) → kept1 ≡ kept → before1 ≡ before → SameButGathered w w' → w'.gathered.items ≡ gathered_with w bytes n
+    → CutsAsAsked now kept1 new before1 after (next_id w') w'.pin (next_start w') w'.gathered.items r → CutsAsAsked now kept new before after (next_id w) w.pin (next_start w) (gathered_with w bytes n) r
+asked_does now kept kept1 new before before1 after w w' bytes n r e f same g h =
+    subst (λ q. CutsAsAsked now kept new before after (next_id w) w.pin (next_start w) q r) g
+    (subst (λ m. CutsAsAsked now kept new m after (next_id w) w.pin (next_start w) w'.gathered.items r) f
+    (subst (λ k. CutsAsAsked now k new before1 after (next_id w) w.pin (next_start w) w'.gathered.items r) e
+    (same_cuts now kept1 new before1 after w w' r same h)))
 
-pub took_does : (kept kept1 : Kept) (before before1 after : ℕ) (w w' : Writer) (bytes : List ℕ) (n : ℕ) (placed : Placed) → kept1 ≡ kept → before1 ≡ before → SameButGathered w w' → w'.gathered.items ≡ gathered_with w bytes n
-    → CutsAsAsked (state_of kept1) before1 after (next_id w') w'.pin (next_start w') w'.gathered.items (Ok placed) → WritesAsAsked (state_of kept) before after w bytes (Ok n)
-took_does kept kept1 before before1 after w w' bytes n placed e f same g h = λ cut p covers.
-    let s : State = state_of kept in
-    let mine : CutsAsAsked s before after (next_id w) w.pin (next_start w) (gathered_with w bytes n) (Ok placed) =
-    asked_does kept kept1 before before1 after w w' bytes n (Ok placed) e f same g h in
-    subst (λ recs. Spends p s (cuts_fragment w (gathered_with w bytes n)) recs Done) (ap (λ b. if b then cut_adds s w (gathered_with w bytes n) else []) (sym cut)) (mine p covers)
+-- ---- what a write adds
 
--- ---- a cut that was refused
+-- nothing
+pub writes_none : (now : ℕ) (old new : Kept) (before : ℕ) (after : Device) (w : Writer) (bytes : List ℕ) (result : Result ℕ Refusal) → new ≡ old → WritesAs now (state_of old) before after.faults w bytes result [] []
+    → WritesAsAsked now old new before after w bytes result
+writes_none now old new before after w bytes result same does = record { added = []; reads = []; adds = same ∙ sym (nothing_more old); own = tt; unharmed = λ told. tt; does = does }
 
-pub refused_does : (kept kept1 : Kept) (before before1 after : ℕ) (w w' : Writer) (bytes : List ℕ) (why : Refusal) → kept1 ≡ kept → before1 ≡ before → SameButGathered w w'
-    → w'.gathered.items ≡ gathered_with w bytes (taken_of (state_of kept).geometry w bytes)
-    → Answers {X = Placed} (Err why) (CutsAsAsked (state_of kept1) before1 after (next_id w') w'.pin (next_start w') w'.gathered.items) (Unit {0}) → WritesAsAsked (state_of kept) before after w bytes (Err why)
-refused_does kept kept1 before before1 after w w' bytes (refusal.DeviceFault count) e f same g h =
-    asked_does kept kept1 before before1 after w w' bytes (taken_of (state_of kept).geometry w bytes) (Err (stop.DeviceFault count)) e f same g h
-refused_does kept kept1 before before1 after w w' bytes (refusal.Exhausted number) e f same g h =
-    asked_does kept kept1 before before1 after w w' bytes (taken_of (state_of kept).geometry w bytes) (Err (stop.Exhausted number)) e f same g h
-refused_does kept kept1 before before1 after w w' bytes (refusal.Memory memory) e f same g h = tt
-refused_does kept kept1 before before1 after w w' bytes refusal.TooManyWriters e f same g h = absurd h
-refused_does kept kept1 before before1 after w w' bytes refusal.TooManyFragments e f same g h = absurd h
-refused_does kept kept1 before before1 after w w' bytes (refusal.VectorTooLarge size) e f same g h = absurd h
-refused_does kept kept1 before before1 after w w' bytes (refusal.Lost index cause) e f same g h = absurd h
-refused_does kept kept1 before before1 after w w' bytes refusal.Sealed e f same g h = absurd h
-refused_does kept kept1 before before1 after w w' bytes refusal.NoSuchWriter e f same g h = absurd h
+-- memory is wanting
+pub writes_wanting : (now : ℕ) (old new : Kept) (before : ℕ) (after : Device) (w : Writer) (bytes : List ℕ) (e : AllocError) (result : Result ℕ Refusal) → result ≡ Err (refusal.Memory e) → new ≡ old
+    → WritesAsAsked now old new before after w bytes result
+writes_wanting now old new before after w bytes e result is same =
+    subst (WritesAsAsked now old new before after w bytes) (sym is) (writes_none now old new before after w bytes (Err (refusal.Memory e)) same refl)
+
+-- bytes that fill no fragment
+pub writes_few : (now : ℕ) (old new : Kept) (before : ℕ) (after : Device) (w : Writer) (bytes : List ℕ) (n : ℕ) → new ≡ old → is_cut (state_of old).geometry w n ≡ false → WritesAsAsked now old new before after w bytes (Ok n)
+writes_few now old new before after w bytes n same few =
+    let none : List Rec = [] in
+    let nothing : none ≡ none = refl in
+    writes_none now old new before after w bytes (Ok n) same
+    (subst (λ b. MatchBool b ((placed : Placed) × CutsNext now (state_of old) before after.faults w (gathered_with w bytes n) none [] (Ok placed)) (none ≡ none)) (sym few) nothing)
+
+-- the put is given up that would have too many fragments
+pub writes_over : (now : ℕ) (old new : Kept) (before : ℕ) (after : Device) (w : Writer) (bytes : List ℕ) (result : Result ℕ Refusal) → IsOverflow result → new ≡ with_records old (overflow_adds w result) → OverflowsAsAsked (state_of old) w
+    → WritesAsAsked now old new before after w bytes result
+writes_over now old new before after w bytes (Err refusal.TooManyFragments) over adds does = record { added = rec.Aborted w.put w.key ∷ []; reads = []; adds = adds; own = (refl, tt); unharmed = λ told. (refl, tt); does = (refl, does) }
+writes_over now old new before after w bytes (Err (refusal.Memory e)) over adds does = writes_none now old new before after w bytes (Err (refusal.Memory e)) (adds ∙ nothing_more old) refl
+writes_over now old new before after w bytes (Ok n) over adds does = absurd over
+writes_over now old new before after w bytes (Err (refusal.DeviceFault count)) over adds does = absurd over
+writes_over now old new before after w bytes (Err (refusal.Exhausted number)) over adds does = absurd over
+writes_over now old new before after w bytes (Err refusal.TooManyWriters) over adds does = absurd over
+writes_over now old new before after w bytes (Err (refusal.VectorTooLarge size)) over adds does = absurd over
+writes_over now old new before after w bytes (Err (refusal.Lost index cause)) over adds does = absurd over
+writes_over now old new before after w bytes (Err refusal.Sealed) over adds does = absurd over
+writes_over now old new before after w bytes (Err refusal.NoSuchWriter) over adds does = absurd over
+
+-- a fragment that was cut
+pub writes_cut : (now : ℕ) (old old1 new : Kept) (before before1 : ℕ) (after : Device) (w w' : Writer) (bytes : List ℕ) (n : ℕ) (placed : Placed) → old1 ≡ old → before1 ≡ before → SameButGathered w w'
+    → w'.gathered.items ≡ gathered_with w bytes n → is_cut (state_of old).geometry w n ≡ true → CutsAsAsked now old1 new before1 after (next_id w') w'.pin (next_start w') w'.gathered.items (Ok placed)
+    → WritesAsAsked now old new before after w bytes (Ok n)
+writes_cut now old old1 new before before1 after w w' bytes n placed e f same g cut h =
+    let s : State = state_of old in
+    let payload : List ℕ = gathered_with w bytes n in
+    let mine : CutsAsAsked now old new before after (next_id w) w.pin (next_start w) payload (Ok placed) = asked_does now old old1 new before before1 after w w' bytes n (Ok placed) e f same g h in
+    let next : CutsNext now s before after.faults w payload mine.added mine.reads (Ok placed) = record { shape = mine.shape; does = mine.does } in
+    record {
+      added = mine.added;
+      reads = mine.reads;
+      adds = mine.adds;
+      own = cut_is_own s (next_id w) w.pin (next_start w) payload mine.added placed (next_no_vector w) mine.shape;
+      unharmed = mine.unharmed;
+      does = subst (λ b. MatchBool b ((x : Placed) × CutsNext now s before after.faults w payload mine.added mine.reads (Ok x)) (mine.added ≡ [])) (sym cut) (placed, next);
+    }
+
+-- a fragment that could not be cut
+stopped_own : (now : ℕ) (old new : Kept) (before : ℕ) (after : Device) (w : Writer) (payload : List ℕ) (why : Stop) → (h : CutsAsAsked now old new before after (next_id w) w.pin (next_start w) payload (Err why))
+    → AllByRecursion (IsOfPut w.put) h.added
+stopped_own now old new before after w payload why h = flush_is_own w.put h.added h.shape.kinds
+
+pub writes_refused : (now : ℕ) (old old1 new : Kept) (before before1 : ℕ) (after : Device) (w w' : Writer) (bytes : List ℕ) (why : Refusal) → old1 ≡ old → before1 ≡ before → SameButGathered w w'
+    → w'.gathered.items ≡ next_payload (state_of old) w bytes
+    → Answers {X = Placed} (Err why) (CutsAsAsked now old1 new before1 after (next_id w') w'.pin (next_start w') w'.gathered.items) (new ≡ old1) → WritesAsAsked now old new before after w bytes (Err why)
+writes_refused now old old1 new before before1 after w w' bytes (refusal.DeviceFault count) e f same g h =
+    let mine = asked_does now old old1 new before before1 after w w' bytes (taken_of (state_of old).geometry w bytes) (Err (stop.DeviceFault count)) e f same g h in
+    record {
+      added = mine.added;
+      reads = mine.reads;
+      adds = mine.adds;
+      own = stopped_own now old new before after w (next_payload (state_of old) w bytes) (stop.DeviceFault count) mine;
+      unharmed = mine.unharmed;
+      does = record { shape = mine.shape; does = mine.does };
+    }
+writes_refused now old old1 new before before1 after w w' bytes (refusal.Exhausted number) e f same g h =
+    let mine = asked_does now old old1 new before before1 after w w' bytes (taken_of (state_of old).geometry w bytes) (Err (stop.Exhausted number)) e f same g h in
+    record {
+      added = mine.added;
+      reads = mine.reads;
+      adds = mine.adds;
+      own = stopped_own now old new before after w (next_payload (state_of old) w bytes) (stop.Exhausted number) mine;
+      unharmed = mine.unharmed;
+      does = record { shape = mine.shape; does = mine.does };
+    }
+writes_refused now old old1 new before before1 after w w' bytes (refusal.Memory memory) e f same g h = writes_none now old new before after w bytes (Err (refusal.Memory memory)) (h ∙ e) refl
+writes_refused now old old1 new before before1 after w w' bytes refusal.TooManyWriters e f same g h = absurd h
+writes_refused now old old1 new before before1 after w w' bytes refusal.TooManyFragments e f same g h = absurd h
+writes_refused now old old1 new before before1 after w w' bytes (refusal.VectorTooLarge size) e f same g h = absurd h
+writes_refused now old old1 new before before1 after w w' bytes (refusal.Lost index cause) e f same g h = absurd h
+writes_refused now old old1 new before before1 after w w' bytes refusal.Sealed e f same g h = absurd h
+writes_refused now old old1 new before before1 after w w' bytes refusal.NoSuchWriter e f same g h = absurd h
 
 -- a cut is refused where the fragment has gathered
-pub refused_where : (s : State) (w : Writer) (bytes : List ℕ) (why : Refusal) (P : Result Placed Stop → Type 0) → Answers {X = Placed} (Err why) P (Unit {0}) → IsCutting s w bytes → WritesWhere s w bytes (Err why)
-refused_where s w bytes (refusal.DeviceFault count) P h cutting = cutting
-refused_where s w bytes (refusal.Exhausted number) P h cutting = cutting
-refused_where s w bytes (refusal.Memory e) P h cutting = cutting.taking
-refused_where s w bytes refusal.TooManyWriters P h cutting = absurd h
-refused_where s w bytes refusal.TooManyFragments P h cutting = absurd h
-refused_where s w bytes (refusal.VectorTooLarge size) P h cutting = absurd h
-refused_where s w bytes (refusal.Lost index why) P h cutting = absurd h
-refused_where s w bytes refusal.Sealed P h cutting = absurd h
-refused_where s w bytes refusal.NoSuchWriter P h cutting = absurd h
+pub refused_where : (s : State) (w : Writer) (bytes : List ℕ) (why : Refusal) (P : Result Placed Stop → Type 0) (Wanting : Type 0) → Answers {X = Placed} (Err why) P Wanting → IsCutting s w bytes → WritesWhere s w bytes (Err why)
+refused_where s w bytes (refusal.DeviceFault count) P Wanting h cutting = cutting
+refused_where s w bytes (refusal.Exhausted number) P Wanting h cutting = cutting
+refused_where s w bytes (refusal.Memory e) P Wanting h cutting = cutting.taking
+refused_where s w bytes refusal.TooManyWriters P Wanting h cutting = absurd h
+refused_where s w bytes refusal.TooManyFragments P Wanting h cutting = absurd h
+refused_where s w bytes (refusal.VectorTooLarge size) P Wanting h cutting = absurd h
+refused_where s w bytes (refusal.Lost index why) P Wanting h cutting = absurd h
+refused_where s w bytes refusal.Sealed P Wanting h cutting = absurd h
+refused_where s w bytes refusal.NoSuchWriter P Wanting h cutting = absurd h
 
 -- ---- a cut that could not be made leaves the puts
 
@@ -202,33 +252,34 @@ pub record SamePuts (s t : State) : Type 0 where
   pub puts : t.puts ≡ s.puts
   pub geometry : t.geometry ≡ s.geometry
 
-began_or_not : (s : State) (b : Bool) → SamePuts s (after_all s (if b then [] else rec.Began (cursor_next s) (floor_next s) ∷ []))
-began_or_not s true = record { puts = refl; geometry = refl }
-began_or_not s false = record { puts = refl; geometry = refl }
+pub puts_left : (s t : State) → LeavesActors s t → SamePuts s t
+puts_left s t leaves = record { puts = leaves.puts; geometry = leaves.geometry }
 
-nothing_or_room : (s : State) (bytes : ℕ) (b : Bool) → SamePuts s (after_all s (if b then [] else room_records s bytes))
-nothing_or_room s bytes true = record { puts = refl; geometry = refl }
-nothing_or_room s bytes false = began_or_not s (has_room s bytes)
+flush_behind : (kept new : Kept) (recs : List Rec) → new ≡ with_records kept recs → AreOfFlush recs → LeavesActors (state_of kept) (state_of new)
+flush_behind kept new recs is kinds = subst (LeavesActors (state_of kept)) (sym (state_behind kept new recs is)) (flush_leaves (state_of kept) recs kinds)
 
-behind : (kept new : Kept) (recs : List Rec) → new ≡ with_records kept recs → SamePuts (state_of kept) (after_all (state_of kept) recs) → SamePuts (state_of kept) (state_of new)
-behind kept new recs is h = subst (SamePuts (state_of kept)) (sym (ap state_of is ∙ after_all-append kept.base kept.since recs)) h
+pub failed_leaves : (now : ℕ) (kept new : Kept) (before : ℕ) (after : Device) (id : PieceId) (pin start : ℕ) (payload : List ℕ) (why : Refusal)
+    → Answers {X = Placed} (Err why) (CutsAsAsked now kept new before after id pin start payload) (new ≡ kept) → LeavesActors (state_of kept) (state_of new)
+failed_leaves now kept new before after id pin start payload (refusal.DeviceFault count) h = flush_behind kept new h.added h.adds h.shape.kinds
+failed_leaves now kept new before after id pin start payload (refusal.Exhausted number) h = flush_behind kept new h.added h.adds h.shape.kinds
+failed_leaves now kept new before after id pin start payload (refusal.Memory e) h = subst (λ k. LeavesActors (state_of kept) (state_of k)) (sym h) (leaves_all (state_of kept))
+failed_leaves now kept new before after id pin start payload refusal.TooManyWriters h = absurd h
+failed_leaves now kept new before after id pin start payload refusal.TooManyFragments h = absurd h
+failed_leaves now kept new before after id pin start payload (refusal.VectorTooLarge bytes) h = absurd h
+failed_leaves now kept new before after id pin start payload (refusal.Lost index why) h = absurd h
+failed_leaves now kept new before after id pin start payload refusal.Sealed h = absurd h
+failed_leaves now kept new before after id pin start payload refusal.NoSuchWriter h = absurd h
 
-pub failed_puts : (kept new : Kept) (id : PieceId) (pin start : ℕ) (payload : List ℕ) (why : Refusal)
-    → Answers {X = Placed} (Err why) (λ r. new ≡ with_records kept (fragment_adds (state_of kept) id pin start payload r)) (new ≡ kept) → SamePuts (state_of kept) (state_of new)
-failed_puts kept new id pin start payload (refusal.DeviceFault count) h = behind kept new (rec.Fault count ∷ []) h (record { puts = refl; geometry = refl })
-failed_puts kept new id pin start payload (refusal.Exhausted number) h =
-    behind kept new (if is_flush_exhausted (state_of kept) then [] else room_records (state_of kept) (length payload)) h (nothing_or_room (state_of kept) (length payload) (is_flush_exhausted (state_of kept)))
-failed_puts kept new id pin start payload (refusal.Memory e) h = subst (λ k. SamePuts (state_of kept) (state_of k)) (sym h) (record { puts = refl; geometry = refl })
-failed_puts kept new id pin start payload refusal.TooManyWriters h = absurd h
-failed_puts kept new id pin start payload refusal.TooManyFragments h = absurd h
-failed_puts kept new id pin start payload (refusal.VectorTooLarge bytes) h = absurd h
-failed_puts kept new id pin start payload (refusal.Lost index why) h = absurd h
-failed_puts kept new id pin start payload refusal.Sealed h = absurd h
-failed_puts kept new id pin start payload refusal.NoSuchWriter h = absurd h
+-- what makes room leaves so, also where none is made
+pub room_leaves : (now : ℕ) (old new : Kept) (before : ℕ) (after : Device) (bytes : ℕ) (result : Result (Unit {0}) Stop) → RoomsAsAsked now old new before after bytes result → LeavesActors (state_of old) (state_of new)
+room_leaves now old new before after bytes result h = flush_behind old new h.added h.adds h.kinds
 
 pub still_writer : (s t : State) (w : Writer) → SamePuts s t → IsWriterOf s w → IsWriterOf t w
 still_writer s t w same own = λ row found o.
     subst (λ g. IsAtHand g row w) (sym same.geometry) (own row (ap (find (λ (p : PutRow). p.put == w.put)) (sym same.puts) ∙ found) o)
+
+pub left_writer : (s t : State) (w : Writer) → LeavesActors s t → IsWriterOf s w → IsWriterOf t w
+left_writer s t w leaves own = still_writer s t w (puts_left s t leaves) own
 
 -- what was gathered is taken back
 pub taken_back : (w : Writer) (bytes : List ℕ) (n before : ℕ) → before ≡ length w.gathered.items → take before (gathered_with w bytes n) ≡ w.gathered.items
@@ -252,12 +303,6 @@ back w w' new a b g = record {
 
 pub none_taken : (s : State) (w : Writer) → is_writing s w.put ≡ true → IsWriterOf s w → is_cut s.geometry w 0 ≡ false
 none_taken s w writing own = let few : length w.gathered.items < s.geometry.fragment = few_gathered s w writing own in not_cut s.geometry w 0 (omega (arith, few))
-
-pub nothing_added : (kept : Kept) (w : Writer) (bytes : List ℕ) → is_writing (state_of kept) w.put ≡ true → IsWriterOf (state_of kept) w → kept ≡ with_records kept (write_adds (state_of kept) w bytes (Ok 0))
-nothing_added kept w bytes writing own =
-    let none : is_cut (state_of kept).geometry w 0 ≡ false = none_taken (state_of kept) w writing own in
-    ap (λ recs. let k : Kept = record { base = kept.base; since = recs } in k) (sym (append-nil kept.since))
-    ∙ ap (λ b. with_records kept (if b then cut_adds (state_of kept) w (gathered_with w bytes 0) else [])) (sym none)
 
 pub left_none : (s : State) (w : Writer) (bytes : List ℕ) → is_writing s w.put ≡ true → IsWriterOf s w → w.gathered.items ≡ left_of s.geometry w bytes 0
 left_none s w bytes writing own =

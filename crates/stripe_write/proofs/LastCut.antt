@@ -1,53 +1,127 @@
 -- The rest of a sealed writer is cut.
-use Rattle.std.proofs.Common.{◌≡◌, ℕ, ◌<◌, List, [], ◌∷◌, length, refl, sym, ◌∙◌, ap, arith, true, false, inl, inr, ◌⊎◌, ◌*◌, Ok, Err}
-use Rattle.std.specs.Prelude.{option_map, unwrap_or}
+use Rattle.std.proofs.Common.{◌≡◌, ℕ, ◌<◌, List, [], ◌∷◌, length, refl, sym, ◌∙◌, ap, subst, arith, true, false, inl, inr, ◌⊎◌, ◌*◌, Ok, Err}
+use Rattle.std.specs.Prelude.{option_map, unwrap_or, Result}
+use Rattle.std.specs.List.{AllByRecursion}
+use Rattle.ats_disk.specs.Device.{State as Device}
 use Rattle.fragment_table.specs.Table.{total_length}
-use Rattle.cache_model.specs.State.{State, after_all, put_of}
-use Rattle.cache_model.specs.Kept.{Kept, state_of, with_records}
-use Rattle.cache_model.specs.Permit.{Done, Permit}
+use Rattle.cache_model.specs.declared.record.Rec.{Rec}
+use Rattle.cache_model.specs.State.{State, put_of}
+use Rattle.cache_model.specs.Kept.{Kept, state_of}
+use Rattle.cache_model.specs.Permit.{Done, Exhausted, Fails, Faulted, Permit, Reason}
 use Rattle.cache_model.specs.Verdict.{is_open}
 use Rattle.cache_model.specs.Legal.{MayGrow, is_writing}
-use Rattle.cache_model.proofs.Steps.{after_all-append}
 use Rattle.stripe_core.specs.declared.refusal.Placed.{Placed}
 use Rattle.stripe_core.specs.declared.refusal.Refusal.{Refusal}
 use Rattle.stripe_core.specs.declared.refusal.Refusal.TheVariants as refusal
+use Rattle.stripe_core.specs.declared.refusal.Stop.{Stop}
 use Rattle.stripe_core.specs.declared.refusal.Stop.TheVariants as stop
-use Rattle.stripe_core.specs.Covers.{Covers}
-use Rattle.stripe_core.specs.Place.{CutsAsAsked, fragment_adds}
+use Rattle.stripe_core.specs.Covers.{Spends}
+use Rattle.stripe_core.specs.Flush.{AreOfFlush}
+use Rattle.stripe_core.specs.Place.{CutsAsAsked, IsCutAs, IsStoppedAs}
 use Rattle.stripe_core.specs.Stripe.{Answers, HasMemory}
 use Rattle.stripe_write.specs.declared.writer.Writer.{Writer}
 use Rattle.stripe_write.specs.Closing.{SpendsAll, rest_intents}
-use Rattle.stripe_write.specs.Resting.{rest_end, rest_records}
+use Rattle.stripe_write.specs.Resting.{IsRestAs, RestsAsAsked}
+use Rattle.stripe_write.specs.Others.{AddsOfPut, IsOfPut}
 use Rattle.stripe_write.specs.Writers.{IsAllCut, IsAtHand, IsWriterOf}
-use Rattle.stripe_write.specs.Writes.{IsReady, next_id, next_start}
-use Rattle.stripe_write.proofs.Cutting.{cut_row}
+use Rattle.stripe_write.specs.Writes.{IsReady, cuts_fragment, next_id, next_start}
+use Rattle.stripe_write.proofs.Flushed.{flush_is_own, flush_leaves}
+use Rattle.stripe_write.proofs.Spending.{nothing_more, state_behind}
+use Rattle.stripe_write.proofs.Cutting.{cut_is_own, cut_row, next_no_vector}
 use Rattle.stripe_write.proofs.Ended.{open_put}
-use Rattle.stripe_write.proofs.Gathering.{failed_puts}
 
 -- nothing is asked where nothing is gathered
-pub rest_none : (p : Permit) (s : State) (w : Writer) (payload : List ℕ) → length payload ≡ 0 → SpendsAll p s (rest_intents w payload) (rest_records s w payload (Ok tt)) Done
-rest_none p s w [] e = λ rest why. MayGrow.nothing
-rest_none p s w (byte ∷ bytes) e = absurd (omega (arith, e))
+none_shape : (s : State) (faults : ℕ) (w : Writer) (payload : List ℕ) (u : Unit {0}) → length payload ≡ 0 → IsRestAs s faults w payload [] (Ok u)
+none_shape s faults w [] u e = refl
+none_shape s faults w (byte ∷ bytes) u e = absurd (omega (arith, e))
+
+none_spends : (p : Permit) (s : State) (w : Writer) (payload : List ℕ) → length payload ≡ 0 → SpendsAll p s (rest_intents w payload) [] Done
+none_spends p s w [] e = λ rest why. MayGrow.nothing
+none_spends p s w (byte ∷ bytes) e = absurd (omega (arith, e))
+
+pub rest_none : (now : ℕ) (kept : Kept) (before after : ℕ) (w : Writer) (u : Unit {0}) → length w.gathered.items ≡ 0 → RestsAsAsked now kept kept before after w (Ok u)
+rest_none now kept before after w u e = record {
+  added = [];
+  reads = [];
+  adds = sym (nothing_more kept);
+  shape = none_shape (state_of kept) after w w.gathered.items u e;
+  does = λ p at covers. none_spends p (state_of kept) w w.gathered.items e;
+}
+
+-- a rest that is cut
+cut_shape : (s : State) (faults : ℕ) (w : Writer) (payload : List ℕ) (added : List Rec) (placed : Placed) (u : Unit {0}) → 0 < length payload → IsCutAs s (next_id w) w.pin (next_start w) payload added placed
+    → IsRestAs s faults w payload added (Ok u)
+cut_shape s faults w [] added placed u some c = absurd (omega (arith, some))
+cut_shape s faults w (byte ∷ bytes) added placed u some c = (placed, c)
+
+cut_spends : (p : Permit) (s : State) (w : Writer) (payload : List ℕ) (added : List Rec) → 0 < length payload → Spends p s (cuts_fragment w payload) added Done → SpendsAll p s (rest_intents w payload) added Done
+cut_spends p s w [] added some h = absurd (omega (arith, some))
+cut_spends p s w (byte ∷ bytes) added some h = h
+
+pub rest_cut : (now : ℕ) (old new : Kept) (before : ℕ) (after : Device) (w : Writer) (placed : Placed) (u : Unit {0}) → 0 < length w.gathered.items
+    → CutsAsAsked now old new before after (next_id w) w.pin (next_start w) w.gathered.items (Ok placed) → RestsAsAsked now old new before after.faults w (Ok u)
+rest_cut now old new before after w placed u some h = record {
+  added = h.added;
+  reads = h.reads;
+  adds = h.adds;
+  shape = cut_shape (state_of old) after.faults w w.gathered.items h.added placed u some h.shape;
+  does = λ p at covers. cut_spends p (state_of old) w w.gathered.items h.added some (h.does p at covers);
+}
+
+-- a rest that is not
+stop_shape : (s : State) (faults : ℕ) (w : Writer) (payload : List ℕ) (added : List Rec) (why : Stop) → 0 < length payload → IsStoppedAs s faults payload added why → IsRestAs s faults w payload added (Err why)
+stop_shape s faults w [] added why some h = absurd (omega (arith, some))
+stop_shape s faults w (byte ∷ bytes) added why some h = h
+
+stop_spends : (p : Permit) (s : State) (w : Writer) (payload : List ℕ) (added : List Rec) (reason : Reason) → 0 < length payload → Spends p s (cuts_fragment w payload) added (Fails reason) → SpendsAll p s (rest_intents w payload) added (Fails reason)
+stop_spends p s w [] added reason some h = absurd (omega (arith, some))
+stop_spends p s w (byte ∷ bytes) added reason some h = h
 
 -- where the rest is refused, and memory is not wanting, what was asked of it fails
-pub rest_refused : (s : State) (before after : ℕ) (w : Writer) (payload : List ℕ) (why : Refusal) → 0 < length payload → HasMemory {X = Placed} (Err why)
-    → Answers {X = Placed} (Err why) (CutsAsAsked s before after (next_id w) w.pin (next_start w) payload) (Unit {0})
-    → Answers {X = Unit {0}} (Err why) (λ r. (p : Permit) → Covers p before after [] → SpendsAll p s (rest_intents w payload) (rest_records s w payload r) (rest_end r)) ⊥
-rest_refused s before after w [] why some memory h = absurd (omega (arith, some))
-rest_refused s before after w (byte ∷ bytes) (refusal.DeviceFault count) some memory h = h
-rest_refused s before after w (byte ∷ bytes) (refusal.Exhausted number) some memory h = h
-rest_refused s before after w (byte ∷ bytes) (refusal.Memory e) some memory h = memory
-rest_refused s before after w (byte ∷ bytes) refusal.TooManyWriters some memory h = h
-rest_refused s before after w (byte ∷ bytes) refusal.TooManyFragments some memory h = h
-rest_refused s before after w (byte ∷ bytes) (refusal.VectorTooLarge size) some memory h = h
-rest_refused s before after w (byte ∷ bytes) (refusal.Lost index cause) some memory h = h
-rest_refused s before after w (byte ∷ bytes) refusal.Sealed some memory h = h
-rest_refused s before after w (byte ∷ bytes) refusal.NoSuchWriter some memory h = h
+pub rest_refused : (now : ℕ) (old new : Kept) (before : ℕ) (after : Device) (w : Writer) (why : Refusal) → 0 < length w.gathered.items → HasMemory {X = Placed} (Err why)
+    → Answers {X = Placed} (Err why) (CutsAsAsked now old new before after (next_id w) w.pin (next_start w) w.gathered.items) (new ≡ old)
+    → Answers {X = Unit {0}} (Err why) (RestsAsAsked now old new before after.faults w) ⊥
+rest_refused now old new before after w (refusal.DeviceFault count) some memory h = record {
+  added = h.added;
+  reads = h.reads;
+  adds = h.adds;
+  shape = stop_shape (state_of old) after.faults w w.gathered.items h.added (stop.DeviceFault count) some h.shape;
+  does = λ p at covers. stop_spends p (state_of old) w w.gathered.items h.added (Faulted count) some (h.does p at covers);
+}
+rest_refused now old new before after w (refusal.Exhausted number) some memory h = record {
+  added = h.added;
+  reads = h.reads;
+  adds = h.adds;
+  shape = stop_shape (state_of old) after.faults w w.gathered.items h.added (stop.Exhausted number) some h.shape;
+  does = λ p at covers. stop_spends p (state_of old) w w.gathered.items h.added Exhausted some (h.does p at covers);
+}
+rest_refused now old new before after w (refusal.Memory e) some memory h = memory
+rest_refused now old new before after w refusal.TooManyWriters some memory h = h
+rest_refused now old new before after w refusal.TooManyFragments some memory h = h
+rest_refused now old new before after w (refusal.VectorTooLarge size) some memory h = h
+rest_refused now old new before after w (refusal.Lost index cause) some memory h = h
+rest_refused now old new before after w refusal.Sealed some memory h = h
+rest_refused now old new before after w refusal.NoSuchWriter some memory h = h
 
--- a rest that is not cut leaves the puts
-pub rest_puts : (old new : Kept) (w : Writer) (payload : List ℕ) (number : ℕ) → new ≡ with_records old (rest_records (state_of old) w payload (Err (stop.Exhausted number))) → (state_of new).puts ≡ (state_of old).puts
-rest_puts old new w [] number adds = ap (λ (x : State). x.puts) (ap state_of adds ∙ after_all-append old.base old.since [])
-rest_puts old new w (byte ∷ bytes) number adds = (failed_puts old new (next_id w) w.pin (next_start w) (byte ∷ bytes) (refusal.Exhausted number) adds).puts
+-- ---- what its records leave
+
+-- where it is not cut they are those of a flush
+stopped_kinds : (s : State) (faults : ℕ) (w : Writer) (payload : List ℕ) (added : List Rec) (why : Stop) → IsRestAs s faults w payload added (Err why) → AreOfFlush added
+stopped_kinds s faults w [] added why none = subst AreOfFlush (sym none) tt
+stopped_kinds s faults w (byte ∷ bytes) added why h = h.kinds
+
+pub rest_puts : (now : ℕ) (old new : Kept) (before after : ℕ) (w : Writer) (why : Stop) → RestsAsAsked now old new before after w (Err why) → (state_of new).puts ≡ (state_of old).puts
+rest_puts now old new before after w why h =
+    ap (λ (x : State). x.puts) (state_behind old new h.added h.adds) ∙ (flush_leaves (state_of old) h.added (stopped_kinds (state_of old) after w w.gathered.items h.added why h.shape)).puts
+
+-- they are its put's own
+rest_is_own : (s : State) (faults : ℕ) (w : Writer) (payload : List ℕ) (added : List Rec) (u : Unit {0}) → IsRestAs s faults w payload added (Ok u) → AllByRecursion (IsOfPut w.put) added
+rest_is_own s faults w [] added u none = subst (AllByRecursion (IsOfPut w.put)) (sym none) tt
+rest_is_own s faults w (byte ∷ bytes) added u h = cut_is_own s (next_id w) w.pin (next_start w) (byte ∷ bytes) added h.0 (next_no_vector w) h.1
+
+pub rest_own : (now : ℕ) (old new : Kept) (before after : ℕ) (w : Writer) (result : Result (Unit {0}) Stop) → RestsAsAsked now old new before after w result → AddsOfPut w.put old new
+rest_own now old new before after w (Ok u) h = record { added = h.added; adds = h.adds; own = rest_is_own (state_of old) after w w.gathered.items h.added u h.shape }
+rest_own now old new before after w (Err why) h = record { added = h.added; adds = h.adds; own = flush_is_own w.put h.added (stopped_kinds (state_of old) after w w.gathered.items h.added why h.shape) }
 
 not_all_cut : (w : Writer) (P : Type 0) → 0 < length w.gathered.items → IsAllCut w ⊎ P → P
 not_all_cut w P some (inl all) = let none : length w.gathered.items ≡ 0 = ap length all.empty in absurd (omega (arith, some, none))
@@ -75,11 +149,8 @@ rest_ready s w writing own sealed some room =
     }
 
 -- the put is open behind a cut
-pub cut_open : (kept new : Kept) (w next : Writer) (placed : Placed) → IsReady (state_of kept) w → new ≡ with_records kept (fragment_adds (state_of kept) (next_id w) w.pin (next_start w) w.gathered.items (Ok placed))
-    → next.put ≡ w.put → is_writing (state_of new) next.put ≡ true
-cut_open kept new w next placed r is put =
-    let s : State = state_of kept in
-    let state : state_of new ≡ after_all s (fragment_adds s (next_id w) w.pin (next_start w) w.gathered.items (Ok placed)) =
-    ap state_of is ∙ after_all-append kept.base kept.since (fragment_adds s (next_id w) w.pin (next_start w) w.gathered.items (Ok placed)) in
-    let row = cut_row s (state_of new) w placed r state in
+pub cut_open : (now : ℕ) (kept new : Kept) (before : ℕ) (after : Device) (w next : Writer) (placed : Placed) → IsReady (state_of kept) w
+    → CutsAsAsked now kept new before after (next_id w) w.pin (next_start w) w.gathered.items (Ok placed) → next.put ≡ w.put → is_writing (state_of new) next.put ≡ true
+cut_open now kept new before after w next placed r h put =
+    let row = cut_row (state_of kept) (state_of new) w h.added placed r h.shape (state_behind kept new h.added h.adds) in
     ap (is_writing (state_of new)) put ∙ (ap (λ o. unwrap_or (option_map is_open o) false) row ∙ rw r.is_open refl)

@@ -1,10 +1,13 @@
 pub mod Ended
+pub mod Flushed
+pub mod Spending
 pub mod Cutting
 mod Gathering
 mod Reaching
 mod LastCut
-pub mod Spending
 pub mod Completing
+mod Sealing
+mod Keeping
 mod Roomed
 mod WeighingReads
 mod WeighingFits

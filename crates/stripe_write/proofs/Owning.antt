@@ -1,42 +1,35 @@
 -- What the calls of one writer leave of others.
-use Rattle.std.proofs.Common.{◌≡◌, ℕ, List, [], ◌∷◌, ◌++◌, refl, sym, ◌∙◌, ap, subst, Bool, true, false, cond, length, Result, Ok, Err}
-use Rattle.std.specs.Prelude.{Option, Some, None, option_map, find, if◌then◌else◌, ◌==◌}
+use Rattle.std.proofs.Common.{◌≡◌, ℕ, List, [], ◌∷◌, ◌++◌, refl, sym, ◌∙◌, ap, subst, Bool, true, false, cond, Result, Ok, Err}
+use Rattle.std.specs.Prelude.{Option, Some, None, option_map, find, ◌==◌}
+use Rattle.ats_disk.specs.Device.{State as Device}
 use Rattle.std.specs.List.{AllByRecursion}
 use Rattle.std.proofs.lemmas.Bool.{eqb-true}
-use Rattle.std.proofs.lemmas.List.{append_assoc}
 use Rattle.tape_base.specs.declared.keys.Key.{Key}
-use Rattle.tape_base.specs.Digest.{digest_of}
-use Rattle.tape_base.specs.Piece.{is_vector}
 use Rattle.cache_model.specs.declared.cause.Cause.{Cause}
 use Rattle.cache_model.specs.declared.cause.Cause.TheVariants as cause
 use Rattle.cache_model.specs.declared.record.Rec.{Rec}
 use Rattle.cache_model.specs.declared.record.Rec.TheVariants as rec
-use Rattle.cache_model.specs.State.{PutRow, Row, State, after_all, change_put, cursor_next, floor_next, state_after, vector_piece}
+use Rattle.cache_model.specs.State.{PutRow, Row, State, after_all, change_put, state_after, vector_piece}
 use Rattle.cache_model.specs.Kept.{Kept, state_of, with_records}
 use Rattle.cache_model.specs.Verdict.{live_vector_of}
-use Rattle.cache_model.specs.Room.{has_room, is_flush_exhausted, placed_record}
-use Rattle.cache_model.proofs.Steps.{after_all-append}
 use Rattle.stripe_actors.proofs.Rows.{find-changed}
 use Rattle.stripe_core.specs.declared.refusal.Placed.{Placed}
 use Rattle.stripe_core.specs.declared.refusal.Refusal.{Refusal}
 use Rattle.stripe_core.specs.declared.refusal.Refusal.TheVariants as refusal
 use Rattle.stripe_core.specs.declared.refusal.Stop.{Stop}
-use Rattle.stripe_core.specs.declared.refusal.Stop.TheVariants as stop
 use Rattle.stripe_core.specs.Find.{cause_records}
-use Rattle.stripe_core.specs.Place.{placing_adds, room_adds, room_records, with_room}
-use Rattle.stripe_core.specs.Stripe.{Answers}
+use Rattle.stripe_core.specs.Place.{RoomsAsAsked, place_adds}
 use Rattle.stripe_vectors.specs.declared.reading.KeyVector.{KeyVector}
 use Rattle.stripe_vectors.specs.declared.reading.KeyVector.TheVariants as found
 use Rattle.stripe_vectors.specs.Reading.{trouble_records, vector_adds}
 use Rattle.stripe_write.specs.declared.weighing.Vectors.{Vectors}
 use Rattle.stripe_write.specs.declared.writer.Writer.{Writer}
 use Rattle.stripe_write.specs.Writers.{IsAtHand, IsWriterOf}
-use Rattle.stripe_write.specs.Writes.{cut_adds, gathered_with, is_cut, next_id, next_start, taken_of, write_adds}
-use Rattle.stripe_write.specs.Resting.{rest_adds, rest_records}
 use Rattle.stripe_write.specs.Weighing.{fit_adds}
 use Rattle.stripe_write.specs.Others.{AddsOfPut, IsOfPut, LeavesOthers}
-use Rattle.stripe_write.proofs.Completing.{nothing_more}
-use Rattle.stripe_write.proofs.Cutting.{next_no_vector}
+use Rattle.stripe_write.proofs.Spending.{nothing_more, state_behind, then_more}
+use Rattle.stripe_write.proofs.Flushed.{flush_is_own}
+use Rattle.stripe_write.proofs.Cutting.{both_own}
 
 -- ---- one record, and several
 
@@ -87,7 +80,7 @@ all_records put s [] own = same_others put s s refl refl refl
 all_records put s (r ∷ recs) own = then_others put s (state_after s r) _ (one_record put s r own.0) (all_records put (state_after s r) recs own.1)
 
 pub others_stay : (put : ℕ) (old new : Kept) → AddsOfPut put old new → LeavesOthers put (state_of old) (state_of new)
-others_stay put old new h = subst (LeavesOthers put (state_of old)) (sym (ap state_of h.adds ∙ after_all-append old.base old.since h.added)) (all_records put (state_of old) h.added h.own)
+others_stay put old new h = subst (LeavesOthers put (state_of old)) (sym (state_behind old new h.added h.adds)) (all_records put (state_of old) h.added h.own)
 
 pub writers_stay : (put : ℕ) (s t : State) (w : Writer) → LeavesOthers put s t → (w.put ≡ put → ⊥) → IsWriterOf s w → IsWriterOf t w
 writers_stay put s t w leaves other own = λ row found o. subst (λ g. IsAtHand g row w) (sym leaves.geometry) (own row (sym (leaves.puts w.put other) ∙ found) o)
@@ -100,15 +93,11 @@ owns_none put old new h = record { added = []; adds = h ∙ sym (nothing_more ol
 pub owns : (put : ℕ) (old new : Kept) (added : List Rec) → new ≡ with_records old added → AllByRecursion (IsOfPut put) added → AddsOfPut put old new
 owns put old new added adds own = record { added = added; adds = adds; own = own }
 
-both : (put : ℕ) (a b : List Rec) → AllByRecursion (IsOfPut put) a → AllByRecursion (IsOfPut put) b → AllByRecursion (IsOfPut put) (a ++ b)
-both put [] b own then_ = then_
-both put (r ∷ a) b own then_ = (own.0, both put a b own.1 then_)
-
 pub then_owns : (put : ℕ) (old mid new : Kept) → AddsOfPut put old mid → AddsOfPut put mid new → AddsOfPut put old new
 then_owns put old mid new a b = record {
   added = a.added ++ b.added;
-  adds = b.adds ∙ (ap (λ k. with_records k b.added) a.adds ∙ ap (λ recs. let k : Kept = record { base = old.base; since = recs } in k) (append_assoc old.since a.added b.added));
-  own = both put a.added b.added a.own b.own;
+  adds = then_more old mid new a.added b.added a.adds b.adds;
+  own = both_own put a.added b.added a.own b.own;
 }
 
 -- ---- the records of each
@@ -132,81 +121,13 @@ own_trouble put (Some row) (found.Trouble why) = own_cause put row why
 pub owns_read : (put : ℕ) (old new : Kept) (key : Key) (answer : KeyVector) → new ≡ with_records old (vector_adds (state_of old) key answer) → AddsOfPut put old new
 owns_read put old new key answer adds = owns put old new _ adds (own_trouble put (live_vector_of (state_of old) key) answer)
 
-own_room : (put : ℕ) (s : State) (b : Bool) → AllByRecursion (IsOfPut put) (if b then [] else rec.Began (cursor_next s) (floor_next s) ∷ [])
-own_room put s true = tt
-own_room put s false = (tt, tt)
+-- room that is made, or is not
+pub owns_room : (put : ℕ) (now : ℕ) (old new : Kept) (before : ℕ) (after : Device) (bytes : ℕ) (result : Result (Unit {0}) Stop) → RoomsAsAsked now old new before after bytes result → AddsOfPut put old new
+owns_room put now old new before after bytes result h = owns put old new h.added h.adds (flush_is_own put h.added h.kinds)
 
-own_room_adds : (put : ℕ) (s : State) (n : ℕ) (result : Result (Unit {0}) Stop) → AllByRecursion (IsOfPut put) (room_adds s n result)
-own_room_adds put s n (Ok u) = own_room put s (has_room s n)
-own_room_adds put s n (Err (stop.DeviceFault count)) = (tt, tt)
-own_room_adds put s n (Err (stop.Exhausted number)) = tt
-
-pub owns_room : (put : ℕ) (old new : Kept) (n : ℕ) (u : Unit {0}) → new ≡ with_records old (room_adds (state_of old) n (Ok u)) → AddsOfPut put old new
-owns_room put old new n u adds = owns put old new _ adds (own_room_adds put (state_of old) n (Ok u))
-
-pub owns_no_room : (put : ℕ) (old new : Kept) (n : ℕ) (why : Refusal) → Answers {X = Unit {0}} (Err why) (λ r. new ≡ with_records old (room_adds (state_of old) n r)) ⊥ → AddsOfPut put old new
-owns_no_room put old new n (refusal.DeviceFault count) adds = owns put old new _ adds (tt, tt)
-owns_no_room put old new n (refusal.Exhausted number) adds = owns put old new _ adds tt
-owns_no_room put old new n (refusal.Memory e) adds = absurd adds
-owns_no_room put old new n refusal.TooManyWriters adds = absurd adds
-owns_no_room put old new n refusal.TooManyFragments adds = absurd adds
-owns_no_room put old new n (refusal.VectorTooLarge size) adds = absurd adds
-owns_no_room put old new n (refusal.Lost index why) adds = absurd adds
-owns_no_room put old new n refusal.Sealed adds = absurd adds
-owns_no_room put old new n refusal.NoSuchWriter adds = absurd adds
-
--- a vector that is placed, or is not
-pub owns_vector : (put : ℕ) (old new : Kept) (key : Key) (pin : ℕ) (payload : List ℕ) (placed : Placed) → new ≡ with_records old (placing_adds (state_of old) (vector_piece key put) pin 0 payload (Ok placed)) → AddsOfPut put old new
+-- a vector that is placed
+pub owns_vector : (put : ℕ) (old new : Kept) (key : Key) (pin : ℕ) (payload : List ℕ) (placed : Placed) → new ≡ with_records old (place_adds (state_of old) (vector_piece key put) pin 0 payload (Ok placed)) → AddsOfPut put old new
 owns_vector put old new key pin payload placed adds = owns put old new _ adds (tt, tt)
-
-pub owns_no_vector : (put : ℕ) (old new : Kept) (key : Key) (pin : ℕ) (payload : List ℕ) (why : Refusal)
-    → Answers {X = Placed} (Err why) (λ r. new ≡ with_records old (placing_adds (state_of old) (vector_piece key put) pin 0 payload r)) (new ≡ old) → AddsOfPut put old new
-owns_no_vector put old new key pin payload (refusal.DeviceFault count) adds = owns put old new _ adds tt
-owns_no_vector put old new key pin payload (refusal.Exhausted number) adds = owns put old new _ adds tt
-owns_no_vector put old new key pin payload (refusal.Memory e) adds = owns_none put old new adds
-owns_no_vector put old new key pin payload refusal.TooManyWriters adds = absurd adds
-owns_no_vector put old new key pin payload refusal.TooManyFragments adds = absurd adds
-owns_no_vector put old new key pin payload (refusal.VectorTooLarge size) adds = absurd adds
-owns_no_vector put old new key pin payload (refusal.Lost index why) adds = absurd adds
-owns_no_vector put old new key pin payload refusal.Sealed adds = absurd adds
-owns_no_vector put old new key pin payload refusal.NoSuchWriter adds = absurd adds
-
--- the rest that is cut, or is not
-own_pieces : (s : State) (w : Writer) (payload : List ℕ) → AllByRecursion (IsOfPut w.put) (cut_adds s w payload)
-own_pieces s w payload =
-    both w.put (room_records s (length payload)) _ (own_room w.put s (has_room s (length payload))) (by (is_vector (next_id w)) (next_no_vector w))
-  where
-    by : (b : Bool) → b ≡ false
-        → AllByRecursion (IsOfPut w.put) ((if b then [] else rec.Cut w.put (next_id w).index (length payload) (digest_of payload) ∷ []) ++ placed_record (with_room s (length payload)) (next_id w) w.pin (next_start w) (length payload) payload ∷ [])
-    by true e = cc
-    by false e = (refl, (tt, tt))
-
-own_rest : (s : State) (w : Writer) (bytes : List ℕ) (u : Unit {0}) → AllByRecursion (IsOfPut w.put) (rest_records s w bytes (Ok u))
-own_rest s w [] u = tt
-own_rest s w (byte ∷ bytes) u = own_pieces s w (byte ∷ bytes)
-
-pub owns_rest : (old new : Kept) (w : Writer) (u : Unit {0}) → new ≡ with_records old (rest_adds (state_of old) w (Ok u)) → AddsOfPut w.put old new
-owns_rest old new w u adds = owns w.put old new _ adds (own_rest (state_of old) w w.gathered.items u)
-
-own_room_or_none : (put : ℕ) (s : State) (n : ℕ) (b : Bool) → AllByRecursion (IsOfPut put) (if b then [] else room_records s n)
-own_room_or_none put s n true = tt
-own_room_or_none put s n false = own_room put s (has_room s n)
-
-own_no_rest : (s : State) (w : Writer) (bytes : List ℕ) (why : Stop) → AllByRecursion (IsOfPut w.put) (rest_records s w bytes (Err why))
-own_no_rest s w [] why = tt
-own_no_rest s w (byte ∷ bytes) (stop.DeviceFault count) = (tt, tt)
-own_no_rest s w (byte ∷ bytes) (stop.Exhausted number) = own_room_or_none w.put s (length (byte ∷ bytes)) (is_flush_exhausted s)
-
-pub owns_no_rest : (old new : Kept) (w : Writer) (why : Refusal) → Answers {X = Unit {0}} (Err why) (λ r. new ≡ with_records old (rest_adds (state_of old) w r)) ⊥ → AddsOfPut w.put old new
-owns_no_rest old new w (refusal.DeviceFault count) adds = owns w.put old new _ adds (own_no_rest (state_of old) w w.gathered.items (stop.DeviceFault count))
-owns_no_rest old new w (refusal.Exhausted number) adds = owns w.put old new _ adds (own_no_rest (state_of old) w w.gathered.items (stop.Exhausted number))
-owns_no_rest old new w (refusal.Memory e) adds = absurd adds
-owns_no_rest old new w refusal.TooManyWriters adds = absurd adds
-owns_no_rest old new w refusal.TooManyFragments adds = absurd adds
-owns_no_rest old new w (refusal.VectorTooLarge size) adds = absurd adds
-owns_no_rest old new w (refusal.Lost index why) adds = absurd adds
-owns_no_rest old new w refusal.Sealed adds = absurd adds
-owns_no_rest old new w refusal.NoSuchWriter adds = absurd adds
 
 -- a put that is weighed
 own_fit : (w : Writer) (result : Result Vectors Refusal) → AllByRecursion (IsOfPut w.put) (fit_adds w result)
@@ -223,20 +144,3 @@ own_fit w (Err refusal.NoSuchWriter) = tt
 
 pub owns_fit : (old new : Kept) (w : Writer) (result : Result Vectors Refusal) → new ≡ with_records old (fit_adds w result) → AddsOfPut w.put old new
 owns_fit old new w result adds = owns w.put old new _ adds (own_fit w result)
-
--- bytes that are taken
-own_taken : (s : State) (w : Writer) (payload : List ℕ) (b : Bool) → AllByRecursion (IsOfPut w.put) (if b then cut_adds s w payload else [])
-own_taken s w payload true = own_pieces s w payload
-own_taken s w payload false = tt
-
-pub writes_are_own : (s : State) (w : Writer) (bytes : List ℕ) (result : Result ℕ Refusal) → AllByRecursion (IsOfPut w.put) (write_adds s w bytes result)
-writes_are_own s w bytes (Ok n) = own_taken s w (gathered_with w bytes n) (is_cut s.geometry w n)
-writes_are_own s w bytes (Err (refusal.DeviceFault count)) = (tt, tt)
-writes_are_own s w bytes (Err (refusal.Exhausted number)) = own_room_or_none w.put s (length (gathered_with w bytes (taken_of s.geometry w bytes))) (is_flush_exhausted s)
-writes_are_own s w bytes (Err refusal.TooManyFragments) = (refl, tt)
-writes_are_own s w bytes (Err (refusal.VectorTooLarge size)) = tt
-writes_are_own s w bytes (Err (refusal.Memory e)) = tt
-writes_are_own s w bytes (Err refusal.TooManyWriters) = tt
-writes_are_own s w bytes (Err (refusal.Lost index why)) = tt
-writes_are_own s w bytes (Err refusal.Sealed) = tt
-writes_are_own s w bytes (Err refusal.NoSuchWriter) = tt

@@ -1,31 +1,25 @@
 -- The number that reaches the limit.
-use Rattle.std.proofs.Common.{◌≡◌, ℕ, ◌+◌, ◌<◌, ◌≤◌, List, [], ◌∷◌, ◌++◌, refl, sym, ◌∙◌, ap, subst, arith, Bool, true, false, length, Result, Ok, Err}
+use Rattle.std.proofs.Common.{◌≡◌, ℕ, ◌+◌, ◌<◌, List, [], ◌∷◌, ◌++◌, refl, sym, ◌∙◌, ap, subst, arith, Bool, true, false, length, Result, Ok, Err}
 use Rattle.std.specs.Prelude.{◌==◌, if◌then◌else◌, IfErr}
-use Rattle.std.proofs.lemmas.Bool.{eq-eqb, eqb-true, le-leb}
+use Rattle.std.proofs.lemmas.Bool.{eq-eqb, eqb-true}
 use Rattle.std.proofs.lemmas.List.{length-append}
-use Rattle.tape_base.specs.declared.pieces.PieceId.{PieceId}
 use Rattle.tape_base.specs.Blocks.{blocks_of}
 use Rattle.fragment_table.specs.Table.{TableRow}
-use Rattle.cache_model.specs.declared.record.Rec.TheVariants as rec
-use Rattle.cache_model.specs.State.{State, after_all, cursor_next, floor_next, place_now, state_after}
-use Rattle.cache_model.specs.Kept.{Kept, state_of, with_records}
+use Rattle.cache_model.specs.State.{State, cursor_next, place_now}
 use Rattle.cache_model.specs.Verdict.{cuts_of}
 use Rattle.cache_model.specs.Legal.{vector_length}
-use Rattle.cache_model.specs.Room.{has_room, is_flush_exhausted, limit}
-use Rattle.cache_model.proofs.Steps.{after_all-append}
-use Rattle.stripe_core.specs.declared.refusal.Placed.{Placed}
+use Rattle.cache_model.specs.Room.{has_room}
 use Rattle.stripe_core.specs.declared.refusal.Refusal.{Refusal}
 use Rattle.stripe_core.specs.declared.refusal.Refusal.TheVariants as refusal
 use Rattle.stripe_core.specs.declared.refusal.Stop.TheVariants as stop
 use Rattle.stripe_core.specs.Flush.{StopsWith}
-use Rattle.stripe_core.specs.Place.{FragmentAt, PlacesAt, fragment_adds, number_above}
-use Rattle.stripe_core.specs.Stripe.{Answers}
+use Rattle.stripe_core.specs.Place.{PlacesAt, ReachesLimit, number_over}
 use Rattle.stripe_write.specs.declared.finishing.Receipt.{Receipt}
 use Rattle.stripe_write.specs.declared.writer.Writer.{Writer}
 use Rattle.stripe_write.specs.Closing.{rest_rows, rows_at_close}
 use Rattle.stripe_write.specs.Closes.{bytes_next}
 use Rattle.stripe_write.specs.Finishing.{VectorStops}
-use Rattle.stripe_write.specs.Numbers.{ReachesLimit, StopsAtLimit, number_over}
+use Rattle.stripe_write.specs.Numbers.{StopsAtLimit}
 
 -- ---- a piece with room, and one without
 
@@ -40,43 +34,6 @@ place_reaches s payload number room at = (at.0 ∙ sym (over_place s (length pay
 
 pub flush_reaches : (s : State) (bytes faults number : ℕ) → has_room s bytes ≡ false → StopsWith s faults (stop.Exhausted number) → ReachesLimit s bytes number
 flush_reaches s bytes faults number full stops = (stops.0 ∙ sym (over_flush s bytes full), stops.1)
-
--- ---- a fragment, behind the flush that it may need
-
-abbrev began : State → State
-began s = state_after s (rec.Began (cursor_next s) (floor_next s))
-
-room_then : (s : State) (bytes : ℕ) → blocks_of bytes ≤ s.geometry.agg → has_room (began s) bytes ≡ true
-room_then s bytes small = le-leb (0 + blocks_of bytes) s.geometry.agg (omega (arith, small))
-
-fragment_by : (s : State) (bytes : ℕ) (room full : Bool) → has_room s bytes ≡ room → blocks_of bytes ≤ s.geometry.agg
-    → number_over (after_all s (if full then [] else if room then [] else rec.Began (cursor_next s) (floor_next s) ∷ [])) bytes
-    ≡ (if room then place_now s + blocks_of bytes else if full then cursor_next s
-    else place_now (after_all s (if room then [] else rec.Began (cursor_next s) (floor_next s) ∷ [])) + blocks_of bytes)
-fragment_by s bytes true true r small = over_place s bytes r
-fragment_by s bytes true false r small = over_place s bytes r
-fragment_by s bytes false true r small = over_flush s bytes r
-fragment_by s bytes false false r small = over_place (began s) bytes (room_then s bytes small)
-
-fragment_over : (s : State) (id : PieceId) (pin start : ℕ) (payload : List ℕ) (number : ℕ) → blocks_of (length payload) ≤ s.geometry.agg
-    → number_over (after_all s (fragment_adds s id pin start payload (Err (stop.Exhausted number)))) (length payload) ≡ number_above s payload
-fragment_over s id pin start payload number small = fragment_by s (length payload) (has_room s (length payload)) (is_flush_exhausted s) refl small
-
-pub fragment_stops : (kept new : Kept) (faults : ℕ) (id : PieceId) (pin start : ℕ) (payload : List ℕ) (why : Refusal) → blocks_of (length payload) ≤ (state_of kept).geometry.agg
-    → Answers {X = Placed} (Err why) (λ r. new ≡ with_records kept (fragment_adds (state_of kept) id pin start payload r)) (new ≡ kept)
-    → Answers {X = Placed} (Err why) (FragmentAt (state_of kept) faults payload) (Unit {0}) → StopsAtLimit (state_of new) (length payload) why
-fragment_stops kept new faults id pin start payload (refusal.Exhausted number) small adds at =
-    let t : state_of new ≡ after_all (state_of kept) (fragment_adds (state_of kept) id pin start payload (Err (stop.Exhausted number))) =
-    ap state_of adds ∙ after_all-append kept.base kept.since (fragment_adds (state_of kept) id pin start payload (Err (stop.Exhausted number))) in
-    (at.0 ∙ (sym (fragment_over (state_of kept) id pin start payload number small) ∙ ap (λ x. number_over x (length payload)) (sym t)), at.1)
-fragment_stops kept new faults id pin start payload (refusal.DeviceFault count) small adds at = tt
-fragment_stops kept new faults id pin start payload (refusal.Memory e) small adds at = tt
-fragment_stops kept new faults id pin start payload refusal.TooManyWriters small adds at = tt
-fragment_stops kept new faults id pin start payload refusal.TooManyFragments small adds at = tt
-fragment_stops kept new faults id pin start payload (refusal.VectorTooLarge size) small adds at = tt
-fragment_stops kept new faults id pin start payload (refusal.Lost index cause) small adds at = tt
-fragment_stops kept new faults id pin start payload refusal.Sealed small adds at = tt
-fragment_stops kept new faults id pin start payload refusal.NoSuchWriter small adds at = tt
 
 -- ---- the piece that is placed next when a put closes
 

@@ -17,7 +17,8 @@ use Rattle.cache_model.specs.State.{PutRow, Row, State, after_all, alternate_of,
 use Rattle.cache_model.specs.Kept.{Kept, state_of, with_records}
 use Rattle.cache_model.specs.Verdict.{live_vector_of}
 use Rattle.cache_model.specs.Permit.{Done, End, Fails, Faulted, Permit, Stays, TooLarge, Weigh, work_after}
-use Rattle.cache_model.specs.Legal.{DoesWeigh, IsQuiet, IsReadWhereLive, IsWriting, MayGrow, aborted_record, is_writing, most_fragments, nothing, size_alone}
+use Rattle.cache_model.specs.Given.{IsReadWhereLive}
+use Rattle.cache_model.specs.Legal.{DoesWeigh, IsQuiet, IsWriting, MayGrow, aborted_record, is_writing, most_fragments, nothing, size_alone}
 use Rattle.cache_model.specs.Vectors.{AreVectors}
 use Rattle.cache_model.proofs.Steps.{grows_by, grows_on}
 use Rattle.stripe_core.specs.declared.refusal.Refusal.{Refusal}
@@ -33,7 +34,8 @@ use Rattle.stripe_write.specs.Closing.{AreSpelled, IsReadFor, WeighsAsAsked, Wei
 use Rattle.stripe_write.specs.Weighing.{FitsWhere, IsSpelledWith, fault_in, fit_adds, list_in}
 use Rattle.stripe_write.specs.Writers.{IsAtHand, IsWriterOf}
 use Rattle.stripe_write.proofs.Ended.{open_put, own_number}
-use Rattle.stripe_write.proofs.WeighingReads.{IsReadSoFar, fault_does, read_so_far, state_behind}
+use Rattle.stripe_write.proofs.Spending.{state_behind}
+use Rattle.stripe_write.proofs.WeighingReads.{IsReadSoFar, fault_does, read_so_far}
 
 -- ---- the size of the vector
 

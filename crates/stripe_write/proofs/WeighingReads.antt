@@ -15,9 +15,9 @@ use Rattle.cache_model.specs.State.{PutRow, Row, State, after_all, alternates_of
 use Rattle.cache_model.specs.Kept.{Kept, state_of, with_records}
 use Rattle.cache_model.specs.Verdict.{is_open, live_vector_of, vector_of}
 use Rattle.cache_model.specs.Permit.{Fails, Faulted, Permit, Stays}
-use Rattle.cache_model.specs.Legal.{DoesWeigh, IsDamaged, IsRead, IsReadWhereLive, IsWriting, IsWritten, MayCount, Trouble, damage_cause, damage_record, is_writing}
+use Rattle.cache_model.specs.Given.{IsDamaged, IsRead, IsReadWhereLive, IsWritten, MayCount, Trouble, damage_cause, damage_record}
+use Rattle.cache_model.specs.Legal.{DoesWeigh, IsWriting, is_writing}
 use Rattle.cache_model.specs.Vectors.{AreVectors}
-use Rattle.cache_model.proofs.Steps.{after_all-append}
 use Rattle.cache_chronicle.proofs.ListLemmas.{row_in-named}
 use Rattle.cache_chronicle.proofs.RowLemmas.{row_in-without}
 use Rattle.stripe_core.specs.Find.{cause_records}
@@ -26,6 +26,7 @@ use Rattle.stripe_vectors.specs.declared.reading.KeyVector.TheVariants as found
 use Rattle.stripe_vectors.specs.Reading.{IsCollision, IsReadAs, IsVectorFound, ReadIsListed, trouble_records, vector_adds}
 use Rattle.stripe_write.specs.Weighing.{fault_in, list_in}
 use Rattle.stripe_write.proofs.Gathering.{SamePuts}
+use Rattle.stripe_write.proofs.Spending.{state_behind}
 
 -- ---- the puts stay
 
@@ -44,9 +45,6 @@ read_leaves s None answer = record { puts = refl; geometry = refl }
 read_leaves s (Some row) found.Absent = record { puts = refl; geometry = refl }
 read_leaves s (Some row) (found.Read list) = record { puts = refl; geometry = refl }
 read_leaves s (Some row) (found.Trouble why) = cause_leaves s row why
-
-pub state_behind : (kept new : Kept) (recs : List Rec) → new ≡ with_records kept recs → state_of new ≡ after_all (state_of kept) recs
-state_behind kept new recs is = ap state_of is ∙ after_all-append kept.base kept.since recs
 
 pub same_puts : (kept new : Kept) (key : Key) (answer : KeyVector) → new ≡ with_records kept (vector_adds (state_of kept) key answer) → SamePuts (state_of kept) (state_of new)
 same_puts kept new key answer is =
@@ -71,6 +69,27 @@ read_pending s (Some row) (found.Trouble why) = none_pending s row why
 pub same_pending : (kept new : Kept) (key : Key) (answer : KeyVector) → new ≡ with_records kept (vector_adds (state_of kept) key answer) → (state_of new).pending ≡ (state_of kept).pending
 same_pending kept new key answer is =
     ap (λ (t : State). t.pending) (state_behind kept new (vector_adds (state_of kept) key answer) is) ∙ read_pending (state_of kept) (live_vector_of (state_of kept) key) answer
+
+none_displaced : (s : State) (row : Row) (why : Cause) → (after_all s (cause_records row why)).displaced ≡ s.displaced
+none_displaced s row cause.NeverPut = refl
+none_displaced s row cause.Removed = refl
+none_displaced s row (cause.Passed place floor unsaved) = refl
+none_displaced s row (cause.NoMatch count) = refl
+none_displaced s row (cause.Displaced segment live) = refl
+none_displaced s row (cause.Aborted writer) = refl
+none_displaced s row (cause.DeviceFault count) = refl
+none_displaced s row (cause.Damaged place kept found) = refl
+
+read_displaced : (s : State) (o : Option Row) (answer : KeyVector) → (after_all s (trouble_records o answer)).displaced ≡ s.displaced
+read_displaced s None answer = refl
+read_displaced s (Some row) found.Absent = refl
+read_displaced s (Some row) (found.Read list) = refl
+read_displaced s (Some row) (found.Trouble why) = none_displaced s row why
+
+-- no insert goes on behind what was read, where none went on before
+pub same_displaced : (kept new : Kept) (key : Key) (answer : KeyVector) → new ≡ with_records kept (vector_adds (state_of kept) key answer) → (state_of new).displaced ≡ (state_of kept).displaced
+same_displaced kept new key answer is =
+    ap (λ (t : State). t.displaced) (state_behind kept new (vector_adds (state_of kept) key answer) is) ∙ read_displaced (state_of kept) (live_vector_of (state_of kept) key) answer
 
 pub still_writing : (s t : State) (put : ℕ) → SamePuts s t → is_writing s put ≡ true → is_writing t put ≡ true
 still_writing s t put same writing = ap (λ puts. unwrap_or (option_map is_open (find (λ (p : PutRow). p.put == put) puts)) false) same.puts ∙ writing

@@ -71,9 +71,10 @@ pub record Ends (p : Permit) (old new : Kept) (w : Writer) (result : Result Rece
   pub does : SpendsAll p (state_of old) (end_intents w) added (close_end w result)
   pub number : IfErr result (StopsAtLimit (state_of new) (bytes_next (state_of new) w))
 
-abbrev pub EndsAsAsked : ℕ → ℕ → Kept → Kept → Writer → Vectors → Result Receipt Refusal → Type 0
-EndsAsAsked before after old new w v result =
-    (p : Permit) → Covers p before after [] → (state_of old).displaced ≡ [] → IsReadFor (state_of old) w v → Ends p old new w result
+-- what the device gave, and what came of it, as `FinishesAsRead`
+pub record EndsAsAsked (now before after : ℕ) (old new : Kept) (w : Writer) (v : Vectors) (result : Result Receipt Refusal) : Type 0 where
+  pub reads : List DeviceRead
+  pub does : (p : Permit) → p.now ≡ now → Covers p before after reads → (state_of old).displaced ≡ [] → IsReadFor (state_of old) w v → Ends p old new w result
 
 -- all that closing is asked is done, or fails; where memory is wanting it is still to be weighed; where
 -- there is no such writer nothing is
@@ -88,11 +89,11 @@ pub record Closes (p : Permit) (old new : Kept) (w : Writer) (result : Result Re
   pub does : Spent p (state_of old) w result added
   pub number : IfErr result (StopsAtLimit (state_of new) (bytes_next (state_of new) w))
 
--- what was read, and what came of it in any step that covers the call; or two documents of one SHA-256
--- are shown
-pub record ClosesAsAsked (before after : ℕ) (old new : Kept) (w : Writer) (result : Result Receipt Refusal) : Type 0 where
+-- what was read, and what came of it in any step at that moment that covers the call; or two documents
+-- of one SHA-256 are shown
+pub record ClosesAsAsked (now before after : ℕ) (old new : Kept) (w : Writer) (result : Result Receipt Refusal) : Type 0 where
   pub reads : List DeviceRead
-  pub does : (p : Permit) → Covers p before after reads → AreTold (state_of old) → Closes p old new w result ⊎ IsCollision p (state_of old) w.key
+  pub does : (p : Permit) → p.now ≡ now → Covers p before after reads → AreTold (state_of old) → Closes p old new w result ⊎ IsCollision p (state_of old) w.key
 
 -- a writer that was refused by the device, or by the end of the tape, takes no more bytes
 abbrev pub SealsWhere : Writer → Writer → Result Receipt Refusal → Type 0

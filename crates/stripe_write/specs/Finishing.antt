@@ -5,18 +5,18 @@ use Rattle.cache_model.specs.declared.record.Rec.{Rec}
 use Rattle.cache_model.specs.State.{State, fragment_piece, list_of_put, live_row_of}
 use Rattle.cache_model.specs.Kept.{Kept, state_of, with_records}
 use Rattle.cache_model.specs.Verdict.{cause_of_piece, cuts_of, live_vector_of}
-use Rattle.cache_model.specs.Permit.{Commit, Done, End, Exhausted, Fails, Faulted, Finish, Intent, Lost, Permit, Stays}
+use Rattle.cache_model.specs.Permit.{Commit, DeviceRead, Done, End, Exhausted, Fails, Faulted, Finish, Intent, Lost, Permit, Stays}
 use Rattle.cache_model.specs.Legal.{vector_length, vector_payload}
 use Rattle.cache_model.specs.Room.{greatest_pin, limit}
 use Rattle.stripe_core.specs.declared.refusal.Refusal.{Refusal}
 use Rattle.stripe_core.specs.declared.refusal.Refusal.TheVariants as refusal
 use Rattle.stripe_core.specs.Covers.{Covers}
+use Rattle.stripe_core.specs.Place.{ReachesLimit}
 use Rattle.stripe_vectors.specs.declared.spelling.Spelled.{Spelled}
 use Rattle.stripe_write.specs.declared.finishing.Receipt.{Receipt}
 use Rattle.stripe_write.specs.declared.weighing.Vectors.{Vectors}
 use Rattle.stripe_write.specs.declared.writer.Writer.{Writer}
 use Rattle.stripe_write.specs.Closing.{IsReadFor, SpendsAll}
-use Rattle.stripe_write.specs.Numbers.{ReachesLimit}
 
 -- ---- which vector is placed
 
@@ -87,7 +87,8 @@ pub record Finishes (p : Permit) (old new : Kept) (w : Writer) (result : Result 
   pub does : SpendsAll p (state_of old) (finish_intents w) added (finish_end w result)
   pub number : IfErr result (VectorStops (state_of new) w)
 
--- where no insert goes on and the key's vector is the one that was read
-abbrev pub FinishesAsRead : ℕ → ℕ → Kept → Kept → Writer → Vectors → Result Receipt Refusal → Type 0
-FinishesAsRead before after old new w v result =
-    (p : Permit) → Covers p before after [] → (state_of old).displaced ≡ [] → IsReadFor (state_of old) w v → Finishes p old new w result
+-- what the device gave, and what came of it in any step at that moment that covers the call, where no
+-- insert goes on and the key's vector is the one that was read
+pub record FinishesAsRead (now before after : ℕ) (old new : Kept) (w : Writer) (v : Vectors) (result : Result Receipt Refusal) : Type 0 where
+  pub reads : List DeviceRead
+  pub does : (p : Permit) → p.now ≡ now → Covers p before after reads → (state_of old).displaced ≡ [] → IsReadFor (state_of old) w v → Finishes p old new w result

@@ -1,4 +1,5 @@
 pub mod Writers
+pub mod Others
 pub mod Writes
 pub mod Closing
 pub mod Numbers
@@ -6,5 +7,4 @@ pub mod Weighing
 pub mod Resting
 pub mod Finishing
 pub mod Closes
-pub mod Others
 pub mod Removals

@@ -1,14 +1,12 @@
 -- What the calls of one writer leave of other writers, and of readers.
-use Rattle.std.specs.Prelude.{ℕ, ◌≡◌, List, Result}
+use Rattle.std.specs.Prelude.{ℕ, ◌≡◌, List}
 use Rattle.std.specs.List.{AllByRecursion}
 use Rattle.cache_model.specs.declared.record.Rec.{Rec}
 use Rattle.cache_model.specs.declared.record.Rec.TheVariants as rec
 use Rattle.cache_model.specs.State.{State, put_of}
 use Rattle.cache_model.specs.Kept.{Kept, state_of, with_records}
 use Rattle.stripe_write.specs.declared.writer.Writer.{Writer}
-use Rattle.stripe_core.specs.declared.refusal.Refusal.{Refusal}
 use Rattle.stripe_write.specs.Writers.{IsWriterOf}
-use Rattle.stripe_write.specs.Writes.{write_adds}
 
 -- the record speaks of no other put and of no reader, and begins no session
 abbrev pub IsOfPut : ℕ → Rec → Type 0
@@ -51,7 +49,3 @@ OthersStay = (put : ℕ) (old new : Kept) → AddsOfPut put old new → LeavesOt
 -- and so they leave the writers of other puts
 abbrev pub WritersStay : Type 0
 WritersStay = (put : ℕ) (s t : State) (w : Writer) → LeavesOthers put s t → (w.put ≡ put → ⊥) → IsWriterOf s w → IsWriterOf t w
-
--- the records of a write are its put's own
-abbrev pub WritesAreOwn : Type 0
-WritesAreOwn = (s : State) (w : Writer) (bytes : List ℕ) (result : Result ℕ Refusal) → AllByRecursion (IsOfPut w.put) (write_adds s w bytes result)

@@ -1,5 +1,6 @@
 -- What writers are answered, and what is recorded.
-use Rattle.std.specs.Prelude.{ℕ, ◌≡◌, ◌+◌, ◌-◌, ◌*◌, ◌==◌, ◌<◌, ◌≤◌, ◌⊎◌, min, Bool, true, false, if◌then◌else◌, List, [], ◌∷◌, ◌++◌, length, take, Some, Result, Ok, Err}
+use Rattle.std.specs.Prelude.{ℕ, ◌≡◌, ◌+◌, ◌-◌, ◌*◌, ◌==◌, ◌<◌, ◌≤◌, ◌⊎◌, min, Bool, true, false, if◌then◌else◌, List, [], ◌∷◌, ◌++◌, length, take, Some, Result, Ok, Err, MatchBool}
+use Rattle.std.specs.List.{AllByRecursion}
 use Rattle.tape_base.specs.declared.geometries.Geometry.{Geometry}
 use Rattle.tape_base.specs.declared.keys.Key.{Key}
 use Rattle.tape_base.specs.declared.pieces.PieceId.{PieceId}
@@ -7,14 +8,20 @@ use Rattle.fragment_table.specs.Table.{total_length}
 use Rattle.cache_model.specs.declared.record.Rec.{Rec}
 use Rattle.cache_model.specs.declared.record.Rec.TheVariants as rec
 use Rattle.cache_model.specs.State.{Open, PutRow, State, fragment_piece, put_of}
-use Rattle.cache_model.specs.Permit.{Done, Exhausted, Fails, Faulted, Fragment, GiveUp, Intent, ManyFragments, Overflow, Permit}
+use Rattle.cache_model.specs.Kept.{Kept, state_of, with_records}
+use Rattle.cache_model.specs.Permit.{DeviceRead, Done, Fails, Fragment, GiveUp, Intent, ManyFragments, Overflow, Permit}
 use Rattle.cache_model.specs.Legal.{Does, is_writing, most_fragments}
+use Rattle.ats_disk.specs.Device.{State as Device, IsTold}
+use Rattle.stripe_core.specs.declared.refusal.Placed.{Placed}
 use Rattle.stripe_core.specs.declared.refusal.Refusal.{Refusal}
 use Rattle.stripe_core.specs.declared.refusal.Refusal.TheVariants as refusal
+use Rattle.stripe_core.specs.declared.refusal.Stop.{Stop}
 use Rattle.stripe_core.specs.declared.refusal.Stop.TheVariants as stop
 use Rattle.stripe_core.specs.Covers.{Covers, Spends}
-use Rattle.stripe_core.specs.Place.{fragment_adds, piece_records, room_records, with_room}
+use Rattle.stripe_core.specs.Damages.{TellNoDamage}
+use Rattle.stripe_core.specs.Place.{IsFragmentAs, place_end}
 use Rattle.stripe_write.specs.declared.writer.Writer.{Writer}
+use Rattle.stripe_write.specs.Others.{IsOfPut}
 
 -- ---- a writer opens
 
@@ -61,18 +68,6 @@ next_id w = fragment_piece w.key w.put (length w.table.rows + 1)
 abbrev pub next_start : Writer → ℕ
 next_start w = total_length w.table.rows
 
--- the records of a cut: the flush that it may need, the cut, and the place
-abbrev pub cut_adds : State → Writer → List ℕ → List Rec
-cut_adds s w payload = room_records s (length payload) ++ piece_records (with_room s (length payload)) (next_id w) w.pin (next_start w) payload
-
-abbrev pub write_adds : State → Writer → List ℕ → Result ℕ Refusal → List Rec
-write_adds s w bytes (Ok n) = if is_cut s.geometry w n then cut_adds s w (gathered_with w bytes n) else []
-write_adds s w bytes (Err (refusal.DeviceFault count)) = rec.Fault count ∷ []
-write_adds s w bytes (Err (refusal.Exhausted number)) =
-    fragment_adds s (next_id w) w.pin (next_start w) (gathered_with w bytes (taken_of s.geometry w bytes)) (Err (stop.Exhausted number))
-write_adds s w bytes (Err refusal.TooManyFragments) = rec.Aborted w.put w.key ∷ []
-write_adds s w bytes (Err _) = []
-
 -- the bytes that stay gathered: none behind a cut
 abbrev pub left_of : Geometry → Writer → List ℕ → ℕ → List ℕ
 left_of g w bytes n = if is_cut g w n then [] else gathered_with w bytes n
@@ -107,17 +102,38 @@ WritesWhere s w bytes (Err _) = ⊥
 abbrev pub cuts_fragment : Writer → List ℕ → Intent
 cuts_fragment w payload = Fragment w.put (length w.table.rows + 1) payload
 
--- the next fragment is cut, or cannot be; or there would be one too many
-abbrev pub WritesAsAsked : State → ℕ → ℕ → Writer → List ℕ → Result ℕ Refusal → Type 0
-WritesAsAsked s before after w bytes (Ok n) = is_cut s.geometry w n ≡ true
-    → ((p : Permit) → Covers p before after [] → Spends p s (cuts_fragment w (gathered_with w bytes n)) (write_adds s w bytes (Ok n)) Done)
-WritesAsAsked s before after w bytes (Err (refusal.DeviceFault count)) =
-    (p : Permit) → Covers p before after [] → Spends p s (cuts_fragment w (gathered_with w bytes (taken_of s.geometry w bytes))) (rec.Fault count ∷ []) (Fails (Faulted count))
-WritesAsAsked s before after w bytes (Err (refusal.Exhausted number)) =
-    (p : Permit) → Covers p before after [] → Spends p s (cuts_fragment w (gathered_with w bytes (taken_of s.geometry w bytes))) (write_adds s w bytes (Err (refusal.Exhausted number))) (Fails Exhausted)
-WritesAsAsked s before after w bytes (Err refusal.TooManyFragments) =
-    (p : Permit) → Does p s (Overflow w.put) (write_adds s w bytes (Err refusal.TooManyFragments)) (Fails (ManyFragments w.put))
-WritesAsAsked s before after w bytes (Err _) = Unit {0}
+-- the records of the next fragment, which is cut or cannot be, in any step at that moment that covers
+-- the call
+pub record CutsNext (now : ℕ) (s : State) (before after : ℕ) (w : Writer) (payload : List ℕ) (added : List Rec) (reads : List DeviceRead) (result : Result Placed Stop) : Type 0 where
+  pub shape : IsFragmentAs s after (next_id w) w.pin (next_start w) payload added result
+  pub does : (p : Permit) → p.now ≡ now → Covers p before after reads → Spends p s (cuts_fragment w payload) added (place_end result)
+
+-- the bytes that are gathered when a fragment has gathered
+abbrev pub next_payload : State → Writer → List ℕ → List ℕ
+next_payload s w bytes = gathered_with w bytes (taken_of s.geometry w bytes)
+
+-- the next fragment is cut, where it has gathered, or cannot be; or there would be one too many
+abbrev pub WritesAs : ℕ → State → ℕ → ℕ → Writer → List ℕ → Result ℕ Refusal → List Rec → List DeviceRead → Type 0
+WritesAs now s before after w bytes (Ok n) added reads = MatchBool (is_cut s.geometry w n)
+    ((placed : Placed) × CutsNext now s before after w (gathered_with w bytes n) added reads (Ok placed)) (added ≡ [])
+WritesAs now s before after w bytes (Err (refusal.DeviceFault count)) added reads =
+    CutsNext now s before after w (next_payload s w bytes) added reads (Err (stop.DeviceFault count))
+WritesAs now s before after w bytes (Err (refusal.Exhausted number)) added reads =
+    CutsNext now s before after w (next_payload s w bytes) added reads (Err (stop.Exhausted number))
+WritesAs now s before after w bytes (Err refusal.TooManyFragments) added reads =
+    (added ≡ rec.Aborted w.put w.key ∷ []) × ((p : Permit) → Does p s (Overflow w.put) added (Fails (ManyFragments w.put)))
+WritesAs now s before after w bytes (Err _) added reads = added ≡ []
+
+-- a write at a moment, over a device whose count of faults stood at `before`, and that stands so then: the
+-- records that it added, which are its put's own, what the device gave, and what is asked of them
+pub record WritesAsAsked (now : ℕ) (old new : Kept) (before : ℕ) (after : Device) (w : Writer) (bytes : List ℕ) (result : Result ℕ Refusal) : Type 0 where
+  pub added : List Rec
+  pub reads : List DeviceRead
+  pub adds : new ≡ with_records old added
+  pub own : AllByRecursion (IsOfPut w.put) added
+  -- a device that tells its content shows each piece as it was placed
+  pub unharmed : IsTold after → TellNoDamage added
+  pub does : WritesAs now (state_of old) before after.faults w bytes result added reads
 
 -- a writer as it was
 pub record SameWriter (old new : Writer) : Type 0 where

@@ -16,7 +16,6 @@ use crate::weighing::{Vectors, weigh};
 use crate::writing::is_open;
 use ats_disk::Disk;
 use cache_chronicle::Chronicle;
-use cache_model::steps_tell;
 use dir_table::Directory;
 use std::alloc::AllocError;
 use stripe_core::{Refusal, Stripe};
@@ -27,10 +26,12 @@ const CALLS: u32 = 5;
 
 /// Closes a put: what is gathered is its last fragment, and its vector is placed, with the alternates
 /// that the key had and that its request does not match. Where a fragment is lost, or the vector is no
-/// piece, the put is given up. A writer that the device refuses may be closed again or given up.
+/// piece, the put is given up. A writer that the device refuses may be closed again or given up. A flush
+/// copies what is due at `now`.
 pub fn close_write<D: Disk, R: Directory + Drop, C: Chronicle>(
     stripe: &mut Stripe<D, R, C>,
     writer: &mut Writer,
+    now: u64,
 ) -> Result<Receipt, Refusal>
     requires stripe { IsStripe D.Disk R.Directory C.Chronicle stripe.old }
     requires quiet { IsQuiet (state_in C.Chronicle stripe.old) }
@@ -39,7 +40,7 @@ pub fn close_write<D: Disk, R: Directory + Drop, C: Chronicle>(
     ensures unharmed { StaysUnharmed D.Disk R.Directory C.Chronicle stripe.old stripe.new }
     ensures quiet { IsQuiet (state_in C.Chronicle stripe.new) }
     ensures closes { ClosesWhere (state_in C.Chronicle stripe.old) (state_in C.Chronicle stripe.new) writer.old result }
-    ensures does { ClosesAsAsked (seen_in D.Disk R.Directory stripe.old).device.faults (seen_in D.Disk R.Directory stripe.new).device.faults
+    ensures does { ClosesAsAsked now (seen_in D.Disk R.Directory stripe.old).device.faults (seen_in D.Disk R.Directory stripe.new).device.faults
         (kept_in C.Chronicle stripe.old) (kept_in C.Chronicle stripe.new) writer.old result }
     ensures writer { IsWriterOf (state_in C.Chronicle stripe.new) writer.new }
     ensures seals { SealsWhere writer.old writer.new result }
@@ -51,7 +52,7 @@ pub fn close_write<D: Disk, R: Directory + Drop, C: Chronicle>(
         return Err(Refusal::NoSuchWriter);
     }
     match make_memory(stripe, writer) {
-        Ok(()) => close_open(stripe, writer),
+        Ok(()) => close_open(stripe, writer, now),
         Err(e) => Err(Refusal::Memory(e)),
     }
 }
@@ -80,6 +81,7 @@ fn make_memory<D: Disk, R: Directory + Drop, C: Chronicle>(
 fn close_open<D: Disk, R: Directory + Drop, C: Chronicle>(
     stripe: &mut Stripe<D, R, C>,
     writer: &mut Writer,
+    now: u64,
 ) -> Result<Receipt, Refusal>
     requires stripe { IsStripe D.Disk R.Directory C.Chronicle stripe.old }
     requires quiet { IsQuiet (state_in C.Chronicle stripe.old) }
@@ -92,7 +94,7 @@ fn close_open<D: Disk, R: Directory + Drop, C: Chronicle>(
     ensures unharmed { StaysUnharmed D.Disk R.Directory C.Chronicle stripe.old stripe.new }
     ensures quiet { IsQuiet (state_in C.Chronicle stripe.new) }
     ensures closes { ClosesWhere (state_in C.Chronicle stripe.old) (state_in C.Chronicle stripe.new) writer.old result }
-    ensures does { ClosesAsAsked (seen_in D.Disk R.Directory stripe.old).device.faults (seen_in D.Disk R.Directory stripe.new).device.faults
+    ensures does { ClosesAsAsked now (seen_in D.Disk R.Directory stripe.old).device.faults (seen_in D.Disk R.Directory stripe.new).device.faults
         (kept_in C.Chronicle stripe.old) (kept_in C.Chronicle stripe.new) writer.old result }
     ensures writer { IsWriterOf (state_in C.Chronicle stripe.new) writer.new }
     ensures seals { SealsWhere writer.old writer.new result }
@@ -100,10 +102,8 @@ fn close_open<D: Disk, R: Directory + Drop, C: Chronicle>(
     ensures later { (seen_in D.Disk R.Directory stripe.old).device.faults ≤ (seen_in D.Disk R.Directory stripe.new).device.faults }
     ensures own { AddsOfPut writer.old.put (kept_in C.Chronicle stripe.old) (kept_in C.Chronicle stripe.new) }
 {
-    // The law tells that weighing leaves no insert that goes on.
-    steps_tell();
     match weigh(stripe, writer) {
-        Ok(vectors) => end(stripe, writer, &vectors),
+        Ok(vectors) => end(stripe, writer, &vectors, now),
         Err(why) => {
             writer.sealed = is_sealed_by(&why, writer.sealed);
             Err(why)
@@ -126,6 +126,7 @@ fn end<D: Disk, R: Directory + Drop, C: Chronicle>(
     stripe: &mut Stripe<D, R, C>,
     writer: &mut Writer,
     vectors: &Vectors,
+    now: u64,
 ) -> Result<Receipt, Refusal>
     requires stripe { IsStripe D.Disk R.Directory C.Chronicle stripe.old }
     requires quiet { IsQuiet (state_in C.Chronicle stripe.old) }
@@ -139,7 +140,7 @@ fn end<D: Disk, R: Directory + Drop, C: Chronicle>(
     ensures unharmed { StaysUnharmed D.Disk R.Directory C.Chronicle stripe.old stripe.new }
     ensures quiet { IsQuiet (state_in C.Chronicle stripe.new) }
     ensures ends { EndsWhere (state_in C.Chronicle stripe.new) writer.old result }
-    ensures does { EndsAsAsked (seen_in D.Disk R.Directory stripe.old).device.faults (seen_in D.Disk R.Directory stripe.new).device.faults
+    ensures does { EndsAsAsked now (seen_in D.Disk R.Directory stripe.old).device.faults (seen_in D.Disk R.Directory stripe.new).device.faults
         (kept_in C.Chronicle stripe.old) (kept_in C.Chronicle stripe.new) writer.old vectors.now result }
     ensures writer { IsWriterOf (state_in C.Chronicle stripe.new) writer.new }
     ensures sealed { writer.new.sealed ≡ true }
@@ -148,8 +149,8 @@ fn end<D: Disk, R: Directory + Drop, C: Chronicle>(
     ensures own { AddsOfPut writer.old.put (kept_in C.Chronicle stripe.old) (kept_in C.Chronicle stripe.new) }
 {
     writer.sealed = true;
-    match cut_rest(stripe, writer) {
-        Ok(()) => finish(stripe, writer, vectors),
+    match cut_rest(stripe, writer, now) {
+        Ok(()) => finish(stripe, writer, vectors, now),
         Err(why) => Err(why),
     }
 }

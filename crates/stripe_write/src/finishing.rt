@@ -11,7 +11,7 @@ ghost use Rattle.cache_model.specs.declared.record.Rec.TheVariants as rec;
 ghost use Rattle.stripe_core.specs.declared.refusal.Refusal.TheVariants as refusal;
 ghost use Rattle.stripe_core.specs.Acts.{CommitsAsAsked, IsCommitting, committed_record};
 ghost use Rattle.stripe_core.specs.Flush.{StopsWith};
-ghost use Rattle.stripe_core.specs.Place.{MakesRoomAsAsked, room_adds};
+ghost use Rattle.stripe_core.specs.Place.{RoomsAsAsked};
 ghost use Rattle.stripe_core.specs.Stripe.{Answers, IsStripe, kept_in, seen_in, state_in, units_in};
 ghost use Rattle.stripe_core.specs.Unharmed.{StaysUnharmed};
 ghost use Rattle.stripe_write.specs.Others.{AddsOfPut};
@@ -66,6 +66,7 @@ pub(crate) fn finish<D: Disk, R: Directory + Drop, C: Chronicle>(
     stripe: &mut Stripe<D, R, C>,
     writer: &Writer,
     vectors: &Vectors,
+    now: u64,
 ) -> Result<Receipt, Refusal>
     requires stripe { IsStripe D.Disk R.Directory C.Chronicle stripe.old }
     requires quiet { IsQuiet (state_in C.Chronicle stripe.old) }
@@ -78,14 +79,14 @@ pub(crate) fn finish<D: Disk, R: Directory + Drop, C: Chronicle>(
     ensures unharmed { StaysUnharmed D.Disk R.Directory C.Chronicle stripe.old stripe.new }
     ensures quiet { IsQuiet (state_in C.Chronicle stripe.new) }
     ensures finishes { FinishesWhere (state_in C.Chronicle stripe.new) writer.now result }
-    ensures does { FinishesAsRead (seen_in D.Disk R.Directory stripe.old).device.faults (seen_in D.Disk R.Directory stripe.new).device.faults
+    ensures does { FinishesAsRead now (seen_in D.Disk R.Directory stripe.old).device.faults (seen_in D.Disk R.Directory stripe.new).device.faults
         (kept_in C.Chronicle stripe.old) (kept_in C.Chronicle stripe.new) writer.now vectors.now result }
     ensures later { (seen_in D.Disk R.Directory stripe.old).device.faults ≤ (seen_in D.Disk R.Directory stripe.new).device.faults }
     ensures writer { IsWriterOf (state_in C.Chronicle stripe.new) writer.now }
     ensures own { AddsOfPut writer.now.put (kept_in C.Chronicle stripe.old) (kept_in C.Chronicle stripe.new) }
 {
-    match make_room(stripe, writer, vectors) {
-        Ok(()) => end(stripe, writer, vectors),
+    match make_room(stripe, writer, vectors, now) {
+        Ok(()) => end(stripe, writer, vectors, now),
         Err(why) => Err(why),
     }
 }
@@ -95,6 +96,7 @@ fn end<D: Disk, R: Directory + Drop, C: Chronicle>(
     stripe: &mut Stripe<D, R, C>,
     writer: &Writer,
     vectors: &Vectors,
+    now: u64,
 ) -> Result<Receipt, Refusal>
     requires stripe { IsStripe D.Disk R.Directory C.Chronicle stripe.old }
     requires quiet { IsQuiet (state_in C.Chronicle stripe.old) }
@@ -108,7 +110,7 @@ fn end<D: Disk, R: Directory + Drop, C: Chronicle>(
     ensures unharmed { StaysUnharmed D.Disk R.Directory C.Chronicle stripe.old stripe.new }
     ensures quiet { IsQuiet (state_in C.Chronicle stripe.new) }
     ensures finishes { FinishesWhere (state_in C.Chronicle stripe.new) writer.now result }
-    ensures does { FinishesAsRead (seen_in D.Disk R.Directory stripe.old).device.faults (seen_in D.Disk R.Directory stripe.new).device.faults
+    ensures does { FinishesAsRead now (seen_in D.Disk R.Directory stripe.old).device.faults (seen_in D.Disk R.Directory stripe.new).device.faults
         (kept_in C.Chronicle stripe.old) (kept_in C.Chronicle stripe.new) writer.now vectors.now result }
     ensures later { (seen_in D.Disk R.Directory stripe.old).device.faults ≤ (seen_in D.Disk R.Directory stripe.new).device.faults }
     ensures writer { IsWriterOf (state_in C.Chronicle stripe.new) writer.now }
@@ -116,7 +118,7 @@ fn end<D: Disk, R: Directory + Drop, C: Chronicle>(
 {
     match first_lost(stripe, writer) {
         Some(index) => Err(lose(stripe, writer, index)),
-        None => complete(stripe, writer, vectors),
+        None => complete(stripe, writer, vectors, now),
     }
 }
 
@@ -125,6 +127,7 @@ fn make_room<D: Disk, R: Directory + Drop, C: Chronicle>(
     stripe: &mut Stripe<D, R, C>,
     writer: &Writer,
     vectors: &Vectors,
+    now: u64,
 ) -> Result<(), Refusal>
     requires stripe { IsStripe D.Disk R.Directory C.Chronicle stripe.old }
     requires quiet { IsQuiet (state_in C.Chronicle stripe.old) }
@@ -132,18 +135,16 @@ fn make_room<D: Disk, R: Directory + Drop, C: Chronicle>(
     requires units { 1 ≤ units_in stripe.old }
     ensures stripe { IsStripe D.Disk R.Directory C.Chronicle stripe.new }
     ensures unharmed { StaysUnharmed D.Disk R.Directory C.Chronicle stripe.old stripe.new }
-    ensures adds { Answers result (λ r. kept_in C.Chronicle stripe.new
-        ≡ with_records (kept_in C.Chronicle stripe.old) (room_adds (state_in C.Chronicle stripe.old) (bytes_now (state_in C.Chronicle stripe.old) writer.now vectors.now) r)) ⊥ }
     ensures full { OnErr result (has_room (state_in C.Chronicle stripe.old) (bytes_now (state_in C.Chronicle stripe.old) writer.now vectors.now) ≡ false) }
-    ensures does { Answers result (MakesRoomAsAsked (state_in C.Chronicle stripe.old) (bytes_now (state_in C.Chronicle stripe.old) writer.now vectors.now)
-        (seen_in D.Disk R.Directory stripe.old).device.faults (seen_in D.Disk R.Directory stripe.new).device.faults) ⊥ }
+    ensures does { Answers result (RoomsAsAsked now (kept_in C.Chronicle stripe.old) (kept_in C.Chronicle stripe.new) (seen_in D.Disk R.Directory stripe.old).device.faults
+        (seen_in D.Disk R.Directory stripe.new).device (bytes_now (state_in C.Chronicle stripe.old) writer.now vectors.now)) ⊥ }
     ensures stops { Answers result (λ r. IfErr r (StopsWith (state_in C.Chronicle stripe.old) (seen_in D.Disk R.Directory stripe.new).device.faults)) ⊥ }
-    ensures room { OnOk result (has_room (state_in C.Chronicle stripe.new) (bytes_now (state_in C.Chronicle stripe.new) writer.now vectors.now) ≡ true) }
+    ensures room { OnOk result (has_room (state_in C.Chronicle stripe.new) (bytes_now (state_in C.Chronicle stripe.old) writer.now vectors.now) ≡ true) }
     ensures later { (seen_in D.Disk R.Directory stripe.old).device.faults ≤ (seen_in D.Disk R.Directory stripe.new).device.faults }
     ensures unit { units_in stripe.old ≤ units_in stripe.new + 1 }
 {
     let bytes = current(stripe, writer, vectors).bytes.len() as u32;
-    stripe.make_room(bytes)
+    stripe.make_room(bytes, now)
 }
 
 // The first fragment that is not live any more.
@@ -202,6 +203,7 @@ fn complete<D: Disk, R: Directory + Drop, C: Chronicle>(
     stripe: &mut Stripe<D, R, C>,
     writer: &Writer,
     vectors: &Vectors,
+    now: u64,
 ) -> Result<Receipt, Refusal>
     requires stripe { IsStripe D.Disk R.Directory C.Chronicle stripe.old }
     requires quiet { IsQuiet (state_in C.Chronicle stripe.old) }
@@ -216,7 +218,7 @@ fn complete<D: Disk, R: Directory + Drop, C: Chronicle>(
     ensures unharmed { StaysUnharmed D.Disk R.Directory C.Chronicle stripe.old stripe.new }
     ensures quiet { IsQuiet (state_in C.Chronicle stripe.new) }
     ensures finishes { FinishesWhere (state_in C.Chronicle stripe.new) writer.now result }
-    ensures does { FinishesAsRead (seen_in D.Disk R.Directory stripe.old).device.faults (seen_in D.Disk R.Directory stripe.new).device.faults
+    ensures does { FinishesAsRead now (seen_in D.Disk R.Directory stripe.old).device.faults (seen_in D.Disk R.Directory stripe.new).device.faults
         (kept_in C.Chronicle stripe.old) (kept_in C.Chronicle stripe.new) writer.now vectors.now result }
     ensures later { (seen_in D.Disk R.Directory stripe.old).device.faults ≤ (seen_in D.Disk R.Directory stripe.new).device.faults }
     ensures writer { IsWriterOf (state_in C.Chronicle stripe.new) writer.now }
@@ -228,7 +230,7 @@ fn complete<D: Disk, R: Directory + Drop, C: Chronicle>(
         put: writer.put,
         index: 0,
     };
-    match stripe.place_piece(id, spelled.pin, 0, &spelled.bytes) {
+    match stripe.place_piece(id, spelled.pin, 0, &spelled.bytes, now) {
         Ok(_) => Ok(commit(stripe, writer)),
         Err(why) => Err(why),
     }

@@ -1,6 +1,6 @@
 // What the calls of one writer leave of others: laws, each the contract of a function with an empty
 // body.
-ghost use Rattle.stripe_write.specs.Others.{OthersStay, WritersStay, WritesAreOwn};
+ghost use Rattle.stripe_write.specs.Others.{OthersStay, WritersStay};
 
 /// Records of one put leave the other puts, and all readers, as they are.
 pub fn others_stay()
@@ -10,9 +10,4 @@ pub fn others_stay()
 /// And so they leave the writers of other puts.
 pub fn writers_stay()
     ensures { WritersStay }
-{}
-
-/// The records of a write are its put's own.
-pub fn writes_are_own()
-    ensures { WritesAreOwn }
 {}

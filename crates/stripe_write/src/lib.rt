@@ -12,7 +12,7 @@ mod writing;
 
 pub use closing::close_write;
 pub use finishing::Receipt;
-pub use laws::{others_stay, writers_stay, writes_are_own};
+pub use laws::{others_stay, writers_stay};
 pub use removal::{Removal, remove};
 pub use writer::Writer;
 pub use writing::{abort_write, open_write, write};

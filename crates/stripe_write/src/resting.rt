@@ -1,12 +1,11 @@
 // The rest that a writer gathered, which fills no fragment, is cut when the writer closes.
 ghost use Rattle.std.specs.Prelude.{◌≡◌, ◌+◌, ◌≤◌, ◌<◌, [], true, length, IfErr, OnOk, OnErr};
-ghost use Rattle.cache_model.specs.Kept.{with_records};
 ghost use Rattle.cache_model.specs.Legal.{IsQuiet, is_writing};
 ghost use Rattle.stripe_core.specs.Stripe.{Answers, IsStripe, kept_in, room_for, seen_in, state_in, units_in};
 ghost use Rattle.stripe_core.specs.Unharmed.{StaysUnharmed};
 ghost use Rattle.stripe_write.specs.Closing.{rows_at_close};
 ghost use Rattle.stripe_write.specs.Numbers.{StopsAtLimit};
-ghost use Rattle.stripe_write.specs.Resting.{RestsAsAsked, rest_adds};
+ghost use Rattle.stripe_write.specs.Resting.{RestsAsAsked};
 ghost use Rattle.stripe_write.specs.Writers.{IsWriterOf};
 ghost use Rattle.stripe_write.specs.Writes.{SameButBytes, SameWriter};
 
@@ -21,6 +20,7 @@ use stripe_core::{Refusal, Stripe};
 pub(crate) fn cut_rest<D: Disk, R: Directory + Drop, C: Chronicle>(
     stripe: &mut Stripe<D, R, C>,
     writer: &mut Writer,
+    now: u64,
 ) -> Result<(), Refusal>
     requires stripe { IsStripe D.Disk R.Directory C.Chronicle stripe.old }
     requires quiet { IsQuiet (state_in C.Chronicle stripe.old) }
@@ -36,9 +36,7 @@ pub(crate) fn cut_rest<D: Disk, R: Directory + Drop, C: Chronicle>(
     ensures later { (seen_in D.Disk R.Directory stripe.old).device.faults ≤ (seen_in D.Disk R.Directory stripe.new).device.faults }
     ensures unit { units_in stripe.old ≤ units_in stripe.new + 1 }
     // Memory is not wanting, and no other refusal comes.
-    ensures adds { Answers result (λ r. kept_in C.Chronicle stripe.new
-        ≡ with_records (kept_in C.Chronicle stripe.old) (rest_adds (state_in C.Chronicle stripe.old) writer.old r)) ⊥ }
-    ensures does { Answers result (RestsAsAsked (state_in C.Chronicle stripe.old) (seen_in D.Disk R.Directory stripe.old).device.faults
+    ensures does { Answers result (RestsAsAsked now (kept_in C.Chronicle stripe.old) (kept_in C.Chronicle stripe.new) (seen_in D.Disk R.Directory stripe.old).device.faults
         (seen_in D.Disk R.Directory stripe.new).device.faults writer.old) ⊥ }
     ensures some { OnErr result (0 < length writer.old.gathered.items) }
     ensures number { IfErr result (StopsAtLimit (state_in C.Chronicle stripe.new) (length writer.old.gathered.items)) }
@@ -52,7 +50,7 @@ pub(crate) fn cut_rest<D: Disk, R: Directory + Drop, C: Chronicle>(
     if writer.gathered.is_empty() {
         return Ok(());
     }
-    match cut(stripe, writer) {
+    match cut(stripe, writer, now) {
         Ok(_) => Ok(()),
         Err(refusal) => Err(refusal),
     }

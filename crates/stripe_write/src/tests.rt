@@ -58,15 +58,15 @@ fn bytes_are_taken_up_to_the_next_cut(rt: HostRuntime) -> Result<(), Fail> {
     let Ok(mut writer) = open_write(&mut stripe, Actor(1), key, request, response, 0) else {
         return Err("refused".into());
     };
-    assert_eq!(rt; write(&mut stripe, &mut writer, &[1, 2, 3]), Ok(3));
-    assert_eq!(rt; write(&mut stripe, &mut writer, &[]), Ok(0));
+    assert_eq!(rt; write(&mut stripe, &mut writer, &[1, 2, 3], 0), Ok(3));
+    assert_eq!(rt; write(&mut stripe, &mut writer, &[], 0), Ok(0));
     assert_eq!(rt; stripe.chronicle().count(), 3);
-    assert_eq!(rt; write(&mut stripe, &mut writer, &[4, 5, 6]), Ok(1));
-    assert_eq!(rt; write(&mut stripe, &mut writer, &[5, 6]), Ok(2));
+    assert_eq!(rt; write(&mut stripe, &mut writer, &[4, 5, 6], 0), Ok(1));
+    assert_eq!(rt; write(&mut stripe, &mut writer, &[5, 6], 0), Ok(2));
     assert_eq!(rt; stripe.chronicle().count(), 5);
     assert_eq!(rt; abort_write(&mut stripe, &mut writer), Ok(1));
     assert_eq!(rt;
-        write(&mut stripe, &mut writer, &[7]),
+        write(&mut stripe, &mut writer, &[7], 0),
         Err(Refusal::NoSuchWriter)
     );
     Ok(())
@@ -81,9 +81,9 @@ fn a_put_is_closed_and_the_next_one_takes_its_place(rt: HostRuntime) -> Result<(
     let Ok(mut first) = open_write(&mut stripe, Actor(1), key, request, response, 0) else {
         return Err("refused".into());
     };
-    assert_eq!(rt; write(&mut stripe, &mut first, &[1, 2, 3]), Ok(3));
+    assert_eq!(rt; write(&mut stripe, &mut first, &[1, 2, 3], 0), Ok(3));
     assert_eq!(rt;
-        close_write(&mut stripe, &mut first),
+        close_write(&mut stripe, &mut first, 0),
         Ok(Receipt {
             put: 1,
             length: 3,
@@ -91,7 +91,7 @@ fn a_put_is_closed_and_the_next_one_takes_its_place(rt: HostRuntime) -> Result<(
         })
     );
     assert_eq!(rt;
-        close_write(&mut stripe, &mut first),
+        close_write(&mut stripe, &mut first, 0),
         Err(Refusal::NoSuchWriter)
     );
     let (request, response) = (Fields::new(alloc), Fields::new(alloc));
@@ -99,7 +99,7 @@ fn a_put_is_closed_and_the_next_one_takes_its_place(rt: HostRuntime) -> Result<(
         return Err("refused".into());
     };
     assert_eq!(rt;
-        close_write(&mut stripe, &mut second),
+        close_write(&mut stripe, &mut second, 0),
         Ok(Receipt {
             put: 2,
             length: 0,

@@ -58,6 +58,7 @@ pub(crate) fn weigh<D: Disk, R: Directory + Drop, C: Chronicle>(
     ensures writer { IsWriterOf (state_in C.Chronicle stripe.new) writer.now }
     ensures puts { OnOk result ((state_in C.Chronicle stripe.new).puts ≡ (state_in C.Chronicle stripe.old).puts) }
     ensures geometry { OnOk result ((state_in C.Chronicle stripe.new).geometry ≡ (state_in C.Chronicle stripe.old).geometry) }
+    ensures displaced { OnOk result ((state_in C.Chronicle stripe.new).displaced ≡ (state_in C.Chronicle stripe.old).displaced) }
     ensures row { OnOk result (room_for writer.now.put stripe.new.actors ≡ room_for writer.now.put stripe.old.actors) }
     ensures unit { OnOk result (units_in stripe.old ≤ units_in stripe.new + 1) }
     ensures own { AddsOfPut writer.now.put (kept_in C.Chronicle stripe.old) (kept_in C.Chronicle stripe.new) }

@@ -6,12 +6,12 @@ ghost use Rattle.cache_model.specs.Kept.{with_records};
 ghost use Rattle.cache_model.specs.Legal.{IsQuiet, is_writing, most_fragments};
 ghost use Rattle.stripe_actors.specs.Calls.{HasNumber};
 ghost use Rattle.stripe_core.specs.Acts.{OpensAsAsked, opened_record};
-ghost use Rattle.stripe_core.specs.Place.{CutsAsAsked, fragment_adds};
+ghost use Rattle.stripe_core.specs.Place.{CutsAsAsked};
 ghost use Rattle.stripe_core.specs.Stripe.{Answers, HasMemory, IsStripe, kept_in, room_for, seen_in, state_in, units_in};
 ghost use Rattle.stripe_core.specs.Unharmed.{StaysUnharmed};
 ghost use Rattle.stripe_write.specs.Numbers.{StopsAtLimit};
 ghost use Rattle.stripe_write.specs.Writers.{IsWriterOf};
-ghost use Rattle.stripe_write.specs.Writes.{AbortsAsAsked, AbortsWhere, GathersAsAsked, IsOverflow, IsReady, OverflowsAsAsked, SameButBytes, SameWriter, WritesAsAsked, WritesWhere, abort_adds, next_id, next_start, number_of, overflow_adds, write_adds};
+ghost use Rattle.stripe_write.specs.Writes.{AbortsAsAsked, AbortsWhere, GathersAsAsked, IsOverflow, IsReady, OverflowsAsAsked, SameButBytes, SameWriter, WritesAsAsked, WritesWhere, abort_adds, next_id, next_start, number_of, overflow_adds};
 
 use crate::Writer;
 use alternate_vector::Fields;
@@ -57,11 +57,13 @@ pub fn open_write<D: Disk, R: Directory + Drop, C: Chronicle>(
 }
 
 /// Takes bytes up to the next cut, and says how many. As soon as a fragment has gathered it is cut and
-/// placed. A refusal leaves the writer as it was.
+/// placed, behind a flush where it has no room, which copies what is due at `now`. A refusal leaves the
+/// writer as it was.
 pub fn write<D: Disk, R: Directory + Drop, C: Chronicle>(
     stripe: &mut Stripe<D, R, C>,
     writer: &mut Writer,
     bytes: &[u8],
+    now: u64,
 ) -> Result<usize, Refusal>
     requires stripe { IsStripe D.Disk R.Directory C.Chronicle stripe.old }
     requires quiet { IsQuiet (state_in C.Chronicle stripe.old) }
@@ -69,12 +71,10 @@ pub fn write<D: Disk, R: Directory + Drop, C: Chronicle>(
     ensures stripe { IsStripe D.Disk R.Directory C.Chronicle stripe.new }
     ensures unharmed { StaysUnharmed D.Disk R.Directory C.Chronicle stripe.old stripe.new }
     ensures quiet { IsQuiet (state_in C.Chronicle stripe.new) }
-    ensures adds { kept_in C.Chronicle stripe.new
-        ≡ with_records (kept_in C.Chronicle stripe.old) (write_adds (state_in C.Chronicle stripe.old) writer.old bytes.now result) }
     ensures writes { WritesWhere (state_in C.Chronicle stripe.old) writer.old bytes.now result }
     ensures number { IfErr result (StopsAtLimit (state_in C.Chronicle stripe.new) (state_in C.Chronicle stripe.old).geometry.fragment) }
-    ensures does { WritesAsAsked (state_in C.Chronicle stripe.old) (seen_in D.Disk R.Directory stripe.old).device.faults
-        (seen_in D.Disk R.Directory stripe.new).device.faults writer.old bytes.now result }
+    ensures does { WritesAsAsked now (kept_in C.Chronicle stripe.old) (kept_in C.Chronicle stripe.new) (seen_in D.Disk R.Directory stripe.old).device.faults
+        (seen_in D.Disk R.Directory stripe.new).device writer.old bytes.now result }
     ensures writer { IsWriterOf (state_in C.Chronicle stripe.new) writer.new }
     ensures gathers { IfOk result (λ n. GathersAsAsked (state_in C.Chronicle stripe.old).geometry writer.old bytes.now n writer.new) }
     ensures same { OnErr result (SameWriter writer.old writer.new) }
@@ -92,7 +92,7 @@ pub fn write<D: Disk, R: Directory + Drop, C: Chronicle>(
     if writer.table.len() == MAX_FRAGMENTS {
         return overflow(stripe, writer);
     }
-    take(stripe, writer, bytes)
+    take(stripe, writer, bytes, now)
 }
 
 /// Gives a put up that is open.
@@ -202,6 +202,7 @@ fn take<D: Disk, R: Directory + Drop, C: Chronicle>(
     stripe: &mut Stripe<D, R, C>,
     writer: &mut Writer,
     bytes: &[u8],
+    now: u64,
 ) -> Result<usize, Refusal>
     requires stripe { IsStripe D.Disk R.Directory C.Chronicle stripe.old }
     requires quiet { IsQuiet (state_in C.Chronicle stripe.old) }
@@ -212,12 +213,10 @@ fn take<D: Disk, R: Directory + Drop, C: Chronicle>(
     ensures stripe { IsStripe D.Disk R.Directory C.Chronicle stripe.new }
     ensures unharmed { StaysUnharmed D.Disk R.Directory C.Chronicle stripe.old stripe.new }
     ensures quiet { IsQuiet (state_in C.Chronicle stripe.new) }
-    ensures adds { kept_in C.Chronicle stripe.new
-        ≡ with_records (kept_in C.Chronicle stripe.old) (write_adds (state_in C.Chronicle stripe.old) writer.old bytes.now result) }
     ensures writes { WritesWhere (state_in C.Chronicle stripe.old) writer.old bytes.now result }
     ensures number { IfErr result (StopsAtLimit (state_in C.Chronicle stripe.new) (state_in C.Chronicle stripe.old).geometry.fragment) }
-    ensures does { WritesAsAsked (state_in C.Chronicle stripe.old) (seen_in D.Disk R.Directory stripe.old).device.faults
-        (seen_in D.Disk R.Directory stripe.new).device.faults writer.old bytes.now result }
+    ensures does { WritesAsAsked now (kept_in C.Chronicle stripe.old) (kept_in C.Chronicle stripe.new) (seen_in D.Disk R.Directory stripe.old).device.faults
+        (seen_in D.Disk R.Directory stripe.new).device writer.old bytes.now result }
     ensures writer { IsWriterOf (state_in C.Chronicle stripe.new) writer.new }
     ensures gathers { IfOk result (λ n. GathersAsAsked (state_in C.Chronicle stripe.old).geometry writer.old bytes.now n writer.new) }
     ensures same { OnErr result (SameWriter writer.old writer.new) }
@@ -232,7 +231,7 @@ fn take<D: Disk, R: Directory + Drop, C: Chronicle>(
     if taken < room {
         return Ok(taken);
     }
-    match cut(stripe, writer) {
+    match cut(stripe, writer, now) {
         Ok(_) => Ok(taken),
         Err(refusal) => {
             writer.gathered.truncate(before);
@@ -245,6 +244,7 @@ fn take<D: Disk, R: Directory + Drop, C: Chronicle>(
 pub(crate) fn cut<D: Disk, R: Directory + Drop, C: Chronicle>(
     stripe: &mut Stripe<D, R, C>,
     writer: &mut Writer,
+    now: u64,
 ) -> Result<Placed, Refusal>
     requires stripe { IsStripe D.Disk R.Directory C.Chronicle stripe.old }
     requires quiet { IsQuiet (state_in C.Chronicle stripe.old) }
@@ -252,11 +252,9 @@ pub(crate) fn cut<D: Disk, R: Directory + Drop, C: Chronicle>(
     ensures stripe { IsStripe D.Disk R.Directory C.Chronicle stripe.new }
     ensures unharmed { StaysUnharmed D.Disk R.Directory C.Chronicle stripe.old stripe.new }
     ensures quiet { IsQuiet (state_in C.Chronicle stripe.new) }
-    ensures adds { let w = writer.old in Answers result (λ r. kept_in C.Chronicle stripe.new
-        ≡ with_records (kept_in C.Chronicle stripe.old) (fragment_adds (state_in C.Chronicle stripe.old) (next_id w) w.pin (next_start w) w.gathered.items r))
+    ensures does { let w = writer.old in Answers result (CutsAsAsked now (kept_in C.Chronicle stripe.old) (kept_in C.Chronicle stripe.new)
+        (seen_in D.Disk R.Directory stripe.old).device.faults (seen_in D.Disk R.Directory stripe.new).device (next_id w) w.pin (next_start w) w.gathered.items)
         (kept_in C.Chronicle stripe.new ≡ kept_in C.Chronicle stripe.old) }
-    ensures does { let w = writer.old in Answers result (CutsAsAsked (state_in C.Chronicle stripe.old) (seen_in D.Disk R.Directory stripe.old).device.faults
-        (seen_in D.Disk R.Directory stripe.new).device.faults (next_id w) w.pin (next_start w) w.gathered.items) (Unit {0}) }
     ensures number { IfErr result (StopsAtLimit (state_in C.Chronicle stripe.new) (length writer.old.gathered.items)) }
     ensures writer { OnOk result (IsWriterOf (state_in C.Chronicle stripe.new) writer.new) }
     ensures rest { OnOk result (SameButBytes writer.old writer.new) }
@@ -274,7 +272,7 @@ pub(crate) fn cut<D: Disk, R: Directory + Drop, C: Chronicle>(
         index: writer.table.len() + 1,
     };
     let size = writer.gathered.len() as u32;
-    let placed = stripe.place_piece(id, writer.pin, writer.table.total(), &writer.gathered)?;
+    let placed = stripe.place_piece(id, writer.pin, writer.table.total(), &writer.gathered, now)?;
     let pushed: Result<_, _> = writer.table.push(size, placed.payload.0);
     pushed.unwrap();
     writer.gathered.clear();

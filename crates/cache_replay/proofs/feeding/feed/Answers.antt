@@ -6,11 +6,11 @@ use Rattle.cache_replay.proofs.FeedTurns.{all_ends, bounds, fails_ends, goes_on,
 use Rattle.cache_replay.proofs.feeding.feed.Given.{Over}
 use Rattle.cache_replay.proofs.feeding.feed.Goals as goal
 
-refused : (g : Over) (c : goal.In-Err g) → Ends (seen_in g.D.Disk g.R.Directory c.args.stripe.now).device.faults (seen_in g.D.Disk g.R.Directory c.write.new.stripe).device.faults
+refused : (g : Over) (c : goal.In-Err g) → Ends c.args.now (seen_in g.D.Disk g.R.Directory c.args.stripe.now).device.faults (seen_in g.D.Disk g.R.Directory c.write.new.stripe).device.faults
     (kept_in g.C.Chronicle c.args.stripe.now) (kept_in g.C.Chronicle c.write.new.stripe) c.args.writer.now c.write.new.writer c.args.bytes.now c.feed.taken (Some c.in-Err.why)
 refused g c =
-    fails_ends g.D.Disk g.R.Directory g.C.Chronicle c.args.stripe.now c.feed.stripe c.write.new.stripe c.args.writer.now c.feed.writer c.write.new.writer c.args.bytes.now c.feed.taken
-    c.feed.invariant c.in-Err.why c.in-Err.ensures.adds c.in-Err.ensures.writes c.in-Err.ensures.does c.in-Err.ensures.same c.write.ensures.later
+    fails_ends g.D.Disk g.R.Directory g.C.Chronicle c.args.now c.args.stripe.now c.feed.stripe c.write.new.stripe c.args.writer.now c.feed.writer c.write.new.writer c.args.bytes.now c.feed.taken
+    c.feed.invariant c.in-Err.why c.in-Err.ensures.writes c.in-Err.ensures.does c.in-Err.ensures.same c.write.ensures.later
 
 pub returns-in-Err-clause-feeds : goal.returns-in-Err-clause-feeds
 returns-in-Err-clause-feeds g c = (refused g c).feeds
@@ -27,13 +27,13 @@ returns-in-Err-clause-writing g c = (refused g c).writing
 pub returns-in-Err-clause-own : goal.returns-in-Err-clause-own
 returns-in-Err-clause-own g c = (refused g c).own
 
-whole : (g : Over) (c : goal.Then-taken-bytes g) → Ends (seen_in g.D.Disk g.R.Directory c.args.stripe.now).device.faults (seen_in g.D.Disk g.R.Directory c.write.new.stripe).device.faults
+whole : (g : Over) (c : goal.Then-taken-bytes g) → Ends c.args.now (seen_in g.D.Disk g.R.Directory c.args.stripe.now).device.faults (seen_in g.D.Disk g.R.Directory c.write.new.stripe).device.faults
     (kept_in g.C.Chronicle c.args.stripe.now) (kept_in g.C.Chronicle c.write.new.stripe) c.args.writer.now c.write.new.writer c.args.bytes.now (c.feed.taken + c.in-Ok.count) None
 whole g c =
-    all_ends g.D.Disk g.R.Directory g.C.Chronicle c.args.stripe.now c.feed.stripe c.write.new.stripe c.args.writer.now c.feed.writer c.write.new.writer c.args.bytes.now c.feed.taken
+    all_ends g.D.Disk g.R.Directory g.C.Chronicle c.args.now c.args.stripe.now c.feed.stripe c.write.new.stripe c.args.writer.now c.feed.writer c.write.new.writer c.args.bytes.now c.feed.taken
     c.feed.invariant c.in-Ok.count
-    (wrote g.D.Disk g.R.Directory g.C.Chronicle c.args.stripe.now c.feed.stripe c.write.new.stripe c.args.writer.now c.feed.writer c.write.new.writer c.args.bytes.now c.feed.taken c.feed.invariant c.in-Ok.count
-    (record { own = c.feed.invariant.writer; adds = c.in-Ok.ensures.adds; takes = c.in-Ok.ensures.writes; does = c.in-Ok.ensures.does; gathers = c.in-Ok.ensures.gathers; next_own = c.write.ensures.writer }))
+    (wrote g.D.Disk g.R.Directory g.C.Chronicle c.args.now c.args.stripe.now c.feed.stripe c.write.new.stripe c.args.writer.now c.feed.writer c.write.new.writer c.args.bytes.now c.feed.taken c.feed.invariant c.in-Ok.count
+    (record { own = c.feed.invariant.writer; takes = c.in-Ok.ensures.writes; does = c.in-Ok.ensures.does; gathers = c.in-Ok.ensures.gathers; next_own = c.write.ensures.writer }))
     c.if-taken-bytes.true c.write.ensures.later
 
 pub returns-then-taken-bytes-clause-feeds : goal.returns-then-taken-bytes-clause-feeds
@@ -57,18 +57,18 @@ smaller len t n some le = omega (arith, some, le)
 pub feed-smaller : goal.feed-smaller
 feed-smaller g c =
     smaller _ c.feed.taken c.in-Ok.count
-    (some_taken g.D.Disk g.R.Directory g.C.Chronicle c.args.stripe.now c.feed.stripe c.write.new.stripe c.args.writer.now c.feed.writer c.write.new.writer c.args.bytes.now c.feed.taken c.feed.invariant c.in-Ok.count
-    (wrote g.D.Disk g.R.Directory g.C.Chronicle c.args.stripe.now c.feed.stripe c.write.new.stripe c.args.writer.now c.feed.writer c.write.new.writer c.args.bytes.now c.feed.taken c.feed.invariant c.in-Ok.count
-    (record { own = c.feed.invariant.writer; adds = c.in-Ok.ensures.adds; takes = c.in-Ok.ensures.writes; does = c.in-Ok.ensures.does; gathers = c.in-Ok.ensures.gathers; next_own = c.write.ensures.writer }))
+    (some_taken g.D.Disk g.R.Directory g.C.Chronicle c.args.now c.args.stripe.now c.feed.stripe c.write.new.stripe c.args.writer.now c.feed.writer c.write.new.writer c.args.bytes.now c.feed.taken c.feed.invariant c.in-Ok.count
+    (wrote g.D.Disk g.R.Directory g.C.Chronicle c.args.now c.args.stripe.now c.feed.stripe c.write.new.stripe c.args.writer.now c.feed.writer c.write.new.writer c.args.bytes.now c.feed.taken c.feed.invariant c.in-Ok.count
+    (record { own = c.feed.invariant.writer; takes = c.in-Ok.ensures.writes; does = c.in-Ok.ensures.does; gathers = c.in-Ok.ensures.gathers; next_own = c.write.ensures.writer }))
     c.if-taken-bytes.false)
-    (bounds g.D.Disk g.R.Directory g.C.Chronicle c.args.stripe.now c.feed.stripe c.write.new.stripe c.args.writer.now c.feed.writer c.write.new.writer c.args.bytes.now c.feed.taken c.feed.invariant c.in-Ok.count
-    (wrote g.D.Disk g.R.Directory g.C.Chronicle c.args.stripe.now c.feed.stripe c.write.new.stripe c.args.writer.now c.feed.writer c.write.new.writer c.args.bytes.now c.feed.taken c.feed.invariant c.in-Ok.count
-    (record { own = c.feed.invariant.writer; adds = c.in-Ok.ensures.adds; takes = c.in-Ok.ensures.writes; does = c.in-Ok.ensures.does; gathers = c.in-Ok.ensures.gathers; next_own = c.write.ensures.writer })))
+    (bounds g.D.Disk g.R.Directory g.C.Chronicle c.args.now c.args.stripe.now c.feed.stripe c.write.new.stripe c.args.writer.now c.feed.writer c.write.new.writer c.args.bytes.now c.feed.taken c.feed.invariant c.in-Ok.count
+    (wrote g.D.Disk g.R.Directory g.C.Chronicle c.args.now c.args.stripe.now c.feed.stripe c.write.new.stripe c.args.writer.now c.feed.writer c.write.new.writer c.args.bytes.now c.feed.taken c.feed.invariant c.in-Ok.count
+    (record { own = c.feed.invariant.writer; takes = c.in-Ok.ensures.writes; does = c.in-Ok.ensures.does; gathers = c.in-Ok.ensures.gathers; next_own = c.write.ensures.writer })))
 
 pub feed-preserved : goal.feed-preserved
 feed-preserved g c =
-    goes_on g.D.Disk g.R.Directory g.C.Chronicle c.args.stripe.now c.feed.stripe c.write.new.stripe c.args.writer.now c.feed.writer c.write.new.writer c.args.bytes.now c.feed.taken
+    goes_on g.D.Disk g.R.Directory g.C.Chronicle c.args.now c.args.stripe.now c.feed.stripe c.write.new.stripe c.args.writer.now c.feed.writer c.write.new.writer c.args.bytes.now c.feed.taken
     c.feed.invariant c.in-Ok.count
-    (wrote g.D.Disk g.R.Directory g.C.Chronicle c.args.stripe.now c.feed.stripe c.write.new.stripe c.args.writer.now c.feed.writer c.write.new.writer c.args.bytes.now c.feed.taken c.feed.invariant c.in-Ok.count
-    (record { own = c.feed.invariant.writer; adds = c.in-Ok.ensures.adds; takes = c.in-Ok.ensures.writes; does = c.in-Ok.ensures.does; gathers = c.in-Ok.ensures.gathers; next_own = c.write.ensures.writer }))
+    (wrote g.D.Disk g.R.Directory g.C.Chronicle c.args.now c.args.stripe.now c.feed.stripe c.write.new.stripe c.args.writer.now c.feed.writer c.write.new.writer c.args.bytes.now c.feed.taken c.feed.invariant c.in-Ok.count
+    (record { own = c.feed.invariant.writer; takes = c.in-Ok.ensures.writes; does = c.in-Ok.ensures.does; gathers = c.in-Ok.ensures.gathers; next_own = c.write.ensures.writer }))
     c.if-taken-bytes.false c.write.ensures.stripe c.write.ensures.quiet c.write.ensures.later c.write.ensures.unharmed

@@ -1,5 +1,7 @@
 use Rattle.std.proofs.Common.{refl}
-use Rattle.cache_replay.proofs.OnSession.{line_ends, line_reached, line_session, remove_plain}
+use Rattle.stripe_core.specs.Stripe.{state_in}
+use Rattle.script_lang.specs.declared.step.Step.TheVariants as step
+use Rattle.cache_replay.proofs.OnSession.{at_moment, line_ends, line_reached, line_session, remove_plain}
 use Rattle.cache_replay.proofs.plain_lines.remove_line.Goals as goal
 
 pub returns-in-Some-clause-session : goal.returns-in-Some-clause-session
@@ -9,7 +11,8 @@ returns-in-Some-clause-session g c =
 pub returns-in-Some-clause-ends : goal.returns-in-Some-clause-ends
 returns-in-Some-clause-ends g c =
     line_ends g.D.Disk g.R.Directory g.C.Chronicle c.steps_tell.ensures c.steps_own.ensures c.args.session.now _ c.in-Some.part c.remove_from.new.part _ c.remove_from.result (remove_plain c.args.key)
-    c.in-Some.is refl refl refl (λ n. refl) c.remove_from.ensures.leaves c.remove_from.ensures.unharmed c.requires.session c.remove_from.ensures.ends
+    c.in-Some.is refl refl refl (λ n. refl) c.remove_from.ensures.leaves c.remove_from.ensures.unharmed c.requires.session
+    (at_moment (step.Remove c.args.key) (state_in g.C.Chronicle c.in-Some.part.stripe) (state_in g.C.Chronicle c.remove_from.new.part.stripe) _ c.remove_from.result c.remove_from.ensures.ends)
 
 pub returns-in-Some-clause-reached : goal.returns-in-Some-clause-reached
 returns-in-Some-clause-reached g c =

@@ -1,6 +1,7 @@
 use Rattle.std.proofs.Common.{refl}
 use Rattle.cache_replay.proofs.OnSession.{line_reached}
 use Rattle.cache_replay.proofs.PutLine.{put_ends, put_session}
+use Rattle.cache_replay.proofs.ReaderSessions.{line_stops}
 use Rattle.cache_replay.proofs.put_line.put_line.Goals as goal
 
 pub returns-in-Some-clause-session : goal.returns-in-Some-clause-session
@@ -15,3 +16,6 @@ returns-in-Some-clause-ends g c =
 pub returns-in-Some-clause-reached : goal.returns-in-Some-clause-reached
 returns-in-Some-clause-reached g c =
     line_reached g.D.Disk g.R.Directory g.C.Chronicle c.args.session.now c.in-Some.part c.put_in.new.part c.put_in.result c.in-Some.is c.requires.session c.put_in.ensures.later c.put_in.ensures.unharmed
+
+pub returns-in-Some-clause-stop : goal.returns-in-Some-clause-stop
+returns-in-Some-clause-stop g c = line_stops g.D.Disk g.R.Directory g.C.Chronicle c.args.session.now c.put_in.result c.put_in.ensures.stop

@@ -16,10 +16,10 @@ returns-in-None-clause-fills g c =
     let m = (seen_in g.D.Disk g.R.Directory now).device.faults in
     let number = c.feed.ensures.fed.put in
     let writing = subst (λ q. is_writing (state_in g.C.Chronicle now) q ≡ true) (sym number) (subst (IsOpenBehind (state_in g.C.Chronicle now) w.put) c.in-None.is c.feed.ensures.writing) in
-    closes_fill b m (seen_in g.D.Disk g.R.Directory c.close_write.new.stripe).device.faults (kept_in g.C.Chronicle first) (kept_in g.C.Chronicle now) (kept_in g.C.Chronicle c.close_write.new.stripe)
-    w c.feed.new.writer c.args.body.now c.groups_tell.ensures c.requires.fresh number
+    closes_fill c.args.now b m (seen_in g.D.Disk g.R.Directory c.close_write.new.stripe).device.faults (kept_in g.C.Chronicle first) (kept_in g.C.Chronicle now) (kept_in g.C.Chronicle c.close_write.new.stripe)
+    w c.feed.new.writer c.args.body.now c.groups_tell.ensures c.requires.stripe.pieces.sound c.requires.fresh number
     (subst (λ o. IsCutWhere (state_in g.C.Chronicle first).geometry.fragment w c.args.body.now o c.feed.new.writer) c.in-None.is c.feed.ensures.cut) c.feed.ensures.writer writing
-    (subst (FeedsWhere b m (kept_in g.C.Chronicle first) (kept_in g.C.Chronicle now) w c.args.body.now) c.in-None.is c.feed.ensures.feeds)
+    (subst (FeedsWhere c.args.now b m (kept_in g.C.Chronicle first) (kept_in g.C.Chronicle now) w c.args.body.now) c.in-None.is c.feed.ensures.feeds)
     c.feed.ensures.later c.close_write.ensures.later c.close_write.result c.close_write.ensures.does c.close_write.ensures.closes
 
 pub returns-in-None-clause-own : goal.returns-in-None-clause-own
@@ -31,5 +31,5 @@ pub returns-in-Some-clause-fills : goal.returns-in-Some-clause-fills
 returns-in-Some-clause-fills g c =
     let b = (seen_in g.D.Disk g.R.Directory c.args.stripe.now).device.faults in
     let m = (seen_in g.D.Disk g.R.Directory c.feed.new.stripe).device.faults in
-    refused_fill b m (kept_in g.C.Chronicle c.args.stripe.now) (kept_in g.C.Chronicle c.feed.new.stripe) c.args.writer.now c.args.body.now c.requires.fresh c.in-Some.why
-    (subst (FeedsWhere b m (kept_in g.C.Chronicle c.args.stripe.now) (kept_in g.C.Chronicle c.feed.new.stripe) c.args.writer.now c.args.body.now) c.in-Some.is c.feed.ensures.feeds)
+    refused_fill c.args.now b m (kept_in g.C.Chronicle c.args.stripe.now) (kept_in g.C.Chronicle c.feed.new.stripe) c.args.writer.now c.args.body.now c.requires.fresh c.in-Some.why
+    (subst (FeedsWhere c.args.now b m (kept_in g.C.Chronicle c.args.stripe.now) (kept_in g.C.Chronicle c.feed.new.stripe) c.args.writer.now c.args.body.now) c.in-Some.is c.feed.ensures.feeds)

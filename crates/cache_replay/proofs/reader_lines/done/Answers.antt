@@ -1,6 +1,6 @@
 use Rattle.std.proofs.Common.{refl, ◌∙◌, ap, inl}
 use Rattle.cache_replay.specs.ReaderLines.{reader_held, slots_of}
-use Rattle.cache_replay.proofs.DoneLine.{done_active, done_idle, done_moves}
+use Rattle.cache_replay.proofs.DoneLine.{done_active, done_idle, done_ends}
 use Rattle.cache_replay.proofs.ReaderLines.{not_taken, took}
 use Rattle.cache_replay.proofs.reader_lines.done.Goals as goal
 
@@ -11,11 +11,11 @@ returns-in-Ok-clause-active g c =
     refl c.in-Ok.ensures.stripe c.in-Ok.ensures.quiet c.in-Ok.ensures.adds c.requires.active
 
 pub returns-in-Ok-clause-ends : goal.returns-in-Ok-clause-ends
-returns-in-Ok-clause-ends g c = λ run plays. inl (
-    done_moves g.D.Disk g.R.Directory g.C.Chronicle c.groups_tell.ensures c.steps_own.ensures c.args.part.now _ c.args.actors.now c.take_reader.new.actors c.args.actor.now c.in_ok-number.number c.in-Some.reader
+returns-in-Ok-clause-ends g c =
+    done_ends g.D.Disk g.R.Directory g.C.Chronicle c.groups_tell.ensures c.steps_own.ensures c.args.part.now _ c.args.actors.now c.take_reader.new.actors c.args.actor.now c.in_ok-number.number c.in-Some.reader
     c.in_ok-number.ensures.number (c.in-Some.ensures.names ∙ c.in_ok-number.ensures.names)
     (took (slots_of c.args.actors.now) (slots_of c.number.new.self) (slots_of c.take_reader.new.actors) c.in_ok-number.number c.in-Some.reader c.in_ok-number.ensures.slots c.in-Some.ensures.slots c.in-Some.ensures.reader)
-    c.in-Ok.ensures.adds c.in-Ok.ensures.does c.in-Ok.ensures.quiet c.requires.active run plays)
+    c.in-Ok.ensures.adds c.in-Ok.ensures.does c.in-Ok.ensures.quiet c.requires.active
 
 pub returns-in-None-clause-ends : goal.returns-in-None-clause-ends
 returns-in-None-clause-ends g c = λ run plays. inl (

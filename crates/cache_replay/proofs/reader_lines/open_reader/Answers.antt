@@ -1,6 +1,8 @@
-use Rattle.std.proofs.Common.{refl, sym, ◌∙◌, ap, inl}
+use Rattle.std.proofs.Common.{ℕ, ◌+◌, ◌≤◌, List, length, refl, sym, ◌∙◌, ap, subst, inl}
 use Rattle.std.specs.Prelude.{is_some}
 use Rattle.cache_replay.specs.ReaderLines.{as_held, reader_opened, slots_of}
+use Rattle.cache_replay.proofs.Lines.{one_more}
+use Rattle.cache_replay.proofs.ReaderLines.{kept_active}
 use Rattle.cache_replay.proofs.OpenLine.{changed_from, none_there, open_active, open_answers, open_busy}
 use Rattle.cache_replay.proofs.reader_lines.open_reader.Goals as goal
 
@@ -9,6 +11,21 @@ returns-then-has_something-clause-ends g c = λ run plays. inl (
     open_busy g.D.Disk g.R.Directory g.C.Chronicle c.args.part.now c.args.actors.now c.number.new.self c.args.actor.now c.args.key c.args.request c.in_ok-number.number c.refused.result c.refused.ensures
     c.in_ok-number.ensures.number c.in_ok-number.ensures.names c.in_ok-number.ensures.slots
     (ap is_some (sym (c.in_ok-number.ensures.slots c.in_ok-number.number)) ∙ (sym c.has_something.ensures ∙ c.if-has_something.true)) c.requires.active run plays)
+
+pub returns-in_err-opened-clause-active : goal.returns-in_err-opened-clause-active
+returns-in_err-opened-clause-active g c =
+    kept_active g.D.Disk g.R.Directory g.C.Chronicle c.args.part.now _ (slots_of c.args.actors.now) (slots_of c.number.new.self) c.requires.active c.in_err-opened.ensures.stripe c.in_err-opened.ensures.quiet refl
+    c.in_err-opened.ensures.err c.in_ok-number.ensures.slots
+
+pub returns-in_err-opened-clause-names : goal.returns-in_err-opened-clause-names
+returns-in_err-opened-clause-names g c = subst (λ (all : List (List ℕ)). length all ≤ length c.args.actors.now.names + 1) (sym c.in_ok-number.ensures.names) (one_more c.args.actors.now.names c.args.actor.now)
+
+pub give_reader-requires-clause-free : goal.give_reader-requires-clause-free
+give_reader-requires-clause-free g c = none_there (slots_of c.number.new.self c.in_ok-number.number) (sym c.has_something.ensures ∙ c.if-has_something.false)
+
+pub returns-clause-names : goal.returns-clause-names
+returns-clause-names g c =
+    subst (λ (all : List (List ℕ)). length all ≤ length c.args.actors.now.names + 1) (sym (c.give_reader.ensures.names ∙ c.in_ok-number.ensures.names)) (one_more c.args.actors.now.names c.args.actor.now)
 
 pub returns-clause-active : goal.returns-clause-active
 returns-clause-active g c =

@@ -25,9 +25,9 @@ returns-in-Some-clause-ends g c =
     let n = c.in-Ok.number in
     let mine = taken_writer c.args.actors.now c.number.new.self c.take_writer.new.actors n w c.number.ensures.slots c.in-Some.ensures.takes in
     let changed = given_back c.args.actors.now c.number.new.self c.take_writer.new.actors c.set_back.new.actors n w c.give_up-outcome.result.left c.number.ensures.slots c.in-Some.ensures.takes c.set_back.ensures.slots in
-    ends_if c.set_back.result c.give_up-outcome.result.answer _ c.set_back.ensures.said (λ said answered.
+    ends_if c.set_back.result c.give_up-outcome.result.answer _ c.set_back.ensures.said (λ said answered run plays.
     ends_by g.D.Disk g.R.Directory g.C.Chronicle c.others_stay.ensures c.args.part.now _ c.args.actors.now c.set_back.new.actors n c.steps_own.ensures c.steps_tell.ensures GivesUp c.args.actor.now w c.give_up-outcome.result.left
-    c.give_up-outcome.result.answer said tt answered c.in-Ok.ensures.number c.requires.active mine changed c.give_up-outcome.ensures.own (c.set_back.ensures.names ∙ (c.in-Some.ensures.names ∙ c.in-Ok.ensures.names)) c.give_up-outcome.ensures.does)
+    c.give_up-outcome.result.answer said tt answered c.in-Ok.ensures.number c.requires.active mine changed c.give_up-outcome.ensures.own (c.set_back.ensures.names ∙ (c.in-Some.ensures.names ∙ c.in-Ok.ensures.names)) run.now (c.give_up-outcome.ensures.does run.now) run refl plays)
 
 pub returns-in-None-clause-ends : goal.returns-in-None-clause-ends
 returns-in-None-clause-ends g c = λ run plays.

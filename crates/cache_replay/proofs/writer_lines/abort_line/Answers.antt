@@ -1,13 +1,13 @@
 use Rattle.std.proofs.Common.{refl}
 use Rattle.std.proofs.lemmas.Result.{IfErr-weaker, IfOk-weaker}
 use Rattle.cache_replay.proofs.OnSession.{line_reached}
-use Rattle.cache_replay.proofs.WriterSessions.{memory_stops, writer_ends}
+use Rattle.cache_replay.proofs.WriterSessions.{memory_stops, writer_ends_ever}
 use Rattle.cache_replay.proofs.writer_lines.abort_line.Goals as goal
 
 pub returns-in-Some-clause-ends : goal.returns-in-Some-clause-ends
 returns-in-Some-clause-ends g c =
     IfOk-weaker c.abort_in.result _ _
-    (writer_ends g.D.Disk g.R.Directory g.C.Chronicle c.args.session.now _ c.in-Some.part c.abort_in.new.part c.in-Some.is refl refl c.abort_in.ensures.unharmed _ tt) c.abort_in.ensures.ends
+    (writer_ends_ever g.D.Disk g.R.Directory g.C.Chronicle c.args.session.now _ c.in-Some.part c.abort_in.new.part c.in-Some.is refl refl c.abort_in.ensures.unharmed _ tt) c.abort_in.ensures.ends
 
 pub returns-in-Some-clause-reached : goal.returns-in-Some-clause-reached
 returns-in-Some-clause-reached g c =

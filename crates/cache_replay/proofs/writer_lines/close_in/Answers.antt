@@ -27,10 +27,10 @@ returns-in-Some-clause-ends g c =
     let changed = given_back c.args.actors.now c.number.new.self c.take_writer.new.actors c.set_back.new.actors n w c.finish-outcome.result.left c.number.ensures.slots c.in-Some.ensures.takes c.set_back.ensures.slots in
     ends_if c.set_back.result c.finish-outcome.result.answer _ c.set_back.ensures.said (λ said answered.
     ends_by g.D.Disk g.R.Directory g.C.Chronicle c.others_stay.ensures c.args.part.now _ c.args.actors.now c.set_back.new.actors n c.steps_own.ensures c.steps_tell.ensures Closes c.args.actor.now w c.finish-outcome.result.left
-    c.finish-outcome.result.answer said tt answered c.in-Ok.ensures.number c.requires.active mine changed c.finish-outcome.ensures.own (c.set_back.ensures.names ∙ (c.in-Some.ensures.names ∙ c.in-Ok.ensures.names)) c.finish-outcome.ensures.does)
+    c.finish-outcome.result.answer said tt answered c.in-Ok.ensures.number c.requires.active mine changed c.finish-outcome.ensures.own (c.set_back.ensures.names ∙ (c.in-Some.ensures.names ∙ c.in-Ok.ensures.names)) c.args.now c.finish-outcome.ensures.does)
 
 pub returns-in-None-clause-ends : goal.returns-in-None-clause-ends
-returns-in-None-clause-ends g c = λ run plays.
+returns-in-None-clause-ends g c = λ run moment plays.
     let n = c.in-Ok.number in
     subst (PartEnds g.C.Chronicle run (step.Close c.args.actor.now) c.args.part.now c.take_writer.new.actors) (sym c.idle.ensures)
     (idles_by g.D.Disk g.R.Directory g.C.Chronicle c.others_stay.ensures c.args.part.now c.args.part.now c.args.actors.now c.take_writer.new.actors n Closes c.args.actor.now tt c.in-Ok.ensures.number c.requires.active

@@ -10,6 +10,6 @@ returns-clause-left g c = is_left (state_in g.C.Chronicle c.feed-taken.new.strip
 
 pub returns-clause-does : goal.returns-clause-does
 returns-clause-does g c =
-    subst (WriterDoes (state_in g.C.Chronicle c.args.stripe.now) (state_in g.C.Chronicle c.feed-taken.new.stripe) (Feeds c.args.body.now) c.args.writer c.keep_open.result) (sym c.fed_answer.ensures)
-    (feeds_line (kept_in g.C.Chronicle c.args.stripe.now) (kept_in g.C.Chronicle c.feed-taken.new.stripe) _ _ c.args.writer c.feed-taken.new.writer c.args.body.now c.feed-taken.result.taken c.keep_open.result
+    subst (WriterDoes c.args.now (state_in g.C.Chronicle c.args.stripe.now) (state_in g.C.Chronicle c.feed-taken.new.stripe) (Feeds c.args.body.now) c.args.writer c.keep_open.result) (sym c.fed_answer.ensures)
+    (feeds_line c.args.now (kept_in g.C.Chronicle c.args.stripe.now) (kept_in g.C.Chronicle c.feed-taken.new.stripe) _ _ c.args.writer c.feed-taken.new.writer c.args.body.now c.feed-taken.result.taken c.keep_open.result
     c.requires.quiet c.feed-taken.ensures.quiet c.requires.writing c.requires.writer c.feed-taken.ensures.fed c.feed-taken.ensures.most c.keep_open.ensures c.feed-taken.result.refused c.feed-taken.ensures.feeds c.feed-taken.ensures.taken)

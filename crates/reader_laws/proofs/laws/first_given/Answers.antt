@@ -7,6 +7,8 @@ returns c =
       steps = record { one_group = c.one_group.ensures; numbers_follow = c.numbers_follow.ensures; reader_is_closed = c.reader_is_closed.ensures };
       lines = record {
         numbers_follow = c.numbers_follow.ensures;
+        legal_is_sound = c.legal_is_sound.ensures;
+        steps_are_sound = c.steps_are_sound.ensures;
         formats_tell = c.formats_tell.ensures;
         steps_tell = c.steps_tell.ensures;
         formats_own = c.formats_own.ensures;

@@ -1,10 +1,15 @@
-use Rattle.std.proofs.Common.{◌≡◌, refl, inl, inr}
-use Rattle.stripe_core.specs.Stripe.{kept_in, state_in}
+use Rattle.std.proofs.Common.{refl, inl, inr}
+use Rattle.stripe_core.specs.Stripe.{kept_in, seen_in, state_in}
 use Rattle.stripe_write.specs.declared.writer.Writer.{Writer}
 use Rattle.std.proofs.Common.{subst}
 use Rattle.stripe_write.specs.Others.{AddsOfPut}
-use Rattle.stripe_write.proofs.Owning.{owns_no_rest, owns_rest, then_owns}
-use Rattle.stripe_write.proofs.LastSteps.{IsSealed, cut_same, keeps_rest, no_rest_ends, rest_then_finish, sealed_same, sealed_writer, spelled_same, then_same}
+use Rattle.stripe_write.proofs.Keeping.{keeps_rest}
+use Rattle.stripe_write.specs.Resting.{RestsAsAsked}
+use Rattle.stripe_write.proofs.Flushed.{stop_in}
+use Rattle.stripe_write.proofs.LastCut.{rest_own}
+use Rattle.stripe_write.proofs.Owning.{then_owns}
+use Rattle.stripe_write.proofs.LastSteps.{no_rest_ends, rest_then_finish}
+use Rattle.stripe_write.proofs.Sealing.{IsSealed, cut_same, sealed_same, sealed_writer, spelled_same, then_same}
 use Rattle.stripe_write.proofs.closing.end.Goals as goal
 
 pub cut_rest-requires-clause-writer : goal.cut_rest-requires-clause-writer
@@ -18,38 +23,40 @@ finish-requires-clause-spelled g c =
     let w = c.args.writer.now in
     let sealed : Writer = record { put = w.put; key = w.key; request = w.request; response = w.response; pin = w.pin; gathered = w.gathered; table = w.table; sealed = Rattle.std.proofs.Common.true } in
     let is : IsSealed w sealed = record { put = refl; key = refl; request = refl; response = refl; pin = refl; gathered = refl; rows = refl; sealed = refl } in
-    spelled_same _ _ w c.cut_rest.new.writer c.args.vectors.now (keeps_rest (kept_in g.C.Chronicle c.args.stripe.now) (kept_in g.C.Chronicle c.cut_rest.new.stripe) sealed c.in-Ok.field-0 c.in-Ok.ensures.adds c.requires.stripe.pieces.sound).geometry
+    spelled_same _ _ w c.cut_rest.new.writer c.args.vectors.now (keeps_rest c.args.now (kept_in g.C.Chronicle c.args.stripe.now) (kept_in g.C.Chronicle c.cut_rest.new.stripe) _ _ sealed c.in-Ok.field-0 c.in-Ok.ensures.does).geometry
     (then_same w sealed c.cut_rest.new.writer (sealed_same w sealed is) (cut_same sealed c.cut_rest.new.writer c.cut_rest.ensures.rest c.in-Ok.ensures.rows c.in-Ok.ensures.empty)) c.requires.spelled
 
 pub returns-in-Ok-clause-does : goal.returns-in-Ok-clause-does
 returns-in-Ok-clause-does g c =
     let w = c.args.writer.now in
     let sealed : Writer = record { put = w.put; key = w.key; request = w.request; response = w.response; pin = w.pin; gathered = w.gathered; table = w.table; sealed = Rattle.std.proofs.Common.true } in
-    rest_then_finish (kept_in g.C.Chronicle c.args.stripe.now) (kept_in g.C.Chronicle c.cut_rest.new.stripe) (kept_in g.C.Chronicle c.finish.new.stripe) _ _ _ w sealed c.cut_rest.new.writer c.args.vectors.now c.in-Ok.field-0 c.finish.result
-    (record { put = refl; key = refl; request = refl; response = refl; pin = refl; gathered = refl; rows = refl; sealed = refl }) c.cut_rest.ensures.rest c.in-Ok.ensures.rows c.in-Ok.ensures.empty c.requires.stripe.pieces.sound
-    c.cut_rest.ensures.later c.finish.ensures.later c.in-Ok.ensures.adds c.in-Ok.ensures.does c.finish.ensures.finishes c.finish.ensures.does
+    rest_then_finish c.args.now (kept_in g.C.Chronicle c.args.stripe.now) (kept_in g.C.Chronicle c.cut_rest.new.stripe) (kept_in g.C.Chronicle c.finish.new.stripe) _ _ _ w sealed c.cut_rest.new.writer c.args.vectors.now c.in-Ok.field-0 c.finish.result
+    (record { put = refl; key = refl; request = refl; response = refl; pin = refl; gathered = refl; rows = refl; sealed = refl }) c.cut_rest.ensures.rest c.in-Ok.ensures.rows c.in-Ok.ensures.empty
+    c.cut_rest.ensures.later c.finish.ensures.later c.in-Ok.ensures.does c.finish.ensures.finishes c.finish.ensures.does
 
 pub returns-in-Err-clause-does : goal.returns-in-Err-clause-does
 returns-in-Err-clause-does g c =
     let w = c.args.writer.now in
     let sealed : Writer = record { put = w.put; key = w.key; request = w.request; response = w.response; pin = w.pin; gathered = w.gathered; table = w.table; sealed = Rattle.std.proofs.Common.true } in
-    no_rest_ends (kept_in g.C.Chronicle c.args.stripe.now) (kept_in g.C.Chronicle c.cut_rest.new.stripe) _ _ w sealed c.args.vectors.now c.in-Err.why
+    no_rest_ends c.args.now (kept_in g.C.Chronicle c.args.stripe.now) (kept_in g.C.Chronicle c.cut_rest.new.stripe) _ _ w sealed c.args.vectors.now c.in-Err.why
     (record { put = refl; key = refl; request = refl; response = refl; pin = refl; gathered = refl; rows = refl; sealed = refl }) c.requires.open c.requires.writer c.in-Err.ensures.some c.in-Err.ensures.number
-    c.in-Err.ensures.adds c.in-Err.ensures.does
+    c.in-Err.ensures.does
 
 pub returns-in-Ok-clause-own : goal.returns-in-Ok-clause-own
 returns-in-Ok-clause-own g c =
     let w = c.args.writer.now in
     let sealed : Writer = record { put = w.put; key = w.key; request = w.request; response = w.response; pin = w.pin; gathered = w.gathered; table = w.table; sealed = Rattle.std.proofs.Common.true } in
     then_owns w.put (kept_in g.C.Chronicle c.args.stripe.now) (kept_in g.C.Chronicle c.cut_rest.new.stripe) (kept_in g.C.Chronicle c.finish.new.stripe)
-    (owns_rest (kept_in g.C.Chronicle c.args.stripe.now) (kept_in g.C.Chronicle c.cut_rest.new.stripe) sealed c.in-Ok.field-0 c.in-Ok.ensures.adds)
+    (rest_own c.args.now (kept_in g.C.Chronicle c.args.stripe.now) (kept_in g.C.Chronicle c.cut_rest.new.stripe) _ _ sealed _ c.in-Ok.ensures.does)
     (subst (λ n. AddsOfPut n (kept_in g.C.Chronicle c.cut_rest.new.stripe) (kept_in g.C.Chronicle c.finish.new.stripe)) c.cut_rest.ensures.rest.put c.finish.ensures.own)
 
 pub returns-in-Err-clause-own : goal.returns-in-Err-clause-own
 returns-in-Err-clause-own g c =
     let w = c.args.writer.now in
     let sealed : Writer = record { put = w.put; key = w.key; request = w.request; response = w.response; pin = w.pin; gathered = w.gathered; table = w.table; sealed = Rattle.std.proofs.Common.true } in
-    owns_no_rest (kept_in g.C.Chronicle c.args.stripe.now) (kept_in g.C.Chronicle c.cut_rest.new.stripe) sealed c.in-Err.why c.in-Err.ensures.adds
+    let stopped = stop_in (RestsAsAsked c.args.now (kept_in g.C.Chronicle c.args.stripe.now) (kept_in g.C.Chronicle c.cut_rest.new.stripe) (seen_in g.D.Disk g.R.Directory c.args.stripe.now).device.faults
+    (seen_in g.D.Disk g.R.Directory c.cut_rest.new.stripe).device.faults sealed) c.in-Err.why c.in-Err.ensures.does in
+    rest_own c.args.now (kept_in g.C.Chronicle c.args.stripe.now) (kept_in g.C.Chronicle c.cut_rest.new.stripe) _ _ sealed _ stopped.1
 
 pub returns-in-Ok-clause-rested : goal.returns-in-Ok-clause-rested
 returns-in-Ok-clause-rested g c = inr (record { put = c.cut_rest.ensures.rest.put; empty = c.in-Ok.ensures.empty; rows = c.in-Ok.ensures.rows })

@@ -1,43 +1,79 @@
-use Rattle.stripe_core.specs.Stripe.{kept_in, state_in}
+use Rattle.std.proofs.Common.{sym, ◌∙◌, subst}
+use Rattle.stripe_core.proofs.Unharmed.{stays_unharmed-trans}
+use Rattle.stripe_core.specs.Place.{RoomsAsAsked}
+use Rattle.stripe_core.specs.Stripe.{kept_in, seen_in, state_in}
+use Rattle.stripe_write.specs.Closing.{AreSpelled}
 use Rattle.stripe_write.specs.Finishing.{bytes_now}
-use Rattle.stripe_write.proofs.Owning.{owns_no_room, owns_room, then_owns}
+use Rattle.stripe_write.proofs.Owning.{owns_room, then_owns}
 use Rattle.stripe_write.proofs.Completing.{is_closing}
-use Rattle.stripe_write.proofs.Roomed.{behind_room, no_room_ends, no_room_writer, roomed_writer}
+use Rattle.stripe_write.proofs.Flushed.{stop_in}
+use Rattle.stripe_write.proofs.Gathering.{left_writer, puts_left, room_leaves}
+use Rattle.stripe_write.proofs.Roomed.{behind_room, no_room_ends, room_is_made}
+use Rattle.stripe_write.proofs.WeighingReads.{still_writing}
 use Rattle.stripe_write.proofs.finishing.finish.Goals as goal
+
+pub end-requires-clause-quiet : goal.end-requires-clause-quiet
+end-requires-clause-quiet g c = (room_leaves c.args.now (kept_in g.C.Chronicle c.args.stripe.now) (kept_in g.C.Chronicle c.make_room.new.stripe) _ _ _ _ c.in-Ok.ensures.does).pending ∙ c.requires.quiet
+
+pub end-requires-clause-open : goal.end-requires-clause-open
+end-requires-clause-open g c =
+    let s = state_in g.C.Chronicle c.args.stripe.now in
+    let t = state_in g.C.Chronicle c.make_room.new.stripe in
+    still_writing s t c.args.writer.now.put (puts_left s t (room_leaves c.args.now (kept_in g.C.Chronicle c.args.stripe.now) (kept_in g.C.Chronicle c.make_room.new.stripe) _ _ _ _ c.in-Ok.ensures.does)) c.requires.open
+
+pub end-requires-clause-spelled : goal.end-requires-clause-spelled
+end-requires-clause-spelled g c =
+    subst (λ x. AreSpelled x c.args.writer.now c.args.vectors.now)
+    (sym (room_leaves c.args.now (kept_in g.C.Chronicle c.args.stripe.now) (kept_in g.C.Chronicle c.make_room.new.stripe) _ _ _ _ c.in-Ok.ensures.does).geometry) c.requires.spelled
+
+pub end-requires-clause-room : goal.end-requires-clause-room
+end-requires-clause-room g c =
+    room_is_made c.args.now (kept_in g.C.Chronicle c.args.stripe.now) (kept_in g.C.Chronicle c.make_room.new.stripe) _ _ c.args.writer.now c.args.vectors.now c.in-Ok.field-0 c.requires.stripe.pieces.sound c.requires.spelled
+    c.in-Ok.ensures.does c.in-Ok.ensures.room
+
+pub returns-in-Ok-clause-unharmed : goal.returns-in-Ok-clause-unharmed
+returns-in-Ok-clause-unharmed g c = stays_unharmed-trans _ _ _ _ _ _ c.make_room.ensures.unharmed c.end.ensures.unharmed
 
 pub end-requires-clause-writer : goal.end-requires-clause-writer
 end-requires-clause-writer g c =
-    let s = state_in g.C.Chronicle c.args.stripe.now in
-    roomed_writer (kept_in g.C.Chronicle c.args.stripe.now) (kept_in g.C.Chronicle c.make_room.new.stripe) (bytes_now s c.args.writer.now c.args.vectors.now) c.args.writer.now c.in-Ok.field-0 c.in-Ok.ensures.adds c.requires.writer
+    left_writer (state_in g.C.Chronicle c.args.stripe.now) (state_in g.C.Chronicle c.make_room.new.stripe) c.args.writer.now
+    (room_leaves c.args.now (kept_in g.C.Chronicle c.args.stripe.now) (kept_in g.C.Chronicle c.make_room.new.stripe) _ _ _ _ c.in-Ok.ensures.does) c.requires.writer
 
 pub returns-in-Ok-clause-does : goal.returns-in-Ok-clause-does
 returns-in-Ok-clause-does g c =
     let s = state_in g.C.Chronicle c.args.stripe.now in
     let w = c.args.writer.now in
-    behind_room (kept_in g.C.Chronicle c.args.stripe.now) (kept_in g.C.Chronicle c.make_room.new.stripe) (kept_in g.C.Chronicle c.end.new.stripe) _ _ _ w c.args.vectors.now
-    (is_closing s w c.requires.quiet c.requires.open c.requires.writer c.requires.cut) c.requires.spelled c.in-Ok.field-0 c.end.result c.requires.stripe.pieces.sound c.make_room.ensures.later c.end.ensures.later
-    c.in-Ok.ensures.adds c.in-Ok.ensures.does c.end.ensures.does
+    behind_room c.args.now (kept_in g.C.Chronicle c.args.stripe.now) (kept_in g.C.Chronicle c.make_room.new.stripe) (kept_in g.C.Chronicle c.end.new.stripe) _ _ _ w c.args.vectors.now
+    (is_closing s w c.requires.quiet c.requires.open c.requires.writer c.requires.cut) c.requires.spelled c.in-Ok.field-0 c.end.result c.make_room.ensures.later c.end.ensures.later
+    c.in-Ok.ensures.does c.end.ensures.does
 
 pub returns-in-Err-clause-does : goal.returns-in-Err-clause-does
 returns-in-Err-clause-does g c =
     let s = state_in g.C.Chronicle c.args.stripe.now in
     let w = c.args.writer.now in
-    no_room_ends (kept_in g.C.Chronicle c.args.stripe.now) (kept_in g.C.Chronicle c.make_room.new.stripe) _ _ w c.args.vectors.now (is_closing s w c.requires.quiet c.requires.open c.requires.writer c.requires.cut) c.in-Err.why
-    c.requires.spelled c.in-Err.ensures.adds c.in-Err.ensures.does c.in-Err.ensures.full c.in-Err.ensures.stops
+    no_room_ends c.args.now (kept_in g.C.Chronicle c.args.stripe.now) (kept_in g.C.Chronicle c.make_room.new.stripe) _ _ w c.args.vectors.now (is_closing s w c.requires.quiet c.requires.open c.requires.writer c.requires.cut)
+    c.requires.spelled c.in-Err.why c.in-Err.ensures.does c.in-Err.ensures.full c.in-Err.ensures.stops
+
+pub returns-in-Err-clause-quiet : goal.returns-in-Err-clause-quiet
+returns-in-Err-clause-quiet g c =
+    let stopped = stop_in (RoomsAsAsked c.args.now (kept_in g.C.Chronicle c.args.stripe.now) (kept_in g.C.Chronicle c.make_room.new.stripe) (seen_in g.D.Disk g.R.Directory c.args.stripe.now).device.faults
+    (seen_in g.D.Disk g.R.Directory c.make_room.new.stripe).device (bytes_now (state_in g.C.Chronicle c.args.stripe.now) c.args.writer.now c.args.vectors.now)) c.in-Err.why c.in-Err.ensures.does in
+    (room_leaves c.args.now (kept_in g.C.Chronicle c.args.stripe.now) (kept_in g.C.Chronicle c.make_room.new.stripe) _ _ _ _ stopped.1).pending ∙ c.requires.quiet
 
 pub returns-in-Err-clause-writer : goal.returns-in-Err-clause-writer
 returns-in-Err-clause-writer g c =
-    let s = state_in g.C.Chronicle c.args.stripe.now in
-    no_room_writer (kept_in g.C.Chronicle c.args.stripe.now) (kept_in g.C.Chronicle c.make_room.new.stripe) (bytes_now s c.args.writer.now c.args.vectors.now) c.args.writer.now c.in-Err.why c.in-Err.ensures.adds c.requires.writer
+    let stopped = stop_in (RoomsAsAsked c.args.now (kept_in g.C.Chronicle c.args.stripe.now) (kept_in g.C.Chronicle c.make_room.new.stripe) (seen_in g.D.Disk g.R.Directory c.args.stripe.now).device.faults
+    (seen_in g.D.Disk g.R.Directory c.make_room.new.stripe).device (bytes_now (state_in g.C.Chronicle c.args.stripe.now) c.args.writer.now c.args.vectors.now)) c.in-Err.why c.in-Err.ensures.does in
+    left_writer (state_in g.C.Chronicle c.args.stripe.now) (state_in g.C.Chronicle c.make_room.new.stripe) c.args.writer.now
+    (room_leaves c.args.now (kept_in g.C.Chronicle c.args.stripe.now) (kept_in g.C.Chronicle c.make_room.new.stripe) _ _ _ _ stopped.1) c.requires.writer
 
 pub returns-in-Ok-clause-own : goal.returns-in-Ok-clause-own
 returns-in-Ok-clause-own g c =
-    let s = state_in g.C.Chronicle c.args.stripe.now in
     then_owns c.args.writer.now.put (kept_in g.C.Chronicle c.args.stripe.now) (kept_in g.C.Chronicle c.make_room.new.stripe) (kept_in g.C.Chronicle c.end.new.stripe)
-    (owns_room c.args.writer.now.put (kept_in g.C.Chronicle c.args.stripe.now) (kept_in g.C.Chronicle c.make_room.new.stripe) (bytes_now s c.args.writer.now c.args.vectors.now) c.in-Ok.field-0 c.in-Ok.ensures.adds)
-    c.end.ensures.own
+    (owns_room c.args.writer.now.put c.args.now (kept_in g.C.Chronicle c.args.stripe.now) (kept_in g.C.Chronicle c.make_room.new.stripe) _ _ _ _ c.in-Ok.ensures.does) c.end.ensures.own
 
 pub returns-in-Err-clause-own : goal.returns-in-Err-clause-own
 returns-in-Err-clause-own g c =
-    let s = state_in g.C.Chronicle c.args.stripe.now in
-    owns_no_room c.args.writer.now.put (kept_in g.C.Chronicle c.args.stripe.now) (kept_in g.C.Chronicle c.make_room.new.stripe) (bytes_now s c.args.writer.now c.args.vectors.now) c.in-Err.why c.in-Err.ensures.adds
+    let stopped = stop_in (RoomsAsAsked c.args.now (kept_in g.C.Chronicle c.args.stripe.now) (kept_in g.C.Chronicle c.make_room.new.stripe) (seen_in g.D.Disk g.R.Directory c.args.stripe.now).device.faults
+    (seen_in g.D.Disk g.R.Directory c.make_room.new.stripe).device (bytes_now (state_in g.C.Chronicle c.args.stripe.now) c.args.writer.now c.args.vectors.now)) c.in-Err.why c.in-Err.ensures.does in
+    owns_room c.args.writer.now.put c.args.now (kept_in g.C.Chronicle c.args.stripe.now) (kept_in g.C.Chronicle c.make_room.new.stripe) _ _ _ _ stopped.1

@@ -1,15 +1,15 @@
 use Rattle.std.proofs.Common.{◌≡◌, ◌<◌, length, sym, subst, arith}
-use Rattle.stripe_core.specs.Stripe.{kept_in, seen_in, state_in}
+use Rattle.stripe_core.specs.Stripe.{kept_in, state_in}
 use Rattle.stripe_write.specs.Writers.{IsWriterOf}
 use Rattle.stripe_write.specs.Writes.{IsReady, next_id, next_start}
-use Rattle.stripe_write.proofs.Gathering.{failed_puts, still_writer}
-use Rattle.stripe_write.proofs.LastCut.{cut_open, rest_none, rest_ready, rest_refused}
+use Rattle.stripe_write.proofs.Gathering.{failed_leaves, left_writer}
+use Rattle.stripe_write.proofs.LastCut.{cut_open, rest_cut, rest_none, rest_ready, rest_refused}
 use Rattle.stripe_write.proofs.resting.cut_rest.Goals as goal
 
 pub returns-then-is_empty-clause-does : goal.returns-then-is_empty-clause-does
-returns-then-is_empty-clause-does g c = λ p covers.
+returns-then-is_empty-clause-does g c =
     let none : length c.args.writer.now.gathered.items ≡ 0 = grind (arith, c.is_empty.ensures, c.if-is_empty.true) in
-    rest_none p (state_in g.C.Chronicle c.args.stripe.now) c.args.writer.now c.args.writer.now.gathered.items none
+    rest_none c.args.now (kept_in g.C.Chronicle c.args.stripe.now) _ _ c.args.writer.now tt none
 
 pub cut-requires-clause-ready : goal.cut-requires-clause-ready
 cut-requires-clause-ready g c =
@@ -24,18 +24,23 @@ returns-in-Ok-clause-open g c =
     let some : 0 < length c.args.writer.now.gathered.items = grind (arith, c.is_empty.ensures, c.if-is_empty.false) in
     let ready : IsReady (state_in g.C.Chronicle c.args.stripe.now) c.args.writer.now =
     rest_ready (state_in g.C.Chronicle c.args.stripe.now) c.args.writer.now c.requires.open c.requires.writer c.requires.sealed some c.requires.table in
-    cut_open (kept_in g.C.Chronicle c.args.stripe.now) (kept_in g.C.Chronicle c.cut.new.stripe) c.args.writer.now c.cut.new.writer c.in-Ok.field-0 ready c.in-Ok.ensures.adds c.in-Ok.ensures.rest.put
+    cut_open c.args.now (kept_in g.C.Chronicle c.args.stripe.now) (kept_in g.C.Chronicle c.cut.new.stripe) _ _ c.args.writer.now c.cut.new.writer c.in-Ok.field-0 ready c.in-Ok.ensures.does c.in-Ok.ensures.rest.put
+
+pub returns-in-Ok-clause-does : goal.returns-in-Ok-clause-does
+returns-in-Ok-clause-does g c =
+    let some : 0 < length c.args.writer.now.gathered.items = grind (arith, c.is_empty.ensures, c.if-is_empty.false) in
+    rest_cut c.args.now (kept_in g.C.Chronicle c.args.stripe.now) (kept_in g.C.Chronicle c.cut.new.stripe) _ _ c.args.writer.now c.in-Ok.field-0 tt some c.in-Ok.ensures.does
 
 pub returns-in-Err-clause-writer : goal.returns-in-Err-clause-writer
 returns-in-Err-clause-writer g c =
     let w = c.args.writer.now in
     subst (IsWriterOf (state_in g.C.Chronicle c.cut.new.stripe)) (sym c.in-Err.ensures.same)
-    (still_writer (state_in g.C.Chronicle c.args.stripe.now) (state_in g.C.Chronicle c.cut.new.stripe) w
-    (failed_puts (kept_in g.C.Chronicle c.args.stripe.now) (kept_in g.C.Chronicle c.cut.new.stripe) (next_id w) w.pin (next_start w) w.gathered.items c.in-Err.refusal c.in-Err.ensures.adds) c.requires.writer)
+    (left_writer (state_in g.C.Chronicle c.args.stripe.now) (state_in g.C.Chronicle c.cut.new.stripe) w
+    (failed_leaves c.args.now (kept_in g.C.Chronicle c.args.stripe.now) (kept_in g.C.Chronicle c.cut.new.stripe) _ _ (next_id w) w.pin (next_start w) w.gathered.items c.in-Err.refusal c.in-Err.ensures.does) c.requires.writer)
 
 pub returns-in-Err-clause-does : goal.returns-in-Err-clause-does
 returns-in-Err-clause-does g c =
     let w = c.args.writer.now in
     let some : 0 < length w.gathered.items = grind (arith, c.is_empty.ensures, c.if-is_empty.false) in
-    rest_refused (state_in g.C.Chronicle c.args.stripe.now) (seen_in g.D.Disk g.R.Directory c.args.stripe.now).device.faults (seen_in g.D.Disk g.R.Directory c.cut.new.stripe).device.faults w w.gathered.items
+    rest_refused c.args.now (kept_in g.C.Chronicle c.args.stripe.now) (kept_in g.C.Chronicle c.cut.new.stripe) _ _ w
     c.in-Err.refusal some (c.in-Err.ensures.memory c.requires.unit c.requires.row) c.in-Err.ensures.does

@@ -5,7 +5,7 @@ use Rattle.stripe_write.specs.Writers.{IsWriterOf}
 use Rattle.stripe_write.proofs.Ended.{giving_up, no_writer}
 use Rattle.stripe_write.proofs.Gathering.{few_gathered}
 use Rattle.stripe_write.proofs.WeighingFits.{more_gathered}
-use Rattle.stripe_write.proofs.WeighingReads.{state_behind}
+use Rattle.stripe_write.proofs.Spending.{state_behind}
 use Rattle.stripe_write.proofs.weighing.fit.Goals as goal
 
 pub alternate_of-requires-clause-few : goal.alternate_of-requires-clause-few

@@ -7,7 +7,7 @@ use Rattle.stripe_write.specs.Weighing.{FitsWhere}
 use Rattle.stripe_write.proofs.Owning.{owns_fit, owns_none, owns_read, then_owns}
 use Rattle.stripe_write.proofs.Gathering.{still_writer}
 use Rattle.stripe_write.proofs.WeighingFits.{faults, wants, weighs, weighs_where}
-use Rattle.stripe_write.proofs.WeighingReads.{same_pending, same_puts, still_writing}
+use Rattle.stripe_write.proofs.WeighingReads.{same_displaced, same_pending, same_puts, still_writing}
 use Rattle.stripe_write.proofs.weighing.weigh.Goals as goal
 
 pub returns-in_err-found-clause-does : goal.returns-in_err-found-clause-does
@@ -89,6 +89,13 @@ returns-in-None-clause-geometry g c =
     let mid = kept_in g.C.Chronicle c.read_vector.new.stripe in
     on_ok c.fit.result (c.fit.new.stripe ≡ c.read_vector.new.stripe) _
     (λ stays. ap (λ t. (state_in g.C.Chronicle t).geometry) stays ∙ (same_puts old mid c.args.writer.now.key c.in_ok-found.found c.in_ok-found.ensures.adds).geometry) c.fit.ensures.same
+
+pub returns-in-None-clause-displaced : goal.returns-in-None-clause-displaced
+returns-in-None-clause-displaced g c =
+    let old = kept_in g.C.Chronicle c.args.stripe.now in
+    let mid = kept_in g.C.Chronicle c.read_vector.new.stripe in
+    on_ok c.fit.result (c.fit.new.stripe ≡ c.read_vector.new.stripe) _
+    (λ stays. ap (λ t. (state_in g.C.Chronicle t).displaced) stays ∙ same_displaced old mid c.args.writer.now.key c.in_ok-found.found c.in_ok-found.ensures.adds) c.fit.ensures.same
 
 pub returns-in_err-found-clause-own : goal.returns-in_err-found-clause-own
 returns-in_err-found-clause-own g c = owns_none c.args.writer.now.put (kept_in g.C.Chronicle c.args.stripe.now) (kept_in g.C.Chronicle c.read_vector.new.stripe) c.in_err-found.ensures.err

@@ -1,13 +1,15 @@
-use Rattle.std.proofs.Common.{◌≡◌, ◌+◌, ◌<◌, ℕ, refl, sym, ◌∙◌, ap, subst, arith, length, take}
+use Rattle.std.proofs.Common.{◌≡◌, ◌+◌, ◌<◌, ℕ, refl, sym, ◌∙◌, ap, subst, arith, length, take, Err}
+use Rattle.std.proofs.lemmas.Result.{err_from_is_err_and}
 use Rattle.cache_model.specs.Kept.{state_of}
 use Rattle.cache_model.specs.Legal.{is_writing}
-use Rattle.stripe_core.specs.Stripe.{kept_in, seen_in, state_in}
+use Rattle.stripe_core.proofs.Unharmed.{stays_unharmed-trans}
+use Rattle.stripe_core.specs.Stripe.{kept_in, state_in}
 use Rattle.stripe_write.specs.Writers.{IsWriterOf}
 use Rattle.stripe_write.specs.declared.writer.Writer.{Writer}
 use Rattle.stripe_write.specs.Writes.{gathered_with, next_id, next_start, taken_of}
 use Rattle.stripe_write.specs.Numbers.{StopsAtLimit}
 use Rattle.tape_base.specs.declared.geometries.Geometry.{Geometry}
-use Rattle.stripe_write.proofs.Gathering.{cut_now, few_gathered, gathered_length, is_ready, left_cut, more_writer, same_writer, took_adds, took_does, SameButGathered, back, failed_puts, still_writer, refused_does, refused_where, taken_back}
+use Rattle.stripe_write.proofs.Gathering.{cut_now, few_gathered, gathered_length, is_ready, left_cut, more_writer, not_cut, same_writer, SameButGathered, back, failed_leaves, left_writer, refused_where, taken_back, writes_cut, writes_few, writes_refused, writes_wanting}
 use Rattle.stripe_write.proofs.writing.take.Goals as goal
 
 pub overflow_sub-room : goal.overflow_sub-room
@@ -57,25 +59,49 @@ cut-requires-clause-ready g c =
     (subst (λ k. IsWriterOf (state_of k) w) (sym c.prepare.ensures.records) c.requires.writer)
     (record { put = refl; key = refl; request = refl; response = refl; pin = refl; rows = c.reserve.ensures.rows; sealed = refl }) c.requires.few (rw (ap state_of c.prepare.ensures.records) whole) c.in_ok-reserve.ensures.room
 
-pub returns-in-Ok-clause-adds : goal.returns-in-Ok-clause-adds
-returns-in-Ok-clause-adds g c =
+pub returns-in-Ok-clause-does : goal.returns-in-Ok-clause-does
+returns-in-Ok-clause-does g c =
     let s = state_in g.C.Chronicle c.args.stripe.now in
     let w = c.args.writer.now in
     let n : ℕ = c.min-taken.result in
     let few = few_gathered s w c.requires.open c.requires.writer in
     let fragment = ap (λ (x : Geometry). x.fragment) c.geometry.ensures in
     let held : Writer = record { put = w.put; key = w.key; request = w.request; response = w.response; pin = w.pin; gathered = c.extend_from_slice.new.self; table = c.reserve.new.self; sealed = w.sealed } in
-    took_adds (kept_in g.C.Chronicle c.args.stripe.now) (kept_in g.C.Chronicle c.prepare.new.self) (kept_in g.C.Chronicle c.cut.new.stripe) w held c.args.bytes.now n c.in-Ok.field-0 c.prepare.ensures.records
+    writes_cut c.args.now (kept_in g.C.Chronicle c.args.stripe.now) (kept_in g.C.Chronicle c.prepare.new.self) (kept_in g.C.Chronicle c.cut.new.stripe) _ _ _ w held c.args.bytes.now n c.in-Ok.field-0
+    c.prepare.ensures.records c.prepare.ensures.still.faults
     (record { put = refl; key = refl; request = refl; response = refl; pin = refl; rows = c.reserve.ensures.rows; sealed = refl }) c.in_ok-extend_from_slice.ensures.items
-    (cut_now s.geometry w n (omega (arith, few, fragment, c.len-before.ensures, c.min-taken.ensures, c.if-taken-room.false))) c.in-Ok.ensures.adds
+    (cut_now s.geometry w n (omega (arith, few, fragment, c.len-before.ensures, c.min-taken.ensures, c.if-taken-room.false))) c.in-Ok.ensures.does
 
-pub returns-in-Ok-clause-does : goal.returns-in-Ok-clause-does
-returns-in-Ok-clause-does g c =
+pub returns-in_err-prepare-clause-does : goal.returns-in_err-prepare-clause-does
+returns-in_err-prepare-clause-does g c =
+    let wanting = err_from_is_err_and c.from_residual.result c.from_residual.ensures.1 in
+    writes_wanting c.args.now (kept_in g.C.Chronicle c.args.stripe.now) (kept_in g.C.Chronicle c.prepare.new.self) _ _ c.args.writer.now c.args.bytes.now _ _ (wanting.1 ∙ ap Err wanting.2) c.prepare.ensures.records
+
+pub returns-in_err-reserve-clause-does : goal.returns-in_err-reserve-clause-does
+returns-in_err-reserve-clause-does g c =
+    let wanting = err_from_is_err_and c.from_residual-in_err-reserve.result c.from_residual-in_err-reserve.ensures.1 in
+    writes_wanting c.args.now (kept_in g.C.Chronicle c.args.stripe.now) (kept_in g.C.Chronicle c.prepare.new.self) _ _ c.args.writer.now c.args.bytes.now _ _ (wanting.1 ∙ ap Err wanting.2) c.prepare.ensures.records
+
+pub returns-in_err-extend_from_slice-clause-does : goal.returns-in_err-extend_from_slice-clause-does
+returns-in_err-extend_from_slice-clause-does g c =
+    let wanting = err_from_is_err_and c.from_residual-in_err-extend_from_slice.result c.from_residual-in_err-extend_from_slice.ensures.1 in
+    writes_wanting c.args.now (kept_in g.C.Chronicle c.args.stripe.now) (kept_in g.C.Chronicle c.prepare.new.self) _ _ c.args.writer.now c.args.bytes.now _ _ (wanting.1 ∙ ap Err wanting.2) c.prepare.ensures.records
+
+pub returns-in-Ok-clause-unharmed : goal.returns-in-Ok-clause-unharmed
+returns-in-Ok-clause-unharmed g c = stays_unharmed-trans _ _ _ _ _ _ c.prepare.ensures.unharmed c.cut.ensures.unharmed
+
+pub returns-in-Err-clause-unharmed : goal.returns-in-Err-clause-unharmed
+returns-in-Err-clause-unharmed g c = stays_unharmed-trans _ _ _ _ _ _ c.prepare.ensures.unharmed c.cut.ensures.unharmed
+
+pub returns-then-taken-room-clause-does : goal.returns-then-taken-room-clause-does
+returns-then-taken-room-clause-does g c =
+    let s = state_in g.C.Chronicle c.args.stripe.now in
     let w = c.args.writer.now in
-    let held : Writer = record { put = w.put; key = w.key; request = w.request; response = w.response; pin = w.pin; gathered = c.extend_from_slice.new.self; table = c.reserve.new.self; sealed = w.sealed } in
-    took_does (kept_in g.C.Chronicle c.args.stripe.now) (kept_in g.C.Chronicle c.prepare.new.self) (seen_in g.D.Disk g.R.Directory c.args.stripe.now).device.faults (seen_in g.D.Disk g.R.Directory c.prepare.new.self).device.faults
-    (seen_in g.D.Disk g.R.Directory c.cut.new.stripe).device.faults w held c.args.bytes.now c.min-taken.result c.in-Ok.field-0 c.prepare.ensures.records c.prepare.ensures.still.faults
-    (record { put = refl; key = refl; request = refl; response = refl; pin = refl; rows = c.reserve.ensures.rows; sealed = refl }) c.in_ok-extend_from_slice.ensures.items c.in-Ok.ensures.does
+    let n : ℕ = c.min-taken.result in
+    let few = few_gathered s w c.requires.open c.requires.writer in
+    let fragment = ap (λ (x : Geometry). x.fragment) c.geometry.ensures in
+    writes_few c.args.now (kept_in g.C.Chronicle c.args.stripe.now) (kept_in g.C.Chronicle c.prepare.new.self) _ _ w c.args.bytes.now n c.prepare.ensures.records
+    (not_cut s.geometry w n (omega (arith, few, fragment, c.len-before.ensures, c.if-taken-room.true)))
 
 pub returns-in-Err-clause-writer : goal.returns-in-Err-clause-writer
 returns-in-Err-clause-writer g c =
@@ -87,8 +113,8 @@ returns-in-Err-clause-writer g c =
     c.truncate.ensures.items
     ∙ (ap (λ (x : Writer). take c.len-before.result x.gathered.items) same
     ∙ (ap (take c.len-before.result) c.in_ok-extend_from_slice.ensures.items ∙ taken_back w c.args.bytes.now c.min-taken.result c.len-before.result (omega (arith, c.len-before.ensures)))) in
-    still_writer (state_in g.C.Chronicle c.prepare.new.self) (state_in g.C.Chronicle c.cut.new.stripe) _
-    (failed_puts (kept_in g.C.Chronicle c.prepare.new.self) (kept_in g.C.Chronicle c.cut.new.stripe) (next_id held) held.pin (next_start held) held.gathered.items c.in-Err.refusal c.in-Err.ensures.adds)
+    left_writer (state_in g.C.Chronicle c.prepare.new.self) (state_in g.C.Chronicle c.cut.new.stripe) _
+    (failed_leaves c.args.now (kept_in g.C.Chronicle c.prepare.new.self) (kept_in g.C.Chronicle c.cut.new.stripe) _ _ (next_id held) held.pin (next_start held) held.gathered.items c.in-Err.refusal c.in-Err.ensures.does)
     (same_writer (state_in g.C.Chronicle c.prepare.new.self) w _
     (back w held _ first
     (record {
@@ -121,7 +147,7 @@ returns-in-Err-clause-writes g c =
     let w = c.args.writer.now in
     let few = few_gathered s w c.requires.open c.requires.writer in
     let fragment = ap (λ (x : Geometry). x.fragment) c.geometry.ensures in
-    refused_where s w c.args.bytes.now c.in-Err.refusal _ c.in-Err.ensures.does (record {
+    refused_where s w c.args.bytes.now c.in-Err.refusal _ _ c.in-Err.ensures.does (record {
       taking = (c.requires.open, c.requires.unsealed);
       few = c.requires.few;
       full = cut_now s.geometry w (taken_of s.geometry w c.args.bytes.now) (omega (arith, few, fragment, c.len-before.ensures, c.min-taken.ensures, c.if-taken-room.false));
@@ -134,8 +160,8 @@ returns-in-Err-clause-does g c =
     let held : Writer = record { put = w.put; key = w.key; request = w.request; response = w.response; pin = w.pin; gathered = c.extend_from_slice.new.self; table = c.reserve.new.self; sealed = w.sealed } in
     let fragment = ap (λ (x : Geometry). x.fragment) c.geometry.ensures in
     let taken : c.min-taken.result ≡ taken_of s.geometry w c.args.bytes.now = omega (arith, fragment, c.len-before.ensures, c.min-taken.ensures) in
-    refused_does (kept_in g.C.Chronicle c.args.stripe.now) (kept_in g.C.Chronicle c.prepare.new.self) (seen_in g.D.Disk g.R.Directory c.args.stripe.now).device.faults (seen_in g.D.Disk g.R.Directory c.prepare.new.self).device.faults
-    (seen_in g.D.Disk g.R.Directory c.cut.new.stripe).device.faults w held c.args.bytes.now c.in-Err.refusal c.prepare.ensures.records c.prepare.ensures.still.faults
+    writes_refused c.args.now (kept_in g.C.Chronicle c.args.stripe.now) (kept_in g.C.Chronicle c.prepare.new.self) (kept_in g.C.Chronicle c.cut.new.stripe) _ _ _ w held c.args.bytes.now c.in-Err.refusal
+    c.prepare.ensures.records c.prepare.ensures.still.faults
     (record { put = refl; key = refl; request = refl; response = refl; pin = refl; rows = c.reserve.ensures.rows; sealed = refl })
     (c.in_ok-extend_from_slice.ensures.items ∙ ap (gathered_with w c.args.bytes.now) taken) c.in-Err.ensures.does
 

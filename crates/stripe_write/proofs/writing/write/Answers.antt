@@ -1,19 +1,25 @@
-use Rattle.std.proofs.Common.{◌≡◌, true, false, sym, ◌∙◌, refl}
+use Rattle.std.proofs.Common.{sym, ◌∙◌, refl}
 use Rattle.stripe_core.specs.Stripe.{kept_in, state_in}
-use Rattle.stripe_write.specs.Writes.{is_cut}
-use Rattle.stripe_write.proofs.Gathering.{left_none, none_taken, nothing_added}
+use Rattle.stripe_write.proofs.Gathering.{left_none, none_taken, writes_few, writes_none, writes_over}
 use Rattle.stripe_write.proofs.writing.write.Goals as goal
 
-pub returns-then-is_empty-clause-adds : goal.returns-then-is_empty-clause-adds
-returns-then-is_empty-clause-adds g c =
-    nothing_added (kept_in g.C.Chronicle c.args.stripe.now) c.args.writer.now c.args.bytes.now (sym c.is_open.ensures ∙ c.if-not-is_open.false) c.requires.writer
+pub returns-then-not-is_open-clause-does : goal.returns-then-not-is_open-clause-does
+returns-then-not-is_open-clause-does g c =
+    writes_none c.args.now (kept_in g.C.Chronicle c.args.stripe.now) (kept_in g.C.Chronicle c.args.stripe.now) _ _ c.args.writer.now c.args.bytes.now _ refl refl
+
+pub returns-then-writer-clause-does : goal.returns-then-writer-clause-does
+returns-then-writer-clause-does g c =
+    writes_none c.args.now (kept_in g.C.Chronicle c.args.stripe.now) (kept_in g.C.Chronicle c.args.stripe.now) _ _ c.args.writer.now c.args.bytes.now _ refl refl
 
 pub returns-then-is_empty-clause-does : goal.returns-then-is_empty-clause-does
-returns-then-is_empty-clause-does g c = λ cut p covers.
-    let none : is_cut (state_in g.C.Chronicle c.args.stripe.now).geometry c.args.writer.now 0 ≡ false =
-    none_taken (state_in g.C.Chronicle c.args.stripe.now) c.args.writer.now (sym c.is_open.ensures ∙ c.if-not-is_open.false) c.requires.writer in
-    let clash : true ≡ false = sym cut ∙ none in cc
+returns-then-is_empty-clause-does g c =
+    writes_few c.args.now (kept_in g.C.Chronicle c.args.stripe.now) (kept_in g.C.Chronicle c.args.stripe.now) _ _ c.args.writer.now c.args.bytes.now 0 refl
+    (none_taken (state_in g.C.Chronicle c.args.stripe.now) c.args.writer.now (sym c.is_open.ensures ∙ c.if-not-is_open.false) c.requires.writer)
 
 pub returns-then-is_empty-clause-gathers : goal.returns-then-is_empty-clause-gathers
 returns-then-is_empty-clause-gathers g c =
     record { put = refl; sealed = refl; gathered = left_none (state_in g.C.Chronicle c.args.stripe.now) c.args.writer.now c.args.bytes.now (sym c.is_open.ensures ∙ c.if-not-is_open.false) c.requires.writer }
+
+pub returns-then-len-eq-MAX_FRAGMENTS-clause-does : goal.returns-then-len-eq-MAX_FRAGMENTS-clause-does
+returns-then-len-eq-MAX_FRAGMENTS-clause-does g c =
+    writes_over c.args.now (kept_in g.C.Chronicle c.args.stripe.now) (kept_in g.C.Chronicle c.overflow.new.stripe) _ _ c.args.writer.now c.args.bytes.now c.overflow.result c.overflow.ensures.refused c.overflow.ensures.adds c.overflow.ensures.does

@@ -1,60 +1,183 @@
-use Rattle.std.proofs.Common.{sym, ◌∙◌, ap, subst, arith}
-use Rattle.cache_model.specs.declared.record.Rec.TheVariants as rec
-use Rattle.cache_model.specs.State.{floor_next, state_after}
-use Rattle.cache_model.specs.Kept.{state_of}
-use Rattle.stripe_core.specs.Held.{IsHeld}
-use Rattle.stripe_core.specs.Pieces.{kept_of, seen_of, state_now}
-use Rattle.cyclone.specs.Cyclone.{seen}
+use Rattle.std.proofs.Common.{◌≡◌, ◌+◌, ◌*◌, ◌≤◌, ◌∷◌, ◌++◌, sym, ◌∙◌, ap, subst, arith, true, false, [], Err, length}
+use Rattle.tape_base.specs.declared.geometries.Geometry.{Geometry}
+use Rattle.tape_base.specs.Geometry.{budget_of}
 use Rattle.ats_disk.specs.Device.{State as Device}
+use Rattle.cyclone.specs.Cyclone.{Seen, seen}
+use Rattle.cache_model.specs.declared.record.Rec.TheVariants as rec
+use Rattle.cache_model.specs.State.{State, after_all}
+use Rattle.cache_model.specs.Kept.{state_of, with_records}
+use Rattle.stripe_due.specs.Finding.{most_passed}
+use Rattle.stripe_core.specs.declared.refusal.Stop.TheVariants as stop
+use Rattle.stripe_core.specs.Copying.{AreCopyable, AreTellable, begun_behind, copies_among, done_records, told_of}
+use Rattle.stripe_core.specs.Covers.{Uses}
+use Rattle.stripe_core.specs.Flush.{FlushesAsAsked}
+use Rattle.stripe_core.specs.Pieces.{kept_of, seen_of, state_now}
+use Rattle.stripe_core.proofs.Flushes.{can, empty_does, exhausted_does, some_filled, write_spares, with_records-nil, state_of-with_records}
+use Rattle.stripe_core.proofs.Going.{device_may_change}
 use Rattle.stripe_core.proofs.Holding.{next_is}
-use Rattle.stripe_core.proofs.Flushes.{empty_does, exhausted_does, fault_does, fault_is_held, flush_does, flushed_is_held, some_filled, state_of-with_record, write_spares}
+use Rattle.stripe_core.proofs.LiveBehind.{live_same}
+use Rattle.stripe_core.proofs.Looked.{copyable, few_entries, few_records, flush_asked, flush_uses, half_is_free, stop_asked, tellable}
 use Rattle.stripe_core.proofs.pieces.Pieces.flush.Goals as goal
 
 pub returns-then-blocks-eq0-clause-does : goal.returns-then-blocks-eq0-clause-does
-returns-then-blocks-eq0-clause-does g c p covers =
-    empty_does p (state_now g.C.Chronicle c.args.self.now) c.flushed.result c.requires.quiet
-    (omega (arith, c.next_place.ensures, c.cursor.ensures, c.if-blocks-eq0.true, c.requires.pieces.filled))
+returns-then-blocks-eq0-clause-does g c = record {
+  added = [];
+  reads = [];
+  adds = sym (with_records-nil (kept_of g.C.Chronicle c.args.self.now));
+  kinds = tt;
+  live = live_same (state_now g.C.Chronicle c.args.self.now);
+  unharmed = λ told. tt;
+  does = λ p moment covers. empty_does p (state_now g.C.Chronicle c.args.self.now) c.requires.quiet
+      (omega (arith, c.next_place.ensures, c.cursor.ensures, c.if-blocks-eq0.true, c.requires.pieces.filled));
+}
 
 pub returns-then-next-ge-LIMIT-clause-does : goal.returns-then-next-ge-LIMIT-clause-does
-returns-then-next-ge-LIMIT-clause-does g c p covers =
-    let next = c.next_cursor-next.ensures ∙ next_is (state_now g.C.Chronicle c.args.self.now) (seen_of g.D.Disk g.R.Directory c.args.self.now) c.requires.pieces in
-    exhausted_does p (state_now g.C.Chronicle c.args.self.now) c.requires.quiet
-    (some_filled (state_now g.C.Chronicle c.args.self.now) (seen_of g.D.Disk g.R.Directory c.args.self.now) c.next_place.result c.cursor.result c.requires.pieces c.next_place.ensures c.cursor.ensures c.if-blocks-eq0.false)
-    (omega (arith, next, c.if-next-ge-LIMIT.true))
-
-pub flushed-requires-in-Ok : goal.flushed-requires-in-Ok
-flushed-requires-in-Ok g c =
+returns-then-next-ge-LIMIT-clause-does g c =
     let s = state_now g.C.Chronicle c.args.self.now in
-    let next = c.next_cursor-next.ensures ∙ next_is s (seen_of g.D.Disk g.R.Directory c.args.self.now) c.requires.pieces in
-    let after = ap state_of c.began.ensures.kept ∙ (state_of-with_record (kept_of g.C.Chronicle c.args.self.now) _ ∙ ap (λ n. state_after s (rec.Began n (floor_next s))) next) in
-    subst (λ t. IsHeld t (seen g.D.Disk g.R.Directory c.flush.new.self)) (sym after) (flushed_is_held s (seen_of g.D.Disk g.R.Directory c.args.self.now) (seen g.D.Disk g.R.Directory c.flush.new.self) c.flush.result c.requires.pieces (g.met.D.Disk.whole_blocks c.flush.new.self.disk) c.in-Ok.ensures.ok c.flush.ensures.device c.flush.ensures.turns)
+    let before = seen_of g.D.Disk g.R.Directory c.args.self.now in
+    let next = c.next_cursor-next.ensures ∙ next_is s before c.requires.pieces in
+    record {
+      added = [];
+      reads = [];
+      adds = sym (with_records-nil (kept_of g.C.Chronicle c.args.self.now));
+      kinds = tt;
+      live = live_same s;
+      unharmed = λ told. tt;
+      does = λ p moment covers. exhausted_does p s c.requires.quiet
+          (some_filled s before c.next_place.result c.cursor.result c.requires.pieces c.next_place.ensures c.cursor.ensures c.if-blocks-eq0.false)
+          (omega (arith, next, c.if-next-ge-LIMIT.true));
+    }
 
-pub returns-in-Ok-clause-pieces : goal.returns-in-Ok-clause-pieces
-returns-in-Ok-clause-pieces g c =
-    let s = state_now g.C.Chronicle c.args.self.now in
-    let next = c.next_cursor-next.ensures ∙ next_is s (seen_of g.D.Disk g.R.Directory c.args.self.now) c.requires.pieces in
-    let after = ap state_of c.began.ensures.kept ∙ (state_of-with_record (kept_of g.C.Chronicle c.args.self.now) _ ∙ ap (λ n. state_after s (rec.Began n (floor_next s))) next) in
-    subst (λ t. IsHeld t (seen g.D.Disk g.R.Directory c.flush.new.self)) (sym after) (flushed_is_held s (seen_of g.D.Disk g.R.Directory c.args.self.now) (seen g.D.Disk g.R.Directory c.flush.new.self) c.flush.result c.requires.pieces (g.met.D.Disk.whole_blocks c.flush.new.self.disk) c.in-Ok.ensures.ok c.flush.ensures.device c.flush.ensures.turns)
+pub go_on-requires-clause-pieces : goal.go_on-requires-clause-pieces
+go_on-requires-clause-pieces g c =
+    device_may_change (state_now g.C.Chronicle c.look_ahead.new.self) (seen_of g.D.Disk g.R.Directory c.look_ahead.new.self) (seen g.D.Disk g.R.Directory c.write_out.new.self) c.look_ahead.ensures.pieces
+    c.write_out.ensures.same c.write_out.ensures.turns (write_spares _ _ c.write_out.result c.write_out.ensures.device)
+
+pub go_on-requires-clause-told : goal.go_on-requires-clause-told
+go_on-requires-clause-told g c =
+    let out = (seen g.D.Disk g.R.Directory c.write_out.new.self).device in
+    let a = c.look_ahead.new.ahead in
+    subst (λ x. AreTellable true (state_of (g.C.Chronicle.kept x)) out.faults a.due.items a.fates.items) (sym c.look_ahead.ensures.chronicle)
+    (tellable c.args.now (state_now g.C.Chronicle c.args.self.now) _ _ a c.requires.pieces.sound c.look_ahead.ensures.looks true out.faults c.write_out.ensures.device.cause.later)
+
+pub go_on-requires-clause-copied : goal.go_on-requires-clause-copied
+go_on-requires-clause-copied g c =
+    let a = c.look_ahead.new.ahead in
+    subst (λ x. AreCopyable (begun_behind (state_of (g.C.Chronicle.kept x)) (told_of true a.due.items a.fates.items)) 0 a.due.items a.fates.items a.bytes.items) (sym c.look_ahead.ensures.chronicle)
+    (copyable c.args.now (state_now g.C.Chronicle c.args.self.now) _ _ a c.requires.pieces.sound c.look_ahead.ensures.looks c.look_ahead.ensures.ahead.bytes)
+
+pub go_on-requires-clause-records : goal.go_on-requires-clause-records
+go_on-requires-clause-records g c =
+    let a = c.look_ahead.new.ahead in
+    let few = few_records c.args.now (state_now g.C.Chronicle c.args.self.now) _ _ a c.requires.pieces.sound c.look_ahead.ensures.looks true in
+    let room = ap (λ x. g.C.Chronicle.room x) c.look_ahead.ensures.chronicle in
+    omega (arith, few, room, c.requires.records)
+
+pub go_on-requires-clause-entries : goal.go_on-requires-clause-entries
+go_on-requires-clause-entries g c =
+    let a = c.look_ahead.new.ahead in
+    let few = few_entries c.args.now (state_now g.C.Chronicle c.args.self.now) _ _ a c.requires.pieces.sound c.look_ahead.ensures.looks in
+    let spare = ap (λ (y : Seen). y.spare) c.write_out.ensures.same ∙ ap (λ (y : Seen). y.spare) c.look_ahead.ensures.same in
+    omega (arith, few, spare, c.requires.entries)
+
+pub stop-requires-clause-pieces : goal.stop-requires-clause-pieces
+stop-requires-clause-pieces g c =
+    device_may_change (state_now g.C.Chronicle c.look_ahead.new.self) (seen_of g.D.Disk g.R.Directory c.look_ahead.new.self) (seen g.D.Disk g.R.Directory c.write_out.new.self) c.look_ahead.ensures.pieces
+    c.write_out.ensures.same c.write_out.ensures.turns (write_spares _ _ c.write_out.result c.write_out.ensures.device)
+
+pub stop-requires-clause-told : goal.stop-requires-clause-told
+stop-requires-clause-told g c =
+    let out = (seen g.D.Disk g.R.Directory c.write_out.new.self).device in
+    let a = c.look_ahead.new.ahead in
+    subst (λ x. AreTellable false (state_of (g.C.Chronicle.kept x)) out.faults a.due.items a.fates.items) (sym c.look_ahead.ensures.chronicle)
+    (tellable c.args.now (state_now g.C.Chronicle c.args.self.now) _ _ a c.requires.pieces.sound c.look_ahead.ensures.looks false out.faults c.write_out.ensures.device.cause.later)
+
+pub stop-requires-clause-records : goal.stop-requires-clause-records
+stop-requires-clause-records g c =
+    let a = c.look_ahead.new.ahead in
+    let few = few_records c.args.now (state_now g.C.Chronicle c.args.self.now) _ _ a c.requires.pieces.sound c.look_ahead.ensures.looks false in
+    let room = ap (λ x. g.C.Chronicle.room x) c.look_ahead.ensures.chronicle in
+    omega (arith, few, room, c.requires.records)
 
 pub returns-in-Ok-clause-does : goal.returns-in-Ok-clause-does
-returns-in-Ok-clause-does g c p covers =
+returns-in-Ok-clause-does g c =
     let s = state_now g.C.Chronicle c.args.self.now in
-    let next = c.next_cursor-next.ensures ∙ next_is s (seen_of g.D.Disk g.R.Directory c.args.self.now) c.requires.pieces in
-    flush_does p s c.flushed-in-Ok.result c.requires.quiet
-    (some_filled s (seen_of g.D.Disk g.R.Directory c.args.self.now) c.next_place.result c.cursor.result c.requires.pieces c.next_place.ensures c.cursor.ensures c.if-blocks-eq0.false)
-    (omega (arith, next, c.if-next-ge-LIMIT.false))
+    let before = seen_of g.D.Disk g.R.Directory c.args.self.now in
+    let after = (seen_of g.D.Disk g.R.Directory c.go_on.new.self).device in
+    let a = c.look_ahead.new.ahead in
+    let next = c.next_cursor-next.ensures ∙ next_is s before c.requires.pieces in
+    let some = some_filled s before c.next_place.result c.cursor.result c.requires.pieces c.next_place.ensures c.cursor.ensures c.if-blocks-eq0.false in
+    let faults = ap (λ (d : Device). d.faults) c.go_on.ensures.still in
+    let trust = ap (λ (d : Device). d.trust) c.go_on.ensures.still in
+    flush_asked c.args.now (kept_of g.C.Chronicle c.args.self.now) (kept_of g.C.Chronicle c.go_on.new.self) before.device.faults (seen_of g.D.Disk g.R.Directory c.look_ahead.new.self).device after a
+    c.flushed-in-Ok.result c.requires.pieces.sound (can s c.requires.quiet some (omega (arith, next, c.if-next-ge-LIMIT.false))) c.look_ahead.ensures.looks
+    (record { faults = omega (arith, faults, c.write_out.ensures.device.cause.later); trust = omega (arith, trust, c.write_out.ensures.device.keeps.trust) })
+    (subst (λ x. kept_of g.C.Chronicle c.go_on.new.self ≡ with_records (g.C.Chronicle.kept x) (done_records (state_of (g.C.Chronicle.kept x)) a.due.items a.fates.items a.bytes.items))
+    c.look_ahead.ensures.chronicle c.go_on.ensures.adds)
 
-pub returns-in-Err-clause-pieces : goal.returns-in-Err-clause-pieces
-returns-in-Err-clause-pieces g c =
+pub returns-in-Ok-clause-uses : goal.returns-in-Ok-clause-uses
+returns-in-Ok-clause-uses g c =
     let s = state_now g.C.Chronicle c.args.self.now in
-    let after = ap state_of c.fault.ensures.kept ∙ state_of-with_record (kept_of g.C.Chronicle c.args.self.now) _ in
-    subst (λ t. IsHeld t (seen g.D.Disk g.R.Directory c.flush.new.self)) (sym after)
-    (fault_is_held s (seen_of g.D.Disk g.R.Directory c.args.self.now) (seen g.D.Disk g.R.Directory c.flush.new.self) c.faults-count.result c.requires.pieces c.in-Err.ensures.err c.flush.ensures.turns (write_spares _ _ _ c.flush.ensures.device) (c.faults-count.ensures ∙ ap (λ (d : Device). d.faults) c.disk.ensures))
+    let before = seen_of g.D.Disk g.R.Directory c.args.self.now in
+    let after = seen_of g.D.Disk g.R.Directory c.go_on.new.self in
+    let a = c.look_ahead.new.ahead in
+    let agg : before.geometry.agg ≡ s.geometry.agg = ap (λ (g : Geometry). g.agg) c.requires.pieces.geometry in
+    let records = few_records c.args.now s _ _ a c.requires.pieces.sound c.look_ahead.ensures.looks true in
+    let entries = few_entries c.args.now s _ _ a c.requires.pieces.sound c.look_ahead.ensures.looks in
+    let fits : length (told_of true a.due.items a.fates.items) + 1 + copies_among a.fates.items ≤ 2 * most_passed before.geometry + 1 = omega (arith, records, agg) in
+    let enters : copies_among a.fates.items ≤ budget_of before.geometry = omega (arith, entries, agg) in
+    subst (λ n. Uses (2 * most_passed before.geometry + 1) (budget_of before.geometry) 1 before.geometry.agg n (g.C.Chronicle.room c.go_on.new.self.chronicle) before after)
+    (ap (λ x. g.C.Chronicle.room x) c.look_ahead.ensures.chronicle)
+    (flush_uses _ _ _ _ _ _ before (seen_of g.D.Disk g.R.Directory c.look_ahead.new.self) (seen g.D.Disk g.R.Directory c.write_out.new.self) after c.write_out.result
+    c.look_ahead.ensures.same c.look_ahead.ensures.keeps c.look_ahead.ensures.later c.write_out.ensures.same c.write_out.ensures.device c.requires.pieces.turning.few c.go_on.ensures.uses fits enters)
+
+pub returns-in-Ok-clause-room : goal.returns-in-Ok-clause-room
+returns-in-Ok-clause-room g c =
+    let s = state_now g.C.Chronicle c.args.self.now in
+    let after = seen_of g.D.Disk g.R.Directory c.go_on.new.self in
+    let a = c.look_ahead.new.ahead in
+    let recs = done_records s a.due.items a.fates.items a.bytes.items in
+    let adds = subst (λ x. kept_of g.C.Chronicle c.go_on.new.self ≡ with_records (g.C.Chronicle.kept x) (done_records (state_of (g.C.Chronicle.kept x)) a.due.items a.fates.items a.bytes.items))
+    c.look_ahead.ensures.chronicle c.go_on.ensures.adds in
+    let state : state_now g.C.Chronicle c.go_on.new.self ≡ after_all s recs = ap state_of adds ∙ state_of-with_records (kept_of g.C.Chronicle c.args.self.now) recs in
+    let filled = half_is_free c.args.now s _ _ a c.requires.pieces.sound c.look_ahead.ensures.looks in
+    let out : (seen g.D.Disk g.R.Directory c.write_out.new.self).geometry ≡ c.args.self.now.cyclone.geometry =
+    ap (λ (y : Seen). y.geometry) c.write_out.ensures.same ∙ ap (λ (y : Seen). y.geometry) c.look_ahead.ensures.same in
+    let geometry : (state_now g.C.Chronicle c.go_on.new.self).geometry ≡ s.geometry = sym c.go_on.ensures.pieces.geometry ∙ (c.go_on.ensures.uses.same ∙ (out ∙ c.requires.pieces.geometry)) in
+    let same : (state_now g.C.Chronicle c.go_on.new.self).filled ≡ (after_all s recs).filled = ap (λ (t : State). t.filled) state in
+    subst (λ h. (state_now g.C.Chronicle c.go_on.new.self).filled ≤ budget_of h) (sym geometry) (omega (arith, same, filled))
 
 pub returns-in-Err-clause-does : goal.returns-in-Err-clause-does
-returns-in-Err-clause-does g c p covers =
+returns-in-Err-clause-does g c =
     let s = state_now g.C.Chronicle c.args.self.now in
-    let next = c.next_cursor-next.ensures ∙ next_is s (seen_of g.D.Disk g.R.Directory c.args.self.now) c.requires.pieces in
-    fault_does p s _ _ c.faults-count.result c.requires.quiet
-    (some_filled s (seen_of g.D.Disk g.R.Directory c.args.self.now) c.next_place.result c.cursor.result c.requires.pieces c.next_place.ensures c.cursor.ensures c.if-blocks-eq0.false)
-    (omega (arith, next, c.if-next-ge-LIMIT.false)) c.requires.pieces.faults covers.from covers.upto (c.faults-count.ensures ∙ ap (λ (d : Device). d.faults) c.disk.ensures) c.in-Err.ensures.device.cause.failed
+    let before = seen_of g.D.Disk g.R.Directory c.args.self.now in
+    let after = (seen_of g.D.Disk g.R.Directory c.stop.new.self).device in
+    let out = (seen g.D.Disk g.R.Directory c.write_out.new.self).device in
+    let a = c.look_ahead.new.ahead in
+    let next = c.next_cursor-next.ensures ∙ next_is s before c.requires.pieces in
+    let some = some_filled s before c.next_place.result c.cursor.result c.requires.pieces c.next_place.ensures c.cursor.ensures c.if-blocks-eq0.false in
+    let faults : after.faults ≡ out.faults = ap (λ (d : Device). d.faults) c.stop.ensures.still in
+    let trust = ap (λ (d : Device). d.trust) c.stop.ensures.still in
+    let adds = subst (λ x. kept_of g.C.Chronicle c.stop.new.self ≡ with_records (g.C.Chronicle.kept x) (told_of false a.due.items a.fates.items ++ rec.Fault out.faults ∷ []))
+    c.look_ahead.ensures.chronicle c.stop.ensures.adds in
+    subst (λ why. FlushesAsAsked c.args.now (kept_of g.C.Chronicle c.args.self.now) (kept_of g.C.Chronicle c.stop.new.self) before.device.faults after (Err why))
+    (ap (λ n. stop.DeviceFault n) faults ∙ sym c.stop.ensures.why)
+    (stop_asked c.args.now (kept_of g.C.Chronicle c.args.self.now) (kept_of g.C.Chronicle c.stop.new.self) before.device.faults (seen_of g.D.Disk g.R.Directory c.look_ahead.new.self).device after a
+    c.requires.pieces.sound (can s c.requires.quiet some (omega (arith, next, c.if-next-ge-LIMIT.false))) c.requires.pieces.faults c.look_ahead.ensures.later c.look_ahead.ensures.looks
+    (record { faults = omega (arith, faults, c.write_out.ensures.device.cause.later); trust = omega (arith, trust, c.write_out.ensures.device.keeps.trust) })
+    (omega (arith, faults, c.in-Err.ensures.device.cause.failed))
+    (subst (λ n. kept_of g.C.Chronicle c.stop.new.self ≡ with_records (kept_of g.C.Chronicle c.args.self.now) (told_of false a.due.items a.fates.items ++ rec.Fault n ∷ [])) (sym faults) adds))
+
+pub returns-in-Err-clause-uses : goal.returns-in-Err-clause-uses
+returns-in-Err-clause-uses g c =
+    let s = state_now g.C.Chronicle c.args.self.now in
+    let before = seen_of g.D.Disk g.R.Directory c.args.self.now in
+    let after = seen_of g.D.Disk g.R.Directory c.stop.new.self in
+    let a = c.look_ahead.new.ahead in
+    let agg : before.geometry.agg ≡ s.geometry.agg = ap (λ (g : Geometry). g.agg) c.requires.pieces.geometry in
+    let records = few_records c.args.now s _ _ a c.requires.pieces.sound c.look_ahead.ensures.looks false in
+    let fits : length (told_of false a.due.items a.fates.items) + 1 ≤ 2 * most_passed before.geometry + 1 = omega (arith, records, agg) in
+    subst (λ n. Uses (2 * most_passed before.geometry + 1) (budget_of before.geometry) 1 before.geometry.agg n (g.C.Chronicle.room c.stop.new.self.chronicle) before after)
+    (ap (λ x. g.C.Chronicle.room x) c.look_ahead.ensures.chronicle)
+    (flush_uses _ _ _ _ _ _ before (seen_of g.D.Disk g.R.Directory c.look_ahead.new.self) (seen g.D.Disk g.R.Directory c.write_out.new.self) after c.write_out.result
+    c.look_ahead.ensures.same c.look_ahead.ensures.keeps c.look_ahead.ensures.later c.write_out.ensures.same c.write_out.ensures.device c.requires.pieces.turning.few c.stop.ensures.uses fits (omega arith))

@@ -1,4 +1,4 @@
-use Rattle.std.proofs.Common.{Some, sym, ◌∙◌, ap, subst, arith, [], ◌∷◌}
+use Rattle.std.proofs.Common.{Some, refl, sym, ◌∙◌, ap, subst, arith, [], ◌∷◌}
 use Rattle.cache_model.specs.declared.record.Rec.TheVariants as rec
 use Rattle.cache_model.specs.State.{vector_piece}
 use Rattle.cache_model.specs.Kept.{state_of}
@@ -7,7 +7,7 @@ use Rattle.stripe_core.specs.Pieces.{seen_of}
 use Rattle.stripe_core.specs.Stripe.{kept_in, seen_in, state_in}
 use Rattle.stripe_core.proofs.Flushes.{state_of-with_records}
 use Rattle.stripe_core.proofs.Doings.{commits, one_less, reader_behind}
-use Rattle.stripe_core.proofs.Sparing.{numbered_by}
+use Rattle.stripe_core.proofs.Sparing.{made_behind, numbered_by}
 use Rattle.stripe_core.proofs.Naming.{named_behind, named_committed}
 use Rattle.stripe_core.proofs.stripe.Stripe.commit.Goals as goal
 
@@ -26,6 +26,7 @@ returns-clause-stripe g c =
       named = named_behind kept _ told c.commit.ensures.adds
           (named_committed s c.args.put c.length-length.result c.args.key (c.requires.committing.pending ∙ ap (λ k. Some (vector_piece k c.args.put)) c.requires.committing.key_is) c.requires.stripe.named);
       readers = omega (arith, c.requires.stripe.readers, c.close.ensures.readers);
+      ahead = made_behind kept after told c.args.self.now.ahead c.commit.ensures.adds refl c.requires.stripe.ahead;
       numbered = numbered_by kept after (told ∷ []) 0 c.commit.ensures.adds (omega (arith, reader)) (omega arith) c.requires.stripe.numbered;
     }
 

@@ -5,7 +5,7 @@ use Rattle.stripe_actors.specs.Actors.{AreActors}
 use Rattle.stripe_core.specs.Stripe.{kept_in, seen_in, state_in}
 use Rattle.stripe_core.proofs.Flushes.{state_of-with_records}
 use Rattle.stripe_core.proofs.Doings.{held_behind, one_record, reader_behind}
-use Rattle.stripe_core.proofs.Sparing.{numbered_by}
+use Rattle.stripe_core.proofs.Sparing.{made_behind, numbered_by}
 use Rattle.stripe_core.proofs.Naming.{name_left, named_behind}
 use Rattle.stripe_core.proofs.stripe.Stripe.end_read.Goals as goal
 
@@ -22,5 +22,6 @@ returns-clause-stripe g c =
       spared = one_record c.args.self.now.units c.args.self.now.flushes _ _ before c.requires.unit c.requires.stripe.spared c.read_closed.ensures.room;
       named = named_behind kept _ (rec.ReadClosed c.args.reader) c.read_closed.ensures.kept (name_left s (rec.ReadClosed c.args.reader) refl c.requires.stripe.named);
       readers = omega (arith, c.requires.stripe.readers, c.close_reader.ensures.readers);
+      ahead = made_behind kept _ (rec.ReadClosed c.args.reader) c.args.self.now.ahead c.read_closed.ensures.kept refl c.requires.stripe.ahead;
       numbered = numbered_by kept (g.C.Chronicle.kept c.read_closed.new.chronicle) (rec.ReadClosed c.args.reader ∷ []) 0 c.read_closed.ensures.kept (omega (arith, reader)) (omega arith) c.requires.stripe.numbered;
     }

@@ -3,7 +3,7 @@ use Rattle.cache_model.specs.Kept.{state_of}
 use Rattle.stripe_core.specs.Find.{Finds, find_adds}
 use Rattle.stripe_core.specs.Pieces.{seen_of}
 use Rattle.stripe_core.specs.Stripe.{flushes_in, kept_in, seen_in, state_in, units_in}
-use Rattle.stripe_core.proofs.Sparing.{actors_with, find_are_others, numbered_others, spent_calm}
+use Rattle.stripe_core.proofs.Sparing.{actors_with, find_are_others, made_still, numbered_others, spent_calm}
 use Rattle.stripe_core.proofs.Naming.{find_leaves, named_with}
 use Rattle.stripe_core.proofs.stripe.Stripe.find_piece.Goals as goal
 
@@ -20,6 +20,8 @@ returns-clause-stripe g c =
           c.in_ok-take_unit.ensures.spared c.find.ensures.uses (omega arith) (omega arith);
       named = named_with kept _ adds c.find.ensures.adds (find_leaves taken c.args.id c.find.result) c.take_unit.ensures.stripe.named;
       readers = c.take_unit.ensures.stripe.readers;
+      ahead = made_still taken _ (seen_in g.D.Disk g.R.Directory c.take_unit.new.self) (seen_of g.D.Disk g.R.Directory c.find.new.self) c.take_unit.new.self.ahead
+          c.take_unit.ensures.stripe.pieces c.find.ensures.pieces c.find.ensures.uses.same c.take_unit.ensures.stripe.ahead;
       numbered = numbered_others kept _ adds c.find.ensures.adds (find_are_others taken c.args.id c.find.result) c.take_unit.ensures.stripe.numbered;
     }
 

@@ -1,59 +1,92 @@
-use Rattle.std.specs.Prelude.{nat_lt}
-use Rattle.std.proofs.Common.{Ok, Err, ap, subst, sym, arith}
+use Rattle.std.specs.Prelude.{IfErr, nat_lt}
+use Rattle.std.proofs.Common.{◌≡◌, Err, ap, subst, sym, arith}
 use Rattle.cache_model.specs.Kept.{state_of}
-use Rattle.cyclone.specs.Cyclone.{seen}
-use Rattle.stripe_core.specs.Flush.{DoesAsAsked, flush_adds}
-use Rattle.stripe_core.specs.Pieces.{seen_of}
-use Rattle.stripe_core.specs.Stripe.{Answers, flushes_in, kept_in, seen_in, state_in, units_in}
+use Rattle.stripe_core.specs.declared.refusal.Flushed.{Flushed}
+use Rattle.stripe_core.specs.Flush.{FlushesAsAsked, StopsWith}
+use Rattle.stripe_core.specs.Pieces.{kept_of, seen_of}
+use Rattle.stripe_core.specs.Stripe.{Answers, HasMemory, flushes_in, kept_in, seen_in, state_in, units_in}
+use Rattle.stripe_core.proofs.Asked.{behind_unit, stop_has_memory}
 use Rattle.stripe_core.proofs.Naming.{flush_leaves, named_with}
-use Rattle.stripe_core.proofs.Sparing.{actors_with, answers_stop, flush_is_others, nothing_in_buffer, numbered_others, spent_by}
+use Rattle.stripe_core.proofs.Sparing.{actors_with, answers_stop, flush_is_others, made_still, nothing_in_buffer, numbered_others, spent_by}
+use Rattle.stripe_core.proofs.Unharmed.{stays_unharmed-adds, stays_unharmed-trans}
 use Rattle.stripe_core.proofs.stripe.Stripe.flush.Goals as goal
 
 pub returns-in-Err-clause-does : goal.returns-in-Err-clause-does
 returns-in-Err-clause-does g c =
-    let s = state_in g.C.Chronicle c.args.self.now in
-    let before = (seen_in g.D.Disk g.R.Directory c.args.self.now).device.faults in
-    let after = (seen g.D.Disk g.R.Directory c.flush.new.self.cyclone).device.faults in
-    let taken = state_in g.C.Chronicle c.take_unit.new.self in
-    let does : DoesAsAsked s before after (Err c.in-Err.stop) =
-    subst (λ t. DoesAsAsked t before after (Err c.in-Err.stop)) (ap state_of c.take_unit.ensures.records)
-    (subst (λ n. DoesAsAsked taken n after (Err c.in-Err.stop)) c.take_unit.ensures.still.faults c.in-Err.ensures.does) in
-    subst (λ r. Answers (Err r) (DoesAsAsked s before after) (Unit {0})) (sym c.from.ensures)
-    (answers_stop c.in-Err.stop (DoesAsAsked s before after) (Unit {0}) does)
+    let kept = kept_in g.C.Chronicle c.args.self.now in
+    let taken = kept_in g.C.Chronicle c.take_unit.new.self in
+    let first = (seen_in g.D.Disk g.R.Directory c.args.self.now).device.faults in
+    let before = (seen_in g.D.Disk g.R.Directory c.take_unit.new.self).device.faults in
+    let new = kept_of g.C.Chronicle c.flush.new.self in
+    let device = (seen_of g.D.Disk g.R.Directory c.flush.new.self).device in
+    let asked = FlushesAsAsked c.args.now kept new first device in
+    subst (λ r. Answers (Err r) asked (new ≡ kept)) (sym c.from.ensures)
+    (answers_stop c.in-Err.stop asked _
+    (behind_unit (λ k n. FlushesAsAsked c.args.now k new n device (Err c.in-Err.stop)) taken kept before first c.take_unit.ensures.records c.take_unit.ensures.still.faults c.in-Err.ensures.does))
 
 pub returns-in-Ok-clause-stripe : goal.returns-in-Ok-clause-stripe
 returns-in-Ok-clause-stripe g c =
     let taken = state_in g.C.Chronicle c.take_unit.new.self in
     let kept = kept_in g.C.Chronicle c.take_unit.new.self in
-    let adds = flush_adds taken (Ok c.in-Ok.flushed) in
+    let before = seen_in g.D.Disk g.R.Directory c.take_unit.new.self in
+    let after = seen_of g.D.Disk g.R.Directory c.flush.new.self in
+    let does = c.in-Ok.ensures.does in
+    let others = flush_is_others does.added does.kinds in
     record {
       pieces = c.flush.ensures.pieces;
-      actors = actors_with kept _ c.take_unit.new.self.actors adds c.in-Ok.ensures.adds (flush_is_others taken (Ok c.in-Ok.flushed)) c.take_unit.ensures.stripe.actors;
+      actors = actors_with kept _ c.take_unit.new.self.actors does.added does.adds others c.take_unit.ensures.stripe.actors;
       plain = c.requires.stripe.plain;
-      spared = spent_by (nat_lt c.cursor.result c.next_place.result) (units_in c.take_unit.new.self) (flushes_in c.take_unit.new.self) c.one_where.result _ _ 1 0 (seen_in g.D.Disk g.R.Directory c.take_unit.new.self)
-          (seen_of g.D.Disk g.R.Directory c.flush.new.self) c.one_where.ensures c.in_ok-take_unit.ensures.spared c.flush.ensures.uses (omega arith) (omega arith)
-          (λ none. c.flush.ensures.still (nothing_in_buffer taken (seen_in g.D.Disk g.R.Directory c.take_unit.new.self) c.cursor.result c.next_place.result c.take_unit.ensures.stripe.pieces c.cursor.ensures c.next_place.ensures none));
-      named = named_with kept _ adds c.in-Ok.ensures.adds (flush_leaves taken (Ok c.in-Ok.flushed)) c.take_unit.ensures.stripe.named;
+      spared = spent_by (nat_lt c.cursor.result c.next_place.result) (units_in c.take_unit.new.self) (flushes_in c.take_unit.new.self) c.one_where.result _ _ _ _ before after
+          c.one_where.ensures c.in_ok-take_unit.ensures.spared c.flush.ensures.uses (omega arith) (omega arith)
+          (λ none. c.flush.ensures.still (nothing_in_buffer taken before c.cursor.result c.next_place.result c.take_unit.ensures.stripe.pieces c.cursor.ensures c.next_place.ensures none));
+      named = named_with kept _ does.added does.adds (flush_leaves does.added does.kinds) c.take_unit.ensures.stripe.named;
       readers = c.take_unit.ensures.stripe.readers;
-      numbered = numbered_others kept _ adds c.in-Ok.ensures.adds (flush_is_others taken (Ok c.in-Ok.flushed)) c.take_unit.ensures.stripe.numbered;
+      ahead = made_still taken _ before after c.flush.new.ahead c.take_unit.ensures.stripe.pieces c.flush.ensures.pieces c.flush.ensures.uses.same c.flush.ensures.ahead;
+      numbered = numbered_others kept _ does.added does.adds others c.take_unit.ensures.stripe.numbered;
     }
 
 pub returns-in-Err-clause-stripe : goal.returns-in-Err-clause-stripe
 returns-in-Err-clause-stripe g c =
     let taken = state_in g.C.Chronicle c.take_unit.new.self in
     let kept = kept_in g.C.Chronicle c.take_unit.new.self in
-    let adds = flush_adds taken (Err c.in-Err.stop) in
+    let before = seen_in g.D.Disk g.R.Directory c.take_unit.new.self in
+    let after = seen_of g.D.Disk g.R.Directory c.flush.new.self in
+    let does = c.in-Err.ensures.does in
+    let others = flush_is_others does.added does.kinds in
     record {
       pieces = c.flush.ensures.pieces;
-      actors = actors_with kept _ c.take_unit.new.self.actors adds c.in-Err.ensures.adds (flush_is_others taken (Err c.in-Err.stop)) c.take_unit.ensures.stripe.actors;
+      actors = actors_with kept _ c.take_unit.new.self.actors does.added does.adds others c.take_unit.ensures.stripe.actors;
       plain = c.requires.stripe.plain;
-      spared = spent_by (nat_lt c.cursor.result c.next_place.result) (units_in c.take_unit.new.self) (flushes_in c.take_unit.new.self) c.one_where.result _ _ 1 0 (seen_in g.D.Disk g.R.Directory c.take_unit.new.self)
-          (seen_of g.D.Disk g.R.Directory c.flush.new.self) c.one_where.ensures c.in_ok-take_unit.ensures.spared c.flush.ensures.uses (omega arith) (omega arith)
-          (λ none. c.flush.ensures.still (nothing_in_buffer taken (seen_in g.D.Disk g.R.Directory c.take_unit.new.self) c.cursor.result c.next_place.result c.take_unit.ensures.stripe.pieces c.cursor.ensures c.next_place.ensures none));
-      named = named_with kept _ adds c.in-Err.ensures.adds (flush_leaves taken (Err c.in-Err.stop)) c.take_unit.ensures.stripe.named;
+      spared = spent_by (nat_lt c.cursor.result c.next_place.result) (units_in c.take_unit.new.self) (flushes_in c.take_unit.new.self) c.one_where.result _ _ _ _ before after
+          c.one_where.ensures c.in_ok-take_unit.ensures.spared c.flush.ensures.uses (omega arith) (omega arith)
+          (λ none. c.flush.ensures.still (nothing_in_buffer taken before c.cursor.result c.next_place.result c.take_unit.ensures.stripe.pieces c.cursor.ensures c.next_place.ensures none));
+      named = named_with kept _ does.added does.adds (flush_leaves does.added does.kinds) c.take_unit.ensures.stripe.named;
       readers = c.take_unit.ensures.stripe.readers;
-      numbered = numbered_others kept _ adds c.in-Err.ensures.adds (flush_is_others taken (Err c.in-Err.stop)) c.take_unit.ensures.stripe.numbered;
+      ahead = made_still taken _ before after c.flush.new.ahead c.take_unit.ensures.stripe.pieces c.flush.ensures.pieces c.flush.ensures.uses.same c.flush.ensures.ahead;
+      numbered = numbered_others kept _ does.added does.adds others c.take_unit.ensures.stripe.numbered;
     }
+
+pub returns-in-Ok-clause-unharmed : goal.returns-in-Ok-clause-unharmed
+returns-in-Ok-clause-unharmed g c =
+    let does = c.in-Ok.ensures.does in
+    stays_unharmed-trans _ _ _ _ _ _ c.take_unit.ensures.unharmed
+    (stays_unharmed-adds _ _ (kept_in g.C.Chronicle c.take_unit.new.self) _ does.added does.adds c.flush.ensures.uses.device.trust does.unharmed)
+
+pub returns-in-Err-clause-unharmed : goal.returns-in-Err-clause-unharmed
+returns-in-Err-clause-unharmed g c =
+    let does = c.in-Err.ensures.does in
+    stays_unharmed-trans _ _ _ _ _ _ c.take_unit.ensures.unharmed
+    (stays_unharmed-adds _ _ (kept_in g.C.Chronicle c.take_unit.new.self) _ does.added does.adds c.flush.ensures.uses.device.trust does.unharmed)
+
+pub returns-in-Err-clause-stops : goal.returns-in-Err-clause-stops
+returns-in-Err-clause-stops g c =
+    let s = state_in g.C.Chronicle c.args.self.now in
+    let faults = (seen_of g.D.Disk g.R.Directory c.flush.new.self).device.faults in
+    subst (λ r. Answers {X = Flushed} (Err r) (λ x. IfErr x (StopsWith s faults)) (Unit {0})) (sym c.from.ensures)
+    (answers_stop c.in-Err.stop (λ x. IfErr x (StopsWith s faults)) (Unit {0}) (subst (λ t. StopsWith t faults c.in-Err.stop) (ap state_of c.take_unit.ensures.records) c.in-Err.ensures.stops))
+
+pub returns-in-Err-clause-memory : goal.returns-in-Err-clause-memory
+returns-in-Err-clause-memory g c = λ some. subst (λ r. HasMemory {X = Flushed} (Err r)) (sym c.from.ensures) (stop_has_memory Flushed c.in-Err.stop)
 
 pub returns-in-Ok-clause-later : goal.returns-in-Ok-clause-later
 returns-in-Ok-clause-later g c =

@@ -3,13 +3,14 @@ use Rattle.cache_model.specs.Kept.{state_of}
 use Rattle.stripe_actors.specs.Actors.{AreActors}
 use Rattle.stripe_core.proofs.stripe.Stripe.format.Goals as goal
 
-pub returns-in-Ok-clause-stripe : goal.returns-in-Ok-clause-stripe
-returns-in-Ok-clause-stripe g c = record {
-  pieces = c.in-Ok.ensures.pieces;
-  actors = subst (λ k. AreActors (state_of k) c.new.result) (sym c.in-Ok.ensures.records) (c.new.ensures c.args.g);
+pub returns-in-Ok-format-clause-stripe : goal.returns-in-Ok-format-clause-stripe
+returns-in-Ok-format-clause-stripe g c = record {
+  pieces = c.in-Ok-format.ensures.pieces;
+  actors = subst (λ k. AreActors (state_of k) c.new-in-Ok-format.result) (sym c.in-Ok-format.ensures.records) (c.new-in-Ok-format.ensures c.args.g);
   plain = c.requires.plain;
   spared = record { for_records = omega arith; entries = omega arith; one_each = omega arith; calls = omega arith; blocks = omega arith };
-  named = rw c.in-Ok.ensures.records tt;
+  named = rw c.in-Ok-format.ensures.records tt;
   readers = omega arith;
-  numbered = rw c.in-Ok.ensures.records (omega arith);
+  ahead = rw c.in-Ok-format.ensures.records c.in-Ok.ensures;
+  numbered = rw c.in-Ok-format.ensures.records (omega arith);
 }

@@ -5,7 +5,7 @@ use Rattle.stripe_actors.specs.Actors.{AreActors}
 use Rattle.stripe_core.specs.Stripe.{kept_in, seen_in, state_in}
 use Rattle.stripe_core.proofs.Flushes.{state_of-with_records}
 use Rattle.stripe_core.proofs.Doings.{held_behind, one_record, reader_behind}
-use Rattle.stripe_core.proofs.Sparing.{numbered_by}
+use Rattle.stripe_core.proofs.Sparing.{made_behind, numbered_by}
 use Rattle.stripe_core.proofs.Doings.{gives_up}
 use Rattle.stripe_core.proofs.Naming.{named_aborted, named_behind}
 use Rattle.stripe_core.proofs.stripe.Stripe.give_up.Goals as goal
@@ -23,6 +23,7 @@ returns-clause-stripe g c =
       spared = one_record c.args.self.now.units c.args.self.now.flushes _ _ before c.requires.unit c.requires.stripe.spared c.aborted.ensures.room;
       named = named_behind kept _ (rec.Aborted c.args.put c.args.key) c.aborted.ensures.kept (named_aborted s c.args.put c.args.key c.requires.stripe.named);
       readers = omega (arith, c.requires.stripe.readers, c.abort.ensures.readers);
+      ahead = made_behind kept _ (rec.Aborted c.args.put c.args.key) c.args.self.now.ahead c.aborted.ensures.kept refl c.requires.stripe.ahead;
       numbered = numbered_by kept (g.C.Chronicle.kept c.aborted.new.chronicle) (rec.Aborted c.args.put c.args.key ∷ []) 0 c.aborted.ensures.kept (omega (arith, reader)) (omega arith) c.requires.stripe.numbered;
     }
 

@@ -1,13 +1,14 @@
-use Rattle.std.proofs.Common.{◌≡◌, sym, ◌∙◌, ap, subst, refl, arith, [], ◌∷◌}
+use Rattle.std.proofs.Common.{◌≡◌, ◌*◌, ◌≤◌, sym, ◌∙◌, ap, subst, refl, arith, [], ◌∷◌}
 use Rattle.cache_model.specs.declared.record.Rec.TheVariants as rec
 use Rattle.cache_model.specs.State.{state_after}
 use Rattle.cache_model.specs.Kept.{state_of, with_records}
 use Rattle.stripe_core.specs.Named.{IsNamed}
 use Rattle.stripe_actors.specs.Actors.{AreActors}
 use Rattle.stripe_core.specs.Stripe.{kept_in, seen_in, state_in}
+use Rattle.stripe_core.specs.Units.{records_of_unit}
 use Rattle.stripe_core.proofs.Flushes.{state_of-with_records}
 use Rattle.stripe_core.proofs.Doings.{held_behind, opens, reader_behind}
-use Rattle.stripe_core.proofs.Sparing.{numbered_by}
+use Rattle.stripe_core.proofs.Sparing.{behind_one, made_behind, numbered_by}
 use Rattle.stripe_core.proofs.Naming.{named_behind, named_opened}
 use Rattle.stripe_core.proofs.stripe.Stripe.open_put.Goals as goal
 
@@ -29,7 +30,9 @@ returns-in-Ok-clause-stripe g c =
       actors = subst (λ t. AreActors t c.open_put.new.self) (sym (ap state_of is ∙ state_of-with_records kept (told ∷ []))) (c.in-Ok.ensures.ok.opened c.args.actor c.args.pin s c.requires.stripe.actors);
       plain = c.requires.stripe.plain;
       spared = record {
-        for_records = omega (arith, c.in_ok-reserve.ensures.room, c.write_opened.ensures.room);
+        for_records =
+            subst (λ geometry. records_of_unit geometry * c.args.self.now.units ≤ g.C.Chronicle.room c.write_opened.new.chronicle) c.geometry.ensures
+            (behind_one _ c.records_of-most.result (g.C.Chronicle.room c.reserve.new.self) _ c.records_of-most.ensures.count c.in_ok-reserve.ensures.room c.write_opened.ensures.room);
         entries = c.requires.stripe.spared.entries;
         one_each = c.requires.stripe.spared.one_each;
         calls = c.requires.stripe.spared.calls;
@@ -39,6 +42,7 @@ returns-in-Ok-clause-stripe g c =
           (subst (λ n. IsNamed (state_after s (rec.WriteOpened c.args.actor n c.args.key c.args.request c.args.response c.args.pin))) (sym (c.in-Ok.ensures.ok.number ∙ c.requires.stripe.actors.next_put))
           (named_opened s c.args.actor c.args.key c.args.request c.args.response c.args.pin c.requires.stripe.named));
       readers = omega (arith, c.requires.stripe.readers, c.open_put.ensures.readers);
+      ahead = made_behind kept after told c.args.self.now.ahead is refl c.requires.stripe.ahead;
       numbered = numbered_by kept after (told ∷ []) 0 is (omega (arith, reader)) (omega arith) c.requires.stripe.numbered;
     }
 

@@ -2,14 +2,13 @@ use Rattle.std.proofs.Common.{◌∙◌, ap, ◌≡◌, Ok, Err, sym, subst, ari
 use Rattle.std.proofs.lemmas.Bool.{eq-eqb}
 use Rattle.cache_model.specs.Kept.{with_records}
 use Rattle.cache_model.specs.Room.{placed_record}
-use Rattle.cache_model.specs.Verdict.{cuts_of}
 use Rattle.tape_base.specs.Piece.{is_vector}
-use Rattle.stripe_core.specs.Place.{FinishesAsAsked, place_adds}
-use Rattle.stripe_core.specs.Pieces.{seen_of}
+use Rattle.stripe_core.specs.Place.{PlacesVector, place_adds}
+use Rattle.stripe_core.specs.Pieces.{kept_of, seen_of}
 use Rattle.stripe_core.specs.Stripe.{Answers, flushes_in, kept_in, seen_in, state_in, units_in}
 use Rattle.stripe_core.proofs.Unharmed.{stays_unharmed-adds}
 use Rattle.stripe_core.proofs.Groups.{vector_group}
-use Rattle.stripe_core.proofs.Sparing.{actors_with, answers_stop, numbered_others, spent_calm, vector_alone, vector_others}
+use Rattle.stripe_core.proofs.Sparing.{actors_with, answers_stop, made_still, numbered_others, spent_calm, vector_alone, vector_others}
 use Rattle.stripe_core.proofs.Naming.{begun_put, named_behind, named_placed, small_size, vector_new}
 use Rattle.stripe_core.proofs.stripe.Stripe.place_vector.Goals as goal
 
@@ -30,24 +29,33 @@ returns-in-Ok-clause-stripe g c =
           (named_placed s c.args.id _ _ c.args.pin _ c.requires.vector.w c.requires.stripe.named c.requires.vector.writing.quiet
           (begun_put s c.args.self.now.actors c.args.id.put c.requires.vector.w c.requires.stripe.actors c.requires.vector.writing.found) c.requires.vector.writing.found (rw c.requires.kind (omega arith)));
       readers = c.requires.stripe.readers;
+      ahead = made_still s _ (seen_in g.D.Disk g.R.Directory c.args.self.now) (seen_of g.D.Disk g.R.Directory c.place.new.self) c.args.self.now.ahead c.requires.stripe.pieces c.place.ensures.pieces
+          c.place.ensures.uses.same c.requires.stripe.ahead;
       numbered = numbered_others kept _ adds c.in-Ok.ensures.adds others c.requires.stripe.numbered;
     }
 
 pub returns-in-Ok-clause-does : goal.returns-in-Ok-clause-does
-returns-in-Ok-clause-does g c = λ lists p covers.
-    vector_group p (state_in g.C.Chronicle c.args.self.now) c.args.id c.args.pin c.args.start c.args.payload.now (Ok c.in-Ok.placed) covers.plain lists
-    (eq-eqb c.args.id.index 0 c.requires.kind) c.requires.vector.small c.in-Ok.ensures.at
+returns-in-Ok-clause-does g c = record {
+  adds = c.in-Ok.ensures.adds;
+  at = c.in-Ok.ensures.at;
+  does = λ lists p covers.
+      vector_group p (state_in g.C.Chronicle c.args.self.now) c.args.id c.args.pin c.args.start c.args.payload.now (Ok c.in-Ok.placed) covers.plain lists
+      (eq-eqb c.args.id.index 0 c.requires.kind) c.requires.vector.small c.in-Ok.ensures.at;
+}
 
 pub returns-in-Err-clause-does : goal.returns-in-Err-clause-does
 returns-in-Err-clause-does g c =
     let s = state_in g.C.Chronicle c.args.self.now in
     let before = (seen_in g.D.Disk g.R.Directory c.args.self.now).device.faults in
     let after = (seen_of g.D.Disk g.R.Directory c.place.new.self).device.faults in
-    let does = FinishesAsAsked s before after c.args.id c.args.pin c.args.start c.args.payload.now (length (cuts_of s c.args.id.put)) in
-    subst (λ r. Answers (Err r) does ⊥) (sym c.from.ensures)
-    (answers_stop c.in-Err.stop does ⊥
-    (λ lists p covers.
-    vector_group p s c.args.id c.args.pin c.args.start c.args.payload.now (Err c.in-Err.stop) covers.plain lists (eq-eqb c.args.id.index 0 c.requires.kind) c.requires.vector.small c.in-Err.ensures.at))
+    let places = PlacesVector (kept_in g.C.Chronicle c.args.self.now) (kept_of g.C.Chronicle c.place.new.self) before after c.args.id c.args.pin c.args.start c.args.payload.now in
+    subst (λ r. Answers (Err r) places ⊥) (sym c.from.ensures)
+    (answers_stop c.in-Err.stop places ⊥ (record {
+      adds = c.in-Err.ensures.adds;
+      at = c.in-Err.ensures.at;
+      does = λ lists p covers.
+          vector_group p s c.args.id c.args.pin c.args.start c.args.payload.now (Err c.in-Err.stop) covers.plain lists (eq-eqb c.args.id.index 0 c.requires.kind) c.requires.vector.small c.in-Err.ensures.at;
+    }))
 
 pub place-requires-clause-new : goal.place-requires-clause-new
 place-requires-clause-new g c =

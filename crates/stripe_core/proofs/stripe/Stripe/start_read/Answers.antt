@@ -7,7 +7,7 @@ use Rattle.stripe_core.specs.Stripe.{flushes_in, kept_in, seen_in, state_in, uni
 use Rattle.stripe_core.proofs.Flushes.{state_of-with_records}
 use Rattle.stripe_core.proofs.Doings.{held_behind, reader_behind}
 use Rattle.stripe_core.proofs.Naming.{name_left, named_behind}
-use Rattle.stripe_core.proofs.Sparing.{numbered_by, one_told}
+use Rattle.stripe_core.proofs.Sparing.{made_behind, numbered_by, one_told}
 use Rattle.stripe_core.proofs.stripe.Stripe.start_read.Goals as goal
 
 pub returns-clause-stripe : goal.returns-clause-stripe
@@ -27,5 +27,6 @@ returns-clause-stripe g c =
       spared = one_told (units_in c.take_unit.new.self) (flushes_in c.take_unit.new.self) _ _ (seen_in g.D.Disk g.R.Directory c.take_unit.new.self) c.in_ok-take_unit.ensures.spared c.read_opened.ensures.room;
       named = named_behind kept after told c.read_opened.ensures.kept (name_left taken told refl c.take_unit.ensures.stripe.named);
       readers = omega (arith, c.in_ok-take_unit.ensures.readers, c.answer_lookup.ensures.room);
+      ahead = made_behind kept after told c.take_unit.new.self.ahead c.read_opened.ensures.kept refl c.take_unit.ensures.stripe.ahead;
       numbered = numbered_by kept after (told ∷ []) 1 c.read_opened.ensures.kept (omega (arith, reader, number)) (omega arith) c.take_unit.ensures.stripe.numbered;
     }

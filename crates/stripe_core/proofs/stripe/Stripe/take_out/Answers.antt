@@ -4,7 +4,7 @@ use Rattle.stripe_core.specs.Pieces.{seen_of}
 use Rattle.stripe_core.specs.Stripe.{kept_in, seen_in, state_in}
 use Rattle.stripe_core.proofs.Doings.{one_less, removes}
 use Rattle.stripe_core.proofs.Naming.{name_left, named_behind}
-use Rattle.stripe_core.proofs.Sparing.{actors_with, numbered_others}
+use Rattle.stripe_core.proofs.Sparing.{actors_with, made_behind, numbered_others}
 use Rattle.stripe_core.proofs.stripe.Stripe.take_out.Goals as goal
 
 pub returns-clause-stripe : goal.returns-clause-stripe
@@ -19,6 +19,7 @@ returns-clause-stripe g c =
       spared = one_less c.args.self.now.units c.args.self.now.flushes _ _ (seen_in g.D.Disk g.R.Directory c.args.self.now) (seen_of g.D.Disk g.R.Directory c.remove-put.new.self) c.requires.unit c.requires.stripe.spared c.remove-put.ensures.uses;
       named = named_behind kept _ told c.remove-put.ensures.adds (name_left s told refl c.requires.stripe.named);
       readers = omega (arith, c.requires.stripe.readers);
+      ahead = made_behind kept _ told c.args.self.now.ahead c.remove-put.ensures.adds refl c.requires.stripe.ahead;
       numbered = numbered_others kept _ (told ∷ []) c.remove-put.ensures.adds (refl, tt) c.requires.stripe.numbered;
     }
 

@@ -1,0 +1,124 @@
+-- A flush leaves vectors that list their alternates, or shows two documents of one SHA-256.
+use Rattle.std.proofs.Common.{◌≡◌, ℕ, ◌-◌, ◌^◌, ◌<◌, ◌≤◌, ◌⊎◌, List, [], ◌∷◌, length, refl, sym, ◌∙◌, subst, arith, Bool, true, false, inl, inr}
+use Rattle.std.specs.List.{AllByRecursion}
+use Rattle.tape_base.specs.declared.digests.Digest.{Digest}
+use Rattle.tape_base.specs.declared.geometries.Geometry.{Geometry}
+use Rattle.tape_base.specs.Blocks.{blocks_of}
+use Rattle.tape_base.specs.Geometry.{budget_of}
+use Rattle.tape_base.specs.Piece.{is_vector}
+use Rattle.doc_header.specs.Moving.{moved_to}
+use Rattle.doc_header.specs.Reading.{document_digest}
+use Rattle.doc_header.proofs.MovingLaws.{moved_is_same_lem}
+use Rattle.alternate_vector.specs.Alternates.{Stored}
+use Rattle.alternate_vector.specs.Spelling.{vector_bytes}
+use Rattle.alternate_vector.proofs.Loops.{each_push}
+use Rattle.cache_model.specs.declared.record.Rec.{Rec}
+use Rattle.cache_model.specs.State.{State, Row, after_all, moved_row, place_now, state_after, without}
+use Rattle.cache_model.specs.Permit.{Permit}
+use Rattle.cache_model.specs.Given.{IsGiven}
+use Rattle.cache_model.specs.Tape.{AreApart, IsSound}
+use Rattle.cache_model.specs.Vectors.{AreTold, IsListed, IsVectorRow, vector_doc}
+use Rattle.cache_model.proofs.Found.{no_truth}
+use Rattle.cache_model.proofs.Rows.{apart-part, part-filter, part_all}
+use Rattle.cache_model.proofs.Sound.{buffer_left}
+use Rattle.cache_model.proofs.Steps.{after_all-append}
+use Rattle.cache_model.specs.Due.{due_pieces}
+use Rattle.cache_model.specs.Outcomes.{AreOutcomes, Copied, Copy, NoRoom, Outcome, Refused, Spoiled, began_record, copies_of, flush_records, front_of, moved_record, moved_records, records_of, stopped_records}
+use Rattle.cache_model.specs.Vectors.{IsOtherVector}
+use Rattle.cache_model.proofs.Alike.{given_alike}
+use Rattle.cache_model.proofs.Copies.{AreReady, IsReady, copied, copied_is, others_stand, rows_of, still_ready}
+use Rattle.cache_model.proofs.SoundFlush.{copies_part, copies_ready, due_part, front_aside, front_leaves, part_ready, stopped_aside}
+use Rattle.cache_model.proofs.Told.{each_map, each_part, listed_stays, told_aside, told_left, vectors_part}
+use Rattle.cache_model.proofs.Live.{IsFound, due_are_live}
+
+-- ---- a flush that stops
+
+pub stopped_tells : (s : State) (rows : List Row) (outcomes : List Outcome) (count : ℕ) → AreTold s → AreTold (after_all s (stopped_records rows outcomes count))
+stopped_tells s rows outcomes count told = told_aside s (stopped_records rows outcomes count) (stopped_aside rows outcomes count) told
+
+-- ---- what is copied
+
+-- the piece is live, lists its alternates where it is a vector, and its document was given
+pub record IsSaved (p : Permit) (s : State) (c : Copy) : Type 0 where
+  pub listed : IsListed s c.row
+  pub live : IsFound s c.row
+  pub given : IsGiven p s c.row c.bytes
+  pub digest : c.row.digest ≡ document_digest c.bytes
+
+are_saved : (p : Permit) (s t : State) (left : ℕ) (rows : List Row) (outcomes : List Outcome) → t.cursor ≡ s.cursor → AllByRecursion (IsListed s) rows → AllByRecursion (IsFound s) rows
+    → AreOutcomes p t left rows outcomes → AllByRecursion (IsSaved p s) (copies_of rows outcomes)
+are_saved p s t left [] outcomes same listed live h = tt
+are_saved p s t left (row ∷ rows) [] same listed live h = tt
+are_saved p s t left (row ∷ rows) (NoRoom ∷ outcomes) same listed live h = are_saved p s (after_all t (records_of row NoRoom)) left rows outcomes same listed.1 live.1 h.1
+are_saved p s t left (row ∷ rows) (Copied bytes ∷ outcomes) same listed live h = (
+  record { listed = listed.0; live = live.0; given = given_alike p t s row bytes (sym same) h.0.1; digest = h.0.2 },
+  are_saved p s t (left - row.blocks) rows outcomes same listed.1 live.1 h.1,
+)
+are_saved p s t left (row ∷ rows) (Spoiled found ∷ outcomes) same listed live h = are_saved p s (after_all t (records_of row (Spoiled found))) (left - row.blocks) rows outcomes same listed.1 live.1 h.1
+are_saved p s t left (row ∷ rows) (Refused count ∷ outcomes) same listed live h = are_saved p s (after_all t (records_of row (Refused count))) (left - row.blocks) rows outcomes same listed.1 live.1 h.1
+
+-- a payload within half a buffer
+short_enough : (g : Geometry) (bytes : ℕ) → blocks_of bytes ≤ budget_of g → bytes < 2 ^ 32
+short_enough g bytes fits = omega (arith, fits, g.accepted.agg_fits.1)
+
+abbrev moved : ℕ → Copy → Row
+moved place c = moved_row place (document_digest (moved_to place c.bytes)) c.row
+
+moved_vector : (p : Permit) (s : State) (place : ℕ) (c : Copy) (list : List Stored) → is_vector c.row.id ≡ true → IsVectorRow s c.row list → IsSaved p s c
+    → IsVectorRow s (moved place c) list ⊎ IsOtherVector p s
+moved_vector p s place c list vector v saved =
+    let fits : length (vector_bytes list) < 2 ^ 32 = short_enough s.geometry (length (vector_bytes list)) (let small = v.small in let blocks = v.blocks in omega (arith, small, blocks)) in
+    elim (moved_is_same_lem place c.bytes (vector_doc s c.row) (vector_bytes list) fits (sym saved.digest ∙ v.digest)) [
+      | inl same ↦ inl (record { lists = v.lists; spelled = v.spelled; digest = same; blocks = v.blocks; small = v.small; pin = v.pin })
+      | inr collide ↦ inr (record { row = c.row; list = list; bytes = c.bytes; vector = vector; live = saved.live; placed = v; given = saved.given; collide = collide })
+    ]
+
+-- a copy that is a vector lists its alternates too
+moved_listed : (p : Permit) (s : State) (place : ℕ) (c : Copy) (b : Bool) → is_vector c.row.id ≡ b → IsSaved p s c → IsListed s (moved place c) ⊎ IsOtherVector p s
+moved_listed p s place c false e saved = inl (λ vector. no_truth (sym vector ∙ e))
+moved_listed p s place c true e saved =
+    let l : (list : List Stored) × IsVectorRow s c.row list = saved.listed e in
+    elim (moved_vector p s place c l.0 e l.1 saved) [ inl listed ↦ inl (λ vector. (l.0, listed)) | inr other ↦ inr other ]
+
+told_moved : (u : State) (c : Copy) → IsReady u.rows c.row → IsListed u (moved (place_now u) c) → AreTold u → AreTold (state_after u (moved_record u c))
+told_moved u c ready listed told =
+    let digest : Digest = document_digest (moved_to (place_now u) c.bytes) in
+    let t : State = copied u c.row digest in
+    let before : AllByRecursion (IsListed u) (without c.row.id u.rows) = each_part (IsListed u) (part-filter _ u.rows) told.vectors in
+    subst AreTold (sym (copied_is u c.row c.row.place digest ready.0)) (record {
+      vectors = each_map (IsListed u) (IsListed t) (listed_stays u t refl) t.rows (each_push (IsListed u) (without c.row.id u.rows) (moved (place_now u) c) before listed);
+      puts = told.puts;
+      displaced = told.displaced;
+    })
+
+-- ---- copy after copy
+
+go_on : {X Y Z : Type 0} → X ⊎ Y → (X → Z ⊎ Y) → Z ⊎ Y
+go_on (inl x) f = f x
+go_on (inr y) f = inr y
+
+all_told : (p : Permit) (s u : State) (copies : List Copy) → u.geometry ≡ s.geometry → AreApart (rows_of copies) → AreReady u.rows (rows_of copies) → AllByRecursion (IsSaved p s) copies → AreTold u
+    → AreTold (after_all u (moved_records u copies)) ⊎ IsOtherVector p s
+all_told p s u [] same apart ready saved told = inl told
+all_told p s u (c ∷ copies) same apart ready saved told =
+    let t : State = state_after u (moved_record u c) in
+    go_on (moved_listed p s (place_now u) c (is_vector c.row.id) refl saved.0) (λ listed.
+    all_told p s t copies same apart.1 (still_ready u.rows t.rows c.row.id (others_stand u c) (rows_of copies) apart.0 ready.1) saved.1
+    (told_moved u c ready.0 (listed_stays s u same (moved (place_now u) c) listed) told))
+
+pub flush_tells : (p : Permit) (s : State) (now left : ℕ) (outcomes : List Outcome) → IsSound s → AreTold s → AreOutcomes p s left (due_pieces s now) outcomes
+    → AreTold (after_all s (flush_records s (due_pieces s now) outcomes)) ⊎ IsOtherVector p s
+flush_tells p s now left outcomes h told o =
+    let rows : List Row = due_pieces s now in
+    let front : List Rec = front_of rows outcomes in
+    let copies : List Copy = copies_of rows outcomes in
+    let m : State = after_all s front in
+    let u : State = state_after m (began_record s) in
+    let before : AreTold m = told_aside s front (front_aside rows outcomes) told in
+    let opened : AreTold u = told_left m (began_record s) tt (vectors_part m u refl (part_all m.rows) before.vectors) before in
+    let same : u.geometry ≡ s.geometry = (buffer_left s front (front_leaves rows outcomes)).0 in
+    let apart : AreApart rows = apart-part (due_part s now) h.apart in
+    let saved : AllByRecursion (IsSaved p s) copies = are_saved p s s left rows outcomes refl (each_part (IsListed s) (due_part s now) told.vectors) (due_are_live s now h) o in
+    let ready : AreReady u.rows (rows_of copies) = copies_ready s rows outcomes apart (part_ready s rows h (due_part s now)) in
+    subst (λ t. AreTold t ⊎ IsOtherVector p s) (sym (after_all-append s front (began_record s ∷ moved_records u copies)))
+    (all_told p s u copies same (apart-part (copies_part rows outcomes) apart) ready saved opened)

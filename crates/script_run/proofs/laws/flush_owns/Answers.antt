@@ -1,0 +1,5 @@
+use Rattle.script_run.proofs.Flushing.{flush_owns}
+use Rattle.script_run.proofs.laws.flush_owns.Goals as goal
+
+pub returns : goal.returns
+returns c = flush_owns

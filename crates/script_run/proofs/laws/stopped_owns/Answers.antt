@@ -1,0 +1,5 @@
+use Rattle.script_run.proofs.Flushing.{stopped_owns}
+use Rattle.script_run.proofs.laws.stopped_owns.Goals as goal
+
+pub returns : goal.returns
+returns c = stopped_owns

@@ -1,0 +1,257 @@
+-- What was looked at before a flush can be told and copied, and what that adds is what was asked.
+use Rattle.std.proofs.Common.{◌≡◌, ℕ, ◌+◌, ◌*◌, ◌<◌, ◌≤◌, Bool, true, false, List, [], ◌∷◌, ◌++◌, refl, sym, ◌∙◌, ap, subst, arith, inl, inr, length, Result, Ok, Err}
+use Rattle.std.specs.Prelude.{max, nat_lt, ◌&&◌}
+use Rattle.std.specs.List.{AllByRecursion}
+use Rattle.std.proofs.lemmas.Bool.{and_parts, ltb-true}
+use Rattle.edge_io.specs.Causes.{Rose}
+use Rattle.edge_io.specs.declared.source.Failed.{Failed}
+use Rattle.agg_buffer.specs.Buffer.{filled_of}
+use Rattle.cyclone.specs.Cyclone.{SameTape, Seen, WritesBuffer}
+use Rattle.tape_base.specs.Geometry.{budget_of}
+use Rattle.ats_disk.specs.Device.{State as Device, Keeps}
+use Rattle.cache_model.specs.declared.record.Rec.{Rec}
+use Rattle.cache_model.specs.declared.record.Rec.TheVariants as rec
+use Rattle.cache_model.specs.State.{Row, State, after_all, cursor_next, floor_next, live_rows, state_after}
+use Rattle.cache_model.specs.Kept.{Kept, state_of, with_records}
+use Rattle.cache_model.specs.Permit.{DeviceRead, IsAmong, Permit}
+use Rattle.cache_model.specs.Due.{due_pieces, is_due}
+use Rattle.cache_model.specs.Given.{MayCount}
+use Rattle.cache_model.specs.Legal
+use Rattle.cache_model.specs.Legal.{CanFlush, Does}
+use Rattle.cache_model.specs.Outcomes.{AreOutcomes, Copied, NoRoom, Outcome, Refused, Spoiled, began_record, copies_of, flush_records, front_of, moved_record, moved_records, stopped_front_of, stopped_records}
+use Rattle.cache_model.specs.Outcomes.{Copy}
+use Rattle.cache_model.specs.Tape.{AreApart, IsSound}
+use Rattle.cache_model.proofs.Copies.{AreReady, blocks_of_copies, rows_of}
+use Rattle.cache_model.proofs.Live.{due_are_live}
+use Rattle.cache_model.proofs.Rows.{apart-part}
+use Rattle.cache_model.proofs.Sound.{buffer_left, later_began}
+use Rattle.cache_model.proofs.SoundFlush.{copies_part, copies_ready, due_part, flush_is_sound, front_leaves, part_ready}
+use Rattle.cache_model.proofs.Walks.{all_among}
+use Rattle.cache_model.proofs.Written.{passes}
+use Rattle.stripe_due.specs.Finding.{most_passed}
+use Rattle.stripe_core.specs.declared.ahead.Ahead.{Ahead}
+use Rattle.stripe_core.specs.declared.refusal.Flushed.{Flushed}
+use Rattle.stripe_core.specs.declared.refusal.Stop.TheVariants as stop
+use Rattle.stripe_core.specs.Ahead.{LooksAhead}
+use Rattle.stripe_core.specs.Copying.{AreCopyable, AreTellable, begun_behind, copied_of, copies_among, done_records, told_of}
+use Rattle.stripe_core.specs.Covers.{Covers, Uses}
+use Rattle.stripe_core.specs.Damages.{TellNoDamage}
+use Rattle.stripe_core.specs.Flush.{FlushesAsAsked, LiveBefore}
+use Rattle.stripe_core.proofs.Flushes.{state_of-with_records}
+use Rattle.stripe_core.proofs.LiveBehind.{flush_before, flush_kinds, stopped_before, stopped_kinds}
+use Rattle.stripe_core.proofs.Readied.{IsPassed, are_copyable, copied_is, copies_within, few_copies}
+use Rattle.stripe_core.proofs.Told.{AllCame, all_came, are_tellable, few_told, last_fault, stopped_is, told_is}
+use Rattle.stripe_core.proofs.Unharmed.{no_damage-append}
+
+-- ---- a step that the flush alone makes
+
+among_more : (x : DeviceRead) (ys xs : List DeviceRead) → AllByRecursion (λ r. IsAmong r ys) xs → AllByRecursion (λ r. IsAmong r (x ∷ ys)) xs
+among_more x ys [] all = tt
+among_more x ys (r ∷ xs) all = (inr all.0, among_more x ys xs all.1)
+
+all_own : (xs : List DeviceRead) → AllByRecursion (λ r. IsAmong r xs) xs
+all_own [] = tt
+all_own (x ∷ xs) = (inl refl, among_more x xs xs (all_own xs))
+
+abbrev pub own_permit : ℕ → ℕ → ℕ → List DeviceRead → Permit
+own_permit now before after reads = record { packed = false; now = now; faults_before = before; faults = after; reads = reads }
+
+pub own_covers : (now before after : ℕ) (reads : List DeviceRead) → Covers (own_permit now before after reads) before after reads
+own_covers now before after reads = record { plain = refl; from = omega arith; upto = omega arith; knows = all_own reads }
+
+-- ---- what is due is passed by the next floor
+
+due_are_passed : (s : State) (now : ℕ) → AllByRecursion (λ (row : Row). row.place < floor_next s) (due_pieces s now)
+due_are_passed s now = all_among (λ (row : Row). row.place < floor_next s) (due_pieces s now) (λ row m.
+    let test : (nat_lt row.place (floor_next s) && is_due s now row) ≡ true = passes (λ r. nat_lt r.place (floor_next s) && is_due s now r) (live_rows s) row m in
+    ltb-true row.place (floor_next s) (and_parts (nat_lt row.place (floor_next s)) (is_due s now row) test).0)
+
+-- ---- what was looked at
+
+module _ (now : ℕ) (s : State) (before : ℕ) (mid : Device) (a : Ahead) (sound : IsSound s) (looks : LooksAhead now s before mid a) where
+  abbrev due_rows : List Row
+  due_rows = due_pieces s now
+
+  abbrev permit : Permit
+  permit = own_permit now before mid.faults looks.reads
+
+  are : AreOutcomes permit s (budget_of s.geometry) due_rows looks.outcomes
+  are = looks.are permit (own_covers now before mid.faults looks.reads)
+
+  all : AllCame due_rows looks.outcomes a.fates.items
+  all = all_came due_rows looks.outcomes a.fates.items looks.fates
+
+  apart : AreApart due_rows
+  apart = apart-part (due_part s now) sound.apart
+
+  pub tellable : (done : Bool) (faults : ℕ) → mid.faults ≤ faults → AreTellable done s faults a.due.items a.fates.items
+  tellable done faults few =
+      subst (λ cs. AreTellable done s faults cs a.fates.items) (sym looks.due)
+      (are_tellable done permit s s (budget_of s.geometry) faults all are few apart (due_are_live s now sound))
+
+  told_front : told_of true a.due.items a.fates.items ≡ front_of due_rows looks.outcomes
+  told_front = ap (λ cs. told_of true cs a.fates.items) looks.due ∙ told_is all
+
+  stopped_front : told_of false a.due.items a.fates.items ≡ stopped_front_of due_rows looks.outcomes
+  stopped_front = ap (λ cs. told_of false cs a.fates.items) looks.due ∙ stopped_is all
+
+  abbrev mid_state : State
+  mid_state = after_all s (front_of due_rows looks.outcomes)
+
+  abbrev begun : State
+  begun = state_after mid_state (began_record s)
+
+  ready : AreReady begun.rows (rows_of (copies_of due_rows looks.outcomes))
+  ready = copies_ready s due_rows looks.outcomes apart (part_ready s due_rows sound (due_part s now))
+
+  buffer : (mid_state.geometry ≡ s.geometry) × (mid_state.cursor ≡ s.cursor) × (mid_state.filled ≡ s.filled)
+  buffer = buffer_left s (front_of due_rows looks.outcomes) (front_leaves due_rows looks.outcomes)
+
+  passed : AllByRecursion (IsPassed begun) due_rows
+  passed = rw buffer.0 (due_are_passed s now)
+
+  sum : blocks_of_copies (copies_of due_rows looks.outcomes) ≤ budget_of s.geometry
+  sum = copies_within permit s (budget_of s.geometry) all are
+
+  pub copyable : length a.bytes.items ≡ 512 * budget_of s.geometry → AreCopyable (begun_behind s (told_of true a.due.items a.fates.items)) 0 a.due.items a.fates.items a.bytes.items
+  copyable sized =
+      subst (λ told. AreCopyable (begun_behind s told) 0 a.due.items a.fates.items a.bytes.items) (sym told_front)
+      (subst (λ cs. AreCopyable begun 0 cs a.fates.items a.bytes.items) (sym looks.due)
+      (are_copyable permit s begun (budget_of s.geometry) 0 a.bytes.items all are looks.stand (omega (arith, sized))
+      (apart-part (copies_part due_rows looks.outcomes) apart) ready passed (rw buffer.0 (omega (arith, sum)))))
+
+  done_is : done_records s a.due.items a.fates.items a.bytes.items ≡ flush_records s due_rows looks.outcomes
+  done_is =
+      ap (λ told. told ++ rec.Began (cursor_next s) (floor_next s) ∷ copied_of (begun_behind s told) 0 a.due.items a.fates.items a.bytes.items) told_front
+      ∙ ap (λ recs. front_of due_rows looks.outcomes ++ began_record s ∷ recs)
+      (ap (λ cs. copied_of begun 0 cs a.fates.items a.bytes.items) looks.due ∙ copied_is begun 0 a.bytes.items all looks.stand)
+
+  -- ---- how many records and copies they are
+
+  pub few_records : (done : Bool) → length (told_of done a.due.items a.fates.items) + copies_among a.fates.items ≤ 2 * most_passed s.geometry
+  few_records done =
+      let counts = few_told done s mid.faults a.due.items a.fates.items (tellable done mid.faults (omega arith)) in
+      omega (arith, counts, looks.few)
+
+  pub few_entries : copies_among a.fates.items ≤ budget_of s.geometry
+  few_entries = omega (arith, few_copies begun.rows all ready, sum)
+
+  -- ---- the room behind them
+
+  pub half_is_free : (after_all s (done_records s a.due.items a.fates.items a.bytes.items)).filled ≤ budget_of s.geometry
+  half_is_free = rw done_is (flush_is_sound permit s now looks.outcomes sound are).2
+
+  -- ---- the last fault among them
+
+  fault_low : s.fault ≤ mid.faults → (after_all s (stopped_front_of due_rows looks.outcomes)).fault ≤ mid.faults
+  fault_low low =
+      subst (λ told. (after_all s told).fault ≤ mid.faults) stopped_front (last_fault false s mid.faults a.due.items a.fates.items (tellable false mid.faults (omega arith)) low)
+
+-- ---- damage among the records
+
+moved_unharmed : (u : State) (copies : List Copy) → TellNoDamage (moved_records u copies)
+moved_unharmed u [] = tt
+moved_unharmed u (c ∷ copies) = (refl, moved_unharmed (state_after u (moved_record u c)) copies)
+
+flush_unharmed : (s : State) (rows : List Row) (outcomes : List Outcome) → TellNoDamage (front_of rows outcomes) → TellNoDamage (flush_records s rows outcomes)
+flush_unharmed s rows outcomes h =
+    no_damage-append (front_of rows outcomes) _ h (refl, moved_unharmed (state_after (after_all s (front_of rows outcomes)) (began_record s)) (copies_of rows outcomes))
+
+front_unharmed : (rows : List Row) (outcomes : List Outcome) → TellNoDamage (front_of rows outcomes) → TellNoDamage (stopped_front_of rows outcomes)
+front_unharmed [] outcomes h = tt
+front_unharmed (row ∷ rows) [] h = tt
+front_unharmed (row ∷ rows) (NoRoom ∷ outcomes) h = front_unharmed rows outcomes h.1
+front_unharmed (row ∷ rows) (Copied bytes ∷ outcomes) h = front_unharmed rows outcomes h
+front_unharmed (row ∷ rows) (Spoiled found ∷ outcomes) h = (h.0, front_unharmed rows outcomes h.1)
+front_unharmed (row ∷ rows) (Refused count ∷ outcomes) h = (refl, front_unharmed rows outcomes h.1.1)
+
+stopped_unharmed : (rows : List Row) (outcomes : List Outcome) (count : ℕ) → TellNoDamage (front_of rows outcomes) → TellNoDamage (stopped_records rows outcomes count)
+stopped_unharmed rows outcomes count h = no_damage-append (stopped_front_of rows outcomes) (rec.Fault count ∷ []) (front_unharmed rows outcomes h) (refl, tt)
+
+-- ---- what was asked
+
+-- the device was asked once more
+pub record IsLaterDevice (mid after : Device) : Type 0 where
+  pub faults : mid.faults ≤ after.faults
+  pub trust : after.trust ≤ mid.trust
+
+earlier_covers : (p : Permit) (before mid after : ℕ) (reads : List DeviceRead) → mid ≤ after → Covers p before after reads → Covers p before mid reads
+earlier_covers p before mid after reads later c = record { plain = c.plain; from = c.from; upto = omega (arith, later, c.upto); knows = c.knows }
+
+pub flush_asked : (now : ℕ) (old new : Kept) (before : ℕ) (mid after : Device) (a : Ahead) (flushed : Flushed) → IsSound (state_of old) → CanFlush (state_of old)
+    → LooksAhead now (state_of old) before mid a → IsLaterDevice mid after → new ≡ with_records old (done_records (state_of old) a.due.items a.fates.items a.bytes.items)
+    → FlushesAsAsked now old new before after (Ok flushed)
+flush_asked now old new before mid after a flushed sound able looks later is =
+    let s : State = state_of old in
+    let records : done_records s a.due.items a.fates.items a.bytes.items ≡ flush_records s (due_pieces s now) looks.outcomes = done_is now s before mid a sound looks in
+    let added : List Rec = flush_records s (due_pieces s now) looks.outcomes in
+    let adds : new ≡ with_records old added = is ∙ ap (with_records old) records in
+    record {
+      added = added;
+      reads = looks.reads;
+      adds = adds;
+      kinds = flush_kinds s (due_pieces s now) looks.outcomes;
+      live = subst (LiveBefore s) (sym (ap state_of adds ∙ state_of-with_records old added)) (flush_before s now looks.outcomes sound (later_began s sound).floor);
+      unharmed = λ told. flush_unharmed s (due_pieces s now) looks.outcomes (looks.unharmed (omega (arith, told, later.trust)));
+      does = λ p moment covers. Legal.DoesFlush.flushes (record {
+        outcomes = looks.outcomes;
+        can = able;
+        are = subst (λ n. AreOutcomes p s (budget_of s.geometry) (due_pieces s n) looks.outcomes) (sym moment) (looks.are p (earlier_covers p before mid.faults after.faults looks.reads later.faults covers));
+        is = ap (λ n. flush_records s (due_pieces s n) looks.outcomes) (sym moment);
+      });
+    }
+
+lower_rose : (a b n : ℕ) → a ≤ b → Rose b n → Rose a n
+lower_rose a b n h r = omega (arith, h, r)
+
+may_count : (p : Permit) (t : State) (before mid count : ℕ) → p.faults_before ≤ before → before ≤ mid → t.fault ≤ mid → count ≤ p.faults → Rose mid count → MayCount p t count
+may_count p t before mid count from later low reached rose = record { rose = lower_rose (max p.faults_before t.fault) mid count (omega (arith, from, later, low)) rose; reached = reached }
+
+pub stop_asked : (now : ℕ) (old new : Kept) (before : ℕ) (mid after : Device) (a : Ahead) → IsSound (state_of old) → CanFlush (state_of old) → (state_of old).fault ≤ before → before ≤ mid.faults
+    → LooksAhead now (state_of old) before mid a → IsLaterDevice mid after → Rose mid.faults after.faults
+    → new ≡ with_records old (told_of false a.due.items a.fates.items ++ rec.Fault after.faults ∷ [])
+    → FlushesAsAsked now old new before after (Err (stop.DeviceFault after.faults))
+stop_asked now old new before mid after a sound able low first looks later rose is =
+    let s : State = state_of old in
+    let count : ℕ = after.faults in
+    let added : List Rec = stopped_records (due_pieces s now) looks.outcomes count in
+    let adds : new ≡ with_records old added = is ∙ ap (λ told. with_records old (told ++ rec.Fault count ∷ [])) (stopped_front now s before mid a sound looks) in
+    let last : (after_all s (stopped_front_of (due_pieces s now) looks.outcomes)).fault ≤ mid.faults = fault_low now s before mid a sound looks (omega (arith, low, first)) in
+    record {
+      added = added;
+      reads = looks.reads;
+      adds = adds;
+      kinds = stopped_kinds (due_pieces s now) looks.outcomes count;
+      live = subst (LiveBefore s) (sym (ap state_of adds ∙ state_of-with_records old added)) (stopped_before s (due_pieces s now) looks.outcomes count);
+      unharmed = λ told. stopped_unharmed (due_pieces s now) looks.outcomes count (looks.unharmed (omega (arith, told, later.trust)));
+      does = λ p moment covers. Legal.DoesFlush.stops count (record {
+        outcomes = looks.outcomes;
+        can = able;
+        are = subst (λ n. AreOutcomes p s (budget_of s.geometry) (due_pieces s n) looks.outcomes) (sym moment) (looks.are p (earlier_covers p before mid.faults after.faults looks.reads later.faults covers));
+        counts = subst (λ n. MayCount p (after_all s (stopped_front_of (due_pieces s n) looks.outcomes)) count) (sym moment)
+            (may_count p (after_all s (stopped_front_of (due_pieces s now) looks.outcomes)) before mid.faults count covers.from first last covers.upto rose);
+        is = ap (λ n. stopped_records (due_pieces s n) looks.outcomes count) (sym moment);
+      });
+    }
+
+-- ---- what it uses up
+
+pub flush_uses : (n e records entries room left : ℕ) (c mid out new : Seen) (result : Result (Unit {0}) Failed) → SameTape c mid → Keeps 0 0 c.device mid.device → c.device.faults ≤ mid.device.faults
+    → SameTape mid out → WritesBuffer mid out result → filled_of c.buffer ≤ c.geometry.agg → Uses n e 0 0 room left out new → n ≤ records → e ≤ entries
+    → Uses records entries 1 c.geometry.agg room left c new
+flush_uses n e records entries room left c mid out new result first read later second wrote few uses fits enters =
+    let geometry : out.geometry ≡ c.geometry = ap (λ (y : Seen). y.geometry) second ∙ ap (λ (y : Seen). y.geometry) first in
+    let spare : out.spare ≡ c.spare = ap (λ (y : Seen). y.spare) second ∙ ap (λ (y : Seen). y.spare) first in
+    let filled : filled_of mid.buffer ≡ filled_of c.buffer = ap (λ (y : Seen). filled_of y.buffer) first in
+    record {
+      same = uses.same ∙ geometry;
+      of_records = omega (arith, uses.of_records, fits);
+      of_entries = omega (arith, uses.of_entries, enters, spare);
+      device = record {
+        size = uses.device.size ∙ (wrote.keeps.size ∙ read.size);
+        trust = omega (arith, uses.device.trust, wrote.keeps.trust, read.trust);
+        calls = omega (arith, uses.device.calls, wrote.keeps.calls, read.calls);
+        blocks = omega (arith, uses.device.blocks, wrote.keeps.blocks, read.blocks, filled, few);
+      };
+      later = omega (arith, uses.later, wrote.cause.later, later);
+    }

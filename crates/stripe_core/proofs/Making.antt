@@ -1,0 +1,114 @@
+-- A flush that is asked for where a piece has no room is the one that makes room for it.
+use Rattle.std.proofs.Common.{◌≡◌, ℕ, ◌+◌, ◌<◌, ◌≤◌, List, [], refl, sym, ap, arith, true, false, Ok, Err}
+use Rattle.std.specs.Prelude.{IfErr}
+use Rattle.std.proofs.lemmas.Bool.{le-leb, leb-false}
+use Rattle.std.proofs.lemmas.List.{append-nil}
+use Rattle.tape_base.specs.declared.geometries.Geometry.{Geometry}
+use Rattle.tape_base.specs.Blocks.{blocks_of}
+use Rattle.tape_base.specs.Geometry.{budget_of}
+use Rattle.ats_disk.specs.Device.{State as Device}
+use Rattle.cache_model.specs.declared.record.Rec.{Rec}
+use Rattle.cache_model.specs.State.{State}
+use Rattle.cache_model.specs.Kept.{Kept, state_of, with_records}
+use Rattle.cache_model.specs.Permit.{Done, Fails, Permit, Reason, Stays}
+use Rattle.cache_model.specs.Room.{has_room}
+use Rattle.cache_model.specs.Legal.{DoesFlush, MakesRoom}
+use Rattle.stripe_core.specs.declared.refusal.Flushed.{Flushed}
+use Rattle.stripe_core.specs.declared.refusal.Refusal.{Refusal}
+use Rattle.stripe_core.specs.declared.refusal.Refusal.TheVariants as refusal
+use Rattle.stripe_core.specs.declared.refusal.Stop.{Stop}
+use Rattle.stripe_core.specs.declared.refusal.Stop.TheVariants as stop
+use Rattle.stripe_core.specs.Flush.{FlushesAsAsked, LiveBefore, StopsWith, stop_end}
+use Rattle.stripe_core.specs.Place.{RoomsAsAsked}
+use Rattle.stripe_core.specs.Stripe.{Answers}
+
+-- ---- none is needed
+
+live_still : (s : State) → LiveBefore s s
+live_still s = λ id row h. (row, h, record { id = refl; blocks = refl; pin = refl; alternates = refl })
+
+none_added : (k : Kept) → k ≡ with_records k []
+none_added k = ap (λ recs. record k { since = recs }) (sym (append-nil k.since))
+
+pub room_stands : (now : ℕ) (k : Kept) (before : ℕ) (after : Device) (bytes : ℕ) (u : Unit {0}) → has_room (state_of k) bytes ≡ true → RoomsAsAsked now k k before after bytes (Ok u)
+room_stands now k before after bytes u some = record {
+  added = [];
+  reads = [];
+  adds = none_added k;
+  kinds = tt;
+  live = live_still (state_of k);
+  unharmed = λ told. tt;
+  does = λ p at covers. rw some refl;
+}
+
+-- half of a buffer takes any piece
+pub room_behind : (s t : State) (bytes : ℕ) → t.geometry ≡ s.geometry → t.filled ≤ budget_of t.geometry → blocks_of bytes ≤ budget_of s.geometry → has_room t bytes ≡ true
+room_behind s t bytes same few small =
+    let agg : t.geometry.agg ≡ s.geometry.agg = ap (λ (g : Geometry). g.agg) same in
+    le-leb (t.filled + blocks_of bytes) t.geometry.agg (omega (arith, agg, few, small))
+
+-- ---- it makes room, or stops
+
+-- where a piece has no room, the buffer is not empty, so a flush begins the next one
+done_makes : (p : Permit) (s : State) (bytes : ℕ) (added : List Rec) → has_room s bytes ≡ false → blocks_of bytes ≤ budget_of s.geometry → DoesFlush p s added Done → MakesRoom p s bytes added Stays
+done_makes p s bytes added none small (DoesFlush.empty quiet nothing is) =
+    let above : s.geometry.agg < s.filled + blocks_of bytes = leb-false (s.filled + blocks_of bytes) s.geometry.agg none in
+    absurd (omega (arith, above, small, nothing))
+done_makes p s bytes added none small (DoesFlush.flushes m) = MakesRoom.flushes none m
+
+fails_makes : (p : Permit) (s : State) (bytes : ℕ) (added : List Rec) (why : Reason) → has_room s bytes ≡ false → DoesFlush p s added (Fails why) → MakesRoom p s bytes added (Fails why)
+fails_makes p s bytes added why none (DoesFlush.stops count m) = MakesRoom.stops count none m
+fails_makes p s bytes added why none (DoesFlush.exhausted quiet some above is) = MakesRoom.exhausted none above is
+
+stop_makes : (p : Permit) (s : State) (bytes : ℕ) (added : List Rec) (why : Stop) → has_room s bytes ≡ false → DoesFlush p s added (stop_end why) → MakesRoom p s bytes added (stop_end why)
+stop_makes p s bytes added (stop.DeviceFault count) none does = fails_makes p s bytes added _ none does
+stop_makes p s bytes added (stop.Exhausted number) none does = fails_makes p s bytes added _ none does
+
+module _ (now : ℕ) (old new : Kept) (before : ℕ) (after : Device) (bytes : ℕ) (none : has_room (state_of old) bytes ≡ false) where
+  pub flush_makes : (flushed : Flushed) (u : Unit {0}) → blocks_of bytes ≤ budget_of (state_of old).geometry
+      → FlushesAsAsked now old new before after (Ok flushed) → RoomsAsAsked now old new before after bytes (Ok u)
+  flush_makes flushed u small h = record {
+    added = h.added;
+    reads = h.reads;
+    adds = h.adds;
+    kinds = h.kinds;
+    live = h.live;
+    unharmed = h.unharmed;
+    does = λ p at covers. rw none (done_makes p (state_of old) bytes h.added none small (h.does p at covers));
+  }
+
+  pub stop_makes_none : (why : Stop) → FlushesAsAsked now old new before after (Err why) → RoomsAsAsked now old new before after bytes (Err why)
+  stop_makes_none why h = record {
+    added = h.added;
+    reads = h.reads;
+    adds = h.adds;
+    kinds = h.kinds;
+    live = h.live;
+    unharmed = h.unharmed;
+    does = λ p at covers. stop_makes p (state_of old) bytes h.added why none (h.does p at covers);
+  }
+
+  pub refusal_makes_none : (why : Refusal) (same : Type 0) → Answers {X = Flushed} (Err why) (FlushesAsAsked now old new before after) same
+      → Answers {X = Unit {0}} (Err why) (RoomsAsAsked now old new before after bytes) same
+  refusal_makes_none (refusal.DeviceFault count) same h = stop_makes_none (stop.DeviceFault count) h
+  refusal_makes_none (refusal.Exhausted number) same h = stop_makes_none (stop.Exhausted number) h
+  refusal_makes_none (refusal.Memory e) same h = h
+  refusal_makes_none refusal.TooManyWriters same h = h
+  refusal_makes_none refusal.TooManyFragments same h = h
+  refusal_makes_none (refusal.VectorTooLarge size) same h = h
+  refusal_makes_none (refusal.Lost index why) same h = h
+  refusal_makes_none refusal.Sealed same h = h
+  refusal_makes_none refusal.NoSuchWriter same h = h
+
+-- why it stops says nothing of what it would have answered
+pub stops_alike : (s : State) (faults : ℕ) (why : Refusal) → Answers {X = Flushed} (Err why) (λ r. IfErr r (StopsWith s faults)) (Unit {0})
+    → Answers {X = Unit {0}} (Err why) (λ r. IfErr r (StopsWith s faults)) (Unit {0})
+stops_alike s faults (refusal.DeviceFault count) stops = stops
+stops_alike s faults (refusal.Exhausted number) stops = stops
+stops_alike s faults (refusal.Memory e) stops = stops
+stops_alike s faults refusal.TooManyWriters stops = stops
+stops_alike s faults refusal.TooManyFragments stops = stops
+stops_alike s faults (refusal.VectorTooLarge size) stops = stops
+stops_alike s faults (refusal.Lost index why) stops = stops
+stops_alike s faults refusal.Sealed stops = stops
+stops_alike s faults refusal.NoSuchWriter stops = stops

@@ -1,0 +1,177 @@
+-- Pieces that were looked at, and one more behind them.
+use Rattle.std.proofs.Common.{◌≡◌, ℕ, ◌+◌, ◌-◌, ◌*◌, ◌≤◌, List, [], ◌∷◌, ◌++◌, refl, sym, ◌∙◌, ap, subst, arith, take, drop, append_assoc}
+use Rattle.std.specs.List.{AllByRecursion}
+use Rattle.std.proofs.lemmas.List.{append-nil, drop-take, take-take}
+use Rattle.ats_disk.specs.Device.{State as Device, IsTold}
+use Rattle.tape_base.specs.Geometry.{budget_of}
+use Rattle.cache_model.specs.State.{State, Row, after_all}
+use Rattle.cache_model.specs.Permit.{DeviceRead, IsAmong, Permit}
+use Rattle.cache_model.specs.Outcomes.{AreOutcomes, Copied, IsOutcome, NoRoom, Outcome, Refused, Spoiled, front_of, left_behind, records_of}
+use Rattle.cache_model.proofs.Steps.{after_all-append}
+use Rattle.stripe_core.specs.declared.ahead.Ahead.{Ahead}
+use Rattle.stripe_core.specs.declared.ahead.Fate.{Fate}
+use Rattle.stripe_core.specs.Ahead.{AreFates, IsFate, StandFrom, StandsAt, taken_by, taken_by_all}
+use Rattle.stripe_core.specs.Looks.{CountsUpTo, Looked, LooksOn}
+use Rattle.stripe_core.specs.Covers.{Covers}
+use Rattle.stripe_core.specs.Damages.{TellNoDamage}
+
+-- ---- lists of the same length
+
+abbrev ArePaired : List Row → List Outcome → Type 0
+ArePaired [] [] = Unit {0}
+ArePaired [] (o ∷ outcomes) = ⊥
+ArePaired (row ∷ rows) [] = ⊥
+ArePaired (row ∷ rows) (o ∷ outcomes) = ArePaired rows outcomes
+
+paired : (rows : List Row) (outcomes : List Outcome) (fates : List Fate) → AreFates rows outcomes fates → ArePaired rows outcomes
+paired [] [] fates h = tt
+paired [] (o ∷ outcomes) [] h = absurd h
+paired [] (o ∷ outcomes) (f ∷ fates) h = absurd h
+paired (row ∷ rows) [] [] h = absurd h
+paired (row ∷ rows) [] (f ∷ fates) h = absurd h
+paired (row ∷ rows) (o ∷ outcomes) [] h = absurd h
+paired (row ∷ rows) (o ∷ outcomes) (f ∷ fates) h = paired rows outcomes fates h.1
+
+fates_more : (rows : List Row) (outcomes : List Outcome) (fates : List Fate) (row : Row) (o : Outcome) (f : Fate) → AreFates rows outcomes fates → IsFate row o f
+    → AreFates (rows ++ row ∷ []) (outcomes ++ o ∷ []) (fates ++ f ∷ [])
+fates_more [] [] [] row o f h k = (k, tt)
+fates_more [] [] (g ∷ fates) row o f h k = absurd h
+fates_more [] (x ∷ outcomes) [] row o f h k = absurd h
+fates_more [] (x ∷ outcomes) (g ∷ fates) row o f h k = absurd h
+fates_more (r ∷ rows) [] [] row o f h k = absurd h
+fates_more (r ∷ rows) [] (g ∷ fates) row o f h k = absurd h
+fates_more (r ∷ rows) (x ∷ outcomes) [] row o f h k = absurd h
+fates_more (r ∷ rows) (x ∷ outcomes) (g ∷ fates) row o f h k = (h.0, fates_more rows outcomes fates row o f h.1 k)
+
+front_more : (rows : List Row) (outcomes : List Outcome) (row : Row) (o : Outcome) → ArePaired rows outcomes
+    → front_of (rows ++ row ∷ []) (outcomes ++ o ∷ []) ≡ front_of rows outcomes ++ records_of row o
+front_more [] [] row o h = append-nil (records_of row o)
+front_more [] (x ∷ outcomes) row o h = absurd h
+front_more (r ∷ rows) [] row o h = absurd h
+front_more (r ∷ rows) (x ∷ outcomes) row o h = ap (λ recs. records_of r x ++ recs) (front_more rows outcomes row o h) ∙ sym (append_assoc (records_of r x) (front_of rows outcomes) (records_of row o))
+
+taken_more : (rows : List Row) (outcomes : List Outcome) (row : Row) (o : Outcome) → ArePaired rows outcomes
+    → taken_by_all (rows ++ row ∷ []) (outcomes ++ o ∷ []) ≡ taken_by_all rows outcomes + taken_by row o
+taken_more [] [] row o h = omega arith
+taken_more [] (x ∷ outcomes) row o h = absurd h
+taken_more (r ∷ rows) [] row o h = absurd h
+taken_more (r ∷ rows) (x ∷ outcomes) row o h = omega (arith, taken_more rows outcomes row o h)
+
+-- ---- the memory
+
+-- what stands below a place where nothing changed
+part_same : (from size end : ℕ) (old new : List ℕ) → from + size ≤ end → take end new ≡ take end old → take size (drop from new) ≡ take size (drop from old)
+part_same from size end old new within same =
+    let front : take (from + size) new ≡ take (from + size) old =
+    sym (take-take (from + size) end new within) ∙ (ap (take (from + size)) same ∙ take-take (from + size) end old within) in
+    sym (drop-take from size new) ∙ (ap (drop from) front ∙ drop-take from size old)
+
+still_stands : (at end : ℕ) (row : Row) (o : Outcome) (old new : List ℕ) → at + taken_by row o ≤ end → take (512 * end) new ≡ take (512 * end) old → StandsAt at row o old → StandsAt at row o new
+still_stands at end row NoRoom old new within same h = tt
+still_stands at end row (Copied bytes) old new within same h = part_same (512 * at) (512 * row.blocks) (512 * end) old new (omega arith) same ∙ h
+still_stands at end row (Spoiled found) old new within same h = tt
+still_stands at end row (Refused count) old new within same h = tt
+
+stand_more : (at end : ℕ) (rows : List Row) (outcomes : List Outcome) (row : Row) (o : Outcome) (old new : List ℕ) → ArePaired rows outcomes → at + taken_by_all rows outcomes ≡ end
+    → take (512 * end) new ≡ take (512 * end) old → StandFrom at rows outcomes old → StandsAt end row o new → StandFrom at (rows ++ row ∷ []) (outcomes ++ o ∷ []) new
+stand_more at end [] [] row o old new p is same h k = (subst (λ n. StandsAt n row o new) (let e : end ≡ at = omega (arith, is) in e) k, tt)
+stand_more at end [] (x ∷ outcomes) row o old new p is same h k = absurd p
+stand_more at end (r ∷ rows) [] row o old new p is same h k = absurd p
+stand_more at end (r ∷ rows) (x ∷ outcomes) row o old new p is same h k = (
+  still_stands at end r x old new (omega (arith, is)) same h.0,
+  stand_more (at + taken_by r x) end rows outcomes row o old new p (omega (arith, is)) same h.1 k,
+)
+
+-- ---- the outcomes
+
+left_is : (left : ℕ) (row : Row) (o : Outcome) → left_behind left row o ≡ left - taken_by row o
+left_is left row NoRoom = omega arith
+left_is left row (Copied bytes) = refl
+left_is left row (Spoiled found) = refl
+left_is left row (Refused count) = refl
+
+outcomes_more : (p : Permit) (s : State) (left : ℕ) (rows : List Row) (outcomes : List Outcome) (row : Row) (o : Outcome) → AreOutcomes p s left rows outcomes
+    → IsOutcome p (after_all s (front_of rows outcomes)) (left - taken_by_all rows outcomes) row o → AreOutcomes p s left (rows ++ row ∷ []) (outcomes ++ o ∷ [])
+outcomes_more p s left [] [] row o h k = (subst (λ n. IsOutcome p s n row o) (let e : left - 0 ≡ left = omega arith in e) k, tt)
+outcomes_more p s left [] (x ∷ outcomes) row o h k = absurd h
+outcomes_more p s left (r ∷ rows) [] row o h k = absurd h
+outcomes_more p s left (r ∷ rows) (x ∷ outcomes) row o h k =
+    let behind : left - (taken_by r x + taken_by_all rows outcomes) ≡ left_behind left r x - taken_by_all rows outcomes = omega (arith, left_is left r x) in (
+      h.0,
+      outcomes_more p (after_all s (records_of r x)) (left_behind left r x) rows outcomes row o h.1
+          (subst (λ n. IsOutcome p (after_all (after_all s (records_of r x)) (front_of rows outcomes)) n row o) behind
+          (subst (λ t. IsOutcome p t (left - (taken_by r x + taken_by_all rows outcomes)) row o) (after_all-append s (records_of r x) (front_of rows outcomes)) k)),
+    )
+
+-- the records of a piece leave the buffer, and tell no later fault
+cursor_stays : (s : State) (row : Row) (o : Outcome) → (after_all s (records_of row o)).cursor ≡ s.cursor
+cursor_stays s row NoRoom = refl
+cursor_stays s row (Copied bytes) = refl
+cursor_stays s row (Spoiled found) = refl
+cursor_stays s row (Refused count) = refl
+
+fault_within : (s : State) (row : Row) (o : Outcome) (faults : ℕ) → s.fault ≤ faults → CountsUpTo faults o → (after_all s (records_of row o)).fault ≤ faults
+fault_within s row NoRoom faults h k = h
+fault_within s row (Copied bytes) faults h k = h
+fault_within s row (Spoiled found) faults h k = h
+fault_within s row (Refused count) faults h k = k
+
+-- ---- what covers the whole covers each part
+
+all_parts : {X : Type 0} (P : X → Type 0) (xs ys : List X) → AllByRecursion P (xs ++ ys) → AllByRecursion P xs × AllByRecursion P ys
+all_parts P [] ys h = (tt, h)
+all_parts P (x ∷ xs) ys h = let rest = all_parts P xs ys h.1 in ((h.0, rest.0), rest.1)
+
+both_undamaged : (a b : List Rattle.cache_model.specs.declared.record.Rec.Rec) → TellNoDamage a → TellNoDamage b → TellNoDamage (a ++ b)
+both_undamaged [] b h k = k
+both_undamaged (r ∷ a) b h k = (h.0, both_undamaged a b h.1 k)
+
+covers_first : (p : Permit) (before mid after : ℕ) (reads more : List DeviceRead) → mid ≤ after → Covers p before after (reads ++ more) → Covers p before mid reads
+covers_first p before mid after reads more later c =
+    let upto : after ≤ p.faults = c.upto in
+    record { plain = c.plain; from = c.from; upto = omega arith; knows = (all_parts (λ (r : DeviceRead). IsAmong r p.reads) reads more c.knows).0 }
+
+covers_last : (p : Permit) (before mid after : ℕ) (reads more : List DeviceRead) → before ≤ mid → Covers p before after (reads ++ more) → Covers p mid after more
+covers_last p before mid after reads more later c =
+    let from : p.faults_before ≤ before = c.from in
+    record { plain = c.plain; from = omega arith; upto = c.upto; knows = (all_parts (λ (r : DeviceRead). IsAmong r p.reads) reads more c.knows).1 }
+
+-- ---- one piece more
+
+pub looked_none : (s : State) (device : Device) (a : Ahead) → a.fates.items ≡ [] → s.fault ≤ device.faults → Looked s device.faults device [] 0 a
+looked_none s device a none low = record {
+  outcomes = [];
+  reads = [];
+  fates = subst (AreFates [] []) (sym none) tt;
+  stand = tt;
+  taken = refl;
+  unharmed = λ told. tt;
+  are = λ p covers. tt;
+  cursor = refl;
+  fault = low;
+}
+
+pub looked_more : (s : State) (before : ℕ) (mid after : Device) (rows : List Row) (row : Row) (at end : ℕ) (old new : Ahead) → before ≤ mid.faults → mid.faults ≤ after.faults → after.trust ≤ mid.trust
+    → Looked s before mid rows at old → LooksOn s mid.faults after row at end old new → Looked s before after (rows ++ row ∷ []) end new
+looked_more s before mid after rows row at end old new first last trust h k =
+    let pair : ArePaired rows h.outcomes = paired rows h.outcomes old.fates.items h.fates in
+    let t : State = after_all s (front_of rows h.outcomes) in
+    let front : front_of (rows ++ row ∷ []) (h.outcomes ++ k.outcome ∷ []) ≡ front_of rows h.outcomes ++ records_of row k.outcome = front_more rows h.outcomes row k.outcome pair in
+    let behind : after_all s (front_of (rows ++ row ∷ []) (h.outcomes ++ k.outcome ∷ [])) ≡ after_all t (records_of row k.outcome) =
+    ap (after_all s) front ∙ after_all-append s (front_of rows h.outcomes) (records_of row k.outcome) in
+    let low : t.fault ≤ mid.faults = h.fault in
+    record {
+      outcomes = h.outcomes ++ k.outcome ∷ [];
+      reads = h.reads ++ k.reads;
+      fates = subst (AreFates (rows ++ row ∷ []) (h.outcomes ++ k.outcome ∷ [])) (sym k.notes) (fates_more rows h.outcomes old.fates.items row k.outcome k.note h.fates k.fate);
+      stand = stand_more 0 at rows h.outcomes row k.outcome old.bytes.items new.bytes.items pair (omega (arith, h.taken)) k.stay h.stand k.stands;
+      taken = omega (arith, k.taken, h.taken, taken_more rows h.outcomes row k.outcome pair);
+      unharmed = λ told.
+          subst TellNoDamage (sym front)
+          (both_undamaged (front_of rows h.outcomes) (records_of row k.outcome) (h.unharmed (let before_told : IsTold mid = omega (arith, told, trust) in before_told)) (k.unharmed told));
+      are = λ p covers.
+          outcomes_more p s (budget_of s.geometry) rows h.outcomes row k.outcome (h.are p (covers_first p before mid.faults after.faults h.reads k.reads last covers))
+          (subst (λ n. IsOutcome p t (budget_of s.geometry - n) row k.outcome) h.taken (k.is p t (covers_last p before mid.faults after.faults h.reads k.reads first covers) h.cursor low));
+      cursor = ap (λ (x : State). x.cursor) behind ∙ (cursor_stays t row k.outcome ∙ h.cursor);
+      fault = subst (λ (x : State). x.fault ≤ after.faults) (sym behind) (fault_within t row k.outcome after.faults (omega arith) k.count);
+    }

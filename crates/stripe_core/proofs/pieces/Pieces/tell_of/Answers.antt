@@ -1,0 +1,12 @@
+use Rattle.std.proofs.Common.{[], ◌∷◌}
+use Rattle.cache_model.specs.declared.record.Rec.TheVariants as rec
+use Rattle.stripe_core.specs.Pieces.{kept_of, seen_of, state_now}
+use Rattle.stripe_core.proofs.Flushes.{counted_is_held}
+use Rattle.stripe_core.proofs.Telling.{held_behind}
+use Rattle.stripe_core.proofs.pieces.Pieces.tell_of.Goals as goal
+
+pub leave-requires-in-Refused-clause-pieces : goal.leave-requires-in-Refused-clause-pieces
+leave-requires-in-Refused-clause-pieces g c =
+    let seen = seen_of g.D.Disk g.R.Directory c.args.self.now in
+    held_behind (kept_of g.C.Chronicle c.args.self.now) (g.C.Chronicle.kept c.fault.new.chronicle) (rec.Fault c.in-Refused.count ∷ []) seen c.fault.ensures.kept
+    (counted_is_held (state_now g.C.Chronicle c.args.self.now) seen c.in-Refused.count c.requires.pieces (rw c.in-Refused.is at c.requires.told))

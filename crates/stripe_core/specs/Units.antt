@@ -1,0 +1,14 @@
+-- What one call uses up at most, of the memory that is made for calls to come.
+use Rattle.std.specs.Prelude.{ℕ, ◌+◌, ◌*◌}
+use Rattle.tape_base.specs.declared.geometries.Geometry.{Geometry}
+use Rattle.tape_base.specs.Geometry.{budget_of}
+use Rattle.stripe_due.specs.Finding.{most_passed}
+
+-- how many records a call adds at most: of a flush two for each piece that the floor passes, and one;
+-- and those of a piece
+abbrev pub records_of_unit : Geometry → ℕ
+records_of_unit g = 2 * most_passed g + 4
+
+-- how many pieces it enters at most: those that its flush copies, and one
+abbrev pub entries_of_unit : Geometry → ℕ
+entries_of_unit g = budget_of g + 1

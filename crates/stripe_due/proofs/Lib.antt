@@ -1,0 +1,2 @@
+mod Awaited
+mod Passing

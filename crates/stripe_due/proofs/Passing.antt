@@ -1,0 +1,163 @@
+-- One place of the walk, and its ends.
+use Rattle.std.proofs.Common.{◌≡◌, ℕ, ◌+◌, ◌-◌, ◌^◌, ◌<◌, ◌≤◌, inl, inr, min, true, false, List, [], ◌∷◌, ◌++◌, Option, Some, None, refl, sym, ap, ◌∙◌, arith, append_assoc, append-nil}
+use Rattle.std.specs.Prelude.{Bool, ◌&&◌, ◌||◌, ◌==◌, nat_le, nat_lt, if◌then◌else◌, map, filter, option_and_then, option_map}
+use Rattle.std.specs.List.{AllByRecursion}
+use Rattle.std.specs.Map.{lookup}
+use Rattle.std.proofs.lemmas.Bool.{cases_lt, eqb-true}
+use Rattle.std.proofs.lemmas.Bool.Decides.{nat_tests}
+use Rattle.tape_base.specs.declared.pieces.PieceId.{PieceId}
+use Rattle.evacuator.specs.declared.choosing.Candidate.{Candidate}
+use Rattle.cache_model.specs.State.{State, Row, floor_next, floor_now, is_live, live_row_of, only_live, place_now, row_of}
+use Rattle.cache_model.specs.Verdict.{if_at, if_still_at, piece_at}
+use Rattle.cache_model.specs.Tape.{AreRising, IsSound}
+use Rattle.cache_model.specs.Due.{is_awaited, is_due}
+use Rattle.cache_model.specs.FlushLaws.{rows_from}
+use Rattle.cache_model.proofs.Found.{none_is, same_some}
+use Rattle.cache_model.proofs.Lists.{found_row, own_piece}
+use Rattle.cache_model.proofs.Walks.{due_are_found, walk_finds, walk_goes_on}
+use Rattle.stripe_due.specs.Finding.{candidate_of, candidates_of}
+use Rattle.stripe_due.specs.Walk.{candidates_from, pinned, row_at}
+
+-- behind the end there is nothing
+none_between : (low high : ℕ) → high ≤ low → (rows : List Row) → filter (λ row. nat_le low row.place && nat_lt row.place high) rows ≡ []
+none_between low high h [] = refl
+none_between low high h (row ∷ rows) = let never : (nat_le low row.place && nat_lt row.place high) ≡ false = grind (arith, nat_tests) in rw never (none_between low high h rows)
+
+none_from : (s : State) (low high : ℕ) → high ≤ low → rows_from s low high ≡ []
+none_from s low high h = none_between low high h s.rows
+
+-- ---- a live piece
+
+live_is_by : (s : State) (x row : Row) (b : Bool) → (if b then Some x else None) ≡ Some row → x ≡ row
+live_is_by s x row true h = cc
+live_is_by s x row false h = cc
+
+live_is : (s : State) (o : Option Row) (row : Row) → option_and_then (only_live s) o ≡ Some row → o ≡ Some row
+live_is s None row h = cc
+live_is s (Some x) row h = ap Some (live_is_by s x row (is_live s x) h)
+
+rising_filled : (low : ℕ) (rows : List Row) (high : ℕ) → AreRising low rows high → AllByRecursion (λ (row : Row). 0 < row.blocks) rows
+rising_filled low [] high h = tt
+rising_filled low (row ∷ rows) high h = (h.1, rising_filled (row.place + row.blocks) rows high h.2)
+
+live_is_filled : (s : State) (id : PieceId) (row : Row) → IsSound s → live_row_of s id ≡ Some row → 0 < row.blocks
+live_is_filled s id row h live =
+    found_row (λ (r : Row). 0 < r.blocks) id s.rows row (rising_filled s.geometry.content s.rows (place_now s) h.rising) (live_is s (row_of s id) row live)
+
+live_is_own : (s : State) (id : PieceId) (row : Row) → live_row_of s id ≡ Some row → row.id ≡ id
+live_is_own s id row live = own_piece id s.rows row (live_is s (row_of s id) row live)
+
+-- a live piece that begins at the place
+record Begins (s : State) (place : ℕ) (id : PieceId) : Type 0 where
+  row : Row
+  live : live_row_of s id ≡ Some row
+  at : row.place ≡ place
+
+begins_by : (s : State) (place : ℕ) (id other : PieceId) (row : Row) (b : Bool) → (row.place == place) ≡ b → live_row_of s other ≡ Some row
+    → (if b then Some other else None) ≡ Some id → Begins s place id
+begins_by s place id other row true e live h = let same : other ≡ id = cc in record { row = row; live = ap (live_row_of s) (sym same) ∙ live; at = eqb-true row.place place e }
+begins_by s place id other row false e live h = cc
+
+begins_where : (s : State) (place : ℕ) (id other : PieceId) (o : Option Row) → live_row_of s other ≡ o → option_and_then (if_at place other) o ≡ Some id → Begins s place id
+begins_where s place id other None e h = cc
+begins_where s place id other (Some row) e h = begins_by s place id other row (row.place == place) refl e h
+
+begins : (s : State) (place : ℕ) (id : PieceId) (o : Option PieceId) → option_and_then (if_still_at s place) o ≡ Some id → Begins s place id
+begins s place id None h = cc
+begins s place id (Some other) h = begins_where s place id other (live_row_of s other) refl h
+
+known_begins : (s : State) (place : ℕ) (id : PieceId) → piece_at s place ≡ Some id → Begins s place id
+known_begins s place id h = begins s place id (lookup (λ p. p == place) s.places) h
+
+-- the live piece that begins at a place, as it is asked for
+found_by : (s : State) (place : ℕ) (id : PieceId) (o : Option Row) → live_row_of s id ≡ o → piece_at s place ≡ Some id → (blocks pin : ℕ)
+    → Some blocks ≡ option_map (λ (row : Row). row.blocks) o → Some pin ≡ option_map (λ (row : Row). row.pin) o
+    → Some (record { id = id; place = place; blocks = blocks }, pin) ≡ option_map pinned o
+found_by s place id None e here blocks pin f g = cc
+found_by s place id (Some row) e here blocks pin f g =
+    let name : row.id ≡ id = live_is_own s id row e in
+    let known = known_begins s place id here in
+    let same : known.row ≡ row = same_some known.row row (live_row_of s id) known.live e in
+    let at : row.place ≡ place = ap (λ (r : Row). r.place) (sym same) ∙ known.at in
+    let size : blocks ≡ row.blocks = cc in
+    let pins : pin ≡ row.pin = cc in
+    rw (size, pins, sym name, sym at) refl
+
+pub found_at : (s : State) (place : ℕ) (id : PieceId) (blocks pin : ℕ) → piece_at s place ≡ Some id
+    → Some blocks ≡ option_map (λ (row : Row). row.blocks) (live_row_of s id) → Some pin ≡ option_map (λ (row : Row). row.pin) (live_row_of s id)
+    → Some (record { id = id; place = place; blocks = blocks }, pin) ≡ option_map pinned (row_at s place)
+found_at s place id blocks pin here f g =
+    found_by s place id (live_row_of s id) refl here blocks pin f g ∙ ap (λ (o : Option PieceId). option_map pinned (option_and_then (live_row_of s) o)) (sym here)
+
+-- ---- one step
+
+-- behind a piece the walk goes on as from the place behind it, also where that is beyond what a number can be
+behind : (s : State) (place blocks next : ℕ) → next < 2 ^ 64 → rows_from s (min (place + blocks) (2 ^ 64 - 1)) next ≡ rows_from s (place + blocks) next
+behind s place blocks next h = elim (cases_lt (place + blocks) (2 ^ 64)) [
+  | inl k ↦ let same : min (place + blocks) (2 ^ 64 - 1) ≡ place + blocks = omega arith in ap (λ n. rows_from s n next) same
+  | inr k ↦ none_from s (min (place + blocks) (2 ^ 64 - 1)) next (omega arith) ∙ sym (none_from s (place + blocks) next (omega arith))
+]
+
+found_from : (s : State) (place next : ℕ) (o : Option PieceId) (row : Row) → IsSound s → floor_now s ≤ place → place < next → piece_at s place ≡ o
+    → option_and_then (live_row_of s) o ≡ Some row → (rows_from s place next ≡ row ∷ rows_from s (place + row.blocks) next) × (0 < row.blocks)
+found_from s place next None row sound live below e h = cc
+found_from s place next (Some id) row sound live below e h = (walk_finds s place next id row sound live below e h, live_is_filled s id row sound h)
+
+-- with the piece where it is due, and with those behind it
+with_first : (s : State) (now : ℕ) (items : List Candidate) (row : Row) (rows : List Row) (b : Bool) → is_due s now row ≡ b
+    → (if b then items ++ candidate_of row ∷ [] else items) ++ map candidate_of (filter (is_due s now) rows) ≡ items ++ map candidate_of (filter (is_due s now) (row ∷ rows))
+with_first s now items row rows true e = rw e (append_assoc items (candidate_of row ∷ []) (map candidate_of (filter (is_due s now) rows)))
+with_first s now items row rows false e = rw e refl
+
+-- where a piece begins
+passes_piece : (s : State) (now place next : ℕ) (items : List Candidate) (row : Row) (b : Bool) → IsSound s → floor_now s ≤ place → place < next → next < 2 ^ 64
+    → row_at s place ≡ Some row → is_due s now row ≡ b
+    → (if b then items ++ candidate_of row ∷ [] else items) ++ candidates_from s now (min (place + row.blocks) (2 ^ 64 - 1)) next ≡ items ++ candidates_from s now place next
+passes_piece s now place next items row b sound live below fits here e =
+    let found = found_from s place next (piece_at s place) row sound live below refl here in
+    ap (λ rows. (if b then items ++ candidate_of row ∷ [] else items) ++ map candidate_of (filter (is_due s now) rows)) (behind s place row.blocks next fits)
+    ∙ with_first s now items row (rows_from s (place + row.blocks) next) b e
+    ∙ ap (λ rows. items ++ map candidate_of (filter (is_due s now) rows)) (sym found.0)
+
+-- the same, for the piece as it was asked for
+pub passes_found : (s : State) (now place next : ℕ) (items : List Candidate) (piece : Candidate) (pin : ℕ) (due : Bool) (o : Option Row)
+    → IsSound s → floor_now s ≤ place → place < next → next < 2 ^ 64 → row_at s place ≡ o → Some (piece, pin) ≡ option_map pinned o → due ≡ (nat_lt now pin || is_awaited s piece.id)
+    → (if due then items ++ piece ∷ [] else items) ++ candidates_from s now (min (place + piece.blocks) (2 ^ 64 - 1)) next ≡ items ++ candidates_from s now place next
+passes_found s now place next items piece pin due None sound live below fits here f e = cc
+passes_found s now place next items piece pin due (Some row) sound live below fits here f e =
+    let pair : (piece, pin) ≡ pinned row = cc in
+    let same : piece ≡ candidate_of row = ap (λ (p : Candidate × ℕ). p.0) pair in
+    let pins : pin ≡ row.pin = ap (λ (p : Candidate × ℕ). p.1) pair in
+    let test : is_due s now row ≡ due = sym (e ∙ (ap (λ n. nat_lt now n || is_awaited s piece.id) pins ∙ ap (λ (p : Candidate). nat_lt now row.pin || is_awaited s p.id) same)) in
+    rw same (passes_piece s now place next items row due sound live below fits here test)
+
+pub goes_onward : (s : State) (place next : ℕ) (piece : Candidate) (pin : ℕ) (o : Option Row)
+    → IsSound s → floor_now s ≤ place → place < next → next < 2 ^ 64 → row_at s place ≡ o → Some (piece, pin) ≡ option_map pinned o → place < min (place + piece.blocks) (2 ^ 64 - 1)
+goes_onward s place next piece pin None sound live below fits here f = cc
+goes_onward s place next piece pin (Some row) sound live below fits here f =
+    let pair : (piece, pin) ≡ pinned row = cc in
+    let same : piece.blocks ≡ row.blocks = ap (λ (p : Candidate × ℕ). p.0.blocks) pair in
+    let some : 0 < row.blocks = (found_from s place next (piece_at s place) row sound live below refl here).1 in
+    omega arith
+
+no_row : (o : Option Row) → None ≡ option_map pinned o → o ≡ None
+no_row None h = refl
+no_row (Some row) h = cc
+
+none_at : (s : State) (place : ℕ) (o : Option PieceId) → piece_at s place ≡ o → option_and_then (live_row_of s) o ≡ None → o ≡ None
+none_at s place None e h = refl
+none_at s place (Some id) e h = none_is (sym h ∙ (known_begins s place id e).live)
+
+-- where none begins
+pub passes_none : (s : State) (now place next : ℕ) → IsSound s → floor_now s ≤ place → None ≡ option_map pinned (row_at s place)
+    → candidates_from s now (place + 1) next ≡ candidates_from s now place next
+passes_none s now place next sound live none =
+    ap (λ rows. map candidate_of (filter (is_due s now) rows)) (sym (walk_goes_on s place next sound live (none_at s place (piece_at s place) refl (no_row (row_at s place) none))))
+
+-- ---- the whole walk
+
+pub from_floor : (s : State) (now : ℕ) → candidates_from s now (floor_now s) (floor_next s) ≡ candidates_of s now
+from_floor s now = ap (λ rows. map candidate_of rows) (sym (due_are_found s now))
+
+pub at_end : (s : State) (now low high : ℕ) (items : List Candidate) → high ≤ low → items ++ candidates_from s now low high ≡ items
+at_end s now low high items h = ap (λ rows. items ++ map candidate_of (filter (is_due s now) rows)) (none_from s low high h) ∙ append-nil items
