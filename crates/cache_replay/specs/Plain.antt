@@ -21,7 +21,7 @@ pub record Plainly (run : Run) (step : Step) (s t : State) (said : StepAnswer) :
   pub behind : after_all s turn.added ≡ t
   pub says : session_said run s t turn step ≡ said
 
--- why a flush did nothing
+-- why a flush was refused
 abbrev pub flush_refused : Refusal → Result StepAnswer Stop
 flush_refused (refusal.DeviceFault count) = Ok (answer.DeviceFault count None)
 flush_refused (refusal.Exhausted number) = Ok (answer.Refused refused.Exhausted None)

@@ -109,7 +109,7 @@ fn flush<D: Disk, R: Directory + Drop, C: Chronicle>(
     }
 }
 
-// Why a flush did nothing.
+// Why a flush was refused.
 fn flush_refused(why: Refusal) -> Result<StepAnswer, Stop>
     ensures { result ≡ flush_refused why }
 {

@@ -11,6 +11,19 @@ const SMALL: &str = "format mem:a 1 64 64 8 16 4 7\n";
 
 const FORMATTED: &str = "formatted serial 1 cursor 64 floor 8\n";
 
+// A small object that is pinned, in the first buffer.
+const PINNED: &str = "open-write w /a 100\ndata w 61\nclose w\nput /f 20*78\n";
+
+const PINNED_ANSWERS: &str =
+    "writer 1\ntook 1\nput 1 length 1 fragments 1\nput 2 length 20 fragments 5\n";
+
+// Buffers up to the end of the lap, and one more, with which the cursor passes the first one.
+const ROUND: &str =
+    "put /f 28*78\nput /f 28*78\nput /f 28*78\nput /f 28*78\nput /f 28*78\nput /f 28*78\nput /f 28*78\nput /f 28*78\n";
+
+const ROUND_BUT_ONE_ANSWERS: &str =
+    "put 3 length 28 fragments 7\nput 4 length 28 fragments 7\nput 5 length 28 fragments 7\nput 6 length 28 fragments 7\nput 7 length 28 fragments 7\nput 8 length 28 fragments 7\nput 9 length 28 fragments 7\n";
+
 /// The word, the source and the room of a run.
 #[derive(Clone, Copy)]
 struct Setting {
@@ -429,6 +442,66 @@ fn a_device_fault_is_answered_and_changes_nothing(rt: HostRuntime) -> Result<(),
         let mut bay = FaultyBay::new(rt.alloc(), false, nth);
         let script = format!(in rt.alloc(); "{SMALL}put /a 61\nflush\nflush\nget /a\n")?;
         let answers = format!(in rt.alloc(); "{FORMATTED}put 1 length 1 fragments 1\n{answers}")?;
+        let (status, output) = outcome(rt.alloc(), &PLAIN, script.as_bytes(), &mut bay)?;
+        assert_eq!(rt; status, Status::Done);
+        assert_eq!(rt; output.as_slice(), answers.as_bytes(), "call {nth} fails");
+    }
+    Ok(())
+}
+
+#[test]
+fn a_pin_above_the_moment_carries_a_piece_ahead_of_the_cursor(rt: HostRuntime) -> Result<(), Fail> {
+    let rows = [
+        ("now 99\n", "now 99\n", "got 1 length 1 61\n"),
+        ("now 100\n", "now 100\n", "miss passed 65 72\n"),
+    ];
+    for (moment, moved, answer) in rows {
+        let script = format!(in rt.alloc(); "{SMALL}{PINNED}{moment}{ROUND}get /a\n")?;
+        let answers = format!(in rt.alloc();
+            "{FORMATTED}{PINNED_ANSWERS}{moved}{ROUND_BUT_ONE_ANSWERS}put 10 length 28 fragments 7\n{answer}"
+        )?;
+        let (status, output) = in_memory(rt.alloc(), &PLAIN, script.as_str())?;
+        assert_eq!(rt; status, Status::Done);
+        assert_eq!(rt; output.as_slice(), answers.as_bytes());
+    }
+    Ok(())
+}
+
+#[test]
+fn a_reader_is_given_what_the_cursor_would_have_passed(rt: HostRuntime) -> Result<(), Fail> {
+    let script = format!(in rt.alloc();
+        "{SMALL}put /a 616263646566\nopen-read r /a\nnext r\nput /f 16*78\n{ROUND}next r\nnext r\nget /a\n"
+    )?;
+    let answers = format!(in rt.alloc();
+        "{FORMATTED}put 1 length 6 fragments 2\nhit 1 length 6\npiece 1 4 61626364\nput 2 length 16 fragments 4\n{ROUND_BUT_ONE_ANSWERS}put 10 length 28 fragments 7\npiece 2 2 6566\nend 6\nmiss passed 66 80\n"
+    )?;
+    let (status, output) = in_memory(rt.alloc(), &PLAIN, script.as_str())?;
+    assert_eq!(rt; status, Status::Done);
+    assert_eq!(rt; output.as_slice(), answers.as_bytes());
+    Ok(())
+}
+
+#[test]
+fn what_the_device_refuses_to_give_for_a_copy_is_unsaved(rt: HostRuntime) -> Result<(), Fail> {
+    // Seven buffers are written, and as many vectors read; then both pieces are read, and the eighth
+    // buffer is written.
+    let rows = [
+        (
+            15u64,
+            "put 10 length 28 fragments 7\nbroken passed 64 80 unsaved\n",
+        ),
+        (
+            16,
+            "put 10 length 28 fragments 7\nmiss passed 65 80 unsaved\n",
+        ),
+        (17, "device-fault 1\ngot 1 length 1 61\n"),
+    ];
+    for (nth, end) in rows {
+        let mut bay = FaultyBay::new(rt.alloc(), false, nth);
+        let script = format!(in rt.alloc(); "{SMALL}{PINNED}{ROUND}get /a\n")?;
+        let answers = format!(in rt.alloc();
+            "{FORMATTED}{PINNED_ANSWERS}{ROUND_BUT_ONE_ANSWERS}{end}"
+        )?;
         let (status, output) = outcome(rt.alloc(), &PLAIN, script.as_bytes(), &mut bay)?;
         assert_eq!(rt; status, Status::Done);
         assert_eq!(rt; output.as_slice(), answers.as_bytes(), "call {nth} fails");

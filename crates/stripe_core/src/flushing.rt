@@ -4,7 +4,7 @@ ghost use Rattle.tape_base.specs.Blocks.{blocks_of};
 ghost use Rattle.tape_base.specs.Geometry.{budget_of};
 ghost use Rattle.cache_model.specs.State.{floor_now};
 ghost use Rattle.cache_model.specs.Legal.{IsQuiet};
-ghost use Rattle.cache_model.specs.Room.{has_room};
+ghost use Rattle.cache_model.specs.Room.{has_room, is_flush_exhausted};
 ghost use Rattle.stripe_actors.specs.Actors.{AreActors};
 ghost use Rattle.stripe_due.specs.Finding.{most_passed};
 ghost use Rattle.stripe_core.specs.Ahead.{IsMadeFor};
@@ -21,7 +21,7 @@ use dir_table::Directory;
 use stripe_actors::Actors;
 use tape_base::blocks_of;
 
-// Places stay below this.
+// Where no buffer begins, and no piece that is placed ends. The copies of a flush may stand above.
 pub const LIMIT: u64 = 1 << 62;
 
 impl<D: Disk, R: Directory + Drop, C: Chronicle> Pieces<D, R, C> {
@@ -51,6 +51,9 @@ impl<D: Disk, R: Directory + Drop, C: Chronicle> Pieces<D, R, C> {
         ensures room { OnOk result ((state_now C.Chronicle self.new).filled ≤ budget_of (state_now C.Chronicle self.new).geometry) }
         // An empty buffer asks no device.
         ensures still { (state_now C.Chronicle self.old).filled ≡ 0
+            → (seen_of D.Disk R.Directory self.new).device ≡ (seen_of D.Disk R.Directory self.old).device }
+        // Nor does one whose next buffer would begin at the end of the tape.
+        ensures ended { is_flush_exhausted (state_now C.Chronicle self.old) ≡ true
             → (seen_of D.Disk R.Directory self.new).device ≡ (seen_of D.Disk R.Directory self.old).device }
     {
         let blocks = (self.cyclone.next_place() - self.cyclone.cursor()) as u32;

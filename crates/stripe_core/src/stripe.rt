@@ -6,7 +6,7 @@ ghost use Rattle.agg_buffer.specs.Buffer.{room_of};
 ghost use Rattle.cache_model.specs.State.{floor_now};
 ghost use Rattle.cache_model.specs.Kept.{all_of, with_records};
 ghost use Rattle.cache_model.specs.Legal.{IsQuiet, format_records};
-ghost use Rattle.cache_model.specs.Room.{has_room};
+ghost use Rattle.cache_model.specs.Room.{has_room, is_flush_exhausted};
 ghost use Rattle.stripe_core.specs.Flush.{FlushesAsAsked, StopsWith, Tells};
 ghost use Rattle.cache_model.specs.Legal.{is_writing};
 ghost use Rattle.cache_model.specs.Verdict.{cuts_of};
@@ -163,6 +163,9 @@ impl<D: Disk, R: Directory + Drop, C: Chronicle> Stripe<D, R, C> {
         ensures room { OnOk result ((state_in C.Chronicle self.new).filled ≤ budget_of (state_in C.Chronicle self.new).geometry) }
         ensures stops { Answers result (λ r. IfErr r (StopsWith (state_in C.Chronicle self.old) (seen_in D.Disk R.Directory self.new).device.faults)) (Unit {0}) }
         ensures later { (seen_in D.Disk R.Directory self.old).device.faults ≤ (seen_in D.Disk R.Directory self.new).device.faults }
+        // Where nothing is written the device stays as it is, but for the memory of its calls.
+        ensures still { (state_in C.Chronicle self.old).filled ≡ 0 → IsStill (seen_in D.Disk R.Directory self.old).device (seen_in D.Disk R.Directory self.new).device }
+        ensures ended { is_flush_exhausted (state_in C.Chronicle self.old) ≡ true → IsStill (seen_in D.Disk R.Directory self.old).device (seen_in D.Disk R.Directory self.new).device }
         ensures memory { 0 < units_in self.old → HasMemory result }
         ensures unit { units_in self.old ≤ units_in self.new + 1 }
     {
