@@ -23,11 +23,11 @@ use Rattle.script_run.specs.Asked.{if_has}
 use Rattle.script_run.specs.Turn.{Turn, told_in}
 use Rattle.script_run.specs.Answers
 use Rattle.script_run.specs.Answers.{broken_said, next_said, step_answer, step_said}
-use Rattle.script_run.specs.Own.{AreOwn, IsOwnPut, IsOwnReader, IsTableOf, IsTableOfHit}
+use Rattle.script_run.specs.Own.{AreKept, IsOwnPut, IsOwnReader, IsTableOf, IsTableOfHit}
 use Rattle.script_run.specs.Takes.{IsRun, SessionTakes, StepTakes, Takes, run_after}
 use Rattle.script_run.proofs.Finding.{found_reader}
-use Rattle.script_run.proofs.Reading.{all_is_followed, all_is_given}
-use Rattle.reader_laws.specs.Along.{IsOpenAt, OwnAlong}
+use Rattle.script_run.proofs.Reading.{kept_is_followed, kept_is_given}
+use Rattle.reader_laws.specs.Along.{IsOpenAt, KeptAlong}
 use Rattle.reader_laws.specs.Given.{given_to}
 use Rattle.reader_laws.specs.Laws.{HasGivenAll}
 use Rattle.reader_laws.proofs.Fronts.{reader_begun}
@@ -85,7 +85,7 @@ ended_is n p s added e given size (Legal.DoesReadOn.reads_on a m) h = record {
 -- ---- all was given
 
 -- the put of a table is complete, and its table has all that its writer took
-table_told : (s : State) (streams : ℕ → Stream) (put : ℕ) (table : List TableRow) → IsQuiet s → AreOwn s streams → IsTableOf s put table → total_length table ≡ length (streams put).bytes
+table_told : (s : State) (streams : ℕ → Stream) (put : ℕ) (table : List TableRow) → IsQuiet s → AreKept s streams → IsTableOf s put table → total_length table ≡ length (streams put).bytes
 table_told s streams put table quiet own t =
     let p : IsOwnPut s streams t.w = own.puts put t.w t.found in
     let whole : total_length t.w.cuts ≡ length (streams t.w.put).bytes = elim t.complete [ inl closed ↦ p.whole closed | inr pending ↦ none_is (sym quiet ∙ pending) ] in
@@ -101,14 +101,14 @@ at_end s r size table none hit verdict =
     let told : next.Ended (total_length table) ≡ next.Ended size = subst (λ (o : Option (List TableRow)). verdict_at_end s r o ≡ next.Ended size) hit last in
     cc
 
-all_by : (n : ℕ) (s : State) (streams : ℕ → Stream) (r : ReaderRow) (size : ℕ) (o : Option (List TableRow)) → r.table ≡ o → AreOwn s streams → IsQuiet s → 0 < r.next → reader_of s n ≡ Some r
+all_by : (n : ℕ) (s : State) (streams : ℕ → Stream) (r : ReaderRow) (size : ℕ) (o : Option (List TableRow)) → r.table ≡ o → AreKept s streams → IsQuiet s → 0 < r.next → reader_of s n ≡ Some r
     → reader_verdict s r ≡ next.Ended size → IsAll s streams r size
 all_by n s streams r size (Some table) hit own quiet first found verdict =
     let none : next_row s r ≡ None = end_is_whole s r size verdict in
     let o : IsOwnReader s r = found_reader (IsOwnReader s) n s.readers r own.readers found in
     let t : IsTableOf s r.put table = subst (IsTableOfHit s r) hit o.table in
     record {
-      all = all_is_given s streams n r table own quiet first found hit none;
+      all = kept_is_given s streams n r table own quiet first found hit none;
       told = sym (at_end s r size table none hit verdict) ∙ table_told s streams r.put table quiet own t;
     }
 all_by n s streams r size None follows own quiet first found verdict =
@@ -117,7 +117,7 @@ all_by n s streams r size None follows own quiet first found verdict =
     let w : PutRow = c.0 in
     let t : IsTableOf s r.put w.cuts = record { w = w; found = c.1.0; cuts = refl; complete = inl c.1.1 } in
     record {
-      all = all_is_followed s streams r w own quiet first follows c.1.0 c.1.1 none;
+      all = kept_is_followed s streams r w own quiet first follows c.1.0 c.1.1 none;
       told = c.1.2 ∙ table_told s streams r.put w.cuts quiet own t;
     }
 
@@ -136,7 +136,7 @@ ended_line laws run s n actor turn size e by takes said =
     ended_is n turn.device s turn.added does.0 turn.given size does.1 told
 
 has_all : (s t : State) (n : ℕ) (r u : ReaderRow) (old now : ℕ → Stream) (given : List ℕ) (size : ℕ) → IsOpenAt s n r → (g : GoesOn n s.geometry.fragment s t old now given u) → g.r ≡ r
-    → t.geometry ≡ s.geometry → AreOwn t now → IsQuiet t → reader_of t n ≡ Some u → reader_verdict t u ≡ next.Ended size
+    → t.geometry ≡ s.geometry → AreKept t now → IsQuiet t → reader_of t n ≡ Some u → reader_verdict t u ≡ next.Ended size
     → HasGivenAll ((r.next - 1) * s.geometry.fragment) (now r.put).bytes given size
 has_all s t n r u old now given size at g first geometry own quiet found verdict =
     let here : IsOpenAt s n g.r = subst (IsOpenAt s n) (sym first) at in
@@ -154,7 +154,7 @@ has_all s t n r u old now given size at g first geometry own quiet found verdict
     }
 
 pub end_is_all : (laws : OfSteps) (run : Run) (lines : List (List ℕ)) (turns : List Turn) (s : State) (reader : ℕ) (r : ReaderRow) (actor : List ℕ) (turn : Turn) (size : ℕ)
-    → IsRun run lines turns → OwnAlong run lines turns → run.state ≡ Some s → IsQuiet s → IsOpenAt s reader r
+    → IsRun run lines turns → KeptAlong run lines turns → run.state ≡ Some s → IsQuiet s → IsOpenAt s reader r
     → reader_by (run_after run lines turns) actor ≡ Some reader → StepTakes (run_after run lines turns) turn (step.Next actor)
     → step_answer (run_after run lines turns) turn (step.Next actor) ≡ answer.End size
     → HasGivenAll ((r.next - 1) * s.geometry.fragment) ((run_after run lines turns).streams r.put).bytes (given_to reader run lines turns) size
@@ -164,4 +164,4 @@ end_is_all laws run lines turns s reader r actor turn size takes along e quiet a
     let ended : IsEnded reader all.t size = ended_line laws after all.t reader actor turn size all.state by next said in
     let g = all.goes ended.r ended.found in
     has_all s all.t reader r ended.r run.streams after.streams (given_to reader run lines turns) size at g (same_some g.r r (reader_of s reader) g.found at.found)
-    all.geometry all.stands.own all.quiet ended.found ended.verdict
+    all.geometry all.stands.kept all.quiet ended.found ended.verdict

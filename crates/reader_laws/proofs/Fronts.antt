@@ -14,10 +14,10 @@ use Rattle.script_lang.specs.declared.step.Step.TheVariants as step
 use Rattle.script_run.specs.Run.{Holding, Run, Stream, held_by, with_value, writer_of}
 use Rattle.script_run.specs.Turn.{Turn}
 use Rattle.script_run.specs.Behind.{fed, of_put, seals, streams_behind, streams_closed, streams_fed, streams_opened, taken_of}
-use Rattle.script_run.specs.Own.{AreOwn, IsOwnPut, IsOwnReader, IsTableOfHit}
+use Rattle.script_run.specs.Own.{AreKept, IsOwnPut, IsOwnReader, IsTableOfHit}
 use Rattle.script_run.proofs.Ended.{IsFoundOpen, open_row}
 use Rattle.script_run.proofs.Finding.{found_reader}
-use Rattle.reader_laws.specs.Along.{IsOpenAt, StandsOwn}
+use Rattle.reader_laws.specs.Along.{IsOpenAt, StandsKept}
 use Rattle.reader_laws.proofs.Keeping.{other_than}
 
 -- ---- readers
@@ -31,13 +31,13 @@ reader_number n [] r h = none_is h
 reader_number n (first ∷ readers) r h = number_by n first r (find (λ (x : ReaderRow). x.reader == n) readers) (first.reader == n) refl (reader_number n readers r) h
 
 -- an open reader has begun
-pub own_begun : (s : State) (streams : ℕ → Stream) (n : ℕ) (r : ReaderRow) → AreOwn s streams → reader_of s n ≡ Some r → n < s.next_reader
+pub own_begun : (s : State) (streams : ℕ → Stream) (n : ℕ) (r : ReaderRow) → AreKept s streams → reader_of s n ≡ Some r → n < s.next_reader
 own_begun s streams n r own found =
     let o : IsOwnReader s r = found_reader (IsOwnReader s) n s.readers r own.readers found in
     subst (λ k. k < s.next_reader) (reader_number n s.readers r found) o.begun
 
-pub reader_begun : (run : Run) (s : State) (n : ℕ) (r : ReaderRow) → StandsOwn run s → reader_of s n ≡ Some r → n < s.next_reader
-reader_begun run s n r stands found = own_begun s run.streams n r stands.own found
+pub reader_begun : (run : Run) (s : State) (n : ℕ) (r : ReaderRow) → StandsKept run s → reader_of s n ≡ Some r → n < s.next_reader
+reader_begun run s n r stands found = own_begun s run.streams n r stands.kept found
 
 -- ---- a put that may be fed
 
@@ -54,14 +54,14 @@ open_count s r w (Some table) quiet found is_open t within =
     ]
 
 -- the fragments that it was given are whole
-cut_within : (run : Run) (s : State) (n : ℕ) (r : ReaderRow) → StandsOwn run s → IsQuiet s → IsOpenAt s n r → is_writing s r.put ≡ true → (run.streams r.put).sealed ≡ false
+cut_within : (run : Run) (s : State) (n : ℕ) (r : ReaderRow) → StandsKept run s → IsQuiet s → IsOpenAt s n r → is_writing s r.put ≡ true → (run.streams r.put).sealed ≡ false
     → (r.next - 1) * s.geometry.fragment ≤ length (run.streams r.put).bytes
 cut_within run s n r stands quiet at writing unsealed =
     let f : IsFoundOpen s r.put = open_row s r.put writing in
     let w : PutRow = f.w in
-    let p : IsOwnPut s run.streams w = stands.own.puts r.put w f.found in
+    let p : IsOwnPut s run.streams w = stands.kept.puts r.put w f.found in
     let stream : run.streams w.put ≡ run.streams r.put = ap run.streams (number_of s r.put w f.found) in
-    let o : IsOwnReader s r = found_reader (IsOwnReader s) n s.readers r stands.own.readers at.found in
+    let o : IsOwnReader s r = found_reader (IsOwnReader s) n s.readers r stands.kept.readers at.found in
     let full : total_length w.cuts ≡ length w.cuts * s.geometry.fragment = p.full f.is_open (ap (λ (x : Stream). x.sealed) stream ∙ unsealed) in
     let within : total_length w.cuts ≤ length (run.streams r.put).bytes = subst (λ (x : Stream). total_length w.cuts ≤ length x.bytes) stream p.cuts.within in
     let count : r.next - 1 ≤ length w.cuts = open_count s r w r.table quiet f.found f.is_open o.table at.within in
@@ -96,7 +96,7 @@ sealed_bytes : (x : Stream) (b : Bool) → x.bytes ≡ (if b then (record { byte
 sealed_bytes x true = refl
 sealed_bytes x false = refl
 
-module _ (run : Run) (s t : State) (n : ℕ) (r : ReaderRow) (stands : StandsOwn run s) (quiet : IsQuiet s) (at : IsOpenAt s n r) where
+module _ (run : Run) (s t : State) (n : ℕ) (r : ReaderRow) (stands : StandsKept run s) (quiet : IsQuiet s) (at : IsOpenAt s n r) where
   abbrev Given : ℕ
   Given = (r.next - 1) * s.geometry.fragment
 

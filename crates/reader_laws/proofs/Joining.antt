@@ -1,5 +1,5 @@
 -- All that a reader is given from the line that opened it on.
-use Rattle.std.proofs.Common.{◌≡◌, ℕ, ◌-◌, ◌*◌, List, ◌∷◌, ◌++◌, drop, take, sym, ◌∙◌, ap, subst, arith, inl, inr, ◌⊎◌}
+use Rattle.std.proofs.Common.{◌≡◌, ℕ, ◌-◌, ◌*◌, List, drop, take, sym, ◌∙◌, ap, subst, arith}
 use Rattle.std.specs.Prelude.{Option, Some}
 use Rattle.tape_base.specs.declared.geometries.Geometry.{Geometry}
 use Rattle.cache_model.specs.State.{State, ReaderRow, after_all, reader_of}
@@ -16,7 +16,7 @@ use Rattle.script_run.specs.Turn.{Turn}
 use Rattle.script_run.specs.Answers.{step_answer}
 use Rattle.script_run.specs.Behind.{after_line, after_reading, behind}
 use Rattle.script_run.specs.Takes.{IsRun, ReadingTakes, SessionTakes, StepTakes, Takes, run_after}
-use Rattle.reader_laws.specs.Along.{AreOfSession, IsOfScript, IsOpenAt, Opens, OwnAlong, ShowsAlong}
+use Rattle.reader_laws.specs.Along.{AreOfSession, IsOfScript, IsOpenAt, KeptAlong, Opens, StandsWhere}
 use Rattle.reader_laws.specs.Given.{given_to}
 use Rattle.reader_laws.specs.Laws.{HasGiven, HasGivenAll}
 use Rattle.reader_laws.proofs.Fronts.{own_begun}
@@ -24,12 +24,11 @@ use Rattle.reader_laws.proofs.Lines.{OfSteps}
 use Rattle.reader_laws.proofs.Running.{RunGoes, fragments_given, run_goes}
 use Rattle.reader_laws.proofs.Ending.{end_is_all}
 use Rattle.reader_laws.proofs.Opening.{opens_first}
-use Rattle.reader_laws.proofs.Shown.{shown_behind, shown_front, shown_here, shown_later}
-use Rattle.reader_laws.proofs.Standing.{Holds, HoldsIn, HoldsWhere, OfLines, holds_after, own_along, reading_holds}
+use Rattle.reader_laws.proofs.Standing.{Keeps, KeepsIn, OfKept, kept_along, keeps_after, reading_keeps}
 
 pub record OfReaders : Type 0 where
   pub steps : OfSteps
-  pub lines : OfLines
+  pub lines : OfKept
   pub nothing_asked : NothingAsked
 
 module _ (laws : OfReaders) (run : Run) (s : State) (turn : Turn) (bytes : List ℕ) (r : ReaderRow) (legal : IsOfScript run) (opens : Opens run s turn bytes r) where
@@ -52,80 +51,45 @@ module _ (laws : OfReaders) (run : Run) (s : State) (turn : Turn) (bytes : List 
       ap (λ (l : LineAnswer). (after_reading run turn l).state) opens.reading
       ∙ ap (λ (o : Option State). (behind run turn o Asks).state) opens.state
 
-  module _ (before : HoldsIn run) (opened : HoldsIn Opened) where
-    holds : Holds run s
-    holds = subst (HoldsWhere run) opens.state before
+  keeps_before : KeepsIn run
+  keeps_before = subst KeepsIn (sym legal.is) (keeps_after laws.lines legal.lines legal.turns fresh legal.legal tt)
 
-    holds_now : Holds Opened Begins
-    holds_now = subst (HoldsWhere Opened) state opened
+  keeps : Keeps run s
+  keeps = subst (StandsWhere Keeps run) opens.state keeps_before
 
-    first : IsOpenAt Begins s.next_reader r × (r.next ≡ 1)
-    first = opens_first laws.steps.one_group laws.nothing_asked run s turn opens.actor opens.key opens.request r holds.own takes opens.found
+  keeps_opened : KeepsIn Opened
+  keeps_opened = reading_keeps laws.lines run turn (reading_of bytes) opens.takes keeps_before
 
-    from_first : (fragment : ℕ) → (r.next - 1) * fragment ≡ 0
-    from_first fragment = let none : r.next - 1 ≡ 0 = omega (arith, first.1) in ap (λ k. k * fragment) none ∙ omega arith
+  keeps_now : Keeps Opened Begins
+  keeps_now = subst (StandsWhere Keeps Opened) state keeps_opened
 
-    given_first : (t : State) (lines : List (List ℕ)) (turns : List Turn) (u : ReaderRow) → IsRun Opened lines turns → OwnAlong Opened lines turns
-        → (run_after Opened lines turns).state ≡ Some t → reader_of t s.next_reader ≡ Some u
-        → given_to s.next_reader Opened lines turns ≡ take ((u.next - 1) * t.geometry.fragment) ((run_after Opened lines turns).streams r.put).bytes
-    given_first t lines turns u goes along last found =
-        let h : HasGiven Begins.geometry.fragment ((run_after Opened lines turns).streams r.put).bytes (given_to s.next_reader Opened lines turns) r u =
-        fragments_given laws.steps Opened lines turns Begins t s.next_reader r u goes along state holds_now.quiet first.0 last found in
-        let all : RunGoes s.next_reader Begins Opened.streams (run_after Opened lines turns) (given_to s.next_reader Opened lines turns) =
-        run_goes laws.steps s.next_reader lines turns Opened Begins state goes along holds_now.quiet (own_begun Begins Opened.streams s.next_reader r holds_now.own opens.found) in
-        let same : all.t ≡ t = same_some all.t t (run_after Opened lines turns).state all.state last in
-        let fragment : Begins.geometry.fragment ≡ t.geometry.fragment = ap (λ (g : Geometry). g.fragment) (sym all.geometry ∙ ap (λ (x : State). x.geometry) same) in
-        let body : List ℕ = ((run_after Opened lines turns).streams r.put).bytes in
-        h.is
-        ∙ (ap (λ k. drop k (take ((u.next - 1) * Begins.geometry.fragment) body)) (from_first Begins.geometry.fragment)
-        ∙ ap (λ f. take ((u.next - 1) * f) body) fragment)
+  first : IsOpenAt Begins s.next_reader r × (r.next ≡ 1)
+  first = opens_first laws.steps.one_group laws.nothing_asked run s turn opens.actor opens.key opens.request r keeps.kept takes opens.found
 
-    given_all : (lines : List (List ℕ)) (turns : List Turn) (actor : List ℕ) (last : Turn) (size : ℕ) → IsRun Opened lines turns → OwnAlong Opened lines turns
-        → reader_by (run_after Opened lines turns) actor ≡ Some s.next_reader → StepTakes (run_after Opened lines turns) last (step.Next actor)
-        → step_answer (run_after Opened lines turns) last (step.Next actor) ≡ answer.End size
-        → HasGivenAll 0 ((run_after Opened lines turns).streams r.put).bytes (given_to s.next_reader Opened lines turns) size
-    given_all lines turns actor last size goes along by asked said =
-        subst (λ from. HasGivenAll from ((run_after Opened lines turns).streams r.put).bytes (given_to s.next_reader Opened lines turns) size) (from_first Begins.geometry.fragment)
-        (end_is_all laws.steps Opened lines turns Begins s.next_reader r actor last size goes along state holds_now.quiet first.0 by asked said)
-
-  -- ---- of the whole script
-
-  abbrev Shown : List (List ℕ) → List Turn → Type 0
-  Shown lines turns = ShowsAlong fresh (legal.lines ++ bytes ∷ lines) (legal.turns ++ turn ∷ turns)
-
-  -- one of the lines from that on shows two documents of one SHA-256
-  shown_from : (lines : List (List ℕ)) (turns : List Turn) → ShowsAlong run (bytes ∷ lines) (turn ∷ turns) → Shown lines turns
-  shown_from lines turns v =
-      shown_behind fresh legal.lines (bytes ∷ lines) legal.turns (turn ∷ turns) legal.legal (subst (λ (x : Run). ShowsAlong x (bytes ∷ lines) (turn ∷ turns)) legal.is v)
-
-  -- what follows where what stands is what writers took, up to the line that opens, behind it, and along the
-  -- others; or a line shows them
-  or_shown : (X : Type 0) (lines : List (List ℕ)) (turns : List Turn) → IsRun Opened lines turns → AreOfSession lines
-      → (HoldsIn run → HoldsIn Opened → OwnAlong Opened lines turns → X) → X ⊎ Shown lines turns
-  or_shown X lines turns goes keeps f = elim (holds_after laws.lines legal.lines legal.turns fresh legal.legal tt) [
-    | inr v ↦ inr (shown_front fresh legal.lines (bytes ∷ lines) legal.turns (turn ∷ turns) v)
-    | inl h ↦ (
-        let before : HoldsIn run = subst HoldsIn (sym legal.is) h in
-        elim (reading_holds laws.lines run turn (reading_of bytes) opens.takes before) [
-          | inr shows ↦ inr (shown_from lines turns (shown_here run turn bytes lines turns shows))
-          | inl opened ↦ elim (own_along laws.lines lines turns Opened goes keeps opened) [
-            | inr v ↦ inr (shown_from lines turns (shown_later run turn bytes lines turns opens.takes v))
-            | inl along ↦ inl (f before opened along)
-          ]
-        ])
-  ]
+  from_first : (fragment : ℕ) → (r.next - 1) * fragment ≡ 0
+  from_first fragment = let none : r.next - 1 ≡ 0 = omega (arith, first.1) in ap (λ k. k * fragment) none ∙ omega arith
 
   pub first_given : (t : State) (lines : List (List ℕ)) (turns : List Turn) (u : ReaderRow) → IsRun Opened lines turns → AreOfSession lines
       → (run_after Opened lines turns).state ≡ Some t → reader_of t s.next_reader ≡ Some u
-      → (given_to s.next_reader Opened lines turns ≡ take ((u.next - 1) * t.geometry.fragment) ((run_after Opened lines turns).streams r.put).bytes) ⊎ Shown lines turns
-  first_given t lines turns u goes keeps last found =
-      or_shown (given_to s.next_reader Opened lines turns ≡ take ((u.next - 1) * t.geometry.fragment) ((run_after Opened lines turns).streams r.put).bytes) lines turns goes keeps
-      (λ before opened along. given_first before opened t lines turns u goes along last found)
+      → given_to s.next_reader Opened lines turns ≡ take ((u.next - 1) * t.geometry.fragment) ((run_after Opened lines turns).streams r.put).bytes
+  first_given t lines turns u goes same_session last found =
+      let along : KeptAlong Opened lines turns = kept_along laws.lines lines turns Opened goes same_session keeps_opened in
+      let h : HasGiven Begins.geometry.fragment ((run_after Opened lines turns).streams r.put).bytes (given_to s.next_reader Opened lines turns) r u =
+      fragments_given laws.steps Opened lines turns Begins t s.next_reader r u goes along state keeps_now.quiet first.0 last found in
+      let all : RunGoes s.next_reader Begins Opened.streams (run_after Opened lines turns) (given_to s.next_reader Opened lines turns) =
+      run_goes laws.steps s.next_reader lines turns Opened Begins state goes along keeps_now.quiet (own_begun Begins Opened.streams s.next_reader r keeps_now.kept opens.found) in
+      let same : all.t ≡ t = same_some all.t t (run_after Opened lines turns).state all.state last in
+      let fragment : Begins.geometry.fragment ≡ t.geometry.fragment = ap (λ (g : Geometry). g.fragment) (sym all.geometry ∙ ap (λ (x : State). x.geometry) same) in
+      let body : List ℕ = ((run_after Opened lines turns).streams r.put).bytes in
+      h.is
+      ∙ (ap (λ k. drop k (take ((u.next - 1) * Begins.geometry.fragment) body)) (from_first Begins.geometry.fragment)
+      ∙ ap (λ f. take ((u.next - 1) * f) body) fragment)
 
   pub all_given : (lines : List (List ℕ)) (turns : List Turn) (actor : List ℕ) (last : Turn) (size : ℕ) → IsRun Opened lines turns → AreOfSession lines
       → reader_by (run_after Opened lines turns) actor ≡ Some s.next_reader → StepTakes (run_after Opened lines turns) last (step.Next actor)
       → step_answer (run_after Opened lines turns) last (step.Next actor) ≡ answer.End size
-      → HasGivenAll 0 ((run_after Opened lines turns).streams r.put).bytes (given_to s.next_reader Opened lines turns) size ⊎ Shown lines turns
-  all_given lines turns actor last size goes keeps by asked said =
-      or_shown (HasGivenAll 0 ((run_after Opened lines turns).streams r.put).bytes (given_to s.next_reader Opened lines turns) size) lines turns goes keeps
-      (λ before opened along. given_all before opened lines turns actor last size goes along by asked said)
+      → HasGivenAll 0 ((run_after Opened lines turns).streams r.put).bytes (given_to s.next_reader Opened lines turns) size
+  all_given lines turns actor last size goes same_session by asked said =
+      let along : KeptAlong Opened lines turns = kept_along laws.lines lines turns Opened goes same_session keeps_opened in
+      subst (λ from. HasGivenAll from ((run_after Opened lines turns).streams r.put).bytes (given_to s.next_reader Opened lines turns) size) (from_first Begins.geometry.fragment)
+      (end_is_all laws.steps Opened lines turns Begins s.next_reader r actor last size goes along state keeps_now.quiet first.0 by asked said)

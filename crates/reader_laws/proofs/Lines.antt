@@ -21,7 +21,7 @@ use Rattle.script_run.specs.Asked.{asked, if_has}
 use Rattle.script_run.specs.Turn.{Turn, told_in}
 use Rattle.script_run.specs.Behind.{after_format, after_reading, behind, in_session, streams_behind}
 use Rattle.script_run.specs.Takes.{IsNextPiece, IsPiece, ReadingTakes, SessionTakes, Takes}
-use Rattle.reader_laws.specs.Along.{KeepsSession, StandsOwn, begins_session}
+use Rattle.reader_laws.specs.Along.{KeepsSession, StandsKept, begins_session}
 use Rattle.reader_laws.specs.Given.{given_by, given_in, given_where}
 use Rattle.reader_laws.proofs.Beside.{AllBeside, AnyNumber, OtherThan, AllOther, grown_beside}
 use Rattle.reader_laws.proofs.Keeping.{KeepsReader, keeps_all, keeps_self}
@@ -65,7 +65,7 @@ closed_by : (n : ℕ) (s : State) (added : List Rec) (e : End) → Legal.DoesSto
 closed_by n s added e (Legal.DoesStopReading.closes r q l is) = subst (λ recs. IsClosed n s (after_all s recs)) (sym is) (record { geometry = refl; next_reader = refl })
 closed_by n s added e (Legal.DoesStopReading.closed q l is) = subst (λ recs. IsClosed n s (after_all s recs)) (sym is) (record { geometry = refl; next_reader = refl })
 
-module _ (laws : OfSteps) (n : ℕ) (run : Run) (s : State) (turn : Turn) (stands : StandsOwn run s) (quiet : IsQuiet s) (opened : n < s.next_reader) where
+module _ (laws : OfSteps) (n : ℕ) (run : Run) (s : State) (turn : Turn) (stands : StandsKept run s) (quiet : IsQuiet s) (opened : n < s.next_reader) where
   abbrev Behind : State
   Behind = after_all s turn.added
 

@@ -9,7 +9,7 @@ use Rattle.script_run.specs.Run.{Run, Stream}
 use Rattle.script_run.specs.Turn.{Turn}
 use Rattle.script_run.specs.Behind.{after_line}
 use Rattle.script_run.specs.Takes.{IsRun, run_after}
-use Rattle.reader_laws.specs.Along.{IsOpenAt, OwnAlong, StandsOwn, StandsWhere}
+use Rattle.reader_laws.specs.Along.{IsOpenAt, KeptAlong, StandsKept, StandsWhere}
 use Rattle.reader_laws.specs.Given.{given_to}
 use Rattle.reader_laws.specs.Laws.{HasGiven}
 use Rattle.reader_laws.proofs.Keeping.{keeps_self}
@@ -23,13 +23,13 @@ pub record RunGoes (n : ℕ) (s : State) (old : ℕ → Stream) (after : Run) (g
   pub state : after.state ≡ Some t
   pub geometry : t.geometry ≡ s.geometry
   pub quiet : IsQuiet t
-  pub stands : StandsOwn after t
+  pub stands : StandsKept after t
   pub goes : (u : ReaderRow) → reader_of t n ≡ Some u → GoesOn n s.geometry.fragment s t old after.streams given u
 
-stands_in : (run : Run) (s : State) → run.state ≡ Some s → StandsWhere run run.state → StandsOwn run s
-stands_in run s e h = subst (StandsWhere run) e h
+stands_in : (run : Run) (s : State) → run.state ≡ Some s → StandsWhere StandsKept run run.state → StandsKept run s
+stands_in run s e h = subst (StandsWhere StandsKept run) e h
 
-pub run_goes : (laws : OfSteps) (n : ℕ) (lines : List (List ℕ)) (turns : List Turn) (run : Run) (s : State) → run.state ≡ Some s → IsRun run lines turns → OwnAlong run lines turns → IsQuiet s → n < s.next_reader
+pub run_goes : (laws : OfSteps) (n : ℕ) (lines : List (List ℕ)) (turns : List Turn) (run : Run) (s : State) → run.state ≡ Some s → IsRun run lines turns → KeptAlong run lines turns → IsQuiet s → n < s.next_reader
     → RunGoes n s run.streams (run_after run lines turns) (given_to n run lines turns)
 run_goes laws n [] [] run s e takes along quiet opened = record {
   t = s;
@@ -42,7 +42,7 @@ run_goes laws n [] [] run s e takes along quiet opened = record {
 run_goes laws n [] (turn ∷ turns) run s e takes along quiet opened = absurd takes
 run_goes laws n (bytes ∷ lines) [] run s e takes along quiet opened = absurd takes
 run_goes laws n (bytes ∷ lines) (turn ∷ turns) run s e takes along quiet opened =
-    let stands : StandsOwn run s = stands_in run s e along.1 in
+    let stands : StandsKept run s = stands_in run s e along.1 in
     let mid : Run = after_line run turn bytes in
     let first = line_goes laws n run s turn stands quiet opened (reading_of bytes) e along.0 takes.0 in
     let rest = run_goes laws n lines turns mid first.t first.state takes.1 along.2 first.quiet first.opened in
@@ -59,7 +59,7 @@ run_goes laws n (bytes ∷ lines) (turn ∷ turns) run s e takes along quiet ope
     }
 
 -- it stands before the first line
-pub stands_first : (run : Run) (lines : List (List ℕ)) (turns : List Turn) (s : State) → run.state ≡ Some s → IsRun run lines turns → OwnAlong run lines turns → StandsOwn run s
+pub stands_first : (run : Run) (lines : List (List ℕ)) (turns : List Turn) (s : State) → run.state ≡ Some s → IsRun run lines turns → KeptAlong run lines turns → StandsKept run s
 stands_first run [] [] s e takes along = stands_in run s e along
 stands_first run [] (turn ∷ turns) s e takes along = absurd takes
 stands_first run (bytes ∷ lines) [] s e takes along = absurd takes
@@ -72,11 +72,11 @@ has_given s t n r u old now given at g first =
     subst (λ (x : ReaderRow). HasGiven s.geometry.fragment (now x.put).bytes given x u) first (record { put = g.put; on = g.on; is = (g.told here).is })
 
 pub fragments_given : (laws : OfSteps) (run : Run) (lines : List (List ℕ)) (turns : List Turn) (s t : State) (reader : ℕ) (r u : ReaderRow)
-    → IsRun run lines turns → OwnAlong run lines turns → run.state ≡ Some s → IsQuiet s → IsOpenAt s reader r
+    → IsRun run lines turns → KeptAlong run lines turns → run.state ≡ Some s → IsQuiet s → IsOpenAt s reader r
     → (run_after run lines turns).state ≡ Some t → reader_of t reader ≡ Some u
     → HasGiven s.geometry.fragment ((run_after run lines turns).streams r.put).bytes (given_to reader run lines turns) r u
 fragments_given laws run lines turns s t reader r u takes along e quiet at last found =
-    let stands : StandsOwn run s = stands_first run lines turns s e takes along in
+    let stands : StandsKept run s = stands_first run lines turns s e takes along in
     let all = run_goes laws reader lines turns run s e takes along quiet (reader_begun run s reader r stands at.found) in
     let same : all.t ≡ t = same_some all.t t (run_after run lines turns).state all.state last in
     let g = all.goes u (subst (λ (x : State). reader_of x reader ≡ Some u) (sym same) found) in

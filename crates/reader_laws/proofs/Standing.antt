@@ -1,5 +1,6 @@
--- Along each legal script what stands is what writers took, and each put that an actor writes is open; or a
--- line shows two documents of one SHA-256 in its turn.
+-- Along each legal script what stands is what writers took but for what fragments are, and each put that an
+-- actor writes is open; and each fragment is that of what its writer took, or a line shows two documents of one
+-- SHA-256 in its turn.
 use Rattle.std.proofs.Common.{◌≡◌, ℕ, List, [], ◌∷◌, ◌++◌, refl, sym, subst, inl, inr, ◌⊎◌, false}
 use Rattle.std.specs.Prelude.{Option, Some, None}
 use Rattle.tape_base.specs.declared.geometries.Geometry.{Geometry}
@@ -21,62 +22,170 @@ use Rattle.script_lang.specs.Grammar.{reading_of}
 use Rattle.script_run.specs.Run.{Run, fresh, no_stream}
 use Rattle.script_run.specs.Asked.{asked}
 use Rattle.script_run.specs.Turn.{Turn}
-use Rattle.script_run.specs.Behind.{after_format, after_line, after_reading, at_moment, behind, formatted, in_session, streams_behind}
-use Rattle.script_run.specs.Laws.{FormatsOwn, StepsOwn}
-use Rattle.script_run.specs.Own.{AreOwn}
+use Rattle.script_run.specs.Behind.{after_format, after_line, after_reading, at_moment, behind, formatted, in_session}
+use Rattle.script_run.specs.Laws.{FormatsKeep, FormatsOwn, OwnIsKept, StepsKeep, StepsOwn}
+use Rattle.script_run.specs.Own.{AreKept, AreOwn}
 use Rattle.script_run.specs.Takes
 use Rattle.script_run.specs.Takes.{FormatTakes, IsRun, ReadingShownIn, ReadingTakes, SessionTakes, StepShownIn, run_after}
-use Rattle.reader_laws.specs.Along.{AreOfSession, OwnAlong, QuietWhere, ShowsAlong, StandsWhere}
+use Rattle.reader_laws.specs.Along.{AreOfSession, KeptAlong, OwnAlong, QuietWhere, ShowsAlong, StandsKept, StandsOwn, StandsWhere}
 use Rattle.reader_laws.proofs.Shown.{shown_behind, shown_front, shown_here, shown_later}
 use Rattle.reader_laws.proofs.Writing.{AreHeld, are_writing, held_step}
 
--- what holds of each line
-pub record OfLines : Type 0 where
+-- what holds of each line, whatever a copy shows
+pub record OfKept : Type 0 where
   pub numbers_follow : NumbersFollow
   pub legal_is_sound : LegalIsSound
   pub steps_are_sound : StepsAreSound
+  pub formats_keep : FormatsKeep
+  pub steps_keep : StepsKeep
+
+-- and what holds where none shows two documents of one SHA-256
+pub record OfLines : Type 0 where
+  pub kept : OfKept
   pub formats_tell : FormatsTell
   pub steps_tell : StepsTell
   pub formats_own : FormatsOwn
   pub steps_own : StepsOwn
 
+-- ---- what a line does to a run
+
+-- it begins a session, changes nothing that stands, or is one step of a session
+data Goes (run : Run) (turn : Turn) : Option State → Step → Run → Type 0 where
+  begins : {o : Option State} {st : Step} (name : List ℕ) (g : Geometry) → turn.added ≡ format_records g → Goes run turn o st (formatted run name turn.added)
+  stays : {o : Option State} {st : Step} → Goes run turn o st run
+  waits : {o : Option State} {st : Step} (at : ℕ) → Goes run turn o st (at_moment run at)
+  steps : {st : Step} (s : State) → SessionTakes run s turn st → Goes run turn (Some s) st (in_session run s (after_all s turn.added) turn st)
+
+format_goes : (run : Run) (turn : Turn) (o : Option State) (st : Step) (name : List ℕ) (segments buckets content agg reach fragment generation : ℕ) (bad : Option BadGeometry)
+    → FormatTakes turn.added segments buckets content agg reach fragment generation bad → Goes run turn o st (after_format run name turn.added bad)
+format_goes run turn o st name segments buckets content agg reach fragment generation (Some bad) takes = stays
+format_goes run turn o st name segments buckets content agg reach fragment generation None takes = begins name takes.0 takes.2
+
+goes : (run : Run) (turn : Turn) (o : Option State) (st : Step) → Takes.Takes run turn o st → Goes run turn o st (behind run turn o st)
+goes run turn o (step.Format name segments buckets content agg reach fragment generation) takes =
+    format_goes run turn o _ name segments buckets content agg reach fragment generation (first_refusal segments buckets content agg reach fragment) takes
+goes run turn o (step.Now at) takes = waits at
+goes run turn (Some s) (step.Put key body request response) takes = steps s takes
+goes run turn None (step.Put key body request response) takes = absurd takes
+goes run turn (Some s) (step.Get key request) takes = steps s takes
+goes run turn None (step.Get key request) takes = absurd takes
+goes run turn (Some s) (step.OpenWrite actor key pin request response) takes = steps s takes
+goes run turn None (step.OpenWrite actor key pin request response) takes = absurd takes
+goes run turn (Some s) (step.Feed actor body) takes = steps s takes
+goes run turn None (step.Feed actor body) takes = absurd takes
+goes run turn (Some s) (step.Close actor) takes = steps s takes
+goes run turn None (step.Close actor) takes = absurd takes
+goes run turn (Some s) (step.Abort actor) takes = steps s takes
+goes run turn None (step.Abort actor) takes = absurd takes
+goes run turn (Some s) (step.OpenRead actor key request) takes = steps s takes
+goes run turn None (step.OpenRead actor key request) takes = absurd takes
+goes run turn (Some s) (step.Next actor) takes = steps s takes
+goes run turn None (step.Next actor) takes = absurd takes
+goes run turn (Some s) (step.Done actor) takes = steps s takes
+goes run turn None (step.Done actor) takes = absurd takes
+goes run turn (Some s) (step.Remove key) takes = steps s takes
+goes run turn None (step.Remove key) takes = absurd takes
+goes run turn (Some s) step.Flush takes = steps s takes
+goes run turn None step.Flush takes = absurd takes
+
+-- ---- whatever a copy shows
+
 -- what holds between lines
-pub record Holds (run : Run) (s : State) : Type 0 where
+pub record Keeps (run : Run) (s : State) : Type 0 where
   pub sound : IsSound s
-  pub told : AreTold s
+  pub displaced : s.displaced ≡ []
   pub quiet : IsQuiet s
-  pub own : AreOwn s run.streams
+  pub kept : AreKept s run.streams
   pub held : AreHeld run.held s
 
-abbrev pub HoldsWhere : Run → Option State → Type 0
-HoldsWhere run None = Unit {0}
-HoldsWhere run (Some s) = Holds run s
+-- the same, where there is a session
+abbrev pub KeepsIn : Run → Type 0
+KeepsIn run = StandsWhere Keeps run run.state
 
-abbrev pub HoldsIn : Run → Type 0
-HoldsIn run = HoldsWhere run run.state
-
-module _ (laws : OfLines) (run : Run) (turn : Turn) where
-  -- ---- a format
-
-  formatted_holds : (name : List ℕ) (added : List Rec) (g : Geometry) → added ≡ format_records g → HoldsIn (formatted run name added)
-  formatted_holds name added g is = subst (λ recs. HoldsIn (formatted run name recs)) (sym is) (record {
+module _ (laws : OfKept) (run : Run) (turn : Turn) where
+  formatted_keeps : (name : List ℕ) (added : List Rec) (g : Geometry) → added ≡ format_records g → KeepsIn (formatted run name added)
+  formatted_keeps name added g is = subst (λ recs. KeepsIn (formatted run name recs)) (sym is) (record {
     sound = laws.legal_is_sound false [] (format_records g) (Legal.IsLegal.begins g);
-    told = laws.formats_tell nothing_yet g;
+    displaced = refl;
     quiet = refl;
-    own = laws.formats_own nothing_yet g (λ put. no_stream);
+    kept = laws.formats_keep nothing_yet g (λ put. no_stream);
     held = record { writing = λ i put has. none_is has; apart = λ i j put has also. none_is has };
   })
 
-  format_holds : (name : List ℕ) (segments buckets content agg reach fragment generation : ℕ) (o : Option BadGeometry) → FormatTakes turn.added segments buckets content agg reach fragment generation o
-      → HoldsIn run → HoldsIn (after_format run name turn.added o)
-  format_holds name segments buckets content agg reach fragment generation (Some bad) takes now = now
-  format_holds name segments buckets content agg reach fragment generation None takes now = formatted_holds name turn.added takes.0 takes.2
+  moment_keeps : (at : ℕ) (o : Option State) → StandsWhere Keeps run o → StandsWhere Keeps (at_moment run at) o
+  moment_keeps at None h = tt
+  moment_keeps at (Some s) h = record { sound = h.sound; displaced = h.displaced; quiet = h.quiet; kept = h.kept; held = h.held }
 
-  -- ---- other lines
+  keeps_step : (s : State) (st : Step) → SessionTakes run s turn st → Keeps run s → Keeps (in_session run s (after_all s turn.added) turn st) (after_all s turn.added)
+  keeps_step s st takes h =
+      let k = laws.steps_keep run s turn st h.sound h.displaced h.quiet h.kept (are_writing run s h.held) takes.legal in
+      record {
+        sound = (laws.steps_are_sound turn.device s (asked run s st) turn.added turn.refused h.sound takes.legal).0;
+        displaced = k.1;
+        quiet = takes.legal.quiet;
+        kept = k.0;
+        held = held_step laws.numbers_follow run s turn h.kept h.held st takes.legal;
+      }
 
-  moment_holds : (at : ℕ) (o : Option State) → HoldsWhere run o → HoldsWhere (at_moment run at) o
+  goes_keeps : {o : Option State} {st : Step} {after : Run} → Goes run turn o st after → StandsWhere Keeps run o → KeepsIn run → KeepsIn after
+  goes_keeps (begins name g is) h now = formatted_keeps name turn.added g is
+  goes_keeps stays h now = now
+  goes_keeps (waits at) h now = moment_keeps at run.state now
+  goes_keeps {st = st} (steps s takes) h now = keeps_step s st takes h
+
+  pub reading_keeps : (l : LineAnswer) → ReadingTakes run turn l → KeepsIn run → KeepsIn (after_reading run turn l)
+  reading_keeps (line.Step st) takes now = goes_keeps (goes run turn run.state st takes) now now
+  reading_keeps line.Nothing takes now = now
+  reading_keeps (line.Bad fault) takes now = absurd takes
+
+kept_where : (run : Run) (o : Option State) → StandsWhere Keeps run o → StandsWhere StandsKept run o
+kept_where run None h = tt
+kept_where run (Some s) h = record { kept = h.kept; writing = are_writing run s h.held }
+
+quiet_where : (run : Run) (o : Option State) → StandsWhere Keeps run o → QuietWhere o
+quiet_where run None h = tt
+quiet_where run (Some s) h = h.quiet
+
+pub keeps_after : (laws : OfKept) (lines : List (List ℕ)) (turns : List Turn) (run : Run) → IsRun run lines turns → KeepsIn run → KeepsIn (run_after run lines turns)
+keeps_after laws [] turns run takes h = h
+keeps_after laws (bytes ∷ lines) [] run takes h = absurd takes
+keeps_after laws (bytes ∷ lines) (turn ∷ turns) run takes h =
+    keeps_after laws lines turns (after_line run turn bytes) takes.1 (reading_keeps laws run turn (reading_of bytes) takes.0 h)
+
+pub kept_along : (laws : OfKept) (lines : List (List ℕ)) (turns : List Turn) (run : Run) → IsRun run lines turns → AreOfSession lines → KeepsIn run → KeptAlong run lines turns
+kept_along laws [] turns run takes keeps h = kept_where run run.state h
+kept_along laws (bytes ∷ lines) [] run takes keeps h = absurd takes
+kept_along laws (bytes ∷ lines) (turn ∷ turns) run takes keeps h =
+    (keeps.0, kept_where run run.state h, kept_along laws lines turns (after_line run turn bytes) takes.1 keeps.1 (reading_keeps laws run turn (reading_of bytes) takes.0 h))
+
+pub legal_is_kept : (laws : OfKept) (before lines : List (List ℕ)) (earlier turns : List Turn) → IsRun fresh before earlier → IsRun (run_after fresh before earlier) lines turns → AreOfSession lines
+    → KeptAlong (run_after fresh before earlier) lines turns × QuietWhere (run_after fresh before earlier).state
+legal_is_kept laws before lines earlier turns legal takes keeps =
+    let run : Run = run_after fresh before earlier in
+    let h : KeepsIn run = keeps_after laws before earlier fresh legal tt in
+    (kept_along laws lines turns run takes keeps h, quiet_where run run.state h)
+
+-- ---- where no copy shows two documents of one SHA-256
+
+record Holds (run : Run) (s : State) : Type 0 where
+  keeps : Keeps run s
+  told : AreTold s
+  own : AreOwn s run.streams
+
+abbrev HoldsIn : Run → Type 0
+HoldsIn run = StandsWhere Holds run run.state
+
+module _ (laws : OfLines) (run : Run) (turn : Turn) where
+  formatted_holds : (name : List ℕ) (added : List Rec) (g : Geometry) → added ≡ format_records g → HoldsIn (formatted run name added)
+  formatted_holds name added g is = subst (λ recs. HoldsIn (formatted run name recs)) (sym is) (record {
+    keeps = formatted_keeps laws.kept run turn name (format_records g) g refl;
+    told = laws.formats_tell nothing_yet g;
+    own = laws.formats_own nothing_yet g (λ put. no_stream);
+  })
+
+  moment_holds : (at : ℕ) (o : Option State) → StandsWhere Holds run o → StandsWhere Holds (at_moment run at) o
   moment_holds at None h = tt
-  moment_holds at (Some s) h = record { sound = h.sound; told = h.told; quiet = h.quiet; own = h.own; held = h.held }
+  moment_holds at (Some s) h = record { keeps = moment_keeps laws.kept run turn at (Some s) h.keeps; told = h.told; own = h.own }
 
   -- a copied vector shows them some way into the step
   vector_shows : (s : State) (st : Step) → ShowsVector turn.device s (asked run s st) turn.added → StepShownIn turn.device run (Some s) st
@@ -86,69 +195,38 @@ module _ (laws : OfLines) (run : Run) (turn : Turn) where
     given = v.other.given;
   }
 
-  told_holds : (s : State) (st : Step) → SessionTakes run s turn st → Holds run s → AreTold (after_all s turn.added)
-      → AreOwn (after_all s turn.added) (streams_behind run s (after_all s turn.added) turn st) → Holds (in_session run s (after_all s turn.added) turn st) (after_all s turn.added)
-  told_holds s st takes h told own = record {
-    sound = (laws.steps_are_sound turn.device s (asked run s st) turn.added turn.refused h.sound takes.legal).0;
-    told = told;
-    quiet = takes.legal.quiet;
-    own = own;
-    held = held_step laws.numbers_follow run s turn h.own h.held st takes.legal;
-  }
-
   holds_step : (s : State) (st : Step) → SessionTakes run s turn st → Holds run s
       → Holds (in_session run s (after_all s turn.added) turn st) (after_all s turn.added) ⊎ StepShownIn turn.device run (Some s) st
-  holds_step s st takes h = elim (laws.steps_tell turn.device s (asked run s st) turn.added turn.refused h.sound h.told takes.legal) [
-    | inr v ↦ inr (vector_shows s st v)
-    | inl told ↦ elim (laws.steps_own run s turn st h.sound h.told h.quiet h.own (are_writing run s h.held) takes.legal) [
-      | inl own ↦ inl (told_holds s st takes h told own)
-      | inr shown ↦ inr shown
-    ]
-  ]
+  holds_step s st takes h =
+      let k : Keeps run s = h.keeps in
+      elim (laws.steps_tell turn.device s (asked run s st) turn.added turn.refused k.sound h.told takes.legal) [
+        | inr v ↦ inr (vector_shows s st v)
+        | inl told ↦ elim (laws.steps_own run s turn st k.sound h.told k.quiet h.own (are_writing run s k.held) takes.legal) [
+          | inl own ↦ inl (record { keeps = keeps_step laws.kept run turn s st takes k; told = told; own = own })
+          | inr shown ↦ inr shown
+        ]
+      ]
 
-  step_holds : (st : Step) (o : Option State) → Takes.Takes run turn o st → HoldsWhere run o → HoldsIn run → HoldsIn (behind run turn o st) ⊎ StepShownIn turn.device run o st
-  step_holds (step.Format name segments buckets content agg reach fragment generation) o takes h now =
-      inl (format_holds name segments buckets content agg reach fragment generation (first_refusal segments buckets content agg reach fragment) takes now)
-  step_holds (step.Now at) o takes h now = inl (moment_holds at run.state now)
-  step_holds (step.Put key body request response) (Some s) takes h now = holds_step s (step.Put key body request response) takes h
-  step_holds (step.Put key body request response) None takes h now = absurd takes
-  step_holds (step.Get key request) (Some s) takes h now = holds_step s (step.Get key request) takes h
-  step_holds (step.Get key request) None takes h now = absurd takes
-  step_holds (step.OpenWrite actor key pin request response) (Some s) takes h now = holds_step s (step.OpenWrite actor key pin request response) takes h
-  step_holds (step.OpenWrite actor key pin request response) None takes h now = absurd takes
-  step_holds (step.Feed actor body) (Some s) takes h now = holds_step s (step.Feed actor body) takes h
-  step_holds (step.Feed actor body) None takes h now = absurd takes
-  step_holds (step.Close actor) (Some s) takes h now = holds_step s (step.Close actor) takes h
-  step_holds (step.Close actor) None takes h now = absurd takes
-  step_holds (step.Abort actor) (Some s) takes h now = holds_step s (step.Abort actor) takes h
-  step_holds (step.Abort actor) None takes h now = absurd takes
-  step_holds (step.OpenRead actor key request) (Some s) takes h now = holds_step s (step.OpenRead actor key request) takes h
-  step_holds (step.OpenRead actor key request) None takes h now = absurd takes
-  step_holds (step.Next actor) (Some s) takes h now = holds_step s (step.Next actor) takes h
-  step_holds (step.Next actor) None takes h now = absurd takes
-  step_holds (step.Done actor) (Some s) takes h now = holds_step s (step.Done actor) takes h
-  step_holds (step.Done actor) None takes h now = absurd takes
-  step_holds (step.Remove key) (Some s) takes h now = holds_step s (step.Remove key) takes h
-  step_holds (step.Remove key) None takes h now = absurd takes
-  step_holds step.Flush (Some s) takes h now = holds_step s step.Flush takes h
-  step_holds step.Flush None takes h now = absurd takes
+  goes_holds : {o : Option State} {st : Step} {after : Run} → Goes run turn o st after → StandsWhere Holds run o → HoldsIn run → HoldsIn after ⊎ StepShownIn turn.device run o st
+  goes_holds (begins name g is) h now = inl (formatted_holds name turn.added g is)
+  goes_holds stays h now = inl now
+  goes_holds (waits at) h now = inl (moment_holds at run.state now)
+  goes_holds {st = st} (steps s takes) h now = holds_step s st takes h
 
-  pub reading_holds : (l : LineAnswer) → ReadingTakes run turn l → HoldsIn run → HoldsIn (after_reading run turn l) ⊎ ReadingShownIn turn.device run l
-  reading_holds (line.Step st) takes now = step_holds st run.state takes now now
+  reading_holds : (l : LineAnswer) → ReadingTakes run turn l → HoldsIn run → HoldsIn (after_reading run turn l) ⊎ ReadingShownIn turn.device run l
+  reading_holds (line.Step st) takes now = goes_holds (goes run turn run.state st takes) now now
   reading_holds line.Nothing takes now = inl now
   reading_holds (line.Bad fault) takes now = absurd takes
 
--- ---- along lines
+own_where : (run : Run) (o : Option State) → StandsWhere Holds run o → StandsWhere StandsOwn run o
+own_where run None h = tt
+own_where run (Some s) h = record { own = h.own; writing = are_writing run s h.keeps.held }
 
-stands_where : (run : Run) (o : Option State) → HoldsWhere run o → StandsWhere run o
-stands_where run None h = tt
-stands_where run (Some s) h = record { own = h.own; writing = are_writing run s h.held }
+keeps_where : (run : Run) (o : Option State) → StandsWhere Holds run o → StandsWhere Keeps run o
+keeps_where run None h = tt
+keeps_where run (Some s) h = h.keeps
 
-quiet_where : (run : Run) (o : Option State) → HoldsWhere run o → QuietWhere o
-quiet_where run None h = tt
-quiet_where run (Some s) h = h.quiet
-
-pub holds_after : (laws : OfLines) (lines : List (List ℕ)) (turns : List Turn) (run : Run) → IsRun run lines turns → HoldsIn run → HoldsIn (run_after run lines turns) ⊎ ShowsAlong run lines turns
+holds_after : (laws : OfLines) (lines : List (List ℕ)) (turns : List Turn) (run : Run) → IsRun run lines turns → HoldsIn run → HoldsIn (run_after run lines turns) ⊎ ShowsAlong run lines turns
 holds_after laws [] turns run takes h = inl h
 holds_after laws (bytes ∷ lines) [] run takes h = absurd takes
 holds_after laws (bytes ∷ lines) (turn ∷ turns) run takes h = elim (reading_holds laws run turn (reading_of bytes) takes.0 h) [
@@ -159,13 +237,13 @@ holds_after laws (bytes ∷ lines) (turn ∷ turns) run takes h = elim (reading_
   ]
 ]
 
-pub own_along : (laws : OfLines) (lines : List (List ℕ)) (turns : List Turn) (run : Run) → IsRun run lines turns → AreOfSession lines → HoldsIn run → OwnAlong run lines turns ⊎ ShowsAlong run lines turns
-own_along laws [] turns run takes keeps h = inl (stands_where run run.state h)
+own_along : (laws : OfLines) (lines : List (List ℕ)) (turns : List Turn) (run : Run) → IsRun run lines turns → AreOfSession lines → HoldsIn run → OwnAlong run lines turns ⊎ ShowsAlong run lines turns
+own_along laws [] turns run takes keeps h = inl (own_where run run.state h)
 own_along laws (bytes ∷ lines) [] run takes keeps h = absurd takes
 own_along laws (bytes ∷ lines) (turn ∷ turns) run takes keeps h = elim (reading_holds laws run turn (reading_of bytes) takes.0 h) [
   | inr shows ↦ inr (shown_here run turn bytes lines turns shows)
   | inl now ↦ elim (own_along laws lines turns (after_line run turn bytes) takes.1 keeps.1 now) [
-    | inl along ↦ inl (keeps.0, stands_where run run.state h, along)
+    | inl along ↦ inl (keeps.0, own_where run run.state h, along)
     | inr v ↦ inr (shown_later run turn bytes lines turns takes.0 v)
   ]
 ]
@@ -178,6 +256,18 @@ legal_is_own laws before lines earlier turns legal takes keeps =
       | inr v ↦ inr (shown_front fresh before lines earlier turns v)
       | inl h ↦ elim (own_along laws lines turns run takes keeps h) [
         | inr v ↦ inr (shown_behind fresh before lines earlier turns legal v)
-        | inl along ↦ inl (along, quiet_where run run.state h)
+        | inl along ↦ inl (along, quiet_where run run.state (keeps_where run run.state h))
       ]
     ]
+
+-- ---- the one along the other
+
+own_is_kept_where : (is_kept : OwnIsKept) (run : Run) (o : Option State) → StandsWhere StandsOwn run o → StandsWhere StandsKept run o
+own_is_kept_where is_kept run None h = tt
+own_is_kept_where is_kept run (Some s) h = record { kept = is_kept s run.streams h.own; writing = h.writing }
+
+pub own_is_kept_along : (is_kept : OwnIsKept) (run : Run) (lines : List (List ℕ)) (turns : List Turn) → OwnAlong run lines turns → KeptAlong run lines turns
+own_is_kept_along is_kept run [] turns along = own_is_kept_where is_kept run run.state along
+own_is_kept_along is_kept run (bytes ∷ lines) [] along = own_is_kept_where is_kept run run.state along
+own_is_kept_along is_kept run (bytes ∷ lines) (turn ∷ turns) along =
+    (along.0, own_is_kept_where is_kept run run.state along.1, own_is_kept_along is_kept (after_line run turn bytes) lines turns along.2)

@@ -18,7 +18,7 @@ use Rattle.script_run.specs.Run.{Holding, Reads, Run, Stream, Writes, held_by, p
 use Rattle.script_run.specs.Asked.{asked}
 use Rattle.script_run.specs.Turn.{Turn}
 use Rattle.script_run.specs.Behind.{in_session, or_else, reader_at, still_open, writer_at}
-use Rattle.script_run.specs.Own.{AreOwn, AreWriting, IsOwnPut}
+use Rattle.script_run.specs.Own.{AreKept, AreWriting, IsOwnPut}
 use Rattle.script_run.proofs.Changed.{changed, either, found_changed, other_stays}
 use Rattle.script_run.proofs.Ended.{IsFoundOpen, open_row}
 use Rattle.reader_laws.proofs.Beside.{AllBeside, AllOther, AnyNumber, IsBeside, OtherThan, grown_beside}
@@ -109,7 +109,7 @@ pub are_writing : (run : Run) (s : State) → AreHeld run.held s → AreWriting 
 are_writing run s h name put writes = h.writing (number_in run.actors name) put (writer_held (held_by run name) put writes)
 
 -- an open put has begun
-open_begun : (s : State) (streams : ℕ → Stream) (put : ℕ) → AreOwn s streams → is_writing s put ≡ true → put < s.next_put
+open_begun : (s : State) (streams : ℕ → Stream) (put : ℕ) → AreKept s streams → is_writing s put ≡ true → put < s.next_put
 open_begun s streams put own writing =
     let f : IsFoundOpen s put = open_row s put writing in
     let p : IsOwnPut s streams f.w = own.puts put f.w f.found in
@@ -166,7 +166,7 @@ still_writes t (Some (Writes put)) m h =
     (ap (λ k. Some (Writes k)) is.0, is.1)
 still_writes t (Some (Reads reader)) m h = absurd (reader_is_none reader m (is_some (reader_of t reader)) h)
 
-module _ (numbers : NumbersFollow) (run : Run) (s : State) (turn : Turn) (own : AreOwn s run.streams) (h : AreHeld run.held s) where
+module _ (numbers : NumbersFollow) (run : Run) (s : State) (turn : Turn) (own : AreKept s run.streams) (h : AreHeld run.held s) where
   abbrev Behind : State
   Behind = after_all s turn.added
 

@@ -14,7 +14,7 @@ use Rattle.script_lang.specs.Grammar.{reading_of}
 use Rattle.script_run.specs.Run.{Run, fresh}
 use Rattle.script_run.specs.Turn.{Turn}
 use Rattle.script_run.specs.Behind.{after_line}
-use Rattle.script_run.specs.Own.{AreOwn, AreWriting}
+use Rattle.script_run.specs.Own.{AreKept, AreOwn, AreWriting}
 use Rattle.script_run.specs.Takes.{IsRun, LineShownIn, LineTakes, run_after}
 
 -- a format that is not refused begins another session
@@ -38,17 +38,28 @@ pub record StandsOwn (run : Run) (s : State) : Type 0 where
   pub own : AreOwn s run.streams
   pub writing : AreWriting run s
 
--- the same, where there is a session
-abbrev pub StandsWhere : Run → Option State → Type 0
-StandsWhere run None = Unit {0}
-StandsWhere run (Some s) = StandsOwn run s
+-- the same, but for what fragments are
+pub record StandsKept (run : Run) (s : State) : Type 0 where
+  pub kept : AreKept s run.streams
+  pub writing : AreWriting run s
+
+-- so it stands, where there is a session
+abbrev pub StandsWhere : (Run → State → Type 0) → Run → Option State → Type 0
+StandsWhere stands run None = Unit {0}
+StandsWhere stands run (Some s) = stands run s
 
 -- no line begins another session, and so it stands before each line and behind the last one
+abbrev pub StandsAlong : (Run → State → Type 0) → Run → List (List ℕ) → List Turn → Type 0
+StandsAlong stands run [] turns = StandsWhere stands run run.state
+StandsAlong stands run (bytes ∷ lines) [] = StandsWhere stands run run.state
+StandsAlong stands run (bytes ∷ lines) (turn ∷ turns) =
+    KeepsSession (reading_of bytes) × StandsWhere stands run run.state × StandsAlong stands (after_line run turn bytes) lines turns
+
 abbrev pub OwnAlong : Run → List (List ℕ) → List Turn → Type 0
-OwnAlong run [] turns = StandsWhere run run.state
-OwnAlong run (bytes ∷ lines) [] = StandsWhere run run.state
-OwnAlong run (bytes ∷ lines) (turn ∷ turns) =
-    KeepsSession (reading_of bytes) × StandsWhere run run.state × OwnAlong (after_line run turn bytes) lines turns
+OwnAlong = StandsAlong StandsOwn
+
+abbrev pub KeptAlong : Run → List (List ℕ) → List Turn → Type 0
+KeptAlong = StandsAlong StandsKept
 
 -- no vector is pending, where there is a session
 abbrev pub QuietWhere : Option State → Type 0

@@ -1,5 +1,5 @@
 -- All that a reader is given, line after line, is in order what the writer of its put took.
-use Rattle.std.specs.Prelude.{ℕ, ◌≡◌, ◌-◌, ◌*◌, ◌≤◌, ◌⊎◌, List, ◌∷◌, ◌++◌, length, drop, take, Some}
+use Rattle.std.specs.Prelude.{ℕ, ◌≡◌, ◌-◌, ◌*◌, ◌≤◌, ◌⊎◌, List, ◌++◌, length, drop, take, Some}
 use Rattle.tape_base.specs.declared.keys.Key.{Key}
 use Rattle.alternate_vector.specs.Field.{Field}
 use Rattle.cache_model.specs.State.{State, ReaderRow, after_all, reader_of}
@@ -10,9 +10,9 @@ use Rattle.script_run.specs.Run.{Run, fresh, reader_by}
 use Rattle.script_run.specs.Turn.{Turn}
 use Rattle.script_run.specs.Behind.{after_line}
 use Rattle.script_run.specs.Answers.{step_answer}
-use Rattle.script_run.specs.Own.{AreOwn}
+use Rattle.script_run.specs.Own.{AreKept}
 use Rattle.script_run.specs.Takes.{IsRun, SessionTakes, StepTakes, run_after}
-use Rattle.reader_laws.specs.Along.{AreOfSession, IsOfScript, IsOpenAt, Opens, OwnAlong, QuietWhere, ShowsAlong}
+use Rattle.reader_laws.specs.Along.{AreOfSession, IsOfScript, IsOpenAt, KeptAlong, Opens, OwnAlong, QuietWhere, ShowsAlong}
 use Rattle.reader_laws.specs.Given.{fragments_between, given_to}
 
 -- along lines of a legal script that begin no other session what stands is what writers took, each put
@@ -23,9 +23,19 @@ LegalIsOwn = (before lines : List (List ℕ)) (earlier turns : List Turn) → Is
     → (OwnAlong (run_after fresh before earlier) lines turns × QuietWhere (run_after fresh before earlier).state)
     ⊎ ShowsAlong fresh (before ++ lines) (earlier ++ turns)
 
+-- and whatever a line shows, what stands is what writers took but for what fragments are, each put that an
+-- actor writes is open, and no vector is pending before them
+abbrev pub LegalIsKept : Type 0
+LegalIsKept = (before lines : List (List ℕ)) (earlier turns : List Turn) → IsRun fresh before earlier → IsRun (run_after fresh before earlier) lines turns → AreOfSession lines
+    → KeptAlong (run_after fresh before earlier) lines turns × QuietWhere (run_after fresh before earlier).state
+
+-- the one follows from the other, along any lines
+abbrev pub OwnIsKeptAlong : Type 0
+OwnIsKeptAlong = (run : Run) (lines : List (List ℕ)) (turns : List Turn) → OwnAlong run lines turns → KeptAlong run lines turns
+
 -- a reader that a line opens is at its first fragment
 abbrev pub OpensFirst : Type 0
-OpensFirst = (run : Run) (s : State) (turn : Turn) (actor : List ℕ) (key : Key) (request : List Field) (r : ReaderRow) → AreOwn s run.streams
+OpensFirst = (run : Run) (s : State) (turn : Turn) (actor : List ℕ) (key : Key) (request : List Field) (r : ReaderRow) → AreKept s run.streams
     → SessionTakes run s turn (step.OpenRead actor key request) → reader_of (after_all s turn.added) s.next_reader ≡ Some r
     → IsOpenAt (after_all s turn.added) s.next_reader r × (r.next ≡ 1)
 
@@ -39,7 +49,7 @@ pub record HasGiven (fragment : ℕ) (body given : List ℕ) (r u : ReaderRow) :
 -- of its put took
 abbrev pub FragmentsGiven : Type 0
 FragmentsGiven = (run : Run) (lines : List (List ℕ)) (turns : List Turn) (s t : State) (reader : ℕ) (r u : ReaderRow)
-    → IsRun run lines turns → OwnAlong run lines turns → run.state ≡ Some s → IsQuiet s → IsOpenAt s reader r
+    → IsRun run lines turns → KeptAlong run lines turns → run.state ≡ Some s → IsQuiet s → IsOpenAt s reader r
     → (run_after run lines turns).state ≡ Some t → reader_of t reader ≡ Some u
     → HasGiven s.geometry.fragment ((run_after run lines turns).streams r.put).bytes (given_to reader run lines turns) r u
 
@@ -51,7 +61,7 @@ pub record HasGivenAll (from : ℕ) (body given : List ℕ) (size : ℕ) : Type 
 -- where the reader is then answered the end, they are all that follow
 abbrev pub EndIsAll : Type 0
 EndIsAll = (run : Run) (lines : List (List ℕ)) (turns : List Turn) (s : State) (reader : ℕ) (r : ReaderRow) (actor : List ℕ) (turn : Turn) (size : ℕ)
-    → IsRun run lines turns → OwnAlong run lines turns → run.state ≡ Some s → IsQuiet s → IsOpenAt s reader r
+    → IsRun run lines turns → KeptAlong run lines turns → run.state ≡ Some s → IsQuiet s → IsOpenAt s reader r
     → reader_by (run_after run lines turns) actor ≡ Some reader → StepTakes (run_after run lines turns) turn (step.Next actor)
     → step_answer (run_after run lines turns) turn (step.Next actor) ≡ answer.End size
     → HasGivenAll ((r.next - 1) * s.geometry.fragment) ((run_after run lines turns).streams r.put).bytes (given_to reader run lines turns) size
@@ -59,21 +69,19 @@ EndIsAll = (run : Run) (lines : List (List ℕ)) (turns : List Turn) (s : State)
 -- ---- from the line that opens a reader
 
 -- in each legal script all that lines give to a reader that a line opened are the first fragments of what
--- the writer of its put took, or a line of the script shows such a pair
+-- the writer of its put took
 abbrev pub FirstGiven : Type 0
-FirstGiven = (run : Run) (s t : State) (turn : Turn) (bytes : List ℕ) (lines : List (List ℕ)) (turns : List Turn) (r u : ReaderRow) (script : IsOfScript run) → Opens run s turn bytes r
+FirstGiven = (run : Run) (s t : State) (turn : Turn) (bytes : List ℕ) (lines : List (List ℕ)) (turns : List Turn) (r u : ReaderRow) → IsOfScript run → Opens run s turn bytes r
     → IsRun (after_line run turn bytes) lines turns → AreOfSession lines
     → (run_after (after_line run turn bytes) lines turns).state ≡ Some t → reader_of t s.next_reader ≡ Some u
-    → (given_to s.next_reader (after_line run turn bytes) lines turns
-    ≡ take ((u.next - 1) * t.geometry.fragment) ((run_after (after_line run turn bytes) lines turns).streams r.put).bytes)
-    ⊎ ShowsAlong fresh (script.lines ++ bytes ∷ lines) (script.turns ++ turn ∷ turns)
+    → given_to s.next_reader (after_line run turn bytes) lines turns
+    ≡ take ((u.next - 1) * t.geometry.fragment) ((run_after (after_line run turn bytes) lines turns).streams r.put).bytes
 
 -- and where the reader is then answered the end, they are all of it
 abbrev pub AllGiven : Type 0
-AllGiven = (run : Run) (s : State) (turn : Turn) (bytes : List ℕ) (lines : List (List ℕ)) (turns : List Turn) (r : ReaderRow) (actor : List ℕ) (last : Turn) (size : ℕ) (script : IsOfScript run)
+AllGiven = (run : Run) (s : State) (turn : Turn) (bytes : List ℕ) (lines : List (List ℕ)) (turns : List Turn) (r : ReaderRow) (actor : List ℕ) (last : Turn) (size : ℕ) → IsOfScript run
     → Opens run s turn bytes r → IsRun (after_line run turn bytes) lines turns → AreOfSession lines
     → reader_by (run_after (after_line run turn bytes) lines turns) actor ≡ Some s.next_reader
     → StepTakes (run_after (after_line run turn bytes) lines turns) last (step.Next actor)
     → step_answer (run_after (after_line run turn bytes) lines turns) last (step.Next actor) ≡ answer.End size
     → HasGivenAll 0 ((run_after (after_line run turn bytes) lines turns).streams r.put).bytes (given_to s.next_reader (after_line run turn bytes) lines turns) size
-    ⊎ ShowsAlong fresh (script.lines ++ bytes ∷ lines) (script.turns ++ turn ∷ turns)

@@ -1,11 +1,11 @@
 // Laws of all that a reader is given. These functions do nothing when they run.
-ghost use Rattle.reader_laws.specs.Laws.{AllGiven, EndIsAll, FirstGiven, FragmentsGiven, LegalIsOwn, OpensFirst};
+ghost use Rattle.reader_laws.specs.Laws.{AllGiven, EndIsAll, FirstGiven, FragmentsGiven, LegalIsKept, LegalIsOwn, OpensFirst, OwnIsKeptAlong};
 
 use cache_model::{
     formats_tell, legal_is_sound, nothing_asked, numbers_follow, one_group, reader_is_closed,
     steps_are_sound, steps_tell,
 };
-use script_run::{formats_own, steps_own};
+use script_run::{formats_keep, formats_own, own_is_kept, steps_keep, steps_own};
 
 /// Along the lines of each legal script what stands is what writers took, and each put that an actor
 /// writes is open; or a line of it shows two documents of one SHA-256, by bytes that the device gave in its
@@ -18,8 +18,28 @@ pub fn legal_is_own()
     steps_are_sound();
     formats_tell();
     steps_tell();
+    formats_keep();
+    steps_keep();
     formats_own();
     steps_own();
+}
+
+/// And whatever a line shows, what stands is what writers took but for what fragments are.
+pub fn legal_is_kept()
+    ensures { LegalIsKept }
+{
+    numbers_follow();
+    legal_is_sound();
+    steps_are_sound();
+    formats_keep();
+    steps_keep();
+}
+
+/// The one follows from the other, along any lines.
+pub fn own_is_kept_along()
+    ensures { OwnIsKeptAlong }
+{
+    own_is_kept();
 }
 
 /// A reader that a line opens is at its first fragment.
@@ -50,7 +70,7 @@ pub fn end_is_all()
 }
 
 /// In each legal script all that lines give to a reader that a line opened are the first fragments of what
-/// the writer of its put took, or a line of the script shows such a pair.
+/// the writer of its put took.
 pub fn first_given()
     ensures { FirstGiven }
 {
@@ -60,10 +80,8 @@ pub fn first_given()
     reader_is_closed();
     legal_is_sound();
     steps_are_sound();
-    formats_tell();
-    steps_tell();
-    formats_own();
-    steps_own();
+    formats_keep();
+    steps_keep();
 }
 
 /// And where the reader is then answered the end, they are all of it.
@@ -76,8 +94,6 @@ pub fn all_given()
     reader_is_closed();
     legal_is_sound();
     steps_are_sound();
-    formats_tell();
-    steps_tell();
-    formats_own();
-    steps_own();
+    formats_keep();
+    steps_keep();
 }

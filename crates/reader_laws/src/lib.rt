@@ -3,4 +3,7 @@
 
 mod laws;
 
-pub use laws::{all_given, end_is_all, first_given, fragments_given, legal_is_own, opens_first};
+pub use laws::{
+    all_given, end_is_all, first_given, fragments_given, legal_is_kept, legal_is_own, opens_first,
+    own_is_kept_along,
+};

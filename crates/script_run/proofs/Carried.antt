@@ -1,5 +1,5 @@
 -- What stands stays what its writer took where the puts that it stands for stay or go on.
-use Rattle.std.proofs.Common.{◌≡◌, ℕ, ◌≤◌, List, [], ◌∷◌, ◌++◌, length, sym, ◌∙◌, ap, subst, arith, inl, inr}
+use Rattle.std.proofs.Common.{◌≡◌, ℕ, ◌≤◌, List, [], ◌∷◌, ◌++◌, length, sym, ◌∙◌, ap, arith, inl, inr}
 use Rattle.std.specs.Prelude.{Option, Some, None, find, ◌==◌}
 use Rattle.std.specs.List.{AllByRecursion}
 use Rattle.fragment_table.specs.Table.{TableRow}
@@ -7,7 +7,7 @@ use Rattle.alternate_vector.specs.Alternates.{Stored}
 use Rattle.cache_model.specs.State.{State, Row, PutRow, ReaderRow, put_of}
 use Rattle.cache_model.proofs.Rows.{ArePart, done, keep, skip}
 use Rattle.script_run.specs.Run.{Stream}
-use Rattle.script_run.specs.Own.{AreListedOf, AreOwn, AreOwnPuts, IsListedOf, IsOwnFragment, IsOwnPut, IsOwnReader, IsOwnRow, IsTableOf, IsTableOfHit}
+use Rattle.script_run.specs.Own.{AreListedOf, AreOwnPuts, IsListedOf, IsOwnFragment, IsOwnPut, IsOwnReader, IsTableOf, IsTableOfHit}
 
 -- ---- lists
 
@@ -43,13 +43,10 @@ module _ (s t : State) (c : Carries s t) where
   listed_carried None listed = tt
   listed_carried (Some list) listed = all_as (IsListedOf s) (IsListedOf t) (λ a l. c.tables a.put a.table l) list listed
 
-  fragment_carried : (streams : ℕ → Stream) (row : Row) → IsOwnFragment s streams row → IsOwnFragment t streams row
+  pub fragment_carried : (streams : ℕ → Stream) (row : Row) → IsOwnFragment s streams row → IsOwnFragment t streams row
   fragment_carried streams row f =
       let on : GoesOn t row.id.put f.w = c.puts row.id.put f.w f.found in
       record { w = on.now; found = on.found; cut = omega (arith, f.cut, on.more); digest = rw c.geometry f.digest }
-
-  pub row_carried : (streams : ℕ → Stream) (row : Row) → IsOwnRow s streams row → IsOwnRow t streams row
-  row_carried streams row own = (λ fragment. fragment_carried streams row (own.0 fragment), listed_carried row.alternates own.1)
 
   hit_carried : (r : ReaderRow) (o : Option (List TableRow)) → IsTableOfHit s r o → IsTableOfHit t r o
   hit_carried r None h = tt
@@ -60,9 +57,6 @@ module _ (s t : State) (c : Carries s t) where
 
   pub readers_carried : s.next_reader ≤ t.next_reader → (readers : List ReaderRow) → AllByRecursion (IsOwnReader s) readers → AllByRecursion (IsOwnReader t) readers
   readers_carried on readers each = all_as (IsOwnReader s) (IsOwnReader t) (reader_carried on) readers each
-
-  pub rows_carried : (streams : ℕ → Stream) (rows : List Row) → AllByRecursion (IsOwnRow s streams) rows → AllByRecursion (IsOwnRow t streams) rows
-  rows_carried streams rows each = all_as (IsOwnRow s streams) (IsOwnRow t streams) (row_carried streams) rows each
 
 -- a put stays as it was
 pub put_stays : (s t : State) (streams : ℕ → Stream) (w : PutRow) → t.geometry ≡ s.geometry → s.next_put ≤ t.next_put → IsOwnPut s streams w → IsOwnPut t streams w
@@ -108,12 +102,3 @@ alike_carries s t a = same_carries s t a.geometry a.puts a.pending
 pub puts_stay : (s t : State) (streams : ℕ → Stream) → t.geometry ≡ s.geometry → t.next_put ≡ s.next_put → t.puts ≡ s.puts → AreOwnPuts s streams → AreOwnPuts t streams
 puts_stay s t streams geometry next puts own put w found =
     put_stays s t streams w geometry (omega (arith, next)) (own put w (found_alike t s put w (sym puts) found))
-
-pub own_alike : (s t : State) (streams : ℕ → Stream) → AreAlike s t → AreOwn s streams → AreOwn t streams
-own_alike s t streams a own =
-    let c : Carries s t = alike_carries s t a in
-    record {
-      puts = puts_stay s t streams a.geometry a.next_put a.puts own.puts;
-      rows = all_part (IsOwnRow t streams) a.rows (rows_carried s t c streams s.rows own.rows);
-      readers = subst (AllByRecursion (IsOwnReader t)) (sym a.readers) (readers_carried s t c (omega (arith, a.next_reader)) s.readers own.readers);
-    }

@@ -25,8 +25,9 @@ use Rattle.cache_model.proofs.Sound.{IsLater}
 use Rattle.cache_model.proofs.Steps.{after_all-append}
 use Rattle.script_run.specs.Run.{Stream}
 use Rattle.script_run.specs.Own.{rows_from}
+use Rattle.script_run.proofs.Saying.{Kind}
 use Rattle.script_run.proofs.Carried.{same_carries}
-use Rattle.script_run.proofs.Flushing.{IsOtherCopy, go_on, held_flushed, held_stopped}
+use Rattle.script_run.proofs.Flushing.{go_on, held_flushed, held_stopped}
 use Rattle.script_run.proofs.Held.{IsHeld, IsPlain, held_aborted, held_plain}
 use Rattle.script_run.proofs.Opened.{held_opened, held_read_opened, verdict_own}
 use Rattle.script_run.proofs.Placed.{IsPiece, held_committed, held_fragment, held_vector}
@@ -75,41 +76,41 @@ cleanups_fit fragment streams (i ∷ is) = cleanups_by fragment streams i (filte
 
 -- ---- groups
 
-module _ (g : Geometry) (streams : ℕ → Stream) where
+module _ (kind : Kind) (g : Geometry) (streams : ℕ → Stream) where
   -- what a group of records leaves: it is held still, or a copy that it makes shows two documents of one
   -- SHA-256
   abbrev pub Leaves : Permit → State → List Rec → Type 0
-  Leaves p s added = IsHeld g streams (after_all s added) ⊎ IsOtherCopy p s streams
+  Leaves p s added = IsHeld kind g streams (after_all s added) ⊎ kind.shows p s streams
 
   -- records that change no put
   abbrev AllPlain : List Rec → Type 0
   AllPlain [] = Unit {0}
   AllPlain (r ∷ recs) = IsPlain r × AllPlain recs
 
-  plain : (s : State) (recs : List Rec) → AllPlain recs → IsHeld g streams s → IsHeld g streams (after_all s recs)
+  plain : (s : State) (recs : List Rec) → AllPlain recs → IsHeld kind g streams s → IsHeld kind g streams (after_all s recs)
   plain s [] p h = h
-  plain s (r ∷ recs) p h = plain (state_after s r) recs p.1 (held_plain g streams s r p.0 h)
+  plain s (r ∷ recs) p h = plain (state_after s r) recs p.1 (held_plain kind g streams s r p.0 h)
 
-  adds : (s : State) (added other : List Rec) → added ≡ other → AllPlain other → IsHeld g streams s → IsHeld g streams (after_all s added)
+  adds : (s : State) (added other : List Rec) → added ≡ other → AllPlain other → IsHeld kind g streams s → IsHeld kind g streams (after_all s added)
   adds s added other is p h = plain s added (subst AllPlain (sym is) p) h
 
-  aborts : (s : State) (put : ℕ) (w : PutRow) (added : List Rec) → added ≡ aborted_record w ∷ [] → IsWriting s put w → IsHeld g streams s → IsHeld g streams (after_all s added)
-  aborts s put w added is writing h = subst (λ xs. IsHeld g streams (after_all s xs)) (sym is) (held_aborted g streams s put w writing h)
+  aborts : (s : State) (put : ℕ) (w : PutRow) (added : List Rec) → added ≡ aborted_record w ∷ [] → IsWriting s put w → IsHeld kind g streams s → IsHeld kind g streams (after_all s added)
+  aborts s put w added is writing h = subst (λ xs. IsHeld kind g streams (after_all s xs)) (sym is) (held_aborted kind g streams s put w writing h)
 
-  flushes : (p : Permit) (s : State) (added : List Rec) → Legal.MayFlush p s added → IsSound s → IsHeld g streams s → Leaves p s added
-  flushes p s added m sound h = subst (Leaves p s) (sym m.is) (held_flushed g streams p s p.now (budget_of s.geometry) m.outcomes sound h m.are)
+  flushes : (p : Permit) (s : State) (added : List Rec) → Legal.MayFlush p s added → IsSound s → IsHeld kind g streams s → Leaves p s added
+  flushes p s added m sound h = subst (Leaves p s) (sym m.is) (held_flushed kind g streams p s p.now (budget_of s.geometry) m.outcomes sound h m.are)
 
-  stops : (p : Permit) (s : State) (count : ℕ) (added : List Rec) → Legal.MayStop p s count added → IsHeld g streams s → IsHeld g streams (after_all s added)
-  stops p s count added m h = subst (λ xs. IsHeld g streams (after_all s xs)) (sym m.is) (held_stopped g streams s (due_pieces s p.now) m.outcomes count h)
+  stops : (p : Permit) (s : State) (count : ℕ) (added : List Rec) → Legal.MayStop p s count added → IsHeld kind g streams s → IsHeld kind g streams (after_all s added)
+  stops p s count added m h = subst (λ xs. IsHeld kind g streams (after_all s xs)) (sym m.is) (held_stopped kind g streams s (due_pieces s p.now) m.outcomes count h)
 
-  roomed : (p : Permit) (s : State) (bytes : ℕ) (added : List Rec) (e : End) → Legal.MakesRoom p s bytes added e → IsSound s → IsHeld g streams s → Leaves p s added
+  roomed : (p : Permit) (s : State) (bytes : ℕ) (added : List Rec) (e : End) → Legal.MakesRoom p s bytes added e → IsSound s → IsHeld kind g streams s → Leaves p s added
   roomed p s bytes added e (Legal.MakesRoom.flushes x m) sound h = flushes p s added m sound h
   roomed p s bytes added e (Legal.MakesRoom.stops count x m) sound h = inl (stops p s count added m h)
   roomed p s bytes added e (Legal.MakesRoom.exhausted x q is) sound h = inl (adds s added [] is tt h)
 
-  opens : (s : State) (actor : ℕ) (key : Key) (request response : List Field) (pin : ℕ) (added : List Rec) → Legal.MayOpenWrite s actor key request response pin added → IsHeld g streams s → IsHeld g streams (after_all s added)
+  opens : (s : State) (actor : ℕ) (key : Key) (request response : List Field) (pin : ℕ) (added : List Rec) → Legal.MayOpenWrite s actor key request response pin added → IsHeld kind g streams s → IsHeld kind g streams (after_all s added)
   opens s actor key request response pin added m h =
-      subst (λ xs. IsHeld g streams (after_all s xs)) (sym m.is) (held_opened g streams s m.who key request response pin m.quiet h)
+      subst (λ xs. IsHeld kind g streams (after_all s xs)) (sym m.is) (held_opened kind g streams s m.who key request response pin m.quiet h)
 
   -- ---- readers
 
@@ -118,16 +119,16 @@ module _ (g : Geometry) (streams : ℕ → Stream) where
   trouble_plain p s row before why (Given.Trouble.damaged found d) = (tt, tt)
 
   looked : (p : Permit) (s : State) (actor : ℕ) (key : Key) (request : List Field) (added : List Rec) (m : Legal.MayLook p s actor key request added) (before : List Rec) (answer : ReadAnswer)
-      → Legal.IsLookup p s key request before answer → IsHeld g streams s → IsHeld g streams (after_all s (before ++ rec.ReadOpened s.next_reader m.who key request answer ∷ []))
+      → Legal.IsLookup p s key request before answer → IsHeld kind g streams s → IsHeld kind g streams (after_all s (before ++ rec.ReadOpened s.next_reader m.who key request answer ∷ []))
   looked p s actor key request added m before answer (Legal.IsLookup.verdict r) h =
       let t : State = state_after s (rec.ReadOpened s.next_reader m.who key request answer) in
-      held_read_opened g streams s m.who key request answer (verdict_own s t streams m.who.0 key request (omega arith) (same_carries s t refl refl refl) h.own) h
+      held_read_opened kind g streams s m.who key request answer (verdict_own kind s t streams m.who.0 key request (omega arith) (same_carries s t refl refl refl) h.stands) h
   looked p s actor key request added m before answer (Legal.IsLookup.trouble row b why live trouble) h =
       let t : State = after_all s before in
       let same : t.next_reader ≡ s.next_reader = trouble_reader trouble in
-      subst (IsHeld g streams) (sym (after_all-append s before (rec.ReadOpened s.next_reader m.who key request answer ∷ [])))
-      (subst (λ n. IsHeld g streams (state_after t (rec.ReadOpened n m.who key request answer))) same
-      (held_read_opened g streams t m.who key request answer tt (plain s before (trouble_plain p s row before why trouble) h)))
+      subst (IsHeld kind g streams) (sym (after_all-append s before (rec.ReadOpened s.next_reader m.who key request answer ∷ [])))
+      (subst (λ n. IsHeld kind g streams (state_after t (rec.ReadOpened n m.who key request answer))) same
+      (held_read_opened kind g streams t m.who key request answer tt (plain s before (trouble_plain p s row before why trouble) h)))
     where
       trouble_reader : {row : Row} {before : List Rec} {why : Cause} → Given.Trouble p s row before why → (after_all s before).next_reader ≡ s.next_reader
       trouble_reader (Given.Trouble.faulted count w m) = refl
@@ -151,25 +152,25 @@ module _ (g : Geometry) (streams : ℕ → Stream) where
   plain_append [] b p q = q
   plain_append (r ∷ a) b p q = (p.0, plain_append a b p.1 q)
 
-  reads : (p : Permit) (s : State) (reader : ℕ) (answer : NextAnswer) (added : List Rec) → Legal.MayReadOn p s reader answer added → IsHeld g streams s → IsHeld g streams (after_all s added)
+  reads : (p : Permit) (s : State) (reader : ℕ) (answer : NextAnswer) (added : List Rec) → Legal.MayReadOn p s reader answer added → IsHeld kind g streams s → IsHeld kind g streams (after_all s added)
   reads p s reader answer added m h = adds s added _ m.is (plain_append m.before _ (reading_plain p s m.r m.before answer m.right) (answer_plain reader answer, tt)) h
 
   -- ---- each group
 
   -- a writer that opens
-  pub held_write : (p : Permit) (s : State) (actor : ℕ) (key : Key) (request response : List Field) (pin : ℕ) (added : List Rec) (e : End) → IsHeld g streams s
-      → Does p s (Write actor key request response pin) added e → IsHeld g streams (after_all s added)
+  pub held_write : (p : Permit) (s : State) (actor : ℕ) (key : Key) (request response : List Field) (pin : ℕ) (added : List Rec) (e : End) → IsHeld kind g streams s
+      → Does p s (Write actor key request response pin) added e → IsHeld kind g streams (after_all s added)
   held_write p s actor key request response pin added e h (Legal.DoesWrite.opens m) = opens s actor key request response pin added m h
   held_write p s actor key request response pin added e h (Legal.DoesWrite.many q m is) = adds s added [] is tt h
   held_write p s actor key request response pin added e h (Legal.DoesWrite.exhausted q m l is) = adds s added [] is tt h
 
-  pub held_group : (p : Permit) (s : State) (i : Intent) (added : List Rec) (e : End) → Fits g.fragment streams i → IsSound s → IsHeld g streams s → Does p s i added e → Leaves p s added
+  pub held_group : (p : Permit) (s : State) (i : Intent) (added : List Rec) (e : End) → Fits g.fragment streams i → IsSound s → IsHeld kind g streams s → Does p s i added e → Leaves p s added
   held_group p s Flush added e fits sound h (Legal.DoesFlush.empty q f is) = inl (adds s added [] is tt h)
   held_group p s Flush added e fits sound h (Legal.DoesFlush.flushes m) = flushes p s added m sound h
   held_group p s Flush added e fits sound h (Legal.DoesFlush.stops count m) = inl (stops p s count added m h)
   held_group p s Flush added e fits sound h (Legal.DoesFlush.exhausted q f b is) = inl (adds s added [] is tt h)
   held_group p s (Write actor key request response pin) added e fits sound h does = inl (held_write p s actor key request response pin added e h does)
-  held_group p s (Fragment put index payload) added e fits sound h (Legal.DoesFragment.places d m) = inl (held_fragment g streams p s put index payload added fits m h)
+  held_group p s (Fragment put index payload) added e fits sound h (Legal.DoesFragment.places d m) = inl (held_fragment kind g streams p s put index payload added fits m h)
   held_group p s (Fragment put index payload) added e fits sound h (Legal.DoesFragment.rooms w n m) = roomed p s _ added e m sound h
   held_group p s (Fragment put index payload) added e fits sound h (Legal.DoesFragment.exhausted w x n q) = inl (adds s added [] q.is tt h)
   held_group p s (Overflow put) added e fits sound h (Legal.DoesOverflow.aborts w q l is) = inl (aborts s put w added is q h)
@@ -177,18 +178,18 @@ module _ (g : Geometry) (streams : ℕ → Stream) where
   held_group p s (Weigh put rest) added e fits sound h (Legal.DoesWeigh.too_large w q r f is) = inl (aborts s put w added is q h)
   held_group p s (Weigh put rest) added e fits sound h (Legal.DoesWeigh.damaged w row found q live d is) = inl (adds s added _ is (tt, tt) h)
   held_group p s (Weigh put rest) added e fits sound h (Legal.DoesWeigh.faulted w row count q live r m is) = inl (adds s added _ is (tt, tt) h)
-  held_group p s (Finish put fragments) added e fits sound h (Legal.DoesFinish.places d m) = inl (held_vector g streams p s put fragments added fits m h)
+  held_group p s (Finish put fragments) added e fits sound h (Legal.DoesFinish.places d m) = inl (held_vector kind g streams p s put fragments added fits m h)
   held_group p s (Finish put fragments) added e fits sound h (Legal.DoesFinish.rooms w c m) = roomed p s _ added e m sound h
   held_group p s (Finish put fragments) added e fits sound h (Legal.DoesFinish.exhausted w x c l q) = inl (adds s added [] q.is tt h)
   held_group p s (Finish put fragments) added e fits sound h (Legal.DoesFinish.loses w index d m is) = inl (aborts s put w added is m.cut.writing h)
   held_group p s (Commit put) added e fits sound h (Legal.DoesCommit.commits w f o q is) =
-      inl (subst (λ xs. IsHeld g streams (after_all s xs)) (sym is) (held_committed g streams s put (total_length w.cuts) w f q h))
+      inl (subst (λ xs. IsHeld kind g streams (after_all s xs)) (sym is) (held_committed kind g streams s put (total_length w.cuts) w f q h))
   held_group p s (GiveUp put) added e fits sound h (Legal.DoesGiveUp.aborts w q is) = inl (aborts s put w added is q h)
   held_group p s (GiveUp put) added e fits sound h (Legal.DoesGiveUp.over q o is) = inl (adds s added [] is tt h)
   held_group p s (Remove key) added e fits sound h (Legal.DoesRemove.removes row q l is) = inl (adds s added _ is (tt, tt) h)
   held_group p s (Remove key) added e fits sound h (Legal.DoesRemove.absent q l is) = inl (adds s added [] is tt h)
   held_group p s (Look actor key request) added e fits sound h (Legal.DoesLook.looks m) =
-      inl (subst (λ xs. IsHeld g streams (after_all s xs)) (sym m.is) (looked p s actor key request added m m.before m.answer m.right h))
+      inl (subst (λ xs. IsHeld kind g streams (after_all s xs)) (sym m.is) (looked p s actor key request added m m.before m.answer m.right h))
   held_group p s (ReadOn reader) added e fits sound h (Legal.DoesReadOn.reads_on answer m) = inl (reads p s reader answer added m h)
   held_group p s (ReadAll reader) added e fits sound h (Legal.DoesReadAll.reads_on answer x m y) = inl (reads p s reader answer added m h)
   held_group p s (ReadAll reader) added e fits sound h (Legal.DoesReadAll.has_none q x is y) = inl (adds s added [] is tt h)
@@ -225,11 +226,11 @@ module _ (g : Geometry) (streams : ℕ → Stream) where
   left_fit i is why (Fails reason) all rest = cleanups_fit g.fragment streams is
 
   record IsOn (s : State) (w : Work) : Type 0 where
-    held : IsHeld g streams s
+    held : IsHeld kind g streams s
     fits : AllFit g.fragment streams w.intents
 
-  advanced : (p : Permit) (s : State) (is : List Intent) (why : Option Reason) (added : List Rec) (between : Work) → AllFit g.fragment streams is → IsSound s → IsHeld g streams s
-      → Advances p s is why added between → IsOn (after_all s added) between ⊎ IsOtherCopy p s streams
+  advanced : (p : Permit) (s : State) (is : List Intent) (why : Option Reason) (added : List Rec) (between : Work) → AllFit g.fragment streams is → IsSound s → IsHeld kind g streams s
+      → Advances p s is why added between → IsOn (after_all s added) between ⊎ kind.shows p s streams
   advanced p s [] why added between fits sound h a = absurd a
   advanced p s (i ∷ is) why added between fits sound h a =
       let now = fits (is_small p s i added a.0 h.geometry a.1) in
@@ -243,9 +244,9 @@ module _ (g : Geometry) (streams : ℕ → Stream) where
     pub added : List Rec
     pub left : Work
     pub grows : MayGrow p s w added left
-    pub copy : IsOtherCopy p (after_all s added) streams
+    pub copy : kind.shows p (after_all s added) streams
 
-  shown_here : (p : Permit) (s : State) (w : Work) → IsOtherCopy p s streams → IsShownFrom p s w
+  shown_here : (p : Permit) (s : State) (w : Work) → kind.shows p s streams → IsShownFrom p s w
   shown_here p s w copy = record { added = []; left = w; grows = nothing; copy = copy }
 
   shown_later : (p : Permit) (s : State) (w between : Work) (added : List Rec) → Advances p s w.intents w.refused added between → IsShownFrom p (after_all s added) between → IsShownFrom p s w
@@ -253,18 +254,18 @@ module _ (g : Geometry) (streams : ℕ → Stream) where
     added = added ++ v.added;
     left = v.left;
     grows = more added between one v.grows;
-    copy = subst (λ t. IsOtherCopy p t streams) (sym (after_all-append s added v.added)) v.copy;
+    copy = subst (λ t. kind.shows p t streams) (sym (after_all-append s added v.added)) v.copy;
   }
 
-  pub held_grown : {p : Permit} {s : State} {w after : Work} {recs : List Rec} → AllFit g.fragment streams w.intents → IsSound s → IsHeld g streams s → MayGrow p s w recs after
-      → IsHeld g streams (after_all s recs) ⊎ IsShownFrom p s w
+  pub held_grown : {p : Permit} {s : State} {w after : Work} {recs : List Rec} → AllFit g.fragment streams w.intents → IsSound s → IsHeld kind g streams s → MayGrow p s w recs after
+      → IsHeld kind g streams (after_all s recs) ⊎ IsShownFrom p s w
   held_grown fits sound h nothing = inl h
   held_grown {p} {s} {w} fits sound h (more {rest = tail} added between one others) =
       let later : IsLater s (after_all s added) = later_advanced p s w.intents w.refused added between one sound in
       elim (advanced p s w.intents w.refused added between fits sound h one) [
         | inr copy ↦ inr (shown_here p s w copy)
         | inl on ↦ elim (held_grown on.fits later.sound on.held others) [
-          | inl last ↦ inl (subst (IsHeld g streams) (sym (after_all-append s added tail)) last)
+          | inl last ↦ inl (subst (IsHeld kind g streams) (sym (after_all-append s added tail)) last)
           | inr v ↦ inr (shown_later p s w between added one v)
         ]
       ]

@@ -11,8 +11,9 @@ use Rattle.cache_model.specs.Legal.{IsQuiet, IsWriting}
 use Rattle.cache_model.proofs.Found.{none_is, number_of, same_some}
 use Rattle.cache_model.proofs.Rows.{part_all, part-filter}
 use Rattle.script_run.specs.Run.{Stream}
-use Rattle.script_run.specs.Own.{AreOwn, AreOwnPuts, IsOwnPut, IsOwnReader, IsOwnRow, IsTableOf}
-use Rattle.script_run.proofs.Carried.{AreAlike, Carries, GoesOn, own_alike, put_stays, puts_stay, readers_carried, rows_carried, same_carries}
+use Rattle.script_run.specs.Own.{AreOwnPuts, IsOwnPut, IsOwnReader, IsTableOf}
+use Rattle.script_run.proofs.Saying.{IsRow, Kind, Stands, stands_alike, rows_carried}
+use Rattle.script_run.proofs.Carried.{AreAlike, Carries, GoesOn, put_stays, puts_stay, readers_carried, same_carries}
 use Rattle.script_run.proofs.Changed.{Changes, Was, changed, changed_from, changed_to, either, found_as, other_stays}
 
 -- a put whose vector was placed last has cut all that its writer took
@@ -20,9 +21,9 @@ abbrev pub IsPendingWhole : State → (ℕ → Stream) → Type 0
 IsPendingWhole s streams = (put : ℕ) (w : PutRow) → put_of s put ≡ Some w → s.pending ≡ Some (vector_piece w.key put) → total_length w.cuts ≡ length (streams w.put).bytes
 
 -- what holds before and behind each group of records
-pub record IsHeld (g : Geometry) (streams : ℕ → Stream) (s : State) : Type 0 where
+pub record IsHeld (kind : Kind) (g : Geometry) (streams : ℕ → Stream) (s : State) : Type 0 where
   pub geometry : s.geometry ≡ g
-  pub own : AreOwn s streams
+  pub stands : Stands kind s streams
   pub displaced : s.displaced ≡ []
   pub pending : IsPendingWhole s streams
 
@@ -31,26 +32,26 @@ quiet_whole s streams quiet put w found waits = none_is (sym quiet ∙ waits)
 
 -- ---- states alike
 
-pub held_alike : (g : Geometry) (streams : ℕ → Stream) (s t : State) → AreAlike s t → t.displaced ≡ [] → IsHeld g streams s → IsHeld g streams t
-held_alike g streams s t a none h = record {
+pub held_alike : (kind : Kind) (g : Geometry) (streams : ℕ → Stream) (s t : State) → AreAlike s t → t.displaced ≡ [] → IsHeld kind g streams s → IsHeld kind g streams t
+held_alike kind g streams s t a none h = record {
   geometry = a.geometry ∙ h.geometry;
-  own = own_alike s t streams a h.own;
+  stands = stands_alike kind s t streams a h.stands;
   displaced = none;
   pending = λ put w found waits. h.pending put w (ap (find (λ (p : PutRow). p.put == put)) (sym a.puts) ∙ found) (sym a.pending ∙ waits);
 }
 
 -- readers that have gone on or were closed
-pub held_readers : (g : Geometry) (streams : ℕ → Stream) (s : State) (readers : List ReaderRow) (next : ℕ) → s.next_reader ≤ next
+pub held_readers : (kind : Kind) (g : Geometry) (streams : ℕ → Stream) (s : State) (readers : List ReaderRow) (next : ℕ) → s.next_reader ≤ next
     → (let t : State = record s { readers = readers; next_reader = next } in AllByRecursion (IsOwnReader t) readers)
-    → IsHeld g streams s → IsHeld g streams (record s { readers = readers; next_reader = next })
-held_readers g streams s readers next on each h =
+    → IsHeld kind g streams s → IsHeld kind g streams (record s { readers = readers; next_reader = next })
+held_readers kind g streams s readers next on each h =
     let t : State = record s { readers = readers; next_reader = next } in
     let c : Carries s t = same_carries s t refl refl refl in
     record {
       geometry = h.geometry;
-      own = record {
-        puts = puts_stay s t streams refl refl refl h.own.puts;
-        rows = rows_carried s t c streams s.rows h.own.rows;
+      stands = record {
+        puts = puts_stay s t streams refl refl refl h.stands.puts;
+        rows = rows_carried kind s t c streams s.rows h.stands.rows;
         readers = each;
       };
       displaced = h.displaced;
@@ -90,32 +91,32 @@ IsPlain _ = ⊥
 alike_with : (s t : State) → t.geometry ≡ s.geometry → t.next_put ≡ s.next_put → t.puts ≡ s.puts → t.pending ≡ s.pending → Rattle.cache_model.proofs.Rows.ArePart t.rows s.rows → t.readers ≡ s.readers → t.next_reader ≡ s.next_reader → AreAlike s t
 alike_with s t g n p q r d m = record { geometry = g; next_put = n; puts = p; pending = q; rows = r; readers = d; next_reader = m }
 
-pub held_plain : (g : Geometry) (streams : ℕ → Stream) (s : State) (r : Rec) → IsPlain r → IsHeld g streams s → IsHeld g streams (state_after s r)
-held_plain g streams s (rec.Formatted geometry) p h = absurd p
-held_plain g streams s (rec.Began cursor floor) p h = held_alike g streams s _ (alike_with s _ refl refl refl refl (part_all s.rows) refl refl) h.displaced h
-held_plain g streams s (rec.Placed piece place blocks digest pin) p h = absurd p
-held_plain g streams s (rec.Moved piece from place digest) p h = absurd p
-held_plain g streams s (rec.Unsaved piece place fault) p h = held_alike g streams s _ (alike_with s _ refl refl refl refl (part_all s.rows) refl refl) h.displaced h
-held_plain g streams s (rec.Displaced piece segment live) p h = absurd p
-held_plain g streams s (rec.Damaged piece place kept found) p h = held_alike g streams s _ (alike_with s _ refl refl refl refl (part-filter _ s.rows) refl refl) h.displaced h
-held_plain g streams s (rec.WriteOpened actor put key request response pin) p h = absurd p
-held_plain g streams s (rec.Cut put index length digest) p h = absurd p
-held_plain g streams s (rec.Committed put key length) p h = absurd p
-held_plain g streams s (rec.Aborted put key) p h = absurd p
-held_plain g streams s (rec.Removed put key) p h = held_alike g streams s _ (alike_with s _ refl refl refl refl (part-filter _ s.rows) refl refl) h.displaced h
-held_plain g streams s (rec.ReadOpened reader actor key request answer) p h = absurd p
-held_plain g streams s (rec.Gave reader index length) p h =
+pub held_plain : (kind : Kind) (g : Geometry) (streams : ℕ → Stream) (s : State) (r : Rec) → IsPlain r → IsHeld kind g streams s → IsHeld kind g streams (state_after s r)
+held_plain kind g streams s (rec.Formatted geometry) p h = absurd p
+held_plain kind g streams s (rec.Began cursor floor) p h = held_alike kind g streams s _ (alike_with s _ refl refl refl refl (part_all s.rows) refl refl) h.displaced h
+held_plain kind g streams s (rec.Placed piece place blocks digest pin) p h = absurd p
+held_plain kind g streams s (rec.Moved piece from place digest) p h = absurd p
+held_plain kind g streams s (rec.Unsaved piece place fault) p h = held_alike kind g streams s _ (alike_with s _ refl refl refl refl (part_all s.rows) refl refl) h.displaced h
+held_plain kind g streams s (rec.Displaced piece segment live) p h = absurd p
+held_plain kind g streams s (rec.Damaged piece place kept found) p h = held_alike kind g streams s _ (alike_with s _ refl refl refl refl (part-filter _ s.rows) refl refl) h.displaced h
+held_plain kind g streams s (rec.WriteOpened actor put key request response pin) p h = absurd p
+held_plain kind g streams s (rec.Cut put index length digest) p h = absurd p
+held_plain kind g streams s (rec.Committed put key length) p h = absurd p
+held_plain kind g streams s (rec.Aborted put key) p h = absurd p
+held_plain kind g streams s (rec.Removed put key) p h = held_alike kind g streams s _ (alike_with s _ refl refl refl refl (part-filter _ s.rows) refl refl) h.displaced h
+held_plain kind g streams s (rec.ReadOpened reader actor key request answer) p h = absurd p
+held_plain kind g streams s (rec.Gave reader index length) p h =
     let t : State = state_after s (rec.Gave reader index length) in
-    held_readers g streams s (change_reader reader (index + 1) s.readers) s.next_reader (omega arith)
-    (readers_moved t reader (index + 1) s.readers (readers_carried s t (same_carries s t refl refl refl) (omega arith) s.readers h.own.readers)) h
-held_plain g streams s (rec.Ended reader length) p h = h
-held_plain g streams s (rec.Waited reader cut) p h = h
-held_plain g streams s (rec.Broke reader why) p h = h
-held_plain g streams s (rec.ReadClosed reader) p h =
+    held_readers kind g streams s (change_reader reader (index + 1) s.readers) s.next_reader (omega arith)
+    (readers_moved t reader (index + 1) s.readers (readers_carried s t (same_carries s t refl refl refl) (omega arith) s.readers h.stands.readers)) h
+held_plain kind g streams s (rec.Ended reader length) p h = h
+held_plain kind g streams s (rec.Waited reader cut) p h = h
+held_plain kind g streams s (rec.Broke reader why) p h = h
+held_plain kind g streams s (rec.ReadClosed reader) p h =
     let t : State = state_after s (rec.ReadClosed reader) in
-    held_readers g streams s (without_reader reader s.readers) s.next_reader (omega arith)
-    (readers_left t reader s.readers (readers_carried s t (same_carries s t refl refl refl) (omega arith) s.readers h.own.readers)) h
-held_plain g streams s (rec.Fault count) p h = held_alike g streams s _ (alike_with s _ refl refl refl refl (part_all s.rows) refl refl) h.displaced h
+    held_readers kind g streams s (without_reader reader s.readers) s.next_reader (omega arith)
+    (readers_left t reader s.readers (readers_carried s t (same_carries s t refl refl refl) (omega arith) s.readers h.stands.readers)) h
+held_plain kind g streams s (rec.Fault count) p h = held_alike kind g streams s _ (alike_with s _ refl refl refl refl (part_all s.rows) refl refl) h.displaced h
 
 -- ---- a put changes
 
@@ -163,23 +164,23 @@ module _ (s t : State) (put : ℕ) (f : PutRow → PutRow) (w : PutRow) (ch : Is
       (λ here. subst (λ (p : PutRow). IsOwnPut t streams (f p)) (same_some w was.old (put_of s put) ch.writing.found (found_as s n put was.old was.found here)) new) old)
 
   -- where nothing else is changed
-  pub change_own : (streams : ℕ → Stream) → t.geometry ≡ s.geometry → t.next_put ≡ s.next_put → t.rows ≡ s.rows → t.readers ≡ s.readers → t.next_reader ≡ s.next_reader
-      → IsOwnPut t streams (f w) → AreOwn s streams → AreOwn t streams
-  change_own streams geometry next rows readers next_reader new own =
+  pub change_stands : (kind : Kind) (streams : ℕ → Stream) → t.geometry ≡ s.geometry → t.next_put ≡ s.next_put → t.rows ≡ s.rows → t.readers ≡ s.readers → t.next_reader ≡ s.next_reader
+      → IsOwnPut t streams (f w) → Stands kind s streams → Stands kind t streams
+  change_stands kind streams geometry next rows readers next_reader new own =
       let k : Carries s t = change_carries geometry in
       record {
         puts = change_puts streams geometry (omega (arith, next)) new own.puts;
-        rows = subst (AllByRecursion (IsOwnRow t streams)) (sym rows) (rows_carried s t k streams s.rows own.rows);
+        rows = subst (AllByRecursion (IsRow kind t streams)) (sym rows) (rows_carried kind s t k streams s.rows own.rows);
         readers = subst (AllByRecursion (IsOwnReader t)) (sym readers) (readers_carried s t k (omega (arith, next_reader)) s.readers own.readers);
       }
 
 -- an open put is given up
-pub held_aborted : (g : Geometry) (streams : ℕ → Stream) (s : State) (put : ℕ) (w : PutRow) → IsWriting s put w → IsHeld g streams s → IsHeld g streams (state_after s (rec.Aborted w.put w.key))
-held_aborted g streams s put w writing h =
+pub held_aborted : (kind : Kind) (g : Geometry) (streams : ℕ → Stream) (s : State) (put : ℕ) (w : PutRow) → IsWriting s put w → IsHeld kind g streams s → IsHeld kind g streams (state_after s (rec.Aborted w.put w.key))
+held_aborted kind g streams s put w writing h =
     let t : State = state_after s (rec.Aborted w.put w.key) in
     let number : w.put ≡ put = number_of s put w writing.found in
     let here : IsWriting s w.put w = subst (λ n. IsWriting s n w) (sym number) writing in
-    let p : IsOwnPut s streams w = h.own.puts put w writing.found in
+    let p : IsOwnPut s streams w = h.stands.puts put w writing.found in
     let new : IsOwnPut t streams (with_writing GivenUp w) = record {
       begun = p.begun;
       cuts = p.cuts;
@@ -188,7 +189,7 @@ held_aborted g streams s put w writing h =
     } in
     record {
       geometry = h.geometry;
-      own = change_own s t w.put (with_writing GivenUp) w (record { number = λ p. refl; more = λ p. omega arith; writing = here }) (record { puts = refl; keeps = λ p. refl }) streams refl refl refl refl refl new h.own;
+      stands = change_stands s t w.put (with_writing GivenUp) w (record { number = λ p. refl; more = λ p. omega arith; writing = here }) (record { puts = refl; keeps = λ p. refl }) kind streams refl refl refl refl refl new h.stands;
       displaced = h.displaced;
       pending = quiet_whole t streams writing.quiet;
     }

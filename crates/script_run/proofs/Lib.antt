@@ -2,10 +2,13 @@ pub mod Finding
 pub mod Changed
 pub mod Cuts
 pub mod Carried
+pub mod Saying
+pub mod Fragments
 pub mod Reading
 pub mod Others
 pub mod Held
 pub mod Flushing
+pub mod Flushed
 pub mod Listed
 pub mod Opened
 pub mod Placed

@@ -10,8 +10,7 @@ use Rattle.cache_model.specs.State.{State, Row, LastVector, Complete, TakenOut, 
 use Rattle.cache_model.specs.Permit.{IsAmong}
 use Rattle.cache_model.specs.Room.{displaced_record}
 use Rattle.cache_model.proofs.Rows.{part_all, part-filter, part-trans}
-use Rattle.script_run.specs.Run.{Stream}
-use Rattle.script_run.specs.Own.{AreAlternates, AreListedOf, IsListedOf, IsOwnRow}
+use Rattle.script_run.specs.Own.{AreAlternates, AreListedOf, IsListedOf}
 use Rattle.script_run.proofs.Carried.{AreAlike, alike_carries, all_append, all_as, all_part, listed_carried}
 use Rattle.script_run.proofs.Finding.{found_row}
 
@@ -33,9 +32,6 @@ listed_last s rows key None each = tt
 
 pub listed_among : (s : State) (rows : List Row) (key : Key) → AllByRecursion (AreAlternates s) rows → AllByRecursion (IsListedOf s) (list_among s rows key)
 listed_among s rows key each = listed_last s rows key (last_vector s key) each
-
-pub alternates_of_rows : (s : State) (streams : ℕ → Stream) (rows : List Row) → AllByRecursion (IsOwnRow s streams) rows → AllByRecursion (AreAlternates s) rows
-alternates_of_rows s streams rows each = all_as (IsOwnRow s streams) (AreAlternates s) (λ row own. own.1) rows each
 
 pub is_among : {X : Type 0} (P : X → Type 0) (x : X) (xs : List X) → AllByRecursion P xs → IsAmong x xs → P x
 is_among P x [] each among = absurd among

@@ -28,8 +28,11 @@ use Rattle.cache_model.proofs.Found.{no_truth, none_is}
 use Rattle.cache_model.proofs.Steps.{after_all-append}
 use Rattle.stripe_core.proofs.Going.{all_left}
 use Rattle.script_run.specs.Run.{Stream}
-use Rattle.script_run.specs.Own.{AreListedOf, AreOwn, IsListedOf, IsOwnFragment, IsOwnPut, IsOwnReader, IsOwnRow, IsTableOf, IsTableOfHit}
+use Rattle.script_run.specs.Own.{AreKept, AreListedOf, AreOwn, IsListedOf, IsOwnPut, IsOwnReader, IsTableOf, IsTableOfHit}
 use Rattle.script_run.specs.Laws.{is_reading}
+use Rattle.script_run.proofs.Carried.{same_carries}
+use Rattle.script_run.proofs.Saying.{IsRow, Kind, Stands, kept_kind, kept_stands, stands_kept}
+use Rattle.script_run.proofs.Fragments.{own_kind, own_stands, stands_own}
 
 -- ---- lists
 
@@ -84,20 +87,13 @@ table_stays s t put table base own = record {
   complete = elim own.complete [ inl closed ↦ inl closed | inr pending ↦ inr (base.pending ∙ pending) ];
 }
 
-fragment_stays : (s t : State) (streams : ℕ → Stream) (row : Row) → SameBase s t → IsOwnFragment s streams row → IsOwnFragment t streams row
-fragment_stays s t streams row base own = record {
-  w = own.w;
-  found = found_same s t row.id.put base ∙ own.found;
-  cut = own.cut;
-  digest = rw base.geometry own.digest;
-}
-
 listed_stays : (s t : State) (o : Option (List Stored)) → SameBase s t → AreListedOf s o → AreListedOf t o
 listed_stays s t None base own = own
 listed_stays s t (Some list) base own = all_map (IsListedOf s) (IsListedOf t) list (λ a. table_stays s t a.put a.table base) own
 
-row_stays : (s t : State) (streams : ℕ → Stream) (row : Row) → SameBase s t → IsOwnRow s streams row → IsOwnRow t streams row
-row_stays s t streams row base own = (λ some. fragment_stays s t streams row base (own.0 some), listed_stays s t row.alternates base own.1)
+row_stays : (kind : Kind) (s t : State) (streams : ℕ → Stream) (row : Row) → SameBase s t → IsRow kind s streams row → IsRow kind t streams row
+row_stays kind s t streams row base is =
+    (kind.carried s t (same_carries s t base.geometry base.puts base.pending) streams row is.0, listed_stays s t row.alternates base is.1)
 
 hit_stays : (s t : State) (r : ReaderRow) (o : Option (List TableRow)) → SameBase s t → IsTableOfHit s r o → IsTableOfHit t r o
 hit_stays s t r None base own = own
@@ -109,32 +105,32 @@ reader_stays s t r base rises own =
     record { begun = omega (arith, begun, rises); table = hit_stays s t r r.table base own.table }
 
 -- what stands is as it was, but for rows that went and for readers
-own_stays : (s t : State) (streams : ℕ → Stream) → SameBase s t → AllByRecursion (IsOwnRow s streams) t.rows → AllByRecursion (IsOwnReader t) t.readers → AreOwn s streams → AreOwn t streams
-own_stays s t streams base rows readers own = record {
+stands_on : (kind : Kind) (s t : State) (streams : ℕ → Stream) → SameBase s t → AllByRecursion (IsRow kind s streams) t.rows → AllByRecursion (IsOwnReader t) t.readers → Stands kind s streams → Stands kind t streams
+stands_on kind s t streams base rows readers own = record {
   puts = λ put w found. put_stays s t streams w base (own.puts put w (sym (found_same s t put base) ∙ found));
-  rows = all_map (IsOwnRow s streams) (IsOwnRow t streams) t.rows (λ row. row_stays s t streams row base) rows;
+  rows = all_map (IsRow kind s streams) (IsRow kind t streams) t.rows (λ row. row_stays kind s t streams row base) rows;
   readers = readers;
 }
 
 base : {s : State} → SameBase s s
 base = record { puts = refl; next_put = refl; geometry = refl; pending = refl }
 
-readers_stay : (s t : State) (streams : ℕ → Stream) → SameBase s t → s.next_reader ≤ t.next_reader → AreOwn s streams → AllByRecursion (IsOwnReader t) s.readers
-readers_stay s t streams same rises own = all_map (IsOwnReader s) (IsOwnReader t) s.readers (λ r. reader_stays s t r same rises) own.readers
+readers_stay : (kind : Kind) (s t : State) (streams : ℕ → Stream) → SameBase s t → s.next_reader ≤ t.next_reader → Stands kind s streams → AllByRecursion (IsOwnReader t) s.readers
+readers_stay kind s t streams same rises own = all_map (IsOwnReader s) (IsOwnReader t) s.readers (λ r. reader_stays s t r same rises) own.readers
 
 -- ---- each record
 
-fault_own : (s : State) (streams : ℕ → Stream) (count : ℕ) → AreOwn s streams → AreOwn (state_after s (rec.Fault count)) streams
-fault_own s streams count own =
+fault_leaves : (kind : Kind) (s : State) (streams : ℕ → Stream) (count : ℕ) → Stands kind s streams → Stands kind (state_after s (rec.Fault count)) streams
+fault_leaves kind s streams count own =
     let t : State = state_after s (rec.Fault count) in
     let same : SameBase s t = record { puts = refl; next_put = refl; geometry = refl; pending = refl } in
-    own_stays s t streams same own.rows (readers_stay s t streams same (omega arith) own) own
+    stands_on kind s t streams same own.rows (readers_stay kind s t streams same (omega arith) own) own
 
-damaged_own : (s : State) (streams : ℕ → Stream) (piece : PieceId) (place : ℕ) (kept other : Digest) → AreOwn s streams → AreOwn (state_after s (rec.Damaged piece place kept other)) streams
-damaged_own s streams piece place kept other own =
+damaged_leaves : (kind : Kind) (s : State) (streams : ℕ → Stream) (piece : PieceId) (place : ℕ) (kept other : Digest) → Stands kind s streams → Stands kind (state_after s (rec.Damaged piece place kept other)) streams
+damaged_leaves kind s streams piece place kept other own =
     let t : State = state_after s (rec.Damaged piece place kept other) in
     let same : SameBase s t = record { puts = refl; next_put = refl; geometry = refl; pending = refl } in
-    own_stays s t streams same (all_left (IsOwnRow s streams) piece s.rows own.rows) (readers_stay s t streams same (omega arith) own) own
+    stands_on kind s t streams same (all_left (IsRow kind s streams) piece s.rows own.rows) (readers_stay kind s t streams same (omega arith) own) own
 
 moved_one : (s : State) (b : Bool) (next : ℕ) (r : ReaderRow) → IsOwnReader s r → IsOwnReader s (if b then record r { next = next } else r)
 moved_one s true next r own = record { begun = own.begun; table = own.table }
@@ -144,23 +140,23 @@ moved_all : (s : State) (reader next : ℕ) (rs : List ReaderRow) → AllByRecur
 moved_all s reader next [] own = tt
 moved_all s reader next (r ∷ rs) own = (moved_one s (r.reader == reader) next r own.0, moved_all s reader next rs own.1)
 
-gave_own : (s : State) (streams : ℕ → Stream) (reader index length : ℕ) → AreOwn s streams → AreOwn (state_after s (rec.Gave reader index length)) streams
-gave_own s streams reader index length own =
+gave_leaves : (kind : Kind) (s : State) (streams : ℕ → Stream) (reader index length : ℕ) → Stands kind s streams → Stands kind (state_after s (rec.Gave reader index length)) streams
+gave_leaves kind s streams reader index length own =
     let t : State = state_after s (rec.Gave reader index length) in
     let same : SameBase s t = record { puts = refl; next_put = refl; geometry = refl; pending = refl } in
-    own_stays s t streams same own.rows (moved_all t reader (index + 1) s.readers (readers_stay s t streams same (omega arith) own)) own
+    stands_on kind s t streams same own.rows (moved_all t reader (index + 1) s.readers (readers_stay kind s t streams same (omega arith) own)) own
 
-closed_own : (s : State) (streams : ℕ → Stream) (reader : ℕ) → AreOwn s streams → AreOwn (state_after s (rec.ReadClosed reader)) streams
-closed_own s streams reader own =
+closed_leaves : (kind : Kind) (s : State) (streams : ℕ → Stream) (reader : ℕ) → Stands kind s streams → Stands kind (state_after s (rec.ReadClosed reader)) streams
+closed_leaves kind s streams reader own =
     let t : State = state_after s (rec.ReadClosed reader) in
     let same : SameBase s t = record { puts = refl; next_put = refl; geometry = refl; pending = refl } in
-    own_stays s t streams same own.rows (all_without (IsOwnReader t) reader s.readers (readers_stay s t streams same (omega arith) own)) own
+    stands_on kind s t streams same own.rows (all_without (IsOwnReader t) reader s.readers (readers_stay kind s t streams same (omega arith) own)) own
 
-answered_own : (s : State) (streams : ℕ → Stream) (reader : ℕ) (answer : NextAnswer) → AreOwn s streams → AreOwn (state_after s (answer_record reader answer)) streams
-answered_own s streams reader (next.Gave index length) own = gave_own s streams reader index length own
-answered_own s streams reader (next.Ended length) own = own
-answered_own s streams reader (next.Waited cut) own = own
-answered_own s streams reader (next.Broke why) own = own
+answered_leaves : (kind : Kind) (s : State) (streams : ℕ → Stream) (reader : ℕ) (answer : NextAnswer) → Stands kind s streams → Stands kind (state_after s (answer_record reader answer)) streams
+answered_leaves kind s streams reader (next.Gave index length) own = gave_leaves kind s streams reader index length own
+answered_leaves kind s streams reader (next.Ended length) own = own
+answered_leaves kind s streams reader (next.Waited cut) own = own
+answered_leaves kind s streams reader (next.Broke why) own = own
 
 -- ---- a lookup
 
@@ -170,18 +166,18 @@ row_lists s streams row true None own = tt
 row_lists s streams row true (Some list) own = own
 row_lists s streams row false o own = tt
 
-found_lists : (s : State) (streams : ℕ → Stream) (id : PieceId) (o : Option Row) → row_in s.rows id ≡ o → AreOwn s streams → AllByRecursion (IsListedOf s) (unwrap_or (option_map (list_of_row s) o) [])
-found_lists s streams id None found own = tt
-found_lists s streams id (Some row) found own =
-    row_lists s streams row (is_live s row) row.alternates (found_row (IsOwnRow s streams) id s.rows row own.rows found).1
+found_lists : (kind : Kind) (s : State) (streams : ℕ → Stream) (id : PieceId) (o : Option Row) → row_in s.rows id ≡ o → Stands kind s streams → AllByRecursion (IsListedOf s) (unwrap_or (option_map (list_of_row s) o) [])
+found_lists kind s streams id None found own = tt
+found_lists kind s streams id (Some row) found own =
+    row_lists s streams row (is_live s row) row.alternates (found_row (IsRow kind s streams) id s.rows row own.rows found).1
 
-last_lists : (s : State) (streams : ℕ → Stream) (key : Key) (o : Option LastVector) → AreOwn s streams → AllByRecursion (IsListedOf s) (unwrap_or (option_map (list_of_last s s.rows key) o) [])
-last_lists s streams key None own = tt
-last_lists s streams key (Some (Complete put)) own = found_lists s streams (vector_piece key put) (row_in s.rows (vector_piece key put)) refl own
-last_lists s streams key (Some (TakenOut put)) own = tt
+last_lists : (kind : Kind) (s : State) (streams : ℕ → Stream) (key : Key) (o : Option LastVector) → Stands kind s streams → AllByRecursion (IsListedOf s) (unwrap_or (option_map (list_of_last s s.rows key) o) [])
+last_lists kind s streams key None own = tt
+last_lists kind s streams key (Some (Complete put)) own = found_lists kind s streams (vector_piece key put) (row_in s.rows (vector_piece key put)) refl own
+last_lists kind s streams key (Some (TakenOut put)) own = tt
 
-alternates_own : (s : State) (streams : ℕ → Stream) (key : Key) → AreOwn s streams → AllByRecursion (IsListedOf s) (alternates_of s key)
-alternates_own s streams key own = last_lists s streams key (last_vector s key) own
+alternates_own : (kind : Kind) (s : State) (streams : ℕ → Stream) (key : Key) → Stands kind s streams → AllByRecursion (IsListedOf s) (alternates_of s key)
+alternates_own kind s streams key own = last_lists kind s streams key (last_vector s key) own
 
 -- a hit has the table of an alternate that is listed
 record IsHitOf (s : State) (key : Key) (request : List Field) (put : ℕ) : Type 0 where
@@ -198,10 +194,10 @@ hit_by : (s : State) (key : Key) (request : List Field) (put : ℕ) (o : Option 
 hit_by s key request put None none h = absurd (no_hit s key put (followed s key request) h)
 hit_by s key request put (Some a) found h = record { a = a; found = found; put_is = cc }
 
-hit_table : (s : State) (streams : ℕ → Stream) (key : Key) (request : List Field) (put : ℕ) → AreOwn s streams → lookup_verdict s key request ≡ read.Hit put → IsTableOf s put (table_of_hit s key request)
-hit_table s streams key request put own verdict =
+hit_table : (kind : Kind) (s : State) (streams : ℕ → Stream) (key : Key) (request : List Field) (put : ℕ) → Stands kind s streams → lookup_verdict s key request ≡ read.Hit put → IsTableOf s put (table_of_hit s key request)
+hit_table kind s streams key request put own verdict =
     let h : IsHitOf s key request put = hit_by s key request put (hit s key request) refl verdict in
-    let listed : IsListedOf s h.a = all_among (IsListedOf s) (alternates_of s key) h.a (alternates_own s streams key own) (hit_matches s key request h.a h.found).0 in
+    let listed : IsListedOf s h.a = all_among (IsListedOf s) (alternates_of s key) h.a (alternates_own kind s streams key own) (hit_matches s key request h.a h.found).0 in
     let table : table_of_hit s key request ≡ h.a.table = ap (λ (o : Option Stored). unwrap_or (option_map (λ (a : Stored). a.table) o) []) h.found in
     subst (IsTableOf s put) (sym table) (subst (λ n. IsTableOf s n h.a.table) h.put_is listed)
 
@@ -211,83 +207,89 @@ HitsOwn s key request (read.Hit put) = IsTableOf s put (table_of_hit s key reque
 HitsOwn s key request (read.Follow put) = Unit {0}
 HitsOwn s key request (read.Miss why) = Unit {0}
 
-opened_own : (s : State) (streams : ℕ → Stream) (who : Actor) (key : Key) (request : List Field) (answer : ReadAnswer) → HitsOwn s key request answer → AreOwn s streams
-    → AreOwn (state_after s (rec.ReadOpened s.next_reader who key request answer)) streams
-opened_own s streams who key request (read.Hit put) hits own =
+opened_leaves : (kind : Kind) (s : State) (streams : ℕ → Stream) (who : Actor) (key : Key) (request : List Field) (answer : ReadAnswer) → HitsOwn s key request answer → Stands kind s streams
+    → Stands kind (state_after s (rec.ReadOpened s.next_reader who key request answer)) streams
+opened_leaves kind s streams who key request (read.Hit put) hits own =
     let t : State = state_after s (rec.ReadOpened s.next_reader who key request (read.Hit put)) in
     let same : SameBase s t = record { puts = refl; next_put = refl; geometry = refl; pending = refl } in
-    own_stays s t streams same own.rows (record { begun = omega arith; table = table_stays s t put (table_of_hit s key request) same hits }, readers_stay s t streams same (omega arith) own) own
-opened_own s streams who key request (read.Follow put) hits own =
+    stands_on kind s t streams same own.rows (record { begun = omega arith; table = table_stays s t put (table_of_hit s key request) same hits }, readers_stay kind s t streams same (omega arith) own) own
+opened_leaves kind s streams who key request (read.Follow put) hits own =
     let t : State = state_after s (rec.ReadOpened s.next_reader who key request (read.Follow put)) in
     let same : SameBase s t = record { puts = refl; next_put = refl; geometry = refl; pending = refl } in
-    own_stays s t streams same own.rows (record { begun = omega arith; table = tt }, readers_stay s t streams same (omega arith) own) own
-opened_own s streams who key request (read.Miss why) hits own =
+    stands_on kind s t streams same own.rows (record { begun = omega arith; table = tt }, readers_stay kind s t streams same (omega arith) own) own
+opened_leaves kind s streams who key request (read.Miss why) hits own =
     let t : State = state_after s (rec.ReadOpened s.next_reader who key request (read.Miss why)) in
     let same : SameBase s t = record { puts = refl; next_put = refl; geometry = refl; pending = refl } in
-    own_stays s t streams same own.rows (readers_stay s t streams same (omega arith) own) own
+    stands_on kind s t streams same own.rows (readers_stay kind s t streams same (omega arith) own) own
 
-verdict_hits : (s : State) (streams : ℕ → Stream) (key : Key) (request : List Field) (answer : ReadAnswer) → lookup_verdict s key request ≡ answer → AreOwn s streams → HitsOwn s key request answer
-verdict_hits s streams key request (read.Hit put) is own = hit_table s streams key request put own is
-verdict_hits s streams key request (read.Follow put) is own = tt
-verdict_hits s streams key request (read.Miss why) is own = tt
+verdict_hits : (kind : Kind) (s : State) (streams : ℕ → Stream) (key : Key) (request : List Field) (answer : ReadAnswer) → lookup_verdict s key request ≡ answer → Stands kind s streams → HitsOwn s key request answer
+verdict_hits kind s streams key request (read.Hit put) is own = hit_table kind s streams key request put own is
+verdict_hits kind s streams key request (read.Follow put) is own = tt
+verdict_hits kind s streams key request (read.Miss why) is own = tt
 
-troubled_own : (p : Permit) (s : State) (streams : ℕ → Stream) (row : Row) (before : List Rec) (why : Cause) → Given.Trouble p s row before why → AreOwn s streams → AreOwn (after_all s before) streams
-troubled_own p s streams row before why (Given.Trouble.faulted count w m) own = fault_own s streams count own
-troubled_own p s streams row before why (Given.Trouble.damaged found d) own = damaged_own s streams row.id row.place row.digest found own
+troubled_leaves : (kind : Kind) (p : Permit) (s : State) (streams : ℕ → Stream) (row : Row) (before : List Rec) (why : Cause) → Given.Trouble p s row before why → Stands kind s streams → Stands kind (after_all s before) streams
+troubled_leaves kind p s streams row before why (Given.Trouble.faulted count w m) own = fault_leaves kind s streams count own
+troubled_leaves kind p s streams row before why (Given.Trouble.damaged found d) own = damaged_leaves kind s streams row.id row.place row.digest found own
 
 trouble_number : (p : Permit) (s : State) (row : Row) (before : List Rec) (why : Cause) → Given.Trouble p s row before why → (after_all s before).next_reader ≡ s.next_reader
 trouble_number p s row before why (Given.Trouble.faulted count w m) = refl
 trouble_number p s row before why (Given.Trouble.damaged found d) = refl
 
-looked_own : (p : Permit) (s : State) (streams : ℕ → Stream) (who : Actor) (key : Key) (request : List Field) (before : List Rec) (answer : ReadAnswer)
-    → Legal.IsLookup p s key request before answer → AreOwn s streams → AreOwn (state_after (after_all s before) (rec.ReadOpened s.next_reader who key request answer)) streams
-looked_own p s streams who key request before answer (Legal.IsLookup.verdict r) own =
-    opened_own s streams who key request (lookup_verdict s key request) (verdict_hits s streams key request (lookup_verdict s key request) refl own) own
-looked_own p s streams who key request before answer (Legal.IsLookup.trouble row b why live t) own =
-    subst (λ n. AreOwn (state_after (after_all s before) (rec.ReadOpened n who key request (read.Miss why))) streams) (trouble_number p s row before why t)
-    (opened_own (after_all s before) streams who key request (read.Miss why) tt (troubled_own p s streams row before why t own))
+looked_leaves : (kind : Kind) (p : Permit) (s : State) (streams : ℕ → Stream) (who : Actor) (key : Key) (request : List Field) (before : List Rec) (answer : ReadAnswer)
+    → Legal.IsLookup p s key request before answer → Stands kind s streams → Stands kind (state_after (after_all s before) (rec.ReadOpened s.next_reader who key request answer)) streams
+looked_leaves kind p s streams who key request before answer (Legal.IsLookup.verdict r) own =
+    opened_leaves kind s streams who key request (lookup_verdict s key request) (verdict_hits kind s streams key request (lookup_verdict s key request) refl own) own
+looked_leaves kind p s streams who key request before answer (Legal.IsLookup.trouble row b why live t) own =
+    subst (λ n. Stands kind (state_after (after_all s before) (rec.ReadOpened n who key request (read.Miss why))) streams) (trouble_number p s row before why t)
+    (opened_leaves kind (after_all s before) streams who key request (read.Miss why) tt (troubled_leaves kind p s streams row before why t own))
 
 -- ---- a group
 
-as_added : (s : State) (streams : ℕ → Stream) (added before : List Rec) (last : Rec) → added ≡ before ++ last ∷ [] → AreOwn (state_after (after_all s before) last) streams → AreOwn (after_all s added) streams
-as_added s streams added before last is own = subst (λ t. AreOwn t streams) (sym (ap (after_all s) is ∙ after_all-append s before (last ∷ []))) own
+as_added : (kind : Kind) (s : State) (streams : ℕ → Stream) (added before : List Rec) (last : Rec) → added ≡ before ++ last ∷ [] → Stands kind (state_after (after_all s before) last) streams → Stands kind (after_all s added) streams
+as_added kind s streams added before last is own = subst (λ t. Stands kind t streams) (sym (ap (after_all s) is ∙ after_all-append s before (last ∷ []))) own
 
-fragment_troubled : (p : Permit) (s : State) (streams : ℕ → Stream) (r : ReaderRow) (row : Row) (entry : TableRow) (before : List Rec) (why : Cause)
-    → Legal.ReadTrouble p s r row entry before why → AreOwn s streams → AreOwn (after_all s before) streams
-fragment_troubled p s streams r row entry before why (Legal.ReadTrouble.troubled b c t) own = troubled_own p s streams row before why t own
-fragment_troubled p s streams r row entry before why (Legal.ReadTrouble.mismatched found hit m) own = damaged_own s streams row.id row.place (Legal.digest_in entry) found own
+fragment_troubled : (kind : Kind) (p : Permit) (s : State) (streams : ℕ → Stream) (r : ReaderRow) (row : Row) (entry : TableRow) (before : List Rec) (why : Cause)
+    → Legal.ReadTrouble p s r row entry before why → Stands kind s streams → Stands kind (after_all s before) streams
+fragment_troubled kind p s streams r row entry before why (Legal.ReadTrouble.troubled b c t) own = troubled_leaves kind p s streams row before why t own
+fragment_troubled kind p s streams r row entry before why (Legal.ReadTrouble.mismatched found hit m) own = damaged_leaves kind s streams row.id row.place (Legal.digest_in entry) found own
 
-reading_own : (p : Permit) (s : State) (streams : ℕ → Stream) (r : ReaderRow) (before : List Rec) (answer : NextAnswer) → Legal.IsReading p s r before answer → AreOwn s streams → AreOwn (after_all s before) streams
-reading_own p s streams r before answer (Legal.IsReading.verdict x) own = own
-reading_own p s streams r before answer (Legal.IsReading.trouble entry row b why n live t) own = fragment_troubled p s streams r row entry before why t own
+reading_leaves : (kind : Kind) (p : Permit) (s : State) (streams : ℕ → Stream) (r : ReaderRow) (before : List Rec) (answer : NextAnswer) → Legal.IsReading p s r before answer → Stands kind s streams → Stands kind (after_all s before) streams
+reading_leaves kind p s streams r before answer (Legal.IsReading.verdict x) own = own
+reading_leaves kind p s streams r before answer (Legal.IsReading.trouble entry row b why n live t) own = fragment_troubled kind p s streams r row entry before why t own
 
-read_own : (p : Permit) (s : State) (streams : ℕ → Stream) (reader : ℕ) (answer : NextAnswer) (added : List Rec) → Legal.MayReadOn p s reader answer added → AreOwn s streams → AreOwn (after_all s added) streams
-read_own p s streams reader answer added m own =
-    as_added s streams added m.before _ m.is (answered_own (after_all s m.before) streams reader answer (reading_own p s streams m.r m.before answer m.right own))
+read_leaves : (kind : Kind) (p : Permit) (s : State) (streams : ℕ → Stream) (reader : ℕ) (answer : NextAnswer) (added : List Rec) → Legal.MayReadOn p s reader answer added → Stands kind s streams → Stands kind (after_all s added) streams
+read_leaves kind p s streams reader answer added m own =
+    as_added kind s streams added m.before _ m.is (answered_leaves kind (after_all s m.before) streams reader answer (reading_leaves kind p s streams m.r m.before answer m.right own))
 
-look_own : (p : Permit) (s : State) (streams : ℕ → Stream) (actor : ℕ) (key : Key) (request : List Field) (added : List Rec) → Legal.MayLook p s actor key request added → AreOwn s streams → AreOwn (after_all s added) streams
-look_own p s streams actor key request added m own =
-    as_added s streams added m.before _ m.is (looked_own p s streams m.who key request m.before m.answer m.right own)
+look_leaves : (kind : Kind) (p : Permit) (s : State) (streams : ℕ → Stream) (actor : ℕ) (key : Key) (request : List Field) (added : List Rec) → Legal.MayLook p s actor key request added → Stands kind s streams → Stands kind (after_all s added) streams
+look_leaves kind p s streams actor key request added m own =
+    as_added kind s streams added m.before _ m.is (looked_leaves kind p s streams m.who key request m.before m.answer m.right own)
 
-none_own : (s : State) (streams : ℕ → Stream) (added : List Rec) → added ≡ [] → AreOwn s streams → AreOwn (after_all s added) streams
-none_own s streams added is own = subst (λ recs. AreOwn (after_all s recs) streams) (sym is) own
+none_leaves : (kind : Kind) (s : State) (streams : ℕ → Stream) (added : List Rec) → added ≡ [] → Stands kind s streams → Stands kind (after_all s added) streams
+none_leaves kind s streams added is own = subst (λ recs. Stands kind (after_all s recs) streams) (sym is) own
 
-one_own : (s : State) (streams : ℕ → Stream) (added : List Rec) (r : Rec) → added ≡ r ∷ [] → AreOwn (state_after s r) streams → AreOwn (after_all s added) streams
-one_own s streams added r is own = subst (λ recs. AreOwn (after_all s recs) streams) (sym is) own
+one_leaves : (kind : Kind) (s : State) (streams : ℕ → Stream) (added : List Rec) (r : Rec) → added ≡ r ∷ [] → Stands kind (state_after s r) streams → Stands kind (after_all s added) streams
+one_leaves kind s streams added r is own = subst (λ recs. Stands kind (after_all s recs) streams) (sym is) own
+
+reads_leave : (kind : Kind) (p : Permit) (s : State) (streams : ℕ → Stream) (i : Intent) (added : List Rec) (e : End) → is_reading i ≡ true → Stands kind s streams → Does p s i added e → Stands kind (after_all s added) streams
+reads_leave kind p s streams (Look actor key request) added e reads own (Legal.DoesLook.looks m) = look_leaves kind p s streams actor key request added m own
+reads_leave kind p s streams (ReadOn reader) added e reads own (Legal.DoesReadOn.reads_on answer m) = read_leaves kind p s streams reader answer added m own
+reads_leave kind p s streams (ReadAll reader) added e reads own (Legal.DoesReadAll.reads_on answer hit m is) = read_leaves kind p s streams reader answer added m own
+reads_leave kind p s streams (ReadAll reader) added e reads own (Legal.DoesReadAll.has_none quiet none is d) = none_leaves kind s streams added is own
+reads_leave kind p s streams (StopReading reader) added e reads own (Legal.DoesStopReading.closes r quiet found is) = one_leaves kind s streams added _ is (closed_leaves kind s streams reader own)
+reads_leave kind p s streams (StopReading reader) added e reads own (Legal.DoesStopReading.closed quiet none is) = none_leaves kind s streams added is own
+reads_leave kind p s streams Flush added e reads own d = no_truth (sym reads)
+reads_leave kind p s streams (Write actor key request response pin) added e reads own d = no_truth (sym reads)
+reads_leave kind p s streams (Fragment put index payload) added e reads own d = no_truth (sym reads)
+reads_leave kind p s streams (Overflow put) added e reads own d = no_truth (sym reads)
+reads_leave kind p s streams (Weigh put rest) added e reads own d = no_truth (sym reads)
+reads_leave kind p s streams (Finish put fragments) added e reads own d = no_truth (sym reads)
+reads_leave kind p s streams (Commit put) added e reads own d = no_truth (sym reads)
+reads_leave kind p s streams (GiveUp put) added e reads own d = no_truth (sym reads)
+reads_leave kind p s streams (Remove key) added e reads own d = no_truth (sym reads)
 
 pub reads_own : (p : Permit) (s : State) (streams : ℕ → Stream) (i : Intent) (added : List Rec) (e : End) → is_reading i ≡ true → AreOwn s streams → Does p s i added e → AreOwn (after_all s added) streams
-reads_own p s streams (Look actor key request) added e reads own (Legal.DoesLook.looks m) = look_own p s streams actor key request added m own
-reads_own p s streams (ReadOn reader) added e reads own (Legal.DoesReadOn.reads_on answer m) = read_own p s streams reader answer added m own
-reads_own p s streams (ReadAll reader) added e reads own (Legal.DoesReadAll.reads_on answer hit m is) = read_own p s streams reader answer added m own
-reads_own p s streams (ReadAll reader) added e reads own (Legal.DoesReadAll.has_none quiet none is d) = none_own s streams added is own
-reads_own p s streams (StopReading reader) added e reads own (Legal.DoesStopReading.closes r quiet found is) = one_own s streams added _ is (closed_own s streams reader own)
-reads_own p s streams (StopReading reader) added e reads own (Legal.DoesStopReading.closed quiet none is) = none_own s streams added is own
-reads_own p s streams Flush added e reads own d = no_truth (sym reads)
-reads_own p s streams (Write actor key request response pin) added e reads own d = no_truth (sym reads)
-reads_own p s streams (Fragment put index payload) added e reads own d = no_truth (sym reads)
-reads_own p s streams (Overflow put) added e reads own d = no_truth (sym reads)
-reads_own p s streams (Weigh put rest) added e reads own d = no_truth (sym reads)
-reads_own p s streams (Finish put fragments) added e reads own d = no_truth (sym reads)
-reads_own p s streams (Commit put) added e reads own d = no_truth (sym reads)
-reads_own p s streams (GiveUp put) added e reads own d = no_truth (sym reads)
-reads_own p s streams (Remove key) added e reads own d = no_truth (sym reads)
+reads_own p s streams i added e reads own does = own_stands (after_all s added) streams (reads_leave own_kind p s streams i added e reads (stands_own s streams own) does)
+
+pub reads_keep : (p : Permit) (s : State) (streams : ℕ → Stream) (i : Intent) (added : List Rec) (e : End) → is_reading i ≡ true → AreKept s streams → Does p s i added e → AreKept (after_all s added) streams
+reads_keep p s streams i added e reads kept does = kept_stands (after_all s added) streams (reads_leave kept_kind p s streams i added e reads (stands_kept s streams kept) does)

@@ -17,11 +17,12 @@ use Rattle.cache_model.specs.Legal.{IsQuiet}
 use Rattle.cache_model.proofs.Found.{number_of, same_some}
 use Rattle.cache_model.proofs.Answered.{hit_matches}
 use Rattle.script_run.specs.Run.{Stream}
-use Rattle.script_run.specs.Own.{AreOwn, AreOwnPuts, IsListedOf, IsOwnPut, IsOwnReader, IsTableOf}
+use Rattle.script_run.specs.Own.{AreOwnPuts, IsListedOf, IsOwnPut, IsOwnReader, IsTableOf}
+use Rattle.script_run.proofs.Saying.{alternates_of_rows, Kind, Stands, rows_carried}
 use Rattle.script_run.proofs.Cuts.{no_cuts}
-use Rattle.script_run.proofs.Carried.{Carries, all_append, put_stays, readers_carried, rows_carried, same_carries}
+use Rattle.script_run.proofs.Carried.{Carries, all_append, put_stays, readers_carried, same_carries}
 use Rattle.script_run.proofs.Held.{IsHeld, held_readers, quiet_whole}
-use Rattle.script_run.proofs.Listed.{alternates_of_rows, is_among, listed_among}
+use Rattle.script_run.proofs.Listed.{is_among, listed_among}
 
 -- ---- a put
 
@@ -41,12 +42,12 @@ opened_by : (P : PutRow → Type 0) (new x : PutRow) (other : Option PutRow) (b 
 opened_by P new x other true p rest found = subst P (same_some new x (Some new) refl found) p
 opened_by P new x other false p rest found = rest found
 
-pub held_opened : (g : Geometry) (streams : ℕ → Stream) (s : State) (actor : Actor) (key : Key) (request response : List Field) (pin : ℕ) → IsQuiet s → IsHeld g streams s
-    → IsHeld g streams (state_after s (rec.WriteOpened actor s.next_put key request response pin))
-held_opened g streams s actor key request response pin quiet h =
+pub held_opened : (kind : Kind) (g : Geometry) (streams : ℕ → Stream) (s : State) (actor : Actor) (key : Key) (request response : List Field) (pin : ℕ) → IsQuiet s → IsHeld kind g streams s
+    → IsHeld kind g streams (state_after s (rec.WriteOpened actor s.next_put key request response pin))
+held_opened kind g streams s actor key request response pin quiet h =
     let t : State = state_after s (rec.WriteOpened actor s.next_put key request response pin) in
     let new : PutRow = opened_put actor.0 s.next_put key request response pin in
-    let stays : (n : ℕ) (w : PutRow) → put_of s n ≡ Some w → put_of t n ≡ Some w = still s streams new refl h.own.puts in
+    let stays : (n : ℕ) (w : PutRow) → put_of s n ≡ Some w → put_of t n ≡ Some w = still s streams new refl h.stands.puts in
     let c : Carries s t = record {
       geometry = refl;
       tables = λ n table x. record { w = x.w; found = stays n x.w x.found; cuts = x.cuts; complete = x.complete };
@@ -60,10 +61,10 @@ held_opened g streams s actor key request response pin quiet h =
     } in
     record {
       geometry = h.geometry;
-      own = record {
-        puts = λ n x found. opened_by (IsOwnPut t streams) new x (put_of s n) (new.put == n) own_new (λ before. put_stays s t streams x refl (omega arith) (h.own.puts n x before)) found;
-        rows = rows_carried s t c streams s.rows h.own.rows;
-        readers = readers_carried s t c (omega arith) s.readers h.own.readers;
+      stands = record {
+        puts = λ n x found. opened_by (IsOwnPut t streams) new x (put_of s n) (new.put == n) own_new (λ before. put_stays s t streams x refl (omega arith) (h.stands.puts n x before)) found;
+        rows = rows_carried kind s t c streams s.rows h.stands.rows;
+        readers = readers_carried s t c (omega arith) s.readers h.stands.readers;
       };
       displaced = h.displaced;
       pending = quiet_whole t streams quiet;
@@ -88,17 +89,17 @@ hit_own s t actor key request other (Some a) e on c listed rest =
     let table : table_of_hit s key request ≡ a.table = ap (λ (o : Option Stored). unwrap_or (option_map (λ (b : Stored). b.table) o) []) e in
     (record { begun = on; table = c.tables a.put (table_of_hit s key request) (subst (IsTableOf s a.put) (sym table) own) }, tt)
 
-pub verdict_own : (s t : State) (streams : ℕ → Stream) (actor : ℕ) (key : Key) (request : List Field) → s.next_reader < t.next_reader → Carries s t → AreOwn s streams
+pub verdict_own : (kind : Kind) (s t : State) (streams : ℕ → Stream) (actor : ℕ) (key : Key) (request : List Field) → s.next_reader < t.next_reader → Carries s t → Stands kind s streams
     → OwnOpened s t actor key request (lookup_verdict s key request)
-verdict_own s t streams actor key request on c own =
-    hit_own s t actor key request _ (hit s key request) refl on c (listed_among s s.rows key (alternates_of_rows s streams s.rows own.rows))
+verdict_own kind s t streams actor key request on c own =
+    hit_own s t actor key request _ (hit s key request) refl on c (listed_among s s.rows key (alternates_of_rows kind s streams s.rows own.rows))
     (follow_own s t actor key request _ (followed s key request) on)
 
-pub held_read_opened : (g : Geometry) (streams : ℕ → Stream) (s : State) (actor : Actor) (key : Key) (request : List Field) (answer : ReadAnswer)
+pub held_read_opened : (kind : Kind) (g : Geometry) (streams : ℕ → Stream) (s : State) (actor : Actor) (key : Key) (request : List Field) (answer : ReadAnswer)
     → (let t : State = state_after s (rec.ReadOpened s.next_reader actor key request answer) in OwnOpened s t actor.0 key request answer)
-    → IsHeld g streams s → IsHeld g streams (state_after s (rec.ReadOpened s.next_reader actor key request answer))
-held_read_opened g streams s actor key request answer opened h =
+    → IsHeld kind g streams s → IsHeld kind g streams (state_after s (rec.ReadOpened s.next_reader actor key request answer))
+held_read_opened kind g streams s actor key request answer opened h =
     let t : State = state_after s (rec.ReadOpened s.next_reader actor key request answer) in
-    held_readers g streams s t.readers (s.next_reader + 1) (omega arith)
+    held_readers kind g streams s t.readers (s.next_reader + 1) (omega arith)
     (all_append (IsOwnReader t) (opened_reader s s.next_reader actor.0 key request answer) s.readers opened
-    (readers_carried s t (same_carries s t refl refl refl) (omega arith) s.readers h.own.readers)) h
+    (readers_carried s t (same_carries s t refl refl refl) (omega arith) s.readers h.stands.readers)) h

@@ -19,18 +19,19 @@ use Rattle.cache_model.specs.State.{State, PutRow, Closed, Open, after_all, alte
 use Rattle.cache_model.specs.Permit.{Permit}
 use Rattle.cache_model.specs.Room.{MayDisplace, doc_at, greatest_pin}
 use Rattle.cache_model.specs.Legal
-use Rattle.cache_model.specs.Legal.{IsQuiet, IsWriting, next_fragment_of}
+use Rattle.cache_model.specs.Legal.{IsQuiet, next_fragment_of}
 use Rattle.cache_model.proofs.Steps.{after_all-append}
 use Rattle.cache_model.proofs.Found.{none_is, number_of, same_some}
 use Rattle.cache_model.proofs.Rows.{part-filter}
 use Rattle.cache_model.proofs.Sound.{leaves_one}
 use Rattle.script_run.specs.Run.{Stream}
-use Rattle.script_run.specs.Own.{AreAlternates, AreListedOf, AreOwn, IsListedOf, IsOwnPut, IsOwnRow, piece_of, rows_from}
+use Rattle.script_run.specs.Own.{AreAlternates, AreListedOf, IsListedOf, IsOwnPut, piece_of, rows_from}
+use Rattle.script_run.proofs.Saying.{alternates_of_rows, IsRow, Kind, Stands, stands_alike, rows_carried}
 use Rattle.script_run.proofs.Cuts.{cuts_more}
-use Rattle.script_run.proofs.Carried.{Carries, all_append, all_as, all_part, own_alike, put_stays, puts_stay, readers_carried, rows_carried, same_carries}
+use Rattle.script_run.proofs.Carried.{Carries, all_append, all_as, all_part, put_stays, puts_stay, readers_carried, same_carries}
 use Rattle.script_run.proofs.Changed.{Changes, Was, changed, changed_from, changed_to, either, found_as, itself}
-use Rattle.script_run.proofs.Held.{IsHeld, change_own, quiet_whole}
-use Rattle.script_run.proofs.Listed.{AreDisplaced, all_merged, alternates_of_rows, displaced_listed, listed_among}
+use Rattle.script_run.proofs.Held.{IsHeld, change_stands, quiet_whole}
+use Rattle.script_run.proofs.Listed.{AreDisplaced, all_merged, displaced_listed, listed_among}
 
 -- what an insert displaces
 displaced_by : (p : Permit) (s t : State) (piece : PieceId) (added : List Rec) → MayDisplace p s piece added → AllByRecursion (AreAlternates t) t.rows → t.displaced ≡ [] → AreDisplaced t (after_all t added)
@@ -38,14 +39,14 @@ displaced_by p s t piece added m each none =
     subst (λ xs. AreDisplaced t (after_all t xs)) (sym m.is) (displaced_listed t _ _ m.purged each (subst (AllByRecursion (AreAlternates t)) (sym none) tt))
 
 -- a row is placed that belongs to what its writer took
-own_placed : (t : State) (streams : ℕ → Stream) (piece : PieceId) (place blocks : ℕ) (digest : Digest) (pin : ℕ)
-    → (let u : State = state_after t (rec.Placed piece place blocks digest pin) in Carries t u → IsOwnRow u streams (placed_row t piece place blocks digest pin) → AreOwn t streams → AreOwn u streams)
-own_placed t streams piece place blocks digest pin c row own =
+stands_placed : (kind : Kind) (t : State) (streams : ℕ → Stream) (piece : PieceId) (place blocks : ℕ) (digest : Digest) (pin : ℕ)
+    → (let u : State = state_after t (rec.Placed piece place blocks digest pin) in Carries t u → IsRow kind u streams (placed_row t piece place blocks digest pin) → Stands kind t streams → Stands kind u streams)
+stands_placed kind t streams piece place blocks digest pin c row own =
     let u : State = state_after t (rec.Placed piece place blocks digest pin) in
-    let before : AllByRecursion (IsOwnRow t streams) (without piece t.rows) = all_part (IsOwnRow t streams) (part-filter _ t.rows) own.rows in
+    let before : AllByRecursion (IsRow kind t streams) (without piece t.rows) = all_part (IsRow kind t streams) (part-filter _ t.rows) own.rows in
     record {
       puts = puts_stay t u streams refl refl refl own.puts;
-      rows = each_push (IsOwnRow u streams) (without piece t.rows) (placed_row t piece place blocks digest pin) (rows_carried t u c streams (without piece t.rows) before) row;
+      rows = each_push (IsRow kind u streams) (without piece t.rows) (placed_row t piece place blocks digest pin) (rows_carried kind t u c streams (without piece t.rows) before) row;
       readers = readers_carried t u c (omega arith) t.readers own.readers;
     }
 
@@ -70,9 +71,9 @@ start_next n fragment = let e : n ≡ n + 1 - 1 = omega arith in ap (λ k. k * f
 full_more : (n fragment total size : ℕ) → total ≡ n * fragment → size ≡ fragment → total + size ≡ (n + 1) * fragment
 full_more n fragment total size full is = omega arith
 
-cut_own : (s : State) (streams : ℕ → Stream) (put index : ℕ) (payload : List ℕ) (w : PutRow) → Legal.IsNext s put index payload w → IsPiece s.geometry.fragment streams put index payload → AreOwn s streams
-    → AreOwn (state_after s (rec.Cut put index (length payload) (digest_of payload))) streams
-cut_own s streams put index payload w n piece own =
+cut_stands : (kind : Kind) (s : State) (streams : ℕ → Stream) (put index : ℕ) (payload : List ℕ) (w : PutRow) → Legal.IsNext s put index payload w → IsPiece s.geometry.fragment streams put index payload → Stands kind s streams
+    → Stands kind (state_after s (rec.Cut put index (length payload) (digest_of payload))) streams
+cut_stands kind s streams put index payload w n piece own =
     let t : State = state_after s (rec.Cut put index (length payload) (digest_of payload)) in
     let row : TableRow = made_row (length payload) (digest_of payload).0 in
     let p : IsOwnPut s streams w = own.puts put w n.writing.found in
@@ -88,9 +89,9 @@ cut_own s streams put index payload w n piece own =
           ∙ (full_more (length w.cuts) s.geometry.fragment (total_length w.cuts) (length payload) n.full size
           ∙ ap (λ k. k * s.geometry.fragment) (sym (length-append w.cuts (row ∷ []))));
     } in
-    change_own s t put (with_cut row) w
+    change_stands s t put (with_cut row) w
     (record { number = λ p. refl; more = λ p. omega (arith, length-append p.cuts (row ∷ [])); writing = n.writing })
-    (record { puts = refl; keeps = λ p. refl }) streams refl refl refl refl refl new own
+    (record { puts = refl; keeps = λ p. refl }) kind streams refl refl refl refl refl new own
 
 is_no_vector : (n : ℕ) (b : Bool) → (n + 1 == 0) ≡ b → b ≡ false
 is_no_vector n true e = let none : n + 1 ≡ 0 = eqb-true (n + 1) 0 e in absurd (omega (arith, none))
@@ -105,23 +106,23 @@ cut_found s put row w found =
     changed_to s t put (with_cut row) put w c found
     ∙ ap Some (itself put (with_cut row) w (number_of s put w found))
 
-fragment_row : (g : Geometry) (streams : ℕ → Stream) (u : State) (put place blocks pin : ℕ) (payload : List ℕ) (w x : PutRow) (doc : Doc) (t : State) → u.geometry ≡ g → put_of u w.put ≡ Some x
+fragment_row : (kind : Kind) (g : Geometry) (streams : ℕ → Stream) (u : State) (put place blocks pin : ℕ) (payload : List ℕ) (w x : PutRow) (doc : Doc) (t : State) → u.geometry ≡ g → put_of u w.put ≡ Some x
     → length x.cuts ≡ length w.cuts + 1 → payload ≡ piece_of g.fragment (streams w.put).bytes (length w.cuts + 1)
     → doc ≡ record { id = next_fragment_of w; place = place; generation = g.generation; pin = pin; start = (length w.cuts + 1 - 1) * g.fragment }
-    → IsOwnRow u streams (placed_row t (next_fragment_of w) place blocks (digest_of_document doc payload) pin)
-fragment_row g streams u put place blocks pin payload w x doc t geometry found count is same = (
-  λ some. record {
+    → IsRow kind u streams (placed_row t (next_fragment_of w) place blocks (digest_of_document doc payload) pin)
+fragment_row kind g streams u put place blocks pin payload w x doc t geometry found count is same = (
+  kind.own u streams (placed_row t (next_fragment_of w) place blocks (digest_of_document doc payload) pin) (λ some. record {
     w = x;
     found = found;
     cut = omega (arith, count);
     digest = rw geometry (ap (λ (d : Doc). digest_of_document d payload) same ∙ ap (digest_of_document _) is);
-  },
+  }),
   subst (AreListedOf u) (sym (ap (λ b. if b then Some (list_of_put t w.put) else None) (is_no_vector (length w.cuts) (is_vector (next_fragment_of w)) refl))) tt,
 )
 
-pub held_fragment : (g : Geometry) (streams : ℕ → Stream) (p : Permit) (s : State) (put index : ℕ) (payload : List ℕ) (added : List Rec) → IsPiece g.fragment streams put index payload
-    → Legal.MayPlaceFragment p s put index payload added → IsHeld g streams s → IsHeld g streams (after_all s added)
-held_fragment g streams p s put index payload added piece m h =
+pub held_fragment : (kind : Kind) (g : Geometry) (streams : ℕ → Stream) (p : Permit) (s : State) (put index : ℕ) (payload : List ℕ) (added : List Rec) → IsPiece g.fragment streams put index payload
+    → Legal.MayPlaceFragment p s put index payload added → IsHeld kind g streams s → IsHeld kind g streams (after_all s added)
+held_fragment kind g streams p s put index payload added piece m h =
     let w : PutRow = m.w in
     let number : w.put ≡ put = number_of s put w m.cut.writing.found in
     let here : IsPiece s.geometry.fragment streams put index payload = subst (λ (x : Geometry). IsPiece x.fragment streams put index payload) (sym h.geometry) piece in
@@ -133,22 +134,22 @@ held_fragment g streams p s put index payload added piece m h =
     let doc : Doc = doc_at s id w.pin (total_length w.cuts) in
     let placed : Rec = rec.Placed id (place_now s) (blocks_of (length payload)) (digest_of_document doc payload) w.pin in
     let u : State = state_after mid placed in
-    let own : AreOwn t streams = cut_own s streams put index payload w m.cut here h.own in
-    let d : AreDisplaced t mid = displaced_by p s t id m.displaced m.displaces (alternates_of_rows t streams t.rows own.rows) h.displaced in
+    let own : Stands kind t streams = cut_stands kind s streams put index payload w m.cut here h.stands in
+    let d : AreDisplaced t mid = displaced_by p s t id m.displaced m.displaces (alternates_of_rows kind t streams t.rows own.rows) h.displaced in
     let no_vector : is_vector id ≡ false = is_no_vector (length w.cuts) (is_vector id) refl in
     let pending : u.pending ≡ mid.pending = ap (λ b. if b then Some id else mid.pending) no_vector in
     let found : put_of u w.put ≡ Some (with_cut entry w) =
     ap (find (λ (q : PutRow). q.put == w.put)) d.alike.puts ∙ subst (λ n. put_of t n ≡ Some (with_cut entry w)) (sym number) (cut_found s put entry w m.cut.writing.found) in
-    let row : IsOwnRow u streams (placed_row mid id (place_now s) (blocks_of (length payload)) (digest_of_document doc payload) w.pin) =
-    fragment_row s.geometry streams u put (place_now s) (blocks_of (length payload)) w.pin payload w (with_cut entry w) doc mid d.alike.geometry found
+    let row : IsRow kind u streams (placed_row mid id (place_now s) (blocks_of (length payload)) (digest_of_document doc payload) w.pin) =
+    fragment_row kind s.geometry streams u put (place_now s) (blocks_of (length payload)) w.pin payload w (with_cut entry w) doc mid d.alike.geometry found
     (length-append w.cuts (entry ∷ [])) (piece_next s streams put index payload w m.cut here)
     (ap (λ start. record { id = id; place = place_now s; generation = s.geometry.generation; pin = w.pin; start = start }) (m.cut.full ∙ start_next (length w.cuts) s.geometry.fragment)) in
-    let all : AreOwn u streams =
-    own_placed mid streams id (place_now s) (blocks_of (length payload)) (digest_of_document doc payload) w.pin (same_carries mid u refl refl pending) row (own_alike t mid streams d.alike own) in
-    subst (λ xs. IsHeld g streams (after_all s xs)) (sym m.is)
-    (subst (IsHeld g streams) (sym (after_all-append t m.displaced (placed ∷ []))) (record {
+    let all : Stands kind u streams =
+    stands_placed kind mid streams id (place_now s) (blocks_of (length payload)) (digest_of_document doc payload) w.pin (same_carries mid u refl refl pending) row (stands_alike kind t mid streams d.alike own) in
+    subst (λ xs. IsHeld kind g streams (after_all s xs)) (sym m.is)
+    (subst (IsHeld kind g streams) (sym (after_all-append t m.displaced (placed ∷ []))) (record {
       geometry = d.alike.geometry ∙ h.geometry;
-      own = all;
+      stands = all;
       displaced = refl;
       pending = quiet_whole u streams (pending ∙ (d.alike.pending ∙ m.cut.writing.quiet));
     }))
@@ -156,9 +157,9 @@ held_fragment g streams p s put index payload added piece m h =
 -- ---- a vector
 
 -- all that the writer took is cut
-pub whole_cut : (s : State) (streams : ℕ → Stream) (put fragments : ℕ) (w : PutRow) → AreOwn s streams → put_of s put ≡ Some w → length w.cuts ≡ fragments
+pub whole_cut : (kind : Kind) (s : State) (streams : ℕ → Stream) (put fragments : ℕ) (w : PutRow) → Stands kind s streams → put_of s put ≡ Some w → length w.cuts ≡ fragments
     → total_length (rows_from s.geometry.fragment (streams put).bytes 1 fragments) ≡ length (streams put).bytes → total_length w.cuts ≡ length (streams w.put).bytes
-whole_cut s streams put fragments w own found count whole =
+whole_cut kind s streams put fragments w own found count whole =
     let p : IsOwnPut s streams w = own.puts put w found in
     let number : w.put ≡ put = number_of s put w found in
     ap total_length p.cuts.rows
@@ -181,10 +182,10 @@ quiet_carries t piece place blocks digest pin quiet = record {
 list_is : (t : State) (put : ℕ) (w : PutRow) → put_of t put ≡ Some w → list_of_put t put ≡ merged_list t w
 list_is t put w found = ap (λ (o : Option PutRow). unwrap_or (option_map (merged_list t) o) []) found
 
-pub held_vector : (g : Geometry) (streams : ℕ → Stream) (p : Permit) (s : State) (put fragments : ℕ) (added : List Rec)
+pub held_vector : (kind : Kind) (g : Geometry) (streams : ℕ → Stream) (p : Permit) (s : State) (put fragments : ℕ) (added : List Rec)
     → total_length (rows_from g.fragment (streams put).bytes 1 fragments) ≡ length (streams put).bytes
-    → Legal.MayPlaceVector p s put fragments added → IsHeld g streams s → IsHeld g streams (after_all s added)
-held_vector g streams p s put fragments added whole m h =
+    → Legal.MayPlaceVector p s put fragments added → IsHeld kind g streams s → IsHeld kind g streams (after_all s added)
+held_vector kind g streams p s put fragments added whole m h =
     let w : PutRow = m.w in
     let number : w.put ≡ put = number_of s put w m.cut.writing.found in
     let t : State = after_all s m.displaced in
@@ -194,8 +195,8 @@ held_vector g streams p s put fragments added whole m h =
     let blocks : ℕ = blocks_of (Legal.vector_length s put) in
     let placed : Rec = rec.Placed id (place_now s) blocks digest pin in
     let u : State = state_after t placed in
-    let d : AreDisplaced s t = displaced_by p s s id m.displaced m.displaces (alternates_of_rows s streams s.rows h.own.rows) h.displaced in
-    let own : AreOwn t streams = own_alike s t streams d.alike h.own in
+    let d : AreDisplaced s t = displaced_by p s s id m.displaced m.displaces (alternates_of_rows kind s streams s.rows h.stands.rows) h.displaced in
+    let own : Stands kind t streams = stands_alike kind s t streams d.alike h.stands in
     let quiet : IsQuiet t = d.alike.pending ∙ m.cut.writing.quiet in
     let c : Carries t u = quiet_carries t id (place_now s) blocks digest pin quiet in
     let found : put_of t put ≡ Some w = ap (find (λ (q : PutRow). q.put == put)) d.alike.puts ∙ m.cut.writing.found in
@@ -205,19 +206,20 @@ held_vector g streams p s put fragments added whole m h =
       cuts = refl;
       complete = inr (ap (λ n. Some (vector_piece w.key n)) (sym number));
     } in
-    let rows : AllByRecursion (AreAlternates t) (t.displaced ++ t.rows) = all_append (AreAlternates t) t.displaced t.rows d.listed (alternates_of_rows t streams t.rows own.rows) in
+    let rows : AllByRecursion (AreAlternates t) (t.displaced ++ t.rows) = all_append (AreAlternates t) t.displaced t.rows d.listed (alternates_of_rows kind t streams t.rows own.rows) in
     let before : AllByRecursion (IsListedOf u) (list_among t (t.displaced ++ t.rows) w.key) =
     all_as (IsListedOf t) (IsListedOf u) (λ a l. c.tables a.put a.table l) (list_among t (t.displaced ++ t.rows) w.key) (listed_among t (t.displaced ++ t.rows) w.key rows) in
     let listed : AllByRecursion (IsListedOf u) (list_of_put t put) =
     subst (AllByRecursion (IsListedOf u)) (sym (list_is t put w found)) (all_merged (IsListedOf u) _ _ (list_among t (t.displaced ++ t.rows) w.key) (alternate_of w) before own_new) in
-    let row : IsOwnRow u streams (placed_row t id (place_now s) blocks digest pin) = (λ some. absurd (omega (arith, some)), listed) in
+    let row : IsRow kind u streams (placed_row t id (place_now s) blocks digest pin) =
+    (kind.own u streams (placed_row t id (place_now s) blocks digest pin) (λ some. absurd (omega (arith, some))), listed) in
     let cut : total_length w.cuts ≡ length (streams w.put).bytes =
-    whole_cut s streams put fragments w h.own m.cut.writing.found m.cut.count
+    whole_cut kind s streams put fragments w h.stands m.cut.writing.found m.cut.count
     (subst (λ (x : Geometry). total_length (rows_from x.fragment (streams put).bytes 1 fragments) ≡ length (streams put).bytes) (sym h.geometry) whole) in
-    subst (λ xs. IsHeld g streams (after_all s xs)) (sym m.is)
-    (subst (IsHeld g streams) (sym (after_all-append s m.displaced (placed ∷ []))) (record {
+    subst (λ xs. IsHeld kind g streams (after_all s xs)) (sym m.is)
+    (subst (IsHeld kind g streams) (sym (after_all-append s m.displaced (placed ∷ []))) (record {
       geometry = d.alike.geometry ∙ h.geometry;
-      own = own_placed t streams id (place_now s) blocks digest pin c row own;
+      stands = stands_placed kind t streams id (place_now s) blocks digest pin c row own;
       displaced = refl;
       pending = λ n x found_x waits.
           let same : put ≡ n = ap (λ (o : Option PieceId). (unwrap_or o id).put) waits in
@@ -258,10 +260,10 @@ module _ (s t : State) (put : ℕ) (w : PutRow) (found : put_of s put ≡ Some w
     };
   }
 
-committed_put : (g : Geometry) (streams : ℕ → Stream) (s t : State) (put : ℕ) (w : PutRow) → put_of s put ≡ Some w → s.pending ≡ Some (vector_piece w.key put) → t.geometry ≡ s.geometry → t.next_put ≡ s.next_put
-    → IsHeld g streams s → IsOwnPut t streams (with_writing Closed w)
-committed_put g streams s t put w found waits geometry next h =
-    let p : IsOwnPut t streams w = put_stays s t streams w geometry (omega (arith, next)) (h.own.puts put w found) in
+committed_put : (kind : Kind) (g : Geometry) (streams : ℕ → Stream) (s t : State) (put : ℕ) (w : PutRow) → put_of s put ≡ Some w → s.pending ≡ Some (vector_piece w.key put) → t.geometry ≡ s.geometry → t.next_put ≡ s.next_put
+    → IsHeld kind g streams s → IsOwnPut t streams (with_writing Closed w)
+committed_put kind g streams s t put w found waits geometry next h =
+    let p : IsOwnPut t streams w = put_stays s t streams w geometry (omega (arith, next)) (h.stands.puts put w found) in
     record {
       begun = p.begun;
       cuts = p.cuts;
@@ -269,26 +271,26 @@ committed_put g streams s t put w found waits geometry next h =
       full = λ is_open unsealed. absurd cc;
     }
 
-pub held_committed : (g : Geometry) (streams : ℕ → Stream) (s : State) (put size : ℕ) (w : PutRow) → put_of s put ≡ Some w → s.pending ≡ Some (vector_piece w.key put)
-    → IsHeld g streams s → IsHeld g streams (state_after s (rec.Committed put w.key size))
-held_committed g streams s put size w found waits h =
+pub held_committed : (kind : Kind) (g : Geometry) (streams : ℕ → Stream) (s : State) (put size : ℕ) (w : PutRow) → put_of s put ≡ Some w → s.pending ≡ Some (vector_piece w.key put)
+    → IsHeld kind g streams s → IsHeld kind g streams (state_after s (rec.Committed put w.key size))
+held_committed kind g streams s put size w found waits h =
     let r : Rec = rec.Committed put w.key size in
     let t : State = state_after s r in
     let changes : Changes s t put (with_writing Closed) = record { puts = refl; keeps = λ p. refl } in
     let c : Carries s t = committed_carries s t put w found waits changes refl in
-    let new : IsOwnPut t streams (with_writing Closed w) = committed_put g streams s t put w found waits refl refl h in
-    let left : AllByRecursion (IsOwnRow s streams) t.rows = all_part (IsOwnRow s streams) (leaves_one s r tt).rows h.own.rows in
+    let new : IsOwnPut t streams (with_writing Closed w) = committed_put kind g streams s t put w found waits refl refl h in
+    let left : AllByRecursion (IsRow kind s streams) t.rows = all_part (IsRow kind s streams) (leaves_one s r tt).rows h.stands.rows in
     record {
       geometry = h.geometry;
-      own = record {
+      stands = record {
         puts = λ n x found_x.
             let was : Was (put_of s n) (changed put (with_writing Closed)) x = changed_from s t put (with_writing Closed) n x changes found_x in
             subst (IsOwnPut t streams) (sym was.is)
             (either (IsOwnPut t streams) put (with_writing Closed) was.old
             (λ here. subst (λ (p : PutRow). IsOwnPut t streams (with_writing Closed p)) (same_some w was.old (put_of s put) found (found_as s n put was.old was.found here)) new)
-            (put_stays s t streams was.old refl (omega arith) (h.own.puts n was.old was.found)));
-        rows = rows_carried s t c streams t.rows left;
-        readers = readers_carried s t c (omega arith) s.readers h.own.readers;
+            (put_stays s t streams was.old refl (omega arith) (h.stands.puts n was.old was.found)));
+        rows = rows_carried kind s t c streams t.rows left;
+        readers = readers_carried s t c (omega arith) s.readers h.stands.readers;
       };
       displaced = h.displaced;
       pending = quiet_whole t streams refl;

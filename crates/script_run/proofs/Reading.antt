@@ -16,12 +16,16 @@ use Rattle.cache_model.specs.Legal.{IsQuiet, format_records}
 use Rattle.cache_model.proofs.Found.{none_is, number_of}
 use Rattle.stripe_core.specs.Find.{IsDocumentOf}
 use Rattle.script_run.specs.Run.{Stream}
-use Rattle.script_run.specs.Own.{AreOwn, IsOtherFragment, IsOwnFragment, IsOwnPut, IsOwnReader, IsOwnRow, IsTableOf, IsTableOfHit, fragment_doc, fragment_document, piece_of}
+use Rattle.script_run.specs.Own.{AreKept, AreOwn, IsOtherFragment, IsOwnFragment, IsOwnPut, IsOwnReader, IsOwnRow, IsTableOf, IsTableOfHit, fragment_doc, fragment_document, piece_of}
 use Rattle.script_run.proofs.Cuts.{total_cuts}
+use Rattle.script_run.proofs.Fragments.{own_is_kept}
 use Rattle.script_run.proofs.Finding.{found_reader, found_row, own_piece}
 
 pub formats_own : (s : State) (geometry : Geometry) (streams : ℕ → Stream) → AreOwn (after_all s (format_records geometry)) streams
 formats_own s geometry streams = record { puts = λ put w found. none_is found; rows = tt; readers = tt }
+
+pub formats_keep : (s : State) (geometry : Geometry) (streams : ℕ → Stream) → AreKept (after_all s (format_records geometry)) streams
+formats_keep s geometry streams = own_is_kept (after_all s (format_records geometry)) streams (formats_own s geometry streams)
 
 -- ---- a fragment that was read
 
@@ -71,10 +75,10 @@ past (row ∷ rows) (Rattle.std.proofs.Common.suc i) h = let rest : length rows 
 record IsWhole (s : State) (streams : ℕ → Stream) (put : ℕ) (table : List TableRow) : Type 0 where
   total : length (streams put).bytes ≤ length table * s.geometry.fragment
 
-closed_by : (s : State) (streams : ℕ → Stream) (put : ℕ) (table : List TableRow) → IsQuiet s → AreOwn s streams → IsTableOf s put table → IsWhole s streams put table
-closed_by s streams put table quiet own t =
+closed_by : (s : State) (streams : ℕ → Stream) (put : ℕ) (table : List TableRow) → IsQuiet s → AreKept s streams → IsTableOf s put table → IsWhole s streams put table
+closed_by s streams put table quiet kept t =
     let w : PutRow = t.w in
-    let p : IsOwnPut s streams w = own.puts put w t.found in
+    let p : IsOwnPut s streams w = kept.puts put w t.found in
     let number : w.put ≡ put = number_of s put w t.found in
     let whole : total_length w.cuts ≡ length (streams w.put).bytes = elim t.complete [ inl closed ↦ p.whole closed | inr pending ↦ none_is (sym quiet ∙ pending) ] in
     let most : total_length w.cuts ≡ min (length w.cuts * s.geometry.fragment) (length (streams w.put).bytes) = total_cuts s.geometry.fragment (streams w.put).bytes w.cuts p.cuts in
@@ -92,22 +96,34 @@ given_whole s streams put next table w none =
     take_all ((next - 1) * s.geometry.fragment) (streams put).bytes
     (omega (arith, w.total, below, mul_comm s.geometry.fragment (length table), mul_comm s.geometry.fragment (next - 1)))
 
-pub all_is_given : (s : State) (streams : ℕ → Stream) (reader : ℕ) (r : ReaderRow) (table : List TableRow) → AreOwn s streams → IsQuiet s → 0 < r.next
+pub kept_is_given : (s : State) (streams : ℕ → Stream) (reader : ℕ) (r : ReaderRow) (table : List TableRow) → AreKept s streams → IsQuiet s → 0 < r.next
     → reader_of s reader ≡ Some r → r.table ≡ Some table → next_row s r ≡ None
     → take ((r.next - 1) * s.geometry.fragment) (streams r.put).bytes ≡ (streams r.put).bytes
-all_is_given s streams reader r table own quiet some found hit none =
-    let o : IsOwnReader s r = found_reader (IsOwnReader s) reader s.readers r own.readers found in
+kept_is_given s streams reader r table kept quiet some found hit none =
+    let o : IsOwnReader s r = found_reader (IsOwnReader s) reader s.readers r kept.readers found in
     let t : IsTableOf s r.put table = subst (IsTableOfHit s r) hit o.table in
-    given_whole s streams r.put r.next table (closed_by s streams r.put table quiet own t)
+    given_whole s streams r.put r.next table (closed_by s streams r.put table quiet kept t)
     (subst (λ (o : Option (List TableRow)). slice_get (unwrap_or o (cuts_of s r.put)) (r.next - 1) ≡ None) hit none)
 
-pub all_is_followed : (s : State) (streams : ℕ → Stream) (r : ReaderRow) (w : PutRow) → AreOwn s streams → IsQuiet s → 0 < r.next
+pub kept_is_followed : (s : State) (streams : ℕ → Stream) (r : ReaderRow) (w : PutRow) → AreKept s streams → IsQuiet s → 0 < r.next
     → r.table ≡ None → put_of s r.put ≡ Some w → w.writing ≡ Closed → next_row s r ≡ None
     → take ((r.next - 1) * s.geometry.fragment) (streams r.put).bytes ≡ (streams r.put).bytes
-all_is_followed s streams r w own quiet some follows found closed none =
+kept_is_followed s streams r w kept quiet some follows found closed none =
     let t : IsTableOf s r.put w.cuts = record { w = w; found = found; cuts = refl; complete = inl closed } in
     let cut : cuts_of s r.put ≡ w.cuts = ap (λ (o : Option PutRow). unwrap_or (option_map (λ (p : PutRow). p.cuts) o) []) found in
     let last : slice_get (cuts_of s r.put) (r.next - 1) ≡ None =
     subst (λ (o : Option (List TableRow)). slice_get (unwrap_or o (cuts_of s r.put)) (r.next - 1) ≡ None) follows none in
-    given_whole s streams r.put r.next w.cuts (closed_by s streams r.put w.cuts quiet own t)
+    given_whole s streams r.put r.next w.cuts (closed_by s streams r.put w.cuts quiet kept t)
     (subst (λ (rows : List TableRow). slice_get rows (r.next - 1) ≡ None) cut last)
+
+-- ---- where each fragment is that of what its writer took
+
+pub all_is_given : (s : State) (streams : ℕ → Stream) (reader : ℕ) (r : ReaderRow) (table : List TableRow) → AreOwn s streams → IsQuiet s → 0 < r.next
+    → reader_of s reader ≡ Some r → r.table ≡ Some table → next_row s r ≡ None
+    → take ((r.next - 1) * s.geometry.fragment) (streams r.put).bytes ≡ (streams r.put).bytes
+all_is_given s streams reader r table own = kept_is_given s streams reader r table (own_is_kept s streams own)
+
+pub all_is_followed : (s : State) (streams : ℕ → Stream) (r : ReaderRow) (w : PutRow) → AreOwn s streams → IsQuiet s → 0 < r.next
+    → r.table ≡ None → put_of s r.put ≡ Some w → w.writing ≡ Closed → next_row s r ≡ None
+    → take ((r.next - 1) * s.geometry.fragment) (streams r.put).bytes ≡ (streams r.put).bytes
+all_is_followed s streams r w own = kept_is_followed s streams r w (own_is_kept s streams own)

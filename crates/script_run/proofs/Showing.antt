@@ -1,53 +1,20 @@
 -- Two documents of one SHA-256 are shown alike by streams of the same bytes.
-use Rattle.std.proofs.Common.{◌≡◌, ℕ, List, refl, sym, ◌∙◌, ap, subst, Bool, true, false, eqb-true}
-use Rattle.std.specs.Prelude.{if◌then◌else◌, take, ◌==◌}
-use Rattle.tape_base.specs.Digest.{Collide}
-use Rattle.doc_header.specs.Reading.{extent_of}
+use Rattle.std.proofs.Common.{◌≡◌, ℕ, List, refl, sym, ◌∙◌, ap, Bool, true, false, eqb-true}
+use Rattle.std.specs.Prelude.{if◌then◌else◌, ◌==◌}
 use Rattle.cache_model.specs.State.{State, after_all}
-use Rattle.cache_model.specs.Permit.{Permit, Intent, to_do}
+use Rattle.cache_model.specs.Permit.{Permit, Intent, Work, to_do}
 use Rattle.script_run.specs.Run.{Stream, with_value}
-use Rattle.script_run.specs.Own.{IsOtherFragment, fragment_document, piece_of}
 use Rattle.script_run.specs.Takes
-use Rattle.script_run.specs.Takes.{AreGiven, IsOther, Shows, ShownIn}
+use Rattle.script_run.specs.Takes.{ShownIn}
+use Rattle.script_run.proofs.Saying.{Kind, SameBytes}
+use Rattle.script_run.proofs.Fragments.{own_kind}
 use Rattle.script_run.proofs.Grown.{IsShownFrom}
 
--- the writers of each put took the same bytes
-abbrev pub SameBytes : (ℕ → Stream) → (ℕ → Stream) → Type 0
-SameBytes a b = (put : ℕ) → (a put).bytes ≡ (b put).bytes
-
-fragment_as : (p : Permit) (s : State) (a b : ℕ → Stream) → SameBytes a b → IsOtherFragment p s a → IsOtherFragment p s b
-fragment_as p s a b same o = record {
-  row = o.row;
-  bytes = o.bytes;
-  live = o.live;
-  fragment = o.fragment;
-  given = o.given;
-  collide = subst (λ (body : List ℕ). Collide (take (extent_of o.bytes) o.bytes) (fragment_document s o.row (piece_of s.geometry.fragment body o.row.id.index))) (same o.row.id.put) o.collide;
-}
-
-other_as : (p : Permit) (s : State) (a b : ℕ → Stream) → SameBytes a b → IsOther p s a → IsOther p s b
-other_as p s a b same (Takes.IsOther.vector_read key c) = Takes.IsOther.vector_read key c
-other_as p s a b same (Takes.IsOther.vector_copied v) = Takes.IsOther.vector_copied v
-other_as p s a b same (Takes.IsOther.fragment o) = Takes.IsOther.fragment (fragment_as p s a b same o)
-
-given_as : (p : Permit) (s : State) (a b : ℕ → Stream) (same : SameBytes a b) (o : IsOther p s a) → AreGiven p s a o → AreGiven p s b (other_as p s a b same o)
-unfolding other_as fragment_as
-given_as p s a b same (Takes.IsOther.vector_read key c) given = given
-given_as p s a b same (Takes.IsOther.vector_copied v) given = given
-given_as p s a b same (Takes.IsOther.fragment o) given = given
-
-pub shown_as : (device : Permit) (a b : ℕ → Stream) (s : State) (asks : List Intent) → SameBytes a b → ShownIn device a s asks → ShownIn device b s asks
-shown_as device a b s asks same h =
-    let v : Shows a s asks = h.shows in
-    let t : State = after_all s v.added in
-    record {
-      shows = record { device = v.device; added = v.added; left = v.left; grows = v.grows; other = other_as v.device t a b same v.other };
-      same = h.same;
-      given = given_as v.device t a b same v.other h.given;
-    }
+pub shown_as : (kind : Kind) (p : Permit) (a b : ℕ → Stream) (s : State) (w : Work) → SameBytes a b → IsShownFrom kind s.geometry a p s w → IsShownFrom kind s.geometry b p s w
+shown_as kind p a b s w same v = record { added = v.added; left = v.left; grows = v.grows; copy = kind.alike p (after_all s v.added) a b same v.copy }
 
 -- a copy shows them in a step
-pub copy_shown : (streams : ℕ → Stream) (p : Permit) (s : State) (asks : List Intent) → IsShownFrom s.geometry streams p s (to_do asks) → ShownIn p streams s asks
+pub copy_shown : (streams : ℕ → Stream) (p : Permit) (s : State) (asks : List Intent) → IsShownFrom own_kind s.geometry streams p s (to_do asks) → ShownIn p streams s asks
 copy_shown streams p s asks v = record {
   shows = record { device = p; added = v.added; left = v.left; grows = v.grows; other = Takes.IsOther.fragment v.copy.other };
   same = refl;

@@ -5,22 +5,13 @@ use Rattle.std.specs.Prelude.{min, Some, if◌then◌else◌, ◌==◌}
 use Rattle.std.proofs.lemmas.Bool.{eq-eqb}
 use Rattle.std.proofs.Math.Seq.{take-append-add}
 use Rattle.fragment_table.specs.Table.{total_length}
-use Rattle.cache_model.specs.State.{State, Row, PutRow, Open, Closed, put_of}
+use Rattle.cache_model.specs.State.{State, PutRow, Open, put_of}
 use Rattle.cache_model.proofs.Found.{no_truth, number_of}
 use Rattle.script_run.specs.Run.{Stream, with_value}
-use Rattle.script_run.specs.Own.{AreCuts, AreOwn, IsOwnFragment, IsOwnPut, IsOwnRow, piece_of}
+use Rattle.script_run.specs.Own.{AreCuts, IsOwnPut}
+use Rattle.script_run.proofs.Saying.{AllTellAlike, Kind, Stands, TellAlike, IsRow}
 use Rattle.script_run.proofs.Cuts.{HaveCut, cuts_of_other, have_longer, have_same, have_shorter}
 use Rattle.script_run.proofs.Carried.{all_as}
-
--- what the put of w has cut is told alike by both streams
-pub record TellAlike (fragment : ℕ) (w : PutRow) (a b : Stream) : Type 0 where
-  pub cut : HaveCut fragment (length w.cuts) a.bytes b.bytes
-  pub within : total_length w.cuts ≤ length b.bytes
-  pub whole : w.writing ≡ Closed → total_length w.cuts ≡ length b.bytes
-  pub full : w.writing ≡ Open → b.sealed ≡ false → total_length w.cuts ≡ length w.cuts * fragment
-
-abbrev pub AllTellAlike : State → (ℕ → Stream) → (ℕ → Stream) → Type 0
-AllTellAlike s a b = (put : ℕ) (w : PutRow) → put_of s put ≡ Some w → TellAlike s.geometry.fragment w (a w.put) (b w.put)
 
 pub tells_itself : (s : State) (a : ℕ → Stream) (w : PutRow) → IsOwnPut s a w → TellAlike s.geometry.fragment w (a w.put) (a w.put)
 tells_itself s a w p = record { cut = have_same s.geometry.fragment (length w.cuts) (a w.put).bytes; within = p.cuts.within; whole = p.whole; full = p.full }
@@ -33,18 +24,10 @@ put_told s a b w t p = record {
   full = t.full;
 }
 
-fragment_told : (s : State) (a b : ℕ → Stream) (row : Row) → AllTellAlike s a b → 0 < row.id.index → IsOwnFragment s a row → IsOwnFragment s b row
-fragment_told s a b row told some f =
-    let t : TellAlike s.geometry.fragment f.w (a f.w.put) (b f.w.put) = told row.id.put f.w f.found in
-    let number : f.w.put ≡ row.id.put = number_of s row.id.put f.w f.found in
-    let same : piece_of s.geometry.fragment (a row.id.put).bytes row.id.index ≡ piece_of s.geometry.fragment (b row.id.put).bytes row.id.index =
-    subst (λ n. piece_of s.geometry.fragment (a n).bytes row.id.index ≡ piece_of s.geometry.fragment (b n).bytes row.id.index) number (t.cut.pieces row.id.index some f.cut) in
-    record { w = f.w; found = f.found; cut = f.cut; digest = f.digest ∙ ap (Rattle.doc_header.specs.Document.digest_of_document _) same }
-
-pub own_told : (s : State) (a b : ℕ → Stream) → AllTellAlike s a b → AreOwn s a → AreOwn s b
-own_told s a b told own = record {
+pub stands_told : (kind : Kind) (s : State) (a b : ℕ → Stream) → AllTellAlike s a b → Stands kind s a → Stands kind s b
+stands_told kind s a b told own = record {
   puts = λ put w found. put_told s a b w (told put w found) (own.puts put w found);
-  rows = all_as (IsOwnRow s a) (IsOwnRow s b) (λ row o. (λ some. fragment_told s a b row told some (o.0 some), o.1)) s.rows own.rows;
+  rows = all_as (IsRow kind s a) (IsRow kind s b) (λ row o. (kind.told s a b row told o.0, o.1)) s.rows own.rows;
   readers = own.readers;
 }
 
@@ -66,16 +49,16 @@ pub value_here : (a : ℕ → Stream) (put : ℕ) (x : Stream) (m : ℕ) → m �
 value_here a put x m same = here_by x (a m) m put (m == put) refl same
 
 -- the stream of one put is told otherwise
-pub own_with : (s : State) (a : ℕ → Stream) (put : ℕ) (y : Stream) → ((w : PutRow) → put_of s put ≡ Some w → IsOwnPut s a w → w.put ≡ put → TellAlike s.geometry.fragment w (a w.put) y)
-    → AreOwn s a → AreOwn s (with_value a put y)
-own_with s a put y here own = own_told s a (with_value a put y) (λ n w found. value_by (TellAlike s.geometry.fragment w (a w.put)) y (a w.put) w.put put (w.put == put) refl
+pub stands_with : (kind : Kind) (s : State) (a : ℕ → Stream) (put : ℕ) (y : Stream) → ((w : PutRow) → put_of s put ≡ Some w → IsOwnPut s a w → w.put ≡ put → TellAlike s.geometry.fragment w (a w.put) y)
+    → Stands kind s a → Stands kind s (with_value a put y)
+stands_with kind s a put y here own = stands_told kind s a (with_value a put y) (λ n w found. value_by (TellAlike s.geometry.fragment w (a w.put)) y (a w.put) w.put put (w.put == put) refl
     (λ same. here w (subst (λ m. put_of s m ≡ Some w) (sym (number_of s n w found) ∙ same) found) (own.puts n w found) same)
     (tells_itself s a w (own.puts n w found))) own
 
-pub own_instead : (s : State) (a : ℕ → Stream) (put : ℕ) (x y : Stream)
+pub stands_instead : (kind : Kind) (s : State) (a : ℕ → Stream) (put : ℕ) (x y : Stream)
     → ((w : PutRow) → put_of s put ≡ Some w → AreCuts s.geometry.fragment x.bytes w.cuts → TellAlike s.geometry.fragment w x x → TellAlike s.geometry.fragment w x y)
-    → AreOwn s (with_value a put x) → AreOwn s (with_value a put y)
-own_instead s a put x y here own = own_told s (with_value a put x) (with_value a put y) (λ n w found.
+    → Stands kind s (with_value a put x) → Stands kind s (with_value a put y)
+stands_instead kind s a put x y here own = stands_told kind s (with_value a put x) (with_value a put y) (λ n w found.
     let itself : TellAlike s.geometry.fragment w (with_value a put x w.put) (with_value a put x w.put) = tells_itself s (with_value a put x) w (own.puts n w found) in
     both_by (TellAlike s.geometry.fragment w) x y (a w.put) w.put put (w.put == put) refl
     (λ same. here w (subst (λ m. put_of s m ≡ Some w) (sym (number_of s n w found) ∙ same) found)
@@ -84,12 +67,12 @@ own_instead s a put x y here own = own_told s (with_value a put x) (with_value a
     itself) own
 
 -- a put that has not begun has cut nothing
-pub own_begins : (s : State) (a : ℕ → Stream) (y : Stream) → AreOwn s a → AreOwn s (with_value a s.next_put y)
-own_begins s a y own = own_with s a s.next_put y (λ w found p same. let below : w.put < s.next_put = p.begun in absurd (omega (arith, below, same))) own
+pub stands_begins : (kind : Kind) (s : State) (a : ℕ → Stream) (y : Stream) → Stands kind s a → Stands kind s (with_value a s.next_put y)
+stands_begins kind s a y own = stands_with kind s a s.next_put y (λ w found p same. let below : w.put < s.next_put = p.begun in absurd (omega (arith, below, same))) own
 
 -- a writer is sealed
-pub own_sealed : (s : State) (a : ℕ → Stream) (put : ℕ) → AreOwn s a → AreOwn s (with_value a put (record { bytes = (a put).bytes; sealed = true }))
-own_sealed s a put own = own_with s a put (record { bytes = (a put).bytes; sealed = true }) (λ w found p same.
+pub stands_sealed : (kind : Kind) (s : State) (a : ℕ → Stream) (put : ℕ) → Stands kind s a → Stands kind s (with_value a put (record { bytes = (a put).bytes; sealed = true }))
+stands_sealed kind s a put own = stands_with kind s a put (record { bytes = (a put).bytes; sealed = true }) (λ w found p same.
     let bytes : (a w.put).bytes ≡ (a put).bytes = ap (λ n. (a n).bytes) same in
     record {
       cut = subst (λ (xs : List ℕ). HaveCut s.geometry.fragment (length w.cuts) (a w.put).bytes xs) bytes (have_same s.geometry.fragment (length w.cuts) (a w.put).bytes);
@@ -99,15 +82,15 @@ own_sealed s a put own = own_with s a put (record { bytes = (a put).bytes; seale
     }) own
 
 -- a writer whose put is not open is told sealed or not
-pub own_unsealed : (s : State) (a : ℕ → Stream) (put : ℕ) (bytes : List ℕ) (sealed : Bool) → ((w : PutRow) → put_of s put ≡ Some w → w.writing ≡ Open → ⊥)
-    → AreOwn s (with_value a put (record { bytes = bytes; sealed = true })) → AreOwn s (with_value a put (record { bytes = bytes; sealed = sealed }))
-own_unsealed s a put bytes sealed over own = own_instead s a put (record { bytes = bytes; sealed = true }) (record { bytes = bytes; sealed = sealed })
+pub stands_unsealed : (kind : Kind) (s : State) (a : ℕ → Stream) (put : ℕ) (bytes : List ℕ) (sealed : Bool) → ((w : PutRow) → put_of s put ≡ Some w → w.writing ≡ Open → ⊥)
+    → Stands kind s (with_value a put (record { bytes = bytes; sealed = true })) → Stands kind s (with_value a put (record { bytes = bytes; sealed = sealed }))
+stands_unsealed kind s a put bytes sealed over own = stands_instead kind s a put (record { bytes = bytes; sealed = true }) (record { bytes = bytes; sealed = sealed })
     (λ w found c t. record { cut = t.cut; within = t.within; whole = t.whole; full = λ is_open unsealed. absurd (over w found is_open) }) own
 
 -- an open writer that is not sealed takes more
-pub own_longer : (s : State) (a : ℕ → Stream) (put : ℕ) (more : List ℕ) → ((w : PutRow) → put_of s put ≡ Some w → w.writing ≡ Open) → (a put).sealed ≡ false
-    → AreOwn s a → AreOwn s (with_value a put (record { bytes = (a put).bytes ++ more; sealed = (a put).sealed }))
-own_longer s a put more opens unsealed own = own_with s a put (record { bytes = (a put).bytes ++ more; sealed = (a put).sealed }) (λ w found p same.
+pub stands_longer : (kind : Kind) (s : State) (a : ℕ → Stream) (put : ℕ) (more : List ℕ) → ((w : PutRow) → put_of s put ≡ Some w → w.writing ≡ Open) → (a put).sealed ≡ false
+    → Stands kind s a → Stands kind s (with_value a put (record { bytes = (a put).bytes ++ more; sealed = (a put).sealed }))
+stands_longer kind s a put more opens unsealed own = stands_with kind s a put (record { bytes = (a put).bytes ++ more; sealed = (a put).sealed }) (λ w found p same.
     let stream : a w.put ≡ a put = ap a same in
     let is_open : w.writing ≡ Open = opens w found in
     let full : total_length w.cuts ≡ length w.cuts * s.geometry.fragment = p.full is_open (ap (λ (x : Stream). x.sealed) stream ∙ unsealed) in
@@ -121,9 +104,9 @@ own_longer s a put more opens unsealed own = own_with s a put (record { bytes = 
     }) own
 
 -- and of what it was given it took no less than was cut
-pub own_shorter : (s : State) (a : ℕ → Stream) (put : ℕ) (bytes more : List ℕ) (sealed : Bool) (n : ℕ) → ((w : PutRow) → put_of s put ≡ Some w → total_length w.cuts ≤ length (bytes ++ more) → total_length w.cuts ≤ length bytes + n)
-    → AreOwn s (with_value a put (record { bytes = bytes ++ more; sealed = sealed })) → AreOwn s (with_value a put (record { bytes = bytes ++ take n more; sealed = sealed }))
-own_shorter s a put bytes more sealed n taken own = own_instead s a put (record { bytes = bytes ++ more; sealed = sealed }) (record { bytes = bytes ++ take n more; sealed = sealed }) shorter own
+pub stands_shorter : (kind : Kind) (s : State) (a : ℕ → Stream) (put : ℕ) (bytes more : List ℕ) (sealed : Bool) (n : ℕ) → ((w : PutRow) → put_of s put ≡ Some w → total_length w.cuts ≤ length (bytes ++ more) → total_length w.cuts ≤ length bytes + n)
+    → Stands kind s (with_value a put (record { bytes = bytes ++ more; sealed = sealed })) → Stands kind s (with_value a put (record { bytes = bytes ++ take n more; sealed = sealed }))
+stands_shorter kind s a put bytes more sealed n taken own = stands_instead kind s a put (record { bytes = bytes ++ more; sealed = sealed }) (record { bytes = bytes ++ take n more; sealed = sealed }) shorter own
   where
     front : take (length bytes + n) (bytes ++ more) ≡ bytes ++ take n more
     front = take-append-add bytes more n

@@ -1,5 +1,5 @@
 -- The bytes that lines give are those that were put.
-use Rattle.std.specs.Prelude.{ℕ, ◌≡◌, ◌≢◌, ◌-◌, ◌*◌, ◌<◌, ◌⊎◌, List, take, Some, None, Bool, true, false}
+use Rattle.std.specs.Prelude.{ℕ, ◌≡◌, ◌≢◌, ◌-◌, ◌*◌, ◌<◌, ◌⊎◌, List, [], take, Some, None, Bool, true, false}
 use Rattle.tape_base.specs.declared.geometries.Geometry.{Geometry}
 use Rattle.fragment_table.specs.Table.{TableRow}
 use Rattle.cache_model.specs.State.{State, Row, PutRow, ReaderRow, Closed, after_all, live_row_of, put_of, reader_of}
@@ -20,7 +20,7 @@ use Rattle.script_run.specs.Run.{Run, Stream}
 use Rattle.script_run.specs.Asked.{asked}
 use Rattle.script_run.specs.Turn.{Turn}
 use Rattle.script_run.specs.Behind.{streams_behind}
-use Rattle.script_run.specs.Own.{AreOwn, AreWriting, IsOtherFragment, piece_of}
+use Rattle.script_run.specs.Own.{AreKept, AreOwn, AreWriting, IsOtherFragment, piece_of}
 use Rattle.script_run.specs.Takes.{ShownIn, streams_with}
 
 -- behind a format nothing was put
@@ -47,6 +47,21 @@ StepsOwn = (run : Run) (s : State) (turn : Turn) (step : Step) → IsSound s →
     → IsStep turn.device s (asked run s step) turn.added turn.refused
     → AreOwn (after_all s turn.added) (streams_behind run s (after_all s turn.added) turn step)
     ⊎ ShownIn turn.device (streams_with run s step) s (asked run s step)
+
+-- what stands belongs to what writers took but for what fragments are
+abbrev pub OwnIsKept : Type 0
+OwnIsKept = (s : State) (streams : ℕ → Stream) → AreOwn s streams → AreKept s streams
+
+-- so it is behind a format
+abbrev pub FormatsKeep : Type 0
+FormatsKeep = (s : State) (geometry : Geometry) (streams : ℕ → Stream) → AreKept (after_all s (format_records geometry)) streams
+
+-- and behind each line as before it, whatever a copy shows, where nothing is displaced before it; and
+-- nothing is displaced behind it
+abbrev pub StepsKeep : Type 0
+StepsKeep = (run : Run) (s : State) (turn : Turn) (step : Step) → IsSound s → s.displaced ≡ [] → IsQuiet s → AreKept s run.streams → AreWriting run s
+    → IsStep turn.device s (asked run s step) turn.added turn.refused
+    → AreKept (after_all s turn.added) (streams_behind run s (after_all s turn.added) turn step) × ((after_all s turn.added).displaced ≡ [])
 
 -- the payload of a fragment that was read is that part of what the writer of its put took, or two
 -- documents of one SHA-256 are shown
@@ -93,3 +108,8 @@ is_reading _ = false
 abbrev pub ReadsOwn : Type 0
 ReadsOwn = (p : Permit) (s : State) (streams : ℕ → Stream) (i : Intent) (added : List Rec) (e : End) → is_reading i ≡ true → AreOwn s streams
     → Does p s i added e → AreOwn (after_all s added) streams
+
+-- and but for what fragments are it stays so too
+abbrev pub ReadsKeep : Type 0
+ReadsKeep = (p : Permit) (s : State) (streams : ℕ → Stream) (i : Intent) (added : List Rec) (e : End) → is_reading i ≡ true → AreKept s streams
+    → Does p s i added e → AreKept (after_all s added) streams

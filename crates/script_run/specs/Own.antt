@@ -89,6 +89,12 @@ pub record AreOwn (s : State) (streams : ℕ → Stream) : Type 0 where
   pub rows : AllByRecursion (IsOwnRow s streams) s.rows
   pub readers : AllByRecursion (IsOwnReader s) s.readers
 
+-- the same, but for what fragments are: whatever a copy brings to a fragment's new place, it stays so
+pub record AreKept (s : State) (streams : ℕ → Stream) : Type 0 where
+  pub puts : AreOwnPuts s streams
+  pub alternates : AllByRecursion (AreAlternates s) s.rows
+  pub readers : AllByRecursion (IsOwnReader s) s.readers
+
 -- each put that an actor writes is open
 abbrev pub AreWriting : Run → State → Type 0
 AreWriting run s = (name : List ℕ) (put : ℕ) → writer_of run name ≡ Some put → is_writing s put ≡ true

@@ -58,8 +58,8 @@ FormatTakes added segments buckets content agg reach fragment generation (Some b
 FormatTakes added segments buckets content agg reach fragment generation None =
     (g : Geometry) × HasNumbers g segments buckets content agg reach fragment generation × (added ≡ format_records g)
 
--- a line on a session is one step of its records, with a directory that displaces nothing, and with pins
--- that hold up to the moment of the run; and the bytes that it gives are those that were put
+-- a line on a session is one step of its records, with a directory that displaces nothing, in which pins are
+-- weighed by the moment of the run; and the bytes that it gives are those that were put
 pub record SessionTakes (run : Run) (s : State) (turn : Turn) (step : Step) : Type 0 where
   pub plain : turn.device.packed ≡ false
   pub moment : turn.device.now ≡ run.now

@@ -1,5 +1,5 @@
 // Laws of the bytes that lines give. These functions do nothing when they run.
-ghost use Rattle.script_run.specs.Laws.{AllIsFollowed, AllIsGiven, FlushOwns, FormatsOwn, GivenIsListed, OtherShows, ReadIsOwn, ReadsOwn, StepsOwn, StoppedOwns};
+ghost use Rattle.script_run.specs.Laws.{AllIsFollowed, AllIsGiven, FlushOwns, FormatsKeep, FormatsOwn, GivenIsListed, OtherShows, OwnIsKept, ReadIsOwn, ReadsKeep, ReadsOwn, StepsKeep, StepsOwn, StoppedOwns};
 
 use cache_model::writer_is_ended;
 
@@ -24,6 +24,25 @@ pub fn stopped_owns()
 /// its turn.
 pub fn steps_own()
     ensures { StepsOwn }
+{
+    // A whole put leaves no open put.
+    writer_is_ended();
+}
+
+/// What stands belongs to what writers took, but for what fragments are.
+pub fn own_is_kept()
+    ensures { OwnIsKept }
+{}
+
+/// So it is behind a format.
+pub fn formats_keep()
+    ensures { FormatsKeep }
+{}
+
+/// And behind each line as before it, whatever a copy shows, where nothing is displaced before it; and nothing
+/// is displaced behind it.
+pub fn steps_keep()
+    ensures { StepsKeep }
 {
     // A whole put leaves no open put.
     writer_is_ended();
@@ -61,4 +80,9 @@ pub fn all_is_followed()
 /// And so it does behind each group of records that only reads.
 pub fn reads_own()
     ensures { ReadsOwn }
+{}
+
+/// The same but for what fragments are.
+pub fn reads_keep()
+    ensures { ReadsKeep }
 {}

@@ -9,10 +9,8 @@ returns c =
         numbers_follow = c.numbers_follow.ensures;
         legal_is_sound = c.legal_is_sound.ensures;
         steps_are_sound = c.steps_are_sound.ensures;
-        formats_tell = c.formats_tell.ensures;
-        steps_tell = c.steps_tell.ensures;
-        formats_own = c.formats_own.ensures;
-        steps_own = c.steps_own.ensures;
+        formats_keep = c.formats_keep.ensures;
+        steps_keep = c.steps_keep.ensures;
       };
       nothing_asked = c.nothing_asked.ensures;
     } in

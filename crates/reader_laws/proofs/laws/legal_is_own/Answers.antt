@@ -3,9 +3,13 @@ use Rattle.reader_laws.proofs.laws.legal_is_own.Goals as goal
 
 pub returns : goal.returns
 returns c = legal_is_own (record {
-  numbers_follow = c.numbers_follow.ensures;
-  legal_is_sound = c.legal_is_sound.ensures;
-  steps_are_sound = c.steps_are_sound.ensures;
+  kept = record {
+    numbers_follow = c.numbers_follow.ensures;
+    legal_is_sound = c.legal_is_sound.ensures;
+    steps_are_sound = c.steps_are_sound.ensures;
+    formats_keep = c.formats_keep.ensures;
+    steps_keep = c.steps_keep.ensures;
+  };
   formats_tell = c.formats_tell.ensures;
   steps_tell = c.steps_tell.ensures;
   formats_own = c.formats_own.ensures;

@@ -1,4 +1,4 @@
-use Rattle.script_run.proofs.Flushing.{flush_owns}
+use Rattle.script_run.proofs.Flushed.{flush_owns}
 use Rattle.script_run.proofs.laws.flush_owns.Goals as goal
 
 pub returns : goal.returns

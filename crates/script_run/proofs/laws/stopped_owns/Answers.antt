@@ -1,4 +1,4 @@
-use Rattle.script_run.proofs.Flushing.{stopped_owns}
+use Rattle.script_run.proofs.Flushed.{stopped_owns}
 use Rattle.script_run.proofs.laws.stopped_owns.Goals as goal
 
 pub returns : goal.returns
