@@ -77,7 +77,7 @@ pub record DeviceRead : Type 0 where
   pub place : ℕ
   pub bytes : List ℕ
 
--- whether the directory displaces entries, the moment up to which pins hold, the device's count of faults
+-- whether the directory displaces entries, the moment that pins are weighed by, the device's count of faults
 -- before the step and at its end, and what the device gave in it
 pub record Permit : Type 0 where
   pub packed : Bool

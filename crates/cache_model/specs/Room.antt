@@ -14,7 +14,7 @@ use Rattle.cache_model.specs.declared.record.Rec.TheVariants as rec
 use Rattle.cache_model.specs.State.{State, Row, live_rows, place_now, cursor_next}
 use Rattle.cache_model.specs.Permit.{Permit}
 
--- places and numbers stay below this
+-- below this a placed piece ends, a buffer begins, and the numbers of puts stand; copies may end above it
 abbrev pub limit : ℕ
 limit = 2 ^ 62
 
