@@ -11,7 +11,7 @@ use Rattle.cache_replay.specs.declared.stop.Stop.TheVariants.{NoCache, BayFault,
 -- a line that works on a session
 abbrev pub NeedsSession : Step → Type 0
 NeedsSession (step.Format name segments buckets content agg reach fragment generation) = ⊥
-NeedsSession (step.Now at) = ⊥
+NeedsSession (step.Now moment) = ⊥
 NeedsSession _ = ⊤
 
 -- a format whose numbers are accepted attaches a device

@@ -62,7 +62,7 @@ pub fn step<B: Bay>(
             fragment,
             generation,
         ),
-        Step::Now { at } => Ok(now_line(session, at)),
+        Step::Now { moment } => Ok(now_line(session, moment)),
         other => in_session(session, other),
     }
 }
@@ -70,17 +70,17 @@ pub fn step<B: Bay>(
 // `now MOMENT`: the moment is another, and all else stays.
 fn now_line<D: Disk, R: Directory + Drop, C: Chronicle>(
     session: &mut Session<D, R, C>,
-    at: u64,
+    moment: u64,
 ) -> StepAnswer
     requires session { IsSession D.Disk R.Directory C.Chronicle session.old }
     ensures session { IsSession D.Disk R.Directory C.Chronicle session.new }
     ensures moves { (run : Run) → Plays D.Disk R.Directory C.Chronicle run session.old
-        → StepMoves D.Disk R.Directory C.Chronicle run (step.Now at) session.new result }
+        → StepMoves D.Disk R.Directory C.Chronicle run (step.Now moment) session.new result }
     ensures devices { devices_of session.new ≡ devices_of session.old }
     ensures names { names_in session.new ≡ names_in session.old }
 {
-    session.now = at;
-    StepAnswer::Now { at }
+    session.now = moment;
+    StepAnswer::Now { moment }
 }
 
 // Does a step that works on a session.

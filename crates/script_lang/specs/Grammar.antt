@@ -133,9 +133,9 @@ flush_of words = take_end words >>= (λ done. Ok step.Flush)
 -- now MOMENT
 unfoldable pub now_of : ℕ → List WordAt → Result Step BadLine
 now_of end words = do
-  at ← take_number (2 ^ 64) end words
-  done ← take_end at.1
-  Ok (step.Now at.0)
+  moment ← take_number (2 ^ 64) end words
+  done ← take_end moment.1
+  Ok (step.Now moment.0)
 
 -- the step of a verb and the words behind it
 abbrev pub step_by : ℕ → Verb → List WordAt → Result Step BadLine

@@ -57,7 +57,7 @@ step_words (step.Next actor) = codes "next" ∷ actor ∷ []
 step_words (step.Done actor) = codes "done" ∷ actor ∷ []
 step_words (step.Remove object) = codes "remove" ∷ key_word object ∷ []
 step_words step.Flush = codes "flush" ∷ []
-step_words (step.Now at) = codes "now" ∷ decimal at ∷ []
+step_words (step.Now moment) = codes "now" ∷ decimal moment ∷ []
 
 -- the line of a step: its words with a space between any two
 abbrev pub spelled : Step → List ℕ
@@ -105,7 +105,7 @@ HasSpelling (step.Next actor) = IsActor actor
 HasSpelling (step.Done actor) = IsActor actor
 HasSpelling (step.Remove object) = IsKey object
 HasSpelling step.Flush = ⊤
-HasSpelling (step.Now at) = at < 2 ^ 64
+HasSpelling (step.Now moment) = moment < 2 ^ 64
 
 -- the line of a step is read as that step
 abbrev pub SpelledIsRead : Type 0

@@ -146,7 +146,7 @@ answer_line answer.Done = done_line
 answer_line (answer.Removed put) = number_line (codes "removed") put
 answer_line (answer.Absent why) = why_line (codes "absent") why
 answer_line (answer.Flushed blocks cursor floor synced) = flushed_line blocks cursor floor synced
-answer_line (answer.Now at) = number_line (codes "now") at
+answer_line (answer.Now moment) = number_line (codes "now") moment
 answer_line (answer.Refused why took) = refused_line why took
 answer_line (answer.DeviceFault count took) = fault_line count took
 

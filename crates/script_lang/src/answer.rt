@@ -85,7 +85,7 @@ pub enum StepAnswer {
     },
     /// The moment for pins is this.
     Now {
-        at: u64,
+        moment: u64,
     },
     /// `took` is there for a line that gives bytes: how many of them the writer took.
     Refused {

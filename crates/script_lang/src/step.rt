@@ -96,6 +96,6 @@ pub enum Step {
     Flush,
     /// Sets the moment that a flush weighs pins by. It may also fall.
     Now {
-        at: u64,
+        moment: u64,
     },
 }

@@ -213,9 +213,9 @@ fn flush_line(words: &Words) -> Result<Step, Refusal>
 fn now_line(words: &mut Words) -> Result<Step, Refusal>
     ensures { Reads (now_of words.old.end (words_in words.old)) result }
 {
-    let at = take_long(words)?;
+    let moment = take_long(words)?;
     words.end()?;
-    Ok(Step::Now { at })
+    Ok(Step::Now { moment })
 }
 
 /// The step of a verb and the words behind it.

@@ -1,4 +1,4 @@
-// Lines and texts that were written down before the program: what the definitions are meant to say.
+// Lines and texts that were worked by hand: what the definitions are meant to say.
 
 use super::*;
 use cache_model::Cause;
@@ -222,7 +222,7 @@ fn writers_and_flushes_are_told(rt: HostRuntime) -> Result<(), Fail> {
         (StepAnswer::NotYet { cut: 0 }, "notyet 0\n"),
         (StepAnswer::Done, "done\n"),
         (flushed, "flushed 8 cursor 128 floor 72 synced 5\n"),
-        (StepAnswer::Now { at: 0 }, "now 0\n"),
+        (StepAnswer::Now { moment: 0 }, "now 0\n"),
         (
             refused(Refused::TooManyWriters, None),
             "refused too-many-writers\n",

@@ -260,7 +260,7 @@ fn line(alloc: Global, answer: &StepAnswer) -> Result<String, AllocError>
             floor,
             synced,
         } => flushed(alloc, *blocks, *cursor, *floor, *synced),
-        StepAnswer::Now { at } => number(alloc, "now", *at),
+        StepAnswer::Now { moment } => number(alloc, "now", *moment),
         StepAnswer::Refused { why, took } => refused(alloc, *why, *took),
         StepAnswer::DeviceFault { count, took } => fault(alloc, *count, *took),
     }

@@ -160,13 +160,13 @@ session_said run s t turn (step.Next actor) = if_has (reader_by run actor) (λ r
 session_said run s t turn (step.Done actor) = if_has (reader_by run actor) (λ reader. answer.Done)
 session_said run s t turn (step.Remove key) = remove_said s key turn.added
 session_said run s t turn step.Flush = flush_said s t turn.refused
-session_said run s t turn (step.Now at) = answer.Now at
+session_said run s t turn (step.Now moment) = answer.Now moment
 
 -- the same; without a session only a format and a moment are answered
 abbrev pub step_said : Run → Turn → Option State → Step → StepAnswer
 step_said run turn state (step.Format name segments buckets content agg reach fragment generation) =
     format_said turn.added (first_refusal segments buckets content agg reach fragment)
-step_said run turn state (step.Now at) = answer.Now at
+step_said run turn state (step.Now moment) = answer.Now moment
 step_said run turn (Some s) step = session_said run s (after_all s turn.added) turn step
 step_said run turn None step = answer.Done
 

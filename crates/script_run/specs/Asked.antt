@@ -107,4 +107,4 @@ asked run s (step.Next actor) = if_has (reader_by run actor) (λ reader. ReadOn 
 asked run s (step.Done actor) = if_has (reader_by run actor) (λ reader. StopReading reader ∷ [])
 asked run s (step.Remove key) = Remove key ∷ []
 asked run s step.Flush = Flush ∷ []
-asked run s (step.Now at) = []
+asked run s (step.Now moment) = []

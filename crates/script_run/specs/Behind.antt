@@ -152,7 +152,7 @@ at_moment run at = record run { now = at }
 abbrev pub behind : Run → Turn → Option State → Step → Run
 behind run turn state (step.Format name segments buckets content agg reach fragment generation) =
     after_format run name turn.added (first_refusal segments buckets content agg reach fragment)
-behind run turn state (step.Now at) = at_moment run at
+behind run turn state (step.Now moment) = at_moment run moment
 behind run turn (Some s) step = in_session run s (after_all s turn.added) turn step
 behind run turn None step = run
 

@@ -69,7 +69,7 @@ pub record SessionTakes (run : Run) (s : State) (turn : Turn) (step : Step) : Ty
 abbrev pub Takes : Run → Turn → Option State → Step → Type 0
 Takes run turn state (step.Format name segments buckets content agg reach fragment generation) =
     FormatTakes turn.added segments buckets content agg reach fragment generation (first_refusal segments buckets content agg reach fragment)
-Takes run turn state (step.Now at) = turn ≡ no_turn
+Takes run turn state (step.Now moment) = turn ≡ no_turn
 Takes run turn (Some s) step = SessionTakes run s turn step
 Takes run turn None step = ⊥
 

@@ -17,4 +17,4 @@ returns-in_default g c =
     }
 
 pub returns-in-Now-clause-ends : goal.returns-in-Now-clause-ends
-returns-in-Now-clause-ends g c = λ run plays. rw c.in-Now.is (inl (moment_moves _ _ _ run c.in-Now.at _ _ _ (c.now_line.ensures.moves run plays)))
+returns-in-Now-clause-ends g c = λ run plays. rw c.in-Now.is (inl (moment_moves _ _ _ run c.in-Now.moment _ _ _ (c.now_line.ensures.moves run plays)))
