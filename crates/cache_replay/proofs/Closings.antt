@@ -11,7 +11,7 @@ use Rattle.cache_model.specs.declared.record.Rec.{Rec}
 use Rattle.cache_model.specs.State.{PutRow, State, after_all, fragment_piece, put_of}
 use Rattle.cache_model.specs.Kept.{Kept, state_of, with_records}
 use Rattle.cache_model.specs.Verdict.{cause_of_piece, cuts_of}
-use Rattle.cache_model.specs.Permit.{Commit, Done, End, Exhausted, Fails, Faulted, Finish, Fragment, Intent, Lost, Permit, Reason, Stays, TooLarge, Weigh, to_do}
+use Rattle.cache_model.specs.Permit.{Commit, Done, End, Exhausted, Fails, Faulted, Finish, Intent, Lost, Permit, Reason, TooLarge, Weigh, to_do}
 use Rattle.cache_model.specs.Legal.{IsQuiet, IsStep, is_writing, nothing}
 use Rattle.stripe_core.specs.declared.refusal.Refusal.{Refusal}
 use Rattle.stripe_core.specs.declared.refusal.Refusal.TheVariants as refusal
@@ -21,6 +21,7 @@ use Rattle.stripe_write.specs.Writers.{IsWriterOf}
 use Rattle.stripe_write.specs.Closing.{SpendsAll, close_intents, rest_rows, rows_at_close}
 use Rattle.stripe_write.specs.Closes.{Closes as ClosesAs, ClosesAsAsked, ClosesWhere, IsRested, SealsWhere}
 use Rattle.stripe_write.proofs.Ended.{open_put}
+use Rattle.stripe_write.proofs.Spending.{state_behind}
 use Rattle.script_lang.specs.declared.step.Step.TheVariants as step
 use Rattle.script_lang.specs.declared.answer.Refused.TheVariants as refused
 use Rattle.script_lang.specs.declared.answer.StepAnswer.{StepAnswer}
@@ -35,7 +36,8 @@ use Rattle.script_run.specs.Behind.{of_put, sealed_by, still_open, streams_behin
 use Rattle.cache_replay.specs.Plays.{IsStreamOf}
 use Rattle.cache_replay.specs.Putting.{refusal_answer}
 use Rattle.cache_replay.specs.WriterLines.{Closes, IsPlayed, WriterDoes, WriterEnds, closed_answer}
-use Rattle.cache_replay.proofs.WriterSteps.{LeftOpen, covers_own, cuts_at, gathered_at, has_put, held_open, of_left, permit_of, reason_of, state_with, whole_step}
+use Rattle.cache_replay.proofs.Calls.{call_covered, call_permit}
+use Rattle.cache_replay.proofs.WriterSteps.{LeftOpen, cuts_at, gathered_at, has_put, held_open, of_left, reason_of, whole_step}
 use Rattle.cache_replay.proofs.Endings.{AreClosing, EndsInCommit, IsEnded, ended_along, key_of, rows_then}
 
 -- ---- what is asked
@@ -138,13 +140,13 @@ module _ (now : ℕ) (old new : Kept) (before after : ℕ) (w last : Writer) (le
       ap (λ (r : Option PutRow). option_map (λ (p : PutRow). p.key) r) o.1 ∙ ap (λ (k : Key). Some k) (own o.0 o.1 o.2).key_is
 
   closed_moves : (result : Result Receipt Refusal) (e : End) (said_ : StepAnswer) (reads : List Rattle.cache_model.specs.Permit.DeviceRead) (added : List Rec) → new ≡ with_records old added
-      → SpendsAll (permit_of now before after reads) s (close_intents w) added e
+      → SpendsAll (call_permit now before after reads) s (close_intents w) added e
       → (IsEnded (reason_of e) t w.put (rows_at_close w) (key_of s w.put) → (stream : Stream) → IsStreamOf stream w → is_writing t w.put ≡ true → IsStreamOf (sealed_by (reason_of e) stream) last)
       → (IsEnded (reason_of e) t w.put (rows_at_close w) (key_of s w.put) → said t None (reason_of e) (put_said t w.put) ≡ said_)
       → (run : Run) (name : List ℕ) → run.now ≡ now → IsPlayed run name s w → WriterEnds run name s t Closes left said_
   closed_moves result e said_ reads added adds spends stream says run name moment played =
-      let p : Permit = permit_of now before after reads in
-      let there = state_with old new added adds in
+      let p : Permit = call_permit now before after reads in
+      let there = state_behind old new added adds in
       let has = has_put run name s w played in
       let legal : IsStep p s (close_intents w) added (reason_of e) = whole_step p s (close_intents w) added e spends (subst IsQuiet there quiet_then) in
       let end_ = ended p added (reason_of e) legal there in
@@ -167,11 +169,11 @@ module _ (now : ℕ) (old new : Kept) (before after : ℕ) (w last : Writer) (le
   shows p collision run name said_ = inr (record { device = p; added = []; left = to_do (asked run s (step.Close name)); grows = nothing; other = IsOther.vector_read w.key collision })
 
   either : (result : Result Receipt Refusal) (said_ : StepAnswer) → ClosesAsAsked now before after old new w result
-      → ((reads : List Rattle.cache_model.specs.Permit.DeviceRead) (run : Run) (name : List ℕ) → run.now ≡ now → IsPlayed run name s w → ClosesAs (permit_of now before after reads) old new w result → WriterEnds run name s t Closes left said_)
+      → ((reads : List Rattle.cache_model.specs.Permit.DeviceRead) (run : Run) (name : List ℕ) → run.now ≡ now → IsPlayed run name s w → ClosesAs (call_permit now before after reads) old new w result → WriterEnds run name s t Closes left said_)
       → (run : Run) (name : List ℕ) → run.now ≡ now → IsPlayed run name s w → WriterEnds run name s t Closes left said_
-  either result said_ asked_ then_ run name moment played = elim (asked_.does (permit_of now before after asked_.reads) refl (covers_own now before after asked_.reads) played.told) [
+  either result said_ asked_ then_ run name moment played = elim (asked_.does (call_permit now before after asked_.reads) refl (call_covered now before after asked_.reads) played.told) [
     | inl closes ↦ then_ asked_.reads run name moment played closes
-    | inr collision ↦ shows (permit_of now before after asked_.reads) collision run name said_
+    | inr collision ↦ shows (call_permit now before after asked_.reads) collision run name said_
   ]
 
   -- each answer

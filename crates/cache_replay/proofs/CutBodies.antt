@@ -73,9 +73,6 @@ cut_first f put cut (x ∷ xs) some whole few =
     ∙ ap (λ (tail : List Intent). Fragment put (cut + 1) (take f (x ∷ xs)) ∷ tail)
     (same_cuts (length xs) (length (drop f (x ∷ xs))) f put (cut + 1) (drop f (x ∷ xs)) some (fewer f x xs (length xs) some (omega arith)) (omega arith)))
 
-pub cut_none : (f put cut : ℕ) → feed_intents f put cut [] ≡ []
-cut_none f put cut = refl
-
 pub cut_short : (f put cut : ℕ) (xs : List ℕ) → 0 < f → length xs < f → (0 < length xs → (cut == most_fragments) ≡ false) → feed_intents f put cut xs ≡ []
 cut_short f put cut [] some short few = refl
 cut_short f put cut (x ∷ xs) some short few =

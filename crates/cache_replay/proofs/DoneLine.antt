@@ -16,6 +16,7 @@ use Rattle.stripe_actors.proofs.Rows.{find-without}
 use Rattle.stripe_core.specs.Stripe.{IsStripe, kept_in, state_in}
 use Rattle.stripe_read.specs.declared.reader.Reader.{Reader}
 use Rattle.stripe_read.specs.Readers.{ClosesAsAsked}
+use Rattle.stripe_write.proofs.Spending.{state_behind}
 use Rattle.script_lang.specs.declared.step.Step.TheVariants as step
 use Rattle.script_lang.specs.declared.answer.StepAnswer.{StepAnswer}
 use Rattle.script_lang.specs.declared.answer.StepAnswer.TheVariants as answer
@@ -27,7 +28,7 @@ use Rattle.script_run.specs.Laws.{StepsOwn}
 use Rattle.cache_replay.specs.declared.session.Part.{Part}
 use Rattle.cache_replay.specs.Session.{AreApart, IsActive}
 use Rattle.cache_replay.specs.ReaderLines.{PartEnds, PartMoves, PlaysPart, reader_held, slots_of}
-use Rattle.cache_replay.proofs.ReaderFrames.{closed_leaves, kept_leaves, state_behind}
+use Rattle.cache_replay.proofs.ReaderFrames.{closed_leaves, kept_leaves}
 use Rattle.cache_replay.proofs.ReaderLines.{Goes, Took, apart_else, goes_active, held_reader, part_behind, line_ends, reads_none, still_held, still_moves, still_permit}
 
 -- it is closed then

@@ -13,6 +13,7 @@ use Rattle.stripe_core.specs.declared.refusal.Refusal.{Refusal}
 use Rattle.stripe_core.specs.declared.refusal.Refusal.TheVariants as refusal
 use Rattle.stripe_write.specs.declared.writer.Writer.{Writer}
 use Rattle.stripe_write.specs.Writers.{IsWriterOf}
+use Rattle.stripe_write.proofs.Spending.{state_behind}
 use Rattle.script_lang.specs.declared.step.Step.TheVariants as step
 use Rattle.script_lang.specs.declared.answer.Refused.TheVariants as refused
 use Rattle.script_lang.specs.declared.answer.StepAnswer.{StepAnswer}
@@ -26,7 +27,8 @@ use Rattle.cache_replay.specs.Feeding.{FeedsAsAsked, FeedsWhere, IsFed, feed_end
 use Rattle.cache_replay.specs.Plays.{IsStreamOf}
 use Rattle.cache_replay.specs.Putting.{refusal_answer}
 use Rattle.cache_replay.specs.WriterLines.{Feeds, IsPlayed, WriterDoes, fed_answer}
-use Rattle.cache_replay.proofs.WriterSteps.{LeftOpen, covers_own, cuts_at, gathered_at, has_put, held_open, of_left, permit_of, reason_of, state_with, whole_step}
+use Rattle.cache_replay.proofs.Calls.{call_covered, call_permit}
+use Rattle.cache_replay.proofs.WriterSteps.{LeftOpen, cuts_at, gathered_at, has_put, held_open, of_left, reason_of, whole_step}
 
 -- what it took is that before and what it took now
 pub stream_fed : (stream : Stream) (w new : Writer) (body : List ℕ) (taken : ℕ) → IsStreamOf stream w → IsFed w body taken new → taken ≤ length body → IsStreamOf (fed stream body taken) new
@@ -71,9 +73,9 @@ module _ (now : ℕ) (old new : Kept) (before after : ℕ) (w last : Writer) (bo
       → ((run : Run) → took_of run t w.put ≡ Rattle.cache_replay.specs.Feeding.taken_of t w body (Some refusal.Sealed) → said t (Some (took_of run t w.put)) (reason_of e) (answer.Took (length body)) ≡ said_)
       → WriterDoes now s t (Feeds body) w left (Some said_)
   fed_moves e why said_ feeds is takes says = λ run name moment played.
-      let p : Permit = permit_of now before after feeds.reads in
-      let f = feeds.does p refl (covers_own now before after feeds.reads) in
-      let there = state_with old new f.added f.adds in
+      let p : Permit = call_permit now before after feeds.reads in
+      let f = feeds.does p refl (call_covered now before after feeds.reads) in
+      let there = state_behind old new f.added f.adds in
       let nope : (run.streams w.put).sealed ≡ false = sym played.stream.sealed ∙ feeds.open_still in
       let has = has_put run name s w played in
       let legal : IsStep p s (feed_intents s.geometry.fragment w.put (length w.table.rows) (w.gathered.items ++ body)) f.added (reason_of e) =
@@ -111,7 +113,7 @@ module _ (now : ℕ) (old new : Kept) (before after : ℕ) (w last : Writer) (bo
   sealed_moves sealed same is = λ run name moment played.
       let yea : (run.streams w.put).sealed ≡ true = sym played.stream.sealed ∙ sealed in
       let zero : taken ≡ 0 = is ∙ none_taken same in
-      let p : Permit = permit_of now before after [] in
+      let p : Permit = call_permit now before after [] in
       let has = has_put run name s w played in
       let turn : Turn = record { added = []; refused = None; device = p; given = [] } in
       let legal : IsStep p s [] [] None = record { grows = nothing; quiet = quiet } in

@@ -37,12 +37,6 @@ pub record Turned {D R C : Type 0} (disk : DiskGhosts D) (directory : DirectoryG
   pub unharmed : StaysUnharmed disk directory chronicle first now
   pub onward : Onward moment (seen_in disk directory first).device.faults (seen_in disk directory now).device.faults (kept_in chronicle first) (kept_in chronicle now) w v bytes taken
 
-pub none_yet : (moment before : ℕ) (old : Kept) (w : Writer) (bytes : List ℕ) → Onward moment before before old old w w bytes 0
-none_yet moment before old w bytes = λ after new end more why later ends. subst (λ m. Ends moment before after old new w end bytes m why) (sym (zero_more more)) ends
-  where
-    zero_more : (k : ℕ) → 0 + k ≡ k
-    zero_more k = omega arith
-
 -- a write that left bytes over
 pub one_more : (moment before mid : ℕ) (next : Device) (old now then_ : Kept) (w v u : Writer) (bytes : List ℕ) (taken n : ℕ) → mid ≤ next.faults → n < length (drop taken bytes)
     → Wrote moment mid next now then_ v u (drop taken bytes) n → Onward moment before mid old now w v bytes taken → Onward moment before next.faults old then_ w u bytes (taken + n)

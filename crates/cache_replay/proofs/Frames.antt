@@ -1,12 +1,9 @@
 -- What a call does not speak of stays.
-use Rattle.std.proofs.Common.{◌≡◌, ℕ, List, refl, sym, ◌∙◌, ap, subst, Bool, true, false}
+use Rattle.std.proofs.Common.{◌≡◌, ℕ, refl, sym, ◌∙◌, ap, subst, Bool, true, false}
 use Rattle.std.specs.Prelude.{Option, Some, None, IfSome, ◌==◌, if◌then◌else◌, option_map, unwrap_or}
 use Rattle.std.proofs.lemmas.Bool.{eqb-true}
-use Rattle.cache_model.specs.declared.record.Rec.{Rec}
-use Rattle.cache_model.specs.Kept.{Kept, state_of, with_records}
 use Rattle.cache_model.proofs.Found.{same_some}
-use Rattle.cache_model.proofs.Steps.{after_all-append}
-use Rattle.cache_model.specs.State.{after_all, State, put_of, reader_of}
+use Rattle.cache_model.specs.State.{State, put_of, reader_of}
 use Rattle.cache_model.specs.Verdict.{is_open}
 use Rattle.cache_model.specs.Legal.{is_writing}
 use Rattle.stripe_write.specs.declared.writer.Writer.{Writer}
@@ -20,9 +17,6 @@ use Rattle.cache_replay.specs.Session.{AreHeld, IsHeld, LeavesBut}
 use Rattle.cache_replay.specs.Plays.{IsHeldAs}
 
 -- ---- records of a call
-
-pub state_behind : (k new : Kept) (recs : List Rec) → new ≡ with_records k recs → state_of new ≡ after_all (state_of k) recs
-state_behind k new recs is = ap state_of is ∙ after_all-append k.base k.since recs
 
 pub some_is : (X : Type 0) (x y : X) → Some x ≡ Some y → x ≡ y
 some_is X x y e = same_some x y (Some x) refl e
@@ -81,9 +75,6 @@ Changed slots new n x = (m : ℕ) → new m ≡ (if m == n then x else slots m)
 -- no other actor has that writer or that reader
 abbrev pub OthersElse : (ℕ → Option Holding) → ℕ → Option ℕ → Option ℕ → Type 0
 OthersElse slots n put reader = (m : ℕ) (h : Holding) → (m == n) ≡ false → slots m ≡ Some h → IsElse put reader h
-
-pub record Same (o : Option Holding) (s t : State) : Type 0 where
-  pub stays : (h : Holding) → o ≡ Some h → IsHeld s h → IsHeld t h
 
 if_same : (P : Holding → Type 0) (a b : Option Holding) → a ≡ b → IfSome b P → IfSome a P
 if_same P a b e p = subst (λ o. IfSome o P) (sym e) p

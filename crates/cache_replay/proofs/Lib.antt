@@ -1,4 +1,5 @@
 pub mod Unharming
+mod Calls
 mod Frames
 mod Dispatch
 mod Plain

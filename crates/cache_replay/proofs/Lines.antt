@@ -2,7 +2,7 @@
 use Rattle.std.proofs.Common.{◌≡◌, ℕ, ◌+◌, ◌*◌, ◌<◌, ◌≤◌, List, [], ◌∷◌, ◌++◌, length, refl, sym, ◌∙◌, ap, subst, arith, Bool, true, false, cond, ◌⊎◌, inl, inr}
 use Rattle.std.specs.Prelude.{Option, Some, None, IfSome, ◌==◌, find, if◌then◌else◌, option_and_then, option_map, unwrap_or, is_some, Result, Ok, Err, IfOk}
 use Rattle.std.proofs.lemmas.Bool.{eqb-true, eq-eqb}
-use Rattle.cache_model.specs.State.{PutRow, State, after_all, put_of, reader_of}
+use Rattle.cache_model.specs.State.{PutRow, State, after_all}
 use Rattle.cache_model.specs.Verdict.{is_open}
 use Rattle.stripe_actors.specs.Actors.{FallBelow, put_numbers}
 use Rattle.cache_model.specs.Tape.{IsSound}
@@ -32,7 +32,7 @@ use Rattle.script_run.specs.Run.{Holding as Held}
 use Rattle.script_run.specs.Asked.{asked}
 use Rattle.script_run.specs.Turn.{Turn}
 use Rattle.script_run.specs.Answers.{busy, idle, session_said, step_answer, step_said}
-use Rattle.script_run.specs.Behind.{after_step, behind, holds_behind, in_session, of_put, or_else, reader_at, still_open, streams_behind, streams_closed, streams_fed, streams_opened, writer_at}
+use Rattle.script_run.specs.Behind.{after_step, behind, holds_behind, in_session, of_put, or_else, still_open, streams_behind, streams_closed, streams_fed, streams_opened, writer_at}
 use Rattle.script_run.specs.Own.{AreOwn}
 use Rattle.script_run.specs.Takes.{SessionTakes, StepShows, StepTakes, Takes}
 use Rattle.script_run.specs.Laws.{StepsOwn}
@@ -503,15 +503,6 @@ module _ {D R C : Type 0} (disk : DiskGhosts D) (directory : DirectoryGhosts R) 
             (record { names = names_is line run s s (still_turn run.now) name last.names (ap (λ (all : List (List ℕ)). with_actor all name) plays.names ∙ sym names); at = none.plays });
         says = says_is line run (still_turn run.now) name s plays.at.state ∙ none.says;
       })
-
--- the slots are those of before, and so they are all that holds of them
-pub same_active : {D R C : Type 0} (disk : DiskGhosts D) (directory : DirectoryGhosts R) (chronicle : ChronicleGhosts C) (part : Part D R C) (slots new : ℕ → Option Holding) → ((m : ℕ) → new m ≡ slots m)
-    → IsActive disk directory chronicle part slots → IsActive disk directory chronicle part new
-same_active disk directory chronicle part slots new same old = record {
-  part = old.part;
-  held = λ m. subst (λ o. IfSome o (IsHeld (state_in chronicle part.stripe))) (sym (same m)) (old.held m);
-  apart = λ m k a b differ at too. old.apart m k a b differ (sym (same m) ∙ at) (sym (same k) ∙ too);
-}
 
 -- names do not become more than one more
 pub one_more : (names : List (List ℕ)) (name : List ℕ) → length (with_actor names name) ≤ length names + 1

@@ -22,6 +22,7 @@ use Rattle.stripe_read.specs.declared.reading.NextPiece.{NextPiece}
 use Rattle.stripe_read.specs.declared.reading.NextPiece.TheVariants as piece
 use Rattle.stripe_read.specs.Readers.{IsReaderOf, as_row, row_by}
 use Rattle.stripe_read.specs.Nexts.{Gives, ReadsOn, listed_length, noted, read_adds, trouble_with}
+use Rattle.stripe_write.proofs.Spending.{state_behind}
 use Rattle.script_lang.specs.declared.step.Step.TheVariants as step
 use Rattle.script_lang.specs.declared.answer.StepAnswer.{StepAnswer}
 use Rattle.script_lang.specs.declared.answer.StepAnswer.TheVariants as answer
@@ -38,8 +39,7 @@ use Rattle.cache_replay.specs.declared.session.Holding.TheVariants as holding
 use Rattle.cache_replay.specs.declared.session.Part.{Part}
 use Rattle.cache_replay.specs.Session.{AreApart, IsActive, LeavesBut}
 use Rattle.cache_replay.specs.ReaderLines.{IsWithin, NextEnds, NextMoves, PartEnds, PartMoves, PlaysPart, next_answer, reader_held, slots_of}
-use Rattle.cache_replay.proofs.ReaderFrames.{state_behind}
-use Rattle.cache_replay.proofs.WholeReads.{call_covered, call_permit}
+use Rattle.cache_replay.proofs.Calls.{call_covered, call_permit}
 use Rattle.cache_replay.proofs.ReaderLines.{Goes, Took, apart_else, given_back, held_reader, line_ends, line_turn, reads_none, still_held, still_moves, still_turn}
 
 -- ---- what the reader was told

@@ -30,6 +30,7 @@ use Rattle.stripe_read.specs.declared.opening.Opened.{Opened}
 use Rattle.stripe_read.specs.declared.opening.Opened.TheVariants as opened
 use Rattle.stripe_read.specs.Readers.{IsOpenReader, IsReaderOf}
 use Rattle.stripe_read.specs.Lookups.{IfReader, Opens, Tells, answer_in, length_in, open_adds, trouble_with}
+use Rattle.stripe_write.proofs.Spending.{state_behind}
 use Rattle.script_lang.specs.declared.step.Step.TheVariants as step
 use Rattle.script_lang.specs.declared.answer.StepAnswer.{StepAnswer}
 use Rattle.script_lang.specs.declared.answer.StepAnswer.TheVariants as answer
@@ -48,8 +49,8 @@ use Rattle.cache_replay.specs.Session.{AreHeld, IsActive, IsHeld}
 use Rattle.cache_replay.specs.Plays.{IsHeldAs}
 use Rattle.cache_replay.specs.ReaderLines.{PartEnds, PartMoves, PlaysPart, as_held, opened_answer, reader_opened, slots_of}
 use Rattle.cache_replay.proofs.Frames.{Changed, IsElse, OthersElse}
-use Rattle.cache_replay.proofs.ReaderFrames.{kept_leaves, miss_leaves, open_leaves, state_behind}
-use Rattle.cache_replay.proofs.WholeReads.{call_covered, call_permit}
+use Rattle.cache_replay.proofs.ReaderFrames.{kept_leaves, miss_leaves, open_leaves}
+use Rattle.cache_replay.proofs.Calls.{call_covered, call_permit}
 use Rattle.cache_replay.proofs.ReaderLines.{Goes, as_run, goes_active, part_behind, holds_none, line_ends, none_some, some_same, still_moves}
 
 -- ---- what the lookup was answered

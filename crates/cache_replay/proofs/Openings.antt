@@ -21,6 +21,7 @@ use Rattle.stripe_core.specs.Acts.{OpensAsAsked, opened_record}
 use Rattle.stripe_write.specs.declared.writer.Writer.{Writer}
 use Rattle.stripe_write.specs.Writers.{IsWriterOf}
 use Rattle.stripe_write.specs.Others.{AddsOfPut}
+use Rattle.stripe_write.proofs.Spending.{state_behind}
 use Rattle.script_lang.specs.declared.step.Step.TheVariants as step
 use Rattle.script_lang.specs.declared.answer.StepAnswer.{StepAnswer}
 use Rattle.script_lang.specs.declared.answer.StepAnswer.TheVariants as answer
@@ -30,9 +31,9 @@ use Rattle.script_run.specs.Run.{Holding as Held}
 use Rattle.script_run.specs.Asked.{asked}
 use Rattle.script_run.specs.Behind.{or_else, streams_opened, writer_at}
 use Rattle.cache_replay.specs.Plays.{IsStreamOf}
-use Rattle.cache_replay.specs.WriterLines.{IsLeft, OpenDoes, Opens, refused_answer}
+use Rattle.cache_replay.specs.WriterLines.{OpenDoes, Opens, refused_answer}
 use Rattle.cache_replay.proofs.Lines.{next_is_free}
-use Rattle.cache_replay.proofs.WriterSteps.{permit_of, state_with}
+use Rattle.cache_replay.proofs.Calls.{call_permit}
 
 -- ---- a put that has begun
 
@@ -64,14 +65,6 @@ pub owns_opened : (old new : Kept) (who : Actor) (key : Key) (request response :
     → AddsOfPut (state_of old).next_put old new
 owns_opened old new who key request response pin adds = record { added = opened_record (state_of old) who key request response pin ∷ []; adds = adds; own = (refl, tt) }
 
-pub owns_unopened : (old new : Kept) (put : ℕ) → new ≡ old → AddsOfPut put old new
-owns_unopened old new put same = record { added = []; adds = same ∙ sym (Rattle.cache_replay.proofs.WriterSteps.nothing_with old); own = tt }
-
-pub left_opened : (old new : Kept) (who : Actor) (key : Key) (request response : List Field) (pin : ℕ) (w : Writer) → new ≡ with_records old (opened_record (state_of old) who key request response pin ∷ [])
-    → w.put ≡ (state_of old).next_put → IsWriterOf (state_of new) w → IsLeft (state_of new) (state_of old).next_put (Some w)
-left_opened old new who key request response pin w adds is own =
-    (is, ap (λ x. is_writing x (state_of old).next_put) (state_with old new _ adds) ∙ writes_it (state_of old) who key request response pin, own)
-
 abbrev free_asks : Option Held → ℕ → Key → List Field → List Field → ℕ → List Intent
 free_asks o n key request response pin = Rattle.script_run.specs.Asked.if_free o (Write n key request response pin ∷ [])
 
@@ -87,9 +80,9 @@ pub opens : (old new : Kept) (who : Actor) (key : Key) (request response : List 
 opens old new who key request response pin w quiet adds does own none open_ = λ run name free is.
     let s : State = state_of old in
     let t : State = state_of new in
-    let p : Permit = permit_of run.now 0 0 [] in
+    let p : Permit = call_permit run.now 0 0 [] in
     let added : List Rec = opened_record s who key request response pin ∷ [] in
-    let there = state_with old new added adds in
+    let there = state_behind old new added adds in
     let legal : IsStep p s (Write who.0 key request response pin ∷ []) added None = record {
       grows = grows_by p s (to_do (Write who.0 key request response pin ∷ [])) (record { intents = []; refused = None }) added (Done, does.1 p, refl);
       quiet = subst IsQuiet there quiet;
@@ -114,7 +107,7 @@ refused_by : (old new : Kept) (who : Actor) (key : Key) (request response : List
 refused_by old new who key request response pin why said quiet fall same does says = λ run name free is.
     let s : State = state_of old in
     let t : State = state_of new in
-    let p : Permit = permit_of run.now 0 0 [] in
+    let p : Permit = call_permit run.now 0 0 [] in
     let there : t ≡ s = ap state_of same in
     let legal : IsStep p s (Write who.0 key request response pin ∷ []) [] (Some why) = record {
       grows = grows_by p s (to_do (Write who.0 key request response pin ∷ [])) (record { intents = []; refused = Some why }) [] (Fails why, does p, refl);

@@ -16,12 +16,12 @@ use Rattle.stripe_vectors.proofs.Finding.{own_covers, own_permit}
 use Rattle.stripe_read.specs.declared.reader.Reader.{Reader}
 use Rattle.stripe_read.specs.Readers.{IsReaderOf, row_by}
 use Rattle.stripe_read.specs.Nexts.{IsOtherNext}
+use Rattle.stripe_write.proofs.Spending.{state_behind}
 use Rattle.script_run.specs.Run.{Run, Stream}
 use Rattle.script_run.specs.Laws.{OtherShows}
 use Rattle.script_run.specs.Own.{AreOwn, IsOtherFragment}
 use Rattle.script_run.specs.Takes.{IsOther, Shows}
 use Rattle.cache_replay.specs.Getting.{Began, IsUnderway}
-use Rattle.cache_replay.proofs.ReaderFrames.{state_behind}
 
 -- ---- one call behind another
 

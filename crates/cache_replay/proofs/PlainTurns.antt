@@ -1,14 +1,13 @@
 -- Removals and flushes as lines of a run.
-use Rattle.std.proofs.Common.{◌≡◌, ℕ, ◌*◌, List, [], ◌∷◌, refl, sym, ◌∙◌, ap, subst, arith, false, inl, inr, Result, Ok, Err}
+use Rattle.std.proofs.Common.{◌≡◌, ℕ, ◌*◌, List, [], ◌∷◌, refl, sym, ◌∙◌, ap, subst, Result, Ok, Err}
 use Rattle.std.specs.Prelude.{IfOk, Option, Some, None, ◌==◌, find}
-use Rattle.std.specs.List.{AllByRecursion}
 use Rattle.ats_disk.specs.Device.{State as Device}
 use Rattle.tape_base.specs.Geometry.{budget_of}
 use Rattle.tape_base.specs.declared.keys.Key.{Key}
 use Rattle.cache_model.specs.declared.record.Rec.{Rec}
 use Rattle.cache_model.specs.declared.record.Rec.TheVariants as rec
 use Rattle.cache_model.specs.State.{PutRow, ReaderRow, State, after_all, floor_now}
-use Rattle.cache_model.specs.Permit.{DeviceRead, Done, Fails, Flush, Intent, IsAmong, Permit, Reason, Remove, Faulted, Exhausted, to_do}
+use Rattle.cache_model.specs.Permit.{Done, Fails, Flush, Intent, Permit, Reason, Remove, Faulted, Exhausted, to_do}
 use Rattle.cache_model.specs.Legal.{Does, IsQuiet, IsStep}
 use Rattle.cache_model.proofs.Steps.{grows_by}
 use Rattle.cache_model.specs.Kept.{Kept, state_of, with_records}
@@ -16,10 +15,10 @@ use Rattle.stripe_core.specs.declared.refusal.Flushed.{Flushed}
 use Rattle.stripe_core.specs.declared.refusal.Refusal.{Refusal}
 use Rattle.stripe_core.specs.declared.refusal.Refusal.TheVariants as refusal
 use Rattle.stripe_core.specs.Stripe.{Answers}
-use Rattle.cache_replay.proofs.Frames.{state_behind}
+use Rattle.stripe_write.proofs.Spending.{state_behind}
+use Rattle.cache_replay.proofs.Calls.{call_covered, call_permit}
 use Rattle.stripe_core.specs.declared.refusal.Stop.{Stop}
 use Rattle.stripe_core.specs.declared.refusal.Stop.TheVariants as stop
-use Rattle.stripe_core.specs.Covers.{Covers}
 use Rattle.stripe_core.specs.Flush.{AreOfFlush, FlushesAsAsked, Tells, flush_end}
 use Rattle.stripe_write.proofs.Flushed.{LeavesActors, flush_leaves, leaves_all}
 use Rattle.stripe_write.specs.declared.removal.Removal.{Removal}
@@ -43,21 +42,6 @@ step_done p s i added does quiet = record { grows = grows_by p s (to_do (i ∷ [
 pub step_fails : (p : Permit) (s : State) (i : Intent) (added : List Rec) (why : Reason) → Does p s i added (Fails why) → IsQuiet (after_all s added) → IsStep p s (i ∷ []) added (Some why)
 step_fails p s i added why does quiet = record { grows = grows_by p s (to_do (i ∷ [])) (record { intents = []; refused = Some why }) added (Fails why, does, refl); quiet = quiet }
 
--- a step at a moment that is no more than one call: what the device did between two counts, and what it gave
-abbrev pub between : (moment before after : ℕ) → List DeviceRead → Permit
-between moment before after reads = record { packed = false; now = moment; faults_before = before; faults = after; reads = reads }
-
-known_more : (x : DeviceRead) (ys xs : List DeviceRead) → AllByRecursion (λ r. IsAmong r ys) xs → AllByRecursion (λ r. IsAmong r (x ∷ ys)) xs
-known_more x ys [] h = tt
-known_more x ys (z ∷ xs) h = (inr h.0, known_more x ys xs h.1)
-
-known : (xs : List DeviceRead) → AllByRecursion (λ r. IsAmong r xs) xs
-known [] = tt
-known (x ∷ xs) = (inl refl, known_more x xs xs (known xs))
-
-pub covers_between : (moment before after : ℕ) (reads : List DeviceRead) → Covers (between moment before after reads) before after reads
-covers_between moment before after reads = record { plain = refl; from = omega arith; upto = omega arith; knows = known reads }
-
 abbrev pub turn_of : List Rec → Option Reason → Permit → Turn
 turn_of added why p = record { added = added; refused = why; device = p; given = [] }
 
@@ -70,13 +54,9 @@ abbrev pub removed_as : Removal → StepAnswer
 removed_as (removal.Removed put) = answer.Removed put
 removed_as (removal.Absent why) = answer.Absent why
 
-pub remove_leaves : (s t : State) (key : Key) (answer : Removal) → t ≡ after_all s (removal_adds key answer) → LeavesBut None None s t
-remove_leaves s t key (removal.Removed put) is = subst (LeavesBut None None s) (sym is) (record { puts = λ q no. refl; readers = λ n no. refl; geometry = refl })
-remove_leaves s t key (removal.Absent why) is = subst (LeavesBut None None s) (sym is) (record { puts = λ q no. refl; readers = λ n no. refl; geometry = refl })
-
 pub removes : (run : Run) (s t : State) (key : Key) (result : Removal) → t ≡ after_all s (removal_adds key result) → IsQuiet t → RemovesWhere s key result → RemovesAsIsAsked s key result → Plainly run (step.Remove key) s t (removed_as result)
 removes run s t key (removal.Removed put) is quiet where_ does =
-    let p : Permit = between run.now 0 0 [] in
+    let p : Permit = call_permit run.now 0 0 [] in
     record {
       turn = turn_of (rec.Removed put key ∷ []) None p;
       takes = record { plain = refl; moment = refl; legal = step_done p s (Remove key) (rec.Removed put key ∷ []) (does p) (quiet_behind s t (rec.Removed put key ∷ []) is quiet); own = refl };
@@ -84,7 +64,7 @@ removes run s t key (removal.Removed put) is quiet where_ does =
       says = refl;
     }
 removes run s t key (removal.Absent why) is quiet where_ does =
-    let p : Permit = between run.now 0 0 [] in
+    let p : Permit = call_permit run.now 0 0 [] in
     record {
       turn = turn_of [] None p;
       takes = record { plain = refl; moment = refl; legal = step_done p s (Remove key) [] (does p) (quiet_behind s t [] is quiet); own = refl };
@@ -113,14 +93,14 @@ module _ (run : Run) (now : ℕ) (moment : run.now ≡ now) (k new : Kept) (befo
       → ((p : Permit) → Does p (state_of k) Flush h.added (flush_end result) → IsQuiet (after_all (state_of k) h.added) → IsStep p (state_of k) (Flush ∷ []) h.added why)
       → ((p : Permit) → session_said run (state_of k) (state_of new) (turn_of h.added why p) step.Flush ≡ said) → Plainly run step.Flush (state_of k) (state_of new) said
   flush_turns result why said h steps says =
-      let p : Permit = between run.now before after.faults h.reads in
+      let p : Permit = call_permit run.now before after.faults h.reads in
       let is : state_of new ≡ after_all (state_of k) h.added = state_behind k new h.added h.adds in
       record {
         turn = turn_of h.added why p;
         takes = record {
           plain = refl;
           moment = refl;
-          legal = steps p (h.does p moment (covers_between run.now before after.faults h.reads)) (subst IsQuiet is ((flush_behind k new h.added h.adds h.kinds).pending ∙ quiet));
+          legal = steps p (h.does p moment (call_covered run.now before after.faults h.reads)) (subst IsQuiet is ((flush_behind k new h.added h.adds h.kinds).pending ∙ quiet));
           own = refl;
         };
         behind = sym is;

@@ -16,6 +16,7 @@ use Rattle.stripe_core.specs.declared.refusal.Refusal.TheVariants as refusal
 use Rattle.stripe_core.specs.Stripe.{state_in}
 use Rattle.stripe_core.specs.Unharmed.{StaysUnharmed}
 use Rattle.stripe_write.specs.declared.finishing.Receipt.{Receipt}
+use Rattle.stripe_write.proofs.Spending.{state_behind}
 use Rattle.script_lang.specs.declared.step.Step.TheVariants as step
 use Rattle.script_lang.specs.declared.answer.StepAnswer.{StepAnswer}
 use Rattle.script_run.specs.Run.{Run, Stream}
@@ -32,11 +33,11 @@ use Rattle.cache_replay.specs.Plays.{Plays, PlaysAt, PlaysIn, StepEnds}
 use Rattle.cache_replay.specs.Plain.{Plainly}
 use Rattle.cache_replay.specs.Putting.{IsVectorPair, PutsAsAsked, PutsWhere, receipt_answer}
 use Rattle.cache_replay.specs.WriterLines.{closed_answer}
-use Rattle.cache_replay.proofs.Frames.{some_is, state_behind}
+use Rattle.cache_replay.proofs.Frames.{some_is}
 use Rattle.cache_replay.proofs.Lines.{free_of, next_is_free}
 use Rattle.cache_replay.proofs.OnSession.{StandsBehind, active, moves, playing, stands_behind}
 use Rattle.cache_replay.proofs.Plain.{AllElse, still_held, still_plays}
-use Rattle.cache_replay.proofs.PlainTurns.{between, covers_between}
+use Rattle.cache_replay.proofs.Calls.{call_covered, call_permit}
 use Rattle.cache_replay.proofs.Unharming.{session_unharmed}
 
 -- ---- what a put is for a cache
@@ -53,8 +54,8 @@ module _ (now before after : ℕ) (k new : Kept) (key : Key) (body : List ℕ) (
   asked_puts : (result : Result Receipt Refusal) (said : StepAnswer) → receipt_answer result ≡ said → PutsAsAsked now before after k new key body request response result
       → Ends run (state_of k) (state_of new) key body request response said
   asked_puts result said is puts =
-      let p : Permit = between run.now before after puts.reads in
-      elim (puts.does p moment (covers_between run.now before after puts.reads) told) [
+      let p : Permit = call_permit run.now before after puts.reads in
+      elim (puts.does p moment (call_covered run.now before after puts.reads) told) [
         | inl x ↦ inl (record {
           turn = record { added = x.added; refused = x.why; device = p; given = [] };
           takes = record { plain = refl; moment = refl; legal = x.step; own = refl };

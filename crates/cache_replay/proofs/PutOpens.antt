@@ -21,7 +21,7 @@ use Rattle.stripe_write.specs.declared.finishing.Receipt.{Receipt}
 use Rattle.stripe_write.specs.declared.writer.Writer.{Writer}
 use Rattle.stripe_write.specs.Others.{AddsOfPut, OthersStay}
 use Rattle.stripe_write.specs.Writers.{IsWriterOf}
-use Rattle.stripe_write.proofs.Spending.{nothing_more}
+use Rattle.stripe_write.proofs.Spending.{nothing_more, state_behind}
 use Rattle.stripe_write.proofs.Owning.{then_owns}
 use Rattle.script_run.specs.Asked.{feed_intents, put_intents, rest_behind, whole_fragments}
 use Rattle.script_run.specs.Asked.{close_intents as closing_of}
@@ -32,7 +32,7 @@ use Rattle.cache_replay.proofs.CutBodies.{no_cleanup}
 use Rattle.cache_replay.proofs.Lines.{leaves_but, next_is_free}
 use Rattle.cache_replay.proofs.Openings.{nothing_cut, owns_opened}
 use Rattle.cache_replay.proofs.PutEnds.{closing_is_work}
-use Rattle.cache_replay.proofs.PutWhole.{both_add, cleaned, state_is}
+use Rattle.cache_replay.proofs.PutWhole.{both_add, cleaned}
 
 -- ---- it is opened
 
@@ -45,7 +45,7 @@ module _ (old now : Kept) (who : Actor) (key : Key) (request response : List Fie
   opened = opened_record s who key request response 0 ∷ []
 
   there : state_of now ≡ after_all s opened
-  there = state_is old now opened adds
+  there = state_behind old now opened adds
 
   pub is_fresh : w.put ≡ s.next_put → IsWriterOf (state_of now) w → w.gathered.items ≡ [] → w.sealed ≡ false → IsFresh w
   is_fresh is own none unsealed =
@@ -89,7 +89,7 @@ module _ (old now : Kept) (who : Actor) (key : Key) (request response : List Fie
           added = opened ++ b.added;
           why = b.why;
           adds = all;
-          step = record { grows = goes_on p b.added (record { intents = []; refused = b.why }) b.grows; quiet = subst IsQuiet (state_is old new (opened ++ b.added) all) quiet };
+          step = record { grows = goes_on p b.added (record { intents = []; refused = b.why }) b.grows; quiet = subst IsQuiet (state_behind old new (opened ++ b.added) all) quiet };
           says = subst (λ n. said (state_of new) None b.why (put_said (state_of new) n) ≡ receipt_answer result) does.0 b.says;
         }
 

@@ -4,24 +4,21 @@ use Rattle.std.specs.Prelude.{Option, Some, None}
 use Rattle.std.proofs.lemmas.List.{append_assoc}
 use Rattle.tape_base.specs.declared.keys.Key.{Key}
 use Rattle.cache_model.specs.declared.record.Rec.{Rec}
-use Rattle.cache_model.specs.State.{State, after_all}
+use Rattle.cache_model.specs.State.{State}
 use Rattle.cache_model.specs.Kept.{Kept, state_of, with_records}
 use Rattle.cache_model.specs.Permit.{Done, Exhausted, Faulted, GiveUp, Lost, ManyFragments, ManyWriters, Permit, Reason, TooLarge, Work}
 use Rattle.cache_model.specs.Legal.{Does, MayGrow, is_writing}
-use Rattle.cache_model.proofs.Steps.{after_all-append, grows_by, grows_on}
+use Rattle.cache_model.proofs.Steps.{grows_by, grows_on}
 use Rattle.stripe_core.specs.declared.refusal.Refusal.{Refusal}
 use Rattle.stripe_core.specs.declared.refusal.Refusal.TheVariants as refusal
 use Rattle.stripe_write.specs.declared.finishing.Receipt.{Receipt}
 use Rattle.stripe_write.specs.declared.writer.Writer.{Writer}
 use Rattle.stripe_write.specs.Writes.{AbortsAsAsked, AbortsWhere, abort_adds}
-use Rattle.stripe_write.proofs.Spending.{nothing_more}
+use Rattle.stripe_write.proofs.Spending.{nothing_more, state_behind}
 use Rattle.script_run.specs.Answers.{put_said, said}
 use Rattle.cache_replay.specs.Putting.{BodyEnds, BodyEndsAsAsked, BodyEndsWhere, Fills, FillsAsAsked, FillsWhere, IsOver, left_behind, receipt_answer, unless_memory}
 
 -- ---- one behind the other
-
-pub state_is : (old new : Kept) (added : List Rec) → new ≡ with_records old added → state_of new ≡ after_all (state_of old) added
-state_is old new added adds = ap state_of adds ∙ after_all-append old.base old.since added
 
 pub both_add : (old mid new : Kept) (a b : List Rec) → mid ≡ with_records old a → new ≡ with_records mid b → new ≡ with_records old (a ++ b)
 both_add old mid new a b first then_ =
@@ -63,7 +60,7 @@ module _ (p : Permit) (old mid new : Kept) (w : Writer) (body : List ℕ) (resul
     adds = both_add old mid new fills.added recs fills.adds adds;
     grows = grows_on (fills.grows (GiveUp w.put ∷ []))
         (subst (λ x. MayGrow p x (left_behind (GiveUp w.put ∷ []) fills.why) recs (record { intents = []; refused = fills.why }))
-        (state_is old mid fills.added fills.adds) (gives_up p (state_of mid) w.put fills.why recs does));
+        (state_behind old mid fills.added fills.adds) (gives_up p (state_of mid) w.put fills.why recs does));
     says = says;
   }
 

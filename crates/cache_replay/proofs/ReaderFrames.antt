@@ -26,6 +26,7 @@ use Rattle.stripe_read.specs.declared.reading.NextPiece.TheVariants as piece
 use Rattle.stripe_read.specs.Readers.{as_row}
 use Rattle.stripe_read.specs.Lookups as lookups
 use Rattle.stripe_read.specs.Nexts as nexts
+use Rattle.stripe_write.proofs.Spending.{state_behind}
 use Rattle.cache_replay.specs.Session.{LeavesBut}
 
 -- ---- in general
@@ -85,11 +86,6 @@ closed_leaves s reader = record {
   geometry = refl;
 }
 
--- the new reader is found under no other number
-behind_new : (number n : ℕ) (row : ReaderRow) (rows : List ReaderRow) → row.reader ≡ number → (number == n) ≡ false
-    → find (λ (x : ReaderRow). x.reader == n) (row ∷ rows) ≡ find (λ (x : ReaderRow). x.reader == n) rows
-behind_new number n row rows is other = let e : (row.reader == n) ≡ false = ap (λ (m : ℕ). m == n) is ∙ other in rw e refl
-
 opened_finds : (s : State) (number n : ℕ) (who : Actor) (key : Key) (request : List Field) (answer : ReadAnswer) → (number == n) ≡ false
     → find (λ (x : ReaderRow). x.reader == n) (opened_reader s number who.0 key request answer ++ s.readers) ≡ reader_of s n
 opened_finds s number n who key request (read.Hit put) other = rw other refl
@@ -145,9 +141,6 @@ miss_leaves s who key request why =
     behind_both None s (lookups.lookup_adds s key (read.Miss why)) (rec.ReadOpened s.next_reader who key request (read.Miss why))
     (look_trouble_leaves None s (live_vector_of s key) (read.Miss why))
     (record { puts = λ q h. refl; readers = λ n h. refl; geometry = refl })
-
-pub state_behind : (k new : Kept) (recs : List Rec) → new ≡ with_records k recs → state_of new ≡ after_all (state_of k) recs
-state_behind k new recs is = ap state_of is ∙ after_all-append k.base k.since recs
 
 -- the same of the records that are kept
 pub kept_leaves : (reader : Option ℕ) (k new : Kept) (recs : List Rec) → new ≡ with_records k recs → LeavesBut None reader (state_of k) (after_all (state_of k) recs) → LeavesBut None reader (state_of k) (state_of new)

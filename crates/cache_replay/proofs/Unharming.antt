@@ -54,22 +54,6 @@ module _ {D R C : Type 0} (disk : DiskGhosts D) (directory : DirectoryGhosts R) 
   session_unharmed old new before after was is stays h =
       subst (λ o. IsUnharmedAt disk directory chronicle o) (sym is) (part_unharmed before after stays (unharmed_in old before was h))
 
-  playing_at : (run : Run) (session : Session D R C) (o : Option (Part D R C)) → session.part ≡ o → Plays disk directory chronicle run session → PlaysAt disk directory chronicle run o (slots_in session)
-  playing_at run session o is plays = subst (λ p. PlaysAt disk directory chronicle run p (slots_in session)) is plays.at
-
-  -- behind one that ended the run
-  pub session_reached : (run : Run) (old new : Session D R C) (before after : Part D R C) → old.part ≡ Some before → new.part ≡ Some after → Plays disk directory chronicle run old
-      → (state_in chronicle before.stripe).fault ≤ (device_of after).faults → (device_of after).trust ≤ (device_of before).trust → HasReached disk directory chronicle run new
-  session_reached run old new before after was is plays counted less =
-      subst (λ o. AreReached (harm_of run.state) (return_of disk directory chronicle o)) (sym is)
-      (part_reached run before after (playing_at run old (Some before) was plays).state counted less (unharmed_in old before was plays.unharmed))
-
-  -- where there is no cache nothing was told
-  pub none_reached : (run : Run) (old new : Session D R C) → old.part ≡ None → new.part ≡ None → Plays disk directory chronicle run old → HasReached disk directory chronicle run new
-  none_reached run old new was is plays =
-      subst (λ o. AreReached (harm_of run.state) (return_of disk directory chronicle o)) (sym is)
-      (subst (λ o. AreReached (harm_of o) []) (sym (playing_at run old None was plays).state) tt)
-
   reached_at : (run : Run) (part : Option (Part D R C)) (slots : ℕ → Option Holding) → IsAt disk directory chronicle part slots → PlaysAt disk directory chronicle run part slots → IsUnharmedAt disk directory chronicle part
       → AreReached (harm_of run.state) (return_of disk directory chronicle part)
   reached_at run None slots h plays unharmed = subst (λ o. AreReached (harm_of o) []) (sym plays.state) tt

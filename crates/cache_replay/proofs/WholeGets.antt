@@ -26,6 +26,7 @@ use Rattle.stripe_read.specs.declared.reader.Reader.{Reader}
 use Rattle.stripe_read.specs.declared.opening.Opened.TheVariants as opened
 use Rattle.stripe_read.specs.Readers.{IsReaderOf, row_by, rows_in}
 use Rattle.stripe_read.specs.Lookups.{Opens, Tells, lookup_adds, open_adds, trouble_with}
+use Rattle.stripe_write.proofs.Spending.{state_behind}
 use Rattle.script_run.specs.Asked.{get_intents}
 use Rattle.script_run.specs.Turn.{later, lookup_in, told_in}
 use Rattle.script_run.specs.Answers.{miss_said}
@@ -37,7 +38,7 @@ use Rattle.cache_replay.specs.declared.getting.Got.{Got}
 use Rattle.cache_replay.specs.Session.{LeavesBut}
 use Rattle.cache_replay.specs.Getting.{Began, GetsAsAsked, IsAnswered, IsUnderway, given_in, got_answer}
 use Rattle.cache_replay.proofs.ReaderFrames.{leaves_then, miss_leaves}
-use Rattle.cache_replay.proofs.WholeReads.{grown, lookup_append, first_of, state_behind, told_append}
+use Rattle.cache_replay.proofs.WholeReads.{grown, lookup_append, first_of, told_append}
 
 -- ---- what a lookup records
 

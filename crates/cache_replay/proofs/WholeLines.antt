@@ -22,6 +22,7 @@ use Rattle.stripe_core.specs.declared.stripe.Stripe.{Stripe}
 use Rattle.stripe_core.specs.Stripe.{IsStripe, state_in}
 use Rattle.stripe_core.specs.Unharmed.{StaysUnharmed}
 use Rattle.stripe_read.specs.Readers.{IsOpenReader}
+use Rattle.stripe_write.proofs.Spending.{state_behind}
 use Rattle.script_lang.specs.declared.step.Step.TheVariants as step
 use Rattle.script_lang.specs.declared.answer.StepAnswer.{StepAnswer}
 use Rattle.script_run.specs.Run.{Run, Stream}
@@ -41,7 +42,7 @@ use Rattle.cache_replay.specs.Plays.{IsHeldAs, Plays, PlaysIn, StepEnds}
 use Rattle.cache_replay.specs.Getting.{Gets, GetsAsAsked, LineEnds, given_in, got_answer}
 use Rattle.cache_replay.proofs.Frames.{IsElse, held_as_stays, held_stays}
 use Rattle.cache_replay.proofs.OnSession.{told_behind}
-use Rattle.cache_replay.proofs.WholeReads.{call_covered, call_permit, state_behind}
+use Rattle.cache_replay.proofs.Calls.{call_covered, call_permit}
 use Rattle.cache_replay.proofs.ReaderSessions.{get_on, line_moved, line_shows, part_plays}
 
 -- ---- what stands belongs to what writers took behind the whole read

@@ -1,5 +1,5 @@
 -- One fragment after the other, up to the end.
-use Rattle.std.proofs.Common.{◌≡◌, ℕ, zero, suc, min, ◌+◌, ◌-◌, ◌*◌, ◌<◌, ◌≤◌, List, [], ◌∷◌, ◌++◌, length, take, drop, refl, sym, ◌∙◌, ap, subst, Bool, true, false, cond, ◌⊎◌, inl, inr, arith}
+use Rattle.std.proofs.Common.{◌≡◌, ℕ, zero, suc, min, ◌+◌, ◌-◌, ◌*◌, ◌<◌, ◌≤◌, List, [], ◌∷◌, ◌++◌, length, take, refl, sym, ◌∙◌, ap, subst, true, false, cond, ◌⊎◌, inl, inr, arith}
 use Rattle.std.specs.Prelude.{Option, Some, None, is_some, option_map, option_and_then, unwrap_or, slice_get}
 use Rattle.std.specs.List.{AllByRecursion}
 use Rattle.std.proofs.Math.Nat.{add-mul}
@@ -14,22 +14,23 @@ use Rattle.cache_model.specs.declared.answer.NextAnswer.{NextAnswer}
 use Rattle.cache_model.specs.declared.answer.NextAnswer.TheVariants as next
 use Rattle.cache_model.specs.declared.record.Rec.{Rec}
 use Rattle.cache_model.specs.declared.record.Rec.TheVariants as rec
-use Rattle.cache_model.specs.State.{ReaderRow, Row, State, after_all, live_row_of}
+use Rattle.cache_model.specs.State.{ReaderRow, Row, State, live_row_of}
 use Rattle.cache_model.specs.Kept.{Kept, state_of, with_records}
 use Rattle.cache_model.specs.Verdict
-use Rattle.cache_model.specs.Verdict.{next_piece, next_row, reader_verdict}
+use Rattle.cache_model.specs.Verdict.{next_piece, next_row}
 use Rattle.cache_model.specs.Permit.{DeviceRead, Done, End, Intent, IsAmong, Permit, ReadAll, ReadOn, Stays, StopReading, Work, to_do, work_after}
 use Rattle.cache_model.specs.Legal
 use Rattle.cache_model.specs.Legal.{Does, IsQuiet, IsReading, MayGrow, MayReadOn, answer_record, has_hit, is_given, live_next}
 use Rattle.cache_model.proofs.Answered.{end_is_whole}
 use Rattle.cache_model.proofs.Found.{none_is, no_truth}
-use Rattle.cache_model.proofs.Steps.{after_all-append, grows_by, grows_on}
+use Rattle.cache_model.proofs.Steps.{grows_by, grows_on}
 use Rattle.stripe_core.specs.Covers.{Covers}
 use Rattle.stripe_read.specs.declared.reader.Reader.{Reader}
 use Rattle.stripe_read.specs.declared.reading.NextPiece.{NextPiece}
 use Rattle.stripe_read.specs.declared.reading.NextPiece.TheVariants as piece
 use Rattle.stripe_read.specs.Readers.{IsReaderOf, as_row, row_by, rows_in}
 use Rattle.stripe_read.specs.Nexts.{GoesOn, IsFragment, ReadsOn, listed_length, noted, read_adds, trouble_with}
+use Rattle.stripe_write.proofs.Spending.{state_behind}
 use Rattle.script_run.specs.Run.{Run}
 use Rattle.script_run.specs.Turn.{is_told, later, lookup_in, told_in}
 use Rattle.script_run.specs.Answers.{broken_said}
@@ -38,6 +39,7 @@ use Rattle.script_run.specs.Own.{AreOwn, IsOtherFragment, piece_of}
 use Rattle.script_run.specs.Takes.{IsOther, Shows}
 use Rattle.script_lang.specs.declared.answer.StepAnswer.{StepAnswer}
 use Rattle.script_lang.specs.declared.answer.StepAnswer.TheVariants as answer
+use Rattle.cache_replay.proofs.Calls.{call_covered, call_permit}
 use Rattle.cache_replay.specs.Getting.{Answered, Began, IsAnswered, IsUnderway, Underway, rows_left}
 use Rattle.cache_replay.proofs.ReaderFrames.{read_leaves}
 
@@ -198,9 +200,6 @@ covers_first p before mid after a b le c = let u : after ≤ p.faults = c.upto i
 
 pub covers_second : (p : Permit) (before mid after : ℕ) (a b : List DeviceRead) → before ≤ mid → Covers p before after (a ++ b) → Covers p mid after b
 covers_second p before mid after a b le c = let f : p.faults_before ≤ before = c.from in record { plain = c.plain; from = omega (arith, le, f); upto = c.upto; knows = rest_known p a b c.knows }
-
-pub state_behind : (k new : Kept) (recs : List Rec) → new ≡ with_records k recs → state_of new ≡ after_all (state_of k) recs
-state_behind k new recs is = ap state_of is ∙ after_all-append k.base k.since recs
 
 pub two_calls : (k k1 k2 : Kept) (a b : List Rec) → k1 ≡ with_records k a → k2 ≡ with_records k1 b → k2 ≡ with_records k (a ++ b)
 two_calls k k1 k2 a b e f =
@@ -364,22 +363,6 @@ module _ (owns : ReadsOwn) (own_bytes : ReadIsOwn) (given_all : AllIsGiven) (b :
           | inr shows ↦ inr shows
         ];
   }
-
--- a piece is no longer than what it was read to
-all_among_more : (x : DeviceRead) (ys xs : List DeviceRead) → AllByRecursion (λ r. IsAmong r ys) xs → AllByRecursion (λ r. IsAmong r (x ∷ ys)) xs
-all_among_more x ys [] h = tt
-all_among_more x ys (z ∷ xs) h = (inr h.0, all_among_more x ys xs h.1)
-
-all_among : (xs : List DeviceRead) → AllByRecursion (λ r. IsAmong r xs) xs
-all_among [] = tt
-all_among (x ∷ xs) = (inl refl, all_among_more x xs xs (all_among xs))
-
--- a step at a moment that is no more than the call
-abbrev pub call_permit : (now before after : ℕ) → List DeviceRead → Permit
-call_permit now before after reads = record { packed = false; now = now; faults_before = before; faults = after; reads = reads }
-
-pub call_covered : (now before after : ℕ) (reads : List DeviceRead) → Covers (call_permit now before after reads) before after reads
-call_covered now before after reads = record { plain = refl; from = omega arith; upto = omega arith; knows = all_among reads }
 
 pub fragment_of : (s : State) (old new : Device) (r : Reader) (index size : ℕ) (into : List ℕ) (reading : ReadsOn s old new r (piece.Piece index size) into)
     → IsFragment (call_permit 0 old.faults new.faults reading.reads) s r index size into

@@ -1,39 +1,30 @@
 -- What a line asks of a writer, and what it leaves of it.
-use Rattle.std.proofs.Common.{◌≡◌, ℕ, List, [], ◌∷◌, drop, refl, sym, ◌∙◌, ap, subst, arith, Bool, true, false, inl, inr, append-nil}
-use Rattle.std.specs.Prelude.{Option, Some, None, IfSome, ◌==◌, if◌then◌else◌, option_and_then, option_map, unwrap_or, filter}
+use Rattle.std.proofs.Common.{◌≡◌, ℕ, List, [], ◌∷◌, drop, refl, sym, ◌∙◌, ap, subst, Bool, true, false, inl, append-nil}
+use Rattle.std.specs.Prelude.{Option, Some, None, IfSome, if◌then◌else◌, option_and_then, option_map, unwrap_or}
 use Rattle.fragment_table.specs.Table.{TableRow, total_length}
 use Rattle.cache_model.specs.declared.record.Rec.{Rec}
 use Rattle.cache_model.specs.declared.record.Rec.TheVariants as rec
 use Rattle.cache_model.specs.State.{PutRow, State, after_all, put_of}
 use Rattle.cache_model.specs.Kept.{Kept, state_of, with_records}
 use Rattle.cache_model.specs.Verdict.{cuts_of}
-use Rattle.cache_model.specs.Permit.{Done, End, Exhausted, Fails, Faulted, GiveUp, Intent, Lost, ManyFragments, Permit, Reason, Stays, TooLarge, is_cleanup, to_do, work_after}
+use Rattle.cache_model.specs.Permit.{Done, End, Fails, GiveUp, Intent, Permit, Reason, Stays, to_do}
 use Rattle.cache_model.specs.Legal.{Does, IsQuiet, IsStep, MayGrow, is_writing}
 use Rattle.cache_model.specs.StepLaws.{WriterIsEnded}
-use Rattle.cache_model.proofs.Steps.{after_all-append, grows_by}
-use Rattle.stripe_core.specs.declared.refusal.Refusal.{Refusal}
-use Rattle.stripe_core.specs.declared.refusal.Refusal.TheVariants as refusal
-use Rattle.stripe_core.specs.Covers.{Covers}
+use Rattle.cache_model.proofs.Steps.{grows_by}
 use Rattle.stripe_write.specs.declared.writer.Writer.{Writer}
 use Rattle.stripe_write.specs.Writers.{IsWriterOf}
 use Rattle.stripe_write.specs.Writes.{AbortsAsAsked, AbortsWhere, abort_adds}
 use Rattle.stripe_write.specs.Others.{AddsOfPut}
 use Rattle.stripe_write.specs.Closing.{SpendsAll}
 use Rattle.stripe_write.proofs.Ended.{open_put}
+use Rattle.stripe_write.proofs.Spending.{state_behind}
 use Rattle.script_lang.specs.declared.answer.StepAnswer.TheVariants as answer
 use Rattle.script_run.specs.Run.{Run, Writes, gathered_of, put_in, writer_of}
 use Rattle.script_run.specs.Asked.{asked}
-use Rattle.script_run.specs.Answers.{session_said}
 use Rattle.script_run.specs.Behind.{still_open}
-use Rattle.cache_replay.specs.WriterLines.{Closes, Feeds, GivesUp, IsPlayed, WriterDoes, WriterEnds, WriterLine, WriterMoves, refused_answer, step_of, writes_in}
+use Rattle.cache_replay.specs.WriterLines.{GivesUp, IsPlayed, WriterDoes, writes_in}
 
 -- ---- records that were added
-
-pub state_with : (old new : Kept) (added : List Rec) → new ≡ with_records old added → state_of new ≡ after_all (state_of old) added
-state_with old new added adds = ap state_of adds ∙ after_all-append old.base old.since added
-
-pub nothing_with : (k : Kept) → with_records k [] ≡ k
-nothing_with k = ap (λ (recs : List Rec). let x : Kept = record { base = k.base; since = recs } in x) (append-nil k.since)
 
 -- ---- the put of an actor
 
@@ -61,7 +52,7 @@ gives_up law old new w put quiet adds is does now = λ run name moment played.
     let t : State = state_of new in
     let p : Permit = record { packed = false; now = run.now; faults_before = 0; faults = 0; reads = [] } in
     let added : List Rec = rec.Aborted put w.key ∷ [] in
-    let there = state_with old new added adds in
+    let there = state_behind old new added adds in
     let legal : IsStep p s (GiveUp w.put ∷ []) added None = record { grows = grows_by p s (to_do (GiveUp w.put ∷ [])) (record { intents = []; refused = None }) added (Done, does p, refl); quiet = subst IsQuiet there quiet } in
     let has = has_put run name s w played in
     inl (record {
@@ -83,22 +74,8 @@ pub aborted : (law : WriterIsEnded) (old new : Kept) (w : Writer) (put : ℕ) �
     → (now : ℕ) → WriterDoes now (state_of old) (state_of new) GivesUp w None (Some (answer.Aborted put))
 aborted law old new w put quiet adds where_ does = gives_up law old new w put quiet adds where_.0 does
 
-pub not_aborted : (now : ℕ) (s t : State) (w : Writer) (why : Refusal) → is_writing s w.put ≡ true → AbortsWhere s w.put (Rattle.std.specs.Prelude.Err why) → WriterDoes now s t GivesUp w None (refused_answer why None)
-not_aborted now s t w (refusal.Memory e) writing h = tt
-not_aborted now s t w refusal.NoSuchWriter writing h = let clash : true ≡ false = sym writing ∙ h in cc
-not_aborted now s t w (refusal.DeviceFault count) writing h = absurd h
-not_aborted now s t w (refusal.Exhausted number) writing h = absurd h
-not_aborted now s t w refusal.TooManyWriters writing h = absurd h
-not_aborted now s t w refusal.TooManyFragments writing h = absurd h
-not_aborted now s t w (refusal.VectorTooLarge size) writing h = absurd h
-not_aborted now s t w (refusal.Lost index why) writing h = absurd h
-not_aborted now s t w refusal.Sealed writing h = absurd h
-
 pub owns_abort : (old new : Kept) (w : Writer) (put : ℕ) → put ≡ w.put → new ≡ with_records old (rec.Aborted put w.key ∷ []) → AddsOfPut w.put old new
 owns_abort old new w put is adds = record { added = rec.Aborted put w.key ∷ []; adds = adds; own = (is, tt) }
-
-pub owns_no_abort : (old new : Kept) (w : Writer) → new ≡ with_records old [] → AddsOfPut w.put old new
-owns_no_abort old new w adds = record { added = []; adds = adds; own = tt }
 
 -- ---- a writer that is left where its put is open
 
@@ -135,26 +112,6 @@ pub is_left : (t : State) (put : ℕ) (w : Writer) (left : Option Writer) → w.
 is_left t put w left is own l = left_by t put w left (is_writing t put) is refl own (l ∙ ap (λ n. if is_writing t n then Some w else None) is)
 
 -- ---- what was asked of a writer was spent
-
--- a permit of a moment that covers a call that reads this
-abbrev pub permit_of : (now before after : ℕ) → List Rattle.cache_model.specs.Permit.DeviceRead → Permit
-permit_of now before after reads = record { packed = false; now = now; faults_before = before; faults = after; reads = reads }
-
-all_among : (before reads : List Rattle.cache_model.specs.Permit.DeviceRead) → Rattle.std.specs.List.AllByRecursion (λ r. Rattle.cache_model.specs.Permit.IsAmong r reads) reads
-    → (more : Rattle.cache_model.specs.Permit.DeviceRead) → Rattle.std.specs.List.AllByRecursion (λ r. Rattle.cache_model.specs.Permit.IsAmong r (more ∷ reads)) reads
-all_among before reads h more = weaker reads reads more h
-  where
-    weaker : (some all : List Rattle.cache_model.specs.Permit.DeviceRead) (more : Rattle.cache_model.specs.Permit.DeviceRead) → Rattle.std.specs.List.AllByRecursion (λ r. Rattle.cache_model.specs.Permit.IsAmong r all) some
-        → Rattle.std.specs.List.AllByRecursion (λ r. Rattle.cache_model.specs.Permit.IsAmong r (more ∷ all)) some
-    weaker [] all more h = tt
-    weaker (r ∷ some) all more h = (inr h.0, weaker some all more h.1)
-
-knows : (reads : List Rattle.cache_model.specs.Permit.DeviceRead) → Rattle.std.specs.List.AllByRecursion (λ r. Rattle.cache_model.specs.Permit.IsAmong r reads) reads
-knows [] = tt
-knows (r ∷ reads) = (inl refl, all_among [] reads (knows reads) r)
-
-pub covers_own : (now before after : ℕ) (reads : List Rattle.cache_model.specs.Permit.DeviceRead) → Covers (permit_of now before after reads) before after reads
-covers_own now before after reads = record { plain = refl; from = omega arith; upto = omega arith; knows = knows reads }
 
 -- why less was done, by how it ended
 abbrev pub reason_of : End → Option Reason

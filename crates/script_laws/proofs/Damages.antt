@@ -19,7 +19,7 @@ use Rattle.script_run.specs.Turn.{Turn}
 use Rattle.script_run.specs.Answers.{session_said}
 use Rattle.script_run.specs.Takes.{SessionTakes}
 use Rattle.script_laws.specs.Causes
-use Rattle.script_laws.specs.Causes.{IsGivenBy, IsTraced, cause_answered, cause_given, is_standing}
+use Rattle.script_laws.specs.Causes.{IsTraced, cause_answered, cause_given, is_standing}
 use Rattle.script_laws.proofs.Groups.{IsKept}
 use Rattle.script_laws.proofs.Walking.{walked}
 use Rattle.script_laws.proofs.Said.{answers_are_traced}

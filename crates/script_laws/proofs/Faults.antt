@@ -18,7 +18,7 @@ use Rattle.script_run.specs.Asked.{asked}
 use Rattle.script_run.specs.Answers.{session_said}
 use Rattle.script_run.specs.Takes.{SessionTakes}
 use Rattle.script_laws.specs.Causes
-use Rattle.script_laws.specs.Causes.{IsGivenBy, IsTraced, cause_answered, cause_given}
+use Rattle.script_laws.specs.Causes.{IsTraced, cause_answered, cause_given}
 use Rattle.script_laws.specs.Troubles.{IsFaultRecorded, NoLossIsAFault, is_fault}
 use Rattle.script_laws.proofs.Among.{all_among}
 use Rattle.script_laws.proofs.Walking.{fault_is_told, refusal_recorded}

@@ -23,7 +23,7 @@ use Rattle.cache_model.specs.Due.{due_pieces}
 use Rattle.cache_model.specs.Outcomes.{AreOutcomes, Copied, Copy, IsOutcome, NoRoom, Outcome, Refused, Spoiled, copies_of, flush_records, front_of, left_behind, moved_record, moved_records, records_of, stopped_front_of, stopped_records_of}
 use Rattle.cache_model.specs.Given
 use Rattle.cache_model.specs.Legal
-use Rattle.cache_model.specs.Legal.{Does, answer_record, aborted_record, is_given}
+use Rattle.cache_model.specs.Legal.{Does, answer_record, is_given}
 use Rattle.cache_model.proofs.Found.{none_is}
 use Rattle.script_laws.specs.Causes
 use Rattle.script_laws.specs.Causes.{IsGivenBy, IsTraced, cause_given, cause_told}

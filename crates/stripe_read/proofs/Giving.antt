@@ -13,7 +13,7 @@ use Rattle.cache_model.specs.declared.record.Rec.{Rec}
 use Rattle.cache_model.specs.State.{ReaderRow, Row, State, live_row_of}
 use Rattle.cache_model.specs.Verdict.{cause_of_piece, next_piece, next_row, reader_verdict, verdict_at_end, verdict_of_fragment}
 use Rattle.cache_model.specs.Permit.{Done, Permit, ReadOn}
-use Rattle.cache_model.specs.Given.{IsRead, IsReadWhereLive, Trouble}
+use Rattle.cache_model.specs.Given.{IsRead, IsReadWhereLive}
 use Rattle.cache_model.specs.Legal.{Does, DoesReadOn, IsQuiet, IsReading, ReadTrouble, answer_record, digest_in, live_next}
 use Rattle.cache_model.proofs.Answered.{end_gives_none}
 use Rattle.cache_model.proofs.Found.{no_truth}

@@ -87,13 +87,6 @@ hit_by (Some row) put = refl
 pub hit_adds : (s : State) (key : Key) (put : ℕ) → lookup_adds s key (read.Hit put) ≡ []
 hit_adds s key put = hit_by (live_vector_of s key) put
 
-trouble_by : (o : Option Row) (why : Cause) → trouble_records o (vector.Trouble why) ≡ trouble_with o (read.Miss why)
-trouble_by None why = refl
-trouble_by (Some row) why = refl
-
-pub trouble_adds : (s : State) (key : Key) (why : Cause) → trouble_records (live_vector_of s key) (vector.Trouble why) ≡ lookup_adds s key (read.Miss why)
-trouble_adds s key why = trouble_by (live_vector_of s key) why
-
 pub nothing_recorded : (k new : Kept) → new ≡ with_records k [] → new ≡ k
 nothing_recorded k new is = is ∙ ap (λ recs. let x : Kept = record { base = k.base; since = recs } in x) (append-nil k.since)
 
@@ -114,9 +107,6 @@ read_same k new key list is = read_by k new (live_vector_of (state_of k) key) li
 pub same_adds : (k new : Kept) (key : Key) (request : List Field) (found : Looked) → new ≡ k → answer_of found ≡ otherwise (state_of k) key request → new ≡ with_records k (lookup_adds (state_of k) key (answer_of found))
 same_adds k new key request found same is =
     same ∙ (sym (nothing_recorded k (with_records k []) refl) ∙ ap (with_records k) (sym (ap (lookup_adds (state_of k) key) is ∙ otherwise_adds (state_of k) key request)))
-
-pub chosen_adds : (k new : Kept) (key : Key) (put : ℕ) → new ≡ k → new ≡ with_records k (lookup_adds (state_of k) key (read.Hit put))
-chosen_adds k new key put same = same ∙ (sym (nothing_recorded k (with_records k []) refl) ∙ ap (with_records k) (sym (hit_adds (state_of k) key put)))
 
 -- ---- the verdict
 

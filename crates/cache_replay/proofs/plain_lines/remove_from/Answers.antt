@@ -1,9 +1,9 @@
 use Rattle.std.proofs.Common.{subst}
 use Rattle.stripe_core.specs.Stripe.{kept_in, state_in}
 use Rattle.stripe_write.specs.Removals.{removal_adds}
+use Rattle.stripe_write.proofs.Spending.{state_behind}
 use Rattle.script_lang.specs.declared.step.Step.TheVariants as step
 use Rattle.cache_replay.specs.Plain.{Plainly}
-use Rattle.cache_replay.proofs.Frames.{state_behind}
 use Rattle.cache_replay.proofs.PlainTurns.{removed_as, removes}
 use Rattle.cache_replay.proofs.plain_lines.remove_from.Goals as goal
 
