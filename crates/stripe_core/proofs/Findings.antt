@@ -13,7 +13,6 @@ use Rattle.doc_header.specs.Reading.{document_digest}
 use Rattle.cyclone.specs.Cyclone.{Reads, Seen}
 use Rattle.cache_model.specs.declared.cause.Cause.{Cause}
 use Rattle.cache_model.specs.declared.cause.Cause.TheVariants as cause
-use Rattle.cache_model.specs.declared.record.Rec.{Rec}
 use Rattle.cache_model.specs.State.{State, Row, floor_now, live_row_of, row_in}
 use Rattle.cache_model.specs.Permit.{DeviceRead, IsAmong, Permit}
 use Rattle.cache_model.specs.Given.{IsGiven, Trouble}

@@ -17,7 +17,7 @@ use Rattle.cache_model.specs.Permit.{DeviceRead, IsAmong, Permit}
 use Rattle.cache_model.specs.Due.{due_pieces, is_due}
 use Rattle.cache_model.specs.Given.{MayCount}
 use Rattle.cache_model.specs.Legal
-use Rattle.cache_model.specs.Legal.{CanFlush, Does}
+use Rattle.cache_model.specs.Legal.{CanFlush}
 use Rattle.cache_model.specs.Outcomes.{AreOutcomes, Copied, NoRoom, Outcome, Refused, Spoiled, began_record, copies_of, flush_records, front_of, moved_record, moved_records, stopped_front_of, stopped_records}
 use Rattle.cache_model.specs.Outcomes.{Copy}
 use Rattle.cache_model.specs.Tape.{AreApart, IsSound}

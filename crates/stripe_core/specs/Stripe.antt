@@ -59,6 +59,12 @@ pub record IsStill (old new : Device) : Type 0 where
   pub seen : SameSeen old new
   pub faults : new.faults ≡ old.faults
 
+-- the device shows what it showed; its count of faults may have risen
+pub record IsUnwritten (old new : Device) : Type 0 where
+  pub size : new.size ≡ old.size
+  pub trust : new.trust ≤ old.trust
+  pub seen : SameSeen old new
+
 -- how many fragments of a put can be cut without more memory
 abbrev pub room_for : ℕ → Actors → ℕ
 room_for put a = room_of put a.held.puts
@@ -96,6 +102,11 @@ Answers (Err _) answers wanting = ⊥
 abbrev pub HasMemory : {X : Type 0} → Result X Refusal → Type 0
 HasMemory (Err (refusal.Memory e)) = ⊥
 HasMemory _ = Unit {0}
+
+-- what holds where memory is wanting
+abbrev pub Wanting : {X : Type 0} → Result X Refusal → Type 0 → Type 0
+Wanting (Err (refusal.Memory e)) holds = holds
+Wanting _ holds = Unit {0}
 
 -- the refusal of a call that the tape stopped
 abbrev pub refusal_of : Stop → Refusal

@@ -26,6 +26,7 @@ const HEADER: usize = 128;
 
 impl<D: Disk, R: Directory + Drop, C: Chronicle> Pieces<D, R, C> {
     ghost use Rattle.stripe_core.specs.Pieces.{ArePieces, kept_of, live_place_of, seen_of, state_now};
+    ghost use Rattle.stripe_core.specs.Stripe.{IsUnwritten};
 
     /// Reads a live piece and brings its payload to the front of `into`, or tells why there is none.
     /// Bytes that are not its own are recorded, and its entry goes.
@@ -40,6 +41,7 @@ impl<D: Disk, R: Directory + Drop, C: Chronicle> Pieces<D, R, C> {
             (seen_of D.Disk R.Directory self.new).device id result into.new }
         // A device that tells its content shows each piece as it was placed.
         ensures unharmed { IsTold (seen_of D.Disk R.Directory self.new).device → TellNoDamage (find_adds (state_now C.Chronicle self.old) id result) }
+        ensures unwritten { IsUnwritten (seen_of D.Disk R.Directory self.old).device (seen_of D.Disk R.Directory self.new).device }
         ensures uses { Uses 1 0 0 0 (C.room self.old.chronicle) (C.room self.new.chronicle)
             (seen_of D.Disk R.Directory self.old) (seen_of D.Disk R.Directory self.new) }
     {
@@ -61,6 +63,7 @@ impl<D: Disk, R: Directory + Drop, C: Chronicle> Pieces<D, R, C> {
             (seen_of D.Disk R.Directory self.new).device id result into.new }
         // A device that tells its content shows each piece as it was placed.
         ensures unharmed { IsTold (seen_of D.Disk R.Directory self.new).device → TellNoDamage (find_adds (state_now C.Chronicle self.old) id result) }
+        ensures unwritten { IsUnwritten (seen_of D.Disk R.Directory self.old).device (seen_of D.Disk R.Directory self.new).device }
         ensures uses { Uses 1 0 0 0 (C.room self.old.chronicle) (C.room self.new.chronicle)
             (seen_of D.Disk R.Directory self.old) (seen_of D.Disk R.Directory self.new) }
     {

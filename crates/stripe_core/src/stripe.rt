@@ -39,7 +39,7 @@ pub struct Stripe<D: Disk, R: Directory + Drop, C: Chronicle> {
 
 impl<D: Disk, R: Directory + Drop, C: Chronicle> Stripe<D, R, C> {
     ghost use Rattle.stripe_core.specs.Pieces.{live_place_of};
-    ghost use Rattle.stripe_core.specs.Stripe.{Answers, HasMemory, IsSpared, IsStill, IsStripe, RowIsMade, alloc_in, flushes_in, kept_in, room_for, seen_in, state_in, units_in};
+    ghost use Rattle.stripe_core.specs.Stripe.{Answers, HasMemory, IsSpared, IsStill, IsStripe, IsUnwritten, RowIsMade, Wanting, alloc_in, flushes_in, kept_in, room_for, seen_in, state_in, units_in};
     ghost use Rattle.stripe_core.specs.Unharmed.{StaysUnharmed};
 
     /// Begins a session on an empty content area. A refusal gives back the device and the chronicle.
@@ -166,6 +166,8 @@ impl<D: Disk, R: Directory + Drop, C: Chronicle> Stripe<D, R, C> {
         // Where nothing is written the device stays as it is, but for the memory of its calls.
         ensures still { (state_in C.Chronicle self.old).filled ≡ 0 → IsStill (seen_in D.Disk R.Directory self.old).device (seen_in D.Disk R.Directory self.new).device }
         ensures ended { is_flush_exhausted (state_in C.Chronicle self.old) ≡ true → IsStill (seen_in D.Disk R.Directory self.old).device (seen_in D.Disk R.Directory self.new).device }
+        // Memory comes before the device is asked.
+        ensures untouched { Wanting result (IsStill (seen_in D.Disk R.Directory self.old).device (seen_in D.Disk R.Directory self.new).device) }
         ensures memory { 0 < units_in self.old → HasMemory result }
         ensures unit { units_in self.old ≤ units_in self.new + 1 }
     {
@@ -193,6 +195,9 @@ impl<D: Disk, R: Directory + Drop, C: Chronicle> Stripe<D, R, C> {
         ensures stops { Answers result (λ r. IfErr r (StopsWith (state_in C.Chronicle self.old) (seen_in D.Disk R.Directory self.new).device.faults)) (Unit {0}) }
         ensures later { (seen_in D.Disk R.Directory self.old).device.faults ≤ (seen_in D.Disk R.Directory self.new).device.faults }
         ensures row { (put : ℕ) → room_for put self.new.actors ≡ room_for put self.old.actors }
+        // With room the device is not asked.
+        ensures still { has_room (state_in C.Chronicle self.old) bytes ≡ true → IsStill (seen_in D.Disk R.Directory self.old).device (seen_in D.Disk R.Directory self.new).device }
+        ensures untouched { Wanting result (IsStill (seen_in D.Disk R.Directory self.old).device (seen_in D.Disk R.Directory self.new).device) }
         ensures memory { 0 < units_in self.old → HasMemory result }
         ensures unit { units_in self.old ≤ units_in self.new + 1 }
     {
@@ -217,6 +222,9 @@ impl<D: Disk, R: Directory + Drop, C: Chronicle> Stripe<D, R, C> {
         ensures finds { IfOk result (λ found. Finds (state_in C.Chronicle self.old) (seen_in D.Disk R.Directory self.old).device
             (seen_in D.Disk R.Directory self.new).device id found into.new) }
         ensures err { OnErr result (kept_in C.Chronicle self.new ≡ kept_in C.Chronicle self.old) }
+        // The device shows what it showed, whatever it answers.
+        ensures unwritten { IsUnwritten (seen_in D.Disk R.Directory self.old).device (seen_in D.Disk R.Directory self.new).device }
+        ensures untouched { OnErr result (IsStill (seen_in D.Disk R.Directory self.old).device (seen_in D.Disk R.Directory self.new).device) }
         ensures later { (seen_in D.Disk R.Directory self.old).device.faults ≤ (seen_in D.Disk R.Directory self.new).device.faults }
         ensures row { (put : ℕ) → room_for put self.new.actors ≡ room_for put self.old.actors }
         ensures memory { 0 < units_in self.old → IsOk result }
@@ -278,6 +286,7 @@ impl<D: Disk, R: Directory + Drop, C: Chronicle> Stripe<D, R, C> {
         // Without a flush the device stays as it is, but for the memory of its calls.
         ensures still { has_room (state_in C.Chronicle self.old) (length payload.now) ≡ true
             → IsStill (seen_in D.Disk R.Directory self.old).device (seen_in D.Disk R.Directory self.new).device }
+        ensures untouched { Wanting result (IsStill (seen_in D.Disk R.Directory self.old).device (seen_in D.Disk R.Directory self.new).device) }
         ensures later { (seen_in D.Disk R.Directory self.old).device.faults ≤ (seen_in D.Disk R.Directory self.new).device.faults }
         // Of a fragment, memory of a row is made too.
         ensures memory { 0 < units_in self.old → RowIsMade id self.old.actors → HasMemory result }
@@ -332,6 +341,7 @@ impl<D: Disk, R: Directory + Drop, C: Chronicle> Stripe<D, R, C> {
             (seen_in D.Disk R.Directory self.new).device id pin start payload.now) (kept_in C.Chronicle self.new ≡ kept_in C.Chronicle self.old) }
         ensures still { has_room (state_in C.Chronicle self.old) (length payload.now) ≡ true
             → (seen_in D.Disk R.Directory self.new).device ≡ (seen_in D.Disk R.Directory self.old).device }
+        ensures untouched { Wanting result ((seen_in D.Disk R.Directory self.new).device ≡ (seen_in D.Disk R.Directory self.old).device) }
         ensures later { (seen_in D.Disk R.Directory self.old).device.faults ≤ (seen_in D.Disk R.Directory self.new).device.faults }
         ensures memory { 0 < room_for id.put self.old.actors → HasMemory result }
         ensures unit { units_in self.new ≡ units_in self.old }
