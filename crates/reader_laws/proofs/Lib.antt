@@ -12,3 +12,5 @@ pub mod Writing
 pub mod Shown
 pub mod Standing
 pub mod Joining
+pub mod Origins
+pub mod Hits

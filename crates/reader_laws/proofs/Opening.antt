@@ -10,7 +10,7 @@ use Rattle.cache_model.specs.declared.answer.ReadAnswer.{ReadAnswer}
 use Rattle.cache_model.specs.declared.answer.ReadAnswer.TheVariants as read
 use Rattle.cache_model.specs.declared.record.Rec.{Rec}
 use Rattle.cache_model.specs.declared.record.Rec.TheVariants as rec
-use Rattle.cache_model.specs.State.{State, PutRow, ReaderRow, after_all, put_of, reader_of, state_after, table_of_hit}
+use Rattle.cache_model.specs.State.{State, PutRow, ReaderRow, after_all, reader_of, state_after, table_of_hit}
 use Rattle.cache_model.specs.Verdict.{cause_of_miss, follow_answer, followed, hit, hit_answer, lookup_verdict, may_follow}
 use Rattle.cache_model.specs.Permit.{End, Look, Permit}
 use Rattle.cache_model.specs.Given
@@ -49,7 +49,7 @@ found_by_number : (test : PutRow → Bool) (puts : List PutRow) (p : PutRow) →
 found_by_number test [] p h = none_is h
 found_by_number test (x ∷ puts) p h = found_first (test x) puts p x (find test puts) (found_by_number test puts p) h
 
-follow_by : (s : State) (key : Key) (request : List Field) (put : ℕ) (o : Option Stored) (q : Option PutRow)
+pub follow_by : (s : State) (key : Key) (request : List Field) (put : ℕ) (o : Option Stored) (q : Option PutRow)
     → unwrap_or (option_map hit_answer o) (unwrap_or (option_map follow_answer q) (read.Miss (cause_of_miss s key))) ≡ read.Follow put → (p : PutRow) × ((q ≡ Some p) × (p.put ≡ put))
 follow_by s key request put (Some a) q h = absurd cc
 follow_by s key request put None None h = absurd cc
@@ -69,7 +69,7 @@ record OpensAt (put : ℕ) (r : ReaderRow) : Type 0 where
   begun : r.put < put
   first : r.next ≡ 1
 
-front_row : (row r : ReaderRow) (rest : Option ReaderRow) (n : ℕ) → row.reader ≡ n → cond (row.reader == n) (Some row) rest ≡ Some r → row ≡ r
+pub front_row : (row r : ReaderRow) (rest : Option ReaderRow) (n : ℕ) → row.reader ≡ n → cond (row.reader == n) (Some row) rest ≡ Some r → row ≡ r
 front_row row r rest n same h = same_some row r (Some row) refl (sym (ap (λ (b : Bool). cond b (Some row) rest) (eq-eqb row.reader n same)) ∙ h)
 
 -- no reader had the next number

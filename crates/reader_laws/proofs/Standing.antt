@@ -2,7 +2,7 @@
 -- actor writes is open; and each fragment is that of what its writer took, or a line shows two documents of one
 -- SHA-256 in its turn.
 use Rattle.std.proofs.Common.{◌≡◌, ℕ, List, [], ◌∷◌, ◌++◌, refl, sym, subst, inl, inr, ◌⊎◌, false}
-use Rattle.std.specs.Prelude.{Option, Some, None}
+use Rattle.std.specs.Prelude.{Option, Some, None, is_none}
 use Rattle.tape_base.specs.declared.geometries.Geometry.{Geometry}
 use Rattle.tape_base.specs.declared.geometries.BadGeometry.{BadGeometry}
 use Rattle.tape_base.specs.Limits.{first_refusal}
@@ -27,7 +27,7 @@ use Rattle.script_run.specs.Laws.{FormatsKeep, FormatsOwn, OwnIsKept, StepsKeep,
 use Rattle.script_run.specs.Own.{AreKept, AreOwn}
 use Rattle.script_run.specs.Takes
 use Rattle.script_run.specs.Takes.{FormatTakes, IsRun, ReadingShownIn, ReadingTakes, SessionTakes, StepShownIn, run_after}
-use Rattle.reader_laws.specs.Along.{AreOfSession, KeptAlong, OwnAlong, QuietWhere, ShowsAlong, StandsKept, StandsOwn, StandsWhere}
+use Rattle.reader_laws.specs.Along.{AreOfSession, KeptAlong, OwnAlong, QuietWhere, ShowsAlong, StandsKept, StandsOwn, StandsWhere, begins_session}
 use Rattle.reader_laws.proofs.Shown.{shown_behind, shown_front, shown_here, shown_later}
 use Rattle.reader_laws.proofs.Writing.{AreHeld, are_writing, held_step}
 
@@ -50,42 +50,42 @@ pub record OfLines : Type 0 where
 -- ---- what a line does to a run
 
 -- it begins a session, changes nothing that stands, or is one step of a session
-data Goes (run : Run) (turn : Turn) : Option State → Step → Run → Type 0 where
+pub data Goes (run : Run) (turn : Turn) : Option State → Step → Run → Type 0 where
   begins : {o : Option State} {st : Step} (name : List ℕ) (g : Geometry) → turn.added ≡ format_records g → Goes run turn o st (formatted run name turn.added)
-  stays : {o : Option State} {st : Step} → Goes run turn o st run
-  waits : {o : Option State} {st : Step} (at : ℕ) → Goes run turn o st (at_moment run at)
-  steps : {st : Step} (s : State) → SessionTakes run s turn st → Goes run turn (Some s) st (in_session run s (after_all s turn.added) turn st)
+  stays : {o : Option State} {st : Step} → begins_session st ≡ false → Goes run turn o st run
+  waits : {o : Option State} {st : Step} (at : ℕ) → begins_session st ≡ false → Goes run turn o st (at_moment run at)
+  steps : {st : Step} (s : State) → begins_session st ≡ false → SessionTakes run s turn st → Goes run turn (Some s) st (in_session run s (after_all s turn.added) turn st)
 
 format_goes : (run : Run) (turn : Turn) (o : Option State) (st : Step) (name : List ℕ) (segments buckets content agg reach fragment generation : ℕ) (bad : Option BadGeometry)
-    → FormatTakes turn.added segments buckets content agg reach fragment generation bad → Goes run turn o st (after_format run name turn.added bad)
-format_goes run turn o st name segments buckets content agg reach fragment generation (Some bad) takes = stays
-format_goes run turn o st name segments buckets content agg reach fragment generation None takes = begins name takes.0 takes.2
+    → begins_session st ≡ is_none bad → FormatTakes turn.added segments buckets content agg reach fragment generation bad → Goes run turn o st (after_format run name turn.added bad)
+format_goes run turn o st name segments buckets content agg reach fragment generation (Some bad) same takes = stays same
+format_goes run turn o st name segments buckets content agg reach fragment generation None same takes = begins name takes.0 takes.2
 
-goes : (run : Run) (turn : Turn) (o : Option State) (st : Step) → Takes.Takes run turn o st → Goes run turn o st (behind run turn o st)
+pub goes : (run : Run) (turn : Turn) (o : Option State) (st : Step) → Takes.Takes run turn o st → Goes run turn o st (behind run turn o st)
 goes run turn o (step.Format name segments buckets content agg reach fragment generation) takes =
-    format_goes run turn o _ name segments buckets content agg reach fragment generation (first_refusal segments buckets content agg reach fragment) takes
-goes run turn o (step.Now at) takes = waits at
-goes run turn (Some s) (step.Put key body request response) takes = steps s takes
+    format_goes run turn o _ name segments buckets content agg reach fragment generation (first_refusal segments buckets content agg reach fragment) refl takes
+goes run turn o (step.Now at) takes = waits at refl
+goes run turn (Some s) (step.Put key body request response) takes = steps s refl takes
 goes run turn None (step.Put key body request response) takes = absurd takes
-goes run turn (Some s) (step.Get key request) takes = steps s takes
+goes run turn (Some s) (step.Get key request) takes = steps s refl takes
 goes run turn None (step.Get key request) takes = absurd takes
-goes run turn (Some s) (step.OpenWrite actor key pin request response) takes = steps s takes
+goes run turn (Some s) (step.OpenWrite actor key pin request response) takes = steps s refl takes
 goes run turn None (step.OpenWrite actor key pin request response) takes = absurd takes
-goes run turn (Some s) (step.Feed actor body) takes = steps s takes
+goes run turn (Some s) (step.Feed actor body) takes = steps s refl takes
 goes run turn None (step.Feed actor body) takes = absurd takes
-goes run turn (Some s) (step.Close actor) takes = steps s takes
+goes run turn (Some s) (step.Close actor) takes = steps s refl takes
 goes run turn None (step.Close actor) takes = absurd takes
-goes run turn (Some s) (step.Abort actor) takes = steps s takes
+goes run turn (Some s) (step.Abort actor) takes = steps s refl takes
 goes run turn None (step.Abort actor) takes = absurd takes
-goes run turn (Some s) (step.OpenRead actor key request) takes = steps s takes
+goes run turn (Some s) (step.OpenRead actor key request) takes = steps s refl takes
 goes run turn None (step.OpenRead actor key request) takes = absurd takes
-goes run turn (Some s) (step.Next actor) takes = steps s takes
+goes run turn (Some s) (step.Next actor) takes = steps s refl takes
 goes run turn None (step.Next actor) takes = absurd takes
-goes run turn (Some s) (step.Done actor) takes = steps s takes
+goes run turn (Some s) (step.Done actor) takes = steps s refl takes
 goes run turn None (step.Done actor) takes = absurd takes
-goes run turn (Some s) (step.Remove key) takes = steps s takes
+goes run turn (Some s) (step.Remove key) takes = steps s refl takes
 goes run turn None (step.Remove key) takes = absurd takes
-goes run turn (Some s) step.Flush takes = steps s takes
+goes run turn (Some s) step.Flush takes = steps s refl takes
 goes run turn None step.Flush takes = absurd takes
 
 -- ---- whatever a copy shows
@@ -129,9 +129,9 @@ module _ (laws : OfKept) (run : Run) (turn : Turn) where
 
   goes_keeps : {o : Option State} {st : Step} {after : Run} → Goes run turn o st after → StandsWhere Keeps run o → KeepsIn run → KeepsIn after
   goes_keeps (begins name g is) h now = formatted_keeps name turn.added g is
-  goes_keeps stays h now = now
-  goes_keeps (waits at) h now = moment_keeps at run.state now
-  goes_keeps {st = st} (steps s takes) h now = keeps_step s st takes h
+  goes_keeps (stays same) h now = now
+  goes_keeps (waits at same) h now = moment_keeps at run.state now
+  goes_keeps {st = st} (steps s same takes) h now = keeps_step s st takes h
 
   pub reading_keeps : (l : LineAnswer) → ReadingTakes run turn l → KeepsIn run → KeepsIn (after_reading run turn l)
   reading_keeps (line.Step st) takes now = goes_keeps (goes run turn run.state st takes) now now
@@ -209,9 +209,9 @@ module _ (laws : OfLines) (run : Run) (turn : Turn) where
 
   goes_holds : {o : Option State} {st : Step} {after : Run} → Goes run turn o st after → StandsWhere Holds run o → HoldsIn run → HoldsIn after ⊎ StepShownIn turn.device run o st
   goes_holds (begins name g is) h now = inl (formatted_holds name turn.added g is)
-  goes_holds stays h now = inl now
-  goes_holds (waits at) h now = inl (moment_holds at run.state now)
-  goes_holds {st = st} (steps s takes) h now = holds_step s st takes h
+  goes_holds (stays same) h now = inl now
+  goes_holds (waits at same) h now = inl (moment_holds at run.state now)
+  goes_holds {st = st} (steps s same takes) h now = holds_step s st takes h
 
   reading_holds : (l : LineAnswer) → ReadingTakes run turn l → HoldsIn run → HoldsIn (after_reading run turn l) ⊎ ReadingShownIn turn.device run l
   reading_holds (line.Step st) takes now = goes_holds (goes run turn run.state st takes) now now

@@ -1,10 +1,13 @@
 -- Lines of one session, along which what stands is what writers took.
 use Rattle.std.specs.Prelude.{ℕ, ◌≡◌, ◌-◌, ◌<◌, ◌≤◌, Bool, false, is_none, List, [], ◌∷◌, ◌++◌, length, Option, Some, None}
+use Rattle.tape_base.specs.declared.actors.Actor.{Actor}
 use Rattle.tape_base.specs.declared.keys.Key.{Key}
 use Rattle.tape_base.specs.Limits.{first_refusal}
 use Rattle.alternate_vector.specs.Field.{Field}
+use Rattle.cache_model.specs.declared.record.Rec.TheVariants as rec
 use Rattle.cache_model.specs.State.{State, ReaderRow, after_all, reader_of}
 use Rattle.cache_model.specs.Verdict.{table_of}
+use Rattle.cache_model.specs.Permit.{IsAmong}
 use Rattle.cache_model.specs.Legal.{IsQuiet}
 use Rattle.script_lang.specs.declared.step.Step.{Step}
 use Rattle.script_lang.specs.declared.step.Step.TheVariants as step
@@ -89,6 +92,22 @@ pub record Opens (run : Run) (s : State) (turn : Turn) (bytes : List ℕ) (r : R
   pub reading : reading_of bytes ≡ line.Step (step.OpenRead actor key request)
   pub takes : LineTakes run turn bytes
   pub found : reader_of (after_all s turn.added) s.next_reader ≡ Some r
+
+-- a line of these opened the put under this key, with these lines and this pin, and no line behind it begins
+-- another session
+pub record OpenedAlong (run : Run) (lines : List (List ℕ)) (turns : List Turn) (put : ℕ) (key : Key) (request response : List Field) (pin : ℕ) : Type 0 where
+  pub before : List (List ℕ)
+  pub earlier : List Turn
+  pub bytes : List ℕ
+  pub turn : Turn
+  pub later : List (List ℕ)
+  pub rest : List Turn
+  pub lines_are : lines ≡ before ++ bytes ∷ later
+  pub turns_are : turns ≡ earlier ++ turn ∷ rest
+  pub legal : IsRun run before earlier
+  pub who : Actor
+  pub opened : IsAmong (rec.WriteOpened who put key request response pin) turn.added
+  pub same_session : AreOfSession later
 
 -- a line of these shows two documents of one SHA-256, in the run that the lines before it left, by bytes
 -- that the device gave in the turn of that line

@@ -1,9 +1,11 @@
 -- All that a reader is given, line after line, is in order what the writer of its put took.
-use Rattle.std.specs.Prelude.{ℕ, ◌≡◌, ◌-◌, ◌*◌, ◌≤◌, ◌⊎◌, List, ◌++◌, length, drop, take, Some}
+use Rattle.std.specs.Prelude.{ℕ, ◌≡◌, ◌-◌, ◌*◌, ◌≤◌, ◌⊎◌, true, List, ◌++◌, length, drop, take, Some}
 use Rattle.tape_base.specs.declared.keys.Key.{Key}
 use Rattle.alternate_vector.specs.Field.{Field}
+use Rattle.alternate_vector.specs.Vary.{request_matches}
 use Rattle.cache_model.specs.State.{State, ReaderRow, after_all, reader_of}
 use Rattle.cache_model.specs.Legal.{IsQuiet}
+use Rattle.script_lang.specs.declared.step.Step.{Step}
 use Rattle.script_lang.specs.declared.step.Step.TheVariants as step
 use Rattle.script_lang.specs.declared.answer.StepAnswer.TheVariants as answer
 use Rattle.script_run.specs.Run.{Run, fresh, reader_by}
@@ -12,7 +14,7 @@ use Rattle.script_run.specs.Behind.{after_line}
 use Rattle.script_run.specs.Answers.{step_answer}
 use Rattle.script_run.specs.Own.{AreKept}
 use Rattle.script_run.specs.Takes.{IsRun, SessionTakes, StepTakes, run_after}
-use Rattle.reader_laws.specs.Along.{AreOfSession, IsOfScript, IsOpenAt, KeptAlong, Opens, OwnAlong, QuietWhere, ShowsAlong}
+use Rattle.reader_laws.specs.Along.{AreOfSession, IsOfScript, IsOpenAt, KeptAlong, OpenedAlong, Opens, OwnAlong, QuietWhere, ShowsAlong}
 use Rattle.reader_laws.specs.Given.{fragments_between, given_to}
 
 -- along lines of a legal script that begin no other session what stands is what writers took, each put
@@ -85,3 +87,47 @@ AllGiven = (run : Run) (s : State) (turn : Turn) (bytes : List ℕ) (lines : Lis
     → StepTakes (run_after (after_line run turn bytes) lines turns) last (step.Next actor)
     → step_answer (run_after (after_line run turn bytes) lines turns) last (step.Next actor) ≡ answer.End size
     → HasGivenAll 0 ((run_after (after_line run turn bytes) lines turns).streams r.put).bytes (given_to s.next_reader (after_line run turn bytes) lines turns) size
+
+-- ---- what is hit
+
+-- the step is answered that it hit this put: all of it is read, or a reader opens
+pub data AnswersHit (run : Run) (turn : Turn) (key : Key) (request : List Field) (put : ℕ) : Step → Type 0 where
+  got : (size : ℕ) (bytes : List ℕ) → step_answer run turn (step.Get key request) ≡ answer.Got put size bytes → AnswersHit run turn key request put (step.Get key request)
+  opens : (actor : List ℕ) (size : ℕ) → step_answer run turn (step.OpenRead actor key request) ≡ answer.Hit put size
+      → AnswersHit run turn key request put (step.OpenRead actor key request)
+
+-- an earlier line of the same session opened the put under this key, with lines that fit the request (RFC
+-- 9111, section 4.1)
+pub record WasPutFor (lines : List (List ℕ)) (turns : List Turn) (key : Key) (request : List Field) (put : ℕ) : Type 0 where
+  pub asked : List Field
+  pub response : List Field
+  pub pin : ℕ
+  pub opened : OpenedAlong fresh lines turns put key asked response pin
+  pub fits : request_matches request asked response ≡ true
+
+-- behind each legal script what a step is answered that it hit was put under the asked key, by a put whose
+-- lines fit the request
+abbrev pub HitIsAsked : Type 0
+HitIsAsked = (lines : List (List ℕ)) (turns : List Turn) (turn : Turn) (asks : Step) (key : Key) (request : List Field) (put : ℕ) → IsRun fresh lines turns
+    → StepTakes (run_after fresh lines turns) turn asks → AnswersHit (run_after fresh lines turns) turn key request put asks → WasPutFor lines turns key request put
+
+-- the step is answered that its reader follows the writer of this put
+pub data AnswersFollow (run : Run) (turn : Turn) (key : Key) (request : List Field) (put : ℕ) : Step → Type 0 where
+  gets : step_answer run turn (step.Get key request) ≡ answer.Follow put → AnswersFollow run turn key request put (step.Get key request)
+  opens : (actor : List ℕ) → step_answer run turn (step.OpenRead actor key request) ≡ answer.Follow put → AnswersFollow run turn key request put (step.OpenRead actor key request)
+
+-- and so was what a step is answered that its reader follows
+abbrev pub FollowIsAsked : Type 0
+FollowIsAsked = (lines : List (List ℕ)) (turns : List Turn) (turn : Turn) (asks : Step) (key : Key) (request : List Field) (put : ℕ) → IsRun fresh lines turns
+    → StepTakes (run_after fresh lines turns) turn asks → AnswersFollow (run_after fresh lines turns) turn key request put asks → WasPutFor lines turns key request put
+
+-- the reader that opens with a hit reads that put
+abbrev pub HitOpens : Type 0
+HitOpens = (run : Run) (s : State) (turn : Turn) (actor : List ℕ) (key : Key) (request : List Field) (put size : ℕ) (r : ReaderRow) → run.state ≡ Some s
+    → StepTakes run turn (step.OpenRead actor key request) → step_answer run turn (step.OpenRead actor key request) ≡ answer.Hit put size
+    → reader_of (after_all s turn.added) s.next_reader ≡ Some r → r.put ≡ put
+
+-- all that a whole read gives is what the put's writer took
+abbrev pub GotIsPut : Type 0
+GotIsPut = (run : Run) (turn : Turn) (key : Key) (request : List Field) (put size : ℕ) (bytes : List ℕ) → StepTakes run turn (step.Get key request)
+    → step_answer run turn (step.Get key request) ≡ answer.Got put size bytes → bytes ≡ (run.streams put).bytes

@@ -1,11 +1,11 @@
 // Laws of all that a reader is given. These functions do nothing when they run.
-ghost use Rattle.reader_laws.specs.Laws.{AllGiven, EndIsAll, FirstGiven, FragmentsGiven, LegalIsKept, LegalIsOwn, OpensFirst, OwnIsKeptAlong};
+ghost use Rattle.reader_laws.specs.Laws.{AllGiven, EndIsAll, FirstGiven, FollowIsAsked, FragmentsGiven, GotIsPut, HitIsAsked, HitOpens, LegalIsKept, LegalIsOwn, OpensFirst, OwnIsKeptAlong};
 
 use cache_model::{
     formats_tell, legal_is_sound, nothing_asked, numbers_follow, one_group, reader_is_closed,
     steps_are_sound, steps_tell,
 };
-use script_run::{formats_keep, formats_own, own_is_kept, steps_keep, steps_own};
+use script_run::{formats_keep, formats_own, hit_is_put, own_is_kept, steps_keep, steps_own};
 
 /// Along the lines of each legal script what stands is what writers took, and each put that an actor
 /// writes is open; or a line of it shows two documents of one SHA-256, by bytes that the device gave in its
@@ -97,3 +97,33 @@ pub fn all_given()
     formats_keep();
     steps_keep();
 }
+
+/// Behind each legal script what a line is answered that it hit was put under the asked key by an earlier line
+/// of the session, by a put whose lines fit the request.
+pub fn hit_is_asked()
+    ensures { HitIsAsked }
+{
+    numbers_follow();
+    legal_is_sound();
+    steps_are_sound();
+    formats_keep();
+    steps_keep();
+    hit_is_put();
+}
+
+/// And so was what a line is answered that its reader follows.
+pub fn follow_is_asked()
+    ensures { FollowIsAsked }
+{}
+
+/// The reader that opens with a hit reads that put.
+pub fn hit_opens()
+    ensures { HitOpens }
+{
+    one_group();
+}
+
+/// All that a whole read gives is what the put's writer took.
+pub fn got_is_put()
+    ensures { GotIsPut }
+{}

@@ -1,13 +1,14 @@
 -- What stands stays what its writer took where the puts that it stands for stay or go on.
-use Rattle.std.proofs.Common.{◌≡◌, ℕ, ◌≤◌, List, [], ◌∷◌, ◌++◌, length, sym, ◌∙◌, ap, arith, inl, inr}
+use Rattle.std.proofs.Common.{◌≡◌, ℕ, ◌≤◌, List, [], ◌∷◌, ◌++◌, length, refl, sym, ◌∙◌, ap, arith, inl, inr}
 use Rattle.std.specs.Prelude.{Option, Some, None, find, ◌==◌}
 use Rattle.std.specs.List.{AllByRecursion}
+use Rattle.tape_base.specs.declared.keys.Key.{Key}
 use Rattle.fragment_table.specs.Table.{TableRow}
 use Rattle.alternate_vector.specs.Alternates.{Stored}
-use Rattle.cache_model.specs.State.{State, Row, PutRow, ReaderRow, put_of}
+use Rattle.cache_model.specs.State.{State, Row, PutRow, ReaderRow, alternate_of, put_of}
 use Rattle.cache_model.proofs.Rows.{ArePart, done, keep, skip}
 use Rattle.script_run.specs.Run.{Stream}
-use Rattle.script_run.specs.Own.{AreListedOf, AreOwnPuts, IsListedOf, IsOwnFragment, IsOwnPut, IsOwnReader, IsTableOf, IsTableOfHit}
+use Rattle.script_run.specs.Own.{AreListedOf, AreOwnPuts, IsComplete, IsListedOf, IsOwnFragment, IsOwnPut, IsOwnReader, IsTableOf, IsTableOfHit}
 
 -- ---- lists
 
@@ -32,16 +33,34 @@ pub record GoesOn (t : State) (put : ℕ) (w : PutRow) : Type 0 where
   pub found : put_of t put ≡ Some now
   pub more : length w.cuts ≤ length now.cuts
 
--- the tables of complete puts stay, and each put goes on
+-- the put is complete, with the key and the alternate of w
+pub record StaysWhole (t : State) (put : ℕ) (w : PutRow) : Type 0 where
+  pub now : PutRow
+  pub found : put_of t put ≡ Some now
+  pub key : now.key ≡ w.key
+  pub stands_for : alternate_of now ≡ alternate_of w
+  pub complete : IsComplete t put now
+
+-- complete puts stay what they are, and each put goes on
 pub record Carries (s t : State) : Type 0 where
   pub geometry : t.geometry ≡ s.geometry
-  pub tables : (put : ℕ) (table : List TableRow) → IsTableOf s put table → IsTableOf t put table
+  pub whole : (put : ℕ) (w : PutRow) → put_of s put ≡ Some w → IsComplete s put w → StaysWhole t put w
   pub puts : (put : ℕ) (w : PutRow) → put_of s put ≡ Some w → GoesOn t put w
 
 module _ (s t : State) (c : Carries s t) where
-  pub listed_carried : (o : Option (List Stored)) → AreListedOf s o → AreListedOf t o
-  listed_carried None listed = tt
-  listed_carried (Some list) listed = all_as (IsListedOf s) (IsListedOf t) (λ a l. c.tables a.put a.table l) list listed
+  pub table_carried : (put : ℕ) (table : List TableRow) → IsTableOf s put table → IsTableOf t put table
+  table_carried put table h =
+      let x : StaysWhole t put h.w = c.whole put h.w h.found h.complete in
+      record { w = x.now; found = x.found; cuts = ap (λ (a : Stored). a.table) x.stands_for ∙ h.cuts; complete = x.complete }
+
+  pub alternate_carried : (key : Key) (a : Stored) → IsListedOf s key a → IsListedOf t key a
+  alternate_carried key a h =
+      let x : StaysWhole t a.put h.w = c.whole a.put h.w h.found h.complete in
+      record { w = x.now; found = x.found; key_is = x.key ∙ h.key_is; stands_for = x.stands_for ∙ h.stands_for; complete = x.complete }
+
+  pub listed_carried : (key : Key) (o : Option (List Stored)) → AreListedOf s key o → AreListedOf t key o
+  listed_carried key None listed = tt
+  listed_carried key (Some list) listed = all_as (IsListedOf s key) (IsListedOf t key) (alternate_carried key) list listed
 
   pub fragment_carried : (streams : ℕ → Stream) (row : Row) → IsOwnFragment s streams row → IsOwnFragment t streams row
   fragment_carried streams row f =
@@ -50,7 +69,7 @@ module _ (s t : State) (c : Carries s t) where
 
   hit_carried : (r : ReaderRow) (o : Option (List TableRow)) → IsTableOfHit s r o → IsTableOfHit t r o
   hit_carried r None h = tt
-  hit_carried r (Some table) h = c.tables r.put table h
+  hit_carried r (Some table) h = table_carried r.put table h
 
   pub reader_carried : s.next_reader ≤ t.next_reader → (r : ReaderRow) → IsOwnReader s r → IsOwnReader t r
   reader_carried on r own = record { begun = omega (arith, own.begun, on); table = hit_carried r r.table own.table }
@@ -81,18 +100,19 @@ pub record AreAlike (s t : State) : Type 0 where
 found_alike : (s t : State) (put : ℕ) (w : PutRow) → t.puts ≡ s.puts → put_of s put ≡ Some w → put_of t put ≡ Some w
 found_alike s t put w same found = ap (find (λ (p : PutRow). p.put == put)) same ∙ found
 
-table_alike : (s t : State) → t.puts ≡ s.puts → t.pending ≡ s.pending → (put : ℕ) (table : List TableRow) → IsTableOf s put table → IsTableOf t put table
-table_alike s t puts pending put table h = record {
-  w = h.w;
-  found = found_alike s t put h.w puts h.found;
-  cuts = h.cuts;
-  complete = elim h.complete [ inl closed ↦ inl closed | inr waits ↦ inr (pending ∙ waits) ];
+whole_alike : (s t : State) → t.puts ≡ s.puts → t.pending ≡ s.pending → (put : ℕ) (w : PutRow) → put_of s put ≡ Some w → IsComplete s put w → StaysWhole t put w
+whole_alike s t puts pending put w found complete = record {
+  now = w;
+  found = found_alike s t put w puts found;
+  key = refl;
+  stands_for = refl;
+  complete = elim complete [ inl closed ↦ inl closed | inr waits ↦ inr (pending ∙ waits) ];
 }
 
 pub same_carries : (s t : State) → t.geometry ≡ s.geometry → t.puts ≡ s.puts → t.pending ≡ s.pending → Carries s t
 same_carries s t geometry puts pending = record {
   geometry = geometry;
-  tables = table_alike s t puts pending;
+  whole = whole_alike s t puts pending;
   puts = λ put w found. record { now = w; found = found_alike s t put w puts found; more = omega arith };
 }
 

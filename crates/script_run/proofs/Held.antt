@@ -3,7 +3,7 @@ use Rattle.std.proofs.Common.{◌≡◌, ℕ, ◌+◌, ◌≤◌, List, [], ◌�
 use Rattle.std.specs.Prelude.{Some, if◌then◌else◌, cond, find, not, ◌==◌}
 use Rattle.std.specs.List.{AllByRecursion}
 use Rattle.tape_base.specs.declared.geometries.Geometry.{Geometry}
-use Rattle.fragment_table.specs.Table.{TableRow, total_length}
+use Rattle.fragment_table.specs.Table.{total_length}
 use Rattle.cache_model.specs.declared.record.Rec.{Rec}
 use Rattle.cache_model.specs.declared.record.Rec.TheVariants as rec
 use Rattle.cache_model.specs.State.{State, PutRow, ReaderRow, Open, Closed, GivenUp, change_reader, put_of, state_after, vector_piece, with_writing, without_reader}
@@ -11,9 +11,9 @@ use Rattle.cache_model.specs.Legal.{IsQuiet, IsWriting}
 use Rattle.cache_model.proofs.Found.{none_is, number_of, same_some}
 use Rattle.cache_model.proofs.Rows.{part_all, part-filter}
 use Rattle.script_run.specs.Run.{Stream}
-use Rattle.script_run.specs.Own.{AreOwnPuts, IsOwnPut, IsOwnReader, IsTableOf}
+use Rattle.script_run.specs.Own.{AreOwnPuts, IsComplete, IsOwnPut, IsOwnReader}
 use Rattle.script_run.proofs.Saying.{IsRow, Kind, Stands, stands_alike, rows_carried}
-use Rattle.script_run.proofs.Carried.{AreAlike, Carries, GoesOn, put_stays, puts_stay, readers_carried, same_carries}
+use Rattle.script_run.proofs.Carried.{AreAlike, Carries, GoesOn, StaysWhole, put_stays, puts_stay, readers_carried, same_carries}
 use Rattle.script_run.proofs.Changed.{Changes, Was, changed, changed_from, changed_to, either, found_as, other_stays}
 
 -- a put whose vector was placed last has cut all that its writer took
@@ -144,16 +144,16 @@ module _ (s t : State) (put : ℕ) (f : PutRow → PutRow) (w : PutRow) (ch : Is
       let is_open : x.writing ≡ Open = ap (λ (p : PutRow). p.writing) same ∙ ch.writing.is_open in
       cc
 
-  table_stays : (n : ℕ) (table : List TableRow) → IsTableOf s n table → IsTableOf t n table
-  table_stays n table h = elim h.complete [
+  whole_stays : (n : ℕ) (x : PutRow) → put_of s n ≡ Some x → IsComplete s n x → StaysWhole t n x
+  whole_stays n x found complete = elim complete [
     | inl closed ↦ (
-        let stays : changed put f h.w ≡ h.w = other_stays put f h.w (other_complete n h.w h.found closed) in
-        record { w = h.w; found = changed_to s t put f n h.w c h.found ∙ ap Some stays; cuts = h.cuts; complete = inl closed })
+        let stays : changed put f x ≡ x = other_stays put f x (other_complete n x found closed) in
+        record { now = x; found = changed_to s t put f n x c found ∙ ap Some stays; key = refl; stands_for = refl; complete = inl closed })
     | inr waits ↦ none_is (sym ch.writing.quiet ∙ waits)
   ]
 
   pub change_carries : t.geometry ≡ s.geometry → Carries s t
-  change_carries geometry = record { geometry = geometry; tables = table_stays; puts = goes_on }
+  change_carries geometry = record { geometry = geometry; whole = whole_stays; puts = goes_on }
 
   pub change_puts : (streams : ℕ → Stream) → t.geometry ≡ s.geometry → s.next_put ≤ t.next_put → IsOwnPut t streams (f w) → AreOwnPuts s streams → AreOwnPuts t streams
   change_puts streams geometry next new own n x found =

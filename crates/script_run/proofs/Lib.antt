@@ -18,4 +18,5 @@ pub mod Fitting
 pub mod Ended
 pub mod Showing
 pub mod Stepping
+pub mod Hitting
 pub mod OnlyReading

@@ -1,5 +1,5 @@
--- What a key's vector lists, and what a new one is to list, are alternates of complete puts.
-use Rattle.std.proofs.Common.{◌≡◌, ℕ, List, [], ◌∷◌, refl, sym, ◌∙◌, subst, inl, inr, Bool, true, false}
+-- What a key's vector lists, and what a new one is to list, are alternates of complete puts of the key.
+use Rattle.std.proofs.Common.{◌≡◌, ℕ, List, [], ◌∷◌, refl, sym, ◌∙◌, ap, subst, inl, inr, Bool, true, false}
 use Rattle.std.specs.Prelude.{Option, Some, None, if◌then◌else◌, cond, not, map, option_map, option_to_list, unwrap_or}
 use Rattle.std.specs.List.{AllByRecursion, filter}
 use Rattle.tape_base.specs.declared.keys.Key.{Key}
@@ -10,27 +10,34 @@ use Rattle.cache_model.specs.State.{State, Row, LastVector, Complete, TakenOut, 
 use Rattle.cache_model.specs.Permit.{IsAmong}
 use Rattle.cache_model.specs.Room.{displaced_record}
 use Rattle.cache_model.proofs.Rows.{part_all, part-filter, part-trans}
-use Rattle.script_run.specs.Own.{AreAlternates, AreListedOf, IsListedOf}
+use Rattle.script_run.specs.Own.{AreAlternates, AreListedOf, IsListedOf, IsTableOf}
 use Rattle.script_run.proofs.Carried.{AreAlike, alike_carries, all_append, all_as, all_part, listed_carried}
-use Rattle.script_run.proofs.Finding.{found_row}
+use Rattle.script_run.proofs.Finding.{found_row, own_piece}
 
 -- ---- what a key's vector lists
 
-listed_by : (s : State) (row : Row) (o : Option (List Stored)) (b : Bool) → AreListedOf s o → AllByRecursion (IsListedOf s) (if b then unwrap_or o [] else [])
-listed_by s row None true listed = tt
-listed_by s row (Some list) true listed = listed
-listed_by s row o false listed = tt
+-- it has the table of its put
+pub listed_table : (s : State) (key : Key) (a : Stored) → IsListedOf s key a → IsTableOf s a.put a.table
+listed_table s key a h = record { w = h.w; found = h.found; cuts = ap (λ (x : Stored). x.table) h.stands_for; complete = h.complete }
 
-listed_found : (s : State) (rows : List Row) (id : PieceId) (o : Option Row) → row_in rows id ≡ o → AllByRecursion (AreAlternates s) rows → AllByRecursion (IsListedOf s) (unwrap_or (option_map (list_of_row s) o) [])
+listed_by : (s : State) (key : Key) (o : Option (List Stored)) (b : Bool) → AreListedOf s key o → AllByRecursion (IsListedOf s key) (if b then unwrap_or o [] else [])
+listed_by s key None true listed = tt
+listed_by s key (Some list) true listed = listed
+listed_by s key o false listed = tt
+
+listed_found : (s : State) (rows : List Row) (id : PieceId) (o : Option Row) → row_in rows id ≡ o → AllByRecursion (AreAlternates s) rows
+    → AllByRecursion (IsListedOf s id.first) (unwrap_or (option_map (list_of_row s) o) [])
 listed_found s rows id None e each = tt
-listed_found s rows id (Some row) e each = listed_by s row row.alternates (is_live s row) (found_row (AreAlternates s) id rows row each e)
+listed_found s rows id (Some row) e each =
+    let key : row.id.first ≡ id.first = ap (λ (i : PieceId). i.first) (own_piece id rows row e) in
+    listed_by s id.first row.alternates (is_live s row) (subst (λ k. AreListedOf s k row.alternates) key (found_row (AreAlternates s) id rows row each e))
 
-listed_last : (s : State) (rows : List Row) (key : Key) (last : Option LastVector) → AllByRecursion (AreAlternates s) rows → AllByRecursion (IsListedOf s) (unwrap_or (option_map (list_of_last s rows key) last) [])
+listed_last : (s : State) (rows : List Row) (key : Key) (last : Option LastVector) → AllByRecursion (AreAlternates s) rows → AllByRecursion (IsListedOf s key) (unwrap_or (option_map (list_of_last s rows key) last) [])
 listed_last s rows key (Some (Complete put)) each = listed_found s rows (vector_piece key put) (row_in rows (vector_piece key put)) refl each
 listed_last s rows key (Some (TakenOut put)) each = tt
 listed_last s rows key None each = tt
 
-pub listed_among : (s : State) (rows : List Row) (key : Key) → AllByRecursion (AreAlternates s) rows → AllByRecursion (IsListedOf s) (list_among s rows key)
+pub listed_among : (s : State) (rows : List Row) (key : Key) → AllByRecursion (AreAlternates s) rows → AllByRecursion (IsListedOf s key) (list_among s rows key)
 listed_among s rows key each = listed_last s rows key (last_vector s key) each
 
 pub is_among : {X : Type 0} (P : X → Type 0) (x : X) (xs : List X) → AllByRecursion P xs → IsAmong x xs → P x
@@ -74,7 +81,7 @@ taken_out s id rows None e each = tt
 taken_out s id rows (Some row) e each = (found_row (AreAlternates s) id rows row each e, tt)
 
 alternates_alike : (s t : State) → AreAlike s t → (rows : List Row) → AllByRecursion (AreAlternates s) rows → AllByRecursion (AreAlternates t) rows
-alternates_alike s t a rows each = all_as (AreAlternates s) (AreAlternates t) (λ row listed. listed_carried s t (alike_carries s t a) row.alternates listed) rows each
+alternates_alike s t a rows each = all_as (AreAlternates s) (AreAlternates t) (λ row listed. listed_carried s t (alike_carries s t a) row.id.first row.alternates listed) rows each
 
 alike_trans : (s t u : State) → AreAlike s t → AreAlike t u → AreAlike s u
 alike_trans s t u a b = record {

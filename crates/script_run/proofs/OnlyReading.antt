@@ -1,12 +1,11 @@
 -- What only reads leaves what stands as it was.
-use Rattle.std.proofs.Common.{◌≡◌, ℕ, ◌+◌, ◌<◌, ◌≤◌, List, [], ◌∷◌, ◌++◌, refl, sym, ◌∙◌, ap, subst, arith, inl, inr, Bool, true, false}
-use Rattle.std.specs.Prelude.{Option, Some, None, if◌then◌else◌, find, option_map, unwrap_or, ◌==◌, not}
+use Rattle.std.proofs.Common.{◌≡◌, ℕ, ◌+◌, ◌<◌, ◌≤◌, List, [], ◌∷◌, ◌++◌, refl, sym, ◌∙◌, ap, subst, arith, Bool, true, false}
+use Rattle.std.specs.Prelude.{Option, if◌then◌else◌, find, option_map, unwrap_or, ◌==◌, not}
 use Rattle.std.specs.List.{AllByRecursion}
 use Rattle.tape_base.specs.declared.digests.Digest.{Digest}
 use Rattle.tape_base.specs.declared.keys.Key.{Key}
 use Rattle.tape_base.specs.declared.actors.Actor.{Actor}
 use Rattle.tape_base.specs.declared.pieces.PieceId.{PieceId}
-use Rattle.tape_base.specs.Piece.{same_piece}
 use Rattle.fragment_table.specs.Table.{TableRow}
 use Rattle.alternate_vector.specs.Field.{Field}
 use Rattle.alternate_vector.specs.Alternates.{Stored}
@@ -17,21 +16,22 @@ use Rattle.cache_model.specs.declared.answer.NextAnswer.{NextAnswer}
 use Rattle.cache_model.specs.declared.answer.NextAnswer.TheVariants as next
 use Rattle.cache_model.specs.declared.record.Rec.{Rec}
 use Rattle.cache_model.specs.declared.record.Rec.TheVariants as rec
-use Rattle.cache_model.specs.State.{State, Row, PutRow, ReaderRow, LastVector, Complete, TakenOut, after_all, alternates_of, change_reader, is_live, last_vector, list_of_last, list_of_row, put_of, row_in, state_after, table_of_hit, vector_piece, without_reader}
-use Rattle.cache_model.specs.Verdict.{cause_of_miss, follow_answer, followed, hit, hit_answer, lookup_verdict}
-use Rattle.cache_model.specs.Permit.{IsAmong, Permit, Intent, Flush, Write, Fragment, Overflow, Weigh, Finish, Commit, GiveUp, Remove, Look, ReadOn, ReadAll, StopReading, End}
+use Rattle.cache_model.specs.State.{State, Row, PutRow, ReaderRow, after_all, change_reader, put_of, state_after, table_of_hit, without_reader}
+use Rattle.cache_model.specs.Verdict.{lookup_verdict}
+use Rattle.cache_model.specs.Permit.{Permit, Intent, Flush, Write, Fragment, Overflow, Weigh, Finish, Commit, GiveUp, Remove, Look, ReadOn, ReadAll, StopReading, End}
 use Rattle.cache_model.specs.Given
 use Rattle.cache_model.specs.Legal
 use Rattle.cache_model.specs.Legal.{Does, answer_record}
-use Rattle.cache_model.proofs.Answered.{hit_matches}
-use Rattle.cache_model.proofs.Found.{no_truth, none_is}
+use Rattle.cache_model.proofs.Found.{no_truth}
 use Rattle.cache_model.proofs.Steps.{after_all-append}
 use Rattle.stripe_core.proofs.Going.{all_left}
 use Rattle.script_run.specs.Run.{Stream}
-use Rattle.script_run.specs.Own.{AreKept, AreListedOf, AreOwn, IsListedOf, IsOwnPut, IsOwnReader, IsTableOf, IsTableOfHit}
+use Rattle.script_run.specs.Own.{AreKept, AreOwn, IsListedOf, IsOwnPut, IsOwnReader, IsTableOf}
 use Rattle.script_run.specs.Laws.{is_reading}
-use Rattle.script_run.proofs.Carried.{same_carries}
-use Rattle.script_run.proofs.Saying.{IsRow, Kind, Stands, kept_kind, kept_stands, stands_kept}
+use Rattle.script_run.proofs.Carried.{Carries, listed_carried, reader_carried, same_carries, table_carried}
+use Rattle.script_run.proofs.Listed.{listed_table}
+use Rattle.script_run.proofs.Hitting.{IsHitOf, hit_listed, hit_of}
+use Rattle.script_run.proofs.Saying.{IsRow, Kind, Stands, alternates_of_rows, kept_kind, kept_stands, stands_kept}
 use Rattle.script_run.proofs.Fragments.{own_kind, own_stands, stands_own}
 
 -- ---- lists
@@ -40,10 +40,6 @@ all_map : {X : Type 0} (P Q : X → Type 0) (xs : List X) → ((x : X) → P x �
 all_map P Q [] f h = tt
 all_map P Q (x ∷ xs) f h = (f x h.0, all_map P Q xs f h.1)
 
-all_among : {X : Type 0} (P : X → Type 0) (xs : List X) (x : X) → AllByRecursion P xs → IsAmong x xs → P x
-all_among P [] x h among = absurd among
-all_among P (y ∷ ys) x h among = elim among [ inl same ↦ subst P (sym same) h.0 | inr later ↦ all_among P ys x h.1 later ]
-
 kept_by : (P : ReaderRow → Type 0) (b : Bool) (r : ReaderRow) (rs : List ReaderRow) → P r → AllByRecursion P rs → AllByRecursion P (if b then r ∷ rs else rs)
 kept_by P true r rs h k = (h, k)
 kept_by P false r rs h k = k
@@ -51,14 +47,6 @@ kept_by P false r rs h k = k
 all_without : (P : ReaderRow → Type 0) (reader : ℕ) (rs : List ReaderRow) → AllByRecursion P rs → AllByRecursion P (without_reader reader rs)
 all_without P reader [] h = tt
 all_without P reader (r ∷ rs) h = kept_by P (not (r.reader == reader)) r (without_reader reader rs) h.0 (all_without P reader rs h.1)
-
-row_by : (P : Row → Type 0) (first row : Row) (other : Option Row) (b : Bool) → P first → (other ≡ Some row → P row) → (if b then Some first else other) ≡ Some row → P row
-row_by P first row other true p rest h = let same : first ≡ row = cc in subst P same p
-row_by P first row other false p rest h = rest h
-
-found_row : (P : Row → Type 0) (id : PieceId) (rows : List Row) (row : Row) → AllByRecursion P rows → row_in rows id ≡ Some row → P row
-found_row P id [] row each h = none_is h
-found_row P id (first ∷ rows) row each h = row_by P first row (row_in rows id) (same_piece first.id id) each.0 (found_row P id rows row each.1) h
 
 -- ---- the puts, the geometry and the pending vector stay
 
@@ -79,30 +67,15 @@ put_stays s t streams w base own = record {
   full = rw base.geometry own.full;
 }
 
-table_stays : (s t : State) (put : ℕ) (table : List TableRow) → SameBase s t → IsTableOf s put table → IsTableOf t put table
-table_stays s t put table base own = record {
-  w = own.w;
-  found = found_same s t put base ∙ own.found;
-  cuts = own.cuts;
-  complete = elim own.complete [ inl closed ↦ inl closed | inr pending ↦ inr (base.pending ∙ pending) ];
-}
-
-listed_stays : (s t : State) (o : Option (List Stored)) → SameBase s t → AreListedOf s o → AreListedOf t o
-listed_stays s t None base own = own
-listed_stays s t (Some list) base own = all_map (IsListedOf s) (IsListedOf t) list (λ a. table_stays s t a.put a.table base) own
+carries : (s t : State) → SameBase s t → Carries s t
+carries s t base = same_carries s t base.geometry base.puts base.pending
 
 row_stays : (kind : Kind) (s t : State) (streams : ℕ → Stream) (row : Row) → SameBase s t → IsRow kind s streams row → IsRow kind t streams row
 row_stays kind s t streams row base is =
-    (kind.carried s t (same_carries s t base.geometry base.puts base.pending) streams row is.0, listed_stays s t row.alternates base is.1)
-
-hit_stays : (s t : State) (r : ReaderRow) (o : Option (List TableRow)) → SameBase s t → IsTableOfHit s r o → IsTableOfHit t r o
-hit_stays s t r None base own = own
-hit_stays s t r (Some table) base own = table_stays s t r.put table base own
+    (kind.carried s t (carries s t base) streams row is.0, listed_carried s t (carries s t base) row.id.first row.alternates is.1)
 
 reader_stays : (s t : State) (r : ReaderRow) → SameBase s t → s.next_reader ≤ t.next_reader → IsOwnReader s r → IsOwnReader t r
-reader_stays s t r base rises own =
-    let begun : r.reader < s.next_reader = own.begun in
-    record { begun = omega (arith, begun, rises); table = hit_stays s t r r.table base own.table }
+reader_stays s t r base rises own = reader_carried s t (carries s t base) rises r own
 
 -- what stands is as it was, but for rows that went and for readers
 stands_on : (kind : Kind) (s t : State) (streams : ℕ → Stream) → SameBase s t → AllByRecursion (IsRow kind s streams) t.rows → AllByRecursion (IsOwnReader t) t.readers → Stands kind s streams → Stands kind t streams
@@ -160,46 +133,13 @@ answered_leaves kind s streams reader (next.Broke why) own = own
 
 -- ---- a lookup
 
--- what a key's vector lists
-row_lists : (s : State) (streams : ℕ → Stream) (row : Row) (b : Bool) (o : Option (List Stored)) → AreListedOf s o → AllByRecursion (IsListedOf s) (if b then unwrap_or o [] else [])
-row_lists s streams row true None own = tt
-row_lists s streams row true (Some list) own = own
-row_lists s streams row false o own = tt
-
-found_lists : (kind : Kind) (s : State) (streams : ℕ → Stream) (id : PieceId) (o : Option Row) → row_in s.rows id ≡ o → Stands kind s streams → AllByRecursion (IsListedOf s) (unwrap_or (option_map (list_of_row s) o) [])
-found_lists kind s streams id None found own = tt
-found_lists kind s streams id (Some row) found own =
-    row_lists s streams row (is_live s row) row.alternates (found_row (IsRow kind s streams) id s.rows row own.rows found).1
-
-last_lists : (kind : Kind) (s : State) (streams : ℕ → Stream) (key : Key) (o : Option LastVector) → Stands kind s streams → AllByRecursion (IsListedOf s) (unwrap_or (option_map (list_of_last s s.rows key) o) [])
-last_lists kind s streams key None own = tt
-last_lists kind s streams key (Some (Complete put)) own = found_lists kind s streams (vector_piece key put) (row_in s.rows (vector_piece key put)) refl own
-last_lists kind s streams key (Some (TakenOut put)) own = tt
-
-alternates_own : (kind : Kind) (s : State) (streams : ℕ → Stream) (key : Key) → Stands kind s streams → AllByRecursion (IsListedOf s) (alternates_of s key)
-alternates_own kind s streams key own = last_lists kind s streams key (last_vector s key) own
-
 -- a hit has the table of an alternate that is listed
-record IsHitOf (s : State) (key : Key) (request : List Field) (put : ℕ) : Type 0 where
-  a : Stored
-  found : hit s key request ≡ Some a
-  put_is : a.put ≡ put
-
-no_hit : (s : State) (key : Key) (put : ℕ) (o : Option PutRow) → unwrap_or (option_map follow_answer o) (read.Miss (cause_of_miss s key)) ≡ read.Hit put → ⊥
-no_hit s key put None h = cc
-no_hit s key put (Some w) h = cc
-
-hit_by : (s : State) (key : Key) (request : List Field) (put : ℕ) (o : Option Stored) → hit s key request ≡ o
-    → unwrap_or (option_map hit_answer o) (unwrap_or (option_map follow_answer (followed s key request)) (read.Miss (cause_of_miss s key))) ≡ read.Hit put → IsHitOf s key request put
-hit_by s key request put None none h = absurd (no_hit s key put (followed s key request) h)
-hit_by s key request put (Some a) found h = record { a = a; found = found; put_is = cc }
-
 hit_table : (kind : Kind) (s : State) (streams : ℕ → Stream) (key : Key) (request : List Field) (put : ℕ) → Stands kind s streams → lookup_verdict s key request ≡ read.Hit put → IsTableOf s put (table_of_hit s key request)
 hit_table kind s streams key request put own verdict =
-    let h : IsHitOf s key request put = hit_by s key request put (hit s key request) refl verdict in
-    let listed : IsListedOf s h.a = all_among (IsListedOf s) (alternates_of s key) h.a (alternates_own kind s streams key own) (hit_matches s key request h.a h.found).0 in
+    let h : IsHitOf s key request put = hit_of s key request put verdict in
+    let listed : IsListedOf s key h.a = hit_listed s key request put (alternates_of_rows kind s streams s.rows own.rows) h in
     let table : table_of_hit s key request ≡ h.a.table = ap (λ (o : Option Stored). unwrap_or (option_map (λ (a : Stored). a.table) o) []) h.found in
-    subst (IsTableOf s put) (sym table) (subst (λ n. IsTableOf s n h.a.table) h.put_is listed)
+    subst (IsTableOf s put) (sym table) (subst (λ n. IsTableOf s n h.a.table) h.put_is (listed_table s key h.a listed))
 
 -- where something is hit, it is a table of a complete put
 abbrev HitsOwn : State → Key → List Field → ReadAnswer → Type 0
@@ -212,7 +152,7 @@ opened_leaves : (kind : Kind) (s : State) (streams : ℕ → Stream) (who : Acto
 opened_leaves kind s streams who key request (read.Hit put) hits own =
     let t : State = state_after s (rec.ReadOpened s.next_reader who key request (read.Hit put)) in
     let same : SameBase s t = record { puts = refl; next_put = refl; geometry = refl; pending = refl } in
-    stands_on kind s t streams same own.rows (record { begun = omega arith; table = table_stays s t put (table_of_hit s key request) same hits }, readers_stay kind s t streams same (omega arith) own) own
+    stands_on kind s t streams same own.rows (record { begun = omega arith; table = table_carried s t (carries s t same) put (table_of_hit s key request) hits }, readers_stay kind s t streams same (omega arith) own) own
 opened_leaves kind s streams who key request (read.Follow put) hits own =
     let t : State = state_after s (rec.ReadOpened s.next_reader who key request (read.Follow put)) in
     let same : SameBase s t = record { puts = refl; next_put = refl; geometry = refl; pending = refl } in

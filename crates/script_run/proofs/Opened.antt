@@ -20,9 +20,9 @@ use Rattle.script_run.specs.Run.{Stream}
 use Rattle.script_run.specs.Own.{AreOwnPuts, IsListedOf, IsOwnPut, IsOwnReader, IsTableOf}
 use Rattle.script_run.proofs.Saying.{alternates_of_rows, Kind, Stands, rows_carried}
 use Rattle.script_run.proofs.Cuts.{no_cuts}
-use Rattle.script_run.proofs.Carried.{Carries, all_append, put_stays, readers_carried, same_carries}
+use Rattle.script_run.proofs.Carried.{Carries, all_append, put_stays, readers_carried, same_carries, table_carried}
 use Rattle.script_run.proofs.Held.{IsHeld, held_readers, quiet_whole}
-use Rattle.script_run.proofs.Listed.{is_among, listed_among}
+use Rattle.script_run.proofs.Listed.{is_among, listed_among, listed_table}
 
 -- ---- a put
 
@@ -50,7 +50,7 @@ held_opened kind g streams s actor key request response pin quiet h =
     let stays : (n : ℕ) (w : PutRow) → put_of s n ≡ Some w → put_of t n ≡ Some w = still s streams new refl h.stands.puts in
     let c : Carries s t = record {
       geometry = refl;
-      tables = λ n table x. record { w = x.w; found = stays n x.w x.found; cuts = x.cuts; complete = x.complete };
+      whole = λ n w found complete. record { now = w; found = stays n w found; key = refl; stands_for = refl; complete = complete };
       puts = λ n w found. record { now = w; found = stays n w found; more = omega arith };
     } in
     let own_new : IsOwnPut t streams new = record {
@@ -82,12 +82,12 @@ follow_own s t actor key request why (Some w) on = (record { begun = on; table =
 
 -- a reader that hits something has the table of an alternate of its key
 hit_own : (s t : State) (actor : ℕ) (key : Key) (request : List Field) (other : ReadAnswer) (o : Option Stored) → hit s key request ≡ o → s.next_reader < t.next_reader → Carries s t
-    → AllByRecursion (IsListedOf s) (alternates_of s key) → OwnOpened s t actor key request other → OwnOpened s t actor key request (unwrap_or (option_map hit_answer o) other)
+    → AllByRecursion (IsListedOf s key) (alternates_of s key) → OwnOpened s t actor key request other → OwnOpened s t actor key request (unwrap_or (option_map hit_answer o) other)
 hit_own s t actor key request other None e on c listed rest = rest
 hit_own s t actor key request other (Some a) e on c listed rest =
-    let own : IsListedOf s a = is_among (IsListedOf s) a (alternates_of s key) listed (hit_matches s key request a e).0 in
+    let own : IsListedOf s key a = is_among (IsListedOf s key) a (alternates_of s key) listed (hit_matches s key request a e).0 in
     let table : table_of_hit s key request ≡ a.table = ap (λ (o : Option Stored). unwrap_or (option_map (λ (b : Stored). b.table) o) []) e in
-    (record { begun = on; table = c.tables a.put (table_of_hit s key request) (subst (IsTableOf s a.put) (sym table) own) }, tt)
+    (record { begun = on; table = table_carried s t c a.put (table_of_hit s key request) (subst (IsTableOf s a.put) (sym table) (listed_table s key a own)) }, tt)
 
 pub verdict_own : (kind : Kind) (s t : State) (streams : ℕ → Stream) (actor : ℕ) (key : Key) (request : List Field) → s.next_reader < t.next_reader → Carries s t → Stands kind s streams
     → OwnOpened s t actor key request (lookup_verdict s key request)

@@ -28,7 +28,7 @@ use Rattle.script_run.specs.Run.{Stream}
 use Rattle.script_run.specs.Own.{AreAlternates, AreListedOf, IsListedOf, IsOwnPut, piece_of, rows_from}
 use Rattle.script_run.proofs.Saying.{alternates_of_rows, IsRow, Kind, Stands, stands_alike, rows_carried}
 use Rattle.script_run.proofs.Cuts.{cuts_more}
-use Rattle.script_run.proofs.Carried.{Carries, all_append, all_as, all_part, put_stays, puts_stay, readers_carried, same_carries}
+use Rattle.script_run.proofs.Carried.{Carries, all_append, alternate_carried, all_as, all_part, put_stays, puts_stay, readers_carried, same_carries}
 use Rattle.script_run.proofs.Changed.{Changes, Was, changed, changed_from, changed_to, either, found_as, itself}
 use Rattle.script_run.proofs.Held.{IsHeld, change_stands, quiet_whole}
 use Rattle.script_run.proofs.Listed.{AreDisplaced, all_merged, displaced_listed, listed_among}
@@ -117,7 +117,7 @@ fragment_row kind g streams u put place blocks pin payload w x doc t geometry fo
     cut = omega (arith, count);
     digest = rw geometry (ap (λ (d : Doc). digest_of_document d payload) same ∙ ap (digest_of_document _) is);
   }),
-  subst (AreListedOf u) (sym (ap (λ b. if b then Some (list_of_put t w.put) else None) (is_no_vector (length w.cuts) (is_vector (next_fragment_of w)) refl))) tt,
+  subst (AreListedOf u w.key) (sym (ap (λ b. if b then Some (list_of_put t w.put) else None) (is_no_vector (length w.cuts) (is_vector (next_fragment_of w)) refl))) tt,
 )
 
 pub held_fragment : (kind : Kind) (g : Geometry) (streams : ℕ → Stream) (p : Permit) (s : State) (put index : ℕ) (payload : List ℕ) (added : List Rec) → IsPiece g.fragment streams put index payload
@@ -166,15 +166,16 @@ whole_cut kind s streams put fragments w own found count whole =
     ∙ (ap (λ n. total_length (rows_from s.geometry.fragment (streams w.put).bytes 1 n)) count
     ∙ subst (λ n. total_length (rows_from s.geometry.fragment (streams n).bytes 1 fragments) ≡ length (streams n).bytes) (sym number) whole)
 
--- where no vector was pending, tables stay as a piece is placed
+-- where no vector was pending, complete puts stay as a piece is placed
 quiet_carries : (t : State) (piece : PieceId) (place blocks : ℕ) (digest : Digest) (pin : ℕ) → IsQuiet t → Carries t (state_after t (rec.Placed piece place blocks digest pin))
 quiet_carries t piece place blocks digest pin quiet = record {
   geometry = refl;
-  tables = λ put table h. record {
-    w = h.w;
-    found = h.found;
-    cuts = h.cuts;
-    complete = elim h.complete [ inl closed ↦ inl closed | inr waits ↦ none_is (sym quiet ∙ waits) ];
+  whole = λ put w found complete. record {
+    now = w;
+    found = found;
+    key = refl;
+    stands_for = refl;
+    complete = elim complete [ inl closed ↦ inl closed | inr waits ↦ none_is (sym quiet ∙ waits) ];
   };
   puts = λ put w found. record { now = w; found = found; more = omega arith };
 }
@@ -200,17 +201,18 @@ held_vector kind g streams p s put fragments added whole m h =
     let quiet : IsQuiet t = d.alike.pending ∙ m.cut.writing.quiet in
     let c : Carries t u = quiet_carries t id (place_now s) blocks digest pin quiet in
     let found : put_of t put ≡ Some w = ap (find (λ (q : PutRow). q.put == put)) d.alike.puts ∙ m.cut.writing.found in
-    let own_new : IsListedOf u (alternate_of w) = record {
+    let own_new : IsListedOf u w.key (alternate_of w) = record {
       w = w;
       found = subst (λ n. put_of t n ≡ Some w) (sym number) found;
-      cuts = refl;
+      key_is = refl;
+      stands_for = refl;
       complete = inr (ap (λ n. Some (vector_piece w.key n)) (sym number));
     } in
     let rows : AllByRecursion (AreAlternates t) (t.displaced ++ t.rows) = all_append (AreAlternates t) t.displaced t.rows d.listed (alternates_of_rows kind t streams t.rows own.rows) in
-    let before : AllByRecursion (IsListedOf u) (list_among t (t.displaced ++ t.rows) w.key) =
-    all_as (IsListedOf t) (IsListedOf u) (λ a l. c.tables a.put a.table l) (list_among t (t.displaced ++ t.rows) w.key) (listed_among t (t.displaced ++ t.rows) w.key rows) in
-    let listed : AllByRecursion (IsListedOf u) (list_of_put t put) =
-    subst (AllByRecursion (IsListedOf u)) (sym (list_is t put w found)) (all_merged (IsListedOf u) _ _ (list_among t (t.displaced ++ t.rows) w.key) (alternate_of w) before own_new) in
+    let before : AllByRecursion (IsListedOf u w.key) (list_among t (t.displaced ++ t.rows) w.key) =
+    all_as (IsListedOf t w.key) (IsListedOf u w.key) (alternate_carried t u c w.key) (list_among t (t.displaced ++ t.rows) w.key) (listed_among t (t.displaced ++ t.rows) w.key rows) in
+    let listed : AllByRecursion (IsListedOf u w.key) (list_of_put t put) =
+    subst (AllByRecursion (IsListedOf u w.key)) (sym (list_is t put w found)) (all_merged (IsListedOf u w.key) _ _ (list_among t (t.displaced ++ t.rows) w.key) (alternate_of w) before own_new) in
     let row : IsRow kind u streams (placed_row t id (place_now s) blocks digest pin) =
     (kind.own u streams (placed_row t id (place_now s) blocks digest pin) (λ some. absurd (omega (arith, some))), listed) in
     let cut : total_length w.cuts ≡ length (streams w.put).bytes =
@@ -237,6 +239,14 @@ same_cuts_by : (w : PutRow) (b : Bool) → (if b then with_writing Closed w else
 same_cuts_by w true = refl
 same_cuts_by w false = refl
 
+same_key_by : (w : PutRow) (b : Bool) → (if b then with_writing Closed w else w).key ≡ w.key
+same_key_by w true = refl
+same_key_by w false = refl
+
+same_alternate_by : (w : PutRow) (b : Bool) → alternate_of (if b then with_writing Closed w else w) ≡ alternate_of w
+same_alternate_by w true = refl
+same_alternate_by w false = refl
+
 module _ (s t : State) (put : ℕ) (w : PutRow) (found : put_of s put ≡ Some w) (waits : s.pending ≡ Some (vector_piece w.key put)) (c : Changes s t put (with_writing Closed)) where
   closes : (n : ℕ) (x : PutRow) → put_of s n ≡ Some x → (x.writing ≡ Closed) ⊎ (s.pending ≡ Some (vector_piece x.key n)) → (changed put (with_writing Closed) x).writing ≡ Closed
   closes n x found_x (inl closed) = closes_by x (x.put == put) closed
@@ -247,11 +257,12 @@ module _ (s t : State) (put : ℕ) (w : PutRow) (found : put_of s put ≡ Some w
   committed_carries : t.geometry ≡ s.geometry → Carries s t
   committed_carries geometry = record {
     geometry = geometry;
-    tables = λ n table h. record {
-      w = changed put (with_writing Closed) h.w;
-      found = changed_to s t put (with_writing Closed) n h.w c h.found;
-      cuts = same_cuts_by h.w (h.w.put == put) ∙ h.cuts;
-      complete = inl (closes n h.w h.found h.complete);
+    whole = λ n x found_x complete. record {
+      now = changed put (with_writing Closed) x;
+      found = changed_to s t put (with_writing Closed) n x c found_x;
+      key = same_key_by x (x.put == put);
+      stands_for = same_alternate_by x (x.put == put);
+      complete = inl (closes n x found_x complete);
     };
     puts = λ n x found_x. record {
       now = changed put (with_writing Closed) x;

@@ -70,7 +70,7 @@ pub record Stands (kind : Kind) (s : State) (streams : ℕ → Stream) : Type 0 
 
 pub rows_carried : (kind : Kind) (s t : State) → Carries s t → (streams : ℕ → Stream) (rows : List Row) → AllByRecursion (IsRow kind s streams) rows → AllByRecursion (IsRow kind t streams) rows
 rows_carried kind s t c streams rows each =
-    all_as (IsRow kind s streams) (IsRow kind t streams) (λ row is. (kind.carried s t c streams row is.0, listed_carried s t c row.alternates is.1)) rows each
+    all_as (IsRow kind s streams) (IsRow kind t streams) (λ row is. (kind.carried s t c streams row is.0, listed_carried s t c row.id.first row.alternates is.1)) rows each
 
 pub stands_alike : (kind : Kind) (s t : State) (streams : ℕ → Stream) → AreAlike s t → Stands kind s streams → Stands kind t streams
 stands_alike kind s t streams a own =

@@ -1,11 +1,15 @@
 -- The bytes that lines give are those that were put.
-use Rattle.std.specs.Prelude.{ℕ, ◌≡◌, ◌≢◌, ◌-◌, ◌*◌, ◌<◌, ◌⊎◌, List, [], take, Some, None, Bool, true, false}
+use Rattle.std.specs.Prelude.{ℕ, ◌≡◌, ◌≢◌, ◌-◌, ◌*◌, ◌<◌, ◌⊎◌, List, [], ◌∷◌, take, Option, Some, None, Bool, true, false}
 use Rattle.tape_base.specs.declared.geometries.Geometry.{Geometry}
+use Rattle.tape_base.specs.declared.keys.Key.{Key}
 use Rattle.fragment_table.specs.Table.{TableRow}
-use Rattle.cache_model.specs.State.{State, Row, PutRow, ReaderRow, Closed, after_all, live_row_of, put_of, reader_of}
+use Rattle.alternate_vector.specs.Field.{Field}
+use Rattle.alternate_vector.specs.Alternates.{is_match}
+use Rattle.cache_model.specs.State.{State, Row, PutRow, ReaderRow, Closed, after_all, alternate_of, live_row_of, put_of, reader_of}
 use Rattle.cache_model.specs.Verdict.{next_piece, next_row}
+use Rattle.cache_model.specs.declared.answer.ReadAnswer.TheVariants as read
 use Rattle.cache_model.specs.declared.record.Rec.{Rec}
-use Rattle.cache_model.specs.Permit.{End, Intent, Look, Permit, ReadAll, ReadOn, StopReading}
+use Rattle.cache_model.specs.Permit.{End, Intent, Look, Permit, ReadAll, ReadOn, Reason, StopReading}
 use Rattle.cache_model.specs.Given.{IsGiven}
 use Rattle.cache_model.specs.Due.{due_pieces}
 use Rattle.cache_model.specs.Outcomes.{AreOutcomes, Outcome, flush_records, stopped_records}
@@ -18,9 +22,9 @@ use Rattle.stripe_core.specs.Find.{IsDocumentOf}
 use Rattle.script_lang.specs.declared.step.Step.{Step}
 use Rattle.script_run.specs.Run.{Run, Stream}
 use Rattle.script_run.specs.Asked.{asked}
-use Rattle.script_run.specs.Turn.{Turn}
+use Rattle.script_run.specs.Turn.{Turn, lookup_in}
 use Rattle.script_run.specs.Behind.{streams_behind}
-use Rattle.script_run.specs.Own.{AreKept, AreOwn, AreWriting, IsOtherFragment, piece_of}
+use Rattle.script_run.specs.Own.{AreKept, AreOwn, AreWriting, IsComplete, IsOtherFragment, piece_of}
 use Rattle.script_run.specs.Takes.{ShownIn, streams_with}
 
 -- behind a format nothing was put
@@ -95,6 +99,19 @@ abbrev pub AllIsFollowed : Type 0
 AllIsFollowed = (s : State) (streams : ℕ → Stream) (r : ReaderRow) (w : PutRow) → AreOwn s streams → IsQuiet s → 0 < r.next
     → r.table ≡ None → put_of s r.put ≡ Some w → w.writing ≡ Closed → next_row s r ≡ None
     → take ((r.next - 1) * s.geometry.fragment) (streams r.put).bytes ≡ (streams r.put).bytes
+
+-- what a request hits under a key: a complete put of the key, whose lines fit the request
+pub record IsPutFor (s : State) (key : Key) (request : List Field) (put : ℕ) : Type 0 where
+  pub w : PutRow
+  pub found : put_of s put ≡ Some w
+  pub key_is : w.key ≡ key
+  pub fits : is_match request (alternate_of w) ≡ true
+  pub complete : IsComplete s put w
+
+-- a step that begins with a lookup hits such a put alone
+abbrev pub HitIsPut : Type 0
+HitIsPut = (p : Permit) (s : State) (streams : ℕ → Stream) (actor : ℕ) (key : Key) (request : List Field) (more : List Intent) (added : List Rec) (why : Option Reason) (put : ℕ) → AreKept s streams
+    → IsStep p s (Look actor key request ∷ more) added why → lookup_in added ≡ Some (read.Hit put) → IsPutFor s key request put
 
 -- what only reads
 abbrev pub is_reading : Intent → Bool

@@ -2,13 +2,14 @@
 -- its writers took.
 use Rattle.std.specs.Prelude.{ℕ, zero, suc, ◌≡◌, ◌-◌, ◌*◌, ◌<◌, ◌≤◌, ◌⊎◌, ◌++◌, ◌+◌, false, true, List, [], ◌∷◌, length, take, drop, Option, Some, None}
 use Rattle.std.specs.List.{AllByRecursion}
+use Rattle.tape_base.specs.declared.keys.Key.{Key}
 use Rattle.tape_base.specs.Digest.{Collide, digest_of}
 use Rattle.doc_header.specs.declared.documents.Doc.{Doc}
 use Rattle.doc_header.specs.Document.{digest_of_document, header_bytes}
 use Rattle.doc_header.specs.Reading.{extent_of}
 use Rattle.fragment_table.specs.Table.{TableRow, made_row, total_length}
 use Rattle.alternate_vector.specs.Alternates.{Stored}
-use Rattle.cache_model.specs.State.{State, Row, PutRow, ReaderRow, Open, Closed, live_row_of, put_of, vector_piece}
+use Rattle.cache_model.specs.State.{State, Row, PutRow, ReaderRow, Open, Closed, alternate_of, live_row_of, put_of, vector_piece}
 use Rattle.cache_model.specs.Permit.{Permit}
 use Rattle.cache_model.specs.Given.{IsGiven, IsWritten}
 use Rattle.cache_model.specs.Legal.{is_writing}
@@ -53,23 +54,32 @@ pub record IsOwnFragment (s : State) (streams : ℕ → Stream) (row : Row) : Ty
   pub cut : row.id.index ≤ length w.cuts
   pub digest : row.digest ≡ digest_of_document (fragment_doc s row) (piece_of s.geometry.fragment (streams row.id.put).bytes row.id.index)
 
--- a table is that of all that a complete put has cut, or of one whose vector was placed last
+-- a put is complete, or its vector was placed last
+abbrev pub IsComplete : State → ℕ → PutRow → Type 0
+IsComplete s put w = (w.writing ≡ Closed) ⊎ (s.pending ≡ Some (vector_piece w.key put))
+
+-- a table is that of all that such a put has cut
 pub record IsTableOf (s : State) (put : ℕ) (table : List TableRow) : Type 0 where
   pub w : PutRow
   pub found : put_of s put ≡ Some w
   pub cuts : w.cuts ≡ table
-  pub complete : (w.writing ≡ Closed) ⊎ (s.pending ≡ Some (vector_piece w.key put))
+  pub complete : IsComplete s put w
 
-abbrev pub IsListedOf : State → Stored → Type 0
-IsListedOf s a = IsTableOf s a.put a.table
+-- an alternate is the one that such a put of this key stands for: its number, its lines, its pin and its table
+pub record IsListedOf (s : State) (key : Key) (a : Stored) : Type 0 where
+  pub w : PutRow
+  pub found : put_of s a.put ≡ Some w
+  pub key_is : w.key ≡ key
+  pub stands_for : alternate_of w ≡ a
+  pub complete : IsComplete s a.put w
 
-abbrev pub AreListedOf : State → Option (List Stored) → Type 0
-AreListedOf s None = Unit {0}
-AreListedOf s (Some list) = AllByRecursion (IsListedOf s) list
+abbrev pub AreListedOf : State → Key → Option (List Stored) → Type 0
+AreListedOf s key None = Unit {0}
+AreListedOf s key (Some list) = AllByRecursion (IsListedOf s key) list
 
--- each alternate that a vector lists is that of a complete put
+-- each alternate that a vector lists is that of a complete put of the vector's key
 abbrev pub AreAlternates : State → Row → Type 0
-AreAlternates s row = AreListedOf s row.alternates
+AreAlternates s row = AreListedOf s row.id.first row.alternates
 
 -- a fragment, or a vector
 abbrev pub IsOwnRow : State → (ℕ → Stream) → Row → Type 0

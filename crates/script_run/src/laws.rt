@@ -1,5 +1,5 @@
 // Laws of the bytes that lines give. These functions do nothing when they run.
-ghost use Rattle.script_run.specs.Laws.{AllIsFollowed, AllIsGiven, FlushOwns, FormatsKeep, FormatsOwn, GivenIsListed, OtherShows, OwnIsKept, ReadIsOwn, ReadsKeep, ReadsOwn, StepsKeep, StepsOwn, StoppedOwns};
+ghost use Rattle.script_run.specs.Laws.{AllIsFollowed, AllIsGiven, FlushOwns, FormatsKeep, FormatsOwn, GivenIsListed, HitIsPut, OtherShows, OwnIsKept, ReadIsOwn, ReadsKeep, ReadsOwn, StepsKeep, StepsOwn, StoppedOwns};
 
 use cache_model::writer_is_ended;
 
@@ -77,12 +77,17 @@ pub fn all_is_followed()
     ensures { AllIsFollowed }
 {}
 
-/// And so it does behind each group of records that only reads.
+/// What stands belongs to what writers took also behind each group of records that only reads.
 pub fn reads_own()
     ensures { ReadsOwn }
 {}
 
-/// The same but for what fragments are.
+/// And but for what fragments are.
 pub fn reads_keep()
     ensures { ReadsKeep }
+{}
+
+/// What is hit is a complete put of the asked key, whose lines fit the request.
+pub fn hit_is_put()
+    ensures { HitIsPut }
 {}

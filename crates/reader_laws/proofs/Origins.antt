@@ -1,0 +1,193 @@
+-- Each put of a session was opened by one of its lines.
+use Rattle.std.proofs.Common.{◌≡◌, ℕ, List, [], ◌∷◌, refl, ap, subst, inl, inr, Bool, true, false}
+use Rattle.std.specs.Prelude.{Option, Some, None, if◌then◌else◌, find, cond, ◌==◌}
+use Rattle.std.specs.List.{AllByRecursion}
+use Rattle.tape_base.specs.declared.actors.Actor.{Actor}
+use Rattle.tape_base.specs.declared.keys.Key.{Key}
+use Rattle.fragment_table.specs.Table.{made_row}
+use Rattle.alternate_vector.specs.Field.{Field}
+use Rattle.cache_model.specs.declared.record.Rec.{Rec}
+use Rattle.cache_model.specs.declared.record.Rec.TheVariants as rec
+use Rattle.cache_model.specs.State.{State, PutRow, Closed, GivenUp, after_all, change_put, nothing_yet, put_of, state_after, with_cut, with_writing}
+use Rattle.cache_model.specs.Permit.{IsAmong}
+use Rattle.cache_model.proofs.Found.{none_is, number_of}
+use Rattle.script_lang.specs.declared.step.Step.{Step}
+use Rattle.script_lang.specs.declared.line.LineAnswer.{LineAnswer}
+use Rattle.script_lang.specs.declared.line.LineAnswer.TheVariants as line
+use Rattle.script_lang.specs.Grammar.{reading_of}
+use Rattle.script_run.specs.Run.{Run, fresh}
+use Rattle.script_run.specs.Turn.{Turn}
+use Rattle.script_run.specs.Behind.{after_line, after_reading}
+use Rattle.script_run.specs.Takes.{IsRun, LineTakes, ReadingTakes, run_after}
+use Rattle.reader_laws.specs.Along.{AreOfSession, KeepsSession, OpenedAlong, begins_session}
+use Rattle.reader_laws.proofs.Standing.{Goes, begins, goes, stays, steps, waits}
+
+-- ---- the line that opened a put
+
+-- it is the first of these
+opened_here : (run : Run) (turn : Turn) (bytes : List ℕ) (lines : List (List ℕ)) (turns : List Turn) (who : Actor) (put : ℕ) (key : Key) (request response : List Field) (pin : ℕ) → AreOfSession lines
+    → IsAmong (rec.WriteOpened who put key request response pin) turn.added → OpenedAlong run (bytes ∷ lines) (turn ∷ turns) put key request response pin
+opened_here run turn bytes lines turns who put key request response pin same opened = record {
+  before = [];
+  earlier = [];
+  bytes = bytes;
+  turn = turn;
+  later = lines;
+  rest = turns;
+  lines_are = refl;
+  turns_are = refl;
+  legal = tt;
+  who = who;
+  opened = opened;
+  same_session = same;
+}
+
+-- or one behind it
+opened_later : (run : Run) (turn : Turn) (bytes : List ℕ) (lines : List (List ℕ)) (turns : List Turn) (put : ℕ) (key : Key) (request response : List Field) (pin : ℕ) → LineTakes run turn bytes
+    → OpenedAlong (after_line run turn bytes) lines turns put key request response pin → OpenedAlong run (bytes ∷ lines) (turn ∷ turns) put key request response pin
+opened_later run turn bytes lines turns put key request response pin takes o = record {
+  before = bytes ∷ o.before;
+  earlier = turn ∷ o.earlier;
+  bytes = o.bytes;
+  turn = o.turn;
+  later = o.later;
+  rest = o.rest;
+  lines_are = ap (λ (xs : List (List ℕ)). bytes ∷ xs) o.lines_are;
+  turns_are = ap (λ (xs : List Turn). turn ∷ xs) o.turns_are;
+  legal = (takes, o.legal);
+  who = o.who;
+  opened = o.opened;
+  same_session = o.same_session;
+}
+
+-- ---- what is said of each put, by its number, its key, its lines and its pin
+
+module _ (P : ℕ → Key → List Field → List Field → ℕ → Type 0) where
+  abbrev OfPut : PutRow → Type 0
+  OfPut w = P w.put w.key w.request w.response w.pin
+
+  abbrev OfRecord : Rec → Type 0
+  OfRecord (rec.WriteOpened who put key request response pin) = P put key request response pin
+  OfRecord _ = Unit {0}
+
+  changed_by : (f : PutRow → PutRow) → ((p : PutRow) → OfPut p → OfPut (f p)) → (p : PutRow) (b : Bool) → OfPut p → OfPut (if b then f p else p)
+  changed_by f keeps p true said = keeps p said
+  changed_by f keeps p false said = said
+
+  changed_puts : (put : ℕ) (f : PutRow → PutRow) → ((p : PutRow) → OfPut p → OfPut (f p)) → (puts : List PutRow) → AllByRecursion OfPut puts → AllByRecursion OfPut (change_put put f puts)
+  changed_puts put f keeps [] each = tt
+  changed_puts put f keeps (p ∷ puts) each = (changed_by f keeps p (p.put == put) each.0, changed_puts put f keeps puts each.1)
+
+  -- a record leaves it, where it is said of the put that it opens
+  record_puts : (s : State) (r : Rec) → AllByRecursion OfPut s.puts → OfRecord r → AllByRecursion OfPut (state_after s r).puts
+  record_puts s (rec.Formatted geometry) each said = tt
+  record_puts s (rec.Began cursor floor) each said = each
+  record_puts s (rec.Placed piece place blocks digest pin) each said = each
+  record_puts s (rec.Moved piece from place digest) each said = each
+  record_puts s (rec.Unsaved piece place fault) each said = each
+  record_puts s (rec.Displaced piece segment live) each said = each
+  record_puts s (rec.Damaged piece place kept found) each said = each
+  record_puts s (rec.WriteOpened who put key request response pin) each said = (said, each)
+  record_puts s (rec.Cut put index length digest) each said = changed_puts put (with_cut (made_row length digest.0)) (λ p h. h) s.puts each
+  record_puts s (rec.Committed put key length) each said = changed_puts put (with_writing Closed) (λ p h. h) s.puts each
+  record_puts s (rec.Aborted put key) each said = changed_puts put (with_writing GivenUp) (λ p h. h) s.puts each
+  record_puts s (rec.Removed put key) each said = each
+  record_puts s (rec.ReadOpened reader actor key request answer) each said = each
+  record_puts s (rec.Gave reader index length) each said = each
+  record_puts s (rec.Ended reader length) each said = each
+  record_puts s (rec.Waited reader cut) each said = each
+  record_puts s (rec.Broke reader why) each said = each
+  record_puts s (rec.ReadClosed reader) each said = each
+  record_puts s (rec.Fault count) each said = each
+
+  records_puts : (s : State) (recs : List Rec) → AllByRecursion OfPut s.puts → AllByRecursion OfRecord recs → AllByRecursion OfPut (after_all s recs).puts
+  records_puts s [] each said = each
+  records_puts s (r ∷ recs) each said = records_puts (state_after s r) recs (record_puts s r each said.0) said.1
+
+  -- it is said of each put that a record among these opens
+  abbrev IsSaid : List Rec → Type 0
+  IsSaid recs = (who : Actor) (put : ℕ) (key : Key) (request response : List Field) (pin : ℕ) → IsAmong (rec.WriteOpened who put key request response pin) recs → P put key request response pin
+
+  of_record : (r : Rec) → ((who : Actor) (put : ℕ) (key : Key) (request response : List Field) (pin : ℕ) → rec.WriteOpened who put key request response pin ≡ r → P put key request response pin) → OfRecord r
+  of_record (rec.Formatted geometry) said = tt
+  of_record (rec.Began cursor floor) said = tt
+  of_record (rec.Placed piece place blocks digest pin) said = tt
+  of_record (rec.Moved piece from place digest) said = tt
+  of_record (rec.Unsaved piece place fault) said = tt
+  of_record (rec.Displaced piece segment live) said = tt
+  of_record (rec.Damaged piece place kept found) said = tt
+  of_record (rec.WriteOpened who put key request response pin) said = said who put key request response pin refl
+  of_record (rec.Cut put index length digest) said = tt
+  of_record (rec.Committed put key length) said = tt
+  of_record (rec.Aborted put key) said = tt
+  of_record (rec.Removed put key) said = tt
+  of_record (rec.ReadOpened reader actor key request answer) said = tt
+  of_record (rec.Gave reader index length) said = tt
+  of_record (rec.Ended reader length) said = tt
+  of_record (rec.Waited reader cut) said = tt
+  of_record (rec.Broke reader why) said = tt
+  of_record (rec.ReadClosed reader) said = tt
+  of_record (rec.Fault count) said = tt
+
+  of_records : (recs : List Rec) → IsSaid recs → AllByRecursion OfRecord recs
+  of_records [] said = tt
+  of_records (r ∷ recs) said = (
+    of_record r (λ who put key request response pin same. said who put key request response pin (inl same)),
+    of_records recs (λ who put key request response pin among. said who put key request response pin (inr among)),
+  )
+
+  -- ---- lines
+
+  abbrev OfPuts : Option State → Type 0
+  OfPuts None = Unit {0}
+  OfPuts (Some s) = AllByRecursion OfPut s.puts
+
+  goes_puts : {run : Run} {turn : Turn} {o : Option State} {st : Step} {after : Run} → Goes run turn o st after → AllByRecursion OfRecord turn.added
+      → (begins_session st ≡ false → OfPuts o) → (begins_session st ≡ false → OfPuts run.state) → OfPuts after.state
+  goes_puts {turn = turn} (begins name g is) said h now = records_puts nothing_yet turn.added tt said
+  goes_puts (stays same) said h now = now same
+  goes_puts (waits at same) said h now = now same
+  goes_puts {turn = turn} (steps s same takes) said h now = records_puts s turn.added (h same) said
+
+  reading_puts : (run : Run) (turn : Turn) (l : LineAnswer) → ReadingTakes run turn l → AllByRecursion OfRecord turn.added → (KeepsSession l → OfPuts run.state) → OfPuts (after_reading run turn l).state
+  reading_puts run turn (line.Step st) takes said now = goes_puts (goes run turn run.state st takes) said now now
+  reading_puts run turn line.Nothing takes said now = now tt
+  reading_puts run turn (line.Bad fault) takes said now = absurd takes
+
+  lines_puts : (lines : List (List ℕ)) (turns : List Turn) (run : Run) → IsRun run lines turns → (AreOfSession lines → OfPuts run.state)
+      → ((put : ℕ) (key : Key) (request response : List Field) (pin : ℕ) → OpenedAlong run lines turns put key request response pin → P put key request response pin) → OfPuts (run_after run lines turns).state
+  lines_puts [] [] run takes now said = now tt
+  lines_puts [] (turn ∷ turns) run takes now said = absurd takes
+  lines_puts (bytes ∷ lines) [] run takes now said = absurd takes
+  lines_puts (bytes ∷ lines) (turn ∷ turns) run takes now said =
+      lines_puts lines turns (after_line run turn bytes) takes.1
+      (λ same.
+      reading_puts run turn (reading_of bytes) takes.0
+      (of_records turn.added (λ who put key request response pin among. said put key request response pin (opened_here run turn bytes lines turns who put key request response pin same among)))
+      (λ keeps. now (keeps, same)))
+      (λ put key request response pin o. said put key request response pin (opened_later run turn bytes lines turns put key request response pin takes.0 o))
+
+-- ---- a put that is found
+
+put_by : (P : PutRow → Type 0) (first w : PutRow) (rest : Option PutRow) (b : Bool) → P first → (rest ≡ Some w → P w) → cond b (Some first) rest ≡ Some w → P w
+put_by P first w rest true said others h = let same : first ≡ w = cc in subst P same said
+put_by P first w rest false said others h = others h
+
+found_put : (P : PutRow → Type 0) (test : PutRow → Bool) (puts : List PutRow) (w : PutRow) → AllByRecursion P puts → find test puts ≡ Some w → P w
+found_put P test [] w each h = none_is h
+found_put P test (first ∷ puts) w each h = put_by P first w (find test puts) (test first) each.0 (found_put P test puts w each.1) h
+
+-- behind a legal script a put of its session that passes a test was opened by a line of it
+pub found_opened : (lines : List (List ℕ)) (turns : List Turn) (s : State) (test : PutRow → Bool) (w : PutRow) → IsRun fresh lines turns → (run_after fresh lines turns).state ≡ Some s → find test s.puts ≡ Some w
+    → OpenedAlong fresh lines turns w.put w.key w.request w.response w.pin
+found_opened lines turns s test w legal state found =
+    let all = lines_puts (OpenedAlong fresh lines turns) lines turns fresh legal (λ same. tt) (λ put key request response pin o. o) in
+    let each : AllByRecursion (OfPut (OpenedAlong fresh lines turns)) s.puts = subst (OfPuts (OpenedAlong fresh lines turns)) state all in
+    found_put (OfPut (OpenedAlong fresh lines turns)) test s.puts w each found
+
+-- and so was that of a number
+pub put_opened : (lines : List (List ℕ)) (turns : List Turn) (s : State) (put : ℕ) (w : PutRow) → IsRun fresh lines turns → (run_after fresh lines turns).state ≡ Some s → put_of s put ≡ Some w
+    → OpenedAlong fresh lines turns put w.key w.request w.response w.pin
+put_opened lines turns s put w legal state found =
+    subst (λ n. OpenedAlong fresh lines turns n w.key w.request w.response w.pin) (number_of s put w found)
+    (found_opened lines turns s (λ (x : PutRow). x.put == put) w legal state found)
