@@ -29,11 +29,11 @@ use Rattle.cache_tool.specs.declared.run.Ending.{Ending}
 use Rattle.cache_tool.specs.declared.run.Ending.TheVariants as ending
 use Rattle.cache_tool.specs.declared.run.Halt.{Halt}
 use Rattle.cache_tool.specs.declared.run.Halt.TheVariants.{Stop, WriteFault, Memory}
-use Rattle.cache_tool.specs.Story.{Story, IsBehind, GoesOn, GaveBack, Owes, OwesOrGave, SendsFront, SendsAnswers, Shown, Counts, Because, IsTooLongAt, IsTooManyAt}
+use Rattle.cache_tool.specs.Story.{Story, output_before, IsBehind, GoesOn, GaveBack, Grows, Owes, OwesOrGave, SendsAll, SendsWhole, SendsFront, CutsLast, Shown, Counts, Because, IsTooLongAt, IsTooManyAt}
 use Rattle.cache_tool.specs.Ending.{Ends, IsOfRun}
 use Rattle.cache_tool.specs.Halt.{Written, Halts, ending_of, last_of}
 use Rattle.cache_tool.proofs.Stories.{step_more, step_owes, step_shows, IsNext-known, Deals-nothing, Deals-trans, Deals-settled}
-use Rattle.cache_tool.proofs.Halts.{Appends-kept, front_more, answers_of_all, answers_before, plays_reach}
+use Rattle.cache_tool.proofs.Halts.{Appends-kept, cuts_last, plays_reach}
 
 at_end : (given : ℕ) (unread unread' : Option (List ℕ)) → AnswersKnown given unread unread' (Ok None) → IsAtEnd unread
 at_end given None unread' known = tt
@@ -56,7 +56,7 @@ module _ (first taken_first taken : Option (List ℕ)) (ledger_first ledger : Le
   here = run_after fresh story.lines story.turns
 
   -- the story as it stands
-  still : (Text : List ℕ → Type 0) (Devices Behind : Run → Type 0) → Text (output_of fresh story.lines story.turns) → Devices here → Behind here → Story first unread given Text Devices Behind
+  still : (Text : (before all : List ℕ) → Type 0) (Devices Behind : Run → Type 0) → Text (output_before story.lines story.turns) (output_of fresh story.lines story.turns) → Devices here → Behind here → Story first unread given Text Devices Behind
   still Text Devices Behind text devices behind = record {
     lines = story.lines;
     turns = story.turns;
@@ -73,13 +73,13 @@ module _ (first taken_first taken : Option (List ℕ)) (ledger_first ledger : Le
 
   -- the script was read to its end
   pub done_ends : (unread' : Option (List ℕ)) (source sink bay : Counts) → AnswersKnown given unread unread' (Ok None) → Ends first taken_first taken source sink bay (Owes ledger_first ledger Reached) (OwesOrGave ledger_first ledger devices Reached) ending.Done
-  done_ends unread' source sink bay known = record { unread = unread; given = given; story = still (Appends taken_first taken) _ _ story.text owes (at_end given unread unread' known) }
+  done_ends unread' source sink bay known = record { unread = unread; given = given; story = still (SendsAll taken_first taken) _ _ story.text owes (at_end given unread unread' known) }
 
   pub memory_ends : (source sink bay : Counts) → Ends first taken_first taken source sink bay (Owes ledger_first ledger Reached) (OwesOrGave ledger_first ledger devices Reached) ending.OutOfMemory
-  memory_ends source sink bay = record { unread = unread; given = given; story = still (SendsAnswers taken_first taken) _ _ (answers_of_all taken_first taken _ story.text) (inl owes) tt }
+  memory_ends source sink bay = record { unread = unread; given = given; story = still (SendsWhole taken_first taken) _ _ (inl story.text) (inl owes) tt }
 
   stopped : (source sink bay : Counts) (why : LastLine) → Because source bay unread given here why → Ends first taken_first taken source sink bay (Owes ledger_first ledger Reached) (OwesOrGave ledger_first ledger devices Reached) (ending.Stopped why)
-  stopped source sink bay why because = record { unread = unread; given = given; story = still (Appends taken_first taken) _ _ story.text owes because }
+  stopped source sink bay why because = record { unread = unread; given = given; story = still (SendsAll taken_first taken) _ _ story.text owes because }
 
   -- the reader met a fault
   pub fault_ends : (unread' : Option (List ℕ)) (held : List ℕ) (source sink bay : Counts) (f : LineFault) → AnswersKnown given unread unread' (Err f) → FaultIs given held source.before source.now f
@@ -97,7 +97,7 @@ module _ (first taken_first taken : Option (List ℕ)) (ledger_first ledger : Le
 
     -- a step
     module _ {D R C : Type 0} (disk : DiskGhosts D) (directory : DirectoryGhosts R) (chronicle : ChronicleGhosts C) (step : Step) (asks : reading_of bytes ≡ line.Step step) (session : Session D R C)
-        (ledger' : Ledger) (taken' : Option (List ℕ)) where
+        (ledger' : Ledger) (taken' : Option (List ℕ)) (grows : Grows taken taken') where
       abbrev Now : Run → Type 0
       Now = λ run. Plays disk directory chronicle run session
 
@@ -107,24 +107,24 @@ module _ (first taken_first taken : Option (List ℕ)) (ledger_first ledger : Le
       abbrev Wanting : Run → Type 0
       Wanting = OwesOrGave ledger_first ledger' (devices_of session) Reaches
 
-      shown : StepShows here here.state step → Shown first
-      shown = step_shows first taken_first taken ledger_first ledger unread unread' given given' Plays' story bytes known counted step asks
+      shown : StepShows here here.state step → Shown first taken_first taken'
+      shown = step_shows first taken_first taken ledger_first ledger unread unread' given given' Plays' story bytes known counted taken' grows step asks
 
       done_goes : Written disk directory chronicle here step session ledger ledger' (Appends taken taken') → GoesOn first taken_first ledger_first unread' given' taken' ledger' Now
       done_goes w =
           step_more first taken_first taken ledger_first ledger unread unread' given given' Plays' story bytes known counted step asks w.done.moves.turn w.said w.done.moves.takes w.done.moves.says
-          w.done.harms w.done.ended w.done.names w.done.named ledger' w.done.deals (Appends taken_first taken') Now (λ out appends. Appends-trans taken_first taken taken' out _ appends w.text) w.done.moves.plays
+          w.done.harms w.done.ended w.done.names w.done.named ledger' w.done.deals (SendsAll taken_first taken') Now (λ out appends. Appends-trans taken_first taken taken' out _ appends w.text) w.done.moves.plays
 
       -- the run goes on behind it
       pub step_goes : Written disk directory chronicle here step session ledger ledger' (Appends taken taken') ⊎ StepShows here here.state step
-          → GoesOn first taken_first ledger_first unread' given' taken' ledger' Now ⊎ Shown first
+          → GoesOn first taken_first ledger_first unread' given' taken' ledger' Now ⊎ Shown first taken_first taken'
       step_goes (inl w) = inl (done_goes w)
       step_goes (inr shows) = inr (shown shows)
 
       -- or ends with it
       module _ (is : IsSession disk directory chronicle session) (source sink bay : Counts) where
-        written_ends : (Text Sent : List ℕ → Type 0) (Devices Behind : Run → Type 0) (w : Written disk directory chronicle here step session ledger ledger' Text)
-            → ((out : List ℕ) → Appends taken_first taken out → Sent (out ++ answer_line w.said)) → ((run : Run) → Owes ledger_first ledger' Reaches run → Devices run) → ((run : Run) → Behind run)
+        written_ends : (Text : List ℕ → Type 0) (Sent : (before all : List ℕ) → Type 0) (Devices Behind : Run → Type 0) (w : Written disk directory chronicle here step session ledger ledger' Text)
+            → ((out : List ℕ) → Appends taken_first taken out → Sent out (out ++ answer_line w.said)) → ((run : Run) → Owes ledger_first ledger' Reaches run → Devices run) → ((run : Run) → Behind run)
             → Story first unread' given' Sent Devices Behind
         written_ends Text Sent Devices Behind w sent owed behind =
             step_owes first taken_first taken ledger_first ledger unread unread' given given' Plays' story bytes known counted step asks w.done.moves.turn w.said w.done.moves.takes w.done.moves.says
@@ -135,7 +135,7 @@ module _ (first taken_first taken : Option (List ℕ)) (ledger_first ledger : Le
         halted why by other (stays reached same) keeps because = record {
           unread = unread;
           given = given;
-          story = still (Appends taken_first taken') _ _ (Appends-kept taken_first taken taken' _ story.text keeps) (record { deals = rw same story.devices; reached = reached }) because;
+          story = still (SendsAll taken_first taken') _ _ (Appends-kept taken_first taken taken' _ story.text keeps) (record { deals = rw same story.devices; reached = reached }) because;
         }
         halted why by other (ended name none deals wanting) keeps because = absurd (other wanting)
 
@@ -159,23 +159,23 @@ module _ (first taken_first taken : Option (List ℕ)) (ledger_first ledger : Le
         halt_ends (Stop stop.Memory) h = record {
           unread = unread;
           given = given;
-          story = still (SendsAnswers taken_first taken') _ _ (answers_of_all taken_first taken' _ (Appends-kept taken_first taken taken' _ story.text h.1)) (wants h.0) tt;
+          story = still (SendsWhole taken_first taken') _ _ (inl (Appends-kept taken_first taken taken' _ story.text h.1)) (wants h.0) tt;
         }
         halt_ends WriteFault h = record {
           unread = unread';
           given = given';
-          story = written_ends (SendsFront taken taken') (SendsFront taken_first taken') (Owes ledger_first ledger' Reaches) (λ run. Rose sink.before sink.now) h.0
-              (λ out appends. front_more taken_first taken taken' out _ appends h.0.text) (λ run owes. owes) (λ run. h.1);
+          story = written_ends (SendsFront taken taken' []) (CutsLast taken_first taken') (Owes ledger_first ledger' Reaches) (λ run. Rose sink.before sink.now) h.0
+              (λ out appends. cuts_last taken_first taken taken' out h.0.said appends h.0.text) (λ run owes. owes) (λ run. h.1);
         }
         halt_ends Memory h = record {
           unread = unread';
           given = given';
-          story = written_ends (λ text. Keeps taken taken') (SendsAnswers taken_first taken') Wanting (λ run. Unit) h
-              (λ out appends. answers_before taken_first taken taken' out h.said appends h.text) (λ run owes. inl owes) (λ run. tt);
+          story = written_ends (λ text. Keeps taken taken') (SendsWhole taken_first taken') Wanting (λ run. Unit) h
+              (λ out appends. inr (Appends-kept taken_first taken taken' out appends h.text)) (λ run owes. inl owes) (λ run. tt);
         }
 
         pub step_ends : (halt : Halt) → Halts disk directory chronicle here step session ledger ledger' taken taken' sink bay halt ⊎ StepShows here here.state step
-            → Ends first taken_first taken' source sink bay (Owes ledger_first ledger' Reaches) Wanting (ending_of given' halt) ⊎ Shown first
+            → Ends first taken_first taken' source sink bay (Owes ledger_first ledger' Reaches) Wanting (ending_of given' halt) ⊎ Shown first taken_first taken'
         step_ends halt (inl h) = inl (halt_ends halt h)
         step_ends halt (inr shows) = inr (shown shows)
 
@@ -211,7 +211,7 @@ module _ (source source' sink sink' bay bay' : Counts) (source_from : source'.be
   because_earlier unread given run last.TooManyLines b = b
   because_earlier unread given run (last.NoCache number) b = b
 
-  story_with : (first unread : Option (List ℕ)) (given : ℕ) (Text : List ℕ → Type 0) (Devices Behind Behind' : Run → Type 0) → ((run : Run) → Behind run → Behind' run) → Story first unread given Text Devices Behind → Story first unread given Text Devices Behind'
+  story_with : (first unread : Option (List ℕ)) (given : ℕ) (Text : (before all : List ℕ) → Type 0) (Devices Behind Behind' : Run → Type 0) → ((run : Run) → Behind run → Behind' run) → Story first unread given Text Devices Behind → Story first unread given Text Devices Behind'
   story_with first unread given Text Devices Behind Behind' f s = record {
     lines = s.lines;
     turns = s.turns;
@@ -225,8 +225,8 @@ module _ (source source' sink sink' bay bay' : Counts) (source_from : source'.be
 
   pub Ends-earlier : (first old new : Option (List ℕ)) (Devices Wanting : Run → Type 0) (e : Ending) → Ends first old new source sink bay Devices Wanting e → Ends first old new source' sink' bay' Devices Wanting e
   Ends-earlier first old new Devices Wanting ending.Done h = h
-  Ends-earlier first old new Devices Wanting (ending.Stopped why) h = record { unread = h.unread; given = h.given; story = story_with first h.unread h.given (Appends old new) Devices _ _ (λ run b. because_earlier h.unread h.given run why b) h.story }
-  Ends-earlier first old new Devices Wanting ending.WriteFault h = record { unread = h.unread; given = h.given; story = story_with first h.unread h.given (SendsFront old new) Devices _ _ (λ run b. rose_in sink sink' sink_from sink_to b) h.story }
+  Ends-earlier first old new Devices Wanting (ending.Stopped why) h = record { unread = h.unread; given = h.given; story = story_with first h.unread h.given (SendsAll old new) Devices _ _ (λ run b. because_earlier h.unread h.given run why b) h.story }
+  Ends-earlier first old new Devices Wanting ending.WriteFault h = record { unread = h.unread; given = h.given; story = story_with first h.unread h.given (CutsLast old new) Devices _ _ (λ run b. rose_in sink sink' sink_from sink_to b) h.story }
   Ends-earlier first old new Devices Wanting ending.OutOfMemory h = h
 
 -- ---- before the first line
@@ -250,7 +250,7 @@ begins unread taken ledger given Plays' none plays = record {
 -- ---- once the run has ended
 
 module _ (source sink bay : Counts) (first old new : Option (List ℕ)) (Devices Devices' Wanting Wanting' : Run → Type 0) (settle : (run : Run) → Devices run → Devices' run) (settle_wanting : (run : Run) → Wanting run → Wanting' run) where
-  settled : (unread : Option (List ℕ)) (given : ℕ) (Text : List ℕ → Type 0) (From To Behind : Run → Type 0) → ((run : Run) → From run → To run) → Story first unread given Text From Behind → Story first unread given Text To Behind
+  settled : (unread : Option (List ℕ)) (given : ℕ) (Text : (before all : List ℕ) → Type 0) (From To Behind : Run → Type 0) → ((run : Run) → From run → To run) → Story first unread given Text From Behind → Story first unread given Text To Behind
   settled unread given Text From To Behind f s = record {
     lines = s.lines;
     turns = s.turns;
@@ -263,10 +263,10 @@ module _ (source sink bay : Counts) (first old new : Option (List ℕ)) (Devices
   }
 
   pub Ends-settled : (e : Ending) → Ends first old new source sink bay Devices Wanting e → Ends first old new source sink bay Devices' Wanting' e
-  Ends-settled ending.Done h = record { unread = h.unread; given = h.given; story = settled h.unread h.given (Appends old new) Devices Devices' _ settle h.story }
-  Ends-settled (ending.Stopped why) h = record { unread = h.unread; given = h.given; story = settled h.unread h.given (Appends old new) Devices Devices' _ settle h.story }
-  Ends-settled ending.WriteFault h = record { unread = h.unread; given = h.given; story = settled h.unread h.given (SendsFront old new) Devices Devices' _ settle h.story }
-  Ends-settled ending.OutOfMemory h = record { unread = h.unread; given = h.given; story = settled h.unread h.given (SendsAnswers old new) Wanting Wanting' _ settle_wanting h.story }
+  Ends-settled ending.Done h = record { unread = h.unread; given = h.given; story = settled h.unread h.given (SendsAll old new) Devices Devices' _ settle h.story }
+  Ends-settled (ending.Stopped why) h = record { unread = h.unread; given = h.given; story = settled h.unread h.given (SendsAll old new) Devices Devices' _ settle h.story }
+  Ends-settled ending.WriteFault h = record { unread = h.unread; given = h.given; story = settled h.unread h.given (CutsLast old new) Devices Devices' _ settle h.story }
+  Ends-settled ending.OutOfMemory h = record { unread = h.unread; given = h.given; story = settled h.unread h.given (SendsWhole old new) Wanting Wanting' _ settle_wanting h.story }
 
 -- nothing was read for want of memory
 pub nothing_ends : (unread taken : Option (List ℕ)) (Devices Wanting : Run → Type 0) → Wanting fresh → (source sink bay : Counts)
@@ -280,7 +280,7 @@ nothing_ends unread taken Devices Wanting back source sink bay = record {
     taken = nothing_behind unread;
     counted = refl;
     legal = tt;
-    text = answers_of_all taken taken [] (Appends-nil taken);
+    text = inl (Appends-nil taken);
     devices = back;
     behind = tt;
   };

@@ -1,8 +1,8 @@
 -- How a step that is not answered ends a run.
-use Rattle.std.proofs.Common.{ℕ, List, ◌++◌, Option, Some, None, Result, Ok, Err, refl, sym, ◌∙◌, ap, append-nil, append_assoc, inl, inr, ◌⊎◌}
+use Rattle.std.proofs.Common.{ℕ, List, [], ◌++◌, Option, Some, None, Result, Ok, Err, refl, ◌∙◌, inl, inr, ◌⊎◌}
 use Rattle.std.specs.Prelude.{OnOk, IfOk, IfErr}
 use Rattle.std.specs.Io.KnownBytes.{Appends, Keeps}
-use Rattle.std.proofs.KnownBytes.{Appends-trans}
+use Rattle.std.proofs.KnownBytes.{Appends-trans, Appends-nil}
 use Rattle.ats_disk.specs.declared.device.Disk.{Ghosts as DiskGhosts}
 use Rattle.dir_table.specs.declared.directory.Directory.{Ghosts as DirectoryGhosts}
 use Rattle.cache_chronicle.specs.declared.chronicle.Chronicle.{Ghosts as ChronicleGhosts}
@@ -16,7 +16,7 @@ use Rattle.cache_replay.specs.Plays.{DeviceMoves, HasReached, Ledger, Plays}
 use Rattle.cache_replay.proofs.Unharming.{plays_reached}
 use Rattle.cache_tool.specs.declared.run.Halt.{Halt}
 use Rattle.cache_tool.specs.declared.run.Halt.TheVariants.{Stop, WriteFault, Memory}
-use Rattle.cache_tool.specs.Story.{SendsFront, SendsAnswers, Counts}
+use Rattle.cache_tool.specs.Story.{SendsFront, CutsLast, Grows, Counts}
 use Rattle.cache_tool.specs.Halt.{Halts, IsUnwritten}
 
 pub OnOk-map : {T E : Type 0} (r : Result T E) (P Q : Type 0) → (P → Q) → OnOk r P → OnOk r Q
@@ -39,9 +39,9 @@ pub either-both : {A B S T : Type 0} → (A → B) → (S → T) → A ⊎ S →
 either-both f g (inl a) = inl (f a)
 either-both f g (inr s) = inr (g s)
 
-pub either-then : {A B S : Type 0} → (A → B ⊎ S) → A ⊎ S → B ⊎ S
-either-then f (inl a) = f a
-either-then f (inr s) = inr s
+pub either-then : {A B S T : Type 0} → (A → B ⊎ T) → (S → T) → A ⊎ S → B ⊎ T
+either-then f g (inl a) = f a
+either-then f g (inr s) = inr (g s)
 
 module _ {D R C : Type 0} (disk : DiskGhosts D) (directory : DirectoryGhosts R) (chronicle : ChronicleGhosts C) where
   pub unwritten_halts : (run : Run) (step : Step) (session : Session D R C) (said : StepAnswer) (before now : Ledger) (old new : Option (List ℕ)) (sink bay : Counts)
@@ -63,16 +63,25 @@ Appends-kept (Some x) None c bs p q = absurd p
 Appends-kept (Some x) (Some y) None bs p q = absurd q
 Appends-kept (Some x) (Some y) (Some z) bs p q = q ∙ p
 
-pub front_more : (a b c : Option (List ℕ)) (bs text : List ℕ) → Appends a b bs → SendsFront b c text → SendsFront a c (bs ++ text)
-front_more a b c bs text p q = record {
-  front = bs ++ q.front;
-  rest = q.rest;
-  split = ap (λ t. bs ++ t) q.split ∙ sym (append_assoc bs q.front q.rest);
-  appends = Appends-trans a b c bs q.front p q.appends;
-}
+pub front_more : (a b c : Option (List ℕ)) (bs text : List ℕ) → Appends a b bs → SendsFront b c [] text → SendsFront a c bs text
+front_more a b c bs text p q = record { front = q.front; rest = q.rest; split = q.split; appends = Appends-trans a b c bs q.front p q.appends }
 
-pub answers_of_all : (a b : Option (List ℕ)) (bs : List ℕ) → Appends a b bs → SendsAnswers a b bs
-answers_of_all a b bs h = record { sent = bs; unsent = None; split = sym (append-nil bs); appends = h }
+pub cuts_last : (a b c : Option (List ℕ)) (bs : List ℕ) (said : StepAnswer) → Appends a b bs → SendsFront b c [] (answer_line said) → CutsLast a c bs (bs ++ answer_line said)
+cuts_last a b c bs said p q = record { said = said; split = refl; cut = front_more a b c bs (answer_line said) p q }
 
-pub answers_before : (a b c : Option (List ℕ)) (bs : List ℕ) (said : StepAnswer) → Appends a b bs → Keeps b c → SendsAnswers a c (bs ++ answer_line said)
-answers_before a b c bs said p q = record { sent = bs; unsent = Some said; split = refl; appends = Appends-kept a b c bs p q }
+-- ---- a sink only grows
+
+pub grows_nothing : (a : Option (List ℕ)) → Grows a a
+grows_nothing a = ([], Appends-nil a)
+
+pub Keeps-grows : (a b : Option (List ℕ)) → Keeps a b → Grows a b
+Keeps-grows a b h = ([], Appends-kept a a b [] (Appends-nil a) h)
+
+unwritten_grows : (a b : Option (List ℕ)) (before now : ℕ) (text : List ℕ) (halt : Halt) → IsUnwritten a b before now text halt → Grows a b
+unwritten_grows a b before now text WriteFault h = (h.0.front, h.0.appends)
+unwritten_grows a b before now text Memory h = Keeps-grows a b h
+unwritten_grows a b before now text (Stop why) h = absurd h
+
+pub answer_grows : {T : Type 0} (a b : Option (List ℕ)) (before now : ℕ) (text : List ℕ) (r : Result T Halt) → OnOk r (Appends a b text) → IfErr r (IsUnwritten a b before now text) → Grows a b
+answer_grows a b before now text (Ok x) written failed = (text, written)
+answer_grows a b before now text (Err halt) written failed = unwritten_grows a b before now text halt failed

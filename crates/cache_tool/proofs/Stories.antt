@@ -1,6 +1,7 @@
 -- What a line makes of the story of a run.
 use Rattle.std.proofs.Common.{◌≡◌, ℕ, ◌+◌, ◌≤◌, List, [], ◌∷◌, ◌++◌, length, Option, Some, None, Ok, refl, sym, ◌∙◌, ap, subst, append_assoc, append-nil, arith, length-append}
 use Rattle.std.specs.Io.KnownBytes.{Appends}
+use Rattle.std.proofs.KnownBytes.{Appends-trans}
 use Rattle.edge_io.specs.declared.reader.TheConstants.{MAX_LINE_BYTES}
 use Rattle.edge_io.specs.Lines.{lines_of}
 use Rattle.edge_io.specs.LineReader.{AnswersKnown}
@@ -14,10 +15,10 @@ use Rattle.script_run.specs.Run.{Harm, Run, fresh}
 use Rattle.script_run.specs.Turn.{Turn, no_turn}
 use Rattle.script_run.specs.Answers.{step_answer}
 use Rattle.script_run.specs.Behind.{after_line, after_step}
-use Rattle.script_run.specs.Takes.{LineTakes, StepTakes, StepShows, line_text, run_after}
+use Rattle.script_run.specs.Takes.{LineTakes, StepTakes, StepShows, line_text, run_after, output_of}
 use Rattle.cache_replay.specs.Plays.{ComeBack, Ledger, Deals}
-use Rattle.cache_tool.specs.Story.{Story, AreShort, IsBehind, IsNext, GoesOn, Owes, Shown}
-use Rattle.cache_tool.proofs.Runs.{IsRun-more, run_after-more, output_of-more, AreReached-append}
+use Rattle.cache_tool.specs.Story.{Story, AreShort, IsBehind, IsNext, GoesOn, Grows, Owes, SendsAll, Shown}
+use Rattle.cache_tool.proofs.Runs.{IsRun-more, run_after-more, output_of-more, output_before-more, AreReached-append}
 
 -- ---- the bytes of a line
 
@@ -73,8 +74,8 @@ module _ (first taken_first taken : Option (List ℕ)) (ledger_first ledger : Le
   abbrev here : Run
   here = run_after fresh story.lines story.turns
 
-  pub line_more : (turn : Turn) (Text : List ℕ → Type 0) (Devices Behind : Run → Type 0) → LineTakes here turn bytes
-      → ((out : List ℕ) → Appends taken_first taken out → Text (out ++ line_text here turn bytes))
+  pub line_more : (turn : Turn) (Text : (before all : List ℕ) → Type 0) (Devices Behind : Run → Type 0) → LineTakes here turn bytes
+      → ((out : List ℕ) → Appends taken_first taken out → Text out (out ++ line_text here turn bytes))
       → Devices (after_line here turn bytes) → Behind (after_line here turn bytes) → Story first unread' given' Text Devices Behind
   line_more turn Text Devices Behind takes text devices behind = record {
     lines = story.lines ++ bytes ∷ [];
@@ -82,7 +83,8 @@ module _ (first taken_first taken : Option (List ℕ)) (ledger_first ledger : Le
     taken = IsBehind-more first story.lines given unread unread' bytes story.counted story.taken known;
     counted = counted ∙ ap (λ n. n + 1) story.counted ∙ sym (length-append story.lines (bytes ∷ []));
     legal = IsRun-more bytes turn fresh story.lines story.turns story.legal takes;
-    text = subst Text (sym (output_of-more bytes turn fresh story.lines story.turns story.legal)) (text _ story.text);
+    text = subst (λ (before : List ℕ). Text before (output_of fresh (story.lines ++ bytes ∷ []) (story.turns ++ turn ∷ []))) (sym (output_before-more bytes turn story.lines story.turns story.legal))
+        (subst (Text (output_of fresh story.lines story.turns)) (sym (output_of-more bytes turn fresh story.lines story.turns story.legal)) (text _ story.text));
     devices = subst Devices (sym (run_after-more bytes turn fresh story.lines story.turns story.legal)) devices;
     behind = subst Behind (sym (run_after-more bytes turn fresh story.lines story.turns story.legal)) behind;
   }
@@ -90,7 +92,7 @@ module _ (first taken_first taken : Option (List ℕ)) (ledger_first ledger : Le
   -- an empty line or a comment
   pub passed_more : reading_of bytes ≡ line.Nothing → GoesOn first taken_first ledger_first unread' given' taken ledger Plays
   passed_more e =
-      line_more no_turn (Appends taken_first taken) (λ run. Deals ledger_first ledger run.ended run.names) Plays
+      line_more no_turn (SendsAll taken_first taken) (λ run. Deals ledger_first ledger run.ended run.names) Plays
       (rw e refl) (λ out appends. rw e (rw append-nil appends)) (rw e story.devices) (rw e story.behind)
 
   -- a step, whose answer was written as far as this
@@ -100,21 +102,21 @@ module _ (first taken_first taken : Option (List ℕ)) (ledger_first ledger : Le
     deals_all : Deals ledger_first ledger' (after_step here turn step).ended (after_step here turn step).names
     deals_all = rw (ended, named) (Deals-trans ledger_first ledger ledger' here.ended harms here.names names story.devices deals)
 
-    pub step_more : (Text : List ℕ → Type 0) (Plays' : Run → Type 0) → ((out : List ℕ) → Appends taken_first taken out → Text (out ++ answer_line said))
+    pub step_more : (Text : (before all : List ℕ) → Type 0) (Plays' : Run → Type 0) → ((out : List ℕ) → Appends taken_first taken out → Text out (out ++ answer_line said))
         → Plays' (after_step here turn step) → Story first unread' given' Text (λ run. Deals ledger_first ledger' run.ended run.names) Plays'
     step_more Text Plays' text plays =
         line_more turn Text (λ run. Deals ledger_first ledger' run.ended run.names) Plays' (rw asks takes)
         (λ out appends. rw (asks, says) (text out appends)) (rw asks deals_all) (rw asks plays)
 
-    pub step_owes : (Text : List ℕ → Type 0) (Reached Devices Behind : Run → Type 0) → ((out : List ℕ) → Appends taken_first taken out → Text (out ++ answer_line said))
+    pub step_owes : (Text : (before all : List ℕ) → Type 0) (Reached Devices Behind : Run → Type 0) → ((out : List ℕ) → Appends taken_first taken out → Text out (out ++ answer_line said))
         → Reached (after_step here turn step) → ((run : Run) → Owes ledger_first ledger' Reached run → Devices run) → Behind (after_step here turn step) → Story first unread' given' Text Devices Behind
     step_owes Text Reached Devices Behind text reached owed behind =
         line_more turn Text Devices Behind (rw asks takes)
         (λ out appends. rw (asks, says) (text out appends)) (rw asks (owed (after_step here turn step) (record { deals = deals_all; reached = reached }))) (rw asks behind)
 
   -- a step that shows two documents of one SHA-256
-  pub step_shows : (step : Step) → reading_of bytes ≡ line.Step step → StepShows here here.state step → Shown first
-  step_shows step asks shows = record {
+  pub step_shows : (taken' : Option (List ℕ)) → Grows taken taken' → (step : Step) → reading_of bytes ≡ line.Step step → StepShows here here.state step → Shown first taken_first taken'
+  step_shows taken' grows step asks shows = record {
     unread = unread;
     given = given;
     lines = story.lines;
@@ -122,7 +124,24 @@ module _ (first taken_first taken : Option (List ℕ)) (ledger_first ledger : Le
     taken = story.taken;
     counted = story.counted;
     legal = story.legal;
+    sent = (grows.0, Appends-trans taken_first taken taken' _ grows.0 story.text grows.1);
     bytes = bytes;
     next = IsNext-known given unread unread' bytes known;
     shows = rw asks shows;
   }
+
+-- what went out stays in front of what goes out later
+pub shown_later : (first old mid new : Option (List ℕ)) → Grows mid new → Shown first old mid → Shown first old new
+shown_later first old mid new grows s = record {
+  unread = s.unread;
+  given = s.given;
+  lines = s.lines;
+  turns = s.turns;
+  taken = s.taken;
+  counted = s.counted;
+  legal = s.legal;
+  sent = (s.sent.0 ++ grows.0, rw append_assoc at (Appends-trans old mid new _ grows.0 s.sent.1 grows.1));
+  bytes = s.bytes;
+  next = s.next;
+  shows = s.shows;
+}

@@ -1,5 +1,5 @@
 -- What a step of a run does to its session and its sink, and why it may end the run.
-use Rattle.std.specs.Prelude.{ℕ, List, Option}
+use Rattle.std.specs.Prelude.{ℕ, List, [], Option}
 use Rattle.std.specs.Io.KnownBytes.{Keeps}
 use Rattle.edge_io.specs.Causes.{Rose}
 use Rattle.edge_io.specs.declared.reader.LineFault.{LineFault}
@@ -34,7 +34,7 @@ module _ {D R C : Type 0} (disk : DiskGhosts D) (directory : DirectoryGhosts R) 
   abbrev pub Halts : Run → Step → Session D R C → (before now : Ledger) → (old new : Option (List ℕ)) → (sink bay : Counts) → Halt → Type 0
   Halts run step session before now old new sink bay (Stop why) =
       IsLeft disk directory chronicle run session before now why × Keeps old new × StopsStep run step bay.before bay.now why
-  Halts run step session before now old new sink bay WriteFault = Written run step session before now (SendsFront old new) × Rose sink.before sink.now
+  Halts run step session before now old new sink bay WriteFault = Written run step session before now (SendsFront old new []) × Rose sink.before sink.now
   Halts run step session before now old new sink bay Memory = Written run step session before now (λ text. Keeps old new)
 
 -- how the run then ends, at this line
@@ -53,6 +53,6 @@ last_of (fault.ReadFault count) = last.ReadFault
 
 -- why an answer was not written
 abbrev pub IsUnwritten : (old new : Option (List ℕ)) → (before now : ℕ) → List ℕ → Halt → Type 0
-IsUnwritten old new before now text WriteFault = SendsFront old new text × Rose before now
+IsUnwritten old new before now text WriteFault = SendsFront old new [] text × Rose before now
 IsUnwritten old new before now text Memory = Keeps old new
 IsUnwritten old new before now text (Stop why) = ⊥

@@ -1,5 +1,5 @@
 -- How far a run has come, and how it may end.
-use Rattle.std.specs.Prelude.{◌≡◌, ℕ, ◌+◌, ◌≤◌, ◌⊎◌, List, [], ◌∷◌, ◌++◌, length, Option, Some, None, ⊤}
+use Rattle.std.specs.Prelude.{◌≡◌, ℕ, ◌+◌, ◌-◌, ◌≤◌, ◌⊎◌, List, [], ◌∷◌, ◌++◌, length, take, Option, Some, None, ⊤}
 use Rattle.std.specs.Io.KnownBytes.{Appends}
 use Rattle.edge_io.specs.Causes.{Rose}
 use Rattle.edge_io.specs.declared.reader.TheConstants.{MAX_LINE_BYTES, MAX_LINES}
@@ -35,14 +35,19 @@ IsBehind None lines now = ⊤
 IsBehind (Some first) lines None = ⊥
 IsBehind (Some first) lines (Some now) = Taken first lines now
 
--- Lines were taken, each did what it must, and what their answers, their devices and the run behind them keep.
-pub record Story (first now : Option (List ℕ)) (given : ℕ) (Text : List ℕ → Type 0) (Devices Behind : Run → Type 0) : Type 0 where
+-- the answers of these lines but the last
+abbrev pub output_before : List (List ℕ) → List Turn → List ℕ
+output_before lines turns = output_of fresh (take (length lines - 1) lines) turns
+
+-- Lines were taken, each did what it must, and what their answers (those of all but the last, and of all), their devices
+-- and the run behind them keep.
+pub record Story (first now : Option (List ℕ)) (given : ℕ) (Text : (before all : List ℕ) → Type 0) (Devices Behind : Run → Type 0) : Type 0 where
   pub lines : List (List ℕ)
   pub turns : List Turn
   pub taken : IsBehind first lines now
   pub counted : given ≡ length lines
   pub legal : IsRun fresh lines turns
-  pub text : Text (output_of fresh lines turns)
+  pub text : Text (output_before lines turns) (output_of fresh lines turns)
   pub devices : Devices (run_after fresh lines turns)
   pub behind : Behind (run_after fresh lines turns)
 
@@ -103,34 +108,40 @@ Because source bay unread given run (last.LineTooLong number) = (number ≡ give
 Because source bay unread given run last.TooManyLines = IsTooManyAt given unread
 Because source bay unread given run (last.NoCache number) = (number ≡ given + 1) × LacksCache run given unread
 
--- what became of the text of one answer, or of none
-abbrev pub text_of : Option StepAnswer → List ℕ
-text_of None = []
-text_of (Some said) = answer_line said
+-- the answers of all lines went out
+abbrev pub SendsAll : (old new : Option (List ℕ)) → (before all : List ℕ) → Type 0
+SendsAll old new before all = Appends old new all
 
--- whole answers went out: all of these, or all but the last
-pub record SendsAnswers (old new : Option (List ℕ)) (text : List ℕ) : Type 0 where
-  pub sent : List ℕ
-  pub unsent : Option StepAnswer
-  pub split : text ≡ sent ++ text_of unsent
-  pub appends : Appends old new sent
+-- whole answers went out: those of all lines, or of all but the last
+abbrev pub SendsWhole : (old new : Option (List ℕ)) → (before all : List ℕ) → Type 0
+SendsWhole old new before all = Appends old new all ⊎ Appends old new before
 
--- a front of these bytes went out
-pub record SendsFront (old new : Option (List ℕ)) (text : List ℕ) : Type 0 where
+-- these bytes went out, and behind them a front of a text
+pub record SendsFront (old new : Option (List ℕ)) (before text : List ℕ) : Type 0 where
   pub front : List ℕ
   pub rest : List ℕ
   pub split : text ≡ front ++ rest
-  pub appends : Appends old new front
+  pub appends : Appends old new (before ++ front)
+
+-- the answers of all lines but the last went out, and behind them a front of that of the last
+pub record CutsLast (old new : Option (List ℕ)) (before all : List ℕ) : Type 0 where
+  pub said : StepAnswer
+  pub split : all ≡ before ++ answer_line said
+  pub cut : SendsFront old new before (answer_line said)
+
+-- what went out before stays in front, where the sink tells it
+abbrev pub Grows : Option (List ℕ) → Option (List ℕ) → Type 0
+Grows old new = (more : List ℕ) × Appends old new more
 
 -- ---- between two lines
 
 -- the run goes on: it attached the devices of its lines, those that it ended came back, and the session plays the run
 abbrev pub GoesOn : (first taken_first : Option (List ℕ)) → Ledger → (unread : Option (List ℕ)) → ℕ → (taken : Option (List ℕ)) → Ledger → (Run → Type 0) → Type 0
 GoesOn first taken_first ledger_first unread given taken ledger Plays =
-    Story first unread given (Appends taken_first taken) (λ run. Deals ledger_first ledger run.ended run.names) Plays
+    Story first unread given (SendsAll taken_first taken) (λ run. Deals ledger_first ledger run.ended run.names) Plays
 
--- behind lines that did what they must, the next one shows two documents of one SHA-256
-pub record Shown (first : Option (List ℕ)) : Type 0 where
+-- behind lines that did what they must, and whose answers went out first, the next one shows two documents of one SHA-256
+pub record Shown (first old new : Option (List ℕ)) : Type 0 where
   pub unread : Option (List ℕ)
   pub given : ℕ
   pub lines : List (List ℕ)
@@ -138,6 +149,7 @@ pub record Shown (first : Option (List ℕ)) : Type 0 where
   pub taken : IsBehind first lines unread
   pub counted : given ≡ length lines
   pub legal : IsRun fresh lines turns
+  pub sent : (more : List ℕ) × Appends old new (output_of fresh lines turns ++ more)
   pub bytes : List ℕ
   pub next : IsNext given unread bytes
   pub shows : LineShows (run_after fresh lines turns) bytes

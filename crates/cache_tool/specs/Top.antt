@@ -11,7 +11,7 @@ use Rattle.script_run.specs.Behind.{harms_of}
 use Rattle.cache_replay.specs.Plays.{Ledger, Deals}
 use Rattle.cache_tool.specs.declared.top.Status.{Status}
 use Rattle.cache_tool.specs.declared.top.Status.TheVariants as status
-use Rattle.cache_tool.specs.Story.{Because, Counts, SendsFront, SendsAnswers, Shown, GaveBack}
+use Rattle.cache_tool.specs.Story.{Because, Counts, SendsAll, SendsWhole, SendsFront, CutsLast, Shown, GaveBack}
 use Rattle.cache_tool.specs.Ending.{StoryUpTo}
 
 -- the one word `replay`
@@ -42,15 +42,8 @@ exit_code status.OutOfMemory = 9
 exit_code status.TooManyLines = 10
 
 -- The last line went out behind these bytes, or the sink's count rose and a front of that line did.
-pub record CutOff (old new : Option (List ℕ)) (sink : Counts) (before text : List ℕ) : Type 0 where
-  pub rose : Rose sink.before sink.now
-  pub front : List ℕ
-  pub rest : List ℕ
-  pub split : text ≡ front ++ rest
-  pub appends : Appends old new (before ++ front)
-
 abbrev pub WentOut : Option (List ℕ) → Option (List ℕ) → Counts → (before text : List ℕ) → Type 0
-WentOut old new sink before text = Appends old new (before ++ text) ⊎ CutOff old new sink before text
+WentOut old new sink before text = Appends old new (before ++ text) ⊎ (Rose sink.before sink.now × SendsFront old new before text)
 
 -- the devices that were attached have the names of the lines that asked for them, in order, and each came back, in that
 -- order, with a count that none told exceeds; of one that told its content to the end no piece was told as damaged
@@ -80,19 +73,20 @@ DevicesWanting faultless before now = Settles faultless (EachBackOrMore before n
 pub record EndsEarly (first old new : Option (List ℕ)) (source sink bay : Counts) (faultless : Bool) (before now : Ledger) (s : Status) : Type 0 where
   pub why : LastLine
   pub said : s ≡ status_of why
-  pub upto : StoryUpTo first (λ out. WentOut old new sink out (last_line why)) (DevicesBack faultless before now) (λ unread given run. Because source bay unread given run why)
+  pub upto : StoryUpTo first (λ _ all. WentOut old new sink all (last_line why)) (DevicesBack faultless before now) (λ unread given run. Because source bay unread given run why)
 
 -- What each status says. Done: the script was read to its end, and the output is the answers of all its lines. Usage: the
--- last line alone went out. WriteFault: the sink's count rose, and a front of the answers went out. OutOfMemory: whole
--- answers went out, of all lines that were taken or of all but the last. The others name the cause that ended the run.
+-- last line alone went out. WriteFault: the sink's count rose, and no line was taken behind the one whose answer was cut.
+-- OutOfMemory: whole answers went out, of all lines that were taken or of all but the last. The others name the cause that
+-- ended the run.
 abbrev pub Concludes : (first old new : Option (List ℕ)) → (source sink bay : Counts) → (faultless : Bool) → (before now : Ledger) → Status → Type 0
-Concludes first old new source sink bay faultless before now status.Done = StoryUpTo first (Appends old new) (DevicesBack faultless before now) (λ unread given run. IsAtEnd unread)
+Concludes first old new source sink bay faultless before now status.Done = StoryUpTo first (SendsAll old new) (DevicesBack faultless before now) (λ unread given run. IsAtEnd unread)
 Concludes first old new source sink bay faultless before now status.Usage = WentOut old new sink [] (last_line last.Usage) × (now ≡ before)
-Concludes first old new source sink bay faultless before now status.WriteFault = StoryUpTo first (SendsFront old new) (DevicesBack faultless before now) (λ unread given run. Rose sink.before sink.now)
-Concludes first old new source sink bay faultless before now status.OutOfMemory = StoryUpTo first (SendsAnswers old new) (DevicesWanting faultless before now) (λ unread given run. ⊤)
+Concludes first old new source sink bay faultless before now status.WriteFault = StoryUpTo first (CutsLast old new) (DevicesBack faultless before now) (λ unread given run. Rose sink.before sink.now)
+Concludes first old new source sink bay faultless before now status.OutOfMemory = StoryUpTo first (SendsWhole old new) (DevicesWanting faultless before now) (λ unread given run. ⊤)
 Concludes first old new source sink bay faultless before now s = EndsEarly first old new source sink bay faultless before now s
 
--- so it is, or a line of the script showed two documents of one SHA-256; with the status Usage no line was read
+-- so it is, or a line of the script showed two documents of one SHA-256 (`Shown`); with the status Usage no line was read
 abbrev pub ConcludesOrShows : (first old new : Option (List ℕ)) → (source sink bay : Counts) → (faultless : Bool) → (before now : Ledger) → Status → Type 0
 ConcludesOrShows first old new source sink bay faultless before now status.Usage = Concludes first old new source sink bay faultless before now status.Usage
-ConcludesOrShows first old new source sink bay faultless before now s = Concludes first old new source sink bay faultless before now s ⊎ Shown first
+ConcludesOrShows first old new source sink bay faultless before now s = Concludes first old new source sink bay faultless before now s ⊎ Shown first old new

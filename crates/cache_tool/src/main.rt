@@ -14,12 +14,20 @@ use std::process::ExitCode;
 use std::{env, io};
 pub use top::{Status, cache_main};
 
-fn main(rt: HostRuntime) -> io::Result<ExitCode> {
+fn main(rt: HostRuntime) -> ExitCode {
     let alloc = rt.alloc();
-    let words: Vec<String> = env::args(&rt)?.skip(1).collect(alloc)?;
+    let told: io::Result<Vec<String>> = env::args(&rt).and_then(|all| Ok(
+        all.skip(1).collect(alloc)?,
+    ));
+    let words = match told {
+        Ok(words) => words,
+        // A word that is not UTF-8 is no command.
+        Err(error) if error.kind() == io::ErrorKind::InvalidData => Vec::new(alloc),
+        Err(_) => return ExitCode::from(Status::OutOfMemory.code()),
+    };
     let mut source = StdSource::new(rt.reader());
     let mut sink = StdSink::new(io::writer(&rt));
     let mut bay = HostBay::new(alloc);
     let status = cache_main(alloc, &words, &mut source, &mut sink, &mut bay);
-    Ok(ExitCode::from(status.code()))
+    ExitCode::from(status.code())
 }

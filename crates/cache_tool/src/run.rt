@@ -8,7 +8,7 @@ ghost use Rattle.script_run.specs.Run.{Run, fresh};
 ghost use Rattle.script_run.specs.Takes.{StepShows};
 ghost use Rattle.cache_replay.specs.Session.{IsSession, devices_of, names_in};
 ghost use Rattle.cache_replay.specs.Plays.{HasReached, Ledger, Plays, ledger_of};
-ghost use Rattle.cache_tool.specs.Story.{GoesOn, Owes, OwesOrGave, SendsFront, Shown, counts};
+ghost use Rattle.cache_tool.specs.Story.{GoesOn, Grows, Owes, OwesOrGave, Shown, counts};
 ghost use Rattle.cache_tool.specs.Halt.{IsUnwritten, Written, Halts, last_of, ending_of};
 ghost use Rattle.cache_tool.specs.Ending.{Ends, IsOfRun};
 
@@ -77,6 +77,7 @@ fn take_step<K: Sink, B: Bay>(
     ensures session { IsSession B.Dev.Disk ⟦<ListDirectory as Directory>⟧ ⟦<FullChronicle as Chronicle>⟧ session.new }
     ensures names { length (names_in session.new) ≤ length (names_in session.old) + 1 }
     ensures out { B.out bay.new + devices_of session.old ≡ B.out bay.old + devices_of session.new }
+    ensures grows { Grows (K.taken sink.old) (K.taken sink.new) }
     ensures sink_later { K.faults sink.old ≤ K.faults sink.new }
     ensures bay_later { B.faults bay.old ≤ B.faults bay.new }
 {
@@ -110,6 +111,7 @@ fn ending_of(line: u64, halt: Halt) -> Ending
 }
 
 /// Does what the next line asks for, or ends the run.
+#[tactic(auto, using(crate::proofs::Halts::grows_nothing))]
 fn line<S: Source, K: Sink, B: Bay>(
     alloc: Global,
     reader: &mut LineReader<'_, S>,
@@ -124,7 +126,7 @@ fn line<S: Source, K: Sink, B: Bay>(
         → GoesOn first told back (unread S.left reader.old) (lines_given reader.old) (K.taken sink.old) (ledger_of B.Bay bay.old)
         (λ run. Plays B.Dev.Disk ⟦<ListDirectory as Directory>⟧ ⟦<FullChronicle as Chronicle>⟧ run session.old)
         → GoesOn first told back (unread S.left reader.new) (lines_given reader.new) (K.taken sink.new) (ledger_of B.Bay bay.new)
-        (λ run. Plays B.Dev.Disk ⟦<ListDirectory as Directory>⟧ ⟦<FullChronicle as Chronicle>⟧ run session.new) ⊎ Shown first) }
+        (λ run. Plays B.Dev.Disk ⟦<ListDirectory as Directory>⟧ ⟦<FullChronicle as Chronicle>⟧ run session.new) ⊎ Shown first told (K.taken sink.new)) }
     ensures ends { IfErr result (λ ending. (first told : Option (List ℕ)) (back : Ledger)
         → GoesOn first told back (unread S.left reader.old) (lines_given reader.old) (K.taken sink.old) (ledger_of B.Bay bay.old)
         (λ run. Plays B.Dev.Disk ⟦<ListDirectory as Directory>⟧ ⟦<FullChronicle as Chronicle>⟧ run session.old)
@@ -132,7 +134,7 @@ fn line<S: Source, K: Sink, B: Bay>(
         (counts (K.faults sink.old) (K.faults sink.new)) (counts (B.faults bay.old) (B.faults bay.new))
         (Owes back (ledger_of B.Bay bay.new) (λ run. HasReached B.Dev.Disk ⟦<ListDirectory as Directory>⟧ ⟦<FullChronicle as Chronicle>⟧ run session.new))
         (OwesOrGave back (ledger_of B.Bay bay.new) (devices_of session.new) (λ run. HasReached B.Dev.Disk ⟦<ListDirectory as Directory>⟧ ⟦<FullChronicle as Chronicle>⟧ run session.new))
-        ending ⊎ Shown first) }
+        ending ⊎ Shown first told (K.taken sink.new)) }
     ensures begun { IfErr result IsOfRun }
     ensures nearer { OnOk result ((lines_given reader.old < MAX_LINES) × (lines_given reader.new ≡ lines_given reader.old + 1)) }
     ensures session { IsSession B.Dev.Disk ⟦<ListDirectory as Directory>⟧ ⟦<FullChronicle as Chronicle>⟧ session.new }
@@ -140,6 +142,7 @@ fn line<S: Source, K: Sink, B: Bay>(
     ensures source { (source_of reader.new).ghost_name ≡ (source_of reader.old).ghost_name }
     ensures out { B.out bay.new + devices_of session.old ≡ B.out bay.old + devices_of session.new }
     ensures source_later { S.faults (source_of reader.old).now ≤ S.faults (source_of reader.new).now }
+    ensures grows { Grows (K.taken sink.old) (K.taken sink.new) }
     ensures sink_later { K.faults sink.old ≤ K.faults sink.new }
     ensures bay_later { B.faults bay.old ≤ B.faults bay.new }
 {
@@ -179,7 +182,7 @@ pub(crate) fn run_lines<S: Source, K: Sink, B: Bay>(
         (counts (K.faults sink.old) (K.faults sink.new)) (counts (B.faults bay.old) (B.faults bay.new))
         (Owes (ledger_of B.Bay bay.old) (ledger_of B.Bay bay.new) (λ run. HasReached B.Dev.Disk ⟦<ListDirectory as Directory>⟧ ⟦<FullChronicle as Chronicle>⟧ run session.new))
         (OwesOrGave (ledger_of B.Bay bay.old) (ledger_of B.Bay bay.new) (devices_of session.new) (λ run. HasReached B.Dev.Disk ⟦<ListDirectory as Directory>⟧ ⟦<FullChronicle as Chronicle>⟧ run session.new))
-        result ⊎ Shown (unread S.left reader.old) }
+        result ⊎ Shown (unread S.left reader.old) (K.taken sink.old) (K.taken sink.new) }
     ensures begun { IsOfRun result }
     ensures source { (source_of reader.new).ghost_name ≡ (source_of reader.old).ghost_name }
     ensures out { B.out bay.new ≡ B.out bay.old + devices_of session.new }

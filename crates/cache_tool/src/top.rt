@@ -104,7 +104,7 @@ fn replay<S: Source, K: Sink, B: Bay>(
 ) -> Ending
     ensures ends { Ends (S.left source.old) (K.taken sink.old) (K.taken sink.new) (counts (S.faults source.old) (S.faults source.new))
         (counts (K.faults sink.old) (K.faults sink.new)) (counts (B.faults bay.old) (B.faults bay.new))
-        (DevicesBack B.faultless (ledger_of B.Bay bay.old) (ledger_of B.Bay bay.new)) (DevicesWanting B.faultless (ledger_of B.Bay bay.old) (ledger_of B.Bay bay.new)) result ⊎ Shown (S.left source.old) }
+        (DevicesBack B.faultless (ledger_of B.Bay bay.old) (ledger_of B.Bay bay.new)) (DevicesWanting B.faultless (ledger_of B.Bay bay.old) (ledger_of B.Bay bay.new)) result ⊎ Shown (S.left source.old) (K.taken sink.old) (K.taken sink.new) }
     ensures begun { IsOfRun result }
     ensures out { B.out bay.new ≡ B.out bay.old }
     ensures source_later { S.faults source.old ≤ S.faults source.new }

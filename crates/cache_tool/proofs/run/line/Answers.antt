@@ -51,7 +51,7 @@ returns-in-Ok-clause-goes g c =
     λ first told back story.
     step_goes first told _ back _ (unread g.S.Source.left c.args.reader.now) (lines_given c.args.reader.now) _ _ (devices_of c.args.session.now) (plays_reach g.B.Dev.Disk _ _ c.args.session.now c.requires.session) story
     read.0 (unread g.S.Source.left c.next_reading.new.reader) (lines_given c.next_reading.new.reader)
-    read.2.answers read.2.given g.B.Dev.Disk _ _ c.in-Line-Step.asked asks c.take_step.new.session _ _ (c.in-Ok.ensures.done _ story.behind)
+    read.2.answers read.2.given g.B.Dev.Disk _ _ c.in-Line-Step.asked asks c.take_step.new.session _ _ c.take_step.ensures.grows (c.in-Ok.ensures.done _ story.behind)
 
 pub returns-in-Err-clause-ends : goal.returns-in-Err-clause-ends
 returns-in-Err-clause-ends g c =
@@ -64,7 +64,7 @@ returns-in-Err-clause-ends g c =
     (λ first told back story.
     step_ends first told _ back _ (unread g.S.Source.left c.args.reader.now) (lines_given c.args.reader.now) _ _ (devices_of c.args.session.now) (plays_reach g.B.Dev.Disk _ _ c.args.session.now c.requires.session) story
     read.0 (unread g.S.Source.left c.next_reading.new.reader) (lines_given c.next_reading.new.reader)
-    read.2.answers read.2.given g.B.Dev.Disk _ _ c.in-Line-Step.asked asks c.take_step.new.session _ _ c.take_step.ensures.session source sink bay c.in-Err.halt (c.in-Err.ensures.halted _ story.behind))
+    read.2.answers read.2.given g.B.Dev.Disk _ _ c.in-Line-Step.asked asks c.take_step.new.session _ _ c.take_step.ensures.grows c.take_step.ensures.session source sink bay c.in-Err.halt (c.in-Err.ensures.halted _ story.behind))
 
 pub returns-in-Err-clause-begun : goal.returns-in-Err-clause-begun
 returns-in-Err-clause-begun g c = rw c.ending_of.ensures (ending_of-begun _ c.in-Err.halt)

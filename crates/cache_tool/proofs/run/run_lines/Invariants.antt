@@ -12,7 +12,7 @@ use Rattle.cache_tool.proofs.run.run_lines.Given as goal
 abbrev pub invariant-lines : goal.invariant-lines
 invariant-lines g l = record {
   goes : GoesOn (unread g.S.Source.left l.initial.reader) (g.K.Sink.taken l.initial.sink) (ledger_of g.B.Bay l.initial.bay) (unread g.S.Source.left l.reader) (lines_given l.reader) (g.K.Sink.taken l.sink) (ledger_of g.B.Bay l.bay)
-      (λ run. Plays g.B.Dev.Disk listed chronicled run l.session) ⊎ Shown (unread g.S.Source.left l.initial.reader);
+      (λ run. Plays g.B.Dev.Disk listed chronicled run l.session) ⊎ Shown (unread g.S.Source.left l.initial.reader) (g.K.Sink.taken l.initial.sink) (g.K.Sink.taken l.sink);
   session : IsSession g.B.Dev.Disk listed chronicled l.session;
   few : length (names_in l.session) ≤ lines_given l.reader;
   out : g.B.Bay.out l.bay ≡ g.B.Bay.out l.initial.bay + devices_of l.session;

@@ -40,5 +40,5 @@ returns-clause-ends g c =
     _ (DevicesWanting g.B.Bay.faultless ledger closed) (λ run owes. settles g.B.Bay.faultless ledger closed sure run (settle run owes))
     (λ run wants. settles_more g.B.Bay.faultless ledger closed sure run (either-both (settle run) (λ gave. gave_settled g.B.Dev.Disk listed chronicled c.run_lines-ending.new.session _ _ _ run c.close.ensures.back c.close.ensures.names gave.0 gave.1) wants)) c.run_lines-ending.result) c.run_lines-ending.ensures.ends in
     rw (back, c.close.ensures.faults, ← c.with_buffer-reader.ensures.now)
-    (subst (λ (first : Option (List ℕ)). Ends first (g.K.Sink.taken c.args.sink.now) (g.K.Sink.taken c.run_lines-ending.new.sink) source sink bay (DevicesBack g.B.Bay.faultless ledger closed) (DevicesWanting g.B.Bay.faultless ledger closed) c.run_lines-ending.result ⊎ Shown first)
+    (subst (λ (first : Option (List ℕ)). Ends first (g.K.Sink.taken c.args.sink.now) (g.K.Sink.taken c.run_lines-ending.new.sink) source sink bay (DevicesBack g.B.Bay.faultless ledger closed) (DevicesWanting g.B.Bay.faultless ledger closed) c.run_lines-ending.result ⊎ Shown first (g.K.Sink.taken c.args.sink.now) (g.K.Sink.taken c.run_lines-ending.new.sink))
     (prepend-nothing (held reader) _ (c.with_buffer-reader.ensures.held ∙ c.in-Ok.ensures)) ends)

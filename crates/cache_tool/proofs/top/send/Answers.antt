@@ -8,7 +8,7 @@ use Rattle.cache_tool.proofs.top.send.Goals as goal
 
 went_out : {T E : Type 0} (old new : Option (List ℕ)) (sink : Counts) (piece : List ℕ) (r : Result T E) → WritesAll old new r piece → OnErr r (Rose sink.before sink.now) → WentOut old new sink [] piece
 went_out old new sink piece (Ok x) writes rose = inl writes
-went_out old new sink piece (Err e) writes rose = inr (record { rose = rose; front = take writes.0 piece; rest = drop writes.0 piece; split = sym (take-append-drop writes.0 piece); appends = writes.2 })
+went_out old new sink piece (Err e) writes rose = inr (rose, record { front = take writes.0 piece; rest = drop writes.0 piece; split = sym (take-append-drop writes.0 piece); appends = writes.2 })
 
 pub returns-clause-out : goal.returns-clause-out
 returns-clause-out g c =
