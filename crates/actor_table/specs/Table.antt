@@ -9,6 +9,7 @@ pub record Seen (T : Type 0) : Type 0 where
   -- what each actor has, in the same order
   pub slots : List (Option T)
 
+-- the same bytes: names that differ in a letter's case are of two actors
 abbrev pub same_name : List ℕ → List ℕ → Bool
 same_name a b = pointwise nat_eq a b
 

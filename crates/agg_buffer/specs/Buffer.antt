@@ -1,4 +1,4 @@
--- What contracts see of an `AggBuffer`.
+-- What contracts see of an `AggBuffer` (aggregation buffer: Traffic Server guide, "Cache Architecture").
 use Rattle.std.specs.Prelude.{ℕ, ◌≡◌, ◌<◌, ◌≤◌, ◌+◌, ◌-◌, ◌*◌, ◌/◌, ◌%◌, List, [], ◌++◌, length, take, drop}
 use Rattle.agg_buffer.specs.declared.answers.PutAnswer.{PutAnswer}
 use Rattle.agg_buffer.specs.declared.answers.PutAnswer.TheVariants.{Placed, NoRoom}
@@ -9,9 +9,11 @@ pub record Buffer : Type 0 where
   pub reserved : ℕ
   pub bytes : List ℕ
 
+-- a buffer from this place on in which nothing is put
 abbrev pub empty_buffer : ℕ → ℕ → Buffer
 empty_buffer cursor reserved = record { cursor = cursor; reserved = reserved; bytes = [] }
 
+-- the blocks that are filled; pieces are whole blocks, so that none is filled in part
 abbrev pub filled_of : Buffer → ℕ
 filled_of b = length b.bytes / 512
 
@@ -37,6 +39,7 @@ pub record IsWhole (piece : List ℕ) : Type 0 where
   pub some : 0 < length piece
   pub whole : length piece % 512 ≡ 0
 
+-- how many blocks a piece takes, which is whole
 abbrev pub blocks_in : List ℕ → ℕ
 blocks_in piece = length piece / 512
 
@@ -54,10 +57,12 @@ pub record Refuses (before after : Buffer) (piece : List ℕ) : Type 0 where
   pub room : room_of before < blocks_in piece
   pub same : after ≡ before
 
+-- what is said of the place of a piece that had room; nothing of one that had none
 abbrev pub IfPlaced : PutAnswer → (ℕ → Type 0) → Type 0
 IfPlaced (Placed place) P = P place
 IfPlaced (NoRoom left) P = Unit {0}
 
+-- what is said of the blocks that are left, where they are too few; nothing of a piece that had room
 abbrev pub IfNoRoom : PutAnswer → (ℕ → Type 0) → Type 0
 IfNoRoom (Placed place) P = Unit {0}
 IfNoRoom (NoRoom left) P = P left

@@ -7,6 +7,7 @@ use Rattle.http_header.specs.Token.{is_token_byte, is_value_byte, lowercase}
 use Rattle.alternate_vector.specs.declared.fault.FieldFault.{FieldFault}
 use Rattle.alternate_vector.specs.declared.fault.FieldFault.TheVariants.{Name, Value, TooMany, Memory}
 
+-- one line, by its bytes; lines of the same name are not joined
 pub record Field : Type 0 where
   pub name : List ℕ
   pub value : List ℕ
@@ -15,6 +16,7 @@ pub record Field : Type 0 where
 abbrev pub made_field : List ℕ → List ℕ → Field
 made_field name value = record { name = lowercase name; value = value }
 
+-- a line whose name stays as it is: one that was read in lower case
 abbrev pub plain_field : List ℕ → List ℕ → Field
 plain_field name value = record { name = name; value = value }
 
@@ -66,6 +68,7 @@ Refuses (Ok x) refusal = refusal ≡ None
 Refuses (Err (Memory e)) refusal = ⊤
 Refuses (Err fault) refusal = refusal ≡ Some fault
 
+-- the two faults that come of a name alone: it is no name, or memory ran out
 abbrev pub IsNameOrMemory : FieldFault → Type 0
 IsNameOrMemory Name = ⊤
 IsNameOrMemory (Memory e) = ⊤

@@ -4,9 +4,11 @@ use Rattle.std.specs.List.{AllWithin}
 use Rattle.alternate_vector.specs.declared.fields.Line.{Line}
 use Rattle.alternate_vector.specs.Field.{Field, is_above}
 
+-- a line as contracts see it, without where its bytes lie
 abbrev pub field_of : Line → Field
 field_of line = record { name = line.name; value = line.value.bytes }
 
+-- the same of each, in the order in which they are kept
 abbrev pub fields_of : List Line → List Field
 fields_of lines = map field_of lines
 

@@ -11,24 +11,27 @@ use Rattle.alternate_vector.specs.declared.fault.VectorFault.TheVariants.{Short,
 use Rattle.alternate_vector.specs.Field.{Field, is_above, is_name, is_value}
 use Rattle.alternate_vector.specs.Alternates.{Stored}
 
+-- the next item is read where the one before was, and else its fault stays
 infixl 10 ◌>>=◌
 abbrev pub ◌>>=◌ : {A B : Type 0} → Result A VectorFault → (A → Result B VectorFault) → Result B VectorFault
 (Ok x) >>= f = f x
 (Err e) >>= f = Err e
 
--- what a reader returned, seen by view, is what reading gives, unless memory ran out
+-- a fault that a reader returned is the one that reading gives; of want of memory nothing is said
 abbrev pub Fails : {Y : Type 0} → VectorFault → Result Y VectorFault → Type 0
 Fails (Memory e) read = ⊤
 Fails fault read = read ≡ Err fault
 
+-- what a reader returned, seen by `view`, is what reading gives, unless memory ran out
 abbrev pub Gives : {X Y : Type 0} → (X → Y) → Result X VectorFault → Result Y VectorFault → Type 0
 Gives view (Ok x) read = read ≡ Ok (view x)
 Gives view (Err fault) read = Fails fault read
 
--- an item is its value and the bytes behind it
+-- a number, low byte first. Each item that is read is its value and the bytes behind it
 abbrev pub number_at : Width → List ℕ → Result (ℕ × List ℕ) VectorFault
 number_at w bytes = if nat_lt (length bytes) (byte_len w) then Err Short else Ok (from_le_bytes w (take (byte_len w) bytes), drop (byte_len w) bytes)
 
+-- so many bytes; fewer are `Short`
 abbrev pub text_at : ℕ → List ℕ → Result (List ℕ × List ℕ) VectorFault
 text_at n bytes = if nat_lt (length bytes) n then Err Short else Ok (take n bytes, drop n bytes)
 
@@ -64,6 +67,7 @@ fields_from (suc n) before bytes = do
   others ← fields_from n first.0.name first.1
   Ok (first.0 ∷ others.0, others.1)
 
+-- the lines of a message behind their count, which is at most 128; any name may come first
 unfoldable pub fields_at : List ℕ → Result (List Field × List ℕ) VectorFault
 fields_at bytes = do
   count ← number_at w16 bytes
@@ -76,13 +80,16 @@ table_fault tables.Count = Table
 table_fault tables.Sum = Table
 table_fault (tables.Memory e) = Memory e
 
+-- a table as an item: the bytes behind it in place of how many it takes
 abbrev pub told_table : List ℕ → Result (List TableRow × ℕ) TableFault → Result (List TableRow × List ℕ) VectorFault
 told_table bytes (Ok read) = Ok (read.0, drop read.1 bytes)
 told_table bytes (Err fault) = Err (table_fault fault)
 
+-- a table whose fragments have so many bytes together
 abbrev pub table_at : ℕ → List ℕ → Result (List TableRow × List ℕ) VectorFault
 table_at total bytes = told_table bytes (read_table bytes total)
 
+-- put, pin and length, the lines of the request and of the response, and a table of just that length
 unfoldable pub alternate_at : List ℕ → Result (Stored × List ℕ) VectorFault
 alternate_at bytes = do
   put ← number_at w64 bytes

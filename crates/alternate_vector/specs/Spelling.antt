@@ -14,6 +14,7 @@ field_bytes field = to_le_bytes w16 (length field.name) ++ to_le_bytes w32 (leng
 abbrev pub fields_bytes : List Field → List ℕ
 fields_bytes fields = to_le_bytes w16 (length fields) ++ flat_map field_bytes fields
 
+-- put, pin and length of eight bytes each, the lines of the request and of the response, and the table
 abbrev pub alternate_bytes : Stored → List ℕ
 alternate_bytes a =
     to_le_bytes w64 a.put ++ to_le_bytes w64 a.pin ++ to_le_bytes w64 a.length

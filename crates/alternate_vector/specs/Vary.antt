@@ -8,6 +8,7 @@ use Rattle.alternate_vector.specs.Field.{Field, is_name}
 abbrev pub is_blank : ℕ → Bool
 is_blank b = b == 32 || b == 9
 
+-- without the blanks in front; those behind another byte stay
 abbrev pub skip_blanks : List ℕ → List ℕ
 skip_blanks [] = []
 skip_blanks (b ∷ bytes) = if is_blank b then skip_blanks bytes else b ∷ bytes
@@ -31,6 +32,7 @@ pub record IsCommaAt (bytes : List ℕ) (end : ℕ) : Type 0 where
   pub within : end < length bytes
   pub parts : comma_parts bytes ≡ take end bytes ∷ comma_parts (drop (end + 1) bytes)
 
+-- an element of no bytes, which a list may have and which counts for nothing (RFC 9110, section 5.6.1)
 abbrev pub is_empty : List ℕ → Bool
 is_empty [] = true
 is_empty (b ∷ bytes) = false
@@ -43,6 +45,7 @@ elements_of value = filter (λ element. not (is_empty element)) (map trimmed (co
 abbrev pub named : List ℕ → List Field → List Field
 named name fields = filter (λ field. bytes_eq field.name name) fields
 
+-- the values in the order of their lines, with blanks and commas as they came
 abbrev pub values_of : List Field → List (List ℕ)
 values_of fields = map (λ field. field.value) fields
 
@@ -63,6 +66,7 @@ joined (value ∷ values) = Some (trimmed value ++ flat_map following values)
 abbrev pub field_value : List Field → List ℕ → Option (List ℕ)
 field_value fields name = joined (values_of (named (lowercase name) fields))
 
+-- absent in both, or the same bytes in both
 abbrev pub same_value : Option (List ℕ) → Option (List ℕ) → Bool
 same_value None None = true
 same_value None (Some b) = false

@@ -7,6 +7,7 @@ pub record Return : Type 0 where
   pub faults : ℕ
   pub trust : ℕ
 
+-- a device as it would be told if it came back at this moment
 abbrev pub return_of_device : State → Return
 return_of_device device = record { faults = device.faults; trust = device.trust }
 

@@ -26,10 +26,12 @@ image_of blocks = λ block. unwrap_or (get nat_eq blocks block) zeros
 pub record AreWhole (blocks : Blocks) : Type 0 where
   pub whole : (block : ℕ) (bytes : List ℕ) → get nat_eq blocks block ≡ Some bytes → length bytes ≡ 512
 
+-- a block that was never written has 512 bytes as well
 zeros_are : length zeros ≡ 512
 unfolding zeros
 zeros_are = length-replicate {A = ℕ} 512 0
 
+-- so has the block of a number, whether it is kept or zeros stand for it
 whole_or : (kept : Option (List ℕ)) → ((bytes : List ℕ) → kept ≡ Some bytes → length bytes ≡ 512) → length (unwrap_or kept zeros) ≡ 512
 whole_or None whole = zeros_are
 whole_or (Some bytes) whole = whole bytes refl

@@ -23,6 +23,7 @@ pub record State : Type 0 where
   pub calls : ℕ
   pub blocks : ℕ
 
+-- the content of the device is told: what was written stays, and a read that succeeds gives it
 abbrev pub IsTold : State → Type 0
 IsTold s = 1 ≤ s.trust
 
@@ -50,7 +51,7 @@ pub record Keeps (used_calls used_blocks : ℕ) (old new : State) : Type 0 where
   pub calls : old.calls ≤ new.calls + used_calls
   pub blocks : old.blocks ≤ new.blocks + used_blocks
 
--- room was made, and nothing else is changed
+-- room was made, and nothing else is changed, but that trust may have fallen
 pub record Grows (more_calls more_blocks : ℕ) (old new : State) : Type 0 where
   pub size : new.size ≡ old.size
   pub trust : new.trust ≤ old.trust

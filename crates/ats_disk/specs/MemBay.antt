@@ -7,6 +7,7 @@ use Rattle.ats_disk.specs.Bay.{Return, CameBackFaultless}
 use Rattle.ats_disk.specs.declared.mem_bay.MemBay.{MemBay}
 use Rattle.ats_disk.specs.declared.mem_bay.TheConstants.{OWN_BLOCKS}
 
+-- the names of the devices that were attached, in order
 abbrev pub names_of : MemBay → List (List ℕ)
 names_of bay = map (λ name. name.items) bay.names.items
 
@@ -18,6 +19,7 @@ told_by bay = replicate (bay.returned + bay.out) (Some blank)
 abbrev pub faultless_return : Return
 faultless_return = record { faults = 0; trust = 1 }
 
+-- each device that came back to it; its devices never fail, and are trusted to the end
 abbrev pub returned_to : MemBay → List Return
 returned_to bay = replicate bay.returned faultless_return
 

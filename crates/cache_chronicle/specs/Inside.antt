@@ -6,6 +6,7 @@ use Rattle.cache_chronicle.specs.Indexed.{HasTables, spare_of}
 use Rattle.cache_chronicle.specs.Listings.{HasLists, spare_of_lists}
 use Rattle.cache_chronicle.specs.declared.full.FullChronicle.TheInside.{Inside}
 
+-- the records; there is room for one more only where the tables and lists beside them have some too
 abbrev pub history_of : Inside → History
 history_of c = record {
   records = c.records.items;

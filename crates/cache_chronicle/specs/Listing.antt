@@ -55,6 +55,7 @@ abbrev pub size_of_lines : Option Lines → ℕ → ℕ
 size_of_lines None cuts = 0
 size_of_lines (Some q) cuts = 24 + fields_size q.request + fields_size q.response + (4 + 36 * cuts)
 
+-- the same by what is told of it: 0 where the lines of its put are not known
 abbrev pub size_of_told : Told → ℕ
 size_of_told t = size_of_lines t.lines t.cuts
 
@@ -66,6 +67,7 @@ size_of_all told = 4 + sum_by size_of_told told
 abbrev pub fits_told : ℕ → List Told → Bool
 fits_told bytes told = nat_le (length told) most_alternates && nat_le (size_of_all told) bytes
 
+-- the same of entries, by what the records tell of them
 abbrev pub fits_listed : List Rec → ℕ → List Listed → Bool
 fits_listed recs bytes entries = fits_told bytes (map (told_by recs) entries)
 

@@ -16,6 +16,7 @@ use Rattle.script_run.specs.Asked.{feed_intents, rest_behind, whole_fragments}
 
 -- ---- what is recorded
 
+-- the end to which each answer brings what is asked; behind any other refusal it is still to be done
 abbrev pub feed_end : ℕ → Option Refusal → End
 feed_end put None = Done
 feed_end put (Some refusal.TooManyFragments) = Fails (ManyFragments put)

@@ -37,6 +37,7 @@ abbrev pub given_in : Got → List ℕ
 given_in (got.Whole put length body) = body.items
 given_in _ = []
 
+-- what a line answers; of a read that broke the cause alone, without the bytes before it
 abbrev pub got_answer : Got → StepAnswer
 got_answer (got.Whole put length body) = answer.Got put length body.items
 got_answer (got.Broken why) = broken_said why
@@ -78,6 +79,7 @@ pub record Underway (p : Permit) (b : Began) (new : Kept) (run : Run) (r : Reade
   pub hit : lookup_in added ≡ Some (read.Hit r.put)
   pub front : body ≡ take ((r.next - 1) * (state_of new).geometry.fragment) (run.streams r.put).bytes
 
+-- so it is in any step that covers the calls until then; or two documents of one SHA-256 are shown
 pub record IsUnderway (b : Began) (now : ℕ) (new : Kept) (r : Reader) (body : List ℕ) : Type 0 where
   pub reads : List DeviceRead
   pub since : b.faults ≤ now
@@ -92,6 +94,7 @@ pub record Answered (p : Permit) (b : Began) (new : Kept) (run : Run) (left : Li
   pub body : IsBody run given (told_in added) (lookup_in added)
   pub says : get_said given (told_in added) (lookup_in added) ≡ said
 
+-- so it is in any step that covers the calls; or two documents of one SHA-256 are shown
 pub record IsAnswered (b : Began) (now : ℕ) (new : Kept) (left : List Intent) (given : List ℕ) (said : StepAnswer) : Type 0 where
   pub reads : List DeviceRead
   pub does : (p : Permit) (run : Run) → Covers p b.faults now reads → AreTold (state_of b.kept) → AreOwn (state_of b.kept) run.streams
@@ -110,6 +113,7 @@ ComesOf b now new put r body (piece.Broken why) = IsAnswered b now new (StopRead
 abbrev pub rows_left : Reader → ℕ
 rows_left r = length (unwrap_or (rows_in r) []) + 1 - r.next
 
+-- a fragment that was given leaves fewer to be given, so that the read ends
 abbrev pub IsNearer : Reader → NextPiece → Reader → Type 0
 IsNearer old (piece.Piece index size) new = rows_left new < rows_left old
 IsNearer old _ new = Unit {0}

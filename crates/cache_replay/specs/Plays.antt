@@ -49,6 +49,7 @@ pub record PlaysIn (run : Run) (s : State) (slots : ℕ → Option Holding) : Ty
   pub own : AreOwn s run.streams
   pub held : (n : ℕ) → IsHeldAs run s n (slots n)
 
+-- there is no session, and no actor has anything
 pub record PlaysNone (run : Run) : Type 0 where
   pub state : run.state ≡ None
   pub held : (n : ℕ) → run.held n ≡ None
@@ -67,10 +68,12 @@ AreReached (harm ∷ harms) [] = ⊥
 AreReached (harm ∷ harms) (device ∷ devices) = IsReached harm device × AreReached harms devices
 
 module _ {D R C : Type 0} (disk : DiskGhosts D) (directory : DirectoryGhosts R) (chronicle : ChronicleGhosts C) where
+  -- the run beside a session's part, or beside a session that has none
   abbrev pub PlaysAt : Run → Option (Part D R C) → (ℕ → Option Holding) → Type 0
   PlaysAt run None slots = PlaysNone run
   PlaysAt run (Some part) slots = PlaysIn run (state_in chronicle part.stripe) slots
 
+  -- no piece of its part was told as damaged, where the device of that tells its content
   abbrev pub IsUnharmedAt : Option (Part D R C) → Type 0
   IsUnharmedAt None = Unit {0}
   IsUnharmedAt (Some part) = IsUnharmed (seen_in disk directory part.stripe).device (state_in chronicle part.stripe)
@@ -117,6 +120,7 @@ pub record Ledger : Type 0 where
   pub names : List (List ℕ)
   pub returned : List Return
 
+-- what a bay tells at this moment
 abbrev pub ledger_of : {B D : Type 0} → BayGhosts B D → B → Ledger
 ledger_of bay b = record { names = bay.names b; returned = bay.returned b }
 
@@ -141,6 +145,7 @@ pub data IsLeft {D R C : Type 0} (disk : DiskGhosts D) (directory : DirectoryGho
   stays : HasReached disk directory chronicle run new → now ≡ before → IsLeft disk directory chronicle run new before now why
   ended : (name : List ℕ) → new.part ≡ None → Deals before now (harm_of run.state ++ no_harm ∷ []) (name ∷ []) → why ≡ Memory → IsLeft disk directory chronicle run new before now why
 
+-- so it is, or two documents of one SHA-256 are shown
 abbrev pub DeviceEnds : {D R C : Type 0} → DiskGhosts D → DirectoryGhosts R → ChronicleGhosts C → Run → Step → Session D R C → StepAnswer → (before now : Ledger) → Type 0
 DeviceEnds disk directory chronicle run step new said before now =
     DeviceMoves disk directory chronicle run step new said before now ⊎ StepShows run run.state step

@@ -50,6 +50,7 @@ refusal_answer (refusal.DeviceFault count) took = answer.DeviceFault count took
 refusal_answer refusal.NoSuchWriter took = answer.Refused refused.Idle took
 refusal_answer (refusal.Memory e) took = answer.Refused refused.Idle took
 
+-- what a put answers: the receipt, or the refusal without how many bytes were taken
 abbrev pub receipt_answer : Result Receipt Refusal → StepAnswer
 receipt_answer (Ok receipt) = answer.Put receipt.put receipt.length receipt.fragments
 receipt_answer (Err why) = refusal_answer why None
@@ -73,6 +74,7 @@ IsOver t put None = is_writing t put ≡ false
 IsOver t put (Some (Lost q index)) = is_writing t put ≡ false
 IsOver t put (Some why) = Unit {0}
 
+-- a body is fed and closed as far as that comes, with this answer, and what is asked behind it is left
 pub record Fills (p : Permit) (old new : Kept) (w : Writer) (body : List ℕ) (result : Result Receipt Refusal) : Type 0 where
   pub added : List Rec
   pub why : Option Reason
@@ -95,6 +97,7 @@ FillsWhere now before after old new w body result = FillsAsAsked now before afte
 
 -- ---- a body that is put, with the put given up where it is still open
 
+-- to feed and to close the body, and then to give the put up, which leaves one that ended as it is
 abbrev pub ending_intents : State → ℕ → List ℕ → List Intent
 ending_intents s put body = body_intents s.geometry.fragment put body ++ GiveUp put ∷ []
 
@@ -106,6 +109,7 @@ pub record BodyEnds (p : Permit) (old new : Kept) (put : ℕ) (body : List ℕ) 
   pub grows : MayGrow p (state_of old) (to_do (ending_intents (state_of old) put body)) added (record { intents = []; refused = why })
   pub says : said (state_of new) None why (put_said (state_of new) put) ≡ receipt_answer result
 
+-- so it is in any step at that moment that covers the call; or two documents of one SHA-256 are shown
 pub record BodyEndsAsAsked (now before after : ℕ) (old new : Kept) (put : ℕ) (body : List ℕ) (result : Result Receipt Refusal) : Type 0 where
   pub reads : List DeviceRead
   pub does : (p : Permit) → p.now ≡ now → Covers p before after reads → AreTold (state_of old)

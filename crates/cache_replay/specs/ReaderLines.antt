@@ -30,6 +30,7 @@ use Rattle.cache_replay.specs.Plays.{PlaysIn}
 
 -- ---- what an actor has
 
+-- what the actor of a number has, from 1; nothing where there is no such actor
 abbrev pub slots_of : Seen Holding → ℕ → Option Holding
 slots_of actors n = slot_of actors.slots n
 
@@ -57,6 +58,7 @@ reader_opened (opened.Hit reader put length) = Some reader
 reader_opened (opened.Follow reader put) = Some reader
 reader_opened (opened.Miss why) = None
 
+-- what a lookup answers; the length is told of a hit alone, since a put that is followed may grow
 abbrev pub opened_answer : Opened → StepAnswer
 opened_answer (opened.Hit reader put length) = answer.Hit put length
 opened_answer (opened.Follow reader put) = answer.Follow put

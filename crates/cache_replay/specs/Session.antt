@@ -23,6 +23,7 @@ abbrev pub IsHeld : State → Holding → Type 0
 IsHeld s (holding.Writer w) = (is_writing s w.put ≡ true) × IsWriterOf s w
 IsHeld s (holding.Reader r) = IsOpenReader s r
 
+-- so it is of each actor that has something
 abbrev pub AreHeld : State → (ℕ → Option Holding) → Type 0
 AreHeld s slots = (n : ℕ) → IfSome (slots n) (IsHeld s)
 
@@ -38,22 +39,25 @@ AreApart slots = (m n : ℕ) (a b : Holding) → (m ≡ n → ⊥) → slots m �
 
 -- ---- a session
 
--- the names of the actors, and what each has by its number
+-- the names of the actors, in the order of their first steps
 abbrev pub names_in : {D R C : Type 0} → Session D R C → List (List ℕ)
 names_in session = session.actors.names
 
+-- what the actor of a number has, from 1; nothing where there is no such actor
 abbrev pub slots_in : {D R C : Type 0} → Session D R C → ℕ → Option Holding
 slots_in session n = slot_of session.actors.slots n
 
--- how many devices it has
+-- how many things there are, where there may be one
 abbrev pub parts_of : {X : Type 0} → Option X → ℕ
 parts_of None = 0
 parts_of (Some x) = 1
 
+-- how many devices a session has: that of its part, once a format began one
 abbrev pub devices_of : {D R C : Type 0} → Session D R C → ℕ
 devices_of session = parts_of session.part
 
 module _ {D R C : Type 0} (disk : DiskGhosts D) (directory : DirectoryGhosts R) (chronicle : ChronicleGhosts C) where
+  -- what the records of a part stand for
   abbrev pub state_of_part : Part D R C → State
   state_of_part part = state_in chronicle part.stripe
 
@@ -63,6 +67,7 @@ module _ {D R C : Type 0} (disk : DiskGhosts D) (directory : DirectoryGhosts R) 
     pub quiet : IsQuiet (state_in chronicle part.stripe)
     pub page : length part.page.items ≡ 512 * budget_of (state_in chronicle part.stripe).geometry
 
+  -- a part beside what the actors have, which is open in it, and no two have the same
   pub record IsActive (p : Part D R C) (slots : ℕ → Option Holding) : Type 0 where
     pub part : IsPart p
     pub held : AreHeld (state_in chronicle p.stripe) slots
@@ -73,6 +78,7 @@ module _ {D R C : Type 0} (disk : DiskGhosts D) (directory : DirectoryGhosts R) 
   IsAt None slots = (n : ℕ) → slots n ≡ None
   IsAt (Some part) slots = IsActive part slots
 
+  -- what holds of a session between lines
   abbrev pub IsSession : Session D R C → Type 0
   IsSession session = IsAt session.part (slots_in session)
 

@@ -56,6 +56,7 @@ pub data WriterLine : Type 0 where
   GivesUp : WriterLine
   Opens : (key : Key) (pin : ℕ) (request response : List Field) → WriterLine
 
+-- the step of the script that asks so of the actor of this name
 abbrev pub step_of : WriterLine → List ℕ → Step
 step_of (Feeds body) name = step.Feed name body
 step_of Closes name = step.Close name
@@ -75,6 +76,7 @@ abbrev pub held_in : Option Writer → Option Holding
 held_in None = None
 held_in (Some w) = Some (holding.Writer w)
 
+-- the same as a run tells it: by the number of the put
 abbrev pub writes_in : Option Writer → Option Rattle.script_run.specs.Run.Holding
 writes_in None = None
 writes_in (Some w) = Some (Writes w.put)
@@ -114,6 +116,7 @@ closed_answer (Err why) = refused_answer why None
 
 -- ---- a part, and its actors
 
+-- what the actor of a number has, from 1; nothing where there is no such actor
 abbrev pub slots_at : Seen Holding → ℕ → Option Holding
 slots_at actors n = slot_of actors.slots n
 
@@ -134,11 +137,13 @@ module _ {D R C : Type 0} (chronicle : ChronicleGhosts C) where
     pub names : run.actors ≡ actors.names
     pub at : PlaysIn run (state_in chronicle part.stripe) (slots_at actors)
 
+  -- a step did what it must, and this is its answer
   pub record PartMoves (run : Run) (step : Step) (part : Part D R C) (actors : Seen Holding) (said : StepAnswer) : Type 0 where
     pub turn : Turn
     pub takes : StepTakes run turn step
     pub plays : PartPlays (after_step run turn step) part actors
     pub says : step_answer run turn step ≡ said
 
+  -- so it is, or two documents of one SHA-256 are shown
   abbrev pub PartEnds : Run → Step → Part D R C → Seen Holding → StepAnswer → Type 0
   PartEnds run step part actors said = PartMoves run step part actors said ⊎ StepShows run run.state step

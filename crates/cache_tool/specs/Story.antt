@@ -30,6 +30,7 @@ pub record Taken (first : List ℕ) (lines : List (List ℕ)) (now : List ℕ) :
   pub short : AreShort lines
   pub within : length lines ≤ MAX_LINES
 
+-- so it is of a source whose bytes are told; of another nothing is said
 abbrev pub IsBehind : Option (List ℕ) → List (List ℕ) → Option (List ℕ) → Type 0
 IsBehind None lines now = ⊤
 IsBehind (Some first) lines None = ⊥
@@ -58,10 +59,12 @@ abbrev pub IsNext : ℕ → Option (List ℕ) → List ℕ → Type 0
 IsNext given None bytes = ⊤
 IsNext given (Some unread) bytes = (behind : List ℕ) × GivesLine given unread bytes behind
 
+-- the next line is too long, where the bytes that are left are told
 abbrev pub IsTooLongAt : ℕ → Option (List ℕ) → Type 0
 IsTooLongAt given None = ⊤
 IsTooLongAt given (Some unread) = IsTooLong given unread
 
+-- the next line is one too many, where the bytes that are left are told
 abbrev pub IsTooManyAt : ℕ → Option (List ℕ) → Type 0
 IsTooManyAt given None = ⊤
 IsTooManyAt given (Some unread) = IsTooMany given unread
@@ -95,6 +98,7 @@ pub record Counts : Type 0 where
   pub before : ℕ
   pub now : ℕ
 
+-- the two counts, the earlier one first
 abbrev pub counts : ℕ → ℕ → Counts
 counts before now = record { before = before; now = now }
 

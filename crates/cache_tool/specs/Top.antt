@@ -63,9 +63,11 @@ pub record Settles (faultless : Bool) (Back : Run → Type 0) (run : Run) : Type
   pub back : Back run
   pub unfaulted : IsTrue faultless → NoneFaulted run
 
+-- so they came back where memory was not wanting: each of them, and no other
 abbrev pub DevicesBack : Bool → Ledger → Ledger → Run → Type 0
 DevicesBack faultless before now = Settles faultless (EachBack before now)
 
+-- so they came back where it was: there may be one more, of a format
 abbrev pub DevicesWanting : Bool → Ledger → Ledger → Run → Type 0
 DevicesWanting faultless before now = Settles faultless (EachBackOrMore before now)
 

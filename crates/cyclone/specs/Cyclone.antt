@@ -1,5 +1,5 @@
 -- What contracts see of a cyclone: the content area that is written in a circle, the buffer of what
--- is not written yet, and the directory of what stands on both.
+-- is not written yet, and the directory of what stands on both (Traffic Server guide, "Cache Architecture").
 use Rattle.std.specs.Prelude.{ℕ, ◌≡◌, ◌+◌, ◌*◌, ◌<◌, ◌≤◌, ◌^◌, Bool, List, [], ◌∷◌, length, IsPermutation, All, MatchBool}
 use Rattle.tape_base.specs.declared.geometries.Geometry.{Geometry}
 use Rattle.tape_base.specs.declared.pieces.PieceId.{PieceId}
@@ -36,6 +36,7 @@ pub record Seen : Type 0 where
   pub displaced : Displacement
   pub device : State
 
+-- a cyclone as contracts see it, by what its directory and its device tell of themselves
 abbrev pub seen : {D R : Type 0} → DiskGhosts D → DirectoryGhosts R → Cyclone D R → Seen
 seen disk directory c = record {
   geometry = c.geometry;
@@ -62,6 +63,7 @@ pub record IsTurning (c : Seen) : Type 0 where
   -- all that was entered stands below the next piece
   pub entered : All (λ r. r.place < next_place_of c.buffer) c.rows
 
+-- so it is of a cyclone, whatever its directory and its device are
 abbrev pub IsCyclone : {D R : Type 0} → DiskGhosts D → DirectoryGhosts R → Cyclone D R → Type 0
 IsCyclone disk directory c = IsTurning (seen disk directory c)
 
@@ -129,7 +131,7 @@ pub record WritesBuffer (old new : Seen) (result : Result (Unit {0}) Failed) : T
   pub others : IsTold new.device → SameBut (slot_of old.geometry old.buffer.cursor) (filled_of old.buffer) old.device.seen new.device.seen
   pub cause : HasCause old.device.faults new.device.faults result
 
--- nothing changed but how much room there is
+-- nothing changed but the room for more pieces, which may have grown, and what the device is
 pub record SameButRoom (old new : Seen) : Type 0 where
   pub same : new ≡ record old { spare = new.spare; device = new.device }
   pub spare : old.spare ≤ new.spare

@@ -1,4 +1,4 @@
--- What the ten bytes of an entry say.
+-- What the ten bytes of an entry say, as in the Traffic Server guide, "Cache Architecture".
 use Rattle.std.specs.Prelude.{ℕ, zero, suc, ◌+◌, ◌*◌, ◌/◌, ◌%◌, ◌^◌, ◌<◌, ◌≤◌, ◌⊎◌, ◌==◌, Bool, cond, List, [], ◌∷◌}
 use Rattle.dir_entry.specs.declared.entry.Entry.{Entry}
 
@@ -50,9 +50,11 @@ word_of_entry e = e.offset % 2 ^ 24 + 2 ^ 24 * e.big + 2 ^ 26 * e.size + 2 ^ 32 
     + 2 ^ 44 * bit_of e.phase + 2 ^ 45 * bit_of e.head + 2 ^ 46 * bit_of e.pinned
     + 2 ^ 47 * bit_of e.token + 2 ^ 48 * e.next + 2 ^ 64 * (e.offset / 2 ^ 24)
 
+-- the entry of ten bytes, the lowest first
 unfoldable pub entry_of_bytes : List ℕ → Entry
 entry_of_bytes bytes = entry_of_word (number_of bytes)
 
+-- the ten bytes of an entry, the lowest first; they spell it where each field is below its width
 unfoldable pub bytes_of_entry : Entry → List ℕ
 bytes_of_entry e = bytes_of 10 (word_of_entry e)
 

@@ -1,4 +1,5 @@
--- The approximate size of a document: `size + 1` units of 512, 4096, 32768 or 262144 bytes.
+-- The approximate size of a document: `size + 1` units of 512, 4096, 32768 or 262144 bytes (Traffic Server
+-- guide, "Cache Architecture").
 use Rattle.std.specs.Prelude.{◌≡◌, ℕ, ◌+◌, ◌*◌, ◌^◌, ◌<◌, ◌≤◌, ◌⊎◌}
 
 -- the blocks of a size class

@@ -21,10 +21,12 @@ clean_from test lists bucket root (r ∷ rows) free =
     (with_chain lists bucket (root ∷ filter (passes test) (r ∷ rows)) (freed_by (passes test) (r ∷ rows) free))
     (clean_from test lists bucket (row root.slot r.entry) rows (r.slot ∷ free))
 
+-- a bucket whose chain is this one is cleaned; where the chain is empty, nothing changes
 abbrev pub clean_chain : (Entry → Bool) → Lists → ℕ → List Row → Lists
 clean_chain test lists bucket [] = lists
 clean_chain test lists bucket (root ∷ rows) = clean_from test lists bucket root rows lists.free
 
+-- the same by the chain that the bucket has
 unfoldable pub clean_bucket : (Entry → Bool) → Lists → ℕ → Lists
 clean_bucket test lists bucket = clean_chain test lists bucket (chain_of lists bucket)
 
@@ -33,6 +35,7 @@ abbrev pub each_bucket : (Lists → ℕ → Lists) → ℕ → ℕ → Lists →
 each_bucket step bucket zero lists = lists
 each_bucket step bucket (suc buckets) lists = each_bucket step (suc bucket) buckets (step lists bucket)
 
+-- so many buckets from one on are cleaned in rising order: what later ones free stands before the earlier
 abbrev pub clean_buckets : (Entry → Bool) → ℕ → ℕ → Lists → Lists
 clean_buckets test = each_bucket (clean_bucket test)
 

@@ -14,12 +14,15 @@ abbrev pub entries_of : ℕ → List ℕ → List Entry
 entries_of zero bytes = []
 entries_of (suc count) bytes = entry_of_bytes (take 10 bytes) ∷ entries_of count (drop 10 bytes)
 
+-- the entries behind the first four bytes: four of each bucket, its root first
 abbrev pub image_slots : ℕ → List ℕ → List Entry
 image_slots buckets bytes = entries_of (4 * buckets) (drop 4 bytes)
 
+-- bytes 0 and 1: the first free slot, 0 where none is
 abbrev pub image_head : List ℕ → ℕ
 image_head bytes = from_le_bytes w16 (take 2 bytes)
 
+-- bytes 2 and 3: how many slots are free, as the segment kept it
 abbrev pub image_count : List ℕ → ℕ
 image_count bytes = from_le_bytes w16 (take 2 (drop 2 bytes))
 
@@ -31,14 +34,17 @@ image_lists buckets bytes = lists_of (image_slots buckets bytes) (image_head byt
 abbrev pub Marks : Type 0
 Marks = List Bool
 
+-- so many slots, of which none was reached
 abbrev pub unmarked : ℕ → Marks
 unmarked zero = []
 unmarked (suc slots) = false ∷ unmarked slots
 
+-- how many slots were reached
 abbrev pub marked : Marks → ℕ
 marked [] = 0
 marked (m ∷ marks) = cond m 1 0 + marked marks
 
+-- the next walk begins with the marks of the one before, unless that met a fault
 infixl 10 ◌>>=◌
 abbrev pub ◌>>=◌ : Result Marks SegmentFault → (Marks → Result Marks SegmentFault) → Result Marks SegmentFault
 (Ok marks) >>= next = next marks
@@ -72,6 +78,7 @@ abbrev pub walk_buckets : List Entry → ℕ → ℕ → Marks → Result Marks 
 walk_buckets slots bucket zero marks = Ok marks
 walk_buckets slots bucket (suc buckets) marks = walk_bucket slots bucket marks >>= walk_buckets slots (suc bucket) buckets
 
+-- the free list has as many slots as are kept, and with the chains all slots were reached
 abbrev pub counts : ℕ → ℕ → Marks → Marks → Result Marks SegmentFault
 counts kept slots before after =
     if kept == marked after - marked before
@@ -84,6 +91,7 @@ walk_all slots head kept buckets =
     walk_buckets slots 0 buckets (unmarked (4 * buckets)) >>= λ chains.
     walk false slots (length slots) head chains >>= counts kept (4 * buckets) chains
 
+-- all walks over the bytes of a segment of so many buckets
 unfoldable pub image_walk : ℕ → List ℕ → Result Marks SegmentFault
 image_walk buckets bytes = walk_all (image_slots buckets bytes) (image_head bytes) (image_count bytes) buckets
 

@@ -7,6 +7,7 @@ use Rattle.dir_segment.specs.Lists.{Row, Lists, row, entry_count}
 abbrev pub empty : Entry
 empty = record { offset = 0; big = 0; size = 0; tag = 0; phase = false; head = false; pinned = false; token = false; next = 0 }
 
+-- the entry of a slot; behind the last one an empty entry
 abbrev pub at : List Entry → ℕ → Entry
 at slots slot = slice_index_or slots slot empty
 
@@ -43,10 +44,11 @@ lines bucket (chain ∷ chains) = 4 * bucket ∷ (followers chain ++ lines (suc 
 abbrev pub all_slots : Lists → List ℕ
 all_slots lists = lists.free ++ lines 0 lists.chains
 
--- how often a slot stands in a list
+-- 1 where two slots are the same, and else 0
 abbrev pub hit : ℕ → ℕ → ℕ
 hit slot other = cond (slot == other) 1 0
 
+-- how often a slot stands in a list
 abbrev pub occurrences : ℕ → List ℕ → ℕ
 occurrences slot [] = 0
 occurrences slot (s ∷ slots) = hit s slot + occurrences slot slots
@@ -69,15 +71,18 @@ abbrev pub rows_from : List Entry → ℕ → ℕ → List Row
 rows_from slots zero slot = []
 rows_from slots (suc most) slot = cond (slot == 0) [] (row slot (at slots slot) ∷ rows_from slots most (at slots slot).next)
 
+-- a bucket's chain, the root first; no more links are followed than there are slots, so that a loop ends
 abbrev pub bucket_rows : List Entry → ℕ → List Row
 bucket_rows slots bucket =
     cond ((at slots (4 * bucket)).offset == 0) []
     (row (4 * bucket) (at slots (4 * bucket)) ∷ rows_from slots (length slots) (at slots (4 * bucket)).next)
 
+-- the chains of so many buckets from one on
 abbrev pub chains_from : List Entry → ℕ → ℕ → List (List Row)
 chains_from slots bucket zero = []
 chains_from slots bucket (suc buckets) = bucket_rows slots bucket ∷ chains_from slots (suc bucket) buckets
 
+-- the slots that links lead through from one on, at most so many, whatever stands in them
 abbrev pub free_from : List Entry → ℕ → ℕ → List ℕ
 free_from slots zero slot = []
 free_from slots (suc most) slot = cond (slot == 0) [] (slot ∷ free_from slots most (at slots slot).next)

@@ -1,4 +1,5 @@
--- What a segment stands for: one list of entries for each bucket, and the list of the free slots.
+-- What a segment stands for: one list of entries for each bucket, and the list of the free slots. Segments,
+-- buckets of four and chains are those of the Traffic Server guide, "Cache Architecture".
 use Rattle.std.specs.Prelude.{◌≡◌, ◌≢◌, ℕ, zero, suc, ◌+◌, ◌-◌, ◌*◌, ◌^◌, min, ◌&&◌, ◌||◌, ◌==◌, Bool, true, false, cond, List, [], ◌∷◌, length, drop, Option, Some, None, slice_index_or, slice_set}
 use Rattle.std.specs.List.{list_any}
 use mathlib.Core.Bool.{beq}
@@ -9,6 +10,7 @@ pub record Row : Type 0 where
   pub slot : ℕ
   pub entry : Entry
 
+-- the chain of each bucket from its root on, and the free slots in the order in which they are taken
 pub record Lists : Type 0 where
   pub chains : List (List Row)
   pub free : List ℕ
@@ -17,9 +19,11 @@ pub record Lists : Type 0 where
 abbrev pub unlinked : Entry → Entry
 unlinked e = record e { next = 0 }
 
+-- a row of an entry, whose link is dropped: the order of the chain has it
 abbrev pub row : ℕ → Entry → Row
 row slot e = record { slot = slot; entry = unlinked e }
 
+-- the chain of a bucket; behind the last bucket an empty one
 abbrev pub chain_of : Lists → ℕ → List Row
 chain_of lists bucket = slice_index_or lists.chains bucket []
 
@@ -33,6 +37,7 @@ insert_at lists bucket e [] free = with_chain lists bucket (row (4 * bucket) e �
 insert_at lists bucket e (root ∷ rest) [] = lists
 insert_at lists bucket e (root ∷ rest) (slot ∷ free) = with_chain lists bucket (root ∷ row slot e ∷ rest) free
 
+-- an entry goes into a bucket; where that is full, nothing changes
 abbrev pub inserted : Lists → ℕ → Entry → Lists
 inserted lists bucket e = insert_at lists bucket e (chain_of lists bucket) lists.free
 
@@ -76,6 +81,7 @@ abbrev pub with_first_free : List Row → List ℕ → List ℕ
 with_first_free [] free = free
 with_first_free (r ∷ rows) free = r.slot ∷ free
 
+-- the same of the lists: the slot of that row is the first free one then
 abbrev pub take_next : Lists → ℕ → ℕ → List Row → Lists
 take_next lists bucket slot chain = with_chain lists bucket (without_next slot chain) (with_first_free (behind_slot slot chain) lists.free)
 
@@ -85,6 +91,7 @@ GivesNext None rest chain = rest ≡ []
 GivesNext (Some found) rest chain =
     (rest ≡ row found.0 found.1 ∷ behind_slot found.0 chain) × (has_slot found.0 chain ≡ true)
 
+-- the first row of a tag, from the root on
 abbrev pub first_of_tag : ℕ → List Row → Option Row
 first_of_tag tag [] = None
 first_of_tag tag (r ∷ rows) = cond (r.entry.tag == tag) (Some r) (first_of_tag tag rows)
@@ -103,6 +110,7 @@ ticked (suc steps) count = ticked steps (min (count + 1) (2 ^ 64 - 1))
 abbrev pub is_that : ℕ → ℕ → Bool → Entry → Bool
 is_that tag offset phase e = (e.tag == tag) && (e.offset == offset) && beq e.phase phase
 
+-- a test of entries, of a row: its slot plays no part
 abbrev pub passes : (Entry → Bool) → Row → Bool
 passes test r = test r.entry
 
@@ -123,6 +131,7 @@ delete_at lists bucket test (root ∷ rows) =
     cond (test root.entry) (take_root lists bucket (root ∷ rows))
     (with_chain lists bucket (root ∷ removed test rows) (freed test rows lists.free))
 
+-- the first entry of a bucket that passes goes out; where none does, nothing changes
 abbrev pub deleted : Lists → ℕ → (Entry → Bool) → Lists
 deleted lists bucket test = delete_at lists bucket test (chain_of lists bucket)
 

@@ -34,9 +34,11 @@ tenths (suc skip) (r ∷ rows) = tenths skip rows
 abbrev pub purged : Lists → List Row
 purged lists = tenths 0 (rows_of (slots_behind_roots 0 (length lists.chains)) (behind_roots lists.chains))
 
+-- the row stands in another slot than all that go
 abbrev pub is_left : List Row → Row → Bool
 is_left gone r = not (has_slot r.slot gone)
 
+-- the row's slot has no mark; slots behind the last mark have none
 abbrev pub is_unmarked : List Bool → Row → Bool
 is_unmarked marks r = not (slice_index_or marks r.slot false)
 
@@ -45,9 +47,11 @@ abbrev pub thin_chain : (Row → Bool) → Lists → ℕ → List Row → Lists
 thin_chain test lists bucket [] = lists
 thin_chain test lists bucket (root ∷ rows) = with_chain lists bucket (root ∷ filter test rows) (freed_by test rows lists.free)
 
+-- the same by the chain that the bucket has
 unfoldable pub thin_bucket : (Row → Bool) → Lists → ℕ → Lists
 thin_bucket test lists bucket = thin_chain test lists bucket (chain_of lists bucket)
 
+-- the lists without the purged rows, bucket by bucket in rising order
 abbrev pub after_purge : Lists → Lists
 after_purge lists = each_bucket (thin_bucket (is_left (purged lists))) 0 (length lists.chains) lists
 
@@ -65,6 +69,7 @@ offer out r =
     (record { buckets = out.buckets; skip = 9; entries = out.entries ++ r.entry ∷ []; marks = slice_set out.marks r.slot true })
     (record { buckets = out.buckets; skip = out.skip - 1; entries = out.entries; marks = out.marks })
 
+-- a row comes by, where a slot has one; a slot that has none is not counted
 abbrev pub offer_found : Option Row → Purge → Purge
 offer_found None out = out
 offer_found (Some r) out = offer out r

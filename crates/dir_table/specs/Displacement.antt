@@ -12,9 +12,11 @@ pub record Displacement : Type 0 where
   pub segment : ℕ
   pub live : ℕ
 
+-- no row was displaced; the segment and its rows are then told as 0
 abbrev pub none_displaced : Displacement
 none_displaced = record { places = []; segment = 0; live = 0 }
 
+-- a place is among these, whatever segment the row is of
 abbrev pub has_place : ℕ → List ℕ → Bool
 has_place place places = list_any (λ p. p == place) places
 

@@ -9,19 +9,23 @@ use Rattle.dir_table.specs.declared.links.Node.{Node}
 use Rattle.dir_table.specs.declared.links.Links.{Links}
 use Rattle.dir_table.specs.Rows.{spot_of, same_spot, is_at}
 
--- what stands under a number, and what a spot's newest row is
+-- what stands under a number: a row, and the number of the next older one of its spot
 abbrev pub node_at : Links → ℕ → Option Node
 node_at links k = get nat_eq links.nodes k
 
+-- the number of a spot's newest row, where its chain begins
 abbrev pub newest_at : Links → Spot → Option ℕ
 newest_at links spot = get same_spot links.newest spot
 
+-- what stands there without its link
 abbrev pub row_of_node : Option Node → Option DirRow
 row_of_node node = option_map (λ n. n.row) node
 
+-- the row of a number: none where no row had it yet, or where the row was taken out
 abbrev pub row_at : Links → ℕ → Option DirRow
 row_at links k = row_of_node (node_at links k)
 
+-- the row of a number before the others, where there is one
 abbrev pub with_entry : ℕ → Option DirRow → List (ℕ × DirRow) → List (ℕ × DirRow)
 with_entry k None entries = entries
 with_entry k (Some row) entries = (k, row) ∷ entries
@@ -31,12 +35,15 @@ abbrev pub entries_below : (ℕ → Option DirRow) → ℕ → List (ℕ × DirR
 entries_below at zero = []
 entries_below at (suc k) = with_entry k (at k) (entries_below at k)
 
+-- all rows with their numbers, the newest first
 abbrev pub entries_of : Links → List (ℕ × DirRow)
 entries_of links = entries_below (row_at links) links.next
 
+-- the rows alone, in the same order
 abbrev pub rows_of : List (ℕ × DirRow) → List DirRow
 rows_of entries = map (λ e. e.1) entries
 
+-- all rows, the newest first
 abbrev pub rows_in : Links → List DirRow
 rows_in links = rows_of (entries_of links)
 
@@ -56,31 +63,36 @@ pub record IsLinkedBy (node : ℕ → Option Node) (head : Spot → Option ℕ) 
   pub below : (k : ℕ) (n : Node) → node k ≡ Some n → k < next
   pub rising : (j k : ℕ) (m n : Node) → j < k → node j ≡ Some m → node k ≡ Some n → m.row.place ≤ n.row.place
 
+-- what holds of the links between calls
 abbrev pub IsLinked : Links → Type 0
 IsLinked links = IsLinkedBy (node_at links) (newest_at links) links.next
 
--- the link that leads to a number: the spot's newest, or that of a newer row of the spot
+-- a row of the spot stands under a number, and its link leads to another number, or to none
 pub record LeadsOn (node : ℕ → Option Node) (spot : Spot) (from : ℕ) (to : Option ℕ) : Type 0 where
   pub it : Node
   pub stands : node from ≡ Some it
   pub there : is_at spot it.row ≡ true
   pub leads : it.older ≡ to
 
+-- the link that leads to a number: the spot's newest, or that of a newer row of the spot
 abbrev pub PointsBy : (ℕ → Option Node) → (Spot → Option ℕ) → Spot → Option ℕ → Option ℕ → Type 0
 PointsBy node head spot None to = head spot ≡ to
 PointsBy node head spot (Some from) to = LeadsOn node spot from to
 
+-- the same by the links as they are kept
 abbrev pub PointsTo : Links → Spot → Option ℕ → Option ℕ → Type 0
 PointsTo links spot before to = PointsBy (node_at links) (newest_at links) spot before to
 
--- what the change of that link makes of a node, and of a spot's newest
+-- a row with another link to the next older one
 abbrev pub with_older : Option ℕ → Node → Node
 with_older older n = record n { older = older }
 
+-- what a change of that link makes of what stands under a number: only the node that has it changes
 abbrev pub relinked : Option ℕ → Option ℕ → ℕ → Option Node → Option Node
 relinked None older k node = node
 relinked (Some from) older k node = if from == k then option_map (with_older older) node else node
 
+-- what it makes of the newest of a spot, which changes only where that is the link
 abbrev pub renewed : Option ℕ → Option ℕ → Spot → Spot → Option ℕ → Option ℕ
 renewed None older spot s newest = if same_spot spot s then older else newest
 renewed (Some from) older spot s newest = newest

@@ -10,5 +10,6 @@ pub record Listed : Type 0 where
   pub entries : List (ℕ × DirRow)
   pub spare : ℕ
 
+-- the rows alone, the newest first
 abbrev pub rows_listed : Listed → List DirRow
 rows_listed d = rows_of d.entries

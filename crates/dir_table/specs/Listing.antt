@@ -5,6 +5,7 @@ use Rattle.dir_table.specs.Links.{IsLinked, AllFrom, entries_of, rows_in, room_o
 use Rattle.dir_table.specs.Listed.{Listed}
 use Rattle.dir_table.specs.declared.list.ListDirectory.TheInside.{Inside}
 
+-- what the fields stand for, but for the number below which no row stands, and what was displaced
 abbrev pub listed_of : Inside → Listed
 listed_of d = record { window = d.window; entries = entries_of d.links; spare = room_of d.links }
 

@@ -12,10 +12,11 @@ use Rattle.dir_table.specs.declared.rows.Spot.{Spot}
 abbrev pub row_of_key : Geometry → Key → ℕ → DirRow
 row_of_key g key place = record { segment = segment_of g key; bucket = bucket_of g key; tag = tag_of key; place = place }
 
--- the segment, the bucket and the tag of a key, and of a row
+-- the segment, the bucket and the tag of a key
 abbrev pub spot_of_key : Geometry → Key → Spot
 spot_of_key g key = record { segment = segment_of g key; bucket = bucket_of g key; tag = tag_of key }
 
+-- those of a row; rows of one spot differ in their places at most
 abbrev pub spot_of : DirRow → Spot
 spot_of row = record { segment = row.segment; bucket = row.bucket; tag = row.tag }
 

@@ -14,6 +14,7 @@ abbrev pub rows_down : Spot → Option ℕ → List (ℕ × DirRow) → List Dir
 rows_down spot None entries = []
 rows_down spot (Some number) entries = filter (is_at spot) (rows_of (filter (λ e. nat_le e.0 number) entries))
 
+-- the rows that a walk has still to pass, in range or not, the newest first
 abbrev pub trail_of : Walk → List (ℕ × DirRow) → List DirRow
 trail_of walk entries = rows_down walk.spot walk.next entries
 
@@ -30,9 +31,10 @@ is_on walk entries = is_there walk.spot walk.next entries
 abbrev pub places_in : Window → List DirRow → List ℕ
 places_in w rows = map (λ r. r.place) (filter (λ r. is_in_range w r.place) rows)
 
--- the places that a walk has left, and how many rows it has to pass for them
+-- the places that a walk has left to give
 abbrev pub places_left : Window → Walk → List (ℕ × DirRow) → List ℕ
 places_left w walk entries = places_in w (trail_of walk entries)
 
+-- how many rows it has to pass for them
 abbrev pub count_left : Walk → List (ℕ × DirRow) → ℕ
 count_left walk entries = length (trail_of walk entries)

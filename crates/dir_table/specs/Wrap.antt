@@ -8,6 +8,7 @@ use Rattle.dir_table.specs.declared.rows.DirRow.{DirRow}
 abbrev pub lap_before : Geometry → ℕ → ℕ
 lap_before g cursor = g.content * (lap_of g cursor - 1)
 
+-- the rows at a place or above, in their order
 abbrev pub rows_from : ℕ → List DirRow → List DirRow
 rows_from low rows = filter (λ r. nat_le low r.place) rows
 

@@ -40,18 +40,20 @@ document_bytes doc payload = header_bytes doc payload ++ payload ++ replicate (p
 abbrev pub digest_of_document : Doc → List ℕ → Digest
 digest_of_document doc payload = digest_of (header_bytes doc payload ++ payload)
 
--- the numbers of a document are as wide as the fields that have them, and its key is a key
+-- the put and the index fit fields of eight and of four bytes, and the key is the one that its 16 bytes spell
 pub record HasName (doc : Doc) : Type 0 where
   pub is_key : key_of_bytes (key_bytes doc.id.first) ≡ doc.id.first
   pub put_fits : doc.id.put < 2 ^ 64
   pub index_fits : doc.id.index < 2 ^ 32
 
+-- the place, the generation, the pin and the start fit fields of eight bytes each
 pub record HasPlace (doc : Doc) : Type 0 where
   pub place_fits : doc.place < 2 ^ 64
   pub generation_fits : doc.generation < 2 ^ 64
   pub pin_fits : doc.pin < 2 ^ 64
   pub start_fits : doc.start < 2 ^ 64
 
+-- a header can spell this document and its payload, whose length has a field of four bytes
 pub record Fits (doc : Doc) (payload : List ℕ) : Type 0 where
   pub name : HasName doc
   pub position : HasPlace doc

@@ -22,10 +22,11 @@ field_at at count bytes = take count (drop at bytes)
 unfoldable pub number_at : Width → ℕ → List ℕ → ℕ
 number_at w at bytes = from_le_bytes w (field_at at (byte_len w) bytes)
 
--- the length that bytes tell of their payload, and how many bytes are looked at
+-- the length that bytes tell of their payload: bytes 12 to 15
 abbrev pub length_of : List ℕ → ℕ
 length_of bytes = number_at w32 12 bytes
 
+-- how many bytes are looked at: the header and a payload of that length, without the zeros behind it
 abbrev pub extent_of : List ℕ → ℕ
 extent_of bytes = length_of bytes + 128
 
@@ -33,7 +34,7 @@ extent_of bytes = length_of bytes + 128
 abbrev pub document_digest : List ℕ → Digest
 document_digest bytes = digest_of (take (extent_of bytes) bytes)
 
--- the document and the payload that bytes tell
+-- what the fields of a header tell, before any of them is judged
 abbrev pub doc_of : List ℕ → Doc
 doc_of bytes =
     record {
@@ -44,6 +45,7 @@ doc_of bytes =
       start = number_at w64 72 bytes;
     }
 
+-- the bytes behind the header, as many as the header tells; all there are where these are fewer
 abbrev pub payload_of : List ℕ → List ℕ
 payload_of bytes = field_at 128 (length_of bytes) bytes
 

@@ -1,7 +1,8 @@
--- Which candidates a budget of blocks keeps.
+-- Which candidates a budget of blocks keeps (evacuation: Traffic Server guide, "Cache Architecture").
 use Rattle.std.specs.Prelude.{ℕ, ◌≡◌, ◌<◌, ◌≤◌, ◌+◌, ◌-◌, nat_le, Bool, true, false, if◌then◌else◌, List, [], ◌∷◌, length, take, map, slice_get, slice_index, Some}
 use Rattle.evacuator.specs.declared.choosing.Candidate.{Candidate}
 
+-- how many blocks each candidate has, in their order
 abbrev pub blocks_of_all : List Candidate → List ℕ
 blocks_of_all candidates = map (λ c. c.blocks) candidates
 

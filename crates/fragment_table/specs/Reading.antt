@@ -10,6 +10,7 @@ use Rattle.fragment_table.specs.Table.{TableRow, Table, AreRows, table_bytes, to
 abbrev pub told_count : List ℕ → ℕ
 told_count bytes = from_le_bytes w32 (take 4 bytes)
 
+-- the row that the first 36 bytes tell: four of its length, low byte first, and the digest
 abbrev pub row_at : List ℕ → TableRow
 row_at bytes = record { length = from_le_bytes w32 (take 4 bytes); digest = take 32 (drop 4 bytes) }
 
@@ -30,6 +31,7 @@ told_length bytes = 4 + 36 * told_count bytes
 abbrev pub is_cut : List ℕ → Bool
 is_cut bytes = nat_lt (length bytes) 4 || nat_lt (length bytes) (told_length bytes)
 
+-- no row has the length 0; so it is of no rows at all
 abbrev pub none_empty : List TableRow → Bool
 none_empty rows = list_all (λ row. nat_lt 0 row.length) rows
 
@@ -37,6 +39,7 @@ none_empty rows = list_all (λ row. nat_lt 0 row.length) rows
 abbrev pub has_sum : ℕ → List TableRow → Bool
 has_sum total rows = none_empty rows && total_length rows == total
 
+-- that test passes: `Sum` is answered only where it does not
 abbrev pub HasSum : ℕ → List TableRow → Type 0
 HasSum total rows = IsTrue (has_sum total rows)
 

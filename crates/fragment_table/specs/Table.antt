@@ -1,4 +1,5 @@
--- What a contract sees of a `FragTable`, and the bytes that spell one.
+-- What a contract sees of a `FragTable`, and the bytes that spell one. Fragments are those of the
+-- Traffic Server guide, "Cache Architecture".
 use Rattle.std.specs.Prelude.{◌≡◌, ℕ, ◌+◌, ◌-◌, ◌^◌, ◌<◌, ◌≤◌, nat_lt, if◌then◌else◌, List, [], ◌∷◌, ◌++◌, length, sum_by, Option, Some, None, option_map}
 use Rattle.std.specs.List.{flat_map, AllByRecursion}
 use Rattle.std.specs.Int.{w32, to_le_bytes}
@@ -13,6 +14,7 @@ pub record Table : Type 0 where
   pub rows : List TableRow
   pub room : ℕ
 
+-- a row of this length and digest, whether or not a table may have it
 abbrev pub made_row : ℕ → List ℕ → TableRow
 made_row n digest = record { length = n; digest = digest }
 

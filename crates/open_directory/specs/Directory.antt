@@ -53,12 +53,15 @@ state_at Writing cut bytes = Open cut
 state_at Closed cut bytes = Committed cut bytes
 state_at GivenUp cut bytes = Aborted cut
 
+-- how a put stands, by its phase and the fragments in its table
 abbrev pub state_of : KeptPut → PutState
 state_of kept = state_at kept.phase (length kept.cuts.rows) (total_length kept.cuts.rows)
 
+-- the same by its number; none where it never began, or ended and is forgotten
 abbrev pub put_state : ℕ → List (ℕ × KeptPut) → Option PutState
 put_state put puts = option_map state_of (kept_put put puts)
 
+-- the put is kept, and a writer of it is open
 abbrev pub is_open_state : Option PutState → Bool
 is_open_state None = false
 is_open_state (Some (Open cut)) = true
@@ -72,11 +75,13 @@ is_ended_state (Some (Open cut)) = false
 is_ended_state (Some (Committed cut length)) = true
 is_ended_state (Some (Aborted cut)) = true
 
+-- the phase of an open put: neither closed nor given up
 abbrev pub is_writing : Phase → Bool
 is_writing Writing = true
 is_writing Closed = false
 is_writing GivenUp = false
 
+-- what is kept of a put is that of an open one; a put that is not kept is not open
 abbrev pub is_open_put : Option KeptPut → Bool
 is_open_put None = false
 is_open_put (Some kept) = is_writing kept.phase
@@ -85,6 +90,7 @@ is_open_put (Some kept) = is_writing kept.phase
 abbrev pub is_open : ℕ → List (ℕ × KeptPut) → Bool
 is_open put puts = is_open_put (kept_put put puts)
 
+-- the rows of its fragments: none where the put is not kept
 abbrev pub rows_kept : Option KeptPut → List TableRow
 rows_kept None = []
 rows_kept (Some kept) = kept.cuts.rows
@@ -93,9 +99,11 @@ rows_kept (Some kept) = kept.cuts.rows
 abbrev pub cuts_of : ℕ → List (ℕ × KeptPut) → List TableRow
 cuts_of put puts = rows_kept (kept_put put puts)
 
+-- how many fragments are cut, as a cut answers
 abbrev pub count_of : List TableRow → ℕ
 count_of rows = length rows
 
+-- the room in its table: none where the put is not kept
 abbrev pub room_kept : Option KeptPut → ℕ
 room_kept None = 0
 room_kept (Some kept) = kept.cuts.room
@@ -104,6 +112,7 @@ room_kept (Some kept) = kept.cuts.room
 abbrev pub room_of : ℕ → List (ℕ × KeptPut) → ℕ
 room_of put puts = room_kept (kept_put put puts)
 
+-- a row as callers are told it, with its digest as a `Digest`
 abbrev pub table_row : TableRow → ℕ × Digest
 table_row row = (row.length, record { 0 = row.digest })
 
@@ -119,6 +128,7 @@ new_put room = record { phase = Writing; cuts = record { rows = []; room = room 
 abbrev pub opened : Writer → ℕ → Held → Held
 opened writer room held = record held { writers = held.writers ++ writer ∷ []; puts = insert_entry nat_cmp held.puts writer.put (new_put room) }
 
+-- the put with these fragments and room for so many more, its phase and followers as they were
 abbrev pub with_cuts : List TableRow → ℕ → KeptPut → KeptPut
 with_cuts rows room kept = record kept { cuts = record { rows = rows; room = room } }
 
@@ -130,6 +140,7 @@ with_cut put row room puts = changed (λ kept. with_cuts (kept.cuts.rows ++ row 
 abbrev pub with_room : ℕ → ℕ → List (ℕ × KeptPut) → List (ℕ × KeptPut)
 with_room put room puts = changed (λ kept. with_cuts kept.cuts.rows room kept) put puts
 
+-- the put ended, and no reader follows it: nothing of it need be kept
 abbrev pub is_done_put : Option KeptPut → Bool
 is_done_put None = false
 is_done_put (Some kept) = not (is_writing kept.phase) && kept.followers == 0
@@ -151,12 +162,15 @@ KeepsStanding before after = (put : ℕ) → (is_open put after ≡ is_open put 
 abbrev pub AddsFollower : ℕ → List (ℕ × KeptPut) → List (ℕ × KeptPut) → Type 0
 AddsFollower to before after = (put : ℕ) → followers_kept (kept_put put after) ≡ (if is_number to put then 1 else 0) + followers_kept (kept_put put before)
 
+-- the put with so many followers, its phase and fragments as they were
 abbrev pub with_followers : ℕ → KeptPut → KeptPut
 with_followers followers kept = record kept { followers = followers }
 
+-- a put has one follower more; where it is not kept, nothing changes
 abbrev pub one_more : ℕ → List (ℕ × KeptPut) → List (ℕ × KeptPut)
 one_more put puts = changed (λ kept. with_followers (kept.followers + 1) kept) put puts
 
+-- a put has one follower fewer; it stays kept, also where it is done then
 abbrev pub one_fewer : ℕ → List (ℕ × KeptPut) → List (ℕ × KeptPut)
 one_fewer put puts = changed (λ kept. with_followers (kept.followers - 1) kept) put puts
 
@@ -164,6 +178,7 @@ one_fewer put puts = changed (λ kept. with_followers (kept.followers - 1) kept)
 abbrev pub without_done : ℕ → List (ℕ × KeptPut) → List (ℕ × KeptPut)
 without_done put puts = if is_done_put (kept_put put puts) then remove_entry (is_number put) puts else puts
 
+-- what is left of what is kept of a put: nothing where it is done
 abbrev pub unless_done : Option KeptPut → Option KeptPut
 unless_done kept = if is_done_put kept then None else kept
 
@@ -171,6 +186,7 @@ unless_done kept = if is_done_put kept then None else kept
 abbrev pub Forgets : ℕ → List (ℕ × KeptPut) → List (ℕ × KeptPut) → Type 0
 Forgets put before after = (q : ℕ) → kept_put q after ≡ (if is_number put q then unless_done (kept_put q before) else kept_put q before)
 
+-- the put in this phase, its fragments and followers as they were
 abbrev pub with_phase : Phase → KeptPut → KeptPut
 with_phase phase kept = record kept { phase = phase }
 
@@ -225,6 +241,7 @@ with_reader number put next held = record held {
   readers = insert_entry nat_cmp held.readers number (new_reader put next held.puts);
 }
 
+-- an open reader by its number: none where it never opened, or was closed
 abbrev pub reader_at : ℕ → Held → Option Reader
 reader_at number held = lookup (is_number number) held.readers
 

@@ -18,6 +18,7 @@ least_of Nobody = None
 least_of (One reader next) = Some next
 least_of (Fork' least p even q odd) = least
 
+-- the tree of no reader, which no fork is, not even of two such trees
 abbrev pub is_nobody : Nexts → Bool
 is_nobody Nobody = true
 is_nobody (One reader next) = false
@@ -49,9 +50,11 @@ SetsNext reader next before after = (q : ℕ) → next_at q after ≡ (if q == r
 abbrev pub KeepsNexts : Nexts → Nexts → Type 0
 KeepsNexts before after = (q : ℕ) → next_at q after ≡ next_at q before
 
+-- the tree of one reader alone
 abbrev pub is_one : ℕ → ℕ → Nexts
 is_one reader next = One reader next
 
+-- a put that has no tree has no reader
 abbrev pub nexts_in : Option Nexts → Nexts
 nexts_in None = Nobody
 nexts_in (Some nexts) = nexts

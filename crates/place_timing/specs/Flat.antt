@@ -8,6 +8,7 @@ use Rattle.place_timing.specs.declared.device.FlatDisk.{FlatDisk}
 abbrev pub blank_block : List ℕ
 blank_block = replicate 512 0
 
+-- it has the 512 bytes of a block
 pub block_length : length blank_block ≡ 512
 block_length = length-replicate {A = ℕ} 512 0
 

@@ -58,9 +58,11 @@ StandsAlong stands run (bytes ∷ lines) [] = StandsWhere stands run run.state
 StandsAlong stands run (bytes ∷ lines) (turn ∷ turns) =
     KeepsSession (reading_of bytes) × StandsWhere stands run run.state × StandsAlong stands (after_line run turn bytes) lines turns
 
+-- what stands is what writers took, before each line and behind the last one
 abbrev pub OwnAlong : Run → List (List ℕ) → List Turn → Type 0
 OwnAlong = StandsAlong StandsOwn
 
+-- the same, but for what fragments are
 abbrev pub KeptAlong : Run → List (List ℕ) → List Turn → Type 0
 KeptAlong = StandsAlong StandsKept
 

@@ -21,6 +21,7 @@ pub record IsAlikeForActors (s t : State) : Type 0 where
   pub next_put : t.next_put ≡ s.next_put
   pub next_reader : t.next_reader ≡ s.next_reader
 
+-- actors that are in step with one are in step with the other
 abbrev pub AlikeStayInStep : Type 0
 AlikeStayInStep = (s t : State) (a : Seen) → IsAlikeForActors s t → AreActors s a → AreActors t a
 
@@ -46,20 +47,25 @@ speaks_of_actors (rec.Broke reader why) = false
 speaks_of_actors (rec.ReadClosed reader) = true
 speaks_of_actors (rec.Fault count) = false
 
+-- any other record leaves actors in step, as they are
 abbrev pub OthersStayInStep : Type 0
 OthersStayInStep = (s : State) (a : Seen) (r : Rec) → speaks_of_actors r ≡ false → AreActors s a → AreActors (state_after s r) a
 
 -- ---- writers
 
+-- a put is open among the actors just where it is open by the records
 abbrev pub OpenIsWriting : Type 0
 OpenIsWriting = (s : State) (a : Seen) → AreActors s a → (put : ℕ) → is_open put a.held.puts ≡ is_writing s put
 
+-- as many writers are open as the records have open puts
 abbrev pub WritersAreCounted : Type 0
 WritersAreCounted = (s : State) (a : Seen) → AreActors s a → length a.held.writers ≡ open_writers s
 
+-- a put by its number, as a lookup that follows it is told
 abbrev pub number_in : PutRow → ℕ
 number_in p = p.put
 
+-- a lookup can follow the same put by the writers as by the records, or by both none
 abbrev pub FollowedIsFound : Type 0
 FollowedIsFound = (s : State) (a : Seen) → AreActors s a → (key : Key) (request : List Field)
     → followed key request a.held.writers ≡ option_map number_in (followed_row s key request)
@@ -77,12 +83,15 @@ pub record IsTold (s : State) (a : Seen) (put : ℕ) : Type 0 where
   pub state : put_state put a.held.puts ≡ Some (state_in row)
   pub cuts : cuts_of put a.held.puts ≡ row.cuts
 
+-- so it is of each put that is kept
 abbrev pub KeptIsTold : Type 0
 KeptIsTold = (s : State) (a : Seen) → AreActors s a → (put : ℕ) → IsSome (put_state put a.held.puts) → IsTold s a put
 
+-- so it is of each put that is open
 abbrev pub WritingIsTold : Type 0
 WritingIsTold = (s : State) (a : Seen) → AreActors s a → (put : ℕ) → is_writing s put ≡ true → IsTold s a put
 
+-- so it is of a put that a reader follows, also once it has ended
 abbrev pub FollowedIsTold : Type 0
 FollowedIsTold = (s : State) (a : Seen) → AreActors s a → IsHeld a.held → (reader : ℕ) (r : ReaderRow) → reader_of s reader ≡ Some r → r.table ≡ None → IsTold s a r.put
 
@@ -93,8 +102,10 @@ NextIsTold = (s : State) (a : Seen) → AreActors s a → IsHeld a.held → (rea
 
 -- ---- numbers
 
+-- a put of the records has a number from 1 on, below the next put's
 abbrev pub PutWasGiven : Type 0
 PutWasGiven = (s : State) (a : Seen) → AreActors s a → (put : ℕ) → IsSome (put_of s put) → (1 ≤ put) × (put < s.next_put)
 
+-- a reader of the records has a number from 1 on, below the next reader's
 abbrev pub ReaderWasGiven : Type 0
 ReaderWasGiven = (s : State) (a : Seen) → AreActors s a → (reader : ℕ) → IsSome (reader_of s reader) → (1 ≤ reader) × (reader < s.next_reader)

@@ -40,6 +40,7 @@ FallBelow high (n ∷ ns) = (n < high) × FallBelow n ns
 abbrev pub writer_of : PutRow → Writer
 writer_of p = record { put = p.put; key = p.key; request = p.request; response = p.response }
 
+-- a put's writer, as long as it is open
 abbrev pub writer_where_open : PutRow → List Writer
 writer_where_open p = if is_open p then writer_of p ∷ [] else []
 
@@ -48,6 +49,7 @@ abbrev pub writers_in : List PutRow → List Writer
 writers_in [] = []
 writers_in (p ∷ ps) = writers_in ps ++ writer_where_open p
 
+-- the phase that is kept of a put, by how it stands in the records
 abbrev pub phase_of : Writing → Phase
 phase_of Open = phase.Writing
 phase_of Closed = phase.Closed
@@ -72,15 +74,18 @@ pub record IsReaderOf (row : ReaderRow) (reader : Reader) : Type 0 where
   pub counted : 1 ≤ row.next
   pub follows : row.table ≡ None → reader.follows ≡ true
 
+-- a reader is kept just as long as it is open by the records
 abbrev pub IsReaderAs : Option ReaderRow → Option Reader → Type 0
 IsReaderAs None None = Unit {0}
 IsReaderAs None (Some reader) = ⊥
 IsReaderAs (Some row) None = ⊥
 IsReaderAs (Some row) (Some reader) = IsReaderOf row reader
 
+-- the numbers of the puts as their rows stand, the last opened first
 abbrev pub put_numbers : List PutRow → List ℕ
 put_numbers puts = map (λ p. p.put) puts
 
+-- the numbers of the readers as their rows stand, the last opened first
 abbrev pub reader_numbers : List ReaderRow → List ℕ
 reader_numbers readers = map (λ r. r.reader) readers
 

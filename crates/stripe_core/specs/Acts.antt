@@ -22,6 +22,7 @@ use Rattle.stripe_core.specs.declared.refusal.Refusal.TheVariants as refusal
 
 -- ---- a writer opens
 
+-- the record of a writer that opens: it has the number of the next put
 abbrev pub opened_record : State → Actor → Key → List Field → List Field → ℕ → Rec
 opened_record s who key request response pin = rec.WriteOpened who s.next_put key request response pin
 
@@ -57,9 +58,11 @@ pub record IsCommitting (s : State) (put : ℕ) (key : Key) : Type 0 where
   pub key_is : w.key ≡ key
   pub pending : s.pending ≡ Some (vector_piece w.key put)
 
+-- the record of a put that is complete, with the bytes of all its fragments
 abbrev pub committed_record : State → ℕ → Key → Rec
 committed_record s put key = rec.Committed put key (total_length (cuts_of s put))
 
+-- that record does what committing asks, in any step
 abbrev pub CommitsAsAsked : State → ℕ → Key → Type 0
 CommitsAsAsked s put key = (p : Permit) → Does p s (Commit put) (committed_record s put key ∷ []) Done
 
@@ -69,11 +72,13 @@ pub record IsGivingUp (s : State) (put : ℕ) (key : Key) : Type 0 where
   pub writing : IsWriting s put w
   pub key_is : w.key ≡ key
 
+-- the record of its end does what giving up asks, in any step
 abbrev pub GivesUpAsAsked : State → ℕ → Key → Type 0
 GivesUpAsAsked s put key = (p : Permit) → Does p s (GiveUp put) (rec.Aborted put key ∷ []) Done
 
 -- ---- an object is removed
 
+-- the record of a removal does what removing asks, in any step
 abbrev pub RemovesAsAsked : State → Key → ℕ → Type 0
 RemovesAsAsked s key put = (p : Permit) → Does p s (Remove key) (rec.Removed put key ∷ []) Done
 

@@ -40,6 +40,7 @@ abbrev pub taken_by : Row → Outcome → ℕ
 taken_by row NoRoom = 0
 taken_by row _ = row.blocks
 
+-- how many blocks all of them take
 abbrev pub taken_by_all : List Row → List Outcome → ℕ
 taken_by_all [] outcomes = 0
 taken_by_all (row ∷ rows) [] = 0

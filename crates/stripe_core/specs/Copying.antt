@@ -18,6 +18,7 @@ use Rattle.stripe_core.specs.Records.{IsMovable}
 abbrev pub left_records : Bool → Candidate → Bool → List Rec
 left_records done c fault = if done then rec.Unsaved c.id c.place fault ∷ [] else []
 
+-- what is told of one piece: damage and faults also of a flush that is not done
 abbrev pub told_by : Bool → Candidate → Fate → List Rec
 told_by done c fate.NoRoom = left_records done c false
 told_by done c (fate.Copied pinned) = []
@@ -57,6 +58,7 @@ bytes_for at c f memory = take (512 * blocks_for c f) (drop (512 * at) memory)
 abbrev pub copied_record : State → Candidate → List ℕ → Rec
 copied_record s c bytes = rec.Moved c.id c.place (place_now s) (document_digest (moved_to (place_now s) bytes))
 
+-- a record where the piece is copied, and else none
 abbrev pub copied_by : State → Candidate → Fate → List ℕ → List Rec
 copied_by s c (fate.Copied pinned) bytes = copied_record s c bytes ∷ []
 copied_by s c _ bytes = []
@@ -77,6 +79,7 @@ pub record IsCopyable (s : State) (c : Candidate) (bytes : List ℕ) : Type 0 wh
   pub blocks : row.blocks ≡ c.blocks
   pub some : 0 < c.blocks
 
+-- of a piece that is not copied nothing is asked
 abbrev pub IsCopyableWhereCopied : State → Candidate → Fate → List ℕ → Type 0
 IsCopyableWhereCopied s c (fate.Copied pinned) bytes = IsCopyable s c bytes
 IsCopyableWhereCopied s c _ bytes = Unit {0}
@@ -90,11 +93,12 @@ AreCopyable s at (c ∷ cs) (f ∷ fs) memory =
     × AreCopyable (after_all s (copied_by s c f (bytes_for at c f memory))) (at + blocks_for c f) cs fs memory
 AreCopyable s at _ _ memory = ⊥
 
--- how many are copied
+-- 1 where the piece is copied, and else 0
 abbrev pub copies_by : Fate → ℕ
 copies_by (fate.Copied pinned) = 1
 copies_by _ = 0
 
+-- how many are copied
 abbrev pub copies_among : List Fate → ℕ
 copies_among [] = 0
 copies_among (f ∷ fs) = copies_by f + copies_among fs
@@ -105,6 +109,7 @@ copies_among (f ∷ fs) = copies_by f + copies_among fs
 abbrev pub begun_behind : State → List Rec → State
 begun_behind s told = state_after (after_all s told) (rec.Began (cursor_next s) (floor_next s))
 
+-- what is told first, then that the next buffer begins, and then what is copied into it
 abbrev pub done_records : State → List Candidate → List Fate → List ℕ → List Rec
 done_records s cs fs memory =
     let told : List Rec = told_of true cs fs in

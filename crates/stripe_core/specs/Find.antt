@@ -22,11 +22,13 @@ cause_records row (cause.DeviceFault count) = rec.Fault count ∷ []
 cause_records row (cause.Damaged place kept found) = rec.Damaged row.id row.place kept found ∷ []
 cause_records row _ = []
 
+-- no record of a piece that is not live, or that was found
 abbrev pub found_records : Option Row → Found → List Rec
 found_records None answer = []
 found_records (Some row) (found.Found length) = []
 found_records (Some row) (found.Missing why) = cause_records row why
 
+-- the same by the piece, which is live or not
 abbrev pub find_adds : State → PieceId → Found → List Rec
 find_adds s id answer = found_records (live_row_of s id) answer
 

@@ -27,6 +27,7 @@ IsOfFlush (rec.Damaged piece place kept found) = Unit {0}
 IsOfFlush (rec.Fault count) = Unit {0}
 IsOfFlush _ = ⊥
 
+-- each of them may be one of a flush
 abbrev pub AreOfFlush : List Rec → Type 0
 AreOfFlush recs = AllByRecursion IsOfFlush recs
 
@@ -43,10 +44,12 @@ LiveBefore s t = (id : PieceId) (row : Row) → live_row_of t id ≡ Some row �
 
 -- ---- its answer
 
+-- what the tape stops fails: by the device, whose count is told, or by the limit of places
 abbrev pub stop_end : Stop → End
 stop_end (stop.DeviceFault count) = Fails (Faulted count)
 stop_end (stop.Exhausted number) = Fails Exhausted
 
+-- a flush is done, or the tape stopped it
 abbrev pub flush_end : Result Flushed Stop → End
 flush_end (Ok flushed) = Done
 flush_end (Err why) = stop_end why

@@ -19,6 +19,7 @@ use Rattle.cache_model.specs.Tape.{IsSound}
 abbrev pub entry_of : Geometry → Row → DirRow
 entry_of g row = row_of_key g (key_of_piece row.id) row.place
 
+-- the same segment, bucket, tag and place, of whatever piece
 abbrev pub same_entry : DirRow → DirRow → Bool
 same_entry a b = (a.segment == b.segment && a.bucket == b.bucket) && (a.tag == b.tag && a.place == b.place)
 
@@ -40,6 +41,7 @@ pub record IsBuffered (b : Buffer) (row : Row) : Type 0 where
   pub filled : IsFilled b row.place row.blocks
   pub digest : document_digest (bytes_at b row.place row.blocks) ≡ row.digest
 
+-- so it is of a piece from the cursor on; of one below nothing is said
 abbrev pub IsBufferedWhereNew : Buffer → Row → Type 0
 IsBufferedWhereNew b row = b.cursor ≤ row.place → IsBuffered b row
 

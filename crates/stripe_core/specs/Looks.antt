@@ -28,10 +28,12 @@ pub record AreOfRows (s : State) (candidates : List Candidate) (rows : List Row)
   pub each : AllByRecursion (MayBeCopied s) rows
   pub are : candidates ≡ map candidate_of rows
 
+-- there are such pieces for the candidates, one for each and in their order
 pub record HasRows (s : State) (candidates : List Candidate) : Type 0 where
   pub rows : List Row
   pub of : AreOfRows s candidates rows
 
+-- there is such a piece for the candidate
 pub record HasRow (s : State) (c : Candidate) : Type 0 where
   pub row : Row
   pub may : MayBeCopied s row

@@ -10,13 +10,16 @@ pub record IsPieceOf (w : PutRow) (pending : Option PieceId) (id : PieceId) : Ty
   pub cut : id.index ≤ length w.cuts
   pub vector : is_vector id ≡ true → pending ≡ Some id
 
+-- of an open put only such a piece; of one that ended or that is not known, any
 abbrev pub IsOwnOf : Option PutRow → Option PieceId → PieceId → Type 0
 IsOwnOf None pending id = Unit {0}
 IsOwnOf (Some w) pending id = w.writing ≡ Open → IsPieceOf w pending id
 
+-- the put of the piece has begun; while it is open, the piece is one that it has cut, or its pending vector
 pub record IsOwn (s : State) (row : Row) : Type 0 where
   pub begun : row.id.put < s.next_put
   pub own : IsOwnOf (put_of s row.id.put) s.pending row.id
 
+-- so it is of each piece that has a row, also below the floor
 abbrev pub IsNamed : State → Type 0
 IsNamed s = AllByRecursion (IsOwn s) s.rows

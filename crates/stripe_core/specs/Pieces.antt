@@ -11,12 +11,15 @@ use Rattle.cache_chronicle.specs.declared.chronicle.Chronicle.{Ghosts as Chronic
 use Rattle.stripe_core.specs.Held.{IsHeld}
 use Rattle.stripe_core.specs.declared.pieces.Pieces.{Pieces}
 
+-- the records of the pieces, as their chronicle keeps them
 abbrev pub kept_of : {D R C : Type 0} → ChronicleGhosts C → Pieces D R C → Kept
 kept_of chronicle p = chronicle.kept p.chronicle
 
+-- what these records stand for
 abbrev pub state_now : {D R C : Type 0} → ChronicleGhosts C → Pieces D R C → State
 state_now chronicle p = state_of (kept_of chronicle p)
 
+-- the cyclone that has the pieces, as contracts see it
 abbrev pub seen_of : {D R C : Type 0} → DiskGhosts D → DirectoryGhosts R → Pieces D R C → Seen
 seen_of disk directory p = seen disk directory p.cyclone
 

@@ -54,6 +54,7 @@ ReachesLimit t bytes number = (number ≡ number_over t bytes) × (limit ≤ num
 abbrev pub cut_record_of : PieceId → ℕ → Digest → List Rec
 cut_record_of id length digest = if is_vector id then [] else rec.Cut id.put id.index length digest ∷ []
 
+-- that a fragment of these bytes was cut; a vector is none
 abbrev pub cut_records : PieceId → List ℕ → List Rec
 cut_records id payload = cut_record_of id (length payload) (digest_of payload)
 
@@ -65,6 +66,7 @@ piece_records s id pin start payload = cut_records id payload ++ placed_record s
 abbrev pub end_of : State → List ℕ → ℕ
 end_of s payload = place_now s + blocks_of (length payload)
 
+-- what is recorded of a piece that had room: nothing where it would end at the limit
 abbrev pub place_adds : State → PieceId → ℕ → ℕ → List ℕ → Result Placed Stop → List Rec
 place_adds s id pin start payload (Ok placed) = piece_records s id pin start payload
 place_adds s id pin start payload (Err why) = []
@@ -75,6 +77,7 @@ PlacesAt s payload (Ok placed) = (placed.place ≡ place_now s) × (placed.paylo
 PlacesAt s payload (Err (stop.Exhausted number)) = (number ≡ end_of s payload) × (limit ≤ number)
 PlacesAt s payload (Err (stop.DeviceFault count)) = ⊥
 
+-- the piece is placed, or the tape stopped it
 abbrev pub place_end : Result Placed Stop → End
 place_end (Ok placed) = Done
 place_end (Err why) = stop_end why
@@ -115,6 +118,7 @@ pub record IsStoppedAs (s : State) (faults : ℕ) (payload : List ℕ) (added : 
   pub live : LiveBefore s (after_all s added)
   pub why_is : StopsBehind s (after_all s added) faults (length payload) why
 
+-- what is recorded of a fragment, placed or stopped
 abbrev pub IsFragmentAs : State → ℕ → PieceId → ℕ → ℕ → List ℕ → List Rec → Result Placed Stop → Type 0
 IsFragmentAs s faults id pin start payload added (Ok placed) = IsCutAs s id pin start payload added placed
 IsFragmentAs s faults id pin start payload added (Err why) = IsStoppedAs s faults payload added why
@@ -159,6 +163,7 @@ FinishesAsAsked s before after id pin start payload fragments result = IsVectorO
 
 -- ---- a piece of either kind
 
+-- the piece may be placed: it is a vector that has room, or the next fragment
 abbrev pub IsPlacing : State → PieceId → ℕ → ℕ → List ℕ → Type 0
 IsPlacing s id pin start payload = MatchBool (is_vector id) (IsVectorFor s id start payload) (IsFragmentOf s id pin start payload)
 
@@ -168,6 +173,7 @@ pub record PlacesVector (old new : Kept) (before after : ℕ) (id : PieceId) (pi
   pub at : PlacesAt (state_of old) payload result
   pub does : FinishesAsAsked (state_of old) before after id pin start payload (length (cuts_of (state_of old) id.put)) result
 
+-- as `PlacesVector` of a vector, and as `CutsAsAsked` of a fragment
 abbrev pub PlacesAsAsked : ℕ → Kept → Kept → ℕ → Device → PieceId → ℕ → ℕ → List ℕ → Result Placed Stop → Type 0
 PlacesAsAsked now old new before after id pin start payload result = MatchBool (is_vector id)
     (PlacesVector old new before after.faults id pin start payload result) (CutsAsAsked now old new before after id pin start payload result)

@@ -35,7 +35,7 @@ PlacedIsHeld = (s : State) (c new : Seen) (doc : Doc) (payload : List ℕ) (dige
     → IsPut false c new doc payload → IsTurning new
     → IsHeld (state_after s (rec.Placed doc.id (place_now s) (blocks_of (length payload)) digest pin)) new
 
--- a piece that the floor has passed, whose document stands in the bytes, and for which the buffer has room
+-- a piece that the floor has passed, bytes of as many blocks as it has, and room for these in the buffer
 pub record IsMovable (s : State) (id : PieceId) (row : Row) (bytes : List ℕ) : Type 0 where
   pub found : row_of s id ≡ Some row
   pub passed : row.place < floor_now s

@@ -23,12 +23,15 @@ use Rattle.stripe_core.specs.Named.{IsNamed}
 use Rattle.stripe_core.specs.Units.{entries_of_unit, records_of_unit}
 use Rattle.stripe_core.specs.Pieces.{ArePieces, kept_of, seen_of, state_now}
 
+-- the records of a stripe, as its chronicle keeps them
 abbrev pub kept_in : {D R C : Type 0} → ChronicleGhosts C → Stripe D R C → Kept
 kept_in chronicle t = kept_of chronicle t.pieces
 
+-- what these records stand for
 abbrev pub state_in : {D R C : Type 0} → ChronicleGhosts C → Stripe D R C → State
 state_in chronicle t = state_now chronicle t.pieces
 
+-- the cyclone of a stripe, as contracts see it
 abbrev pub seen_in : {D R C : Type 0} → DiskGhosts D → DirectoryGhosts R → Stripe D R C → Seen
 seen_in disk directory t = seen_of disk directory t.pieces
 

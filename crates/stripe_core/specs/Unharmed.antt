@@ -30,6 +30,7 @@ pub record StayUnharmed (old_device new_device : Device) (s t : State) : Type 0 
   pub trust : new_device.trust ≤ old_device.trust
   pub unharmed : IsUnharmed old_device s → IsUnharmed new_device t
 
+-- so it is of a stripe before a call and behind it
 abbrev pub StaysUnharmed : {D R C : Type 0} → DiskGhosts D → DirectoryGhosts R → ChronicleGhosts C → (old new : Stripe D R C) → Type 0
 StaysUnharmed disk directory chronicle old new =
     StayUnharmed (seen_in disk directory old).device (seen_in disk directory new).device (state_in chronicle old) (state_in chronicle new)

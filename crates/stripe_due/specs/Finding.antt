@@ -5,6 +5,7 @@ use Rattle.evacuator.specs.declared.choosing.Candidate.{Candidate}
 use Rattle.cache_model.specs.State.{Row, State}
 use Rattle.cache_model.specs.Due.{due_pieces}
 
+-- a piece as the choice takes it: its name, its place and its blocks
 abbrev pub candidate_of : Row → Candidate
 candidate_of row = record { id = row.id; place = row.place; blocks = row.blocks }
 

@@ -20,6 +20,7 @@ use Rattle.stripe_read.specs.declared.fetching.Unlike.{Unlike}
 abbrev pub IsListedAs : State → Row → Option Digest → List ℕ → Type 0
 IsListedAs s row listed payload = (kept : Digest) → IsWritten s row → listed ≡ Some kept → kept ≡ digest_of payload
 
+-- so it is of a piece, where it is live
 abbrev pub IsAsListed : State → PieceId → Option Digest → List ℕ → Type 0
 IsAsListed s id listed payload = (row : Row) → live_row_of s id ≡ Some row → IsListedAs s row listed payload
 

@@ -52,6 +52,7 @@ trouble_with (Some row) (read.Hit put) = []
 trouble_with (Some row) (read.Follow put) = []
 trouble_with (Some row) (read.Miss why) = cause_records row why
 
+-- the same by the key, whose vector is live or not
 abbrev pub lookup_adds : State → Key → ReadAnswer → List Rec
 lookup_adds s key answer = trouble_with (live_vector_of s key) answer
 
@@ -83,6 +84,7 @@ opened_as number key (looked.Follow put) =
     opened.Follow (record { reader = number; key = key; put = put; table = None; next = 1 }) put
 opened_as number key (looked.Miss why) = opened.Miss why
 
+-- the answer by which what was opened is recorded
 abbrev pub answer_in : Opened → ReadAnswer
 answer_in (opened.Hit reader put length) = read.Hit put
 answer_in (opened.Follow reader put) = read.Follow put

@@ -48,6 +48,7 @@ trouble_with None answer = []
 trouble_with (Some row) (piece.Broken why) = cause_records row why
 trouble_with (Some row) _ = []
 
+-- the trouble with that fragment, where that is the cause, and the answer
 abbrev pub read_adds : State → Reader → NextPiece → List Rec
 read_adds s r answer = trouble_with (live_next s (as_row r)) answer ++ answer_record r.reader (noted (listed_length s r) answer) ∷ []
 
@@ -64,6 +65,7 @@ pub record IsFragment (p : Permit) (s : State) (r : Reader) (index size : ℕ) (
   pub document : IsDocumentOf p s row size into
   pub listed : IsListedAs s row (listed_in r (digest_in entry)) (take size into)
 
+-- the fragment, where one is given; any other answer gives no bytes
 abbrev pub Gives : Permit → State → Reader → NextPiece → List ℕ → Type 0
 Gives p s r (piece.Piece index size) into = IsFragment p s r index size into
 Gives p s r (piece.End length) into = Unit {0}
@@ -87,6 +89,7 @@ pub record IsOtherNext (s : State) (r : Reader) : Type 0 where
 
 -- ---- where it is then
 
+-- the index that it takes next: one further, where a fragment was given
 abbrev pub next_behind : ℕ → NextPiece → ℕ
 next_behind index (piece.Piece given length) = index + 1
 next_behind index _ = index

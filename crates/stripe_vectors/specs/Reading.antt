@@ -23,6 +23,7 @@ abbrev pub spelled_in : Result (List Stored) VectorFault → List Stored
 spelled_in (Ok list) = list
 spelled_in (Err fault) = []
 
+-- the alternates that a payload lists, in their order
 abbrev pub listed_in : List ℕ → List Stored
 listed_in payload = spelled_in (read_vector payload)
 
@@ -56,6 +57,7 @@ trouble_records (Some row) found.Absent = []
 trouble_records (Some row) (found.Read list) = []
 trouble_records (Some row) (found.Trouble why) = cause_records row why
 
+-- the same by the key, whose vector is live or not
 abbrev pub vector_adds : State → Key → KeyVector → List Rec
 vector_adds s key answer = trouble_records (live_vector_of s key) answer
 

@@ -37,6 +37,7 @@ EndsWhere t w (Err (refusal.DeviceFault count)) = Unit {0}
 EndsWhere t w (Err (refusal.Exhausted number)) = limit ≤ number
 EndsWhere t w (Err _) = ⊥
 
+-- the same of all of closing: `s` is the state before it, and `t` the one behind it
 abbrev pub ClosesWhere : State → State → Writer → Result Receipt Refusal → Type 0
 ClosesWhere s t w (Ok receipt) = (is_writing s w.put ≡ true) × IsComplete w receipt
 ClosesWhere s t w (Err refusal.NoSuchWriter) = is_writing s w.put ≡ false
@@ -53,6 +54,7 @@ ClosesWhere s t w (Err _) = ⊥
 abbrev pub bytes_next : State → Writer → ℕ
 bytes_next t w = if length (cuts_of t w.put) == length (rows_at_close w) then vector_length t w.put else length w.gathered.items
 
+-- the end to which each answer brings what is asked; behind any other refusal it is still to be done
 abbrev pub close_end : Writer → Result Receipt Refusal → End
 close_end w (Ok receipt) = Done
 close_end w (Err (refusal.VectorTooLarge bytes)) = Fails (TooLarge w.put bytes)
@@ -65,6 +67,7 @@ close_end w (Err _) = Stays
 abbrev pub end_intents : Writer → List Intent
 end_intents w = rest_intents w w.gathered.items ++ Finish w.put (length (rows_at_close w)) ∷ Commit w.put ∷ []
 
+-- what that makes of the records, and the number that it tells at the end of the tape
 pub record Ends (p : Permit) (old new : Kept) (w : Writer) (result : Result Receipt Refusal) : Type 0 where
   pub added : List Rec
   pub adds : new ≡ with_records old added
@@ -83,6 +86,7 @@ Spent p s w (Err (refusal.Memory e)) added = Spends p s (Weigh w.put (length w.g
 Spent p s w (Err refusal.NoSuchWriter) added = added ≡ []
 Spent p s w result added = SpendsAll p s (close_intents w) added (close_end w result)
 
+-- what closing makes of the records, and the number that it tells at the end of the tape
 pub record Closes (p : Permit) (old new : Kept) (w : Writer) (result : Result Receipt Refusal) : Type 0 where
   pub added : List Rec
   pub adds : new ≡ with_records old added

@@ -86,6 +86,7 @@ IsReadFor s w v = (row : Row) → live_vector_of s w.key ≡ Some row
 
 -- ---- how weighing ends
 
+-- the end to which each answer brings weighing; where memory is wanting it is still to be done
 abbrev pub weigh_end : Writer → Result Vectors Refusal → End
 weigh_end w (Ok vectors) = Done
 weigh_end w (Err (refusal.VectorTooLarge bytes)) = Fails (TooLarge w.put bytes)

@@ -25,9 +25,11 @@ abbrev pub picked : Vectors → Bool → Spelled
 picked v true = unwrap_or v.merged v.alone
 picked v false = v.alone
 
+-- that one, by whether the key's vector is live in this state
 abbrev pub vector_now : State → Writer → Vectors → Spelled
 vector_now s w v = picked v (is_some (live_vector_of s w.key))
 
+-- how many bytes that one has
 abbrev pub bytes_now : State → Writer → Vectors → ℕ
 bytes_now s w v = length (vector_now s w v).bytes.items
 
@@ -50,9 +52,11 @@ IsFirstLost s w (Some index) = (0 < index) × (index ≤ length w.table.rows) ×
 
 -- ---- how it ends
 
+-- what is asked once all fragments are cut: to place the vector and to commit
 abbrev pub finish_intents : Writer → List Intent
 finish_intents w = Finish w.put (length w.table.rows) ∷ Commit w.put ∷ []
 
+-- the end to which each answer brings that; behind any other refusal it is still to be done
 abbrev pub finish_end : Writer → Result Receipt Refusal → End
 finish_end w (Ok receipt) = Done
 finish_end w (Err (refusal.Lost index why)) = Fails (Lost w.put index)

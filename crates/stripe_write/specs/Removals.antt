@@ -10,6 +10,7 @@ use Rattle.cache_model.specs.Legal.{Does}
 use Rattle.stripe_write.specs.declared.removal.Removal.{Removal}
 use Rattle.stripe_write.specs.declared.removal.Removal.TheVariants as removal
 
+-- the record of a removal; none where there was no object
 abbrev pub removal_adds : Key → Removal → List Rec
 removal_adds key (removal.Removed put) = rec.Removed put key ∷ []
 removal_adds key (removal.Absent why) = []
@@ -19,5 +20,6 @@ abbrev pub RemovesWhere : State → Key → Removal → Type 0
 RemovesWhere s key (removal.Removed put) = is_some (live_vector_of s key) ≡ true
 RemovesWhere s key (removal.Absent why) = (is_some (live_vector_of s key) ≡ false) × (why ≡ cause_of_miss s key)
 
+-- these records do what removing asks, in any step; so do none, where there was no object
 abbrev pub RemovesAsIsAsked : State → Key → Removal → Type 0
 RemovesAsIsAsked s key answer = (p : Permit) → Does p s (Remove key) (removal_adds key answer) Done

@@ -19,6 +19,7 @@ IsRestAs s faults w [] added result = added ≡ []
 IsRestAs s faults w (byte ∷ bytes) added (Ok u) = (placed : Placed) × IsCutAs s (next_id w) w.pin (next_start w) (byte ∷ bytes) added placed
 IsRestAs s faults w (byte ∷ bytes) added (Err why) = IsStoppedAs s faults (byte ∷ bytes) added why
 
+-- the rest is cut, or there was none; or the tape stopped it
 abbrev pub rest_end : Result (Unit {0}) Stop → End
 rest_end (Ok u) = Done
 rest_end (Err why) = stop_end why

@@ -25,12 +25,14 @@ use Rattle.stripe_write.specs.Others.{IsOfPut}
 
 -- ---- a writer opens
 
+-- the answer as it is recorded: a writer by the number of its put
 abbrev pub number_of : Result Writer Refusal → Result ℕ Refusal
 number_of (Ok w) = Ok w.put
 number_of (Err why) = Err why
 
 -- ---- a writer is given up
 
+-- that the put was given up; nothing where that was refused
 abbrev pub abort_adds : Key → Result ℕ Refusal → List Rec
 abort_adds key (Ok put) = rec.Aborted put key ∷ []
 abort_adds key (Err why) = []
@@ -61,10 +63,11 @@ gathered_with w bytes n = w.gathered.items ++ take n bytes
 abbrev pub is_cut : Geometry → Writer → ℕ → Bool
 is_cut g w n = length w.gathered.items + n == g.fragment
 
--- the fragment that is cut next, and where it begins
+-- the fragment that is cut next, behind those in the table
 abbrev pub next_id : Writer → PieceId
 next_id w = fragment_piece w.key w.put (length w.table.rows + 1)
 
+-- where that one begins in the body
 abbrev pub next_start : Writer → ℕ
 next_start w = total_length w.table.rows
 
@@ -99,6 +102,7 @@ WritesWhere s w bytes (Err (refusal.Exhausted number)) = IsCutting s w bytes
 WritesWhere s w bytes (Err (refusal.Memory e)) = IsTaking s w
 WritesWhere s w bytes (Err _) = ⊥
 
+-- to cut these bytes as that fragment
 abbrev pub cuts_fragment : Writer → List ℕ → Intent
 cuts_fragment w payload = Fragment w.put (length w.table.rows + 1) payload
 
@@ -178,9 +182,11 @@ IsOverflow (Err refusal.TooManyFragments) = Unit {0}
 IsOverflow (Err (refusal.Memory e)) = Unit {0}
 IsOverflow _ = ⊥
 
+-- the put is given up where there is one too many; where memory is wanting nothing is recorded
 abbrev pub overflow_adds : Writer → Result ℕ Refusal → List Rec
 overflow_adds w (Err refusal.TooManyFragments) = rec.Aborted w.put w.key ∷ []
 overflow_adds w _ = []
 
+-- one fragment too many gives the put up, in any step, and what was asked fails for that
 abbrev pub OverflowsAsAsked : State → Writer → Type 0
 OverflowsAsAsked s w = (p : Permit) → Does p s (Overflow w.put) (rec.Aborted w.put w.key ∷ []) (Fails (ManyFragments w.put))

@@ -17,13 +17,15 @@ key_bytes key = to_le_bytes w128 key.number
 abbrev pub word_of : Key → ℕ → ℕ
 word_of key n = key.number / 2 ^ (32 * n) % 2 ^ 32
 
--- the segment, the bucket and the tag under which a key stands in a directory
+-- the segment in which a directory has a key, by its first word (Traffic Server guide, "Cache Architecture")
 abbrev pub segment_of : Geometry → Key → ℕ
 segment_of g key = word_of key 0 % g.segments
 
+-- the bucket of that segment, by the key's second word
 abbrev pub bucket_of : Geometry → Key → ℕ
 bucket_of g key = word_of key 1 % g.buckets
 
+-- the low 12 bits of the third word: all that a row keeps of its key beside the segment and the bucket
 abbrev pub tag_of : Key → ℕ
 tag_of key = word_of key 2 % 2 ^ 12
 

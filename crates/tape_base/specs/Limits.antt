@@ -15,6 +15,7 @@ pub record IsGeometry (segments buckets content agg reach fragment : ℕ) : Type
   pub reach_fits : (agg ≤ reach) × (reach < 2 ^ 40)
   pub fragment_fits : (1 ≤ fragment) × (blocks_of fragment ≤ agg / 2)
 
+-- below the least number that may be or above the most; these two are inside
 abbrev pub is_outside : ℕ → ℕ → ℕ → Bool
 is_outside least most n = nat_lt n least || nat_lt most n
 

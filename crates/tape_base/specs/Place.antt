@@ -3,13 +3,15 @@
 use Rattle.std.specs.Prelude.{ℕ, ◌+◌, ◌-◌, ◌*◌, ◌/◌, ◌%◌, ◌==◌, min, nat_lt, Bool, if◌then◌else◌}
 use Rattle.tape_base.specs.declared.geometries.Geometry.{Geometry}
 
--- the lap of a place, its slot in the content area, and whether its lap is odd
+-- how many laps lie below a place; the first one that is written has the number 1
 abbrev pub lap_of : Geometry → ℕ → ℕ
 lap_of g place = place / g.content
 
+-- the block of the content area at which a place lies, from 0
 abbrev pub slot_of : Geometry → ℕ → ℕ
 slot_of g place = place % g.content
 
+-- whether the lap of a place is odd, which one bit can keep: two laps in a row differ in it
 abbrev pub phase_of : Geometry → ℕ → Bool
 phase_of g place = lap_of g place % 2 == 1
 
