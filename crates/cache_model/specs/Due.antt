@@ -1,5 +1,5 @@
--- Which pieces a flush copies ahead: those that the next floor passes, and that are pinned past the
--- moment or that an open reader has still to be given.
+-- Which pieces a flush copies ahead (evacuation: Apache Traffic Server guide, Cache Architecture): those that
+-- the next floor passes, and that are pinned past the moment or that an open reader has still to be given.
 use Rattle.std.specs.Prelude.{ℕ, ◌==◌, Bool, not, ◌&&◌, ◌||◌, nat_le, nat_lt, List, filter}
 use Rattle.std.specs.List.{list_any}
 use Rattle.tape_base.specs.declared.pieces.PieceId.{PieceId}
@@ -10,6 +10,7 @@ use Rattle.cache_model.specs.State.{State, Row, ReaderRow, floor_next, live_rows
 abbrev pub is_due_to : PieceId → ReaderRow → Bool
 is_due_to id r = not (is_vector id) && (r.put == id.put && nat_le r.next id.index)
 
+-- so it is with some open reader, whether that hit the put or follows it
 abbrev pub is_awaited : State → PieceId → Bool
 is_awaited s id = list_any (is_due_to id) s.readers
 

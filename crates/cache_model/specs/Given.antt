@@ -44,9 +44,11 @@ pub record IsDamaged (p : Permit) (s : State) (row : Row) (found : Digest) : Typ
   pub digest : found ≡ document_digest bytes
   pub differ : row.digest ≢ found
 
+-- the record of that; what was kept is the row's digest, or of a payload the one that a table lists
 abbrev pub damage_record : Row → Digest → Digest → Rec
 damage_record row kept found = rec.Damaged row.id row.place kept found
 
+-- what is answered for it: the place and the same two digests
 abbrev pub damage_cause : Row → Digest → Digest → Cause
 damage_cause row kept found = cause.Damaged row.place kept found
 

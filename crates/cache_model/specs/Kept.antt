@@ -1,10 +1,9 @@
 -- What a chronicle keeps: the values at its beginning, and the records since.
-use Rattle.std.specs.Prelude.{◌≡◌, List, [], ◌∷◌, ◌++◌}
+use Rattle.std.specs.Prelude.{List, [], ◌∷◌, ◌++◌}
 use Rattle.cache_model.specs.declared.record.Rec.{Rec}
 use Rattle.cache_model.specs.State.{State, nothing_yet, after_all}
-use Rattle.cache_model.specs.Permit.{Permit, Work}
-use Rattle.cache_model.specs.Legal.{MayGrow}
 
+-- a chronicle, which need not keep the records that led to its base
 pub record Kept : Type 0 where
   pub base : State
   pub since : List Rec
@@ -21,11 +20,6 @@ all_of recs = record { base = nothing_yet; since = recs }
 abbrev pub with_records : Kept → List Rec → Kept
 with_records k recs = record { base = k.base; since = k.since ++ recs }
 
+-- with one record more, behind all others
 abbrev pub with_record : Kept → Rec → Kept
 with_record k rec = with_records k (rec ∷ [])
-
--- a call adds records to a chronicle that bring a step from some work to what is left of it
-pub record AddsTo (p : Permit) (old : Kept) (before : Work) (new : Kept) (after : Work) : Type 0 where
-  pub added : List Rec
-  pub appends : new ≡ with_records old added
-  pub grows : MayGrow p (state_of old) before added after

@@ -35,13 +35,15 @@ use Rattle.cache_model.specs.Room.{limit, placed_record, greatest_pin, has_room,
 abbrev pub IsQuiet : State → Type 0
 IsQuiet s = s.pending ≡ None
 
--- how many writers may be open, and how many fragments a put may have
+-- how many writers may be open at once, of all keys
 abbrev pub most_writers : ℕ
 most_writers = 64
 
+-- how many fragments a put may have: as many as a table may have rows; its vector does not count
 abbrev pub most_fragments : ℕ
 most_fragments = 4096
 
+-- the puts that are neither closed nor given up, also where the device or the limit stopped a close
 abbrev pub open_writers : State → ℕ
 open_writers s = count_by is_open s.puts
 
@@ -51,10 +53,11 @@ pub record IsWriting (s : State) (put : ℕ) (w : PutRow) : Type 0 where
   pub found : put_of s put ≡ Some w
   pub is_open : w.writing ≡ Open
 
+-- the put is known and open, whether or not a vector is pending
 abbrev pub is_writing : State → ℕ → Bool
 is_writing s put = unwrap_or (option_map is_open (put_of s put)) false
 
--- ---- a flush
+-- ---- a flush (aggregation buffer and evacuation: Apache Traffic Server guide, Cache Architecture)
 
 -- a flush may be tried: no vector is pending, the buffer is not empty, and the next one may begin
 pub record CanFlush (s : State) : Type 0 where
@@ -77,6 +80,7 @@ pub record MayStop (p : Permit) (s : State) (count : ℕ) (added : List Rec) : T
   pub counts : MayCount p (after_all s (stopped_front_of (due_pieces s p.now) outcomes)) count
   pub is : added ≡ stopped_records (due_pieces s p.now) outcomes count
 
+-- an empty buffer is left, also at the limit; else it is written out, or the device or the limit stops that
 pub data DoesFlush (p : Permit) (s : State) (added : List Rec) : End → Type 0 where
   empty : IsQuiet s → s.filled ≡ 0 → added ≡ [] → DoesFlush p s added Done
   flushes : MayFlush p s added → DoesFlush p s added Done
@@ -97,6 +101,7 @@ pub record HasNoPlace (s : State) (bytes : ℕ) (added : List Rec) : Type 0 wher
 
 -- ---- writers
 
+-- the next put begins: one writer more may be open, a number is left, and its lines and its pin may be kept
 pub record MayOpenWrite (s : State) (actor : ℕ) (key : Key) (request response : List Field) (pin : ℕ) (added : List Rec) : Type 0 where
   pub who : Actor
   pub number : who.0 ≡ actor
@@ -108,6 +113,7 @@ pub record MayOpenWrite (s : State) (actor : ℕ) (key : Key) (request response 
   pub pin_fits : pin < 2 ^ 64
   pub is : added ≡ rec.WriteOpened who s.next_put key request response pin ∷ []
 
+-- the open writers are counted before the number is looked at; a refusal records nothing
 pub data DoesWrite (s : State) (actor : ℕ) (key : Key) (request response : List Field) (pin : ℕ) (added : List Rec) : End → Type 0 where
   opens : MayOpenWrite s actor key request response pin added → DoesWrite s actor key request response pin added Done
   many : IsQuiet s → most_writers ≤ open_writers s → added ≡ [] → DoesWrite s actor key request response pin added (Fails ManyWriters)
@@ -126,6 +132,7 @@ pub record IsNext (s : State) (put index : ℕ) (payload : List ℕ) (w : PutRow
   pub some : 0 < length payload
   pub small : length payload ≤ s.geometry.fragment
 
+-- it is cut, then its entry displaces, then it is placed, as the part of the body behind all cut before
 pub record MayPlaceFragment (p : Permit) (s : State) (put index : ℕ) (payload : List ℕ) (added : List Rec) : Type 0 where
   pub w : PutRow
   pub displaced : List Rec
@@ -135,14 +142,17 @@ pub record MayPlaceFragment (p : Permit) (s : State) (put index : ℕ) (payload 
   pub is : added ≡ rec.Cut put index (length payload) (digest_of payload)
       ∷ (displaced ++ placed_record s (next_fragment_of w) w.pin (total_length w.cuts) (length payload) payload ∷ [])
 
+-- without room a flush is tried, behind which it is still to be cut; with room the limit is tested
 pub data DoesFragment (p : Permit) (s : State) (put index : ℕ) (payload : List ℕ) (added : List Rec) (e : End) : Type 0 where
   places : e ≡ Done → MayPlaceFragment p s put index payload added → DoesFragment p s put index payload added e
   rooms : (w : PutRow) → IsNext s put index payload w → MakesRoom p s (length payload) added e → DoesFragment p s put index payload added e
   exhausted : (w : PutRow) → e ≡ Fails Exhausted → IsNext s put index payload w → HasNoPlace s (length payload) added → DoesFragment p s put index payload added e
 
+-- the put is given up, by its writer or for a fragment too many, a vector too large or a fragment lost
 abbrev pub aborted_record : PutRow → Rec
 aborted_record w = rec.Aborted w.put w.key
 
+-- a put with all the fragments that it may have is given up for the bytes behind them
 pub data DoesOverflow (s : State) (put : ℕ) (added : List Rec) : End → Type 0 where
   aborts : (w : PutRow) → IsWriting s put w → length w.cuts ≡ most_fragments → added ≡ aborted_record w ∷ [] → DoesOverflow s put added (Fails (ManyFragments put))
 
@@ -154,9 +164,11 @@ with_rest w rest = if rest == 0 then w else with_cut (made_row rest []) w
 abbrev pub size_alone : PutRow → ℕ → ℕ
 size_alone w rest = vector_size (alternate_of (with_rest w rest) ∷ [])
 
+-- with its header that vector takes no more blocks than a piece may: half a buffer
 abbrev pub FitsAlone : State → PutRow → ℕ → Type 0
 FitsAlone s w rest = blocks_of (size_alone w rest) ≤ budget_of s.geometry
 
+-- the key's live vector has to be read; then the put is given up where its alternate alone is too large
 pub data DoesWeigh (p : Permit) (s : State) (put rest : ℕ) (added : List Rec) : End → Type 0 where
   weighs : (w : PutRow) → IsWriting s put w → IsReadWhereLive p s (live_vector_of s w.key) → FitsAlone s w rest → added ≡ [] → DoesWeigh p s put rest added Done
   too_large : (w : PutRow) → IsWriting s put w → IsReadWhereLive p s (live_vector_of s w.key) → budget_of s.geometry < blocks_of (size_alone w rest) → added ≡ aborted_record w ∷ []
@@ -181,13 +193,15 @@ pub record IsCut (s : State) (put fragments : ℕ) (w : PutRow) : Type 0 where
   pub count : length w.cuts ≡ fragments
   pub alone : FitsAlone s w 0
 
+-- the payload of a put's vector: the spelling of the alternates that it is to list
 abbrev pub vector_payload : State → ℕ → List ℕ
 vector_payload s put = vector_bytes (list_of_put s put)
 
--- the bytes of a put's vector
+-- how many bytes that takes
 abbrev pub vector_length : State → ℕ → ℕ
 vector_length s put = vector_size (list_of_put s put)
 
+-- all fragments are live; it is placed with the greatest pin of the alternates that it lists
 pub record MayPlaceVector (p : Permit) (s : State) (put fragments : ℕ) (added : List Rec) : Type 0 where
   pub w : PutRow
   pub displaced : List Rec
@@ -214,14 +228,17 @@ pub data DoesFinish (p : Permit) (s : State) (put fragments : ℕ) (added : List
   exhausted : (w : PutRow) → e ≡ Fails Exhausted → IsCut s put fragments w → AreLiveTo s w fragments → HasNoPlace s (vector_length s put) added
       → DoesFinish p s put fragments added e
 
+-- the put is open and its vector is the pending one; the record tells the length of its body
 pub data DoesCommit (s : State) (put : ℕ) (added : List Rec) : End → Type 0 where
   commits : (w : PutRow) → put_of s put ≡ Some w → w.writing ≡ Open → s.pending ≡ Some (vector_piece w.key put)
       → added ≡ rec.Committed put w.key (total_length w.cuts) ∷ [] → DoesCommit s put added Done
 
+-- an open put is aborted; one that is over, or that no record knows, is left
 pub data DoesGiveUp (s : State) (put : ℕ) (added : List Rec) : End → Type 0 where
   aborts : (w : PutRow) → IsWriting s put w → added ≡ aborted_record w ∷ [] → DoesGiveUp s put added Done
   over : IsQuiet s → is_writing s put ≡ false → added ≡ [] → DoesGiveUp s put added Done
 
+-- it is the key's live vector that is removed; one that is not live any more is left as it is
 pub data DoesRemove (s : State) (key : Key) (added : List Rec) : End → Type 0 where
   removes : (row : Row) → IsQuiet s → live_vector_of s key ≡ Some row → added ≡ rec.Removed row.id.put key ∷ [] → DoesRemove s key added Done
   absent : IsQuiet s → live_vector_of s key ≡ None → added ≡ [] → DoesRemove s key added Done
@@ -234,6 +251,7 @@ pub data IsLookup (p : Permit) (s : State) (key : Key) (request : List Field) : 
   trouble : (row : Row) (before : List Rec) (why : Cause) → live_vector_of s key ≡ Some row → Trouble p s row before why
       → IsLookup p s key request before (read.Miss why)
 
+-- each lookup takes the next reader's number, also a miss; trouble with the vector is recorded before it
 pub record MayLook (p : Permit) (s : State) (actor : ℕ) (key : Key) (request : List Field) (added : List Rec) : Type 0 where
   pub who : Actor
   pub before : List Rec
@@ -243,6 +261,7 @@ pub record MayLook (p : Permit) (s : State) (actor : ℕ) (key : Key) (request :
   pub right : IsLookup p s key request before answer
   pub is : added ≡ before ++ rec.ReadOpened s.next_reader who key request answer ∷ []
 
+-- a lookup is never refused: a fault of the device is the cause of a miss
 pub data DoesLook (p : Permit) (s : State) (actor : ℕ) (key : Key) (request : List Field) (added : List Rec) : End → Type 0 where
   looks : MayLook p s actor key request added → DoesLook p s actor key request added Done
 
@@ -255,6 +274,7 @@ pub record IsMismatched (p : Permit) (s : State) (row : Row) (entry : TableRow) 
   pub digest : found ≡ digest_of (payload_of bytes)
   pub differ : entry.digest ≢ found.0
 
+-- the digest that a table lists of a fragment: that of its bytes, not of its document
 abbrev pub digest_in : TableRow → Digest
 digest_in entry = record { 0 = entry.digest }
 
@@ -274,12 +294,14 @@ pub data IsReading (p : Permit) (s : State) (r : ReaderRow) : List Rec → NextA
   trouble : (entry : TableRow) (row : Row) (before : List Rec) (why : Cause) → next_row s r ≡ Some entry → live_row_of s (next_piece r) ≡ Some row
       → ReadTrouble p s r row entry before why → IsReading p s r before (next.Broke why)
 
+-- what a reader is answered is recorded with its number, a wait and an end too
 abbrev pub answer_record : ℕ → NextAnswer → Rec
 answer_record reader (next.Gave index length) = rec.Gave reader index length
 answer_record reader (next.Ended length) = rec.Ended reader length
 answer_record reader (next.Waited cut) = rec.Waited reader cut
 answer_record reader (next.Broke why) = rec.Broke reader why
 
+-- an open reader is answered; trouble with the piece is recorded before the answer
 pub record MayReadOn (p : Permit) (s : State) (reader : ℕ) (answer : NextAnswer) (added : List Rec) : Type 0 where
   pub r : ReaderRow
   pub before : List Rec
@@ -288,9 +310,11 @@ pub record MayReadOn (p : Permit) (s : State) (reader : ℕ) (answer : NextAnswe
   pub right : IsReading p s r before answer
   pub is : added ≡ before ++ answer_record reader answer ∷ []
 
+-- one answer, never a refusal: a fault of the device is why the reader breaks
 pub data DoesReadOn (p : Permit) (s : State) (reader : ℕ) (added : List Rec) : End → Type 0 where
   reads_on : (answer : NextAnswer) → MayReadOn p s reader answer added → DoesReadOn p s reader added Done
 
+-- a fragment was given, so a reader that reads all goes on behind it
 abbrev pub is_given : NextAnswer → Bool
 is_given (next.Gave index length) = true
 is_given _ = false
@@ -299,10 +323,12 @@ is_given _ = false
 abbrev pub has_hit : State → ℕ → Bool
 has_hit s reader = is_some (option_and_then (λ (r : ReaderRow). r.table) (reader_of s reader))
 
+-- answers up to the first without a fragment; none where nothing was hit, as by a reader that follows
 pub data DoesReadAll (p : Permit) (s : State) (reader : ℕ) (added : List Rec) (e : End) : Type 0 where
   reads_on : (answer : NextAnswer) → has_hit s reader ≡ true → MayReadOn p s reader answer added → e ≡ cond (is_given answer) Stays Done → DoesReadAll p s reader added e
   has_none : IsQuiet s → has_hit s reader ≡ false → added ≡ [] → e ≡ Done → DoesReadAll p s reader added e
 
+-- a reader that is closed already, or that a miss did not open, is left
 pub data DoesStopReading (s : State) (reader : ℕ) (added : List Rec) : End → Type 0 where
   closes : (r : ReaderRow) → IsQuiet s → reader_of s reader ≡ Some r → added ≡ rec.ReadClosed reader ∷ [] → DoesStopReading s reader added Done
   closed : IsQuiet s → reader_of s reader ≡ None → added ≡ [] → DoesStopReading s reader added Done

@@ -1,5 +1,5 @@
 -- What comes of the pieces that a flush is to copy ahead, within its budget of blocks, and the records
--- of such a flush.
+-- of such a flush (evacuation: Apache Traffic Server guide, Cache Architecture).
 use Rattle.std.specs.Prelude.{ℕ, ◌≡◌, ◌<◌, ◌≤◌, ◌-◌, Bool, true, false, List, [], ◌∷◌, ◌++◌}
 use Rattle.tape_base.specs.declared.digests.Digest.{Digest}
 use Rattle.doc_header.specs.Reading.{document_digest}
@@ -10,6 +10,7 @@ use Rattle.cache_model.specs.State.{State, Row, after_all, cursor_next, floor_ne
 use Rattle.cache_model.specs.Permit.{Permit}
 use Rattle.cache_model.specs.Given.{IsDamaged, IsGiven, IsWritten, MayCount, damage_record}
 
+-- what comes of one piece that is due: it is copied, or why not
 pub data Outcome : Type 0 where
   -- what is left of the budget is too little for it
   NoRoom : Outcome
@@ -27,6 +28,7 @@ abbrev pub left_behind : ℕ → Row → Outcome → ℕ
 left_behind left row NoRoom = left
 left_behind left row _ = left - row.blocks
 
+-- the piece stays at its place: for want of room, or, with `fault`, as the device refused to give it
 abbrev pub unsaved_record : Row → Bool → Rec
 unsaved_record row fault = rec.Unsaved row.id row.place fault
 
@@ -67,6 +69,7 @@ stopped_records_of row (Copied bytes) = []
 stopped_records_of row (Spoiled found) = damage_record row row.digest found ∷ []
 stopped_records_of row (Refused count) = rec.Fault count ∷ []
 
+-- what the reads before the stop showed: damage and faults, in the order of the pieces
 abbrev pub stopped_front_of : List Row → List Outcome → List Rec
 stopped_front_of [] outcomes = []
 stopped_front_of (row ∷ rows) [] = []
@@ -81,10 +84,12 @@ pub record Copy : Type 0 where
   pub row : Row
   pub bytes : List ℕ
 
+-- one copy where the piece is copied, with the bytes as the device gave them, and else none
 abbrev pub copy_of : Row → Outcome → List Copy
 copy_of row (Copied bytes) = record { row = row; bytes = bytes } ∷ []
 copy_of row _ = []
 
+-- the pieces that are copied, in the order in which they are due
 abbrev pub copies_of : List Row → List Outcome → List Copy
 copies_of [] outcomes = []
 copies_of (row ∷ rows) [] = []
@@ -94,14 +99,16 @@ copies_of (row ∷ rows) (o ∷ outcomes) = copy_of row o ++ copies_of rows outc
 abbrev pub moved_record : State → Copy → Rec
 moved_record s c = rec.Moved c.row.id c.row.place (place_now s) (document_digest (moved_to (place_now s) c.bytes))
 
+-- one behind the other, each placed in the state that the copies before it leave
 abbrev pub moved_records : State → List Copy → List Rec
 moved_records s [] = []
 moved_records s (c ∷ copies) = moved_record s c ∷ moved_records (state_after s (moved_record s c)) copies
 
--- behind the records of what is not copied the next buffer begins, and the copies stand first in it
+-- the buffer behind the one that is written out, and the floor that it brings
 abbrev pub began_record : State → Rec
 began_record s = rec.Began (cursor_next s) (floor_next s)
 
+-- behind the records of what is not copied the next buffer begins, and the copies stand first in it
 abbrev pub flush_records : State → List Row → List Outcome → List Rec
 flush_records s rows outcomes =
     let front : List Rec = front_of rows outcomes in

@@ -57,6 +57,7 @@ pub record Work : Type 0 where
   pub intents : List Intent
   pub refused : Option Reason
 
+-- a step before its first group of records: all is left, and nothing is refused
 abbrev pub to_do : List Intent → Work
 to_do intents = record { intents = intents; refused = None }
 
@@ -86,6 +87,7 @@ pub record Permit : Type 0 where
   pub faults : ℕ
   pub reads : List DeviceRead
 
+-- the value stands in the list, once or more often
 abbrev pub IsAmong : {X : Type 0} → X → List X → Type 0
 IsAmong x [] = ⊥
 IsAmong x (y ∷ ys) = (x ≡ y) ⊎ IsAmong x ys

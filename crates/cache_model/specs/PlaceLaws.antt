@@ -43,6 +43,7 @@ may_move id (rec.Committed put key length) = is_vector id && (same_key id.first 
 may_move id (rec.Removed put key) = is_vector id && same_key id.first key
 may_move id _ = false
 
+-- the record is none of these, so the piece stands where it stood before
 abbrev pub Leaves : PieceId → Rec → Type 0
 Leaves id r = may_move id r ≡ false
 
@@ -90,6 +91,7 @@ vector_said (rec.Committed put key length) = Some (Complete put)
 vector_said (rec.Removed put key) = Some (TakenOut put)
 vector_said _ = None
 
+-- the record is no format, and no commit or removal of the key, whose last vector stays
 abbrev pub NotAbout : Key → Rec → Type 0
 NotAbout key r = is_about key r ≡ false
 
@@ -104,6 +106,7 @@ begins_buffer (rec.Formatted geometry) = true
 begins_buffer (rec.Began cursor floor) = true
 begins_buffer _ = false
 
+-- the record begins none, so the floor stays
 abbrev pub NoBuffer : Rec → Type 0
 NoBuffer r = begins_buffer r ≡ false
 

@@ -51,9 +51,11 @@ pub record HasPlace (s : State) (bytes : ℕ) : Type 0 where
 
 -- ---- what an entry displaces (buckets of four slots, as the Traffic Server guide describes)
 
+-- the segment of a piece's entry, by the key under which it is entered: a fragment's is a digest of its name
 abbrev pub segment_of_piece : State → PieceId → ℕ
 segment_of_piece s id = segment_of s.geometry (key_of_piece id)
 
+-- the bucket within that segment, from 0
 abbrev pub bucket_of_piece : State → PieceId → ℕ
 bucket_of_piece s id = bucket_of s.geometry (key_of_piece id)
 
@@ -61,6 +63,7 @@ bucket_of_piece s id = bucket_of s.geometry (key_of_piece id)
 abbrev pub rows_of_segment : State → ℕ → List Row
 rows_of_segment s segment = filter (λ row. segment_of_piece s row.id == segment) (live_rows s)
 
+-- one of these pieces, which are of one segment, has its entry in the bucket
 abbrev pub is_bucket_used : State → List Row → ℕ → Bool
 is_bucket_used s rows bucket = list_any (λ row. bucket_of_piece s row.id == bucket) rows
 
@@ -73,6 +76,7 @@ abbrev pub is_full_with : State → ℕ → List Row → Bool
 is_full_with s bucket rows =
     is_bucket_used s rows bucket && length rows == 3 * s.geometry.buckets + used_buckets s rows
 
+-- the piece's segment has no slot for one more entry in its bucket, with the pieces that are live
 abbrev pub is_full_for : State → PieceId → Bool
 is_full_for s piece = is_full_with s (bucket_of_piece s piece) (rows_of_segment s (segment_of_piece s piece))
 
@@ -82,9 +86,11 @@ pub record ArePurged (rows purged : List Row) (buckets : ℕ) : Type 0 where
   pub apart : AllPairs (λ (a b : Row). a.id ≢ b.id) purged
   pub tenth : length purged ≡ (3 * buckets + 9) / 10
 
+-- `live` counts the live pieces of the segment before the purge, those that are purged included
 abbrev pub displaced_record : ℕ → ℕ → Row → Rec
 displaced_record segment live row = rec.Displaced row.id segment live
 
+-- no slot is free for the entry, in a directory that displaces at all (`packed`)
 abbrev pub displaces : Permit → State → PieceId → Bool
 displaces p s piece = p.packed && is_full_for s piece
 

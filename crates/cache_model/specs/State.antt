@@ -62,6 +62,7 @@ pub record ReaderRow : Type 0 where
   pub table : Option (List TableRow)
   pub next : ℕ
 
+-- the tape, the pieces, the keys' vectors, the puts and the readers of a session at one moment
 pub record State : Type 0 where
   pub geometry : Geometry
   -- where the buffer begins, and how many blocks were placed from there
@@ -139,7 +140,7 @@ formatted geometry = record {
 abbrev pub nothing_yet : State
 nothing_yet = formatted least_geometry
 
--- ---- places
+-- ---- places (aggregation buffer: Apache Traffic Server guide, Cache Architecture)
 
 -- the least place that may be read
 abbrev pub floor_now : State → ℕ
@@ -149,27 +150,33 @@ floor_now s = floor_of s.geometry s.cursor
 abbrev pub place_now : State → ℕ
 place_now s = s.cursor + s.filled
 
--- where the next buffer begins, and its floor
+-- where the next buffer begins: behind what is filled, or at the next lap
 abbrev pub cursor_next : State → ℕ
 cursor_next s = next_cursor_of s.geometry s.cursor s.filled
 
+-- the floor once that buffer begins: what is below it then is passed
 abbrev pub floor_next : State → ℕ
 floor_next s = floor_of s.geometry (cursor_next s)
 
 -- ---- pieces
 
+-- the vector of a put: index 0 under the key
 abbrev pub vector_piece : Key → ℕ → PieceId
 vector_piece key put = record { first = key; put = put; index = 0 }
 
+-- a fragment of a put, by its index from 1 in the order of the body
 abbrev pub fragment_piece : Key → ℕ → ℕ → PieceId
 fragment_piece key put index = record { first = key; put = put; index = index }
 
+-- the first of these rows that is the piece's, live or not
 abbrev pub row_in : List Row → PieceId → Option Row
 row_in rows id = find (λ row. same_piece row.id id) rows
 
+-- the row of a piece, also where the floor has passed it; none where it was taken out
 abbrev pub row_of : State → PieceId → Option Row
 row_of s id = row_in s.rows id
 
+-- the place at which a piece begins, also below the floor; none where it was taken out
 abbrev pub place_of : State → PieceId → Option ℕ
 place_of s id = option_map (λ row. row.place) (row_of s id)
 
@@ -177,26 +184,33 @@ place_of s id = option_map (λ row. row.place) (row_of s id)
 abbrev pub is_live : State → Row → Bool
 is_live s row = nat_le (floor_now s) row.place
 
+-- the row where it may be read, else none
 abbrev pub only_live : State → Row → Option Row
 only_live s row = if is_live s row then Some row else None
 
+-- a piece that may be read: it stands, and the floor has not passed it
 abbrev pub live_row_of : State → PieceId → Option Row
 live_row_of s id = option_and_then (only_live s) (row_of s id)
 
+-- all pieces that may be read, in the order in which they were placed
 abbrev pub live_rows : State → List Row
 live_rows s = filter (is_live s) s.rows
 
 -- ---- puts and readers
 
+-- the put of this number, open or over: it stays known up to the session's end
 abbrev pub put_of : State → ℕ → Option PutRow
 put_of s put = find (λ p. p.put == put) s.puts
 
+-- the open reader of this number; one that was closed is gone
 abbrev pub reader_of : State → ℕ → Option ReaderRow
 reader_of s reader = find (λ r. r.reader == reader) s.readers
 
+-- the key's last commit or removal, also where that vector is not live any more
 abbrev pub last_vector : State → Key → Option LastVector
 last_vector s key = lookup (λ k. same_key k key) s.vectors
 
+-- the put of the key that was given up last, whatever was committed before or since
 abbrev pub last_abort : State → Key → Option ℕ
 last_abort s key = lookup (λ k. same_key k key) s.aborts
 
@@ -215,6 +229,7 @@ abbrev pub list_of_last : State → List Row → Key → LastVector → List Sto
 list_of_last s rows key (Complete put) = unwrap_or (option_map (list_of_row s) (row_in rows (vector_piece key put))) []
 list_of_last s rows key (TakenOut put) = []
 
+-- so it is of a key; one that was never committed, or was removed last, has none
 abbrev pub list_among : State → List Row → Key → List Stored
 list_among s rows key = unwrap_or (option_map (list_of_last s rows key) (last_vector s key)) []
 
@@ -235,6 +250,7 @@ most_payload g = 512 * budget_of g - 128
 abbrev pub merged_list : State → PutRow → List Stored
 merged_list s p = merged most_alternates (most_payload s.geometry) (list_among s (s.displaced ++ s.rows) p.key) (alternate_of p)
 
+-- the same by the put's number; nothing of a put that is not known
 abbrev pub list_of_put : State → ℕ → List Stored
 list_of_put s put = unwrap_or (option_map (merged_list s) (put_of s put)) []
 
@@ -244,12 +260,15 @@ last_match request alternates = option_and_then (slice_get alternates) (chosen r
 
 -- ---- what each record makes of the state
 
+-- the rows but those of the piece, in the same order
 abbrev pub without : PieceId → List Row → List Row
 without id rows = filter (λ row. not (same_piece row.id id)) rows
 
+-- what a piece lists when it is placed: a vector the list of its put, a fragment none
 abbrev pub listed : State → PieceId → Option (List Stored)
 listed s piece = if is_vector piece then Some (list_of_put s piece.put) else None
 
+-- the row of a piece that is placed: what a vector lists is fixed by the state before
 abbrev pub placed_row : State → PieceId → ℕ → ℕ → Digest → ℕ → Row
 placed_row s piece place blocks digest pin =
     record { id = piece; place = place; blocks = blocks; digest = digest; pin = pin; alternates = listed s piece }
@@ -259,18 +278,23 @@ abbrev pub without_earlier : Key → ℕ → Option LastVector → List Row → 
 without_earlier key put (Some (Complete old)) rows = if old == put then rows else without (vector_piece key old) rows
 without_earlier key put _ rows = rows
 
+-- the put of this number is changed; all others stay, and their order
 abbrev pub change_put : ℕ → (PutRow → PutRow) → List PutRow → List PutRow
 change_put put f puts = map (λ p. if p.put == put then f p else p) puts
 
+-- with one fragment more, behind those that the put has cut
 abbrev pub with_cut : TableRow → PutRow → PutRow
 with_cut row p = record p { cuts = p.cuts ++ row ∷ [] }
 
+-- the put at another stage, with its cuts and lines as they are
 abbrev pub with_writing : Writing → PutRow → PutRow
 with_writing writing p = record p { writing = writing }
 
+-- the reader of this number goes on to the index `next`; all others stay
 abbrev pub change_reader : ℕ → ℕ → List ReaderRow → List ReaderRow
 change_reader reader next readers = map {A = ReaderRow} (λ r. if r.reader == reader then record r { next = next } else r) readers
 
+-- all readers but the one of this number, which is closed
 abbrev pub without_reader : ℕ → List ReaderRow → List ReaderRow
 without_reader reader readers = filter (λ r. not (r.reader == reader)) readers
 
@@ -278,6 +302,7 @@ without_reader reader readers = filter (λ r. not (r.reader == reader)) readers
 abbrev pub table_of_hit : State → Key → List Field → List TableRow
 table_of_hit s key request = unwrap_or (option_map (λ (a : Stored). a.table) (last_match request (alternates_of s key))) []
 
+-- a hit keeps the table as it is listed then; one that follows has none, and a miss opens no reader
 abbrev pub opened_reader : State → ℕ → ℕ → Key → List Field → ReadAnswer → List ReaderRow
 opened_reader s reader actor key request (read.Hit put) =
     record { actor = actor; reader = reader; key = key; put = put; table = Some (table_of_hit s key request); next = 1 } ∷ []
@@ -289,13 +314,16 @@ opened_reader s reader actor key request (read.Miss why) = []
 abbrev pub moved_row : ℕ → Digest → Row → Row
 moved_row place digest row = record row { place = place; digest = digest }
 
+-- the blocks that a copy takes: those of its piece, and none where that does not stand
 abbrev pub blocks_of_row : Option Row → ℕ
 blocks_of_row row = unwrap_or (option_map (λ (r : Row). r.blocks) row) 0
 
+-- a put at its beginning: open, with no fragment cut
 abbrev pub opened_put : ℕ → ℕ → Key → List Field → List Field → ℕ → PutRow
 opened_put actor put key request response pin =
     record { actor = actor; put = put; key = key; request = request; response = response; pin = pin; cuts = []; writing = Open }
 
+-- the state behind one record; a format leaves nothing of the session before it
 abbrev pub state_after : State → Rec → State
 state_after s (rec.Formatted geometry) = formatted geometry
 state_after s (rec.Began cursor floor) = record s { cursor = cursor; filled = 0 }
@@ -351,5 +379,6 @@ state_after s (rec.Broke reader why) = s
 state_after s (rec.ReadClosed reader) = record s { readers = without_reader reader s.readers }
 state_after s (rec.Fault count) = record s { fault = count }
 
+-- the state behind records, one after the other
 abbrev pub after_all : State → List Rec → State
 after_all s recs = fold state_after s recs

@@ -73,6 +73,7 @@ cleans_up (rec.Aborted put key) = true
 cleans_up (rec.ReadClosed reader) = true
 cleans_up _ = false
 
+-- the only records that come behind a refusal
 abbrev pub CleansUp : Rec → Type 0
 CleansUp r = cleans_up r ≡ true
 

@@ -45,10 +45,11 @@ abbrev pub GivenIsOwn : Type 0
 GivenIsOwn = (s : State) (r : ReaderRow) (index n : ℕ) → reader_verdict s r ≡ next.Gave index n
     → (index ≡ r.next) × ((row : Row) × (live_row_of s (fragment_piece r.key r.put index) ≡ Some row))
 
--- a reader comes to the end once all was given; one that follows a writer, once that is closed
+-- a reader comes to the end once all was given
 abbrev pub EndIsWhole : Type 0
 EndIsWhole = (s : State) (r : ReaderRow) (n : ℕ) → reader_verdict s r ≡ next.Ended n → next_row s r ≡ None
 
+-- one that follows a writer, once that is closed, with the length of all that was cut
 abbrev pub FollowedIsClosed : Type 0
 FollowedIsClosed = (s : State) (r : ReaderRow) (n : ℕ) → r.table ≡ None → reader_verdict s r ≡ next.Ended n
     → (w : PutRow) × ((put_of s r.put ≡ Some w) × (w.writing ≡ Closed) × (n ≡ total_length w.cuts))

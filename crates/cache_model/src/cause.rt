@@ -24,7 +24,8 @@ pub enum Cause {
         segment: u32,
         live: u64,
     },
-    /// The last writer of the key gave up.
+    /// A writer gave up: the key's last one that did, where nothing of the key was committed or removed, or
+    /// the one that a reader follows. It is told by the number of its put.
     Aborted {
         writer: u64,
     },

@@ -28,23 +28,26 @@ unescaped text = if is_escaped text then Some (percent_decode text) else None
 
 -- ---- one field
 
+-- `:`, of which the first ends the name
 abbrev pub is_colon : ℕ → Bool
 is_colon byte = byte == 58
 
--- a name and a text, parted at the first colon
+-- a name and a text on either side of a place, whose byte belongs to neither
 abbrev pub parted_at : List ℕ → Option ℕ → Option (List ℕ × List ℕ)
 parted_at text None = None
 parted_at text (Some at) = Some (take at text, drop (at + 1) text)
 
+-- parted at the first colon; none where there is none
 abbrev pub parted : List ℕ → Option (List ℕ × List ℕ)
 parted text = parted_at text (position is_colon text)
 
--- the fields with one more, where it may stand among them
+-- the fields with one more, where it may stand among them (RFC 9110, section 5)
 abbrev pub with_line : List Field → WordAt → List ℕ → Option (List ℕ) → Result (List Field) BadLine
 with_line fields w name None = Err (bad w.column kind.Field)
 with_line fields w name (Some value) =
     if is_some (field_refusal fields name value) then Err (bad w.column kind.Field) else Ok (with_field fields (made_field name value))
 
+-- a word without a colon is no field; the text behind it is unescaped, and the name is not
 abbrev pub with_parts : List Field → WordAt → Option (List ℕ × List ℕ) → Result (List Field) BadLine
 with_parts fields w None = Err (bad w.column kind.Field)
 with_parts fields w (Some parts) = with_line fields w parts.0 (unescaped parts.1)
@@ -55,20 +58,25 @@ with_word fields w = with_parts fields w (parted (drop 1 w.bytes))
 
 -- ---- the fields of a line
 
+-- the word, which is not empty, begins with `>`
 abbrev pub is_request : WordAt → Bool
 is_request w = slice_index w.bytes 0 == 62
 
+-- the word begins with `<`
 abbrev pub is_response : WordAt → Bool
 is_response w = slice_index w.bytes 0 == 60
 
+-- whether a step takes lines of a response: those that store do, lookups do not
 abbrev pub takes_response : FieldKinds → Bool
 takes_response Request = false
 takes_response Both = true
 
+-- the request's lines made anew, and the response's as they were; a fault stays the fault
 abbrev pub with_request : Sides → Result (List Field) BadLine → Result Sides BadLine
 with_request sides (Ok fields) = Ok (record sides { request = fields })
 with_request sides (Err fault) = Err fault
 
+-- the response's lines made anew, and the request's as they were; a fault stays the fault
 abbrev pub with_response : Sides → Result (List Field) BadLine → Result Sides BadLine
 with_response sides (Ok fields) = Ok (record sides { response = fields })
 with_response sides (Err fault) = Err fault
@@ -86,5 +94,6 @@ fields_after kinds sides [] = Ok sides
 fields_after kinds sides (w ∷ words) =
     (if is_word w.bytes then with_field_of kinds sides w else Err (bad w.column kind.Word)) >>= (λ more. fields_after kinds more words)
 
+-- before the first field word of a line
 abbrev pub no_fields : Sides
 no_fields = record { request = []; response = [] }

@@ -40,6 +40,7 @@ numbers_of end name segments words = do
   done ← take_end generation.1
   Ok (step.Format name segments buckets.0 content.0 agg.0 reach.0 fragment.0 generation.0)
 
+-- the word that stands for the usual numbers, but for the generation
 abbrev pub is_default : WordAt → Bool
 is_default w = same_word w.bytes (codes "default")
 
@@ -115,6 +116,7 @@ only_actor end words = do
   done ← take_end actor.1
   Ok actor.0
 
+-- such a line as the step that `make` gives for its actor
 abbrev pub by_actor : ℕ → List WordAt → (List ℕ → Step) → Result Step BadLine
 by_actor end words make = only_actor end words >>= (λ actor. Ok (make actor))
 
@@ -153,6 +155,7 @@ step_by end verb.Remove words = remove_of end words
 step_by end verb.Flush words = flush_of words
 step_by end verb.Now words = now_of end words
 
+-- a first word that is no verb is the fault, at its own column, whatever follows
 abbrev pub step_named : ℕ → WordAt → Option Verb → List WordAt → Result Step BadLine
 step_named end w None words = Err (bad w.column kind.Verb)
 step_named end w (Some verb) words = step_by end verb words
@@ -167,9 +170,11 @@ step_of line = do
 abbrev pub is_passed_over : List ℕ → Bool
 is_passed_over line = length line == 0 || slice_index line 0 == 35
 
+-- a line that is not passed over: its step, or the fault of the first word that does not fit
 abbrev pub answer_by : Result Step BadLine → LineAnswer
 answer_by (Ok step) = answer.Step step
 answer_by (Err fault) = answer.Bad fault
 
+-- how a line is read: no word of one that is passed over is tested
 unfoldable pub reading_of : List ℕ → LineAnswer
 reading_of line = if is_passed_over line then answer.Nothing else answer_by (step_of line)

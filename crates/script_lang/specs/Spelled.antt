@@ -16,6 +16,7 @@ use Rattle.script_lang.specs.Grammar.{reading_of}
 
 -- ---- how words are written
 
+-- always `key:` and 32 lower-case hex digits, never a URL
 abbrev pub key_word : Key → List ℕ
 key_word key = codes "key:" ++ encode_lower (key_bytes key)
 
@@ -28,20 +29,25 @@ body_word (byte ∷ bytes) = encode_lower (byte ∷ bytes)
 abbrev pub written_byte : ℕ → List ℕ
 written_byte byte = if is_word_byte byte && not (byte == 37) then byte ∷ [] else percent_encode_byte byte
 
+-- byte by byte, so that no space and no byte outside 21 to 7E hex stands in the word
 abbrev pub written_value : List ℕ → List ℕ
 written_value value = flat_map written_byte value
 
+-- the sign, the name as it is kept, a colon, and the written value
 abbrev pub field_word : ℕ → Field → List ℕ
 field_word sign field = sign ∷ (field.name ++ (58 ∷ written_value field.value))
 
+-- the lines of a request, each behind `>`, in their order
 abbrev pub request_words : List Field → List (List ℕ)
 request_words fields = map (field_word 62) fields
 
+-- the lines of a response, each behind `<`, in their order
 abbrev pub response_words : List Field → List (List ℕ)
 response_words fields = map (field_word 60) fields
 
 -- ---- how steps are written
 
+-- the verb and the words behind it: a geometry by its seven numbers, request lines before response lines
 abbrev pub step_words : Step → List (List ℕ)
 step_words (step.Format name segments buckets content agg reach fragment generation) =
     codes "format" ∷ name ∷ decimal segments ∷ decimal buckets ∷ decimal content ∷ decimal agg ∷ decimal reach ∷ decimal fragment ∷ decimal generation ∷ []
@@ -69,6 +75,7 @@ spelled s = join_with_byte 32 (step_words s)
 abbrev pub IsKey : Key → Type 0
 IsKey key = key_of_bytes (key_bytes key) ≡ key
 
+-- the value has bytes alone, numbers below 256; of the name `AreFields` says so
 abbrev pub HasBytes : Field → Type 0
 HasBytes field = IsBytes field.value
 
@@ -88,6 +95,7 @@ pub record FitsFormat (name : List ℕ) (segments buckets content agg reach frag
   pub fragment_fits : fragment < 2 ^ 32
   pub generation_fits : generation < 2 ^ 64
 
+-- a name of 1 to 32 letters, digits and `-`
 abbrev pub IsActor : List ℕ → Type 0
 IsActor actor = is_actor actor ≡ true
 

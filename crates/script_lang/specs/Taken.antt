@@ -11,11 +11,12 @@ use Rattle.script_lang.specs.Grammar.{take_number}
 abbrev pub seen : Word → WordAt
 seen word = record { column = word.column; bytes = word.bytes.now }
 
--- up to the first space, or all
+-- the bytes before a place, or all
 abbrev pub word_to : List ℕ → Option ℕ → List ℕ
 word_to bytes (Some at) = take at bytes
 word_to bytes None = bytes
 
+-- up to the first space, or all; empty where a space stands first
 abbrev pub first_word : List ℕ → List ℕ
 first_word bytes = word_to bytes (position is_space bytes)
 
@@ -28,6 +29,7 @@ abbrev pub words_left : ℕ → Option (List ℕ) → List WordAt
 words_left end None = []
 words_left end (Some bytes) = words_from (end - length bytes) bytes
 
+-- the words that are still to be taken, with their columns in the whole line
 abbrev pub words_in : Words → List WordAt
 words_in words = words_left words.end (option_copied words.left)
 

@@ -21,7 +21,7 @@ newline = 10 ∷ []
 
 -- ---- the parts of lines
 
--- bytes as an answer shows them: none, up to 64 in hex, or their SHA-256
+-- bytes as an answer shows them: none, up to 64 in hex, or their SHA-256 (FIPS 180-4)
 unfoldable pub shown : List ℕ → List ℕ
 shown bytes =
     if length bytes == 0 then codes "-"
@@ -36,12 +36,15 @@ numbered word n = word ++ (codes " " ++ decimal n)
 abbrev pub unsaved_text : Bool → List ℕ
 unsaved_text unsaved = if unsaved then codes " unsaved" else []
 
+-- the place at which the piece begins, the floor, and ` unsaved` behind them or not
 unfoldable pub passed_text : ℕ → ℕ → Bool → List ℕ
 passed_text place floor unsaved = codes "passed " ++ (decimal place ++ (codes " " ++ (decimal floor ++ unsaved_text unsaved)))
 
+-- the segment of the directory, and how many live pieces it had before the purge
 unfoldable pub displaced_text : ℕ → ℕ → List ℕ
 displaced_text segment live = codes "displaced " ++ (decimal segment ++ (codes " " ++ decimal live))
 
+-- the place, the digest that was kept and the one that was found, in lower-case hex
 unfoldable pub damaged_text : ℕ → Digest → Digest → List ℕ
 damaged_text place kept found =
     codes "damaged " ++ (decimal place ++ (codes " " ++ (encode_lower kept.0 ++ (codes " " ++ encode_lower found.0))))
@@ -57,9 +60,11 @@ cause_text (cause.Aborted writer) = numbered (codes "aborted") writer
 cause_text (cause.DeviceFault count) = numbered (codes "device-fault") count
 cause_text (cause.Damaged place kept found) = damaged_text place kept found
 
+-- the index, from 1, of the fragment that is not live any more, and why
 unfoldable pub lost_text : ℕ → Cause → List ℕ
 lost_text index why = codes "lost " ++ (decimal index ++ (codes " " ++ cause_text why))
 
+-- why a step is refused, with its number where it has one
 abbrev pub refusal_text : Refused → List ℕ
 refusal_text (refused.Geometry number) = numbered (codes "geometry") number
 refusal_text refused.TooManyWriters = codes "too-many-writers"
@@ -87,35 +92,44 @@ synced_text (Some serial) = codes " synced " ++ decimal serial
 unfoldable pub number_line : List ℕ → ℕ → List ℕ
 number_line word n = word ++ (codes " " ++ (decimal n ++ newline))
 
+-- a session begins: its serial, where the first buffer begins, and the floor
 unfoldable pub formatted_line : ℕ → ℕ → ℕ → List ℕ
 formatted_line serial cursor floor =
     codes "formatted serial " ++ (decimal serial ++ (codes " cursor " ++ (decimal cursor ++ (codes " floor " ++ (decimal floor ++ newline)))))
 
+-- a whole put: its number, how many bytes its body has, and in how many fragments
 unfoldable pub put_line : ℕ → ℕ → ℕ → List ℕ
 put_line put length fragments =
     codes "put " ++ (decimal put ++ (codes " length " ++ (decimal length ++ (codes " fragments " ++ (decimal fragments ++ newline)))))
 
+-- a whole read: the put that was hit, how many bytes its body has, and these as they are shown
 unfoldable pub got_line : ℕ → ℕ → List ℕ → List ℕ
 got_line put length bytes =
     codes "got " ++ (decimal put ++ (codes " length " ++ (decimal length ++ (codes " " ++ (shown bytes ++ newline)))))
 
+-- a reader that hit: the put, and how many bytes its whole body has
 unfoldable pub hit_line : ℕ → ℕ → List ℕ
 hit_line put length = codes "hit " ++ (decimal put ++ (codes " length " ++ (decimal length ++ newline)))
 
+-- a fragment for a reader: its index from 1, how many bytes it has, and these as they are shown
 unfoldable pub piece_line : ℕ → ℕ → List ℕ → List ℕ
 piece_line index length bytes =
     codes "piece " ++ (decimal index ++ (codes " " ++ (decimal length ++ (codes " " ++ (shown bytes ++ newline)))))
 
+-- a flush: how many blocks it wrote, cursor and floor behind it, and the serial of a sync where one ran
 unfoldable pub flushed_line : ℕ → ℕ → ℕ → Option ℕ → List ℕ
 flushed_line blocks cursor floor synced =
     codes "flushed " ++ (decimal blocks ++ (codes " cursor " ++ (decimal cursor ++ (codes " floor " ++ (decimal floor ++ (synced_text synced ++ newline))))))
 
+-- a step that was not done, or of which only the bytes were taken that `took` counts
 unfoldable pub refused_line : Refused → Option ℕ → List ℕ
 refused_line why took = codes "refused " ++ (refusal_text why ++ (took_text took ++ newline))
 
+-- a call that the device refused: its count of faults, and the bytes taken, where they are told
 unfoldable pub fault_line : ℕ → Option ℕ → List ℕ
 fault_line count took = codes "device-fault " ++ (decimal count ++ (took_text took ++ newline))
 
+-- a word, and why there is nothing to give; a device's fault has a line of its own
 unfoldable pub cause_line : List ℕ → Cause → List ℕ
 cause_line word why = word ++ (codes " " ++ (cause_text why ++ newline))
 
@@ -124,6 +138,7 @@ abbrev pub why_line : List ℕ → Cause → List ℕ
 why_line word (cause.DeviceFault count) = fault_line count None
 why_line word why = cause_line word why
 
+-- a reader is closed
 unfoldable pub done_line : List ℕ
 done_line = codes "done" ++ newline
 
@@ -152,6 +167,7 @@ answer_line (answer.DeviceFault count took) = fault_line count took
 
 -- ---- the last line of a run that ends early
 
+-- what is wrong with the first word that does not fit
 abbrev pub kind_word : BadKind → List ℕ
 kind_word kind.Verb = codes "verb"
 kind_word kind.Word = codes "word"
@@ -160,28 +176,36 @@ kind_word kind.Number = codes "number"
 kind_word kind.Body = codes "body"
 kind_word kind.Field = codes "field"
 
+-- the words of the command are not `replay` alone, or one is not UTF-8
 unfoldable pub usage_line : List ℕ
 usage_line = codes "error usage" ++ newline
 
+-- a line that is not in the grammar: its number and the column of the fault, both from 1, and what is wrong
 unfoldable pub bad_script_line : ℕ → ℕ → BadKind → List ℕ
 bad_script_line line column kind =
     codes "error bad-script line " ++ (decimal line ++ (codes " column " ++ (decimal column ++ (codes " " ++ (kind_word kind ++ newline)))))
 
+-- the source of the script failed; at which line is not told
 unfoldable pub read_fault_line : List ℕ
 read_fault_line = codes "error read-fault" ++ newline
 
+-- a device could not be attached; the line and the name are not told
 unfoldable pub bay_fault_line : List ℕ
 bay_fault_line = codes "error bay-fault" ++ newline
 
+-- a line above 1,048,576 bytes, by its number from 1
 unfoldable pub too_long_line : ℕ → List ℕ
 too_long_line line = codes "error line-too-long line " ++ (decimal line ++ newline)
 
+-- a byte stands behind line 16,777,216
 unfoldable pub too_many_line : List ℕ
 too_many_line = codes "error too-many-lines" ++ newline
 
+-- a line, by its number from 1, that needs a session where nothing was formatted yet
 unfoldable pub no_cache_line : ℕ → List ℕ
 no_cache_line line = codes "error no-cache line " ++ (decimal line ++ newline)
 
+-- the last line, by why the run ends; where the sink fails or memory is wanting there is none
 abbrev pub last_line : LastLine → List ℕ
 last_line last.Usage = usage_line
 last_line (last.BadScript line fault) = bad_script_line line fault.column fault.kind

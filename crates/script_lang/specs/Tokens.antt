@@ -12,6 +12,7 @@ use Rattle.script_lang.specs.Words.{WordAt, bad}
 
 -- ---- numbers
 
+-- `0` to `9`
 abbrev pub is_digit : ℕ → Bool
 is_digit byte = nat_le 48 byte && nat_le byte 57
 
@@ -20,6 +21,7 @@ abbrev pub value_after : ℕ → List ℕ → ℕ
 value_after n [] = n
 value_after n (digit ∷ digits) = value_after (10 * n + (digit - 48)) digits
 
+-- the number that decimal digits write: 0 where there are none
 abbrev pub value_of : List ℕ → ℕ
 value_of digits = value_after 0 digits
 
@@ -40,11 +42,13 @@ abbrev pub below : ℕ → WordAt → Option ℕ → Result ℕ BadLine
 below limit w (Some n) = if nat_lt n limit then Ok n else Err (bad w.column kind.Number)
 below limit w None = Err (bad w.column kind.Number)
 
+-- a word as a number below a limit; any other is a `number` fault at its column
 unfoldable pub number_below : ℕ → WordAt → Result ℕ BadLine
 number_below limit w = below limit w (number_in w.bytes)
 
 -- ---- objects
 
+-- `0` to `9` or `a` to `f`
 abbrev pub is_lower_hex : ℕ → Bool
 is_lower_hex byte = is_digit byte || (nat_le 97 byte && nat_le byte 102)
 
@@ -52,13 +56,16 @@ is_lower_hex byte = is_digit byte || (nat_le 97 byte && nat_le byte 102)
 abbrev pub is_key_word : List ℕ → Bool
 is_key_word bytes = length bytes == 36 && starts_with nat_eq bytes (codes "key:") && list_all is_lower_hex (drop 4 bytes)
 
+-- the 16 bytes are the key itself, and no digest is taken
 abbrev pub key_by : Result (List ℕ) FromHexError → Option Key
 key_by (Ok bytes) = Some (key_of_bytes bytes)
 key_by (Err fault) = None
 
+-- the key behind `key:`; any other word spells none
 unfoldable pub key_in : List ℕ → Option Key
 key_in bytes = if is_key_word bytes then key_by (decode_sized (drop 4 bytes) 16) else None
 
+-- a word that spells no key is a URL of at most 4,096 bytes, with a key of its SHA-256 (FIPS 180-4)
 abbrev pub object_by : WordAt → Option Key → Result Key BadLine
 object_by w (Some key) = Ok key
 object_by w None = if nat_le (length w.bytes) 4096 then Ok (key_of_url w.bytes) else Err (bad w.column kind.Word)
@@ -69,9 +76,11 @@ object_of w = object_by w (key_in w.bytes)
 
 -- ---- bodies
 
+-- `*`, which parts a count from the byte that is repeated
 abbrev pub is_star : ℕ → Bool
 is_star byte = byte == 42
 
+-- the bytes that the digits spell; an odd count or another byte among them is a `body` fault
 abbrev pub by_hex : WordAt → Result (List ℕ) FromHexError → Result (List ℕ) BadLine
 by_hex w (Ok bytes) = Ok bytes
 by_hex w (Err fault) = Err (bad w.column kind.Body)
@@ -84,10 +93,12 @@ hex_body w = by_hex w (decode_sized w.bytes (length w.bytes / 2))
 abbrev pub most_repeats : ℕ
 most_repeats = 67108864
 
+-- so often the one byte that the digits spell, or a `body` fault
 abbrev pub repeat_by : WordAt → ℕ → Result (List ℕ) FromHexError → Result (List ℕ) BadLine
 repeat_by w count (Ok bytes) = Ok (replicate count (slice_index bytes 0))
 repeat_by w count (Err fault) = Err (bad w.column kind.Body)
 
+-- the count is a number from 1 to `most_repeats`, and the digits spell one byte; else a `body` fault
 abbrev pub repeat_times : WordAt → List ℕ → Option ℕ → Result (List ℕ) BadLine
 repeat_times w digits (Some count) =
     if nat_le 1 count && nat_le count most_repeats then repeat_by w count (decode_sized digits 1) else Err (bad w.column kind.Body)
@@ -97,9 +108,11 @@ repeat_times w digits None = Err (bad w.column kind.Body)
 unfoldable pub repeated_body : WordAt → ℕ → Result (List ℕ) BadLine
 repeated_body w star = repeat_times w (drop (star + 1) w.bytes) (number_in (take star w.bytes))
 
+-- `-` alone, which stands for no bytes
 abbrev pub is_dash : List ℕ → Bool
 is_dash bytes = length bytes == 1 && slice_index bytes 0 == 45
 
+-- a word with a star is a byte repeated, parted at the first star; any other is hex digits
 abbrev pub body_by : WordAt → Option ℕ → Result (List ℕ) BadLine
 body_by w (Some star) = repeated_body w star
 body_by w None = hex_body w
@@ -118,5 +131,6 @@ is_actor_byte byte = is_digit byte || (nat_le 65 byte && nat_le byte 90) || (nat
 abbrev pub is_actor : List ℕ → Bool
 is_actor bytes = nat_le 1 (length bytes) && nat_le (length bytes) 32 && list_all is_actor_byte bytes
 
+-- a word as an actor's name, as it stands: case counts
 unfoldable pub actor_of : WordAt → Result (List ℕ) BadLine
 actor_of w = if is_actor w.bytes then Ok w.bytes else Err (bad w.column kind.Word)

@@ -4,6 +4,7 @@ use lib.Pointwise.{pointwise}
 use Rattle.script_lang.specs.declared.verbs.Verb.{Verb}
 use Rattle.script_lang.specs.declared.verbs.Verb.TheVariants as verb
 
+-- byte by byte and to the same length: case counts
 abbrev pub same_word : List ℕ → List ℕ → Bool
 same_word a b = pointwise nat_eq a b
 

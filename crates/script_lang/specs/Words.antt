@@ -10,6 +10,7 @@ pub record WordAt : Type 0 where
   pub column : ℕ
   pub bytes : List ℕ
 
+-- the byte 20 hex; a tab is none
 abbrev pub is_space : ℕ → Bool
 is_space byte = byte == 32
 
@@ -30,14 +31,17 @@ is_word_byte byte = nat_le 33 byte && nat_le byte 126
 abbrev pub is_word : List ℕ → Bool
 is_word bytes = not (length bytes == 0) && list_all is_word_byte bytes
 
+-- the fault of a line: a column, from 1, and what is wrong there
 abbrev pub bad : ℕ → BadKind → BadLine
 bad column kind = record { column = column; kind = kind }
 
 infixl 10 ◌>>=◌
+-- what comes next is tested where there is no fault yet, so the first fault from the left is told
 abbrev pub ◌>>=◌ : {A B : Type 0} → Result A BadLine → (A → Result B BadLine) → Result B BadLine
 Ok x >>= f = f x
 Err e >>= f = Err e
 
+-- a word is tested when it is taken; those behind it are not looked at
 abbrev pub checked : WordAt → List WordAt → Result (WordAt × List WordAt) BadLine
 checked w words = if is_word w.bytes then Ok (w, words) else Err (bad w.column Word)
 

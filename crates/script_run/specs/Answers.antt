@@ -34,14 +34,17 @@ number_of_bad Content = 4
 number_of_bad Reach = 5
 number_of_bad Fragment = 6
 
+-- the cursor behind a format: N, the content blocks of the geometry, where the first lap begins
 abbrev pub first_cursor : List Rec → ℕ
 first_cursor (rec.Formatted g ∷ more) = g.content
 first_cursor _ = 0
 
+-- the floor behind a format: A, the blocks of a buffer, below all places of the session
 abbrev pub first_floor : List Rec → ℕ
 first_floor (rec.Formatted g ∷ more) = floor_of g g.content
 first_floor _ = 0
 
+-- the first number outside refuses the geometry; the serial of a session is 1
 abbrev pub format_said : List Rec → Option BadGeometry → StepAnswer
 format_said added (Some bad) = answer.Refused (refused.Geometry (number_of_bad bad)) None
 format_said added None = answer.Formatted 1 (first_cursor added) (first_floor added)
@@ -66,16 +69,20 @@ abbrev pub said : State → Option ℕ → Option Reason → StepAnswer → Step
 said t took None whole = whole
 said t took (Some why) whole = refusal_said t took why
 
+-- an actor opens that has a writer or a reader
 abbrev pub busy : StepAnswer
 busy = answer.Refused refused.Busy None
 
+-- the actor lacks the writer or the reader that its line needs
 abbrev pub idle : StepAnswer
 idle = answer.Refused refused.Idle None
 
+-- only an actor that has nothing may open; any other is busy
 abbrev pub if_free : Option Holding → StepAnswer → StepAnswer
 if_free None free = free
 if_free (Some holding) free = busy
 
+-- by the put or the reader of the actor; one that lacks it is idle
 abbrev pub if_has : Option ℕ → (ℕ → StepAnswer) → StepAnswer
 if_has None has = idle
 if_has (Some n) has = has n
@@ -90,6 +97,7 @@ put_said t put = answer.Put put (total_length (cuts_of t put)) (length (cuts_of 
 abbrev pub took_of : Run → State → ℕ → ℕ
 took_of run t put = total_length (cuts_of t put) - length (run.streams put).bytes
 
+-- a sealed writer is refused also where the line has no bytes; else all were taken, or what a refusal left
 abbrev pub feed_said : Run → State → List ℕ → Option Reason → ℕ → StepAnswer
 feed_said run t body why put =
     if (run.streams put).sealed then answer.Refused refused.Sealed (Some 0)
@@ -97,10 +105,12 @@ feed_said run t body why put =
 
 -- ---- readers
 
+-- a device's fault is an answer of its own, and no miss
 abbrev pub miss_said : Cause → StepAnswer
 miss_said (cause.DeviceFault count) = answer.DeviceFault count None
 miss_said why = answer.Miss why
 
+-- a device's fault breaks no reader: the piece may be read later
 abbrev pub broken_said : Cause → StepAnswer
 broken_said (cause.DeviceFault count) = answer.DeviceFault count None
 broken_said why = answer.Broken why
@@ -130,6 +140,7 @@ end_said put given (Some (rec.Ended reader size)) = answer.Got put size given
 end_said put given (Some (rec.Broke reader why)) = broken_said why
 end_said put given _ = answer.Done
 
+-- of a whole read: what was hit to its end, the put that would have to be followed, or the miss
 abbrev pub get_said : List ℕ → Option Rec → Option ReadAnswer → StepAnswer
 get_said given told (Some (read.Hit put)) = end_said put given told
 get_said given told (Some (read.Follow put)) = answer.Follow put
@@ -143,6 +154,7 @@ abbrev pub remove_said : State → Key → List Rec → StepAnswer
 remove_said s key (rec.Removed put k ∷ recs) = answer.Removed put
 remove_said s key _ = answer.Absent (cause_of_miss s key)
 
+-- the blocks that were filled before it, and cursor and floor behind it; no sync is told
 abbrev pub flush_said : State → State → Option Reason → StepAnswer
 flush_said s t why = said t None why (answer.Flushed s.filled t.cursor (floor_now t) None)
 
@@ -170,5 +182,6 @@ step_said run turn state (step.Now moment) = answer.Now moment
 step_said run turn (Some s) step = session_said run s (after_all s turn.added) turn step
 step_said run turn None step = answer.Done
 
+-- what a line answers that is a step, with the session that stands before it
 abbrev pub step_answer : Run → Turn → Step → StepAnswer
 step_answer run turn step = step_said run turn run.state step

@@ -25,14 +25,16 @@ cut_intents (suc most) fragment put cut (byte ∷ bytes) =
     then Fragment put (cut + 1) (take fragment (byte ∷ bytes)) ∷ cut_intents most fragment put (cut + 1) (drop fragment (byte ∷ bytes))
     else []
 
+-- the same with a bound that is enough
 abbrev pub feed_intents : ℕ → ℕ → ℕ → List ℕ → List Intent
 feed_intents fragment put cut bytes = cut_intents (length bytes) fragment put cut bytes
 
--- how many whole fragments bytes have
+-- how many whole fragments bytes have, counted up to a bound
 abbrev pub whole_among : ℕ → ℕ → List ℕ → ℕ
 whole_among zero fragment bytes = 0
 whole_among (suc most) fragment bytes = if nat_le fragment (length bytes) then whole_among most fragment (drop fragment bytes) + 1 else 0
 
+-- all of them, since no fragment is empty
 abbrev pub whole_fragments : ℕ → List ℕ → ℕ
 whole_fragments fragment bytes = whole_among (length bytes) fragment bytes
 
@@ -41,6 +43,7 @@ abbrev pub rest_among : ℕ → ℕ → List ℕ → List ℕ
 rest_among zero fragment bytes = bytes
 rest_among (suc most) fragment bytes = if nat_le fragment (length bytes) then rest_among most fragment (drop fragment bytes) else bytes
 
+-- behind all of them: less than a whole fragment
 abbrev pub rest_behind : ℕ → List ℕ → List ℕ
 rest_behind fragment bytes = rest_among (length bytes) fragment bytes
 
@@ -90,6 +93,7 @@ feeding run s body put =
     if (run.streams put).sealed then []
     else feed_intents s.geometry.fragment put (length (cuts_of s put)) (gathered_of run s put ++ body)
 
+-- a writer closes, sealed or not, with what it gathered and has not cut
 abbrev pub closing : Run → State → ℕ → List Intent
 closing run s put = close_intents put (length (cuts_of s put)) (gathered_of run s put)
 

@@ -19,9 +19,11 @@ use Rattle.script_run.specs.Answers.{took_of}
 
 -- ---- streams
 
+-- what the writer of each put took, by the put's number
 abbrev pub Streams : Type 0
 Streams = ℕ → Stream
 
+-- the put's writer took these bytes and no others, and is not sealed
 abbrev pub with_bytes : Streams → ℕ → List ℕ → Streams
 with_bytes streams put bytes = with_value streams put (record { bytes = bytes; sealed = false })
 
@@ -46,9 +48,11 @@ seals (Some Exhausted) = true
 seals (Some (Faulted count)) = true
 seals _ = false
 
+-- the stream behind a close: its bytes stay, and it is sealed or as it was
 abbrev pub sealed_by : Option Reason → Stream → Stream
 sealed_by why stream = if seals why then record { bytes = stream.bytes; sealed = true } else stream
 
+-- a close takes no bytes, and seals no other writer
 abbrev pub streams_closed : Run → Option Reason → ℕ → Streams
 streams_closed run why put = with_value run.streams put (sealed_by why (run.streams put))
 
@@ -62,6 +66,7 @@ abbrev pub streams_opened : Run → State → Option Holding → Streams
 streams_opened run s None = with_value run.streams s.next_put no_stream
 streams_opened run s (Some holding) = run.streams
 
+-- what writers took behind a line; a `put` took its whole body, also where it is refused
 abbrev pub streams_behind : Run → State → State → Turn → Step → Streams
 streams_behind run s t turn (step.Put key body request response) = with_bytes run.streams s.next_put body
 streams_behind run s t turn (step.OpenWrite actor key pin request response) = streams_opened run s (held_by run actor)
@@ -96,10 +101,12 @@ holds_behind run s t (step.OpenWrite actor key pin request response) name = or_e
 holds_behind run s t (step.OpenRead actor key request) name = or_else (held_by run name) (reader_at t s.next_reader)
 holds_behind run s t _ name = still_open t (held_by run name)
 
+-- only the actor of the step may have something else behind it
 abbrev pub held_behind : Run → State → State → Step → Option (List ℕ) → ℕ → Option Holding
 held_behind run s t step None = run.held
 held_behind run s t step (Some name) = with_value run.held (number_of run.actors name) (holds_behind run s t step name)
 
+-- an actor counts from its first line on, whatever that is answered
 abbrev pub actors_behind : List (List ℕ) → Option (List ℕ) → List (List ℕ)
 actors_behind actors None = actors
 actors_behind actors (Some name) = with_actor actors name
@@ -110,6 +117,7 @@ actors_behind actors (Some name) = with_actor actors name
 abbrev pub harm_in : State → Harm
 harm_in s = record { fault = s.fault; damaged = has_damage s }
 
+-- of the device of a session, where there is one
 abbrev pub harm_of : Option State → List Harm
 harm_of None = []
 harm_of (Some s) = harm_in s ∷ []
@@ -130,10 +138,12 @@ formatted run name added = record {
   now = run.now;
 }
 
+-- a refused geometry leaves the run as it is: the session before it goes on
 abbrev pub after_format : Run → List ℕ → List Rec → Option BadGeometry → Run
 after_format run name added (Some bad) = run
 after_format run name added None = formatted run name added
 
+-- a step other than a format or a moment: the session goes on, on the same device
 abbrev pub in_session : Run → State → State → Turn → Step → Run
 in_session run s t turn step = record {
   state = Some t;
@@ -149,6 +159,7 @@ in_session run s t turn step = record {
 abbrev pub at_moment : Run → ℕ → Run
 at_moment run at = record run { now = at }
 
+-- a format and a moment need no session; without one no other step changes anything
 abbrev pub behind : Run → Turn → Option State → Step → Run
 behind run turn state (step.Format name segments buckets content agg reach fragment generation) =
     after_format run name turn.added (first_refusal segments buckets content agg reach fragment)
@@ -156,13 +167,16 @@ behind run turn state (step.Now moment) = at_moment run moment
 behind run turn (Some s) step = in_session run s (after_all s turn.added) turn step
 behind run turn None step = run
 
+-- the run behind a step, by the session that it has before it
 abbrev pub after_step : Run → Turn → Step → Run
 after_step run turn step = behind run turn run.state step
 
+-- only a step changes a run: no comment, and no line that is not in the grammar
 abbrev pub after_reading : Run → Turn → LineAnswer → Run
 after_reading run turn (line.Step s) = after_step run turn s
 after_reading run turn line.Nothing = run
 after_reading run turn (line.Bad fault) = run
 
+-- the run that the next line finds
 abbrev pub after_line : Run → Turn → List ℕ → Run
 after_line run turn bytes = after_reading run turn (reading_of bytes)

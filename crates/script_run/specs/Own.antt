@@ -73,6 +73,7 @@ pub record IsListedOf (s : State) (key : Key) (a : Stored) : Type 0 where
   pub stands_for : alternate_of w ≡ a
   pub complete : IsComplete s a.put w
 
+-- each alternate of a list; a row that is no vector's has none
 abbrev pub AreListedOf : State → Key → Option (List Stored) → Type 0
 AreListedOf s key None = Unit {0}
 AreListedOf s key (Some list) = AllByRecursion (IsListedOf s key) list
@@ -85,6 +86,7 @@ AreAlternates s row = AreListedOf s row.id.first row.alternates
 abbrev pub IsOwnRow : State → (ℕ → Stream) → Row → Type 0
 IsOwnRow s streams row = (0 < row.id.index → IsOwnFragment s streams row) × AreAlternates s row
 
+-- of a reader without a table, which follows a writer, nothing is said
 abbrev pub IsTableOfHit : State → ReaderRow → Option (List TableRow) → Type 0
 IsTableOfHit s r None = Unit {0}
 IsTableOfHit s r (Some table) = IsTableOf s r.put table
@@ -94,6 +96,7 @@ pub record IsOwnReader (s : State) (r : ReaderRow) : Type 0 where
   pub begun : r.reader < s.next_reader
   pub table : IsTableOfHit s r r.table
 
+-- the puts, the pieces and the readers of a session belong to what its writers took
 pub record AreOwn (s : State) (streams : ℕ → Stream) : Type 0 where
   pub puts : AreOwnPuts s streams
   pub rows : AllByRecursion (IsOwnRow s streams) s.rows

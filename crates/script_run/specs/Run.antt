@@ -22,9 +22,11 @@ pub record Harm : Type 0 where
   pub fault : ℕ
   pub damaged : Bool
 
+-- a device of which no fault and no damage was told
 abbrev pub no_harm : Harm
 no_harm = record { fault = 0; damaged = false }
 
+-- the session, where there is one, and what outlives it: actors, names of devices, their harm, the moment
 pub record Run : Type 0 where
   -- what the records of the session stand for, where there is a session
   pub state : Option State
@@ -41,9 +43,11 @@ pub record Run : Type 0 where
   -- the moment for pins, of whatever session
   pub now : ℕ
 
+-- of a writer that took nothing yet, and of each number that no put has
 abbrev pub no_stream : Stream
 no_stream = record { bytes = []; sealed = false }
 
+-- before the first line: no session, no actor, no device, and the moment 0
 abbrev pub fresh : Run
 fresh = record { state = None; streams = λ put. no_stream; actors = []; held = λ actor. None; ended = []; names = []; now = 0 }
 
@@ -66,21 +70,25 @@ actor_of _ = None
 
 -- ---- what an actor has
 
+-- what the actor of this name has; a name that is not known has the next number
 abbrev pub held_by : Run → List ℕ → Option Holding
 held_by run name = run.held (number_of run.actors name)
 
+-- the put of a writer; none of a reader
 abbrev pub put_in : Holding → Option ℕ
 put_in (Writes put) = Some put
 put_in (Reads reader) = None
 
+-- the number of a reader; none of a writer
 abbrev pub reader_in : Holding → Option ℕ
 reader_in (Writes put) = None
 reader_in (Reads reader) = Some reader
 
--- the put that an actor writes, and the reader with which it reads
+-- the put that an actor writes; none where it reads or has nothing
 abbrev pub writer_of : Run → List ℕ → Option ℕ
 writer_of run name = option_and_then put_in (held_by run name)
 
+-- the reader with which an actor reads; none where it writes or has nothing
 abbrev pub reader_by : Run → List ℕ → Option ℕ
 reader_by run name = option_and_then reader_in (held_by run name)
 

@@ -36,6 +36,7 @@ IsPiece run s reader given (Some (rec.Gave number index size)) =
     (r : ReaderRow) × (reader_of s reader ≡ Some r) × (given ≡ piece_of s.geometry.fragment (run.streams r.put).bytes index)
 IsPiece run s reader given _ = given ≡ []
 
+-- an actor without a reader is given nothing
 abbrev pub IsNextPiece : Run → State → Turn → Option ℕ → Type 0
 IsNextPiece run s turn None = turn.given ≡ []
 IsNextPiece run s turn (Some reader) = IsPiece run s reader turn.given (told_in turn.added)
@@ -45,6 +46,7 @@ abbrev pub IsBody : Run → List ℕ → Option Rec → Option ReadAnswer → Ty
 IsBody run given (Some (rec.Ended reader size)) (Some (read.Hit put)) = given ≡ (run.streams put).bytes
 IsBody run given _ _ = given ≡ []
 
+-- a `get` gives a whole body and a `next` a fragment; no other line gives bytes
 abbrev pub GivesOwn : Run → State → Turn → Step → Type 0
 GivesOwn run s turn (step.Get key request) = IsBody run turn.given (told_in turn.added) (lookup_in turn.added)
 GivesOwn run s turn (step.Next actor) = IsNextPiece run s turn (reader_by run actor)
@@ -66,6 +68,7 @@ pub record SessionTakes (run : Run) (s : State) (turn : Turn) (step : Step) : Ty
   pub legal : IsStep turn.device s (asked run s step) turn.added turn.refused
   pub own : GivesOwn run s turn step
 
+-- a format and a moment need no session; all other steps work on one
 abbrev pub Takes : Run → Turn → Option State → Step → Type 0
 Takes run turn state (step.Format name segments buckets content agg reach fragment generation) =
     FormatTakes turn.added segments buckets content agg reach fragment generation (first_refusal segments buckets content agg reach fragment)
@@ -77,19 +80,23 @@ Takes run turn None step = ⊥
 abbrev pub StepTakes : Run → Turn → Step → Type 0
 StepTakes run turn step = Takes run turn run.state step
 
+-- what is passed over does nothing; no run goes on behind a line that is not in the grammar
 abbrev pub ReadingTakes : Run → Turn → LineAnswer → Type 0
 ReadingTakes run turn (line.Step s) = StepTakes run turn s
 ReadingTakes run turn line.Nothing = turn ≡ no_turn
 ReadingTakes run turn (line.Bad fault) = ⊥
 
+-- the same of the bytes of a line
 abbrev pub LineTakes : Run → Turn → List ℕ → Type 0
 LineTakes run turn bytes = ReadingTakes run turn (reading_of bytes)
 
+-- a step is answered with one line, and nothing else is answered
 abbrev pub reading_text : Run → Turn → LineAnswer → List ℕ
 reading_text run turn (line.Step s) = answer_line (step_answer run turn s)
 reading_text run turn line.Nothing = []
 reading_text run turn (line.Bad fault) = []
 
+-- what a line of a script prints, the newline included
 abbrev pub line_text : Run → Turn → List ℕ → List ℕ
 line_text run turn bytes = reading_text run turn (reading_of bytes)
 
@@ -141,15 +148,18 @@ streams_with run s (step.Put key body request response) = with_bytes run.streams
 streams_with run s (step.Feed actor body) = of_put run (writer_of run actor) (streams_offered run body)
 streams_with run s _ = run.streams
 
+-- in a step on a session such a pair is shown; without a session there is no piece that could be
 abbrev pub StepShows : Run → Option State → Step → Type 0
 StepShows run None step = ⊥
 StepShows run (Some s) step = Shows (streams_with run s step) s (asked run s step)
 
+-- only a line that is a step can show one
 abbrev pub ReadingShows : Run → LineAnswer → Type 0
 ReadingShows run (line.Step s) = StepShows run run.state s
 ReadingShows run line.Nothing = ⊥
 ReadingShows run (line.Bad fault) = ⊥
 
+-- the same of the bytes of a line, by any reads that make the records legal
 abbrev pub LineShows : Run → List ℕ → Type 0
 LineShows run bytes = ReadingShows run (reading_of bytes)
 
@@ -158,11 +168,13 @@ abbrev pub StepShownIn : Permit → Run → Option State → Step → Type 0
 StepShownIn device run None step = ⊥
 StepShownIn device run (Some s) step = ShownIn device (streams_with run s step) s (asked run s step)
 
+-- again only a line that is a step can show one
 abbrev pub ReadingShownIn : Permit → Run → LineAnswer → Type 0
 ReadingShownIn device run (line.Step s) = StepShownIn device run run.state s
 ReadingShownIn device run line.Nothing = ⊥
 ReadingShownIn device run (line.Bad fault) = ⊥
 
+-- the same of the bytes of a line, by the reads of this device
 abbrev pub LineShownIn : Permit → Run → List ℕ → Type 0
 LineShownIn device run bytes = ReadingShownIn device run (reading_of bytes)
 

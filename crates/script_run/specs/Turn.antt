@@ -13,6 +13,7 @@ pub record Turn : Type 0 where
   pub device : Permit
   pub given : List ℕ
 
+-- a line that does nothing: no records, no reads, no bytes
 abbrev pub no_turn : Turn
 no_turn = record { added = []; refused = None; device = record { packed = false; now = 0; faults_before = 0; faults = 0; reads = [] }; given = [] }
 
@@ -22,7 +23,7 @@ lookup_in [] = None
 lookup_in (rec.ReadOpened reader actor key request answer ∷ recs) = Some answer
 lookup_in (r ∷ recs) = lookup_in recs
 
--- what a reader was told last among them
+-- the record itself, where it tells a reader something
 abbrev pub is_told : Rec → Option Rec
 is_told (rec.Gave reader index length) = Some (rec.Gave reader index length)
 is_told (rec.Ended reader length) = Some (rec.Ended reader length)
@@ -30,10 +31,12 @@ is_told (rec.Waited reader cut) = Some (rec.Waited reader cut)
 is_told (rec.Broke reader why) = Some (rec.Broke reader why)
 is_told _ = None
 
+-- the later of two where there is one, else the earlier
 abbrev pub later : Option Rec → Option Rec → Option Rec
 later first (Some last) = Some last
 later first None = first
 
+-- what a reader was told last among these records, whichever reader it is
 abbrev pub told_in : List Rec → Option Rec
 told_in [] = None
 told_in (r ∷ recs) = later (is_told r) (told_in recs)
