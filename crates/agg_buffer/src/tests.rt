@@ -1,3 +1,4 @@
+// What no clause says: worked places, a refusal, and a copy that is read at its new place.
 use crate::{AggBuffer, PutAnswer};
 use doc_header::{Doc, DocFault, read_doc, write_doc};
 use std::test::Fail;

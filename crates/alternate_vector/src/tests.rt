@@ -1,3 +1,4 @@
+// What no clause says: that calls succeed with ample memory, worked matches, and spellings by hand.
 ghost use Rattle.std.specs.Prelude.{◌≡◌, ◌≤◌, IfOk};
 
 use super::*;

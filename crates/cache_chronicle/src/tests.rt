@@ -1,3 +1,4 @@
+// What no clause says: short sessions worked by hand, and each cause of a miss.
 use super::*;
 use alternate_vector::Fields;
 use std::alloc::AllocError;

@@ -1,3 +1,4 @@
+// What no clause says: that calls succeed, and a piece in the buffer, on the device and moved.
 ghost use Rattle.std.specs.Prelude.{◌≤◌, IfOk, length};
 ghost use Rattle.cyclone.specs.Cyclone.{IsCyclone};
 

@@ -1,3 +1,4 @@
+// What no clause says: small tables worked by hand, with the ends of ranges and rows that go.
 use super::*;
 use std::test::Fail;
 use tape_base::{Geometry, Key, Steps, floor_of, lap};

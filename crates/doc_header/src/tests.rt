@@ -1,3 +1,4 @@
+// What no clause says: a document spelled out field by field, and a bad one for each fault.
 use crate::{Doc, DocFault, document_digest, move_document, read_doc, write_doc};
 use std::test::Fail;
 use tape_base::{Digest, Key, PieceId};

@@ -1,3 +1,4 @@
+// What no clause says: what the definition is meant to say: worked rows of three candidates.
 ghost use Rattle.std.specs.Prelude.{◌≡◌};
 
 use crate::{Candidate, choose};

@@ -1,3 +1,4 @@
+// What no clause says: that calls succeed with ample memory, and a table spelled out by hand.
 use super::*;
 use std::test::*;
 

@@ -1,3 +1,4 @@
+// What no clause says: that calls succeed where memory is found, and how long a put is known.
 ghost use Rattle.std.specs.Prelude.{◌≡◌};
 ghost use Rattle.open_directory.specs.Directory.{is_open};
 

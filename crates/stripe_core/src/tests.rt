@@ -1,3 +1,4 @@
+// What no clause says: a fresh stripe, a writer, a reader, and a piece that is missing.
 ghost use Rattle.std.specs.Prelude.{◌≡◌, ◌*◌, ◌≤◌, None, IfOk};
 ghost use Rattle.stripe_core.specs.Stripe.{IsStripe, state_in};
 

@@ -1,3 +1,4 @@
+// What no clause says: what the definitions are meant to say: worked readers, pins and places.
 use crate::finding::{is_awaited, is_due, piece_at};
 use cache_chronicle::{Chronicle, FullChronicle, Rec};
 use evacuator::Candidate;

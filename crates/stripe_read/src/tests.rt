@@ -1,3 +1,4 @@
+// What no clause says: a key that is missed, and a follower that waits.
 ghost use Rattle.std.specs.Prelude.{◌≡◌, None, IfOk};
 ghost use Rattle.stripe_core.specs.Stripe.{IsStripe, state_in};
 

@@ -1,3 +1,4 @@
+// What no clause says: writers that are given up, that cut a fragment, and that are closed.
 ghost use Rattle.std.specs.Prelude.{◌≡◌, None, IfOk};
 ghost use Rattle.stripe_core.specs.Stripe.{IsStripe, state_in};
 

@@ -1,3 +1,4 @@
+// What no clause says: what the words are meant to say: worked keys, geometries and places.
 use crate::{
     BadGeometry, Digest, Geometry, Key, PieceId, Steps, blocks_of, floor_of, lap, lap_end,
     next_cursor, phase, slot,

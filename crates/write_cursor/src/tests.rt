@@ -1,3 +1,4 @@
+// What no clause says: what the definitions are meant to say: plans at the ends of a lap.
 use crate::{Cursor, Next};
 use std::test::Fail;
 use tape_base::Geometry;
