@@ -1,9 +1,7 @@
 // Field lines, kept in the order of their names.
 
-ghost use Rattle.std.specs.Prelude.{◌≡◌, ◌+◌, ◌<◌, ◌≤◌, List, [], length, filter, Ok, Err, Some, IfOk, OnOk, OnErr, MatchResult};
-ghost use Rattle.std.specs.Ordering.{nat_cmp};
-ghost use Rattle.std.specs.Cmp.Lexicographic.{slice_cmp};
-ghost use Rattle.http_header.specs.Token.{lowercase, is_token_byte, is_value_byte};
+ghost use Rattle.std.specs.Prelude.{◌≡◌, ◌<◌, ◌≤◌, List, [], length, Ok, Err, IfOk, OnOk, OnErr};
+ghost use Rattle.http_header.specs.Token.{is_token_byte, is_value_byte};
 ghost use Rattle.std.specs.List.{list_all};
 ghost use Rattle.alternate_vector.specs.Field.{AreFields, IsRising, Refuses, field_refusal, IsKept, IsNameOrMemory, is_name, is_value, made_field, with_field};
 ghost use Rattle.alternate_vector.specs.Lines.{IsPlace, field_of, fields_of};

@@ -1,14 +1,14 @@
 // Which stored response a request may be answered with. Nothing here takes memory.
 
-ghost use Rattle.std.specs.Prelude.{◌≡◌, ◌≤◌, ◌++◌, List, ℕ, Bool, true, ◌==◌, ◌||◌, length, map, filter, position, reverse, codes, bytes_eq, Some, [], ◌∷◌, IfSome, IfNone};
+ghost use Rattle.std.specs.Prelude.{◌≡◌, true, ◌==◌, ◌||◌, position, reverse, bytes_eq, Some, []};
 ghost use Rattle.std.specs.Iterator.{YieldsFirst, item_count};
-ghost use Rattle.std.specs.List.{list_all, flat_map};
+ghost use Rattle.std.specs.List.{list_all};
 ghost use Rattle.std.specs.Ordering.{nat_cmp};
 ghost use Rattle.std.specs.Cmp.Lexicographic.{slice_cmp};
 ghost use Rattle.http_header.specs.Token.{lowercase};
 ghost use Rattle.alternate_vector.specs.Field.{IsRising};
-ghost use Rattle.alternate_vector.specs.Lines.{field_of, fields_of};
-ghost use Rattle.alternate_vector.specs.Vary.{IsCommaAt, agrees_on, comma_parts, elements_of, following, is_blank, is_empty, joined, named, request_matches, same_value, skip_blanks, trimmed, values_of};
+ghost use Rattle.alternate_vector.specs.Lines.{fields_of};
+ghost use Rattle.alternate_vector.specs.Vary.{agrees_on, elements_of, is_blank, is_empty, joined, named, request_matches, same_value, skip_blanks, trimmed, values_of};
 ghost use Rattle.alternate_vector.specs.Joined.{joined_rest, joined_text};
 
 use crate::fields::{Fields, Line, is_name};

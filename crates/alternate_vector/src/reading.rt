@@ -1,6 +1,6 @@
 // A vector from bytes.
 
-ghost use Rattle.std.specs.Prelude.{◌≡◌, ◌≤◌, ◌<◌, length, IfOk, OnOk, Ok, List, [], true, false, bytes_eq};
+ghost use Rattle.std.specs.Prelude.{◌≡◌, ◌≤◌, ◌<◌, length, IfOk, Ok, [], true, false, bytes_eq};
 ghost use Rattle.http_header.specs.Token.{lowercase};
 ghost use Rattle.std.specs.List.{AllByRecursion};
 ghost use Rattle.fragment_table.specs.Table.{AreRows, total_length};

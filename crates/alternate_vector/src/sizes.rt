@@ -1,8 +1,6 @@
 // How many bytes a spelling takes.
 
 ghost use Rattle.std.specs.Prelude.{◌≡◌, ◌+◌, ◌*◌, ◌^◌, ◌≤◌, length};
-ghost use Rattle.std.specs.List.{AllByRecursion};
-ghost use Rattle.fragment_table.specs.Table.{AreRows};
 ghost use Rattle.alternate_vector.specs.Alternates.{all_stored, alternate_size, fields_size, stored_of, vector_size};
 ghost use Rattle.alternate_vector.specs.Field.{AreFields, IsKept};
 ghost use Rattle.alternate_vector.specs.Lines.{field_of, fields_of};

@@ -1,10 +1,10 @@
 // The alternates of an object, the newest last.
 
-ghost use Rattle.std.specs.Prelude.{◌≡◌, ◌<◌, ◌≤◌, ℕ, List, [], ◌∷◌, ◌++◌, length, slice_get, Some, Ok, IfOk, OnOk, OnErr, not, filter};
+ghost use Rattle.std.specs.Prelude.{◌≡◌, ◌<◌, ◌≤◌, List, [], ◌∷◌, ◌++◌, length, slice_get, Some, Ok, IfOk, OnOk, OnErr};
 ghost use Rattle.alternate_vector.specs.Reading.{Gives, read_vector};
 ghost use Rattle.alternate_vector.specs.Spelling.{IsSpelling, vector_bytes};
 ghost use Rattle.fragment_table.specs.Table.{AreRows, total_length};
-ghost use Rattle.alternate_vector.specs.Alternates.{AreStored, IsStored, Stored, all_stored, chosen, is_match, is_within, longest_within, merged, stored_of, vector_size, with_new};
+ghost use Rattle.alternate_vector.specs.Alternates.{AreStored, IsStored, Stored, all_stored, chosen, is_within, longest_within, merged, stored_of, vector_size, with_new};
 
 use crate::alternate::{Alternate, matches};
 use crate::fault::VectorFault;

@@ -1,6 +1,6 @@
 // A chronicle that keeps every record.
-ghost use Rattle.std.specs.Prelude.{◌≡◌, ◌+◌, ◌-◌, ◌≤◌, ◌<◌, min, [], List, length, IfOk, OnOk, slice_get, Some, vec_len, vec_capacity, option_map, unwrap_or};
-ghost use Rattle.std.specs.HashMap.{spare, get};
+ghost use Rattle.std.specs.Prelude.{◌≡◌, ◌-◌, ◌<◌, [], length, slice_get, Some, option_map};
+ghost use Rattle.std.specs.HashMap.{get};
 ghost use Rattle.cache_model.specs.State.{floor_now, live_row_of, row_of, vector_piece};
 ghost use Rattle.cache_model.specs.Verdict.{cause_of_piece, cause_of_vector, cause_without_vector};
 ghost use Rattle.cache_model.specs.Kept.{all_of};

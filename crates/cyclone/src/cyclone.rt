@@ -1,20 +1,18 @@
 // Pieces on the content area: gathered in a buffer, written out by one write, found by a directory.
 ghost use Rattle.std.specs.Prelude.{◌≡◌, ◌+◌, ◌-◌, ◌*◌, ◌/◌, ◌<◌, ◌≤◌, ◌^◌, length, IfOk, OnOk, OnErr, IfErr};
-ghost use Rattle.edge_io.specs.Causes.{HasCause};
 ghost use Rattle.tape_base.specs.Blocks.{blocks_of};
 ghost use Rattle.tape_base.specs.Digest.{digest_of};
-ghost use Rattle.tape_base.specs.Piece.{key_of_piece};
-ghost use Rattle.tape_base.specs.Place.{floor_of, next_cursor_of, slot_of};
-ghost use Rattle.ats_disk.specs.Device.{Grows, Keeps, IsTold, SameSeen, span};
+ghost use Rattle.tape_base.specs.Place.{floor_of};
+ghost use Rattle.ats_disk.specs.Device.{Grows};
 ghost use Rattle.doc_header.specs.Document.{digest_of_document, document_bytes};
 ghost use Rattle.doc_header.specs.Reading.{document_digest};
 ghost use Rattle.doc_header.specs.Moving.{moved_to};
-ghost use Rattle.agg_buffer.specs.Buffer.{IsWhole as IsWholePiece, blocks_in, bytes_at, filled_of, empty_buffer, next_place_of, room_of};
+ghost use Rattle.agg_buffer.specs.Buffer.{IsWhole as IsWholePiece, blocks_in, filled_of, empty_buffer, next_place_of, room_of};
 ghost use Rattle.std.specs.Prelude.{[], ◌∷◌, false, IsOk, IsPermutation};
 ghost use Rattle.std.specs.Bool.{OnTrue};
 ghost use Rattle.ats_disk.specs.Device.{IsWhole};
 ghost use Rattle.dir_table.specs.Window.{first_window};
-ghost use Rattle.dir_table.specs.Rows.{row_of_key, has_row};
+ghost use Rattle.dir_table.specs.Rows.{has_row};
 ghost use Rattle.dir_table.specs.Displacement.{none_displaced};
 
 use agg_buffer::AggBuffer;

@@ -1,5 +1,5 @@
 // What a directory answers.
-ghost use Rattle.std.specs.Prelude.{◌≡◌, ◌+◌, ◌≤◌, ◌<◌, ◌^◌, ℕ, Bool, List, [], ◌∷◌, false, All, IsTrue, IfOk, OnOk, IsPermutation, count_by};
+ghost use Rattle.std.specs.Prelude.{◌≡◌, ◌+◌, ◌≤◌, ◌<◌, ℕ, Bool, List, [], ◌∷◌, false, All, IfOk, OnOk, IsPermutation, count_by};
 ghost use Rattle.std.specs.Bool.{OnTrue};
 ghost use Rattle.dir_table.specs.declared.rows.DirRow.{DirRow};
 ghost use Rattle.dir_table.specs.declared.rows.Walk.{Walk as WalkValue};

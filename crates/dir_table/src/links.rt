@@ -4,7 +4,7 @@ ghost use Rattle.std.specs.Prelude.{IsPermutation, false};
 ghost use Rattle.std.specs.Bool.{OnTrue};
 ghost use Rattle.std.specs.HashMap.{get, spare};
 ghost use Rattle.dir_table.specs.declared.rows.Spot.{Spot as SpotValue};
-ghost use Rattle.dir_table.specs.Rows.{spot_of, same_row, same_spot, is_at, has_row};
+ghost use Rattle.dir_table.specs.Rows.{same_spot, is_at, has_row};
 ghost use Rattle.dir_table.specs.Links.{IsLinked, PointsTo, entries_of, node_at, newest_at, row_at, rows_in, room_of, relinked, renewed, without, AllFrom, stands_from};
 ghost use Rattle.dir_table.specs.Wrap.{rows_from};
 

@@ -1,5 +1,5 @@
 // The digest by which a document is recorded.
-ghost use Rattle.std.specs.Prelude.{◌≡◌, ◌+◌, ℕ, List, length, take};
+ghost use Rattle.std.specs.Prelude.{◌≡◌, ◌+◌, ℕ, List, take};
 ghost use Rattle.doc_header.specs.declared.documents.Doc.{Doc};
 ghost use Rattle.doc_header.specs.Document.{IsDocument, digest_of_document};
 ghost use Rattle.doc_header.specs.Reading.{field_at, extent_of, document_digest};

@@ -1,5 +1,5 @@
 // Moving a document to another place.
-ghost use Rattle.std.specs.Prelude.{◌≡◌, ◌≤◌, ◌<◌, ◌^◌, ◌+◌, ◌++◌, ℕ, List, length, take, drop};
+ghost use Rattle.std.specs.Prelude.{◌≡◌, ◌≤◌, ◌+◌, ◌++◌, ℕ, List, length, take, drop};
 ghost use Rattle.doc_header.specs.declared.documents.Doc.{Doc};
 ghost use Rattle.doc_header.specs.Document.{check_of, IsDocument};
 ghost use Rattle.doc_header.specs.Moving.{moved_to, doc_at, MovesKeep, MovedIsSpelled, MovedIsRecorded, MovedIsSame};

@@ -1,9 +1,8 @@
 // Reading a document where it stands, or the first fault of the bytes.
-ghost use Rattle.std.specs.Prelude.{◌≡◌, ◌≤◌, ◌<◌, ◌^◌, ◌+◌, ◌*◌, ℕ, List, None, length, take, IsTrue, IfOk, IfNone};
-ghost use Rattle.std.specs.Int.{w32, w64};
+ghost use Rattle.std.specs.Prelude.{◌≡◌, ◌≤◌, ◌<◌, ◌+◌, ◌*◌, ℕ, List, None, length, take, IsTrue, IfOk, IfNone};
 ghost use Rattle.tape_base.specs.Key.{key_bytes, key_of_bytes};
 ghost use Rattle.tape_base.specs.Blocks.{blocks_of};
-ghost use Rattle.doc_header.specs.Reading.{field_at, number_at, extent_of, doc_of, payload_of, has_blocks, header_fault, address_fault, payload_fault, first_fault, Answers};
+ghost use Rattle.doc_header.specs.Reading.{field_at, extent_of, doc_of, payload_of, has_blocks, header_fault, address_fault, payload_fault, first_fault, Answers};
 ghost use Rattle.std.specs.Str.{bytes_eq};
 ghost use Rattle.doc_header.specs.Document.{check_of, IsDocument};
 ghost use Rattle.doc_header.specs.declared.documents.Doc.{Doc};

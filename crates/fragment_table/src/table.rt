@@ -1,9 +1,9 @@
 // A table, with the end of each fragment beside its row.
 
-ghost use Rattle.std.specs.Prelude.{◌≡◌, ℕ, ◌+◌, ◌-◌, ◌*◌, ◌^◌, ◌<◌, ◌≤◌, ◌↔◌, List, IsTrue, [], ◌∷◌, ◌++◌, length, slice_get, IsOk, IsNone, OnOk, OnErr, IfOk, option_map, Ok};
+ghost use Rattle.std.specs.Prelude.{◌≡◌, ℕ, ◌+◌, ◌-◌, ◌*◌, ◌^◌, ◌<◌, ◌≤◌, ◌↔◌, List, IsTrue, [], ◌∷◌, ◌++◌, length, slice_get, IsOk, IsNone, OnOk, OnErr, IfOk, Ok};
 ghost use Rattle.fragment_table.specs.Kept.{AreKept, EndsFrom, row_of, rows_of};
 ghost use Rattle.fragment_table.specs.Reading.{Gives, HasSum, IsReadFrom, is_cut, read_table, told_count, told_rows};
-ghost use Rattle.fragment_table.specs.Table.{TableRow, IsRow, AreRows, CanGrow, fragment_at, row_bytes, table_bytes, total_length, made_row};
+ghost use Rattle.fragment_table.specs.Table.{TableRow, IsRow, AreRows, CanGrow, fragment_at, table_bytes, total_length, made_row};
 
 use crate::fault::TableFault;
 use crate::reading::read;

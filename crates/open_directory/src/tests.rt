@@ -1,5 +1,4 @@
 // What no clause says: that calls succeed where memory is found, and tables worked by hand.
-ghost use Rattle.std.specs.Prelude.{◌≡◌};
 
 use super::*;
 use alternate_vector::Fields;

@@ -1,8 +1,8 @@
 // The fields at the end of a line: `>name:value` of a request, `<name:value` of a response.
-ghost use Rattle.std.specs.Prelude.{◌≡◌, ◌<◌, length, position, drop, true, IfSome, IfOk, option_map, ◌&&◌};
+ghost use Rattle.std.specs.Prelude.{◌≡◌, ◌<◌, length, position, true, IfSome, IfOk, option_map, ◌&&◌};
 ghost use Rattle.hex.specs.Hex.{is_hex_digit};
 ghost use Rattle.script_lang.specs.Words.{bad, is_word};
-ghost use Rattle.script_lang.specs.Fields.{begins_with_digits, is_escaped, unescaped, is_colon, parted, with_line, with_parts, with_word, takes_response, with_field_of, fields_after, no_fields};
+ghost use Rattle.script_lang.specs.Fields.{begins_with_digits, is_escaped, unescaped, is_colon, parted, with_line, with_word, takes_response, with_field_of, fields_after, no_fields};
 ghost use Rattle.script_lang.specs.Taken.{seen, words_in};
 ghost use Rattle.script_lang.specs.Refusal.{Adds, Reads};
 

@@ -1,6 +1,6 @@
 // The step of each verb, from the words behind it.
-ghost use Rattle.std.specs.Prelude.{◌≡◌, ◌^◌, codes};
-ghost use Rattle.script_lang.specs.Grammar.{take_number, usual_of, numbers_of, is_default, geometry_of, format_of, put_of, get_of, take_actor, open_write_of, data_of, open_read_of, only_actor, remove_of, flush_of, now_of, step_by};
+ghost use Rattle.std.specs.Prelude.{◌≡◌, ◌^◌};
+ghost use Rattle.script_lang.specs.Grammar.{take_number, usual_of, numbers_of, geometry_of, format_of, put_of, get_of, take_actor, open_write_of, data_of, open_read_of, only_actor, remove_of, flush_of, now_of, step_by};
 ghost use Rattle.script_lang.specs.Taken.{seen, words_in, TakesNumber};
 ghost use Rattle.script_lang.specs.Refusal.{Reads, Takes};
 

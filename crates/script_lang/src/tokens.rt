@@ -1,5 +1,5 @@
 // What single words spell: numbers, objects, bodies and actors.
-ghost use Rattle.std.specs.Prelude.{◌≡◌, ◌/◌, ◌+◌, ◌<◌, ◌≤◌, ◌^◌, ◌==◌, slice_index, true, IsTrue, length, take, drop, replicate, position, nat_le, ◌&&◌, false, Some, IfOk, IfSome, IfNone};
+ghost use Rattle.std.specs.Prelude.{◌≡◌, ◌/◌, ◌+◌, ◌<◌, ◌≤◌, ◌^◌, ◌==◌, slice_index, true, length, position, nat_le, ◌&&◌, false, Some, IfSome, IfNone};
 ghost use Rattle.std.specs.List.{list_all};
 ghost use Rattle.script_lang.specs.Tokens.{is_digit, is_number, number_of, number_in, number_below, is_lower_hex, is_key_word, key_in, object_of, is_star, is_dash, hex_body, repeated_body, body_of, is_actor_byte, is_actor, actor_of};
 ghost use Rattle.script_lang.specs.Taken.{seen};
