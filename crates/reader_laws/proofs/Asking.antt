@@ -9,7 +9,8 @@ use Rattle.cache_model.specs.Permit.{Intent, Fragment, Overflow}
 use Rattle.cache_model.specs.Legal.{most_fragments}
 use Rattle.script_run.specs.Run.{Holding, Run, gathered_of}
 use Rattle.script_run.specs.Asked.{body_intents, close_intents, closing, cut_intents, feed_intents, feeding, get_intents, if_free, if_has, put_intents, rest_behind, whole_fragments}
-use Rattle.reader_laws.proofs.Beside.{AllOther, IsOther, other_append}
+use Rattle.script_run.proofs.Carried.{all_append}
+use Rattle.reader_laws.proofs.Beside.{AllOther, IsOther}
 
 module _ (R P : ℕ → Type 0) where
   cut_by : (put cut : ℕ) (payload : List ℕ) (rest : List Intent) (over whole : Bool) → P put → AllOther R P rest
@@ -31,14 +32,14 @@ module _ (R P : ℕ → Type 0) where
 
   body_other : (fragment put : ℕ) (body : List ℕ) → P put → AllOther R P (body_intents fragment put body)
   body_other fragment put body of =
-      other_append R P (feed_intents fragment put 0 body) (close_intents put (whole_fragments fragment body) (rest_behind fragment body))
+      all_append (IsOther R P) (feed_intents fragment put 0 body) (close_intents put (whole_fragments fragment body) (rest_behind fragment body))
       (cuts_other (length body) fragment put 0 body of) (closing_other put (whole_fragments fragment body) (rest_behind fragment body) of)
 
   -- ---- lines
 
   pub put_other : (s : State) (key : Key) (body : List ℕ) (request response : List Field) → P s.next_put → AllOther R P (put_intents s key body request response)
   put_other s key body request response of =
-      (tt, other_append R P (body_intents s.geometry.fragment s.next_put body) _ (body_other s.geometry.fragment s.next_put body of) (of, tt))
+      (tt, all_append (IsOther R P) (body_intents s.geometry.fragment s.next_put body) _ (body_other s.geometry.fragment s.next_put body of) (of, tt))
 
   pub get_other : (s : State) (key : Key) (request : List Field) → R s.next_reader → AllOther R P (get_intents s key request)
   get_other s key request of = (tt, (of, (of, tt)))

@@ -1,6 +1,7 @@
 -- Records that leave a reader, or a put, as it is.
-use Rattle.std.proofs.Common.{◌≡◌, ℕ, List, [], ◌∷◌, ◌++◌, sym, subst, Bool, true, false}
-use Rattle.std.specs.Prelude.{Option, Some, cond, filter, map}
+use Rattle.std.proofs.Common.{◌≡◌, ℕ, List, [], ◌∷◌, sym, subst}
+use Rattle.std.specs.Prelude.{Option, Some, map}
+use Rattle.std.specs.List.{AllByRecursion}
 use Rattle.tape_base.specs.declared.keys.Key.{Key}
 use Rattle.tape_base.specs.declared.pieces.PieceId.{PieceId}
 use Rattle.fragment_table.specs.Table.{TableRow}
@@ -20,6 +21,7 @@ use Rattle.cache_model.specs.Given
 use Rattle.cache_model.specs.Legal
 use Rattle.cache_model.specs.Legal.{Advances, Does, MayGrow, nothing, more, aborted_record, answer_record}
 use Rattle.cache_model.proofs.Found.{number_of}
+use Rattle.script_run.proofs.Carried.{all_append, all_filter}
 
 -- another number than this one, and any number
 abbrev pub OtherThan : ℕ → ℕ → Type 0
@@ -39,8 +41,7 @@ IsBeside R P (rec.Aborted put key) = P put
 IsBeside R P _ = Unit {0}
 
 abbrev pub AllBeside : (ℕ → Type 0) → (ℕ → Type 0) → List Rec → Type 0
-AllBeside R P [] = Unit {0}
-AllBeside R P (r ∷ recs) = IsBeside R P r × AllBeside R P recs
+AllBeside R P recs = AllByRecursion (IsBeside R P) recs
 
 -- what is asked is asked of these readers and of these puts alone
 abbrev pub IsOther : (ℕ → Type 0) → (ℕ → Type 0) → Intent → Type 0
@@ -55,18 +56,9 @@ IsOther R P (StopReading reader) = R reader
 IsOther R P _ = Unit {0}
 
 abbrev pub AllOther : (ℕ → Type 0) → (ℕ → Type 0) → List Intent → Type 0
-AllOther R P [] = Unit {0}
-AllOther R P (i ∷ is) = IsOther R P i × AllOther R P is
-
-pub other_append : (R P : ℕ → Type 0) (a b : List Intent) → AllOther R P a → AllOther R P b → AllOther R P (a ++ b)
-other_append R P [] b h k = k
-other_append R P (i ∷ a) b h k = (h.0, other_append R P a b h.1 k)
+AllOther R P is = AllByRecursion (IsOther R P) is
 
 module _ (R P : ℕ → Type 0) where
-  pub beside_append : (a b : List Rec) → AllBeside R P a → AllBeside R P b → AllBeside R P (a ++ b)
-  beside_append [] b h k = k
-  beside_append (r ∷ a) b h k = (h.0, beside_append a b h.1 k)
-
   adds : (added other : List Rec) → added ≡ other → AllBeside R P other → AllBeside R P added
   adds added other is h = subst (AllBeside R P) (sym is) h
 
@@ -96,7 +88,7 @@ module _ (R P : ℕ → Type 0) where
 
   reads : (p : Permit) (s : State) (reader : ℕ) (answer : NextAnswer) (added : List Rec) → R reader → Legal.MayReadOn p s reader answer added → AllBeside R P added
   reads p s reader answer added other m =
-      adds added _ m.is (beside_append m.before _ (reading_beside p s m.r m.before answer m.right) (answer_beside reader answer other, tt))
+      adds added _ m.is (all_append (IsBeside R P) m.before _ (reading_beside p s m.r m.before answer m.right) (answer_beside reader answer other, tt))
 
   displacements_beside : (segment live : ℕ) (rows : List Row) → AllBeside R P (map (displaced_record segment live) rows)
   displacements_beside segment live [] = tt
@@ -116,7 +108,7 @@ module _ (R P : ℕ → Type 0) where
   front_beside : (rows : List Row) (outcomes : List Outcome) → AllBeside R P (front_of rows outcomes)
   front_beside [] outcomes = tt
   front_beside (row ∷ rows) [] = tt
-  front_beside (row ∷ rows) (o ∷ outcomes) = beside_append (records_of row o) (front_of rows outcomes) (outcome_beside row o) (front_beside rows outcomes)
+  front_beside (row ∷ rows) (o ∷ outcomes) = all_append (IsBeside R P) (records_of row o) (front_of rows outcomes) (outcome_beside row o) (front_beside rows outcomes)
 
   copies_beside : (s : State) (copies : List Copy) → AllBeside R P (moved_records s copies)
   copies_beside s [] = tt
@@ -125,7 +117,7 @@ module _ (R P : ℕ → Type 0) where
   flushed : (p : Permit) (s : State) (added : List Rec) → Legal.MayFlush p s added → AllBeside R P added
   flushed p s added m =
       let rows : List Row = due_pieces s p.now in
-      adds added (flush_records s rows m.outcomes) m.is (beside_append (front_of rows m.outcomes) _ (front_beside rows m.outcomes) (tt, copies_beside _ (copies_of rows m.outcomes)))
+      adds added (flush_records s rows m.outcomes) m.is (all_append (IsBeside R P) (front_of rows m.outcomes) _ (front_beside rows m.outcomes) (tt, copies_beside _ (copies_of rows m.outcomes)))
 
   stopped_outcome_beside : (row : Row) (o : Outcome) → AllBeside R P (stopped_records_of row o)
   stopped_outcome_beside row NoRoom = tt
@@ -137,12 +129,12 @@ module _ (R P : ℕ → Type 0) where
   stopped_front_beside [] outcomes = tt
   stopped_front_beside (row ∷ rows) [] = tt
   stopped_front_beside (row ∷ rows) (o ∷ outcomes) =
-      beside_append (stopped_records_of row o) (stopped_front_of rows outcomes) (stopped_outcome_beside row o) (stopped_front_beside rows outcomes)
+      all_append (IsBeside R P) (stopped_records_of row o) (stopped_front_of rows outcomes) (stopped_outcome_beside row o) (stopped_front_beside rows outcomes)
 
   stopped : (p : Permit) (s : State) (count : ℕ) (added : List Rec) → Legal.MayStop p s count added → AllBeside R P added
   stopped p s count added m =
       let rows : List Row = due_pieces s p.now in
-      adds added (stopped_records rows m.outcomes count) m.is (beside_append (stopped_front_of rows m.outcomes) _ (stopped_front_beside rows m.outcomes) (tt, tt))
+      adds added (stopped_records rows m.outcomes count) m.is (all_append (IsBeside R P) (stopped_front_of rows m.outcomes) _ (stopped_front_beside rows m.outcomes) (tt, tt))
 
   roomed : (p : Permit) (s : State) (bytes : ℕ) (added : List Rec) (e : End) → Legal.MakesRoom p s bytes added e → AllBeside R P added
   roomed p s bytes added e (Legal.MakesRoom.flushes x m) = flushed p s added m
@@ -161,7 +153,7 @@ module _ (R P : ℕ → Type 0) where
   group_beside p s (Write actor key request response pin) added e other (Legal.DoesWrite.many q m is) = adds added [] is tt
   group_beside p s (Write actor key request response pin) added e other (Legal.DoesWrite.exhausted q m l is) = adds added [] is tt
   group_beside p s (Fragment put index payload) added e other (Legal.DoesFragment.places d m) =
-      adds added _ m.is (tt, beside_append m.displaced _ (displaced_beside p s _ m.displaced m.displaces) (tt, tt))
+      adds added _ m.is (tt, all_append (IsBeside R P) m.displaced _ (displaced_beside p s _ m.displaced m.displaces) (tt, tt))
   group_beside p s (Fragment put index payload) added e other (Legal.DoesFragment.rooms w x m) = roomed p s _ added e m
   group_beside p s (Fragment put index payload) added e other (Legal.DoesFragment.exhausted w x y q) = adds added [] q.is tt
   group_beside p s (Overflow put) added e other (Legal.DoesOverflow.aborts w q l is) = aborts s put w added other is q.found
@@ -170,7 +162,7 @@ module _ (R P : ℕ → Type 0) where
   group_beside p s (Weigh put rest) added e other (Legal.DoesWeigh.damaged w row found q live d is) = adds added _ is (tt, tt)
   group_beside p s (Weigh put rest) added e other (Legal.DoesWeigh.faulted w row count q live r m is) = adds added _ is (tt, tt)
   group_beside p s (Finish put fragments) added e other (Legal.DoesFinish.places d m) =
-      adds added _ m.is (beside_append m.displaced _ (displaced_beside p s _ m.displaced m.displaces) (tt, tt))
+      adds added _ m.is (all_append (IsBeside R P) m.displaced _ (displaced_beside p s _ m.displaced m.displaces) (tt, tt))
   group_beside p s (Finish put fragments) added e other (Legal.DoesFinish.rooms w c m) = roomed p s _ added e m
   group_beside p s (Finish put fragments) added e other (Legal.DoesFinish.exhausted w x c l q) = adds added [] q.is tt
   group_beside p s (Finish put fragments) added e other (Legal.DoesFinish.loses w index d m is) = aborts s put w added other is m.cut.writing.found
@@ -180,7 +172,7 @@ module _ (R P : ℕ → Type 0) where
   group_beside p s (Remove key) added e other (Legal.DoesRemove.removes row q l is) = adds added _ is (tt, tt)
   group_beside p s (Remove key) added e other (Legal.DoesRemove.absent q l is) = adds added [] is tt
   group_beside p s (Look actor key request) added e other (Legal.DoesLook.looks m) =
-      adds added _ m.is (beside_append m.before _ (lookup_beside p s key request m.before m.answer m.right) (tt, tt))
+      adds added _ m.is (all_append (IsBeside R P) m.before _ (lookup_beside p s key request m.before m.answer m.right) (tt, tt))
   group_beside p s (ReadOn reader) added e other (Legal.DoesReadOn.reads_on answer m) = reads p s reader answer added other m
   group_beside p s (ReadAll reader) added e other (Legal.DoesReadAll.reads_on answer x m y) = reads p s reader answer added other m
   group_beside p s (ReadAll reader) added e other (Legal.DoesReadAll.has_none q x is y) = adds added [] is tt
@@ -189,18 +181,10 @@ module _ (R P : ℕ → Type 0) where
 
   -- ---- along a step
 
-  kept_by : (i : Intent) (is : List Intent) (b : Bool) → IsOther R P i → AllOther R P is → AllOther R P (cond b (i ∷ is) is)
-  kept_by i is true h k = (h, k)
-  kept_by i is false h k = k
-
-  cleanups_other : (is : List Intent) → AllOther R P is → AllOther R P (filter is_cleanup is)
-  cleanups_other [] h = tt
-  cleanups_other (i ∷ is) h = kept_by i (filter is_cleanup is) (is_cleanup i) h.0 (cleanups_other is h.1)
-
   left_other : (i : Intent) (is : List Intent) (why : Option Reason) (e : End) → AllOther R P (i ∷ is) → AllOther R P (work_after i is why e).intents
   left_other i is why Stays all = all
   left_other i is why Done all = all.1
-  left_other i is why (Fails reason) all = cleanups_other is all.1
+  left_other i is why (Fails reason) all = all_filter (IsOther R P) is_cleanup is all.1
 
   record GoesBeside (added : List Rec) (w : Work) : Type 0 where
     now : AllBeside R P added
@@ -217,4 +201,4 @@ module _ (R P : ℕ → Type 0) where
   grown_beside other nothing = tt
   grown_beside {p} {s} {w} other (more {rest = tail} added between one others) =
       let on : GoesBeside added between = advanced p s w.intents w.refused added between other one in
-      beside_append added tail on.now (grown_beside on.left others)
+      all_append (IsBeside R P) added tail on.now (grown_beside on.left others)

@@ -25,7 +25,7 @@ use Rattle.script_run.specs.Answers
 use Rattle.script_run.specs.Answers.{broken_said, next_said, step_answer, step_said}
 use Rattle.script_run.specs.Own.{AreKept, IsOwnPut, IsOwnReader, IsTableOf, IsTableOfHit}
 use Rattle.script_run.specs.Takes.{IsRun, SessionTakes, StepTakes, Takes, run_after}
-use Rattle.script_run.proofs.Finding.{found_reader}
+use Rattle.script_run.proofs.Finding.{found_in}
 use Rattle.script_run.proofs.Reading.{kept_is_followed, kept_is_given}
 use Rattle.reader_laws.specs.Along.{IsOpenAt, KeptAlong}
 use Rattle.reader_laws.specs.Given.{given_to}
@@ -105,7 +105,7 @@ all_by : (n : ℕ) (s : State) (streams : ℕ → Stream) (r : ReaderRow) (size 
     → reader_verdict s r ≡ next.Ended size → IsAll s streams r size
 all_by n s streams r size (Some table) hit own quiet first found verdict =
     let none : next_row s r ≡ None = end_is_whole s r size verdict in
-    let o : IsOwnReader s r = found_reader (IsOwnReader s) n s.readers r own.readers found in
+    let o : IsOwnReader s r = found_in (IsOwnReader s) _ s.readers r own.readers found in
     let t : IsTableOf s r.put table = subst (IsTableOfHit s r) hit o.table in
     record {
       all = kept_is_given s streams n r table own quiet first found hit none;

@@ -1,6 +1,6 @@
 -- What a reader was given stays the front of what the writer of its put took.
-use Rattle.std.proofs.Common.{◌≡◌, ℕ, ◌-◌, ◌*◌, ◌<◌, ◌≤◌, List, [], ◌∷◌, length, take, refl, sym, ◌∙◌, ap, subst, arith, inl, inr, Bool, true, false, cond, eqb-true}
-use Rattle.std.specs.Prelude.{Option, Some, None, find, if◌then◌else◌, option_map, unwrap_or, ◌==◌}
+use Rattle.std.proofs.Common.{◌≡◌, ℕ, ◌-◌, ◌*◌, ◌<◌, ◌≤◌, List, [], length, take, refl, sym, ◌∙◌, ap, subst, arith, inl, inr, Bool, true, false, eqb-true}
+use Rattle.std.specs.Prelude.{Option, Some, None, if◌then◌else◌, option_map, unwrap_or, ◌==◌}
 use Rattle.std.proofs.Math.Nat.{mul-le-mul_left, mul_comm}
 use Rattle.std.proofs.lemmas.List.{take-append-le}
 use Rattle.fragment_table.specs.Table.{TableRow, total_length}
@@ -16,25 +16,17 @@ use Rattle.script_run.specs.Turn.{Turn}
 use Rattle.script_run.specs.Behind.{fed, of_put, seals, streams_behind, streams_closed, streams_fed, streams_opened, taken_of}
 use Rattle.script_run.specs.Own.{AreKept, IsOwnPut, IsOwnReader, IsTableOfHit}
 use Rattle.script_run.proofs.Ended.{IsFoundOpen, open_row}
-use Rattle.script_run.proofs.Finding.{found_reader}
+use Rattle.script_run.proofs.Finding.{found_in, found_true}
+use Rattle.script_run.proofs.Values.{other_than, value_by}
 use Rattle.reader_laws.specs.Along.{IsOpenAt, StandsKept}
-use Rattle.reader_laws.proofs.Keeping.{other_than}
 
 -- ---- readers
-
-number_by : (n : ℕ) (first r : ReaderRow) (rest : Option ReaderRow) (b : Bool) → (first.reader == n) ≡ b → (rest ≡ Some r → r.reader ≡ n) → cond b (Some first) rest ≡ Some r → r.reader ≡ n
-number_by n first r rest true e others h = ap (λ (x : ReaderRow). x.reader) (same_some r first (Some first) (sym (sym h)) refl) ∙ eqb-true first.reader n e
-number_by n first r rest false e others h = others h
-
-reader_number : (n : ℕ) (readers : List ReaderRow) (r : ReaderRow) → find (λ (x : ReaderRow). x.reader == n) readers ≡ Some r → r.reader ≡ n
-reader_number n [] r h = none_is h
-reader_number n (first ∷ readers) r h = number_by n first r (find (λ (x : ReaderRow). x.reader == n) readers) (first.reader == n) refl (reader_number n readers r) h
 
 -- an open reader has begun
 pub own_begun : (s : State) (streams : ℕ → Stream) (n : ℕ) (r : ReaderRow) → AreKept s streams → reader_of s n ≡ Some r → n < s.next_reader
 own_begun s streams n r own found =
-    let o : IsOwnReader s r = found_reader (IsOwnReader s) n s.readers r own.readers found in
-    subst (λ k. k < s.next_reader) (reader_number n s.readers r found) o.begun
+    let o : IsOwnReader s r = found_in (IsOwnReader s) _ s.readers r own.readers found in
+    subst (λ k. k < s.next_reader) (eqb-true r.reader n (found_true (λ (x : ReaderRow). x.reader == n) s.readers r found)) o.begun
 
 pub reader_begun : (run : Run) (s : State) (n : ℕ) (r : ReaderRow) → StandsKept run s → reader_of s n ≡ Some r → n < s.next_reader
 reader_begun run s n r stands found = own_begun s run.streams n r stands.kept found
@@ -61,7 +53,7 @@ cut_within run s n r stands quiet at writing unsealed =
     let w : PutRow = f.w in
     let p : IsOwnPut s run.streams w = stands.kept.puts r.put w f.found in
     let stream : run.streams w.put ≡ run.streams r.put = ap run.streams (number_of s r.put w f.found) in
-    let o : IsOwnReader s r = found_reader (IsOwnReader s) n s.readers r stands.kept.readers at.found in
+    let o : IsOwnReader s r = found_in (IsOwnReader s) _ s.readers r stands.kept.readers at.found in
     let full : total_length w.cuts ≡ length w.cuts * s.geometry.fragment = p.full f.is_open (ap (λ (x : Stream). x.sealed) stream ∙ unsealed) in
     let within : total_length w.cuts ≤ length (run.streams r.put).bytes = subst (λ (x : Stream). total_length w.cuts ≤ length x.bytes) stream p.cuts.within in
     let count : r.next - 1 ≤ length w.cuts = open_count s r w r.table quiet f.found f.is_open o.table at.within in
@@ -71,20 +63,13 @@ cut_within run s n r stands quiet at writing unsealed =
 -- ---- streams
 
 -- another put's stream is told otherwise
-value_beside : (streams : ℕ → Stream) (put m : ℕ) (x : Stream) → (m ≡ put → ⊥) → with_value streams put x m ≡ streams m
-value_beside streams put m x other = other_than x (streams m) m put other
-
 front_beside : (a put m : ℕ) (streams : ℕ → Stream) (x : Stream) → (m ≡ put → ⊥) → take a (streams m).bytes ≡ take a (with_value streams put x m).bytes
-front_beside a put m streams x other = ap (λ (y : Stream). take a y.bytes) (sym (value_beside streams put m x other))
+front_beside a put m streams x other = ap (λ (y : Stream). take a y.bytes) (sym (other_than x (streams m) m put other))
 
 -- the stream of a put goes on from that front
-front_by : (a put m : ℕ) (streams : ℕ → Stream) (x : Stream) (b : Bool) → (m == put) ≡ b → (m ≡ put → take a (streams put).bytes ≡ take a x.bytes)
-    → take a (streams m).bytes ≡ take a (if b then x else streams m).bytes
-front_by a put m streams x true e here = let same : m ≡ put = eqb-true m put e in ap (λ k. take a (streams k).bytes) same ∙ here same
-front_by a put m streams x false e here = refl
-
 front_with : (a put m : ℕ) (streams : ℕ → Stream) (x : Stream) → (m ≡ put → take a (streams put).bytes ≡ take a x.bytes) → take a (streams m).bytes ≡ take a (with_value streams put x m).bytes
-front_with a put m streams x here = front_by a put m streams x (m == put) refl here
+front_with a put m streams x here =
+    value_by (λ (y : Stream). take a (streams m).bytes ≡ take a y.bytes) x (streams m) m put (λ same. ap (λ k. take a (streams k).bytes) same ∙ here same) (λ other. refl)
 
 fed_by : (a put m k : ℕ) (run : Run) (body : List ℕ) (b : Bool) → (run.streams put).sealed ≡ b → (m ≡ put → (run.streams put).sealed ≡ false → a ≤ length (run.streams put).bytes)
     → take a (run.streams m).bytes ≡ take a ((if b then run.streams else with_value run.streams put (fed (run.streams put) body k)) m).bytes

@@ -1,7 +1,8 @@
 -- What a line is answered that it hit or follows was put under the key that it asks for, by a put whose lines fit.
-use Rattle.std.proofs.Common.{◌≡◌, ℕ, List, [], ◌∷◌, ◌++◌, refl, sym, ◌∙◌, ap, subst, inl, inr, Bool, true, false, ◌&&◌}
-use Rattle.std.specs.Prelude.{Option, Some, None, cond, find}
+use Rattle.std.proofs.Common.{◌≡◌, ℕ, List, [], ◌∷◌, ◌++◌, refl, sym, ◌∙◌, ap, subst, inl, inr, true, ◌&&◌}
+use Rattle.std.specs.Prelude.{Option, Some, None}
 use Rattle.std.proofs.lemmas.Bool.{and_parts}
+use Rattle.std.proofs.lemmas.Option.{same_Some}
 use Rattle.tape_base.specs.declared.actors.Actor.{Actor}
 use Rattle.tape_base.specs.declared.keys.Key.{Key}
 use Rattle.tape_base.specs.Key.{same_key}
@@ -36,6 +37,7 @@ use Rattle.script_run.specs.Takes.{IsBody, IsRun, SessionTakes, StepTakes, Takes
 use Rattle.reader_laws.specs.Along.{OpenedAlong, StandsWhere}
 use Rattle.reader_laws.specs.Laws
 use Rattle.reader_laws.specs.Laws.{AnswersFollow, AnswersHit, WasPutFor}
+use Rattle.script_run.proofs.Finding.{found_true}
 use Rattle.script_run.proofs.Hitting.{step_answers}
 use Rattle.reader_laws.proofs.Opening.{follow_by, front_row}
 use Rattle.reader_laws.proofs.Origins.{found_opened, put_opened}
@@ -193,15 +195,6 @@ hit_is_asked laws law lines turns turn asks key request put legal takes said =
 
 -- ---- a put that is followed
 
-true_by : (test : PutRow → Bool) (x w : PutRow) (rest : Option PutRow) (b : Bool) → test x ≡ b → (rest ≡ Some w → test w ≡ true) → cond b (Some x) rest ≡ Some w → test w ≡ true
-true_by test x w rest true e others h = let same : x ≡ w = cc in subst (λ (y : PutRow). test y ≡ true) same e
-true_by test x w rest false e others h = others h
-
--- what is found passes the test
-found_true : (test : PutRow → Bool) (puts : List PutRow) (w : PutRow) → find test puts ≡ Some w → test w ≡ true
-found_true test [] w h = none_is h
-found_true test (x ∷ puts) w h = true_by test x w (find test puts) (test x) refl (found_true test puts w) h
-
 -- the put of the state before the line that is followed
 record IsFollowed (s : State) (key : Key) (request : List Field) (put : ℕ) : Type 0 where
   w : PutRow
@@ -268,9 +261,6 @@ follow_is_asked lines turns turn asks key request put legal takes said =
 
 -- ---- the reader that opens
 
-some_is : (x y : ReadAnswer) → Some x ≡ Some y → x ≡ y
-some_is x y h = cc
-
 -- a reader that opens with a hit stands first
 opened_put : (s : State) (who : Actor) (key : Key) (request : List Field) (answer : ReadAnswer) (put : ℕ) (r : ReaderRow) → answer ≡ read.Hit put
     → reader_of (state_after s (rec.ReadOpened s.next_reader who key request answer)) s.next_reader ≡ Some r → r.put ≡ put
@@ -283,7 +273,7 @@ looked_put : (p : Permit) (s : State) (who : Actor) (key : Key) (request : List 
     → (let added : List Rec = before ++ rec.ReadOpened s.next_reader who key request answer ∷ [] in
     lookup_in added ≡ Some (read.Hit put) → reader_of (after_all s added) s.next_reader ≡ Some r → r.put ≡ put)
 looked_put p s who key request before answer put r (Legal.IsLookup.verdict x) told found =
-    opened_put s who key request (lookup_verdict s key request) put r (some_is (lookup_verdict s key request) (read.Hit put) told) found
+    opened_put s who key request (lookup_verdict s key request) put r (same_Some (lookup_verdict s key request) (read.Hit put) told) found
 looked_put p s who key request before answer put r (Legal.IsLookup.trouble row b why live (Given.Trouble.faulted count w m)) told found = absurd cc
 looked_put p s who key request before answer put r (Legal.IsLookup.trouble row b why live (Given.Trouble.damaged other d)) told found = absurd cc
 

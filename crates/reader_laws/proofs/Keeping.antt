@@ -1,5 +1,5 @@
 -- Records beside a reader leave it as it is, and each put has cut no less behind them.
-use Rattle.std.proofs.Common.{◌≡◌, ℕ, ◌+◌, ◌<◌, ◌≤◌, List, [], ◌∷◌, ◌++◌, length, refl, sym, ◌∙◌, ap, subst, arith, Bool, true, false, cond, eqb-true, length-append}
+use Rattle.std.proofs.Common.{◌≡◌, ℕ, ◌+◌, ◌<◌, ◌≤◌, List, [], ◌∷◌, ◌++◌, length, refl, sym, ◌∙◌, ap, subst, arith, cond, length-append}
 use Rattle.std.specs.Prelude.{Option, Some, None, find, option_map, unwrap_or, ◌==◌}
 use Rattle.tape_base.specs.declared.keys.Key.{Key}
 use Rattle.fragment_table.specs.Table.{TableRow, made_row}
@@ -13,6 +13,7 @@ use Rattle.cache_model.specs.Verdict.{cuts_of}
 use Rattle.cache_model.specs.StepLaws.{AllAlong, IsNumbered}
 use Rattle.stripe_actors.proofs.Rows.{find-changed, find-without}
 use Rattle.script_run.proofs.Changed.{changed, either, found_changed}
+use Rattle.script_run.proofs.Values.{other_than}
 use Rattle.reader_laws.proofs.Beside.{AllBeside, AnyNumber, IsBeside, OtherThan}
 
 -- the reader n is as it was, and the put m has cut no less
@@ -34,18 +35,6 @@ keeps_then n m s t u a b = record {
   begun = λ h. b.begun (a.begun h);
   cuts = λ h. let first = a.cuts h in let second = b.cuts (a.begun h) in omega (arith, first, second);
 }
-
--- ---- what is found in lists
-
-other_by : {X : Type 0} (x y : X) (k m : ℕ) (b : Bool) → (k == m) ≡ b → (k ≡ m → ⊥) → cond b x y ≡ y
-other_by x y k m true e other = absurd (other (eqb-true k m e))
-other_by x y k m false e other = refl
-
-pub other_than : {X : Type 0} (x y : X) (k m : ℕ) → (k ≡ m → ⊥) → cond (k == m) x y ≡ y
-other_than x y k m other = other_by x y k m (k == m) refl other
-
-above : (k m : ℕ) → m < k → k ≡ m → ⊥
-above k m below same = omega (arith, below, same)
 
 -- ---- fields that stay
 
@@ -89,9 +78,6 @@ opened_beside : (n : ℕ) (s : State) (reader actor : ℕ) (key : Key) (request 
 opened_beside n s reader actor key request (read.Hit put) other = other_than _ (reader_of s n) reader n other
 opened_beside n s reader actor key request (read.Follow put) other = other_than _ (reader_of s n) reader n other
 opened_beside n s reader actor key request (read.Miss why) other = refl
-
-further : ℕ → ReaderRow → ReaderRow
-further next r = record r { next = next }
 
 pub gave_reader : (n reader next : ℕ) (rs : List ReaderRow)
     → find (λ (x : ReaderRow). x.reader == n) (change_reader reader next rs) ≡ cond (reader == n) (option_map (λ (r : ReaderRow). record r { next = next }) (find (λ (x : ReaderRow). x.reader == n) rs)) (find (λ (x : ReaderRow). x.reader == n) rs)

@@ -1,28 +1,30 @@
 -- What a reader that is asked for its next fragment is given, and where it stands behind that.
-use Rattle.std.proofs.Common.{◌≡◌, ℕ, zero, suc, ◌+◌, ◌-◌, ◌*◌, ◌<◌, ◌≤◌, List, [], ◌∷◌, ◌++◌, length, take, refl, sym, ◌∙◌, ap, subst, arith, Bool, cond}
-use Rattle.std.specs.Prelude.{Option, Some, None, find, option_map, unwrap_or, slice_get, ◌==◌}
+use Rattle.std.proofs.Common.{◌≡◌, ℕ, ◌+◌, ◌-◌, ◌*◌, ◌<◌, ◌≤◌, List, [], ◌∷◌, ◌++◌, length, take, refl, sym, ◌∙◌, ap, subst, arith, Bool, cond}
+use Rattle.std.specs.Prelude.{Option, Some, None, find, option_map, unwrap_or, ◌==◌}
 use Rattle.std.proofs.lemmas.Bool.{eq-eqb}
+use Rattle.std.proofs.lemmas.Option.{slice_get_within}
 use Rattle.fragment_table.specs.Table.{TableRow}
 use Rattle.cache_model.specs.declared.answer.NextAnswer.{NextAnswer}
 use Rattle.cache_model.specs.declared.answer.NextAnswer.TheVariants as next
 use Rattle.cache_model.specs.declared.cause.Cause.{Cause}
 use Rattle.cache_model.specs.declared.record.Rec.{Rec}
 use Rattle.cache_model.specs.declared.record.Rec.TheVariants as rec
-use Rattle.cache_model.specs.State.{State, Row, PutRow, ReaderRow, Writing, Open, Closed, GivenUp, change_reader, put_of, reader_of, state_after}
-use Rattle.cache_model.specs.Verdict.{cuts_of, next_row, reader_verdict, table_of, verdict_at_end, verdict_of_followed, verdict_of_fragment, verdict_of_writing}
+use Rattle.cache_model.specs.State.{State, Row, ReaderRow, change_reader, reader_of, state_after}
+use Rattle.cache_model.specs.Verdict.{cuts_of, next_row, reader_verdict, table_of, verdict_at_end, verdict_of_fragment}
 use Rattle.cache_model.specs.Permit.{Permit}
 use Rattle.cache_model.specs.Given
 use Rattle.cache_model.specs.Legal
 use Rattle.cache_model.specs.Legal.{answer_record}
-use Rattle.cache_model.proofs.Answered.{given_is_own}
-use Rattle.cache_model.proofs.Found.{none_is, same_some}
+use Rattle.cache_model.proofs.Answered.{end_gives_none, given_is_own}
+use Rattle.cache_model.proofs.Found.{same_some}
 use Rattle.script_run.specs.Run.{Run, Stream}
 use Rattle.script_run.specs.Turn.{told_in}
 use Rattle.script_run.specs.Own.{piece_of}
 use Rattle.script_run.specs.Takes.{IsPiece}
+use Rattle.script_run.proofs.Carried.{all_append}
 use Rattle.script_run.proofs.Cuts.{at_next}
 use Rattle.reader_laws.specs.Along.{IsOpenAt}
-use Rattle.reader_laws.proofs.Beside.{AllBeside, AnyNumber, OtherThan, beside_append, reading_beside}
+use Rattle.reader_laws.proofs.Beside.{AllBeside, AnyNumber, IsBeside, OtherThan, reading_beside}
 use Rattle.reader_laws.proofs.Keeping.{KeepsReader, gave_reader}
 use Rattle.reader_laws.proofs.Pieces.{Told, told_none, told_part, told_then}
 
@@ -71,28 +73,10 @@ stays n s t old now u opened k front found = record {
 
 -- ---- a fragment that is given
 
-row_within : (table : List TableRow) (i : ℕ) (entry : TableRow) → slice_get table i ≡ Some entry → i < length table
-row_within [] i entry h = none_is h
-row_within (row ∷ rows) zero entry h = omega arith
-row_within (row ∷ rows) (suc i) entry h = let rest : i < length rows = row_within rows i entry h in omega (arith, rest)
-
-writing_gives_none : (p : PutRow) (w : Writing) (index size : ℕ) → verdict_of_writing p w ≡ next.Gave index size → ⊥
-writing_gives_none p Open index size h = cc
-writing_gives_none p Closed index size h = cc
-writing_gives_none p GivenUp index size h = cc
-
-followed_gives_none : (o : Option PutRow) (index size : ℕ) → verdict_of_followed o ≡ next.Gave index size → ⊥
-followed_gives_none None index size h = cc
-followed_gives_none (Some p) index size h = writing_gives_none p p.writing index size h
-
-end_gives_none : (s : State) (r : ReaderRow) (o : Option (List TableRow)) (index size : ℕ) → verdict_at_end s r o ≡ next.Gave index size → ⊥
-end_gives_none s r (Some table) index size h = cc
-end_gives_none s r None index size h = followed_gives_none (put_of s r.put) index size h
-
 within_by : (s : State) (r : ReaderRow) (o : Option TableRow) (index size : ℕ) → next_row s r ≡ o
     → unwrap_or (option_map (verdict_of_fragment s r) o) (verdict_at_end s r r.table) ≡ next.Gave index size → r.next - 1 < length (table_of s r)
 within_by s r None index size e h = absurd (end_gives_none s r r.table index size h)
-within_by s r (Some entry) index size e h = row_within (table_of s r) (r.next - 1) entry e
+within_by s r (Some entry) index size e h = slice_get_within (table_of s r) (r.next - 1) entry e
 
 -- a fragment that is given is cut
 given_within : (s : State) (r : ReaderRow) (index size : ℕ) → reader_verdict s r ≡ next.Gave index size → r.next - 1 < length (table_of s r)
@@ -130,7 +114,7 @@ reading_next : (n : ℕ) (run : Run) (p : Permit) (s : State) (r : ReaderRow) (b
     → IsPiece run s n given (told_in (before ++ answer_record n answer ∷ [])) → IsNext n run s (before ++ answer_record n answer ∷ []) given
 reading_next n run p s r before answer given found (Legal.IsReading.verdict x) piece = verdict_next n run s r given (reader_verdict s r) found refl piece
 reading_next n run p s r before answer given found (Legal.IsReading.trouble entry row b why e live t) piece =
-    beside (beside_append (OtherThan n) AnyNumber before _ (reading_beside (OtherThan n) AnyNumber p s r before (next.Broke why) (Legal.IsReading.trouble entry row b why e live t)) (tt, tt))
+    beside (all_append (IsBeside (OtherThan n) AnyNumber) before _ (reading_beside (OtherThan n) AnyNumber p s r before (next.Broke why) (Legal.IsReading.trouble entry row b why e live t)) (tt, tt))
     (broken_told p s r row entry before why run n given why t piece)
 
 pub next_is : (n : ℕ) (run : Run) (p : Permit) (s : State) (added : List Rec) (given : List ℕ) (e : Rattle.cache_model.specs.Permit.End) → Legal.DoesReadOn p s n added e

@@ -1,7 +1,6 @@
 -- A reader that a line opens is at its first fragment, and its put has begun.
 use Rattle.std.proofs.Common.{◌≡◌, ℕ, ◌<◌, List, [], ◌∷◌, ◌++◌, refl, sym, ◌∙◌, ap, subst, arith, Bool, true, false, cond}
 use Rattle.std.specs.Prelude.{Option, Some, None, find, option_map, unwrap_or, ◌==◌}
-use Rattle.std.proofs.lemmas.Bool.{eq-eqb}
 use Rattle.tape_base.specs.declared.actors.Actor.{Actor}
 use Rattle.tape_base.specs.declared.keys.Key.{Key}
 use Rattle.alternate_vector.specs.Field.{Field}
@@ -26,8 +25,9 @@ use Rattle.script_run.specs.Asked.{if_free}
 use Rattle.script_run.specs.Turn.{Turn}
 use Rattle.script_run.specs.Own.{AreKept, IsOwnPut, IsOwnReader, IsTableOf, IsTableOfHit}
 use Rattle.script_run.specs.Takes.{SessionTakes}
-use Rattle.script_run.proofs.Finding.{found_reader}
+use Rattle.script_run.proofs.Finding.{found_in}
 use Rattle.script_run.proofs.OnlyReading.{reads_keep}
+use Rattle.script_run.proofs.Values.{value_here}
 use Rattle.reader_laws.specs.Along.{IsOpenAt}
 use Rattle.reader_laws.proofs.Fronts.{own_begun}
 
@@ -42,7 +42,7 @@ found_first : (test : Bool) (puts : List PutRow) (p x : PutRow) (rest : Option P
     → cond test (Some x) rest ≡ Some p → (q : PutRow) × (find (λ (y : PutRow). y.put == p.put) (x ∷ puts) ≡ Some q)
 found_first true puts p x rest others h =
     let same : x ≡ p = same_some x p (Some x) refl h in
-    (x, ap (λ (b : Bool). cond b (Some x) (find (λ (y : PutRow). y.put == p.put) puts)) (eq-eqb x.put p.put (ap (λ (y : PutRow). y.put) same)))
+    (x, value_here (Some x) (find (λ (y : PutRow). y.put == p.put) puts) x.put p.put (ap (λ (y : PutRow). y.put) same))
 found_first false puts p x rest others h = found_at p x (find (λ (y : PutRow). y.put == p.put) puts) (x.put == p.put) (others h)
 
 found_by_number : (test : PutRow → Bool) (puts : List PutRow) (p : PutRow) → find test puts ≡ Some p → (q : PutRow) × (find (λ (y : PutRow). y.put == p.put) puts ≡ Some q)
@@ -70,7 +70,7 @@ record OpensAt (put : ℕ) (r : ReaderRow) : Type 0 where
   first : r.next ≡ 1
 
 pub front_row : (row r : ReaderRow) (rest : Option ReaderRow) (n : ℕ) → row.reader ≡ n → cond (row.reader == n) (Some row) rest ≡ Some r → row ≡ r
-front_row row r rest n same h = same_some row r (Some row) refl (sym (ap (λ (b : Bool). cond b (Some row) rest) (eq-eqb row.reader n same)) ∙ h)
+front_row row r rest n same h = same_some row r (Some row) refl (sym (value_here (Some row) rest row.reader n same) ∙ h)
 
 -- no reader had the next number
 none_before : (s t : State) (streams : ℕ → Stream) (r : ReaderRow) → AreKept s streams → t.readers ≡ s.readers → find (λ (x : ReaderRow). x.reader == s.next_reader) t.readers ≡ Some r → ⊥
@@ -88,7 +88,7 @@ opened_by : (s : State) (streams : ℕ → Stream) (who : Actor) (key : Key) (re
 opened_by s streams who key request (read.Hit put) r own verdict behind found =
     let t : State = state_after s (rec.ReadOpened s.next_reader who key request (read.Hit put)) in
     let same = front_row _ r (reader_of s s.next_reader) s.next_reader refl found in
-    let o : IsOwnReader t r = found_reader (IsOwnReader t) s.next_reader t.readers r behind.readers found in
+    let o : IsOwnReader t r = found_in (IsOwnReader t) (λ (x : ReaderRow). x.reader == s.next_reader) t.readers r behind.readers found in
     let table : IsTableOf t r.put (table_of_hit s key request) = subst (IsTableOfHit t r) (sym (ap (λ (x : ReaderRow). x.table) same)) o.table in
     let p : IsOwnPut t streams table.w = behind.puts r.put table.w table.found in
     record { begun = subst (λ k. k < t.next_put) (number_of t r.put table.w table.found) p.begun; first = sym (ap (λ (x : ReaderRow). x.next) same) }

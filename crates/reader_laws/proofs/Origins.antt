@@ -1,6 +1,6 @@
 -- Each put of a session was opened by one of its lines.
-use Rattle.std.proofs.Common.{◌≡◌, ℕ, List, [], ◌∷◌, refl, ap, subst, inl, inr, Bool, true, false}
-use Rattle.std.specs.Prelude.{Option, Some, None, if◌then◌else◌, find, cond, ◌==◌}
+use Rattle.std.proofs.Common.{◌≡◌, ℕ, List, [], ◌∷◌, refl, ap, subst, inl, inr, Bool, false}
+use Rattle.std.specs.Prelude.{Option, Some, None, find, ◌==◌}
 use Rattle.std.specs.List.{AllByRecursion}
 use Rattle.tape_base.specs.declared.actors.Actor.{Actor}
 use Rattle.tape_base.specs.declared.keys.Key.{Key}
@@ -10,7 +10,7 @@ use Rattle.cache_model.specs.declared.record.Rec.{Rec}
 use Rattle.cache_model.specs.declared.record.Rec.TheVariants as rec
 use Rattle.cache_model.specs.State.{State, PutRow, Closed, GivenUp, after_all, change_put, nothing_yet, put_of, state_after, with_cut, with_writing}
 use Rattle.cache_model.specs.Permit.{IsAmong}
-use Rattle.cache_model.proofs.Found.{none_is, number_of}
+use Rattle.cache_model.proofs.Found.{number_of}
 use Rattle.script_lang.specs.declared.step.Step.{Step}
 use Rattle.script_lang.specs.declared.line.LineAnswer.{LineAnswer}
 use Rattle.script_lang.specs.declared.line.LineAnswer.TheVariants as line
@@ -19,6 +19,8 @@ use Rattle.script_run.specs.Run.{Run, fresh}
 use Rattle.script_run.specs.Turn.{Turn}
 use Rattle.script_run.specs.Behind.{after_line, after_reading}
 use Rattle.script_run.specs.Takes.{IsRun, LineTakes, ReadingTakes, run_after}
+use Rattle.script_run.proofs.Changed.{either}
+use Rattle.script_run.proofs.Finding.{found_in}
 use Rattle.reader_laws.specs.Along.{AreOfSession, KeepsSession, OpenedAlong, begins_session}
 use Rattle.reader_laws.proofs.Standing.{Goes, begins, goes, stays, steps, waits}
 
@@ -70,13 +72,9 @@ module _ (P : ℕ → Key → List Field → List Field → ℕ → Type 0) wher
   OfRecord (rec.WriteOpened who put key request response pin) = P put key request response pin
   OfRecord _ = Unit {0}
 
-  changed_by : (f : PutRow → PutRow) → ((p : PutRow) → OfPut p → OfPut (f p)) → (p : PutRow) (b : Bool) → OfPut p → OfPut (if b then f p else p)
-  changed_by f keeps p true said = keeps p said
-  changed_by f keeps p false said = said
-
   changed_puts : (put : ℕ) (f : PutRow → PutRow) → ((p : PutRow) → OfPut p → OfPut (f p)) → (puts : List PutRow) → AllByRecursion OfPut puts → AllByRecursion OfPut (change_put put f puts)
   changed_puts put f keeps [] each = tt
-  changed_puts put f keeps (p ∷ puts) each = (changed_by f keeps p (p.put == put) each.0, changed_puts put f keeps puts each.1)
+  changed_puts put f keeps (p ∷ puts) each = (either OfPut put f p (λ e. keeps p each.0) each.0, changed_puts put f keeps puts each.1)
 
   -- a record leaves it, where it is said of the put that it opens
   record_puts : (s : State) (r : Rec) → AllByRecursion OfPut s.puts → OfRecord r → AllByRecursion OfPut (state_after s r).puts
@@ -169,21 +167,13 @@ module _ (P : ℕ → Key → List Field → List Field → ℕ → Type 0) wher
 
 -- ---- a put that is found
 
-put_by : (P : PutRow → Type 0) (first w : PutRow) (rest : Option PutRow) (b : Bool) → P first → (rest ≡ Some w → P w) → cond b (Some first) rest ≡ Some w → P w
-put_by P first w rest true said others h = let same : first ≡ w = cc in subst P same said
-put_by P first w rest false said others h = others h
-
-found_put : (P : PutRow → Type 0) (test : PutRow → Bool) (puts : List PutRow) (w : PutRow) → AllByRecursion P puts → find test puts ≡ Some w → P w
-found_put P test [] w each h = none_is h
-found_put P test (first ∷ puts) w each h = put_by P first w (find test puts) (test first) each.0 (found_put P test puts w each.1) h
-
 -- behind a legal script a put of its session that passes a test was opened by a line of it
 pub found_opened : (lines : List (List ℕ)) (turns : List Turn) (s : State) (test : PutRow → Bool) (w : PutRow) → IsRun fresh lines turns → (run_after fresh lines turns).state ≡ Some s → find test s.puts ≡ Some w
     → OpenedAlong fresh lines turns w.put w.key w.request w.response w.pin
 found_opened lines turns s test w legal state found =
     let all = lines_puts (OpenedAlong fresh lines turns) lines turns fresh legal (λ same. tt) (λ put key request response pin o. o) in
     let each : AllByRecursion (OfPut (OpenedAlong fresh lines turns)) s.puts = subst (OfPuts (OpenedAlong fresh lines turns)) state all in
-    found_put (OfPut (OpenedAlong fresh lines turns)) test s.puts w each found
+    found_in (OfPut (OpenedAlong fresh lines turns)) test s.puts w each found
 
 -- and so was that of a number
 pub put_opened : (lines : List (List ℕ)) (turns : List Turn) (s : State) (put : ℕ) (w : PutRow) → IsRun fresh lines turns → (run_after fresh lines turns).state ≡ Some s → put_of s put ≡ Some w

@@ -1,6 +1,5 @@
 -- Each put that an actor writes is open, and no two actors write the same.
-use Rattle.std.proofs.Common.{◌≡◌, ℕ, ◌<◌, List, [], ◌∷◌, refl, sym, ◌∙◌, ap, subst, arith, inl, inr, ◌⊎◌, Bool, true, false, eqb-true}
-use Rattle.std.proofs.lemmas.Bool.{eq-eqb}
+use Rattle.std.proofs.Common.{◌≡◌, ℕ, ◌<◌, List, [], ◌∷◌, refl, sym, ◌∙◌, ap, subst, arith, inl, inr, ◌⊎◌, Bool, true, false}
 use Rattle.std.specs.Prelude.{Option, Some, None, find, if◌then◌else◌, is_some, option_and_then, option_map, unwrap_or, ◌==◌}
 use Rattle.fragment_table.specs.Table.{made_row}
 use Rattle.cache_model.specs.declared.record.Rec.{Rec}
@@ -10,7 +9,7 @@ use Rattle.cache_model.specs.Verdict.{is_open}
 use Rattle.cache_model.specs.Permit.{Intent, GiveUp, ReadOn, StopReading}
 use Rattle.cache_model.specs.Legal.{IsStep, is_writing}
 use Rattle.cache_model.specs.StepLaws.{AllAlong, IsNumbered, NumbersFollow}
-use Rattle.cache_model.proofs.Found.{no_truth, none_is, number_of}
+use Rattle.cache_model.proofs.Found.{none_is, number_of}
 use Rattle.actor_table.specs.Table.{number_of as number_in}
 use Rattle.script_lang.specs.declared.step.Step.{Step}
 use Rattle.script_lang.specs.declared.step.Step.TheVariants as step
@@ -21,8 +20,8 @@ use Rattle.script_run.specs.Behind.{in_session, or_else, reader_at, still_open, 
 use Rattle.script_run.specs.Own.{AreKept, AreWriting, IsOwnPut}
 use Rattle.script_run.proofs.Changed.{changed, either, found_changed, other_stays}
 use Rattle.script_run.proofs.Ended.{IsFoundOpen, open_row}
+use Rattle.script_run.proofs.Values.{other_than, value_by}
 use Rattle.reader_laws.proofs.Beside.{AllBeside, AllOther, AnyNumber, IsBeside, OtherThan, grown_beside}
-use Rattle.reader_laws.proofs.Keeping.{other_than}
 use Rattle.reader_laws.proofs.Asking.{close_other, feeding_other, free_other, get_other, has_other, put_other}
 
 -- ---- a put that records leave
@@ -115,11 +114,6 @@ open_begun s streams put own writing =
     let p : IsOwnPut s streams f.w = own.puts put f.w f.found in
     subst (λ k. k < s.next_put) (number_of s put f.w f.found) p.begun
 
--- one actor has something else
-value_by : (P : Option Holding → Type 0) (new old : Option Holding) (i k : ℕ) (b : Bool) → (i == k) ≡ b → (i ≡ k → P new) → ((i ≡ k → ⊥) → P old) → P (if b then new else old)
-value_by P new old i k true e here there = here (eqb-true i k e)
-value_by P new old i k false e here there = there (λ same. no_truth (sym (eq-eqb i k same) ∙ e))
-
 -- what it has now it had, or no one had it
 abbrev IsNew : (ℕ → Option Holding) → ℕ → ℕ → Type 0
 IsNew held k put = (held k ≡ Some (Writes put)) ⊎ ((i : ℕ) → held i ≡ Some (Writes put) → ⊥)
@@ -136,15 +130,15 @@ module _ (held : ℕ → Option Holding) (s t : State) (k : ℕ) (new : Option H
 
   apart_by : (i j put : ℕ) → with_value held k new i ≡ Some (Writes put) → with_value held k new j ≡ Some (Writes put) → i ≡ j
   apart_by i j put =
-      value_by (λ (a : Option Holding). a ≡ Some (Writes put) → with_value held k new j ≡ Some (Writes put) → i ≡ j) new (held i) i k (i == k) refl
-      (λ first now. value_by (λ (a : Option Holding). a ≡ Some (Writes put) → i ≡ j) new (held j) j k (j == k) refl
+      value_by (λ (a : Option Holding). a ≡ Some (Writes put) → with_value held k new j ≡ Some (Writes put) → i ≡ j) new (held i) i k
+      (λ first now. value_by (λ (a : Option Holding). a ≡ Some (Writes put) → i ≡ j) new (held j) j k
       (λ second has. first ∙ sym second) (λ other has. absurd (clash j put other now has)))
-      (λ other before. value_by (λ (a : Option Holding). a ≡ Some (Writes put) → i ≡ j) new (held j) j k (j == k) refl
+      (λ other before. value_by (λ (a : Option Holding). a ≡ Some (Writes put) → i ≡ j) new (held j) j k
       (λ second has. absurd (clash i put other has before)) (λ others has. h.apart i j put before has))
 
   held_with : AreHeld (with_value held k new) t
   held_with = record {
-    writing = λ i put. value_by (λ (a : Option Holding). a ≡ Some (Writes put) → is_writing t put ≡ true) new (held i) i k (i == k) refl
+    writing = λ i put. value_by (λ (a : Option Holding). a ≡ Some (Writes put) → is_writing t put ≡ true) new (held i) i k
         (λ same now. c.here put now) (λ other before. c.others i put other before);
     apart = apart_by;
   }

@@ -1,7 +1,8 @@
 -- Damage that is answered was told of a piece.
-use Rattle.std.proofs.Common.{◌≡◌, List, [], ◌∷◌, Bool, true, false, refl, sym, ◌∙◌, ap, subst, inl, inr}
-use Rattle.std.specs.Prelude.{Option, Some, ◌||◌}
+use Rattle.std.proofs.Common.{◌≡◌, List, [], ◌∷◌, Bool, true, refl, sym, ◌∙◌, ap, subst, inl, inr}
+use Rattle.std.specs.Prelude.{Option, Some}
 use Rattle.std.specs.List.{AllByRecursion, list_any}
+use Rattle.std.proofs.lemmas.Bool.{or_right}
 use Rattle.tape_base.specs.declared.pieces.PieceId.{PieceId}
 use Rattle.cache_model.specs.declared.cause.Cause.{Cause}
 use Rattle.cache_model.specs.declared.cause.Cause.TheVariants as cause
@@ -57,10 +58,6 @@ damage_stays p s intents added refused h damaged = damages_kept p s added (walke
 
 -- ---- where it comes from
 
-either : (b other : Bool) → other ≡ true → (b || other) ≡ true
-either true other h = refl
-either false other h = h
-
 abbrev is_damaged : PieceId × Cause → Bool
 is_damaged lost = is_damage lost.1
 
@@ -68,7 +65,7 @@ lost_damaged : (piece : PieceId) (why : Cause) (losses : List (PieceId × Cause)
 lost_damaged piece why [] damage h = absurd h
 lost_damaged piece why (lost ∷ losses) damage h = elim h [
   | inl same ↦ subst (λ (x : PieceId × Cause). list_any is_damaged (x ∷ losses) ≡ true) same (rw damage refl)
-  | inr later ↦ either (is_damage lost.1) (list_any is_damaged losses) (lost_damaged piece why losses damage later)
+  | inr later ↦ or_right (is_damage lost.1) (list_any is_damaged losses) (lost_damaged piece why losses damage later)
 ]
 
 -- damage does not stand by itself

@@ -17,10 +17,10 @@ use Rattle.script_run.specs.Turn.{Turn}
 use Rattle.script_run.specs.Asked.{asked}
 use Rattle.script_run.specs.Answers.{session_said}
 use Rattle.script_run.specs.Takes.{SessionTakes}
+use Rattle.script_run.proofs.Listed.{is_among}
 use Rattle.script_laws.specs.Causes
 use Rattle.script_laws.specs.Causes.{IsTraced, cause_answered, cause_given}
 use Rattle.script_laws.specs.Troubles.{IsFaultRecorded, NoLossIsAFault, is_fault}
-use Rattle.script_laws.proofs.Among.{all_among}
 use Rattle.script_laws.proofs.Walking.{fault_is_told, refusal_recorded}
 use Rattle.script_laws.proofs.Said.{IsSaid, answers_are_traced, line_said}
 
@@ -49,7 +49,7 @@ fault_given (rec.ReadClosed reader) count h = none_is h
 fault_traced : (s : State) (added : List Rec) (count : ℕ) → NoLossIsAFault s → IsTraced s added (cause.DeviceFault count) → IsAmong (rec.Fault count) added
 fault_traced s added count none (Causes.IsTraced.stands e) = no_truth (sym e)
 fault_traced s added count none (Causes.IsTraced.lost piece h) =
-    no_truth (all_among (λ (lost : PieceId × Cause). is_fault lost.1 ≡ false) s.lost (piece, cause.DeviceFault count) none h)
+    no_truth (is_among (λ (lost : PieceId × Cause). is_fault lost.1 ≡ false) (piece, cause.DeviceFault count) s.lost none h)
 fault_traced s added count none (Causes.IsTraced.recorded g) = subst (λ r. IsAmong r added) (fault_given g.r count g.gives) g.among
 
 pub refusal_is_recorded : (p : Permit) (s : State) (intents : List Intent) (added : List Rec) (count : ℕ)

@@ -28,7 +28,8 @@ use Rattle.cache_model.proofs.Found.{none_is}
 use Rattle.script_laws.specs.Causes
 use Rattle.script_laws.specs.Causes.{IsGivenBy, IsTraced, cause_given, cause_told}
 use Rattle.script_laws.specs.Troubles.{IsCounted}
-use Rattle.script_laws.proofs.Among.{all_append, among_right}
+use Rattle.script_run.proofs.Carried.{all_append, all_as}
+use Rattle.script_laws.proofs.Among.{among_right}
 use Rattle.script_laws.proofs.Losses.{given_left}
 use Rattle.script_laws.proofs.Standing.{LookIsTraced, NextIsTraced, look_stands, next_stands}
 
@@ -62,15 +63,13 @@ module _ (p : Permit) where
   AreSilent recs = AllByRecursion IsSilent recs
 
   silent_kept : (recs : List Rec) → AreSilent recs → AllByRecursion IsKept recs
-  silent_kept [] h = tt
-  silent_kept (r ∷ recs) h = (h.0.0, silent_kept recs h.1)
+  silent_kept recs h = all_as IsSilent IsKept (λ r quiet. quiet.0) recs h
 
   tells_none : (s : State) (all : List Rec) (r : Rec) → cause_told r ≡ None → TellsTraced s all r
   tells_none s all r none why told = none_is (sym none ∙ told)
 
   silent_traced : (s : State) (all recs : List Rec) → AreSilent recs → AllByRecursion (TellsTraced s all) recs
-  silent_traced s all [] h = tt
-  silent_traced s all (r ∷ recs) h = (tells_none s all r h.0.1, silent_traced s all recs h.1)
+  silent_traced s all recs h = all_as IsSilent (TellsTraced s all) (λ r quiet. tells_none s all r quiet.1) recs h
 
   silent : (s : State) (added other : List Rec) (e : End) → added ≡ other → EndIsRecorded other e → AreSilent other → IsGroup s added e
   silent s added other e is end h =

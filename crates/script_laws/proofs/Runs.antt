@@ -1,6 +1,7 @@
 -- What holds of every line of a script, by what holds of what was told of the devices in the end.
 use Rattle.std.proofs.Common.{◌≡◌, ℕ, ◌<◌, List, [], ◌∷◌, ◌++◌, Bool, true, false, refl, sym, ◌∙◌, subst, arith}
 use Rattle.std.specs.Prelude.{All, Option, Some, None, option_map, suc, unwrap_or, zero}
+use Rattle.std.proofs.lemmas.Bool.{false_from_ne_true}
 use Rattle.std.proofs.lemmas.List.Elements.{All-append, All-cons, All-head, All-nil, All-tail}
 use Rattle.tape_base.specs.declared.geometries.BadGeometry.{BadGeometry}
 use Rattle.tape_base.specs.declared.geometries.Geometry.{Geometry}
@@ -152,13 +153,9 @@ module _ (test : StepAnswer → Bool) (Fine : Harm → Type 0) (Sound : State �
 
 -- ---- causes
 
-not_true : (b : Bool) → (b ≡ true → ⊥) → b ≡ false
-not_true true h = absurd (h refl)
-not_true false h = refl
-
 none_named : (test : Cause → Bool) (o : Option Cause) → ((why : Cause) → o ≡ Some why → test why ≡ true → ⊥) → unwrap_or (option_map test o) false ≡ false
 none_named test None h = refl
-none_named test (Some why) h = not_true (test why) (h why refl)
+none_named test (Some why) h = false_from_ne_true (test why) (h why refl)
 
 -- ---- device faults
 
@@ -214,7 +211,7 @@ faultless_runs = whole answers_fault (λ harm. harm.fault ≡ 0) NoLossIsAFault 
 -- ---- damage
 
 was_not_true : (a b : Bool) → (a ≡ true → b ≡ true) → b ≡ false → a ≡ false
-was_not_true a b stays e = not_true a (λ h. no_truth (sym (stays h) ∙ e))
+was_not_true a b stays e = false_from_ne_true a (λ h. no_truth (sym (stays h) ∙ e))
 
 no_format_damage : (added : List Rec) (bad : Option BadGeometry) → answers_damage (format_said added bad) ≡ false
 no_format_damage added None = refl

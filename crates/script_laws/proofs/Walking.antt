@@ -11,7 +11,9 @@ use Rattle.cache_model.specs.Legal.{Advances, MayGrow, nothing, more, IsStep}
 use Rattle.cache_model.proofs.Found.{none_is}
 use Rattle.script_laws.specs.Causes.{IsTraced, cause_told}
 use Rattle.script_laws.specs.Troubles.{IsCounted, IsFaultRecorded}
-use Rattle.script_laws.proofs.Among.{all_among, all_append, all_map, among_left, among_right}
+use Rattle.script_run.proofs.Carried.{all_append, all_as}
+use Rattle.script_run.proofs.Listed.{is_among}
+use Rattle.script_laws.proofs.Among.{among_left, among_right}
 use Rattle.script_laws.proofs.Losses.{traced_left, traced_right}
 use Rattle.script_laws.proofs.Groups.{EndIsRecorded, IsGroup, IsKept, TellsTraced, group}
 
@@ -31,8 +33,8 @@ joined : (p : Permit) (s : State) (a b : List Rec) (e : End) → IsGroup p s a e
 joined p s a b e first rest = record {
   kept = all_append (IsKept p) a b first.kept rest.kept;
   traced = all_append (TellsTraced s (a ++ b)) a b
-      (all_map (TellsTraced s a) (TellsTraced s (a ++ b)) a (told_left s a b) first.traced)
-      (all_map (TellsTraced (after_all s a) b) (TellsTraced s (a ++ b)) b (told_right s a b) rest.traced);
+      (all_as (TellsTraced s a) (TellsTraced s (a ++ b)) (told_left s a b) a first.traced)
+      (all_as (TellsTraced (after_all s a) b) (TellsTraced s (a ++ b)) (told_right s a b) b rest.traced);
 }
 
 first_then : (p : Permit) (s : State) (is : List Intent) (why : Option Reason) (added tail : List Rec) (between : Work) → Advances p s is why added between
@@ -46,7 +48,7 @@ walked {p} {s} {w} (more {rest = tail} added between one others) = first_then p 
 
 pub causes_are_traced : (p : Permit) (s : State) (intents : List Intent) (added : List Rec) (refused : Option Reason) → IsStep p s intents added refused
     → (r : Rec) (why : Cause) → IsAmong r added → cause_told r ≡ Some why → IsTraced s added why
-causes_are_traced p s intents added refused h r why among told = all_among (TellsTraced s added) added r (walked h.grows).traced among why told
+causes_are_traced p s intents added refused h r why among told = is_among (TellsTraced s added) r added (walked h.grows).traced among why told
 
 -- ---- refusals
 
@@ -126,4 +128,4 @@ pub fault_is_told : (p : Permit) (s : State) (intents : List Intent) (added : Li
     → IsAmong (rec.Fault count) added → IsFaultRecorded p s added count
 fault_is_told p s intents added refused count h among =
     let kept : AllByRecursion (IsKept p) added = (walked h.grows).kept in
-    record { recorded = among; counted = all_among (IsKept p) added (rec.Fault count) kept among; told = told_behind p s added count kept among }
+    record { recorded = among; counted = is_among (IsKept p) (rec.Fault count) added kept among; told = told_behind p s added count kept among }

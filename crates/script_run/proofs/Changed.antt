@@ -1,19 +1,15 @@
 -- Puts that changed in a list of puts.
-use Rattle.std.proofs.Common.{◌≡◌, ℕ, List, [], ◌∷◌, Bool, true, false, refl, sym, ◌∙◌, ap, subst, eqb-true}
+use Rattle.std.proofs.Common.{◌≡◌, ℕ, List, [], ◌∷◌, Bool, true, false, refl, sym, ◌∙◌, ap, subst}
 use Rattle.std.specs.Prelude.{Option, Some, None, if◌then◌else◌, find, cond, option_map, ◌==◌}
-use Rattle.std.proofs.lemmas.Bool.{eq-eqb}
 use Rattle.cache_model.specs.State.{State, PutRow, change_put, put_of}
-use Rattle.cache_model.proofs.Found.{no_truth, none_is, number_of, same_some}
+use Rattle.cache_model.proofs.Found.{none_is, number_of, same_some}
+use Rattle.script_run.proofs.Values.{other_than, value_by, value_here}
 
 -- a put, or what it was changed to
 abbrev pub changed : ℕ → (PutRow → PutRow) → PutRow → PutRow
 changed put f p = if p.put == put then f p else p
 
 module _ (put : ℕ) (f : PutRow → PutRow) (keeps : (p : PutRow) → (f p).put ≡ p.put) where
-  keeps_number : (p : PutRow) (b : Bool) → (if b then f p else p).put ≡ p.put
-  keeps_number p true = keeps p
-  keeps_number p false = refl
-
   found_by : (n : ℕ) (p q : PutRow) (other after : Option PutRow) (c : Bool) → (p.put == n) ≡ c → q ≡ changed put f p → after ≡ option_map (changed put f) other
       → cond c (Some q) after ≡ option_map (changed put f) (cond c (Some p) other)
   found_by n p q other after true e is rest = ap Some is
@@ -25,7 +21,7 @@ module _ (put : ℕ) (f : PutRow → PutRow) (keeps : (p : PutRow) → (f p).put
   found_changed n (p ∷ puts) =
       let q : PutRow = changed put f p in
       let after : Option PutRow = find (λ q. q.put == n) (change_put put f puts) in
-      ap (λ m. cond (m == n) (Some q) after) (keeps_number p (p.put == put))
+      ap (λ m. cond (m == n) (Some q) after) (value_by (λ (x : PutRow). x.put ≡ p.put) (f p) p p.put put (λ e. keeps p) (λ e. refl))
       ∙ found_by n p q (find (λ q. q.put == n) puts) after (p.put == n) refl refl (found_changed n puts)
 
 -- what was there before a change
@@ -56,28 +52,16 @@ changed_from s t put f n x c found = was_in (put_of s n) (changed put f) x (sym 
 
 -- ---- which put it was
 
-other_by : (f : PutRow → PutRow) (w : PutRow) (put : ℕ) (b : Bool) → (w.put == put) ≡ b → (w.put ≡ put → ⊥) → (if b then f w else w) ≡ w
-other_by f w put true e other = absurd (other (eqb-true w.put put e))
-other_by f w put false e other = refl
-
 pub other_stays : (put : ℕ) (f : PutRow → PutRow) (w : PutRow) → (w.put ≡ put → ⊥) → changed put f w ≡ w
-other_stays put f w other = other_by f w put (w.put == put) refl other
+other_stays put f w other = other_than (f w) w w.put put other
 
 -- what holds of a put that was changed, and of one that was not
-either_by : (P : PutRow → Type 0) (f : PutRow → PutRow) (w : PutRow) (put : ℕ) (b : Bool) → (w.put == put) ≡ b → (w.put ≡ put → P (f w)) → P w → P (if b then f w else w)
-either_by P f w put true e here there = here (eqb-true w.put put e)
-either_by P f w put false e here there = there
-
 pub either : (P : PutRow → Type 0) (put : ℕ) (f : PutRow → PutRow) (w : PutRow) → (w.put ≡ put → P (f w)) → P w → P (changed put f w)
-either P put f w here there = either_by P f w put (w.put == put) refl here there
+either P put f w here there = value_by P (f w) w w.put put here (λ e. there)
 
 -- the put of a number was found
 pub found_as : (s : State) (n put : ℕ) (w : PutRow) → put_of s n ≡ Some w → w.put ≡ put → put_of s put ≡ Some w
 found_as s n put w found is = subst (λ m. put_of s m ≡ Some w) (sym (number_of s n w found) ∙ is) found
 
-itself_by : (f : PutRow → PutRow) (w : PutRow) (put : ℕ) (b : Bool) → (w.put == put) ≡ b → w.put ≡ put → (if b then f w else w) ≡ f w
-itself_by f w put true e same = refl
-itself_by f w put false e same = no_truth (sym (eq-eqb w.put put same) ∙ e)
-
 pub itself : (put : ℕ) (f : PutRow → PutRow) (w : PutRow) → w.put ≡ put → changed put f w ≡ f w
-itself put f w same = itself_by f w put (w.put == put) refl same
+itself put f w same = value_here (f w) w w.put put same

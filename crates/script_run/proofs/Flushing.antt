@@ -169,9 +169,6 @@ record IsSaved (kind : Kind) (p : Permit) (s : State) (streams : ℕ → Stream)
   copied : IsCopied p s c
 
 -- it was given behind the records of others, which leave where the buffer begins
-given_before : (p : Permit) (s t : State) (row : Row) (bytes : List ℕ) → t.cursor ≡ s.cursor → IsGiven p t row bytes → IsGiven p s row bytes
-given_before p s t row bytes same g = record { written = omega (arith, same, g.written); given = g.given; whole = g.whole }
-
 are_saved : (kind : Kind) (p : Permit) (s t : State) (streams : ℕ → Stream) (left : ℕ) (rows : List Row) (outcomes : List Outcome) → t.cursor ≡ s.cursor
     → AllByRecursion (IsRow kind s streams) rows → AllByRecursion (IsFound s) rows → AreOutcomes p t left rows outcomes → AllByRecursion (IsSaved kind p s streams) (copies_of rows outcomes)
 are_saved kind p s t streams left [] outcomes same own live h = tt
@@ -179,7 +176,8 @@ are_saved kind p s t streams left (row ∷ rows) [] same own live h = tt
 are_saved kind p s t streams left (row ∷ rows) (NoRoom ∷ outcomes) same own live h =
     are_saved kind p s (after_all t (records_of row NoRoom)) streams left rows outcomes same own.1 live.1 h.1
 are_saved kind p s t streams left (row ∷ rows) (Copied bytes ∷ outcomes) same own live h = (
-  record { own = own.0; copied = record { live = live.0; given = given_before p s t row bytes same h.0.1; digest = h.0.2 } },
+  (let g : IsGiven p t row bytes = h.0.1 in
+      record { own = own.0; copied = record { live = live.0; given = record { written = omega (arith, same, g.written); given = g.given; whole = g.whole }; digest = h.0.2 } }),
   are_saved kind p s t streams (left - row.blocks) rows outcomes same own.1 live.1 h.1,
 )
 are_saved kind p s t streams left (row ∷ rows) (Spoiled found ∷ outcomes) same own live h =

@@ -2,6 +2,7 @@
 -- are those of that, or a copy shows two documents of one SHA-256.
 use Rattle.std.proofs.Common.{◌≡◌, ℕ, ◌≤◌, List, [], ◌∷◌, ◌++◌, length, refl, sym, subst, arith, inl, inr, ◌⊎◌, Bool, true, false}
 use Rattle.std.specs.Prelude.{Option, cond, filter}
+use Rattle.std.specs.List.{AllByRecursion}
 use Rattle.tape_base.specs.declared.geometries.Geometry.{Geometry}
 use Rattle.tape_base.specs.Geometry.{budget_of}
 use Rattle.fragment_table.specs.Table.{TableRow, total_length}
@@ -26,7 +27,7 @@ use Rattle.cache_model.proofs.Steps.{after_all-append}
 use Rattle.script_run.specs.Run.{Stream}
 use Rattle.script_run.specs.Own.{rows_from}
 use Rattle.script_run.proofs.Saying.{Kind}
-use Rattle.script_run.proofs.Carried.{same_carries}
+use Rattle.script_run.proofs.Carried.{all_append, same_carries}
 use Rattle.script_run.proofs.Flushing.{go_on, held_flushed, held_stopped}
 use Rattle.script_run.proofs.Held.{IsHeld, IsPlain, held_aborted, held_plain}
 use Rattle.script_run.proofs.Opened.{held_opened, held_read_opened, verdict_own}
@@ -84,8 +85,7 @@ module _ (kind : Kind) (g : Geometry) (streams : ℕ → Stream) where
 
   -- records that change no put
   abbrev AllPlain : List Rec → Type 0
-  AllPlain [] = Unit {0}
-  AllPlain (r ∷ recs) = IsPlain r × AllPlain recs
+  AllPlain recs = AllByRecursion IsPlain recs
 
   plain : (s : State) (recs : List Rec) → AllPlain recs → IsHeld kind g streams s → IsHeld kind g streams (after_all s recs)
   plain s [] p h = h
@@ -148,12 +148,8 @@ module _ (kind : Kind) (g : Geometry) (streams : ℕ → Stream) where
   answer_plain reader (next.Waited cut) = tt
   answer_plain reader (next.Broke why) = tt
 
-  plain_append : (a b : List Rec) → AllPlain a → AllPlain b → AllPlain (a ++ b)
-  plain_append [] b p q = q
-  plain_append (r ∷ a) b p q = (p.0, plain_append a b p.1 q)
-
   reads : (p : Permit) (s : State) (reader : ℕ) (answer : NextAnswer) (added : List Rec) → Legal.MayReadOn p s reader answer added → IsHeld kind g streams s → IsHeld kind g streams (after_all s added)
-  reads p s reader answer added m h = adds s added _ m.is (plain_append m.before _ (reading_plain p s m.r m.before answer m.right) (answer_plain reader answer, tt)) h
+  reads p s reader answer added m h = adds s added _ m.is (all_append IsPlain m.before _ (reading_plain p s m.r m.before answer m.right) (answer_plain reader answer, tt)) h
 
   -- ---- each group
 

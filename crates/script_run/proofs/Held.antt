@@ -1,6 +1,6 @@
 -- What each record makes of what stands.
 use Rattle.std.proofs.Common.{◌≡◌, ℕ, ◌+◌, ◌≤◌, List, [], ◌∷◌, length, refl, sym, ◌∙◌, ap, subst, arith, inl, inr, Bool, true, false}
-use Rattle.std.specs.Prelude.{Some, if◌then◌else◌, cond, find, not, ◌==◌}
+use Rattle.std.specs.Prelude.{Some, if◌then◌else◌, find, ◌==◌}
 use Rattle.std.specs.List.{AllByRecursion}
 use Rattle.tape_base.specs.declared.geometries.Geometry.{Geometry}
 use Rattle.fragment_table.specs.Table.{total_length}
@@ -13,7 +13,7 @@ use Rattle.cache_model.proofs.Rows.{part_all, part-filter}
 use Rattle.script_run.specs.Run.{Stream}
 use Rattle.script_run.specs.Own.{AreOwnPuts, IsComplete, IsOwnPut, IsOwnReader}
 use Rattle.script_run.proofs.Saying.{IsRow, Kind, Stands, stands_alike, rows_carried}
-use Rattle.script_run.proofs.Carried.{AreAlike, Carries, GoesOn, StaysWhole, put_stays, puts_stay, readers_carried, same_carries}
+use Rattle.script_run.proofs.Carried.{AreAlike, Carries, GoesOn, StaysWhole, all_filter, put_stays, puts_stay, readers_carried, same_carries}
 use Rattle.script_run.proofs.Changed.{Changes, Was, changed, changed_from, changed_to, either, found_as, other_stays}
 
 -- a put whose vector was placed last has cut all that its writer took
@@ -62,17 +62,9 @@ moved_by : (s : State) (r : ReaderRow) (next : ℕ) (b : Bool) → IsOwnReader s
 moved_by s r next true own = record { begun = own.begun; table = own.table }
 moved_by s r next false own = own
 
-readers_moved : (s : State) (reader next : ℕ) (readers : List ReaderRow) → AllByRecursion (IsOwnReader s) readers → AllByRecursion (IsOwnReader s) (change_reader reader next readers)
+pub readers_moved : (s : State) (reader next : ℕ) (readers : List ReaderRow) → AllByRecursion (IsOwnReader s) readers → AllByRecursion (IsOwnReader s) (change_reader reader next readers)
 readers_moved s reader next [] each = tt
 readers_moved s reader next (r ∷ readers) each = (moved_by s r next (r.reader == reader) each.0, readers_moved s reader next readers each.1)
-
-left_by : (s : State) (r : ReaderRow) (readers : List ReaderRow) (b : Bool) → IsOwnReader s r → AllByRecursion (IsOwnReader s) readers → AllByRecursion (IsOwnReader s) (cond b (r ∷ readers) readers)
-left_by s r readers true own each = (own, each)
-left_by s r readers false own each = each
-
-readers_left : (s : State) (reader : ℕ) (readers : List ReaderRow) → AllByRecursion (IsOwnReader s) readers → AllByRecursion (IsOwnReader s) (without_reader reader readers)
-readers_left s reader [] each = tt
-readers_left s reader (r ∷ readers) each = left_by s r (without_reader reader readers) (not (r.reader == reader)) each.0 (readers_left s reader readers each.1)
 
 -- the record changes no put, places nothing, opens nothing and commits nothing
 abbrev pub IsPlain : Rec → Type 0
@@ -115,7 +107,7 @@ held_plain kind g streams s (rec.Broke reader why) p h = h
 held_plain kind g streams s (rec.ReadClosed reader) p h =
     let t : State = state_after s (rec.ReadClosed reader) in
     held_readers kind g streams s (without_reader reader s.readers) s.next_reader (omega arith)
-    (readers_left t reader s.readers (readers_carried s t (same_carries s t refl refl refl) (omega arith) s.readers h.stands.readers)) h
+    (all_filter (IsOwnReader t) _ s.readers (readers_carried s t (same_carries s t refl refl refl) (omega arith) s.readers h.stands.readers)) h
 held_plain kind g streams s (rec.Fault count) p h = held_alike kind g streams s _ (alike_with s _ refl refl refl refl (part_all s.rows) refl refl) h.displaced h
 
 -- ---- a put changes
@@ -125,9 +117,6 @@ pub record IsChange (s : State) (put : ℕ) (f : PutRow → PutRow) (w : PutRow)
   pub number : (p : PutRow) → (f p).put ≡ p.put
   pub more : (p : PutRow) → length p.cuts ≤ length (f p).cuts
   pub writing : IsWriting s put w
-
-with_puts : (s : State) (puts : List PutRow) → State
-with_puts s puts = record s { puts = puts }
 
 module _ (s t : State) (put : ℕ) (f : PutRow → PutRow) (w : PutRow) (ch : IsChange s put f w) (c : Changes s t put f) where
   goes_on : (n : ℕ) (x : PutRow) → put_of s n ≡ Some x → GoesOn t n x

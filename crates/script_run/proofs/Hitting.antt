@@ -2,6 +2,7 @@
 use Rattle.std.proofs.Common.{◌≡◌, ℕ, List, [], ◌∷◌, ◌++◌, sym, ◌∙◌, ap, subst, refl, inl, inr, ◌⊎◌}
 use Rattle.std.specs.Prelude.{Option, Some, None, option_map, unwrap_or}
 use Rattle.std.specs.List.{AllByRecursion}
+use Rattle.std.proofs.lemmas.Option.{same_Some}
 use Rattle.tape_base.specs.declared.actors.Actor.{Actor}
 use Rattle.tape_base.specs.declared.keys.Key.{Key}
 use Rattle.alternate_vector.specs.Field.{Field}
@@ -65,19 +66,16 @@ verdict_put s key request put rows verdict =
 
 -- ---- what a lookup was answered
 
-some_is : (x y : ReadAnswer) → Some x ≡ Some y → x ≡ y
-some_is x y h = cc
-
 -- the verdict of the state before it, or a miss
 abbrev pub IsAnswer : State → Key → List Field → ReadAnswer → Type 0
 IsAnswer s key request answer = (lookup_verdict s key request ≡ answer) ⊎ ((why : Cause) × (answer ≡ read.Miss why))
 
 looked : (p : Permit) (s : State) (who : Actor) (key : Key) (request : List Field) (before : List Rec) (answer told : ReadAnswer) (rest : List Rec) → Legal.IsLookup p s key request before answer
     → lookup_in ((before ++ rec.ReadOpened s.next_reader who key request answer ∷ []) ++ rest) ≡ Some told → IsAnswer s key request told
-looked p s who key request before answer told rest (Legal.IsLookup.verdict r) h = inl (some_is (lookup_verdict s key request) told h)
-looked p s who key request before answer told rest (Legal.IsLookup.trouble row b why live (Given.Trouble.faulted count w m)) h = inr (_, sym (some_is (read.Miss (cause.DeviceFault count)) told h))
+looked p s who key request before answer told rest (Legal.IsLookup.verdict r) h = inl (same_Some (lookup_verdict s key request) told h)
+looked p s who key request before answer told rest (Legal.IsLookup.trouble row b why live (Given.Trouble.faulted count w m)) h = inr (_, sym (same_Some (read.Miss (cause.DeviceFault count)) told h))
 looked p s who key request before answer told rest (Legal.IsLookup.trouble row b why live (Given.Trouble.damaged found d)) h =
-    inr (_, sym (some_is (read.Miss (Given.damage_cause row row.digest found)) told h))
+    inr (_, sym (same_Some (read.Miss (Given.damage_cause row row.digest found)) told h))
 
 look : (p : Permit) (s : State) (actor : ℕ) (key : Key) (request : List Field) (added rest : List Rec) (e : End) (told : ReadAnswer) → Legal.DoesLook p s actor key request added e
     → lookup_in (added ++ rest) ≡ Some told → IsAnswer s key request told

@@ -1,4 +1,5 @@
 pub mod Finding
+pub mod Values
 pub mod Changed
 pub mod Cuts
 pub mod Carried

@@ -1,7 +1,8 @@
 -- What a key's vector lists, and what a new one is to list, are alternates of complete puts of the key.
 use Rattle.std.proofs.Common.{◌≡◌, ℕ, List, [], ◌∷◌, refl, sym, ◌∙◌, ap, subst, inl, inr, Bool, true, false}
-use Rattle.std.specs.Prelude.{Option, Some, None, if◌then◌else◌, cond, not, map, option_map, option_to_list, unwrap_or}
+use Rattle.std.specs.Prelude.{Option, Some, None, if◌then◌else◌, not, map, option_map, option_to_list, unwrap_or}
 use Rattle.std.specs.List.{AllByRecursion, filter}
+use Rattle.std.proofs.lemmas.Bool.{cond_both}
 use Rattle.tape_base.specs.declared.keys.Key.{Key}
 use Rattle.tape_base.specs.declared.pieces.PieceId.{PieceId}
 use Rattle.alternate_vector.specs.Alternates.{Stored, is_match, is_within, longest_within, merged, with_new}
@@ -9,10 +10,10 @@ use Rattle.alternate_vector.proofs.Loops.{each_push}
 use Rattle.cache_model.specs.State.{State, Row, LastVector, Complete, TakenOut, after_all, is_live, last_vector, list_among, list_of_last, list_of_row, row_in, state_after, vector_piece}
 use Rattle.cache_model.specs.Permit.{IsAmong}
 use Rattle.cache_model.specs.Room.{displaced_record}
+use Rattle.cache_model.proofs.Lists.{found_row, own_piece}
 use Rattle.cache_model.proofs.Rows.{part_all, part-filter, part-trans}
 use Rattle.script_run.specs.Own.{AreAlternates, AreListedOf, IsListedOf, IsTableOf}
-use Rattle.script_run.proofs.Carried.{AreAlike, alike_carries, all_append, all_as, all_part, listed_carried}
-use Rattle.script_run.proofs.Finding.{found_row, own_piece}
+use Rattle.script_run.proofs.Carried.{AreAlike, alike_carries, all_append, all_as, all_filter, all_part, listed_carried}
 
 -- ---- what a key's vector lists
 
@@ -48,27 +49,15 @@ is_among P x (y ∷ ys) each (inr among) = is_among P x ys each.1 among
 -- ---- what a new one is to list
 
 module _ (P : Stored → Type 0) where
-  filtered_by : (a : Stored) (alternates : List Stored) (b : Bool) → P a → AllByRecursion P alternates → AllByRecursion P (cond b (a ∷ alternates) alternates)
-  filtered_by a alternates true p each = (p, each)
-  filtered_by a alternates false p each = each
-
-  filtered : (test : Stored → Bool) (alternates : List Stored) → AllByRecursion P alternates → AllByRecursion P (filter test alternates)
-  filtered test [] each = tt
-  filtered test (a ∷ alternates) each = filtered_by a (filter test alternates) (test a) each.0 (filtered test alternates each.1)
-
-  longest_by : (a : Stored) (alternates longest : List Stored) (b : Bool) → AllByRecursion P (a ∷ alternates) → AllByRecursion P longest → AllByRecursion P (if b then a ∷ alternates else longest)
-  longest_by a alternates longest true each rest = each
-  longest_by a alternates longest false each rest = rest
-
   longest : (most bytes : ℕ) (alternates : List Stored) → AllByRecursion P alternates → AllByRecursion P (longest_within most bytes alternates)
   longest most bytes [] each = tt
   longest most bytes (a ∷ alternates) each =
-      longest_by a alternates (longest_within most bytes alternates) (is_within most bytes (a ∷ alternates)) each (longest most bytes alternates each.1)
+      cond_both (is_within most bytes (a ∷ alternates)) (a ∷ alternates) (longest_within most bytes alternates) (AllByRecursion P) (λ e. each) (λ e. longest most bytes alternates each.1)
 
   pub all_merged : (most bytes : ℕ) (before : List Stored) (new : Stored) → AllByRecursion P before → P new → AllByRecursion P (merged most bytes before new)
   all_merged most bytes before new each p =
       let kept : List Stored = filter (λ a. not (is_match new.request a)) before in
-      longest most bytes (with_new before new) (each_push P kept new (filtered (λ a. not (is_match new.request a)) before each) p)
+      longest most bytes (with_new before new) (each_push P kept new (all_filter P (λ a. not (is_match new.request a)) before each) p)
 
 -- ---- pieces that are displaced for it
 

@@ -1,6 +1,6 @@
 -- What only reads leaves what stands as it was.
-use Rattle.std.proofs.Common.{◌≡◌, ℕ, ◌+◌, ◌<◌, ◌≤◌, List, [], ◌∷◌, ◌++◌, refl, sym, ◌∙◌, ap, subst, arith, Bool, true, false}
-use Rattle.std.specs.Prelude.{Option, if◌then◌else◌, find, option_map, unwrap_or, ◌==◌, not}
+use Rattle.std.proofs.Common.{◌≡◌, ℕ, ◌+◌, ◌≤◌, List, [], ◌∷◌, ◌++◌, refl, sym, ◌∙◌, ap, subst, arith, true}
+use Rattle.std.specs.Prelude.{Option, option_map, unwrap_or}
 use Rattle.std.specs.List.{AllByRecursion}
 use Rattle.tape_base.specs.declared.digests.Digest.{Digest}
 use Rattle.tape_base.specs.declared.keys.Key.{Key}
@@ -16,7 +16,7 @@ use Rattle.cache_model.specs.declared.answer.NextAnswer.{NextAnswer}
 use Rattle.cache_model.specs.declared.answer.NextAnswer.TheVariants as next
 use Rattle.cache_model.specs.declared.record.Rec.{Rec}
 use Rattle.cache_model.specs.declared.record.Rec.TheVariants as rec
-use Rattle.cache_model.specs.State.{State, Row, PutRow, ReaderRow, after_all, change_reader, put_of, state_after, table_of_hit, without_reader}
+use Rattle.cache_model.specs.State.{State, Row, ReaderRow, after_all, state_after, table_of_hit}
 use Rattle.cache_model.specs.Verdict.{lookup_verdict}
 use Rattle.cache_model.specs.Permit.{Permit, Intent, Flush, Write, Fragment, Overflow, Weigh, Finish, Commit, GiveUp, Remove, Look, ReadOn, ReadAll, StopReading, End}
 use Rattle.cache_model.specs.Given
@@ -24,29 +24,15 @@ use Rattle.cache_model.specs.Legal
 use Rattle.cache_model.specs.Legal.{Does, answer_record}
 use Rattle.cache_model.proofs.Found.{no_truth}
 use Rattle.cache_model.proofs.Steps.{after_all-append}
-use Rattle.stripe_core.proofs.Going.{all_left}
 use Rattle.script_run.specs.Run.{Stream}
-use Rattle.script_run.specs.Own.{AreKept, AreOwn, IsListedOf, IsOwnPut, IsOwnReader, IsTableOf}
+use Rattle.script_run.specs.Own.{AreKept, AreOwn, IsListedOf, IsOwnReader, IsTableOf}
 use Rattle.script_run.specs.Laws.{is_reading}
-use Rattle.script_run.proofs.Carried.{Carries, listed_carried, reader_carried, same_carries, table_carried}
+use Rattle.script_run.proofs.Carried.{Carries, all_filter, puts_stay, readers_carried, same_carries, table_carried}
 use Rattle.script_run.proofs.Listed.{listed_table}
 use Rattle.script_run.proofs.Hitting.{IsHitOf, hit_listed, hit_of}
-use Rattle.script_run.proofs.Saying.{IsRow, Kind, Stands, alternates_of_rows, kept_kind, kept_stands, stands_kept}
+use Rattle.script_run.proofs.Saying.{IsRow, Kind, Stands, alternates_of_rows, kept_kind, kept_stands, rows_carried, stands_kept}
+use Rattle.script_run.proofs.Held.{readers_moved}
 use Rattle.script_run.proofs.Fragments.{own_kind, own_stands, stands_own}
-
--- ---- lists
-
-all_map : {X : Type 0} (P Q : X → Type 0) (xs : List X) → ((x : X) → P x → Q x) → AllByRecursion P xs → AllByRecursion Q xs
-all_map P Q [] f h = tt
-all_map P Q (x ∷ xs) f h = (f x h.0, all_map P Q xs f h.1)
-
-kept_by : (P : ReaderRow → Type 0) (b : Bool) (r : ReaderRow) (rs : List ReaderRow) → P r → AllByRecursion P rs → AllByRecursion P (if b then r ∷ rs else rs)
-kept_by P true r rs h k = (h, k)
-kept_by P false r rs h k = k
-
-all_without : (P : ReaderRow → Type 0) (reader : ℕ) (rs : List ReaderRow) → AllByRecursion P rs → AllByRecursion P (without_reader reader rs)
-all_without P reader [] h = tt
-all_without P reader (r ∷ rs) h = kept_by P (not (r.reader == reader)) r (without_reader reader rs) h.0 (all_without P reader rs h.1)
 
 -- ---- the puts, the geometry and the pending vector stay
 
@@ -56,40 +42,19 @@ record SameBase (s t : State) : Type 0 where
   geometry : t.geometry ≡ s.geometry
   pending : t.pending ≡ s.pending
 
-found_same : (s t : State) (put : ℕ) → SameBase s t → put_of t put ≡ put_of s put
-found_same s t put base = ap (λ (puts : List PutRow). find (λ (p : PutRow). p.put == put) puts) base.puts
-
-put_stays : (s t : State) (streams : ℕ → Stream) (w : PutRow) → SameBase s t → IsOwnPut s streams w → IsOwnPut t streams w
-put_stays s t streams w base own = record {
-  begun = subst (λ n. w.put < n) (sym base.next_put) own.begun;
-  cuts = rw base.geometry own.cuts;
-  whole = own.whole;
-  full = rw base.geometry own.full;
-}
-
 carries : (s t : State) → SameBase s t → Carries s t
 carries s t base = same_carries s t base.geometry base.puts base.pending
-
-row_stays : (kind : Kind) (s t : State) (streams : ℕ → Stream) (row : Row) → SameBase s t → IsRow kind s streams row → IsRow kind t streams row
-row_stays kind s t streams row base is =
-    (kind.carried s t (carries s t base) streams row is.0, listed_carried s t (carries s t base) row.id.first row.alternates is.1)
-
-reader_stays : (s t : State) (r : ReaderRow) → SameBase s t → s.next_reader ≤ t.next_reader → IsOwnReader s r → IsOwnReader t r
-reader_stays s t r base rises own = reader_carried s t (carries s t base) rises r own
 
 -- what stands is as it was, but for rows that went and for readers
 stands_on : (kind : Kind) (s t : State) (streams : ℕ → Stream) → SameBase s t → AllByRecursion (IsRow kind s streams) t.rows → AllByRecursion (IsOwnReader t) t.readers → Stands kind s streams → Stands kind t streams
 stands_on kind s t streams base rows readers own = record {
-  puts = λ put w found. put_stays s t streams w base (own.puts put w (sym (found_same s t put base) ∙ found));
-  rows = all_map (IsRow kind s streams) (IsRow kind t streams) t.rows (λ row. row_stays kind s t streams row base) rows;
+  puts = puts_stay s t streams base.geometry base.next_put base.puts own.puts;
+  rows = rows_carried kind s t (carries s t base) streams t.rows rows;
   readers = readers;
 }
 
-base : {s : State} → SameBase s s
-base = record { puts = refl; next_put = refl; geometry = refl; pending = refl }
-
 readers_stay : (kind : Kind) (s t : State) (streams : ℕ → Stream) → SameBase s t → s.next_reader ≤ t.next_reader → Stands kind s streams → AllByRecursion (IsOwnReader t) s.readers
-readers_stay kind s t streams same rises own = all_map (IsOwnReader s) (IsOwnReader t) s.readers (λ r. reader_stays s t r same rises) own.readers
+readers_stay kind s t streams same rises own = readers_carried s t (carries s t same) rises s.readers own.readers
 
 -- ---- each record
 
@@ -103,27 +68,19 @@ damaged_leaves : (kind : Kind) (s : State) (streams : ℕ → Stream) (piece : P
 damaged_leaves kind s streams piece place kept other own =
     let t : State = state_after s (rec.Damaged piece place kept other) in
     let same : SameBase s t = record { puts = refl; next_put = refl; geometry = refl; pending = refl } in
-    stands_on kind s t streams same (all_left (IsRow kind s streams) piece s.rows own.rows) (readers_stay kind s t streams same (omega arith) own) own
-
-moved_one : (s : State) (b : Bool) (next : ℕ) (r : ReaderRow) → IsOwnReader s r → IsOwnReader s (if b then record r { next = next } else r)
-moved_one s true next r own = record { begun = own.begun; table = own.table }
-moved_one s false next r own = own
-
-moved_all : (s : State) (reader next : ℕ) (rs : List ReaderRow) → AllByRecursion (IsOwnReader s) rs → AllByRecursion (IsOwnReader s) (change_reader reader next rs)
-moved_all s reader next [] own = tt
-moved_all s reader next (r ∷ rs) own = (moved_one s (r.reader == reader) next r own.0, moved_all s reader next rs own.1)
+    stands_on kind s t streams same (all_filter (IsRow kind s streams) _ s.rows own.rows) (readers_stay kind s t streams same (omega arith) own) own
 
 gave_leaves : (kind : Kind) (s : State) (streams : ℕ → Stream) (reader index length : ℕ) → Stands kind s streams → Stands kind (state_after s (rec.Gave reader index length)) streams
 gave_leaves kind s streams reader index length own =
     let t : State = state_after s (rec.Gave reader index length) in
     let same : SameBase s t = record { puts = refl; next_put = refl; geometry = refl; pending = refl } in
-    stands_on kind s t streams same own.rows (moved_all t reader (index + 1) s.readers (readers_stay kind s t streams same (omega arith) own)) own
+    stands_on kind s t streams same own.rows (readers_moved t reader (index + 1) s.readers (readers_stay kind s t streams same (omega arith) own)) own
 
 closed_leaves : (kind : Kind) (s : State) (streams : ℕ → Stream) (reader : ℕ) → Stands kind s streams → Stands kind (state_after s (rec.ReadClosed reader)) streams
 closed_leaves kind s streams reader own =
     let t : State = state_after s (rec.ReadClosed reader) in
     let same : SameBase s t = record { puts = refl; next_put = refl; geometry = refl; pending = refl } in
-    stands_on kind s t streams same own.rows (all_without (IsOwnReader t) reader s.readers (readers_stay kind s t streams same (omega arith) own)) own
+    stands_on kind s t streams same own.rows (all_filter (IsOwnReader t) _ s.readers (readers_stay kind s t streams same (omega arith) own)) own
 
 answered_leaves : (kind : Kind) (s : State) (streams : ℕ → Stream) (reader : ℕ) (answer : NextAnswer) → Stands kind s streams → Stands kind (state_after s (answer_record reader answer)) streams
 answered_leaves kind s streams reader (next.Gave index length) own = gave_leaves kind s streams reader index length own

@@ -1,5 +1,5 @@
 -- A put or a reader that opens leaves what stands.
-use Rattle.std.proofs.Common.{◌≡◌, ℕ, ◌+◌, ◌<◌, List, [], refl, sym, ap, subst, arith, Bool, true, false, eqb-true}
+use Rattle.std.proofs.Common.{◌≡◌, ℕ, ◌+◌, ◌<◌, List, [], refl, sym, ◌∙◌, ap, subst, arith}
 use Rattle.std.specs.Prelude.{Option, Some, None, cond, option_map, unwrap_or, ◌==◌}
 use Rattle.std.specs.List.{AllByRecursion}
 use Rattle.tape_base.specs.declared.actors.Actor.{Actor}
@@ -14,21 +14,19 @@ use Rattle.cache_model.specs.declared.record.Rec.TheVariants as rec
 use Rattle.cache_model.specs.State.{State, PutRow, alternates_of, opened_put, opened_reader, put_of, state_after, table_of_hit}
 use Rattle.cache_model.specs.Verdict.{followed, hit, hit_answer, follow_answer, lookup_verdict}
 use Rattle.cache_model.specs.Legal.{IsQuiet}
-use Rattle.cache_model.proofs.Found.{number_of, same_some}
+use Rattle.cache_model.proofs.Found.{number_of}
 use Rattle.cache_model.proofs.Answered.{hit_matches}
 use Rattle.script_run.specs.Run.{Stream}
 use Rattle.script_run.specs.Own.{AreOwnPuts, IsListedOf, IsOwnPut, IsOwnReader, IsTableOf}
 use Rattle.script_run.proofs.Saying.{alternates_of_rows, Kind, Stands, rows_carried}
 use Rattle.script_run.proofs.Cuts.{no_cuts}
+use Rattle.script_run.proofs.Finding.{found_by}
 use Rattle.script_run.proofs.Carried.{Carries, all_append, put_stays, readers_carried, same_carries, table_carried}
 use Rattle.script_run.proofs.Held.{IsHeld, held_readers, quiet_whole}
 use Rattle.script_run.proofs.Listed.{is_among, listed_among, listed_table}
+use Rattle.script_run.proofs.Values.{other_than}
 
 -- ---- a put
-
-above_by : (next n : ℕ) (b : Bool) → (next == n) ≡ b → n < next → b ≡ false
-above_by next n true e low = let same : next ≡ n = eqb-true next n e in absurd (omega (arith, same, low))
-above_by next n false e low = refl
 
 -- a put that was found before is found still
 module _ (s : State) (streams : ℕ → Stream) (new : PutRow) (number : new.put ≡ s.next_put) (own : AreOwnPuts s streams) where
@@ -36,11 +34,7 @@ module _ (s : State) (streams : ℕ → Stream) (new : PutRow) (number : new.put
   still n w found =
       let below : w.put < s.next_put = (own n w found).begun in
       let is : w.put ≡ n = number_of s n w found in
-      rw (above_by new.put n (new.put == n) refl (omega (arith, below, is, number))) found
-
-opened_by : (P : PutRow → Type 0) (new x : PutRow) (other : Option PutRow) (b : Bool) → P new → (other ≡ Some x → P x) → cond b (Some new) other ≡ Some x → P x
-opened_by P new x other true p rest found = subst P (same_some new x (Some new) refl found) p
-opened_by P new x other false p rest found = rest found
+      other_than (Some new) (put_of s n) new.put n (λ e. omega (arith, below, is, number, e)) ∙ found
 
 pub held_opened : (kind : Kind) (g : Geometry) (streams : ℕ → Stream) (s : State) (actor : Actor) (key : Key) (request response : List Field) (pin : ℕ) → IsQuiet s → IsHeld kind g streams s
     → IsHeld kind g streams (state_after s (rec.WriteOpened actor s.next_put key request response pin))
@@ -62,7 +56,7 @@ held_opened kind g streams s actor key request response pin quiet h =
     record {
       geometry = h.geometry;
       stands = record {
-        puts = λ n x found. opened_by (IsOwnPut t streams) new x (put_of s n) (new.put == n) own_new (λ before. put_stays s t streams x refl (omega arith) (h.stands.puts n x before)) found;
+        puts = λ n x found. found_by (IsOwnPut t streams) new x (put_of s n) (new.put == n) (λ e. own_new) (λ before. put_stays s t streams x refl (omega arith) (h.stands.puts n x before)) found;
         rows = rows_carried kind s t c streams s.rows h.stands.rows;
         readers = readers_carried s t c (omega arith) s.readers h.stands.readers;
       };

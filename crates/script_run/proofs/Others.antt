@@ -15,7 +15,7 @@ use Rattle.stripe_core.specs.Find.{IsDocumentOf}
 use Rattle.script_run.specs.Run.{Stream}
 use Rattle.script_run.specs.Own.{AreOwn, IsOtherFragment, IsOwnReader, IsTableOfHit, rows_from}
 use Rattle.script_run.proofs.Cuts.{row_at}
-use Rattle.script_run.proofs.Finding.{found_reader}
+use Rattle.script_run.proofs.Finding.{found_in}
 use Rattle.script_run.proofs.Reading.{read_is_own}
 
 -- the rows of a body tell each of its fragments
@@ -54,7 +54,7 @@ table_row s streams r entry (Some table) own some hit listed =
 next_listed : (s : State) (streams : ℕ → Stream) (reader : ℕ) (r : ReaderRow) (entry : TableRow) → AreOwn s streams → 0 < r.next
     → reader_of s reader ≡ Some r → next_row s r ≡ Some entry → entry ≡ row_at s.geometry.fragment (streams r.put).bytes r.next
 next_listed s streams reader r entry own some found next =
-    let o : IsOwnReader s r = found_reader (IsOwnReader s) reader s.readers r own.readers found in
+    let o : IsOwnReader s r = found_in (IsOwnReader s) _ s.readers r own.readers found in
     table_row s streams r entry r.table own some o.table next
 
 pub given_is_listed : (p : Permit) (s : State) (streams : ℕ → Stream) (reader : ℕ) (r : ReaderRow) (entry : TableRow) (row : Row) (size : ℕ) (into : List ℕ) → AreOwn s streams → 0 < r.next

@@ -1,7 +1,8 @@
 -- A fragment or a vector that is placed, and a put that is complete.
-use Rattle.std.proofs.Common.{◌≡◌, ℕ, ◌+◌, ◌-◌, ◌*◌, List, [], ◌∷◌, ◌++◌, length, refl, sym, ◌∙◌, ap, subst, arith, inl, inr, ◌⊎◌, Bool, true, false, length-append, eqb-true}
+use Rattle.std.proofs.Common.{◌≡◌, ℕ, ◌+◌, ◌-◌, ◌*◌, ◌≤◌, List, [], ◌∷◌, ◌++◌, length, refl, sym, ◌∙◌, ap, subst, arith, inl, inr, ◌⊎◌, false, length-append}
 use Rattle.std.specs.Prelude.{Option, Some, None, if◌then◌else◌, find, option_map, unwrap_or, ◌==◌}
 use Rattle.std.specs.List.{AllByRecursion}
+use Rattle.std.proofs.lemmas.Bool.{ne_eqb}
 use Rattle.std.proofs.lemmas.List.Sums.{sum_by_push}
 use Rattle.alternate_vector.proofs.Loops.{each_push}
 use Rattle.tape_base.specs.declared.digests.Digest.{Digest}
@@ -93,10 +94,6 @@ cut_stands kind s streams put index payload w n piece own =
     (record { number = λ p. refl; more = λ p. omega (arith, length-append p.cuts (row ∷ [])); writing = n.writing })
     (record { puts = refl; keeps = λ p. refl }) kind streams refl refl refl refl refl new own
 
-is_no_vector : (n : ℕ) (b : Bool) → (n + 1 == 0) ≡ b → b ≡ false
-is_no_vector n true e = let none : n + 1 ≡ 0 = eqb-true (n + 1) 0 e in absurd (omega (arith, none))
-is_no_vector n false e = refl
-
 -- the cut stands in every later state
 cut_found : (s : State) (put : ℕ) (row : TableRow) (w : PutRow) → put_of s put ≡ Some w
     → find (λ (q : PutRow). q.put == put) (change_put put (with_cut row) s.puts) ≡ Some (with_cut row w)
@@ -117,7 +114,7 @@ fragment_row kind g streams u put place blocks pin payload w x doc t geometry fo
     cut = omega (arith, count);
     digest = rw geometry (ap (λ (d : Doc). digest_of_document d payload) same ∙ ap (digest_of_document _) is);
   }),
-  subst (AreListedOf u w.key) (sym (ap (λ b. if b then Some (list_of_put t w.put) else None) (is_no_vector (length w.cuts) (is_vector (next_fragment_of w)) refl))) tt,
+  subst (AreListedOf u w.key) (sym (ap (λ b. if b then Some (list_of_put t w.put) else None) (ne_eqb (length w.cuts + 1) 0 (λ e. omega (arith, e))))) tt,
 )
 
 pub held_fragment : (kind : Kind) (g : Geometry) (streams : ℕ → Stream) (p : Permit) (s : State) (put index : ℕ) (payload : List ℕ) (added : List Rec) → IsPiece g.fragment streams put index payload
@@ -136,7 +133,7 @@ held_fragment kind g streams p s put index payload added piece m h =
     let u : State = state_after mid placed in
     let own : Stands kind t streams = cut_stands kind s streams put index payload w m.cut here h.stands in
     let d : AreDisplaced t mid = displaced_by p s t id m.displaced m.displaces (alternates_of_rows kind t streams t.rows own.rows) h.displaced in
-    let no_vector : is_vector id ≡ false = is_no_vector (length w.cuts) (is_vector id) refl in
+    let no_vector : is_vector id ≡ false = ne_eqb (length w.cuts + 1) 0 (λ e. omega (arith, e)) in
     let pending : u.pending ≡ mid.pending = ap (λ b. if b then Some id else mid.pending) no_vector in
     let found : put_of u w.put ≡ Some (with_cut entry w) =
     ap (find (λ (q : PutRow). q.put == w.put)) d.alike.puts ∙ subst (λ n. put_of t n ≡ Some (with_cut entry w)) (sym number) (cut_found s put entry w m.cut.writing.found) in
@@ -180,9 +177,6 @@ quiet_carries t piece place blocks digest pin quiet = record {
   puts = λ put w found. record { now = w; found = found; more = omega arith };
 }
 
-list_is : (t : State) (put : ℕ) (w : PutRow) → put_of t put ≡ Some w → list_of_put t put ≡ merged_list t w
-list_is t put w found = ap (λ (o : Option PutRow). unwrap_or (option_map (merged_list t) o) []) found
-
 pub held_vector : (kind : Kind) (g : Geometry) (streams : ℕ → Stream) (p : Permit) (s : State) (put fragments : ℕ) (added : List Rec)
     → total_length (rows_from g.fragment (streams put).bytes 1 fragments) ≡ length (streams put).bytes
     → Legal.MayPlaceVector p s put fragments added → IsHeld kind g streams s → IsHeld kind g streams (after_all s added)
@@ -212,7 +206,7 @@ held_vector kind g streams p s put fragments added whole m h =
     let before : AllByRecursion (IsListedOf u w.key) (list_among t (t.displaced ++ t.rows) w.key) =
     all_as (IsListedOf t w.key) (IsListedOf u w.key) (alternate_carried t u c w.key) (list_among t (t.displaced ++ t.rows) w.key) (listed_among t (t.displaced ++ t.rows) w.key rows) in
     let listed : AllByRecursion (IsListedOf u w.key) (list_of_put t put) =
-    subst (AllByRecursion (IsListedOf u w.key)) (sym (list_is t put w found)) (all_merged (IsListedOf u w.key) _ _ (list_among t (t.displaced ++ t.rows) w.key) (alternate_of w) before own_new) in
+    subst (AllByRecursion (IsListedOf u w.key)) (sym (ap (λ (o : Option PutRow). unwrap_or (option_map (merged_list t) o) []) found)) (all_merged (IsListedOf u w.key) _ _ (list_among t (t.displaced ++ t.rows) w.key) (alternate_of w) before own_new) in
     let row : IsRow kind u streams (placed_row t id (place_now s) blocks digest pin) =
     (kind.own u streams (placed_row t id (place_now s) blocks digest pin) (λ some. absurd (omega (arith, some))), listed) in
     let cut : total_length w.cuts ≡ length (streams w.put).bytes =
@@ -231,25 +225,9 @@ held_vector kind g streams p s put fragments added whole m h =
 
 -- ---- a put that is complete
 
-closes_by : (w : PutRow) (b : Bool) → w.writing ≡ Closed → (if b then with_writing Closed w else w).writing ≡ Closed
-closes_by w true closed = refl
-closes_by w false closed = closed
-
-same_cuts_by : (w : PutRow) (b : Bool) → (if b then with_writing Closed w else w).cuts ≡ w.cuts
-same_cuts_by w true = refl
-same_cuts_by w false = refl
-
-same_key_by : (w : PutRow) (b : Bool) → (if b then with_writing Closed w else w).key ≡ w.key
-same_key_by w true = refl
-same_key_by w false = refl
-
-same_alternate_by : (w : PutRow) (b : Bool) → alternate_of (if b then with_writing Closed w else w) ≡ alternate_of w
-same_alternate_by w true = refl
-same_alternate_by w false = refl
-
 module _ (s t : State) (put : ℕ) (w : PutRow) (found : put_of s put ≡ Some w) (waits : s.pending ≡ Some (vector_piece w.key put)) (c : Changes s t put (with_writing Closed)) where
   closes : (n : ℕ) (x : PutRow) → put_of s n ≡ Some x → (x.writing ≡ Closed) ⊎ (s.pending ≡ Some (vector_piece x.key n)) → (changed put (with_writing Closed) x).writing ≡ Closed
-  closes n x found_x (inl closed) = closes_by x (x.put == put) closed
+  closes n x found_x (inl closed) = either (λ (y : PutRow). y.writing ≡ Closed) put (with_writing Closed) x (λ e. refl) closed
   closes n x found_x (inr last) =
       let same : put ≡ n = ap (λ (o : Option PieceId). (unwrap_or o (vector_piece w.key put)).put) (sym waits ∙ last) in
       ap (λ (y : PutRow). y.writing) (itself put (with_writing Closed) x (number_of s n x found_x ∙ sym same))
@@ -260,14 +238,14 @@ module _ (s t : State) (put : ℕ) (w : PutRow) (found : put_of s put ≡ Some w
     whole = λ n x found_x complete. record {
       now = changed put (with_writing Closed) x;
       found = changed_to s t put (with_writing Closed) n x c found_x;
-      key = same_key_by x (x.put == put);
-      stands_for = same_alternate_by x (x.put == put);
+      key = either (λ (y : PutRow). y.key ≡ x.key) put (with_writing Closed) x (λ e. refl) refl;
+      stands_for = either (λ (y : PutRow). alternate_of y ≡ alternate_of x) put (with_writing Closed) x (λ e. refl) refl;
       complete = inl (closes n x found_x complete);
     };
     puts = λ n x found_x. record {
       now = changed put (with_writing Closed) x;
       found = changed_to s t put (with_writing Closed) n x c found_x;
-      more = omega (arith, ap length (same_cuts_by x (x.put == put)));
+      more = either (λ (y : PutRow). length x.cuts ≤ length y.cuts) put (with_writing Closed) x (λ e. omega arith) (omega arith);
     };
   }
 

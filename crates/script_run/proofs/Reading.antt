@@ -1,8 +1,9 @@
 -- What is read of a session's pieces is what was put.
-use Rattle.std.proofs.Common.{◌≡◌, ℕ, ◌-◌, ◌*◌, ◌<◌, ◌≤◌, List, [], ◌∷◌, length, take, refl, sym, ◌∙◌, ap, subst, arith, inl, inr, ◌⊎◌, Bool, true, false}
-use Rattle.std.specs.Prelude.{min, Option, Some, None, if◌then◌else◌, option_and_then, option_map, slice_get, unwrap_or}
+use Rattle.std.proofs.Common.{◌≡◌, ℕ, ◌-◌, ◌*◌, ◌<◌, ◌≤◌, List, [], length, take, refl, sym, ◌∙◌, ap, subst, arith, inl, inr, ◌⊎◌}
+use Rattle.std.specs.Prelude.{min, Option, Some, None, option_map, slice_get, unwrap_or}
 use Rattle.std.proofs.Math.Nat.{mul-le-mul_left, mul_comm}
 use Rattle.std.proofs.lemmas.List.{take_all}
+use Rattle.std.proofs.lemmas.Option.{cond_some, option_and_then_some, slice_get_cases}
 use Rattle.tape_base.specs.declared.geometries.Geometry.{Geometry}
 use Rattle.tape_base.specs.declared.pieces.PieceId.{PieceId}
 use Rattle.tape_base.proofs.DigestLaw.{digests_tell_lem}
@@ -14,12 +15,13 @@ use Rattle.cache_model.specs.Verdict.{cuts_of, next_piece, next_row}
 use Rattle.cache_model.specs.Permit.{Permit}
 use Rattle.cache_model.specs.Legal.{IsQuiet, format_records}
 use Rattle.cache_model.proofs.Found.{none_is, number_of}
+use Rattle.cache_model.proofs.Lists.{found_row, own_piece}
 use Rattle.stripe_core.specs.Find.{IsDocumentOf}
 use Rattle.script_run.specs.Run.{Stream}
 use Rattle.script_run.specs.Own.{AreKept, AreOwn, IsOtherFragment, IsOwnFragment, IsOwnPut, IsOwnReader, IsOwnRow, IsTableOf, IsTableOfHit, fragment_doc, fragment_document, piece_of}
 use Rattle.script_run.proofs.Cuts.{total_cuts}
 use Rattle.script_run.proofs.Fragments.{own_is_kept}
-use Rattle.script_run.proofs.Finding.{found_reader, found_row, own_piece}
+use Rattle.script_run.proofs.Finding.{found_in}
 
 pub formats_own : (s : State) (geometry : Geometry) (streams : ℕ → Stream) → AreOwn (after_all s (format_records geometry)) streams
 formats_own s geometry streams = record { puts = λ put w found. none_is found; rows = tt; readers = tt }
@@ -29,21 +31,13 @@ formats_keep s geometry streams = own_is_kept (after_all s (format_records geome
 
 -- ---- a fragment that was read
 
-live_by : (row first : Row) (b : Bool) → (if b then Some first else None) ≡ Some row → first ≡ row
-live_by row first true h = cc
-live_by row first false h = none_is h
-
-live_found : (s : State) (row : Row) (o : Option Row) → option_and_then (only_live s) o ≡ Some row → o ≡ Some row
-live_found s row None h = none_is h
-live_found s row (Some first) h = ap Some (live_by row first (is_live s first) h)
-
 record IsLiveRow (s : State) (streams : ℕ → Stream) (id : PieceId) (row : Row) : Type 0 where
   own : IsOwnRow s streams row
   piece : row.id ≡ id
 
 live_row : (s : State) (streams : ℕ → Stream) (id : PieceId) (row : Row) → AreOwn s streams → live_row_of s id ≡ Some row → IsLiveRow s streams id row
 live_row s streams id row own live =
-    let found : row_of s id ≡ Some row = live_found s row (row_of s id) live in
+    let found : row_of s id ≡ Some row = option_and_then_some (only_live s) (row_of s id) row live (λ x e is. e ∙ ap Some (cond_some (is_live s x) x row is).1) in
     record { own = found_row (IsOwnRow s streams) id s.rows row own.rows found; piece = own_piece id s.rows row found }
 
 pub read_is_own : (p : Permit) (s : State) (streams : ℕ → Stream) (r : ReaderRow) (row : Row) (size : ℕ) (into : List ℕ) → AreOwn s streams → 0 < r.next
@@ -64,13 +58,8 @@ read_is_own p s streams r row size into own some live d =
 
 -- ---- all that a table lists
 
-some_is : {X Y : Type 0} {x : X} → Some x ≡ None → Y
-some_is h = cc
-
 past : (table : List TableRow) (i : ℕ) → slice_get table i ≡ None → length table ≤ i
-past [] i h = omega arith
-past (row ∷ rows) Rattle.std.proofs.Common.zero h = some_is h
-past (row ∷ rows) (Rattle.std.proofs.Common.suc i) h = let rest : length rows ≤ i = past rows i h in omega arith
+past table i h = elim (slice_get_cases table i).1 [ inl within ↦ none_is (sym h ∙ within.2) | inr beyond ↦ beyond.0 ]
 
 record IsWhole (s : State) (streams : ℕ → Stream) (put : ℕ) (table : List TableRow) : Type 0 where
   total : length (streams put).bytes ≤ length table * s.geometry.fragment
@@ -100,7 +89,7 @@ pub kept_is_given : (s : State) (streams : ℕ → Stream) (reader : ℕ) (r : R
     → reader_of s reader ≡ Some r → r.table ≡ Some table → next_row s r ≡ None
     → take ((r.next - 1) * s.geometry.fragment) (streams r.put).bytes ≡ (streams r.put).bytes
 kept_is_given s streams reader r table kept quiet some found hit none =
-    let o : IsOwnReader s r = found_reader (IsOwnReader s) reader s.readers r kept.readers found in
+    let o : IsOwnReader s r = found_in (IsOwnReader s) _ s.readers r kept.readers found in
     let t : IsTableOf s r.put table = subst (IsTableOfHit s r) hit o.table in
     given_whole s streams r.put r.next table (closed_by s streams r.put table quiet kept t)
     (subst (λ (o : Option (List TableRow)). slice_get (unwrap_or o (cuts_of s r.put)) (r.next - 1) ≡ None) hit none)

@@ -30,7 +30,8 @@ use Rattle.script_run.proofs.Flushing.{go_on}
 use Rattle.script_run.proofs.Held.{IsHeld, quiet_whole}
 use Rattle.script_run.proofs.Grown.{AllFit, IsShownFrom, held_grown, held_write}
 use Rattle.script_run.proofs.Showing.{copy_shown, same_instead, same_with, shown_as}
-use Rattle.script_run.proofs.Streams.{stands_begins, stands_longer, stands_sealed, stands_shorter, stands_unsealed, value_here}
+use Rattle.script_run.proofs.Streams.{stands_begins, stands_longer, stands_sealed, stands_shorter, stands_unsealed}
+use Rattle.script_run.proofs.Values.{value_here}
 use Rattle.script_run.proofs.Fitting.{IsRest, all_fit_append, body_fits, closing_fits, cuts_fit}
 use Rattle.script_run.proofs.Ended.{EndsOrSeals, IsFoundOpen, close_ends, not_writing, open_row}
 
@@ -75,7 +76,7 @@ put_leaves kind ended run s turn key body request response sound none quiet stan
     let put : ℕ = s.next_put in
     let sealed : Stream = record { bytes = body; sealed = true } in
     let streams : ℕ → Stream = with_value run.streams put sealed in
-    let here : streams put ≡ sealed = value_here run.streams put sealed put refl in
+    let here : streams put ≡ sealed = value_here sealed (run.streams put) put put refl in
     let all : AllFit s.geometry.fragment streams (body_intents s.geometry.fragment put (streams put).bytes) =
     body_fits s.geometry.fragment streams put (ap (λ (x : Stream). x.sealed) here) in
     let fits : AllFit s.geometry.fragment streams (body_intents s.geometry.fragment put body) =
@@ -159,7 +160,7 @@ module _ (kind : Kind) (run : Run) (s : State) (turn : Turn) (body : List ℕ) (
   fed_open writing unsealed step =
       let f : IsFoundOpen s put = open_row s put writing in
       let streams : ℕ → Stream = with_value run.streams put longer in
-      let here : streams put ≡ longer = value_here run.streams put longer put refl in
+      let here : streams put ≡ longer = value_here longer (run.streams put) put put refl in
       let opens : (w : PutRow) → put_of s put ≡ Some w → w.writing ≡ Open = λ w found. subst (λ (x : PutRow). x.writing ≡ Open) (same_some f.w w (put_of s put) f.found found) f.is_open in
       let gathered : gathered_of run s put ++ body ≡ drop (length (cuts_of s put) * s.geometry.fragment) (streams put).bytes =
       gathered_is f.w f.found f.is_open unsealed ∙ ap (λ (x : Stream). drop (length (cuts_of s put) * s.geometry.fragment) x.bytes) (sym here) in
@@ -215,7 +216,7 @@ closed_leaves : (kind : Kind) (run : Run) (s : State) (turn : Turn) (put : ℕ) 
 closed_leaves kind run s turn put sound none quiet stands step =
     let sealed : Stream = record { bytes = (run.streams put).bytes; sealed = true } in
     let streams : ℕ → Stream = with_value run.streams put sealed in
-    let here : streams put ≡ sealed = value_here run.streams put sealed put refl in
+    let here : streams put ≡ sealed = value_here sealed (run.streams put) put put refl in
     let cut : ℕ = length (cuts_of s put) in
     let rest : gathered_of run s put ≡ drop (total_length (rows_from s.geometry.fragment (run.streams put).bytes 1 cut)) (run.streams put).bytes =
     ap (λ n. drop n (run.streams put).bytes) (rest_by kind run s put (put_of s put) refl stands) in

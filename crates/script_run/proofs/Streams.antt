@@ -2,7 +2,6 @@
 -- not cut that.
 use Rattle.std.proofs.Common.{◌≡◌, ℕ, ◌+◌, ◌*◌, ◌<◌, ◌≤◌, List, ◌++◌, length, take, refl, sym, ◌∙◌, ap, subst, arith, Bool, true, false, length-append, length-take, eqb-true}
 use Rattle.std.specs.Prelude.{min, Some, if◌then◌else◌, ◌==◌}
-use Rattle.std.proofs.lemmas.Bool.{eq-eqb}
 use Rattle.std.proofs.Math.Seq.{take-append-add}
 use Rattle.fragment_table.specs.Table.{total_length}
 use Rattle.cache_model.specs.State.{State, PutRow, Open, put_of}
@@ -12,6 +11,7 @@ use Rattle.script_run.specs.Own.{AreCuts, IsOwnPut}
 use Rattle.script_run.proofs.Saying.{AllTellAlike, Kind, Stands, TellAlike, IsRow}
 use Rattle.script_run.proofs.Cuts.{HaveCut, cuts_of_other, have_longer, have_same, have_shorter}
 use Rattle.script_run.proofs.Carried.{all_as}
+use Rattle.script_run.proofs.Values.{value_by, value_here}
 
 pub tells_itself : (s : State) (a : ℕ → Stream) (w : PutRow) → IsOwnPut s a w → TellAlike s.geometry.fragment w (a w.put) (a w.put)
 tells_itself s a w p = record { cut = have_same s.geometry.fragment (length w.cuts) (a w.put).bytes; within = p.cuts.within; whole = p.whole; full = p.full }
@@ -33,27 +33,16 @@ stands_told kind s a b told own = record {
 
 -- ---- one stream is another
 
-value_by : (P : Stream → Type 0) (x z : Stream) (m put : ℕ) (b : Bool) → (m == put) ≡ b → (m ≡ put → P x) → P z → P (if b then x else z)
-value_by P x z m put true e here there = here (eqb-true m put e)
-value_by P x z m put false e here there = there
-
 both_by : (P : Stream → Stream → Type 0) (x y z : Stream) (m put : ℕ) (b : Bool) → (m == put) ≡ b → (m ≡ put → P x y) → P (if b then x else z) (if b then x else z) → P (if b then x else z) (if b then y else z)
 both_by P x y z m put true e here there = here (eqb-true m put e)
 both_by P x y z m put false e here there = there
 
-here_by : (x z : Stream) (m put : ℕ) (b : Bool) → (m == put) ≡ b → m ≡ put → (if b then x else z) ≡ x
-here_by x z m put true e same = refl
-here_by x z m put false e same = no_truth (sym (eq-eqb m put same) ∙ e)
-
-pub value_here : (a : ℕ → Stream) (put : ℕ) (x : Stream) (m : ℕ) → m ≡ put → with_value a put x m ≡ x
-value_here a put x m same = here_by x (a m) m put (m == put) refl same
-
 -- the stream of one put is told otherwise
 pub stands_with : (kind : Kind) (s : State) (a : ℕ → Stream) (put : ℕ) (y : Stream) → ((w : PutRow) → put_of s put ≡ Some w → IsOwnPut s a w → w.put ≡ put → TellAlike s.geometry.fragment w (a w.put) y)
     → Stands kind s a → Stands kind s (with_value a put y)
-stands_with kind s a put y here own = stands_told kind s a (with_value a put y) (λ n w found. value_by (TellAlike s.geometry.fragment w (a w.put)) y (a w.put) w.put put (w.put == put) refl
+stands_with kind s a put y here own = stands_told kind s a (with_value a put y) (λ n w found. value_by (TellAlike s.geometry.fragment w (a w.put)) y (a w.put) w.put put
     (λ same. here w (subst (λ m. put_of s m ≡ Some w) (sym (number_of s n w found) ∙ same) found) (own.puts n w found) same)
-    (tells_itself s a w (own.puts n w found))) own
+    (λ other. tells_itself s a w (own.puts n w found))) own
 
 pub stands_instead : (kind : Kind) (s : State) (a : ℕ → Stream) (put : ℕ) (x y : Stream)
     → ((w : PutRow) → put_of s put ≡ Some w → AreCuts s.geometry.fragment x.bytes w.cuts → TellAlike s.geometry.fragment w x x → TellAlike s.geometry.fragment w x y)
@@ -62,8 +51,8 @@ stands_instead kind s a put x y here own = stands_told kind s (with_value a put 
     let itself : TellAlike s.geometry.fragment w (with_value a put x w.put) (with_value a put x w.put) = tells_itself s (with_value a put x) w (own.puts n w found) in
     both_by (TellAlike s.geometry.fragment w) x y (a w.put) w.put put (w.put == put) refl
     (λ same. here w (subst (λ m. put_of s m ≡ Some w) (sym (number_of s n w found) ∙ same) found)
-    (subst (λ (z : Stream). AreCuts s.geometry.fragment z.bytes w.cuts) (value_here a put x w.put same) (own.puts n w found).cuts)
-    (subst (λ (z : Stream). TellAlike s.geometry.fragment w z z) (value_here a put x w.put same) itself))
+    (subst (λ (z : Stream). AreCuts s.geometry.fragment z.bytes w.cuts) (value_here x (a w.put) w.put put same) (own.puts n w found).cuts)
+    (subst (λ (z : Stream). TellAlike s.geometry.fragment w z z) (value_here x (a w.put) w.put put same) itself))
     itself) own
 
 -- a put that has not begun has cut nothing
