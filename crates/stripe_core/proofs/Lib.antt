@@ -20,6 +20,7 @@ mod Puts
 mod Groups
 mod Fronts
 mod Lives
+pub mod Fitting
 mod Moving
 mod Takings
 mod Findings

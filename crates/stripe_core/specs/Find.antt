@@ -1,5 +1,5 @@
 -- What is found of a piece, and what is recorded where it is not.
-use Rattle.std.specs.Prelude.{ℕ, ◌≡◌, ◌≢◌, ◌*◌, List, [], ◌∷◌, length, take, Option, Some, None}
+use Rattle.std.specs.Prelude.{ℕ, ◌≡◌, ◌≢◌, ◌*◌, ◌≤◌, List, [], ◌∷◌, length, take, Option, Some, None, IfSome}
 use Rattle.tape_base.specs.declared.pieces.PieceId.{PieceId}
 use Rattle.tape_base.specs.declared.digests.Digest.{Digest}
 use Rattle.ats_disk.specs.Device.{State as Device}
@@ -9,7 +9,7 @@ use Rattle.cache_model.specs.declared.cause.Cause.TheVariants as cause
 use Rattle.cache_model.specs.declared.record.Rec.{Rec}
 use Rattle.cache_model.specs.declared.record.Rec.TheVariants as rec
 use Rattle.cache_model.specs.State.{Row, State, live_row_of}
-use Rattle.cache_model.specs.Verdict.{cause_of_piece}
+use Rattle.cache_model.specs.Verdict.{cause_of_piece, size_of}
 use Rattle.cache_model.specs.Permit.{DeviceRead, Permit}
 use Rattle.cache_model.specs.Given.{IsGiven, IsWritten, Trouble}
 use Rattle.stripe_core.specs.declared.refusal.Found.{Found}
@@ -31,6 +31,10 @@ found_records (Some row) (found.Missing why) = cause_records row why
 -- the same by the piece, which is live or not
 abbrev pub find_adds : State → PieceId → Found → List Rec
 find_adds s id answer = found_records (live_row_of s id) answer
+
+-- there is room in the bytes for the document of a piece, where it is live
+abbrev pub HasRoomFor : State → PieceId → List ℕ → Type 0
+HasRoomFor s id into = IfSome (size_of s id) (λ blocks. 512 * blocks ≤ length into)
 
 -- the blocks and the digest of a live piece
 pub record IsRecorded (s : State) (id : PieceId) (place blocks : ℕ) (digest : Digest) : Type 0 where

@@ -7,7 +7,7 @@ ghost use Rattle.cache_model.specs.Kept.{with_records};
 ghost use Rattle.ats_disk.specs.Device.{IsTold};
 ghost use Rattle.stripe_core.specs.Covers.{Uses};
 ghost use Rattle.stripe_core.specs.Damages.{TellNoDamage};
-ghost use Rattle.stripe_core.specs.Find.{Finds, IsJudged, IsRecorded, find_adds, judged_records};
+ghost use Rattle.stripe_core.specs.Find.{Finds, HasRoomFor, IsJudged, IsRecorded, find_adds, judged_records};
 
 use crate::refusal::Found;
 use crate::{Pieces, records};
@@ -28,12 +28,12 @@ impl<D: Disk, R: Directory + Drop, C: Chronicle> Pieces<D, R, C> {
     ghost use Rattle.stripe_core.specs.Pieces.{ArePieces, kept_of, live_place_of, seen_of, state_now};
     ghost use Rattle.stripe_core.specs.Stripe.{IsUnwritten};
 
-    /// Reads a live piece and brings its payload to the front of `into`, or tells why there is none.
-    /// Bytes that are not its own are recorded, and its entry goes.
+    /// Reads a live piece and brings its payload to the front of `into`, which has room for its blocks,
+    /// or tells why there is none. Bytes that are not its own are recorded, and its entry goes.
     pub fn find(&mut self, id: PieceId, into: &mut [u8]) -> Found
         requires pieces { ArePieces D.Disk R.Directory C.Chronicle self.old }
         requires record { 1 ≤ C.room self.old.chronicle }
-        requires into { length into.old ≡ 512 * budget_of (state_now C.Chronicle self.old).geometry }
+        requires into { HasRoomFor (state_now C.Chronicle self.old) id into.old }
         ensures pieces { ArePieces D.Disk R.Directory C.Chronicle self.new }
         ensures adds { kept_of C.Chronicle self.new
             ≡ with_records (kept_of C.Chronicle self.old) (find_adds (state_now C.Chronicle self.old) id result) }
@@ -54,7 +54,7 @@ impl<D: Disk, R: Directory + Drop, C: Chronicle> Pieces<D, R, C> {
     fn read(&mut self, id: PieceId, place: u64, into: &mut [u8]) -> Found
         requires pieces { ArePieces D.Disk R.Directory C.Chronicle self.old }
         requires record { 1 ≤ C.room self.old.chronicle }
-        requires into { length into.old ≡ 512 * budget_of (state_now C.Chronicle self.old).geometry }
+        requires into { HasRoomFor (state_now C.Chronicle self.old) id into.old }
         requires live { live_place_of (state_now C.Chronicle self.old) id ≡ Some place }
         ensures pieces { ArePieces D.Disk R.Directory C.Chronicle self.new }
         ensures adds { kept_of C.Chronicle self.new
@@ -106,7 +106,7 @@ impl<D: Disk, R: Directory + Drop, C: Chronicle> Pieces<D, R, C> {
         requires live { live_place_of (state_now C.Chronicle self.old) id ≡ Some place }
         requires some { 0 < blocks }
         requires within { 512 * blocks ≤ length into.old }
-        requires few { length into.old ≤ 2 ^ 31 }
+        requires few { 512 * blocks ≤ 2 ^ 31 }
         ensures pieces { ArePieces D.Disk R.Directory C.Chronicle self.new }
         ensures adds { kept_of C.Chronicle self.new ≡ with_records (kept_of C.Chronicle self.old) (judged_records id place result) }
         ensures judges { IsJudged place kept (take (512 * blocks) into.old) result into.new }
@@ -151,7 +151,7 @@ pub(crate) fn load<D: Disk, R: Directory + Drop>(
 fn bring_payload(bytes: &mut [u8], size: usize) -> u32
     requires header { 128 ≤ size }
     requires within { size ≤ length bytes.old }
-    requires few { length bytes.old ≤ 2 ^ 31 }
+    requires few { size ≤ 2 ^ 31 }
     ensures length { result ≡ length (payload_of (take size bytes.old)) }
     ensures front { take result bytes.new ≡ payload_of (take size bytes.old) }
 {

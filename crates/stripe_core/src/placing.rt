@@ -3,7 +3,6 @@ ghost use Rattle.std.specs.Prelude.{◌≡◌, ◌+◌, ◌*◌, ◌≤◌, ◌^
 ghost use Rattle.tape_base.specs.Digest.{digest_of};
 ghost use Rattle.tape_base.specs.Geometry.{budget_of};
 ghost use Rattle.cache_model.specs.Kept.{with_records};
-ghost use Rattle.cache_model.specs.Legal.{IsQuiet};
 ghost use Rattle.cache_model.specs.Room.{doc_at, has_room};
 ghost use Rattle.stripe_actors.specs.Actors.{AreActors};
 ghost use Rattle.stripe_due.specs.Finding.{most_passed};

@@ -1,18 +1,16 @@
 // The stripe: its pieces, and who writes and reads them.
-ghost use Rattle.std.specs.Prelude.{ℕ, ◌≡◌, ◌+◌, ◌*◌, ◌<◌, ◌≤◌, ◌^◌, true, false, [], IfOk, IfErr, IfSome, OnOk, OnErr, IsOk, length, if◌then◌else◌};
+ghost use Rattle.std.specs.Prelude.{ℕ, ◌≡◌, ◌+◌, ◌<◌, ◌≤◌, true, false, [], IfOk, IfErr, IfSome, OnOk, OnErr, IsOk, length, if◌then◌else◌};
 ghost use Rattle.tape_base.specs.Blocks.{blocks_of};
 ghost use Rattle.tape_base.specs.Geometry.{budget_of};
-ghost use Rattle.agg_buffer.specs.Buffer.{room_of};
 ghost use Rattle.cache_model.specs.State.{floor_now};
 ghost use Rattle.cache_model.specs.Kept.{all_of, with_records};
 ghost use Rattle.cache_model.specs.Legal.{IsQuiet, format_records};
 ghost use Rattle.cache_model.specs.Room.{has_room, is_flush_exhausted};
 ghost use Rattle.stripe_core.specs.Flush.{FlushesAsAsked, StopsWith, Tells};
 ghost use Rattle.cache_model.specs.Legal.{is_writing};
-ghost use Rattle.cache_model.specs.Verdict.{cuts_of};
 ghost use Rattle.stripe_actors.specs.Actors.{reader_room_of};
 ghost use Rattle.stripe_actors.specs.Calls.{with_room_of_readers};
-ghost use Rattle.stripe_core.specs.Find.{Finds, find_adds};
+ghost use Rattle.stripe_core.specs.Find.{Finds, HasRoomFor, find_adds};
 ghost use Rattle.stripe_core.specs.Place.{CutsAsAsked, IsFragmentOf, IsPlacing, IsVectorFor, PlacesAsAsked, PlacesVector, RoomsAsAsked};
 
 use crate::Pieces;
@@ -210,11 +208,11 @@ impl<D: Disk, R: Directory + Drop, C: Chronicle> Stripe<D, R, C> {
         }
     }
 
-    /// Reads a live piece and brings its payload to the front of `into`, or tells why there is none.
-    /// Bytes that are not its own are recorded, and its entry goes.
+    /// Reads a live piece and brings its payload to the front of `into`, which has room for its blocks,
+    /// or tells why there is none. Bytes that are not its own are recorded, and its entry goes.
     pub fn find_piece(&mut self, id: PieceId, into: &mut [u8]) -> Result<Found, AllocError>
         requires stripe { IsStripe D.Disk R.Directory C.Chronicle self.old }
-        requires into { length into.old ≡ 512 * budget_of (state_in C.Chronicle self.old).geometry }
+        requires into { HasRoomFor (state_in C.Chronicle self.old) id into.old }
         ensures stripe { IsStripe D.Disk R.Directory C.Chronicle self.new }
         ensures unharmed { StaysUnharmed D.Disk R.Directory C.Chronicle self.old self.new }
         ensures adds { IfOk result (λ found. kept_in C.Chronicle self.new

@@ -1,11 +1,9 @@
 // A reader is given the next fragment, or told why there is none.
 ghost use Rattle.std.specs.Prelude.{◌≡◌, ◌*◌, ◌≤◌, ◌⊎◌, ℕ, List, Some, None, IfOk, OnErr, length};
 ghost use Rattle.tape_base.specs.Geometry.{budget_of};
-ghost use Rattle.fragment_table.specs.Table.{TableRow};
 ghost use Rattle.cache_model.specs.Kept.{with_records};
 ghost use Rattle.cache_model.specs.Legal.{IsQuiet, most_fragments};
 ghost use Rattle.cache_model.specs.Verdict.{next_piece, next_row, verdict_at_end};
-ghost use Rattle.open_directory.specs.Directory.{table_row};
 ghost use Rattle.stripe_core.specs.Stripe.{IsStripe, kept_in, seen_in, state_in, units_in};
 ghost use Rattle.stripe_core.specs.Unharmed.{StaysUnharmed};
 ghost use Rattle.stripe_read.specs.Readers.{IsOpenReader, IsReaderOf, as_row, rows_in};

@@ -1,10 +1,10 @@
 // How a key's live vector is read.
-ghost use Rattle.std.specs.Prelude.{ℕ, ◌≡◌, ◌+◌, ◌*◌, ◌≤◌, IfOk, IfSome, IsSome, OnErr, None, Some, length, option_map, Ok};
-ghost use Rattle.tape_base.specs.Geometry.{budget_of};
-ghost use Rattle.alternate_vector.specs.Reading.{Gives, read_vector};
+ghost use Rattle.std.specs.Prelude.{ℕ, ◌≡◌, ◌+◌, ◌≤◌, IfOk, IfSome, IsSome, OnErr, None, Some, Ok};
+ghost use Rattle.alternate_vector.specs.Reading.{read_vector};
 ghost use Rattle.cache_model.specs.Kept.{with_records};
 ghost use Rattle.cache_model.specs.State.{live_row_of};
 ghost use Rattle.cache_model.specs.Verdict.{live_vector_of, vector_of};
+ghost use Rattle.stripe_core.specs.Find.{HasRoomFor};
 ghost use Rattle.stripe_core.specs.Stripe.{IsStripe, kept_in, room_for, seen_in, state_in, units_in};
 ghost use Rattle.stripe_core.specs.Unharmed.{StaysUnharmed};
 ghost use Rattle.stripe_vectors.specs.Reading.{FindsVector, listed_in, vector_adds};
@@ -90,12 +90,12 @@ fn read_live<D: Disk, R: Directory + Drop, C: Chronicle>(
     ensures unit { units_in stripe.old ≤ units_in stripe.new + 1 }
 {
     let alloc = stripe.alloc();
-    let budget = stripe.geometry().agg as usize / 2;
-    let mut into = vec![in alloc; 0; budget * BLOCK]?;
+    let blocks = stripe.chronicle().size_of(vector).unwrap();
+    let mut into = vec![in alloc; 0; blocks as usize * BLOCK]?;
     read_through(stripe, key, vector, &mut into)
 }
 
-// Reads through memory that has room for a piece.
+// Reads through memory that has room for the vector.
 fn read_through<D: Disk, R: Directory + Drop, C: Chronicle>(
     stripe: &mut Stripe<D, R, C>,
     key: Key,
@@ -104,7 +104,7 @@ fn read_through<D: Disk, R: Directory + Drop, C: Chronicle>(
 ) -> Result<KeyVector, AllocError>
     requires stripe { IsStripe D.Disk R.Directory C.Chronicle stripe.old }
     requires vector { vector_of (state_in C.Chronicle stripe.old) key ≡ Some vector }
-    requires into { length into.old ≡ 512 * budget_of (state_in C.Chronicle stripe.old).geometry }
+    requires into { HasRoomFor (state_in C.Chronicle stripe.old) vector into.old }
     requires live { IsSome (live_row_of (state_in C.Chronicle stripe.old) vector) }
     ensures stripe { IsStripe D.Disk R.Directory C.Chronicle stripe.new }
     ensures unharmed { StaysUnharmed D.Disk R.Directory C.Chronicle stripe.old stripe.new }

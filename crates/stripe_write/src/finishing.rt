@@ -1,7 +1,5 @@
 // How a put whose fragments are all cut is finished.
-ghost use Rattle.std.specs.Prelude.{◌≡◌, ◌+◌, ◌≤◌, ◌<◌, [], ◌∷◌, true, false, length, is_some, None, Some, IfOk, IfErr, OnOk, OnErr};
-ghost use Rattle.tape_base.specs.Blocks.{blocks_of};
-ghost use Rattle.tape_base.specs.Geometry.{budget_of};
+ghost use Rattle.std.specs.Prelude.{◌≡◌, ◌+◌, ◌≤◌, ◌<◌, [], ◌∷◌, true, false, length, None, Some, IfErr, OnOk, OnErr};
 ghost use Rattle.cache_model.specs.Kept.{with_records};
 ghost use Rattle.cache_model.specs.Legal.{IsQuiet, is_writing};
 ghost use Rattle.cache_model.specs.Room.{has_room};

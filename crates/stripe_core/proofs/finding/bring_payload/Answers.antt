@@ -15,7 +15,7 @@ copy_within-requires-clause-dest_in_bounds c =
 pub overflow_cast-result : goal.overflow_cast-result
 overflow_cast-result c =
     let fits : 128 + length c.payload-length.result.now ≤ c.args.size = payload_fits c.args.bytes.now c.payload-length.result.now c.args.size c.payload-length.ensures c.requires.header c.requires.within in
-    omega (arith, fits, c.requires.within, c.requires.few)
+    omega (arith, fits, c.requires.few)
 
 pub returns-clause-front : goal.returns-clause-front
 returns-clause-front c = ap (take (length c.payload-length.result.now)) c.copy_within.ensures.after ∙ payload_in_front c.args.bytes.now c.payload-length.result.now c.args.size c.payload-length.ensures c.requires.header c.requires.within

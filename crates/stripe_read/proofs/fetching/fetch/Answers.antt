@@ -3,12 +3,17 @@ use Rattle.cache_model.specs.State.{live_row_of}
 use Rattle.cache_model.specs.Kept.{state_of, with_records}
 use Rattle.stripe_core.specs.Find.{Finds, find_adds}
 use Rattle.stripe_core.specs.Stripe.{kept_in, seen_in, state_in}
+use Rattle.stripe_core.proofs.Fitting.{budget_has_room}
 use Rattle.stripe_read.specs.declared.fetching.Unlike.{Unlike}
 use Rattle.stripe_read.specs.Fetches.{Fetches, IsCompared, IsUnlike}
 use Rattle.stripe_read.proofs.Staying.{found_same}
 use Rattle.stripe_read.proofs.Comparing.{compared, found_size, missing, unlike_document}
 use Rattle.stripe_read.proofs.Harmless.{behind_unharmed}
 use Rattle.stripe_read.proofs.fetching.fetch.Goals as goal
+
+pub find_piece-requires-clause-into : goal.find_piece-requires-clause-into
+find_piece-requires-clause-into g c =
+    budget_has_room (state_in g.C.Chronicle c.args.stripe.now) (seen_in g.D.Disk g.R.Directory c.args.stripe.now) c.args.id c.args.into.now c.requires.stripe.pieces c.requires.into
 
 pub compare-requires-clause-within : goal.compare-requires-clause-within
 compare-requires-clause-within g c =
