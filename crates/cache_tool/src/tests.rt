@@ -412,14 +412,24 @@ impl Bay for FaultyBay {
     ghost came_back = { λ bay always. absurd (false≢true always) };
 }
 
+/// The outcome over devices that give other bytes, or of which the call of this number fails.
+fn over_faulty(
+    alloc: Global,
+    flips: bool,
+    nth: u64,
+    script: &str,
+) -> Result<(Status, Vec<u8>), AllocError> {
+    let mut bay = FaultyBay::new(alloc, flips, nth);
+    outcome(alloc, &PLAIN, script.as_bytes(), &mut bay)
+}
+
 #[test]
 fn other_bytes_than_were_put_are_damage_from_then_on(rt: HostRuntime) -> Result<(), Fail> {
-    let mut bay = FaultyBay::new(rt.alloc(), true, 0);
     let script = format!(in rt.alloc(); "{SMALL}put /a 61\nflush\nget /a\nput /b 62\n")?;
     let front = format!(in rt.alloc();
         "{FORMATTED}put 1 length 1 fragments 1\nflushed 2 cursor 66 floor 10\nmiss damaged 65 "
     )?;
-    let (status, output) = outcome(rt.alloc(), &PLAIN, script.as_bytes(), &mut bay)?;
+    let (status, output) = over_faulty(rt.alloc(), true, 0, script.as_str())?;
     assert_eq!(rt; status, Status::Done);
     assert!(rt; output.starts_with(front.as_bytes()));
     assert!(rt; output.ends_with(b"\nput 2 length 1 fragments 1\n"));
@@ -439,10 +449,9 @@ fn a_device_fault_is_answered_and_changes_nothing(rt: HostRuntime) -> Result<(),
         ),
     ];
     for (nth, answers) in rows {
-        let mut bay = FaultyBay::new(rt.alloc(), false, nth);
         let script = format!(in rt.alloc(); "{SMALL}put /a 61\nflush\nflush\nget /a\n")?;
         let answers = format!(in rt.alloc(); "{FORMATTED}put 1 length 1 fragments 1\n{answers}")?;
-        let (status, output) = outcome(rt.alloc(), &PLAIN, script.as_bytes(), &mut bay)?;
+        let (status, output) = over_faulty(rt.alloc(), false, nth, script.as_str())?;
         assert_eq!(rt; status, Status::Done);
         assert_eq!(rt; output.as_slice(), answers.as_bytes(), "call {nth} fails");
     }
@@ -497,14 +506,44 @@ fn what_the_device_refuses_to_give_for_a_copy_is_unsaved(rt: HostRuntime) -> Res
         (17, "device-fault 1\ngot 1 length 1 61\n"),
     ];
     for (nth, end) in rows {
-        let mut bay = FaultyBay::new(rt.alloc(), false, nth);
         let script = format!(in rt.alloc(); "{SMALL}{PINNED}{ROUND}get /a\n")?;
         let answers = format!(in rt.alloc();
             "{FORMATTED}{PINNED_ANSWERS}{ROUND_BUT_ONE_ANSWERS}{end}"
         )?;
-        let (status, output) = outcome(rt.alloc(), &PLAIN, script.as_bytes(), &mut bay)?;
+        let (status, output) = over_faulty(rt.alloc(), false, nth, script.as_str())?;
         assert_eq!(rt; status, Status::Done);
         assert_eq!(rt; output.as_slice(), answers.as_bytes(), "call {nth} fails");
+    }
+    Ok(())
+}
+
+#[test]
+fn other_bytes_that_the_device_gives_for_a_copy_are_damage(rt: HostRuntime) -> Result<(), Fail> {
+    // The eighth flush reads both pinned pieces, of which the reader is due the fragment too, and copies
+    // neither: the last buffer has the eight pieces of the last put alone. The digests are those of the
+    // documents, and of these with another first byte, by hashlib.
+    let rows = [
+        (
+            "",
+            "",
+            "get /a\n",
+            "miss damaged 65 4905c4e40f5df1ca0444566e524e7a5c898a7cc42360c5329da574bbe857c3f1 8f054ff56761af18e512aab72c7f73890bcc102005d264df6d5b5700bc40f337\n",
+        ),
+        (
+            "open-read r /a\n",
+            "hit 1 length 1\n",
+            "next r\n",
+            "broken damaged 64 709281884c7de710731f2663eafb10333ab7cf74a1c2455392801fef6a3e40ea 8effd235588f84f3e843ba3663d52b399789026a9fd34b491540457c5a3ade59\n",
+        ),
+    ];
+    for (opens, opened, reads, damaged) in rows {
+        let script = format!(in rt.alloc(); "{SMALL}{PINNED}{opens}{ROUND}{reads}flush\n")?;
+        let answers = format!(in rt.alloc();
+            "{FORMATTED}{PINNED_ANSWERS}{opened}{ROUND_BUT_ONE_ANSWERS}put 10 length 28 fragments 7\n{damaged}flushed 8 cursor 136 floor 80\n"
+        )?;
+        let (status, output) = over_faulty(rt.alloc(), true, 0, script.as_str())?;
+        assert_eq!(rt; status, Status::Done);
+        assert_eq!(rt; output.as_slice(), answers.as_bytes());
     }
     Ok(())
 }
