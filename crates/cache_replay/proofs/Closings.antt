@@ -12,15 +12,14 @@ use Rattle.cache_model.specs.State.{PutRow, State, after_all, fragment_piece, pu
 use Rattle.cache_model.specs.Kept.{Kept, state_of, with_records}
 use Rattle.cache_model.specs.Verdict.{cause_of_piece, cuts_of}
 use Rattle.cache_model.specs.Permit.{Commit, Done, End, Exhausted, Fails, Faulted, Finish, Intent, Lost, Permit, Reason, TooLarge, Weigh, to_do}
-use Rattle.cache_model.specs.Legal.{IsQuiet, IsStep, is_writing, nothing}
+use Rattle.cache_model.specs.Legal.{IsQuiet, IsStep, MayGrow, is_writing, nothing}
 use Rattle.stripe_core.specs.declared.refusal.Refusal.{Refusal}
 use Rattle.stripe_core.specs.declared.refusal.Refusal.TheVariants as refusal
 use Rattle.stripe_write.specs.declared.finishing.Receipt.{Receipt}
 use Rattle.stripe_write.specs.declared.writer.Writer.{Writer}
 use Rattle.stripe_write.specs.Writers.{IsWriterOf}
 use Rattle.stripe_write.specs.Closing.{SpendsAll, close_intents, rest_rows, rows_at_close}
-use Rattle.stripe_write.specs.Closes.{Closes as ClosesAs, ClosesAsAsked, ClosesWhere, IsRested, SealsWhere}
-use Rattle.stripe_write.proofs.Ended.{open_put}
+use Rattle.stripe_write.specs.Closes.{Closes as ClosesAs, ClosesAsAsked, ClosesWhere, IsComplete, IsRested, SealsWhere}
 use Rattle.stripe_write.proofs.Spending.{state_behind}
 use Rattle.script_lang.specs.declared.step.Step.TheVariants as step
 use Rattle.script_lang.specs.declared.answer.Refused.TheVariants as refused
@@ -34,10 +33,10 @@ use Rattle.script_run.specs.Answers.{put_said, said}
 use Rattle.script_run.specs.Takes.{IsOther}
 use Rattle.script_run.specs.Behind.{of_put, sealed_by, still_open, streams_behind, streams_closed}
 use Rattle.cache_replay.specs.Plays.{IsStreamOf}
-use Rattle.cache_replay.specs.Putting.{refusal_answer}
+use Rattle.cache_replay.specs.Putting.{receipt_answer, refusal_answer}
 use Rattle.cache_replay.specs.WriterLines.{Closes, IsPlayed, WriterDoes, WriterEnds, closed_answer}
 use Rattle.cache_replay.proofs.Calls.{call_covered, call_permit}
-use Rattle.cache_replay.proofs.WriterSteps.{LeftOpen, cuts_at, gathered_at, has_put, held_open, of_left, reason_of, whole_step}
+use Rattle.cache_replay.proofs.WriterSteps.{LeftOpen, cuts_at, gathered_at, has_put, held_open, key_at, of_left, reason_of, whole_step}
 use Rattle.cache_replay.proofs.Endings.{AreClosing, EndsInCommit, IsEnded, ended_along, key_of, rows_then}
 
 -- ---- what is asked
@@ -107,10 +106,24 @@ clashes : {P : Type 0} (b : Bool) → b ≡ false → b ≡ true → P
 clashes b nope yea = let clash : true ≡ false = sym yea ∙ nope in cc
 
 -- the cause of a fragment's loss, by the key of its writer
-cause_at : (t : State) (put index : ℕ) (key : Key) (o : Option PutRow) → option_map (λ (p : PutRow). p.key) o ≡ Some key
+pub cause_at : (t : State) (put index : ℕ) (key : Key) (o : Option PutRow) → option_map (λ (p : PutRow). p.key) o ≡ Some key
     → unwrap_or (option_map (λ (w : PutRow). cause_of_piece t (fragment_piece w.key put index)) o) Rattle.cache_model.specs.declared.cause.Cause.TheVariants.NeverPut ≡ cause_of_piece t (fragment_piece key put index)
 cause_at t put index key None h = cc
 cause_at t put index key (Some row) h = let same : row.key ≡ key = cc in ap (λ k. cause_of_piece t (fragment_piece k put index)) same
+
+-- the put behind what closing asks, as far as that came
+pub closing_ended : (p : Permit) (s : State) (w : Writer) (added : List Rec) (why : Option Reason) → is_writing s w.put ≡ true → IsWriterOf s w → MayGrow p s (to_do (close_intents w)) added (record { intents = []; refused = why })
+    → IsEnded why (after_all s added) w.put (rows_at_close w) (key_of s w.put)
+closing_ended p s w added why writing own grows =
+    let along = ended_along grows w.put (close_intents w) why refl refl (refl, closing_rest w w.gathered.items) (commit_rest w w.gathered.items) in
+    subst (λ rows. IsEnded why (after_all s added) w.put rows (key_of s w.put)) (rows_rest w (cuts_of s w.put) w.gathered.items ∙ ap (λ (rows : List TableRow). rows ++ rest_rows w.gathered.items) (cuts_at s w writing own)) along
+
+-- the answer to a put that is complete
+pub complete_said : (t : State) (w : Writer) (receipt : Receipt) (key : Option Key) → IsComplete w receipt → IsEnded None t w.put (rows_at_close w) key → put_said t w.put ≡ receipt_answer (Ok receipt)
+complete_said t w receipt key whole end =
+    ap (λ (rows : List TableRow). answer.Put w.put (total_length rows) (length rows)) end.1
+    ∙ (ap (λ q. answer.Put q (total_length (rows_at_close w)) (length (rows_at_close w))) (sym whole.put)
+    ∙ (ap (λ n. answer.Put receipt.put n (length (rows_at_close w))) (sym whole.bytes) ∙ ap (answer.Put receipt.put receipt.length) (sym whole.fragments)))
 
 module _ (now : ℕ) (old new : Kept) (before after : ℕ) (w last : Writer) (left : Option Writer)
     (quiet_then : IsQuiet (state_of new)) (writing : is_writing (state_of old) w.put ≡ true) (own : IsWriterOf (state_of old) w)
@@ -129,15 +142,7 @@ module _ (now : ℕ) (old new : Kept) (before after : ℕ) (w last : Writer) (le
 
   -- the put is complete, or given up, or was refused
   ended : (p : Permit) (added : List Rec) (why : Option Reason) → IsStep p s (close_intents w) added why → t ≡ after_all s added → IsEnded why t w.put (rows_at_close w) (key_of s w.put)
-  ended p added why legal there =
-      let along = ended_along legal.grows w.put (close_intents w) why refl refl (refl, closing_rest w w.gathered.items) (commit_rest w w.gathered.items) in
-      subst (λ x. IsEnded why x w.put (rows_at_close w) (key_of s w.put)) (sym there)
-      (subst (λ rows. IsEnded why (after_all s added) w.put rows (key_of s w.put)) (rows_rest w (cuts_of s w.put) w.gathered.items ∙ ap (λ (rows : List TableRow). rows ++ rest_rows w.gathered.items) (cuts_at s w writing own)) along)
-
-  key_at : key_of s w.put ≡ Some w.key
-  key_at =
-      let o = open_put (put_of s w.put) writing in
-      ap (λ (r : Option PutRow). option_map (λ (p : PutRow). p.key) r) o.1 ∙ ap (λ (k : Key). Some k) (own o.0 o.1 o.2).key_is
+  ended p added why legal there = subst (λ x. IsEnded why x w.put (rows_at_close w) (key_of s w.put)) (sym there) (closing_ended p s w added why writing own legal.grows)
 
   closed_moves : (result : Result Receipt Refusal) (e : End) (said_ : StepAnswer) (reads : List Rattle.cache_model.specs.Permit.DeviceRead) (added : List Rec) → new ≡ with_records old added
       → SpendsAll (call_permit now before after reads) s (close_intents w) added e
@@ -181,16 +186,14 @@ module _ (now : ℕ) (old new : Kept) (before after : ℕ) (w last : Writer) (le
   closes_line (Ok receipt) where_ does seals = either (Ok receipt) (answer.Put receipt.put receipt.length receipt.fragments) does (λ reads run name moment played closes.
       closed_moves (Ok receipt) Done (answer.Put receipt.put receipt.length receipt.fragments) reads closes.added closes.adds closes.does
       (λ end_ stream of o. clashes (is_writing t w.put) end_.0 o)
-      (λ end_. ap (λ (rows : List TableRow). answer.Put w.put (total_length rows) (length rows)) end_.1
-      ∙ (ap (λ n. answer.Put n (total_length (rows_at_close w)) (length (rows_at_close w))) (sym where_.1.put)
-      ∙ (ap (λ n. answer.Put receipt.put n (length (rows_at_close w))) (sym where_.1.bytes) ∙ ap (answer.Put receipt.put receipt.length) (sym where_.1.fragments)))) run name moment played)
+      (λ end_. complete_said t w receipt (key_of s w.put) where_.1 end_) run name moment played)
   closes_line (Err (refusal.VectorTooLarge size)) where_ does seals = either (Err (refusal.VectorTooLarge size)) (refusal_answer (refusal.VectorTooLarge size) None) does (λ reads run name moment played closes.
       closed_moves (Err (refusal.VectorTooLarge size)) (Fails (TooLarge w.put size)) (refusal_answer (refusal.VectorTooLarge size) None) reads closes.added closes.adds closes.does
       (λ end_ stream of o. clashes (is_writing t w.put) end_ o) (λ end_. refl) run name moment played)
   closes_line (Err (refusal.Lost index why)) where_ does seals = either (Err (refusal.Lost index why)) (refusal_answer (refusal.Lost index why) None) does (λ reads run name moment played closes.
       closed_moves (Err (refusal.Lost index why)) (Fails (Lost w.put index)) (refusal_answer (refusal.Lost index why) None) reads closes.added closes.adds closes.does
       (λ end_ stream of o. clashes (is_writing t w.put) end_.0 o)
-      (λ end_. ap (λ (c : Cause). answer.Refused (refused.Lost index c) None) (cause_at t w.put index w.key (put_of t w.put) (end_.1 ∙ key_at) ∙ sym where_.1)) run name moment played)
+      (λ end_. ap (λ (c : Cause). answer.Refused (refused.Lost index c) None) (cause_at t w.put index w.key (put_of t w.put) (end_.1 ∙ key_at s w writing own) ∙ sym where_.1)) run name moment played)
   closes_line (Err (refusal.DeviceFault count)) where_ does seals = either (Err (refusal.DeviceFault count)) (refusal_answer (refusal.DeviceFault count) None) does (λ reads run name moment played closes.
       closed_moves (Err (refusal.DeviceFault count)) (Fails (Faulted count)) (refusal_answer (refusal.DeviceFault count) None) reads closes.added closes.adds closes.does
       (λ end_ stream of o. sealed_stream stream w last of rested seals) (λ end_. refl) run name moment played)

@@ -26,8 +26,9 @@ use Rattle.script_run.specs.Answers as says
 use Rattle.script_run.specs.Behind.{still_open}
 use Rattle.script_run.specs.Laws.{StepsOwn}
 use Rattle.cache_replay.specs.declared.session.Part.{Part}
-use Rattle.cache_replay.specs.Session.{AreApart, IsActive}
-use Rattle.cache_replay.specs.ReaderLines.{PartEnds, PartMoves, PlaysPart, reader_held, slots_of}
+use Rattle.cache_replay.specs.Session.{AreApart, IsActive, slots_of}
+use Rattle.cache_replay.specs.Plays.{PartEnds, PartMoves, PlaysPart}
+use Rattle.cache_replay.specs.ReaderLines.{reader_held}
 use Rattle.cache_replay.proofs.ReaderFrames.{closed_leaves, kept_leaves}
 use Rattle.cache_replay.proofs.ReaderLines.{Goes, Took, apart_else, goes_active, held_reader, part_behind, line_ends, reads_none, still_held, still_moves, still_permit}
 
@@ -64,7 +65,7 @@ module _ {D R C : Type 0} (disk : DiskGhosts D) (directory : DirectoryGhosts R) 
       → n ≡ number_of before.names name → after.names ≡ with_actor before.names name → Took (slots_of before) (slots_of after) n r
       → kept_in chronicle new.stripe ≡ with_records (kept_in chronicle old.stripe) (rec.ReadClosed r.reader ∷ [])
       → ClosesAsAsked (state_in chronicle old.stripe) r → IsQuiet (state_in chronicle new.stripe) → IsActive disk directory chronicle old (slots_of before)
-      → (run : Run) → PlaysPart disk directory chronicle run old before → PartEnds disk directory chronicle run (state_in chronicle old.stripe) (step.Done name) new after answer.Done
+      → (run : Run) → PlaysPart chronicle run old before → PartEnds chronicle run (state_in chronicle old.stripe) (step.Done name) new after answer.Done
   done_ends tell own old new before after name n r number names taken adds closes quiet active run plays =
       let s : State = state_in chronicle old.stripe in
       let by : held_by run name ≡ Some (Reads r.reader) = (held_reader disk directory chronicle run old before name n r number taken.had plays).0 in
@@ -90,7 +91,7 @@ module _ {D R C : Type 0} (disk : DiskGhosts D) (directory : DirectoryGhosts R) 
   pub done_idle : (part : Part D R C) (before after : Seen Rattle.cache_replay.specs.declared.session.Holding.Holding) (name : List ℕ) (n : ℕ) (said : StepAnswer) → said ≡ says.idle
       → n ≡ number_of before.names name → after.names ≡ with_actor before.names name → ((m : ℕ) → slots_of after m ≡ slots_of before m) → None ≡ reader_held (slots_of before n)
       → IsActive disk directory chronicle part (slots_of before)
-      → (run : Run) → PlaysPart disk directory chronicle run part before → PartMoves disk directory chronicle run (state_in chronicle part.stripe) (step.Done name) part after said
+      → (run : Run) → PlaysPart chronicle run part before → PartMoves chronicle run (state_in chronicle part.stripe) (step.Done name) part after said
   done_idle part before after name n said is number names same none active run plays =
       let reads : reader_by run name ≡ None = reads_none disk directory chronicle run part before name n number none plays in
       still_moves disk directory chronicle run part before after (step.Done name) name n said refl number names same

@@ -1,5 +1,5 @@
 -- What a call does not speak of stays.
-use Rattle.std.proofs.Common.{◌≡◌, ℕ, refl, sym, ◌∙◌, ap, subst, Bool, true, false}
+use Rattle.std.proofs.Common.{◌≡◌, ℕ, refl, sym, ◌∙◌, ap, subst, Bool, true, false, ◌⊎◌, inl, inr}
 use Rattle.std.specs.Prelude.{Option, Some, None, IfSome, ◌==◌, if◌then◌else◌, option_map, unwrap_or}
 use Rattle.std.proofs.lemmas.Bool.{eqb-true}
 use Rattle.cache_model.proofs.Found.{same_some}
@@ -13,13 +13,13 @@ use Rattle.stripe_read.specs.Readers.{IsOpenReader, IsReaderOf}
 use Rattle.script_run.specs.Run.{Run}
 use Rattle.cache_replay.specs.declared.session.Holding.{Holding}
 use Rattle.cache_replay.specs.declared.session.Holding.TheVariants as holding
-use Rattle.cache_replay.specs.Session.{AreHeld, IsHeld, LeavesBut}
+use Rattle.cache_replay.specs.Session.{AreApart, AreHeld, Differ, IsHeld, LeavesBut}
 use Rattle.cache_replay.specs.Plays.{IsHeldAs}
 
--- ---- records of a call
+-- ---- what is there
 
-pub some_is : (X : Type 0) (x y : X) → Some x ≡ Some y → x ≡ y
-some_is X x y e = same_some x y (Some x) refl e
+pub some_is : {X : Type 0} (x y : X) → Some x ≡ Some y → x ≡ y
+some_is x y e = same_some x y (Some x) refl e
 
 -- ---- one writer, one reader
 
@@ -98,7 +98,7 @@ as_at : (b : Bool) (run new : Run) (s t : State) (m : ℕ) (x o : Option Holding
 as_at true run new s t m x o mine others = mine refl
 as_at false run new s t m x o mine others = others refl
 
-as_one : (run new : Run) (s t : State) (m : ℕ) (o : Option Holding) → new.held m ≡ run.held m → ((h : Holding) → o ≡ Some h → IsHeldAs run s m (Some h) → IsHeldAs new t m (Some h)) → IsHeldAs run s m o → IsHeldAs new t m o
+pub as_one : (run new : Run) (s t : State) (m : ℕ) (o : Option Holding) → new.held m ≡ run.held m → ((h : Holding) → o ≡ Some h → IsHeldAs run s m (Some h) → IsHeldAs new t m (Some h)) → IsHeldAs run s m o → IsHeldAs new t m o
 as_one run new s t m None same f own = same ∙ own
 as_one run new s t m (Some h) same f own = f h refl own
 
@@ -110,3 +110,43 @@ all_held_as put reader run later s t slots new n x leaves streams held changed o
     subst (IsHeldAs later t m) (sym (changed m))
     (as_at (m == n) run later s t m x (slots m) (λ yes. subst (λ k. IsHeldAs later t k x) (sym (eqb-true m n yes)) mine)
     (λ no. as_one run later s t m (slots m) (held m no) (λ h is own. held_as_stays put reader run later s t m h leaves streams (held m no) (others m h no is) own) (own m)))
+
+-- ---- no two actors have the same
+
+-- it is the writer of that put, or that reader
+abbrev pub IsMine : Option ℕ → Option ℕ → Holding → Type 0
+IsMine put reader (holding.Writer w) = put ≡ Some w.put
+IsMine put reader (holding.Reader r) = reader ≡ Some r.reader
+
+differs : (put reader : Option ℕ) (a b : Holding) → IsMine put reader a → IsElse put reader b → Differ a b
+differs put reader (holding.Writer w) (holding.Writer v) mine other = λ same. other (mine ∙ ap (λ (n : ℕ). Some n) same)
+differs put reader (holding.Reader r) (holding.Reader q) mine other = λ same. other (mine ∙ ap (λ (n : ℕ). Some n) same)
+differs put reader (holding.Writer w) (holding.Reader r) mine other = tt
+differs put reader (holding.Reader r) (holding.Writer w) mine other = tt
+
+swapped : (a b : Holding) → Differ a b → Differ b a
+swapped (holding.Writer w) (holding.Writer v) d = λ same. d (sym same)
+swapped (holding.Reader r) (holding.Reader q) d = λ same. d (sym same)
+swapped (holding.Writer w) (holding.Reader r) d = tt
+swapped (holding.Reader r) (holding.Writer w) d = tt
+
+-- a number of its own, or that one
+abbrev At : (slots : ℕ → Option Holding) → ℕ → ℕ → Option Holding → Holding → Type 0
+At slots n m x a = ((m ≡ n) × (x ≡ Some a)) ⊎ (((m == n) ≡ false) × (slots m ≡ Some a))
+
+at_by : (slots : ℕ → Option Holding) (n m : ℕ) (x : Option Holding) (a : Holding) (b : Bool) → (m == n) ≡ b → (if b then x else slots m) ≡ Some a → At slots n m x a
+at_by slots n m x a true e is = inl (eqb-true m n e, is)
+at_by slots n m x a false e is = inr (e, is)
+
+apart_by : (put reader : Option ℕ) (slots : ℕ → Option Holding) (n m k : ℕ) (x : Option Holding) (a b : Holding) → OthersElse slots n put reader → ((h : Holding) → x ≡ Some h → IsMine put reader h) → AreApart slots
+    → (m ≡ k → ⊥) → At slots n m x a → At slots n k x b → Differ a b
+apart_by put reader slots n m k x a b others mine apart differ (inl at) (inl too) = absurd (differ (at.0 ∙ sym too.0))
+apart_by put reader slots n m k x a b others mine apart differ (inl at) (inr too) = differs put reader a b (mine a at.1) (others k b too.0 too.1)
+apart_by put reader slots n m k x a b others mine apart differ (inr at) (inl too) = swapped b a (differs put reader b a (mine b too.1) (others m a at.0 at.1))
+apart_by put reader slots n m k x a b others mine apart differ (inr at) (inr too) = apart m k a b differ at.1 too.1
+
+-- no two actors have the same behind a line, where the one has nothing that another has
+pub all_apart : (put reader : Option ℕ) (slots new : ℕ → Option Holding) (n : ℕ) (x : Option Holding) → Changed slots new n x → OthersElse slots n put reader
+    → ((h : Holding) → x ≡ Some h → IsMine put reader h) → AreApart slots → AreApart new
+all_apart put reader slots new n x changed others mine apart = λ m k a b differ at too.
+    apart_by put reader slots n m k x a b others mine apart differ (at_by slots n m x a (m == n) refl (sym (changed m) ∙ at)) (at_by slots n k x b (k == n) refl (sym (changed k) ∙ too))

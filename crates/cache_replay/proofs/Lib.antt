@@ -9,8 +9,7 @@ mod Formats
 pub mod ReaderFrames
 pub mod ReaderLines
 mod OtherNext
-mod ReaderSessions
-mod WriterSessions
+mod OnPart
 mod DoneLine
 mod NextLine
 mod OpenLine

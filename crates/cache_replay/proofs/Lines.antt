@@ -1,5 +1,5 @@
 -- What a line on an actor's writer makes of the actors, and of the run.
-use Rattle.std.proofs.Common.{◌≡◌, ℕ, ◌+◌, ◌*◌, ◌<◌, ◌≤◌, List, [], ◌∷◌, ◌++◌, length, refl, sym, ◌∙◌, ap, subst, arith, Bool, true, false, cond, ◌⊎◌, inl, inr}
+use Rattle.std.proofs.Common.{◌≡◌, ℕ, ◌+◌, ◌<◌, ◌≤◌, List, [], ◌∷◌, ◌++◌, length, refl, sym, ◌∙◌, ap, subst, arith, Bool, true, false, cond, ◌⊎◌, inl, inr}
 use Rattle.std.specs.Prelude.{Option, Some, None, IfSome, ◌==◌, find, if◌then◌else◌, option_and_then, option_map, unwrap_or, is_some, Result, Ok, Err, IfOk}
 use Rattle.std.proofs.lemmas.Bool.{eqb-true, eq-eqb}
 use Rattle.cache_model.specs.State.{PutRow, State, after_all}
@@ -7,15 +7,13 @@ use Rattle.cache_model.specs.Verdict.{is_open}
 use Rattle.stripe_actors.specs.Actors.{FallBelow, put_numbers}
 use Rattle.cache_model.specs.Tape.{IsSound}
 use Rattle.cache_model.specs.Vectors.{AreTold, StepsTell}
-use Rattle.cache_model.specs.Legal.{IsQuiet, MayGrow, is_writing, nothing}
-use Rattle.cache_model.specs.Permit.{Intent, to_do}
+use Rattle.cache_model.specs.Legal.{IsQuiet, is_writing}
 use Rattle.tape_base.specs.declared.keys.Key.{Key}
 use Rattle.alternate_vector.specs.Field.{Field}
 use Rattle.stripe_write.specs.declared.writer.Writer.{Writer}
 use Rattle.stripe_write.specs.Writers.{IsWriterOf}
 use Rattle.stripe_write.specs.Others.{AddsOfPut, LeavesOthers, OthersStay}
 use Rattle.actor_table.specs.Table.{Seen, number_of, with_actor}
-use Rattle.tape_base.specs.Geometry.{budget_of}
 use Rattle.std.specs.Global.{Vec}
 use Rattle.std.proofs.lemmas.List.{length-append}
 use Rattle.ats_disk.specs.declared.device.Disk.{Ghosts as DiskGhosts}
@@ -27,63 +25,25 @@ use Rattle.script_lang.specs.declared.step.Step.{Step}
 use Rattle.script_lang.specs.declared.step.Step.TheVariants as step
 use Rattle.script_lang.specs.declared.answer.StepAnswer.{StepAnswer}
 use Rattle.script_lang.specs.declared.answer.StepAnswer.TheVariants as answer
-use Rattle.script_run.specs.Run.{Run, Reads, Stream, Writes, held_by, no_stream, put_in, with_value, writer_of}
+use Rattle.script_run.specs.Run.{Run, Reads, Stream, Writes, actor_of, held_by, no_stream, put_in, with_value, writer_of}
 use Rattle.script_run.specs.Run.{Holding as Held}
 use Rattle.script_run.specs.Asked.{asked}
 use Rattle.script_run.specs.Turn.{Turn}
-use Rattle.script_run.specs.Answers.{busy, idle, session_said, step_answer, step_said}
-use Rattle.script_run.specs.Behind.{after_step, behind, holds_behind, in_session, of_put, or_else, still_open, streams_behind, streams_closed, streams_fed, streams_opened, writer_at}
+use Rattle.script_run.specs.Answers.{busy, idle, session_said}
+use Rattle.script_run.specs.Behind.{behind, holds_behind, in_session, of_put, or_else, still_open, streams_behind, streams_closed, streams_fed, streams_opened, writer_at}
 use Rattle.script_run.specs.Own.{AreOwn}
-use Rattle.script_run.specs.Takes.{SessionTakes, StepShows, StepTakes, Takes}
+use Rattle.script_run.specs.Takes.{StepShows}
 use Rattle.script_run.specs.Laws.{StepsOwn}
 use Rattle.cache_replay.specs.declared.session.Holding.{Holding}
 use Rattle.cache_replay.specs.declared.session.Holding.TheVariants as holding
-use Rattle.cache_replay.specs.Session.{AreApart, AreHeld, Differ, IsActive, IsHeld, LeavesBut}
-use Rattle.cache_replay.specs.Plays.{IsHeldAs, IsStreamOf, PlaysIn}
-use Rattle.cache_replay.specs.WriterLines.{Closes, Feeds, GivesUp, Opens, HasNoWriter, IsLeft, IsPlayed, OpenDoes, PartEnds, PartPlays, TakesWriter, WriterDoes, WriterEnds, WriterLine, WriterMoves, held_in, slots_at, step_of, writes_in}
-use Rattle.cache_replay.proofs.Frames.{Changed, IsElse, OthersElse, SameStreams, all_held, all_held_as}
+use Rattle.cache_replay.specs.Session.{AreApart, AreHeld, Differ, IsActive, IsHeld, LeavesBut, slots_of}
+use Rattle.cache_replay.specs.Plays.{IsHeldAs, IsStreamOf, PartEnds, PlaysIn, PlaysPart}
+use Rattle.cache_replay.specs.WriterLines.{Closes, Feeds, GivesUp, Opens, HasNoWriter, IsLeft, IsPlayed, OpenDoes, TakesWriter, WriterDoes, WriterEnds, WriterLine, WriterMoves, held_in, step_of, writes_in}
+use Rattle.cache_replay.proofs.Frames.{Changed, IsElse, IsMine, OthersElse, SameStreams, all_apart, all_held, all_held_as}
 use Rattle.cache_replay.proofs.OnSession.{StandsBehind, stands_behind}
-use Rattle.cache_replay.proofs.ReaderLines.{still_permit, still_turn}
+use Rattle.cache_replay.proofs.ReaderLines.{held_is, names_are, part_behind, still_moves, still_turn}
 
 -- ---- what the actors have
-
--- it is the writer of that put, or that reader
-abbrev pub IsMine : Option ℕ → Option ℕ → Holding → Type 0
-IsMine put reader (holding.Writer w) = put ≡ Some w.put
-IsMine put reader (holding.Reader r) = reader ≡ Some r.reader
-
-differs : (put reader : Option ℕ) (a b : Holding) → IsMine put reader a → IsElse put reader b → Differ a b
-differs put reader (holding.Writer w) (holding.Writer v) mine other = λ same. other (mine ∙ ap (λ (n : ℕ). Some n) same)
-differs put reader (holding.Reader r) (holding.Reader q) mine other = λ same. other (mine ∙ ap (λ (n : ℕ). Some n) same)
-differs put reader (holding.Writer w) (holding.Reader r) mine other = tt
-differs put reader (holding.Reader r) (holding.Writer w) mine other = tt
-
-swapped : (a b : Holding) → Differ a b → Differ b a
-swapped (holding.Writer w) (holding.Writer v) d = λ same. d (sym same)
-swapped (holding.Reader r) (holding.Reader q) d = λ same. d (sym same)
-swapped (holding.Writer w) (holding.Reader r) d = tt
-swapped (holding.Reader r) (holding.Writer w) d = tt
-
--- a number of its own, or that one
-abbrev At : (slots : ℕ → Option Holding) → ℕ → ℕ → Option Holding → Holding → Type 0
-At slots n m x a = ((m ≡ n) × (x ≡ Some a)) ⊎ (((m == n) ≡ false) × (slots m ≡ Some a))
-
-at_by : (slots : ℕ → Option Holding) (n m : ℕ) (x : Option Holding) (a : Holding) (b : Bool) → (m == n) ≡ b → (if b then x else slots m) ≡ Some a → At slots n m x a
-at_by slots n m x a true e is = inl (eqb-true m n e, is)
-at_by slots n m x a false e is = inr (e, is)
-
-apart_by : (put reader : Option ℕ) (slots : ℕ → Option Holding) (n m k : ℕ) (x : Option Holding) (a b : Holding) → OthersElse slots n put reader → ((h : Holding) → x ≡ Some h → IsMine put reader h) → AreApart slots
-    → (m ≡ k → ⊥) → At slots n m x a → At slots n k x b → Differ a b
-apart_by put reader slots n m k x a b others mine apart differ (inl at) (inl too) = absurd (differ (at.0 ∙ sym too.0))
-apart_by put reader slots n m k x a b others mine apart differ (inl at) (inr too) = differs put reader a b (mine a at.1) (others k b too.0 too.1)
-apart_by put reader slots n m k x a b others mine apart differ (inr at) (inl too) = swapped b a (differs put reader b a (mine b too.1) (others m a at.0 at.1))
-apart_by put reader slots n m k x a b others mine apart differ (inr at) (inr too) = apart m k a b differ at.1 too.1
-
--- no two actors have the same behind a line, where the one has nothing that another has
-pub all_apart : (put reader : Option ℕ) (slots new : ℕ → Option Holding) (n : ℕ) (x : Option Holding) → Changed slots new n x → OthersElse slots n put reader
-    → ((h : Holding) → x ≡ Some h → IsMine put reader h) → AreApart slots → AreApart new
-all_apart put reader slots new n x changed others mine apart = λ m k a b differ at too.
-    apart_by put reader slots n m k x a b others mine apart differ (at_by slots n m x a (m == n) refl (sym (changed m) ∙ at)) (at_by slots n k x b (k == n) refl (sym (changed k) ∙ too))
 
 else_by : (w : Writer) (h : Holding) → Differ (holding.Writer w) h → IsElse (Some w.put) None h
 else_by w (holding.Writer v) d = λ same. let is : w.put ≡ v.put = cc in d is
@@ -163,26 +123,12 @@ others_are_older s slots n fall held = λ m h nope is. free_of s h (next_is_free
 
 -- ---- the steps of a line on a writer
 
-pub takes_is : (line : WriterLine) (run : Run) (turn : Turn) (name : List ℕ) (s : State) → run.state ≡ Some s → SessionTakes run s turn (step_of line name) → StepTakes run turn (step_of line name)
-takes_is (Feeds body) run turn name s h takes = subst (λ o. Takes run turn o (step.Feed name body)) (sym h) takes
-takes_is Closes run turn name s h takes = subst (λ o. Takes run turn o (step.Close name)) (sym h) takes
-takes_is GivesUp run turn name s h takes = subst (λ o. Takes run turn o (step.Abort name)) (sym h) takes
-takes_is (Opens key pin request response) run turn name s h takes = subst (λ o. Takes run turn o (step.OpenWrite name key pin request response)) (sym h) takes
-
-pub after_is : (line : WriterLine) (run : Run) (turn : Turn) (name : List ℕ) (s : State) → run.state ≡ Some s → after_step run turn (step_of line name) ≡ in_session run s (after_all s turn.added) turn (step_of line name)
-after_is (Feeds body) run turn name s h = ap (λ o. behind run turn o (step.Feed name body)) h
-after_is Closes run turn name s h = ap (λ o. behind run turn o (step.Close name)) h
-after_is GivesUp run turn name s h = ap (λ o. behind run turn o (step.Abort name)) h
-after_is (Opens key pin request response) run turn name s h = ap (λ o. behind run turn o (step.OpenWrite name key pin request response)) h
-
-pub says_is : (line : WriterLine) (run : Run) (turn : Turn) (name : List ℕ) (s : State) → run.state ≡ Some s → step_answer run turn (step_of line name) ≡ session_said run s (after_all s turn.added) turn (step_of line name)
-says_is (Feeds body) run turn name s h = ap (λ o. step_said run turn o (step.Feed name body)) h
-says_is Closes run turn name s h = ap (λ o. step_said run turn o (step.Close name)) h
-says_is GivesUp run turn name s h = ap (λ o. step_said run turn o (step.Abort name)) h
-says_is (Opens key pin request response) run turn name s h = ap (λ o. step_said run turn o (step.OpenWrite name key pin request response)) h
-
-pub shows_is : (line : WriterLine) (run : Run) (name : List ℕ) (s : State) → run.state ≡ Some s → StepShows run (Some s) (step_of line name) → StepShows run run.state (step_of line name)
-shows_is line run name s h shows = subst (λ o. StepShows run o (step_of line name)) (sym h) shows
+-- it is a line of that actor
+actor_is : (line : WriterLine) (name : List ℕ) → actor_of (step_of line name) ≡ Some name
+actor_is (Feeds body) name = refl
+actor_is Closes name = refl
+actor_is GivesUp name = refl
+actor_is (Opens key pin request response) name = refl
 
 -- what the actor has behind it, and what the others have
 held_at_name : (run : Run) (held : ℕ → Option Held) (n : ℕ) (name : List ℕ) (x : Option Held) → held ≡ with_value run.held (number_of run.actors name) x → n ≡ number_of run.actors name → held n ≡ x
@@ -191,20 +137,13 @@ held_at_name run held n name x is at = ap (λ (f : ℕ → Option Held). f n) is
 held_of_others : (run : Run) (held : ℕ → Option Held) (n m : ℕ) (name : List ℕ) (x : Option Held) → held ≡ with_value run.held (number_of run.actors name) x → n ≡ number_of run.actors name → (m == n) ≡ false → held m ≡ run.held m
 held_of_others run held n m name x is at nope = ap (λ (f : ℕ → Option Held). f m) is ∙ ap (λ (b : Bool). if b then x else run.held m) (ap (λ k. m == k) (sym at) ∙ nope)
 
-held_is : (line : WriterLine) (run : Run) (s t : State) (turn : Turn) (name : List ℕ)
-    → (in_session run s t turn (step_of line name)).held ≡ with_value run.held (number_of run.actors name) (holds_behind run s t (step_of line name) name)
-held_is (Feeds body) run s t turn name = refl
-held_is Closes run s t turn name = refl
-held_is GivesUp run s t turn name = refl
-held_is (Opens key pin request response) run s t turn name = refl
-
 held_here : (line : WriterLine) (run : Run) (s t : State) (turn : Turn) (name : List ℕ) (n : ℕ) → n ≡ number_of run.actors name
     → (in_session run s t turn (step_of line name)).held n ≡ holds_behind run s t (step_of line name) name
-held_here line run s t turn name n is = held_at_name run _ n name _ (held_is line run s t turn name) is
+held_here line run s t turn name n is = held_at_name run _ n name _ (held_is run s t (step_of line name) name (actor_is line name)) is
 
 held_there : (line : WriterLine) (run : Run) (s t : State) (turn : Turn) (name : List ℕ) (n m : ℕ) → n ≡ number_of run.actors name → (m == n) ≡ false
     → (in_session run s t turn (step_of line name)).held m ≡ run.held m
-held_there line run s t turn name n m is nope = held_of_others run _ n m name _ (held_is line run s t turn name) is nope
+held_there line run s t turn name n m is nope = held_of_others run _ n m name _ (held_is run s t (step_of line name) name (actor_is line name)) is nope
 
 -- of the streams that of the put alone is another
 same_with : (streams : ℕ → Stream) (put q : ℕ) (x : Stream) → (Some put ≡ Some q → ⊥) → with_value streams put x q ≡ streams q
@@ -309,11 +248,6 @@ none_written run s n (Some (holding.Writer w)) nope h = absurd nope
 none_written run s n (Some (holding.Reader r)) nope h =
     (ap (writes run) h.0, ap (still_open s) h.0 ∙ (ap (λ o. if is_some o then Some (Reads r.reader) else None) h.1.found ∙ sym h.0))
 
-pub record Idles (line : WriterLine) (run : Run) (name : List ℕ) (s : State) (new : ℕ → Option Holding) (said : StepAnswer) : Type 0 where
-  pub takes : SessionTakes run s (still_turn run.now) (step_of line name)
-  pub plays : PlaysIn (in_session run s s (still_turn run.now) (step_of line name)) s new
-  pub says : session_said run s s (still_turn run.now) (step_of line name) ≡ said
-
 given_none : (line : WriterLine) (run : Run) (s : State) (name : List ℕ) (turn : Turn) → turn.given ≡ [] → Rattle.script_run.specs.Takes.GivesOwn run s turn (step_of line name)
 given_none (Feeds body) run s name turn h = h
 given_none Closes run s name turn h = h
@@ -327,74 +261,9 @@ holds_same (Feeds body) run s name on h = h
 holds_same Closes run s name on h = h
 holds_same GivesUp run s name on h = h
 
-held_same : (line : WriterLine) (run : Run) (s : State) (name : List ℕ) (n m : ℕ) (b : Bool) → (m == n) ≡ b → n ≡ number_of run.actors name → holds_behind run s s (step_of line name) name ≡ held_by run name
-    → (in_session run s s (still_turn run.now) (step_of line name)).held m ≡ run.held m
-held_same line run s name n m true e is still =
-    let at : m ≡ n = eqb-true m n e in
-    held_here line run s s (still_turn run.now) name m (at ∙ is) ∙ (still ∙ ap run.held (sym (at ∙ is)))
-held_same line run s name n m false e is still = held_there line run s s (still_turn run.now) name n m is e
-
-as_same : (run later : Run) (s : State) (n : ℕ) (o : Option Holding) → later.held n ≡ run.held n → later.streams ≡ run.streams → IsHeldAs run s n o → IsHeldAs later s n o
-as_same run later s n None held streams h = held ∙ h
-as_same run later s n (Some (holding.Writer w)) held streams h = (held ∙ h.0, subst (λ (f : ℕ → Stream). IsStreamOf (f w.put) w) (sym streams) h.1)
-as_same run later s n (Some (holding.Reader r)) held streams h = (held ∙ h.0, h.1)
-
--- a line that asks nothing, changes no stream, and leaves its actor what it has
-idle_by : (line : WriterLine) (run : Run) (name : List ℕ) (s : State) (slots new : ℕ → Option Holding) (n : ℕ) (said : StepAnswer) → n ≡ number_of run.actors name → IsQuiet s
-    → asked run s (step_of line name) ≡ [] → streams_behind run s s (still_turn run.now) (step_of line name) ≡ run.streams → session_said run s s (still_turn run.now) (step_of line name) ≡ said
-    → holds_behind run s s (step_of line name) name ≡ held_by run name → ((m : ℕ) → new m ≡ slots m) → PlaysIn run s slots → Idles line run name s new said
-idle_by line run name s slots new n said is quiet none streams says holds same plays =
-    let st : Step = step_of line name in
-    record {
-      takes = record {
-        plain = refl;
-        moment = refl;
-        legal = record {
-          grows = subst (λ (asks : List Intent). MayGrow (still_permit run.now) s (to_do asks) [] (record { intents = []; refused = None })) (sym none) nothing;
-          quiet = quiet;
-        };
-        own = given_none line run s name (still_turn run.now) refl;
-      };
-      plays = record {
-        state = refl;
-        told = plays.told;
-        own = subst (AreOwn s) (sym streams) plays.own;
-        held = λ m. subst (IsHeldAs (in_session run s s (still_turn run.now) st) s m) (sym (same m))
-            (as_same run (in_session run s s (still_turn run.now) st) s m (slots m) (held_same line run s name n m (m == n) refl is holds) streams (plays.held m));
-      };
-      says = says;
-    }
-
-pub idles : (line : WriterLine) (run : Run) (name : List ℕ) (s : State) (slots new : ℕ → Option Holding) (n : ℕ) → IsOnWriter line → n ≡ number_of run.actors name → IsQuiet s → HasNoWriter (slots n)
-    → ((m : ℕ) → new m ≡ slots m) → PlaysIn run s slots → Idles line run name s new idle
-idles line run name s slots new n on is quiet nope same plays =
-    let none = none_written run s n (slots n) nope (plays.held n) in
-    let by = no_writer line run s s (still_turn run.now) name on (ap (λ k. option_and_then put_in (run.held k)) (sym is) ∙ none.0) in
-    idle_by line run name s slots new n idle is quiet by.0 by.1 by.2
-    (holds_same line run s name on (ap (λ k. still_open s (run.held k)) (sym is) ∙ (none.1 ∙ ap run.held is))) same plays
-
--- an actor that has something opens nothing
-busy_by : (run : Run) (name : List ℕ) (s : State) (key : Key) (pin : ℕ) (request response : List Field) (slots new : ℕ → Option Holding) (n : ℕ) (h : Held) → held_by run name ≡ Some h → n ≡ number_of run.actors name → IsQuiet s
-    → ((m : ℕ) → new m ≡ slots m) → PlaysIn run s slots → Idles (Opens key pin request response) run name s new busy
-busy_by run name s key pin request response slots new n h has is quiet same plays =
-    idle_by (Opens key pin request response) run name s slots new n busy is quiet (ap (λ o. Rattle.script_run.specs.Asked.if_free o (Rattle.cache_model.specs.Permit.Write (number_of run.actors name) key request response pin ∷ [])) has) (ap (λ o. streams_opened run s o) has)
-    (ap (λ o. Rattle.script_run.specs.Answers.if_free o (answer.Writer s.next_put)) has) (ap (λ o. or_else o (writer_at s s.next_put)) has ∙ sym has) same plays
-
 held_some : (run : Run) (s : State) (n : ℕ) (h : Holding) → IsHeldAs run s n (Some h) → (x : Held) × (run.held n ≡ Some x)
 held_some run s n (holding.Writer w) said_ = (Writes w.put, said_.0)
 held_some run s n (holding.Reader r) said_ = (Reads r.reader, said_.0)
-
-pub busies : (run : Run) (name : List ℕ) (s : State) (key : Key) (pin : ℕ) (request response : List Field) (slots new : ℕ → Option Holding) (n : ℕ) (h : Holding) → slots n ≡ Some h → n ≡ number_of run.actors name → IsQuiet s
-    → ((m : ℕ) → new m ≡ slots m) → PlaysIn run s slots → Idles (Opens key pin request response) run name s new busy
-busies run name s key pin request response slots new n h has is quiet same plays =
-    let x = held_some run s n h (subst (IsHeldAs run s n) has (plays.held n)) in
-    busy_by run name s key pin request response slots new n x.0 (ap run.held (sym is) ∙ x.1) is quiet same plays
-
-names_is : (line : WriterLine) (run : Run) (s t : State) (turn : Turn) (name : List ℕ) (names : List (List ℕ)) → with_actor run.actors name ≡ names → (in_session run s t turn (step_of line name)).actors ≡ names
-names_is (Feeds body) run s t turn name names h = h
-names_is Closes run s t turn name names h = h
-names_is GivesUp run s t turn name names h = h
-names_is (Opens key pin request response) run s t turn name names h = h
 
 -- ---- a part, and its actors
 
@@ -405,41 +274,35 @@ module _ {D R C : Type 0} (disk : DiskGhosts D) (directory : DirectoryGhosts R) 
   abbrev t : State
   t = state_in chronicle new.stripe
 
-  pub active_by : (put : ℕ) (left : Option Writer) → IsActive disk directory chronicle part (slots_at actors) → OthersElse (slots_at actors) n (Some put) None → Changed (slots_at actors) (slots_at last) n (held_in left)
+  pub active_by : (put : ℕ) (left : Option Writer) → IsActive disk directory chronicle part (slots_of actors) → OthersElse (slots_of actors) n (Some put) None → Changed (slots_of actors) (slots_of last) n (held_in left)
       → IsStripe disk directory chronicle new.stripe → IsQuiet t → new.page ≡ part.page → AddsOfPut put (kept_in chronicle part.stripe) (kept_in chronicle new.stripe) → IsLeft t put left
-      → IsActive disk directory chronicle new (slots_at last)
+      → IsActive disk directory chronicle new (slots_of last)
   active_by put left old others changed stripe quiet page adds is =
       let leaves : LeavesOthers put s t = stay put (kept_in chronicle part.stripe) (kept_in chronicle new.stripe) adds in
-      let behind = held_behind s t (slots_at actors) (slots_at last) n put left leaves changed others is old.held old.apart in
+      let behind = held_behind s t (slots_of actors) (slots_of last) n put left leaves changed others is old.held old.apart in
       record {
-        part = record {
-          stripe = stripe;
-          quiet = quiet;
-          page = ap (λ (p : Vec ℕ). length p.items) page ∙ (old.part.page ∙ ap (λ g. 512 * budget_of g) (sym leaves.geometry));
-        };
+        part = part_behind disk directory chronicle part new old.part stripe quiet (ap (λ (p : Vec ℕ). length p.items) page) leaves.geometry;
         held = behind.held;
         apart = behind.apart;
       }
 
   pub moves_by : (own : StepsOwn) (tell : StepsTell) (line : WriterLine) (run : Run) (name : List ℕ) (put : ℕ) (left : Option Writer) (said : StepAnswer) → n ≡ number_of actors.names name
-      → IsActive disk directory chronicle part (slots_at actors) → IsPutOf run s line name put → OthersElse (slots_at actors) n (Some put) None → Changed (slots_at actors) (slots_at last) n (held_in left)
-      → AddsOfPut put (kept_in chronicle part.stripe) (kept_in chronicle new.stripe) → last.names ≡ with_actor actors.names name → PartPlays chronicle run part actors
-      → WriterEnds run name s t line left said → PartEnds chronicle run (step_of line name) new last said
+      → IsActive disk directory chronicle part (slots_of actors) → IsPutOf run s line name put → OthersElse (slots_of actors) n (Some put) None → Changed (slots_of actors) (slots_of last) n (held_in left)
+      → AddsOfPut put (kept_in chronicle part.stripe) (kept_in chronicle new.stripe) → last.names ≡ with_actor actors.names name → PlaysPart chronicle run part actors
+      → WriterEnds run name s t line left said → PartEnds chronicle run s (step_of line name) new last said
   moves_by own tell line run name put left said is old of others changed adds names plays (inl moves) =
       let at : n ≡ number_of run.actors name = is ∙ ap (λ (all : List (List ℕ)). number_of all name) (sym plays.names) in
-      let after = after_is line run moves.turn name s plays.at.state in
-      elim (plays_on own tell line run name s t (slots_at actors) (slots_at last) n put left said at old.part.stripe.pieces.sound old.part.quiet of (stay put (kept_in chronicle part.stripe) (kept_in chronicle new.stripe) adds) changed others
+      elim (plays_on own tell line run name s t (slots_of actors) (slots_of last) n put left said at old.part.stripe.pieces.sound old.part.quiet of (stay put (kept_in chronicle part.stripe) (kept_in chronicle new.stripe) adds) changed others
       old.held plays.at moves) [
         | inl on ↦ inl (record {
           turn = moves.turn;
-          takes = takes_is line run moves.turn name s plays.at.state moves.takes;
-          plays = subst (λ r. PartPlays chronicle r new last) (sym after)
-              (record { names = names_is line run s (after_all s moves.turn.added) moves.turn name last.names (ap (λ (all : List (List ℕ)). with_actor all name) plays.names ∙ sym names); at = on });
-          says = says_is line run moves.turn name s plays.at.state ∙ (ap (λ x. session_said run s x moves.turn (step_of line name)) (sym moves.state) ∙ moves.says);
+          takes = moves.takes;
+          plays = record { names = names_are run s (after_all s moves.turn.added) moves.turn (step_of line name) name actors.names last.names (actor_is line name) plays.names names; at = on };
+          says = ap (λ x. session_said run s x moves.turn (step_of line name)) (sym moves.state) ∙ moves.says;
         })
-        | inr shows ↦ inr (shows_is line run name s plays.at.state shows)
+        | inr shows ↦ inr shows
       ]
-  moves_by own tell line run name put left said is old of others changed adds names plays (inr shows) = inr (shows_is line run name s plays.at.state shows)
+  moves_by own tell line run name put left said is old of others changed adds names plays (inr shows) = inr shows
 
   put_played : (line : WriterLine) (run : Run) (name : List ℕ) (w : Writer) → IsOnWriter line → IsPlayed run name s w → IsPutOf run s line name w.put
   put_played (Feeds body) run name w on played = played.held
@@ -449,60 +312,51 @@ module _ {D R C : Type 0} (disk : DiskGhosts D) (directory : DirectoryGhosts R) 
 
   pub ends_by : (own : StepsOwn) (tell : StepsTell) (line : WriterLine) (name : List ℕ) (w : Writer) (left : Option Writer) (answer : Option StepAnswer) (said : StepAnswer) → IsOnWriter line → answer ≡ Some said
       → n ≡ number_of actors.names name
-      → IsActive disk directory chronicle part (slots_at actors) → slots_at actors n ≡ Some (holding.Writer w) → Changed (slots_at actors) (slots_at last) n (held_in left)
+      → IsActive disk directory chronicle part (slots_of actors) → slots_of actors n ≡ Some (holding.Writer w) → Changed (slots_of actors) (slots_of last) n (held_in left)
       → AddsOfPut w.put (kept_in chronicle part.stripe) (kept_in chronicle new.stripe) → last.names ≡ with_actor actors.names name
-      → (now : ℕ) → WriterDoes now s t line w left answer → (run : Run) → run.now ≡ now → PartPlays chronicle run part actors → PartEnds chronicle run (step_of line name) new last said
+      → (now : ℕ) → WriterDoes now s t line w left answer → (run : Run) → run.now ≡ now → PlaysPart chronicle run part actors → PartEnds chronicle run s (step_of line name) new last said
   ends_by own tell line name w left None said on answered is old mine changed adds names now does = λ run moment plays. cc
   ends_by own tell line name w left (Some other) said on answered is old mine changed adds names now does = λ run moment plays.
       let same : other ≡ said = cc in
       let at : n ≡ number_of run.actors name = is ∙ ap (λ (all : List (List ℕ)). number_of all name) (sym plays.names) in
-      let played = is_played run name s (slots_at actors) n w at mine plays.at in
-      moves_by own tell line run name w.put left said is old (put_played line run name w on played) (others_else (slots_at actors) n w old.apart mine) changed adds names plays
+      let played = is_played run name s (slots_of actors) n w at mine plays.at in
+      moves_by own tell line run name w.put left said is old (put_played line run name w on played) (others_else (slots_of actors) n w old.apart mine) changed adds names plays
       (subst (WriterEnds run name s t line left) same (does run name moment played))
 
   -- an actor that has nothing opens a writer
   pub opens_by : (own : StepsOwn) (tell : StepsTell) (name : List ℕ) (key : Key) (pin : ℕ) (request response : List Field) (left : Option Writer) (answer : Option StepAnswer) (said : StepAnswer) → answer ≡ Some said
-      → n ≡ number_of actors.names name → IsActive disk directory chronicle part (slots_at actors) → slots_at actors n ≡ None → Changed (slots_at actors) (slots_at last) n (held_in left)
+      → n ≡ number_of actors.names name → IsActive disk directory chronicle part (slots_of actors) → slots_of actors n ≡ None → Changed (slots_of actors) (slots_of last) n (held_in left)
       → AddsOfPut s.next_put (kept_in chronicle part.stripe) (kept_in chronicle new.stripe) → last.names ≡ with_actor actors.names name
-      → OpenDoes s t n (Opens key pin request response) left answer → (run : Run) → PartPlays chronicle run part actors → PartEnds chronicle run (step.OpenWrite name key pin request response) new last said
+      → OpenDoes s t n (Opens key pin request response) left answer → (run : Run) → PlaysPart chronicle run part actors → PartEnds chronicle run s (step.OpenWrite name key pin request response) new last said
   opens_by own tell name key pin request response left None said answered is old free changed adds names does = λ run plays. cc
   opens_by own tell name key pin request response left (Some other) said answered is old free changed adds names does = λ run plays.
       let same : other ≡ said = cc in
       let at : n ≡ number_of run.actors name = is ∙ ap (λ (all : List (List ℕ)). number_of all name) (sym plays.names) in
       let none : held_by run name ≡ None = ap run.held (sym at) ∙ subst (IsHeldAs run s n) free (plays.at.held n) in
       moves_by own tell (Opens key pin request response) run name s.next_put left said is old (none, refl)
-      (others_are_older s (slots_at actors) n old.part.stripe.actors.puts_fall old.held) changed adds names plays
+      (others_are_older s (slots_of actors) n old.part.stripe.actors.puts_fall old.held) changed adds names plays
       (inl (subst (WriterMoves run name s t (Opens key pin request response) left) same (does run name none at)))
 
   -- an actor that has something opens none
-  pub busy_in : (name : List ℕ) (key : Key) (pin : ℕ) (request response : List Field) (h : Holding) → n ≡ number_of actors.names name → IsActive disk directory chronicle part (slots_at actors) → slots_at actors n ≡ Some h
-      → ((m : ℕ) → slots_at last m ≡ slots_at actors m) → last.names ≡ with_actor actors.names name → (run : Run) → PartPlays chronicle run part actors
-      → PartEnds chronicle run (step.OpenWrite name key pin request response) part last busy
+  pub busy_in : (name : List ℕ) (key : Key) (pin : ℕ) (request response : List Field) (h : Holding) → n ≡ number_of actors.names name → IsActive disk directory chronicle part (slots_of actors) → slots_of actors n ≡ Some h
+      → ((m : ℕ) → slots_of last m ≡ slots_of actors m) → last.names ≡ with_actor actors.names name → (run : Run) → PlaysPart chronicle run part actors
+      → PartEnds chronicle run s (step.OpenWrite name key pin request response) part last busy
   busy_in name key pin request response h is old has same names = λ run plays.
-      let line : WriterLine = Opens key pin request response in
-      let at : n ≡ number_of run.actors name = is ∙ ap (λ (all : List (List ℕ)). number_of all name) (sym plays.names) in
-      let none = busies run name s key pin request response (slots_at actors) (slots_at last) n h has at old.part.quiet same plays.at in
-      inl (record {
-        turn = still_turn run.now;
-        takes = takes_is line run (still_turn run.now) name s plays.at.state none.takes;
-        plays = subst (λ r. PartPlays chronicle r part last) (sym (after_is line run (still_turn run.now) name s plays.at.state))
-            (record { names = names_is line run s s (still_turn run.now) name last.names (ap (λ (all : List (List ℕ)). with_actor all name) plays.names ∙ sym names); at = none.plays });
-        says = says_is line run (still_turn run.now) name s plays.at.state ∙ none.says;
-      })
+      let x = held_some run s n h (subst (IsHeldAs run s n) has (plays.at.held n)) in
+      let by : held_by run name ≡ Some x.0 = ap run.held (ap (λ (all : List (List ℕ)). number_of all name) plays.names ∙ sym is) ∙ x.1 in
+      inl (still_moves disk directory chronicle run part actors last (step.OpenWrite name key pin request response) name n busy refl is names same
+      (ap (λ o. Rattle.script_run.specs.Asked.if_free o (Rattle.cache_model.specs.Permit.Write (number_of run.actors name) key request response pin ∷ [])) by) refl (ap (λ o. streams_opened run s o) by)
+      (ap (λ o. or_else o (writer_at s s.next_put)) by ∙ sym by) (ap (λ o. Rattle.script_run.specs.Answers.if_free o (answer.Writer s.next_put)) by) old.part.quiet plays)
 
   -- an actor that has no writer
-  pub idles_by : (line : WriterLine) (name : List ℕ) → IsOnWriter line → n ≡ number_of actors.names name → IsActive disk directory chronicle part (slots_at actors) → HasNoWriter (slots_at actors n)
-      → ((m : ℕ) → slots_at last m ≡ slots_at actors m) → last.names ≡ with_actor actors.names name → (run : Run) → PartPlays chronicle run part actors → PartEnds chronicle run (step_of line name) part last idle
+  pub idles_by : (line : WriterLine) (name : List ℕ) → IsOnWriter line → n ≡ number_of actors.names name → IsActive disk directory chronicle part (slots_of actors) → HasNoWriter (slots_of actors n)
+      → ((m : ℕ) → slots_of last m ≡ slots_of actors m) → last.names ≡ with_actor actors.names name → (run : Run) → PlaysPart chronicle run part actors → PartEnds chronicle run s (step_of line name) part last idle
   idles_by line name on is old nope same names = λ run plays.
       let at : n ≡ number_of run.actors name = is ∙ ap (λ (all : List (List ℕ)). number_of all name) (sym plays.names) in
-      let none = idles line run name s (slots_at actors) (slots_at last) n on at old.part.quiet nope same plays.at in
-      inl (record {
-        turn = still_turn run.now;
-        takes = takes_is line run (still_turn run.now) name s plays.at.state none.takes;
-        plays = subst (λ r. PartPlays chronicle r part last) (sym (after_is line run (still_turn run.now) name s plays.at.state))
-            (record { names = names_is line run s s (still_turn run.now) name last.names (ap (λ (all : List (List ℕ)). with_actor all name) plays.names ∙ sym names); at = none.plays });
-        says = says_is line run (still_turn run.now) name s plays.at.state ∙ none.says;
-      })
+      let none = none_written run s n (slots_of actors n) nope (plays.at.held n) in
+      let by = no_writer line run s s (still_turn run.now) name on (ap (λ k. option_and_then put_in (run.held k)) (sym at) ∙ none.0) in
+      inl (still_moves disk directory chronicle run part actors last (step_of line name) name n idle (actor_is line name) is names same by.0 (given_none line run s name (still_turn run.now) refl) by.1
+      (holds_same line run s name on (ap (λ k. still_open s (run.held k)) (sym at) ∙ (none.1 ∙ ap run.held at))) by.2 old.part.quiet plays)
 
 -- names do not become more than one more
 pub one_more : (names : List (List ℕ)) (name : List ℕ) → length (with_actor names name) ≤ length names + 1
@@ -522,27 +376,27 @@ ends_if (Ok said) answer P h ends = ends said h
 ends_if (Err e) answer P h ends = tt
 
 -- the writer that an actor has, also once it is numbered
-pub taken_writer : (actors numbered taken : Seen Holding) (n : ℕ) (w : Writer) → ((m : ℕ) → slots_at numbered m ≡ slots_at actors m) → TakesWriter numbered taken n (Some w) → slots_at actors n ≡ Some (holding.Writer w)
+pub taken_writer : (actors numbered taken : Seen Holding) (n : ℕ) (w : Writer) → ((m : ℕ) → slots_of numbered m ≡ slots_of actors m) → TakesWriter numbered taken n (Some w) → slots_of actors n ≡ Some (holding.Writer w)
 taken_writer actors numbered taken n w same takes = sym (same n) ∙ takes.0
 
-pub no_taken : (actors numbered taken : Seen Holding) (n : ℕ) → ((m : ℕ) → slots_at numbered m ≡ slots_at actors m) → TakesWriter numbered taken n None → HasNoWriter (slots_at actors n)
+pub no_taken : (actors numbered taken : Seen Holding) (n : ℕ) → ((m : ℕ) → slots_of numbered m ≡ slots_of actors m) → TakesWriter numbered taken n None → HasNoWriter (slots_of actors n)
 no_taken actors numbered taken n same takes = subst HasNoWriter (same n) takes.0
 
-pub none_changed : (actors numbered taken : Seen Holding) (n : ℕ) → ((m : ℕ) → slots_at numbered m ≡ slots_at actors m) → TakesWriter numbered taken n None → (m : ℕ) → slots_at taken m ≡ slots_at actors m
+pub none_changed : (actors numbered taken : Seen Holding) (n : ℕ) → ((m : ℕ) → slots_of numbered m ≡ slots_of actors m) → TakesWriter numbered taken n None → (m : ℕ) → slots_of taken m ≡ slots_of actors m
 none_changed actors numbered taken n same takes = λ m. takes.1 m ∙ same m
 
-pub given_back : (actors numbered taken last : Seen Holding) (n : ℕ) (w : Writer) (left : Option Writer) → ((m : ℕ) → slots_at numbered m ≡ slots_at actors m) → TakesWriter numbered taken n (Some w)
-    → ((m : ℕ) → slots_at last m ≡ (if m == n then held_in left else slots_at taken m)) → Changed (slots_at actors) (slots_at last) n (held_in left)
+pub given_back : (actors numbered taken last : Seen Holding) (n : ℕ) (w : Writer) (left : Option Writer) → ((m : ℕ) → slots_of numbered m ≡ slots_of actors m) → TakesWriter numbered taken n (Some w)
+    → ((m : ℕ) → slots_of last m ≡ (if m == n then held_in left else slots_of taken m)) → Changed (slots_of actors) (slots_of last) n (held_in left)
 given_back actors numbered taken last n w left same takes back = λ m. back m ∙ by m (m == n) refl
   where
-    by : (m : ℕ) (b : Bool) → (m == n) ≡ b → (if b then held_in left else slots_at taken m) ≡ (if b then held_in left else slots_at actors m)
+    by : (m : ℕ) (b : Bool) → (m == n) ≡ b → (if b then held_in left else slots_of taken m) ≡ (if b then held_in left else slots_of actors m)
     by m true e = refl
-    by m false e = takes.1 m ∙ (ap (λ (c : Bool). if c then None else slots_at numbered m) e ∙ same m)
+    by m false e = takes.1 m ∙ (ap (λ (c : Bool). if c then None else slots_of numbered m) e ∙ same m)
 
-pub given_new : (actors numbered last : Seen Holding) (n : ℕ) (left : Option Writer) → ((m : ℕ) → slots_at numbered m ≡ slots_at actors m)
-    → ((m : ℕ) → slots_at last m ≡ (if m == n then held_in left else slots_at numbered m)) → Changed (slots_at actors) (slots_at last) n (held_in left)
+pub given_new : (actors numbered last : Seen Holding) (n : ℕ) (left : Option Writer) → ((m : ℕ) → slots_of numbered m ≡ slots_of actors m)
+    → ((m : ℕ) → slots_of last m ≡ (if m == n then held_in left else slots_of numbered m)) → Changed (slots_of actors) (slots_of last) n (held_in left)
 given_new actors numbered last n left same back = λ m. back m ∙ by m (m == n)
   where
-    by : (m : ℕ) (b : Bool) → (if b then held_in left else slots_at numbered m) ≡ (if b then held_in left else slots_at actors m)
+    by : (m : ℕ) (b : Bool) → (if b then held_in left else slots_of numbered m) ≡ (if b then held_in left else slots_of actors m)
     by m true = refl
     by m false = same m

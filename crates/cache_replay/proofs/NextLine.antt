@@ -37,16 +37,14 @@ use Rattle.script_run.specs.Takes.{IsNextPiece, IsOther, IsPiece, Shows}
 use Rattle.cache_replay.specs.declared.session.Holding.{Holding}
 use Rattle.cache_replay.specs.declared.session.Holding.TheVariants as holding
 use Rattle.cache_replay.specs.declared.session.Part.{Part}
-use Rattle.cache_replay.specs.Session.{AreApart, IsActive, LeavesBut}
-use Rattle.cache_replay.specs.ReaderLines.{IsWithin, NextEnds, NextMoves, PartEnds, PartMoves, PlaysPart, next_answer, reader_held, slots_of}
+use Rattle.cache_replay.specs.Session.{AreApart, IsActive, LeavesBut, slots_of}
+use Rattle.cache_replay.specs.Plays.{PartEnds, PartMoves, PlaysPart}
+use Rattle.cache_replay.specs.ReaderLines.{IsWithin, NextEnds, NextMoves, next_answer, reader_held}
 use Rattle.cache_replay.proofs.Calls.{call_covered, call_permit}
 use Rattle.cache_replay.proofs.ReaderLines.{Goes, Took, apart_else, given_back, held_reader, line_ends, line_turn, reads_none, still_held, still_moves, still_turn}
+use Rattle.cache_replay.proofs.WholeReads.{later_none}
 
 -- ---- what the reader was told
-
-later_none : (o : Option Rec) → later None o ≡ o
-later_none None = refl
-later_none (Some r) = refl
 
 told_cause : (row : Row) (why : Cause) (last : List Rec) → told_in (cause_records row why ++ last) ≡ told_in last
 told_cause row cause.NeverPut last = refl
@@ -157,7 +155,7 @@ if_then P Q (Err e) f h = h
 module _ {D R C : Type 0} (disk : DiskGhosts D) (directory : DirectoryGhosts R) (chronicle : ChronicleGhosts C) where
   -- what is asked is that of the actor's reader
   next_asks : (run : Run) (part : Part D R C) (before : Seen Holding) (name : List ℕ) (n : ℕ) (r : Reader) → n ≡ number_of before.names name → slots_of before n ≡ Some (holding.Reader r)
-      → PlaysPart disk directory chronicle run part before → asks.asked run (state_in chronicle part.stripe) (step.Next name) ≡ ReadOn r.reader ∷ []
+      → PlaysPart chronicle run part before → asks.asked run (state_in chronicle part.stripe) (step.Next name) ≡ ReadOn r.reader ∷ []
   next_asks run part before name n r number had plays =
       let by = held_reader disk directory chronicle run part before name n r number had plays in
       ap (λ (o : Option ℕ). asks.if_has o (λ reader. ReadOn reader ∷ [])) (ap (option_and_then reader_in) by.0)
@@ -167,13 +165,13 @@ module _ {D R C : Type 0} (disk : DiskGhosts D) (directory : DirectoryGhosts R) 
       → later.reader ≡ r.reader → Goes r.reader (state_in chronicle old.stripe) (state_in chronicle new.stripe) (slots_of before) (slots_of after) n (Some later)
       → IsActive disk directory chronicle old (slots_of before) → IsQuiet (state_in chronicle new.stripe)
       → ((run : Run) → AreOwn (state_in chronicle old.stripe) run.streams → IsReaderOf (state_in chronicle old.stripe) r → NextEnds run (state_in chronicle old.stripe) (state_in chronicle new.stripe) r later said)
-      → (run : Run) → PlaysPart disk directory chronicle run old before → PartEnds disk directory chronicle run (state_in chronicle old.stripe) (step.Next name) new after said
+      → (run : Run) → PlaysPart chronicle run old before → PartEnds chronicle run (state_in chronicle old.stripe) (step.Next name) new after said
   next_line_ends tell own old new before after name n r later said number names had same goes active quiet ends run plays =
       let s : State = state_in chronicle old.stripe in
       let by = held_reader disk directory chronicle run old before name n r number had plays in
       let reads : reader_by run name ≡ Some r.reader = ap (option_and_then reader_in) by.0 in
       let asked_is : asks.asked run s (step.Next name) ≡ ReadOn r.reader ∷ [] = next_asks run old before name n r number had plays in
-      elim (ends run plays.inside.own by.1) [
+      elim (ends run plays.at.own by.1) [
         | inl m ↦ line_ends disk directory chronicle tell own run old new before after (step.Next name) name n (ReadOn r.reader) m.device m.added m.given r.reader (Some later) said
             (record {
               actor = refl;
@@ -196,16 +194,16 @@ module _ {D R C : Type 0} (disk : DiskGhosts D) (directory : DirectoryGhosts R) 
   -- more pieces are told as damaged only where two documents of one SHA-256 are shown
   pub next_line_harms : {X : Type 0} (part : Part D R C) (before : Seen Holding) (name : List ℕ) (n : ℕ) (r : Reader) → n ≡ number_of before.names name → slots_of before n ≡ Some (holding.Reader r)
       → ((run : Run) → AreOwn (state_in chronicle part.stripe) run.streams → IsReaderOf (state_in chronicle part.stripe) r → X ⊎ Shows run.streams (state_in chronicle part.stripe) (ReadOn r.reader ∷ []))
-      → (run : Run) → PlaysPart disk directory chronicle run part before → X ⊎ Shows run.streams (state_in chronicle part.stripe) (asks.asked run (state_in chronicle part.stripe) (step.Next name))
+      → (run : Run) → PlaysPart chronicle run part before → X ⊎ Shows run.streams (state_in chronicle part.stripe) (asks.asked run (state_in chronicle part.stripe) (step.Next name))
   next_line_harms {X} part before name n r number had harms run plays =
       let by = held_reader disk directory chronicle run part before name n r number had plays in
-      subst (λ is. X ⊎ Shows run.streams (state_in chronicle part.stripe) is) (sym (next_asks run part before name n r number had plays)) (harms run plays.inside.own by.1)
+      subst (λ is. X ⊎ Shows run.streams (state_in chronicle part.stripe) is) (sym (next_asks run part before name n r number had plays)) (harms run plays.at.own by.1)
 
   -- an actor without a reader
   pub next_idle : (part : Part D R C) (before after : Seen Holding) (name : List ℕ) (n : ℕ) (said : StepAnswer) → said ≡ says.idle
       → n ≡ number_of before.names name → after.names ≡ with_actor before.names name → ((m : ℕ) → slots_of after m ≡ slots_of before m) → None ≡ reader_held (slots_of before n)
       → IsActive disk directory chronicle part (slots_of before)
-      → (run : Run) → PlaysPart disk directory chronicle run part before → PartMoves disk directory chronicle run (state_in chronicle part.stripe) (step.Next name) part after said
+      → (run : Run) → PlaysPart chronicle run part before → PartMoves chronicle run (state_in chronicle part.stripe) (step.Next name) part after said
   next_idle part before after name n said is number names same none active run plays =
       let s : State = state_in chronicle part.stripe in
       let reads : reader_by run name ≡ None = reads_none disk directory chronicle run part before name n number none plays in

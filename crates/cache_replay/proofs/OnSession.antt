@@ -18,7 +18,8 @@ use Rattle.script_run.specs.Run.{Run, put_in}
 use Rattle.script_run.specs.Asked.{asked}
 use Rattle.script_run.specs.Turn.{Turn}
 use Rattle.script_run.specs.Answers.{session_said, step_said}
-use Rattle.script_run.specs.Behind.{behind, harm_of, streams_behind}
+use Rattle.script_run.specs.Behind as then
+use Rattle.script_run.specs.Behind.{harm_of, in_session, streams_behind}
 use Rattle.script_run.specs.Own.{AreOwn, AreWriting}
 use Rattle.script_run.specs.Takes.{IsOther, SessionTakes, StepShows, Takes}
 use Rattle.script_run.specs.Laws.{StepsOwn}
@@ -30,6 +31,7 @@ use Rattle.cache_replay.specs.declared.session.Holding.TheVariants as holding
 use Rattle.cache_replay.specs.Session.{AreHeld, IsActive, IsAt, IsHeld, IsPart, IsSession, LeavesBut, names_in, return_of, slots_in}
 use Rattle.cache_replay.specs.Plays.{AreReached, IsHeldAs, Plays, PlaysAt, PlaysIn, StepEnds, StepMoves}
 use Rattle.cache_replay.specs.Plain.{Plainly}
+use Rattle.cache_replay.specs.Stop.{NeedsSession}
 use Rattle.cache_replay.proofs.Frames.{some_is}
 use Rattle.cache_replay.proofs.Plain.{none_else, still_held, still_plays}
 use Rattle.cache_replay.proofs.Unharming.{part_reached, session_unharmed, unharmed_in}
@@ -40,7 +42,7 @@ writes_at : (run : Run) (s : State) (n put : ℕ) (o : Option Holding) → IsHel
 writes_at run s n put None holds held is = let no : None ≡ Some put = ap (option_and_then put_in) (sym holds) ∙ is in cc no
 writes_at run s n put (Some (holding.Writer w)) holds held is =
     let e : Some w.put ≡ Some put = ap (option_and_then put_in) (sym holds.0) ∙ is in
-    subst (λ q. is_writing s q ≡ true) (some_is ℕ w.put put e) held.0
+    subst (λ q. is_writing s q ≡ true) (some_is w.put put e) held.0
 writes_at run s n put (Some (holding.Reader r)) holds held is = let no : None ≡ Some put = ap (option_and_then put_in) (sym holds.0) ∙ is in cc no
 
 pub are_writing : (run : Run) (s : State) (slots : ℕ → Option Holding) → PlaysIn run s slots → AreHeld s slots → AreWriting run s
@@ -83,6 +85,29 @@ stands_behind tell own run s t turn step slots takes is sound quiet held plays =
       | inr shows ↦ inr shows
     ]
 
+-- ---- lines that need a session
+
+-- where there is one a line is as its records say
+pub record IsOnSession (step : Step) : Type 0 where
+  pub takes : (run : Run) (s : State) (turn : Turn) → SessionTakes run s turn step → Takes run turn (Some s) step
+  pub says : (run : Run) (s : State) (turn : Turn) → step_said run turn (Some s) step ≡ session_said run s (after_all s turn.added) turn step
+  pub behind : (run : Run) (s : State) (turn : Turn) → then.behind run turn (Some s) step ≡ in_session run s (after_all s turn.added) turn step
+
+pub on_session : (step : Step) → NeedsSession step → IsOnSession step
+on_session (step.Format name segments buckets content agg reach fragment generation) needs = absurd needs
+on_session (step.Put key body request response) needs = record { takes = λ run s turn h. h; says = λ run s turn. refl; behind = λ run s turn. refl }
+on_session (step.Get key request) needs = record { takes = λ run s turn h. h; says = λ run s turn. refl; behind = λ run s turn. refl }
+on_session (step.OpenWrite actor key pin request response) needs = record { takes = λ run s turn h. h; says = λ run s turn. refl; behind = λ run s turn. refl }
+on_session (step.Feed actor body) needs = record { takes = λ run s turn h. h; says = λ run s turn. refl; behind = λ run s turn. refl }
+on_session (step.Close actor) needs = record { takes = λ run s turn h. h; says = λ run s turn. refl; behind = λ run s turn. refl }
+on_session (step.Abort actor) needs = record { takes = λ run s turn h. h; says = λ run s turn. refl; behind = λ run s turn. refl }
+on_session (step.OpenRead actor key request) needs = record { takes = λ run s turn h. h; says = λ run s turn. refl; behind = λ run s turn. refl }
+on_session (step.Next actor) needs = record { takes = λ run s turn h. h; says = λ run s turn. refl; behind = λ run s turn. refl }
+on_session (step.Done actor) needs = record { takes = λ run s turn h. h; says = λ run s turn. refl; behind = λ run s turn. refl }
+on_session (step.Remove key) needs = record { takes = λ run s turn h. h; says = λ run s turn. refl; behind = λ run s turn. refl }
+on_session step.Flush needs = record { takes = λ run s turn h. h; says = λ run s turn. refl; behind = λ run s turn. refl }
+on_session (step.Now moment) needs = absurd needs
+
 module _ {D R C : Type 0} (disk : DiskGhosts D) (directory : DirectoryGhosts R) (chronicle : ChronicleGhosts C) where
   -- ---- a session that has a cache
 
@@ -96,11 +121,11 @@ module _ {D R C : Type 0} (disk : DiskGhosts D) (directory : DirectoryGhosts R) 
 
   -- where there is a session a line is as its records say
   pub moves : (run : Run) (s : State) (turn : Turn) (step : Step) (new : Session D R C) (said : StepAnswer) → run.state ≡ Some s → Takes run turn (Some s) step → step_said run turn (Some s) step ≡ said
-      → Plays disk directory chronicle (behind run turn (Some s) step) new → StepMoves disk directory chronicle run step new said
+      → Plays disk directory chronicle (then.behind run turn (Some s) step) new → StepMoves disk directory chronicle run step new said
   moves run s turn step new said state takes says plays = record {
     turn = turn;
     takes = subst (λ o. Takes run turn o step) (sym state) takes;
-    plays = subst (λ o. Plays disk directory chronicle (behind run turn o step) new) (sym state) plays;
+    plays = subst (λ o. Plays disk directory chronicle (then.behind run turn o step) new) (sym state) plays;
     says = subst (λ o. step_said run turn o step ≡ said) (sym state) says;
   }
 
@@ -140,19 +165,17 @@ module _ {D R C : Type 0} (disk : DiskGhosts D) (directory : DirectoryGhosts R) 
 
 -- what a line makes of a run where there is a session, and what it leaves
 pub record IsPlain (step : Step) : Type 0 where
-  pub takes : (run : Run) (s : State) (turn : Turn) → SessionTakes run s turn step → Takes run turn (Some s) step
-  pub says : (run : Run) (s : State) (turn : Turn) → step_said run turn (Some s) step ≡ session_said run s (after_all s turn.added) turn step
-  pub actors : (run : Run) (s : State) (turn : Turn) → (behind run turn (Some s) step).actors ≡ run.actors
-  pub moment : (run : Run) (s : State) (turn : Turn) → (behind run turn (Some s) step).now ≡ run.now
-  pub streams : (run : Run) (s : State) (turn : Turn) → (behind run turn (Some s) step).streams ≡ run.streams
-  pub held : (run : Run) (s : State) (turn : Turn) → (behind run turn (Some s) step).held ≡ run.held
-  pub state : (run : Run) (s : State) (turn : Turn) → (behind run turn (Some s) step).state ≡ Some (after_all s turn.added)
+  pub on : IsOnSession step
+  pub actors : (run : Run) (s : State) (turn : Turn) → (then.behind run turn (Some s) step).actors ≡ run.actors
+  pub moment : (run : Run) (s : State) (turn : Turn) → (then.behind run turn (Some s) step).now ≡ run.now
+  pub streams : (run : Run) (s : State) (turn : Turn) → (then.behind run turn (Some s) step).streams ≡ run.streams
+  pub held : (run : Run) (s : State) (turn : Turn) → (then.behind run turn (Some s) step).held ≡ run.held
+  pub state : (run : Run) (s : State) (turn : Turn) → (then.behind run turn (Some s) step).state ≡ Some (after_all s turn.added)
   pub same : (run : Run) (s t : State) (turn : Turn) → streams_behind run s t turn step ≡ run.streams
 
 pub remove_plain : (key : Key) → IsPlain (step.Remove key)
 remove_plain key = record {
-  takes = λ run s turn t. t;
-  says = λ run s turn. refl;
+  on = on_session (step.Remove key) tt;
   actors = λ run s turn. refl;
   moment = λ run s turn. refl;
   streams = λ run s turn. refl;
@@ -163,8 +186,7 @@ remove_plain key = record {
 
 pub flush_plain : IsPlain step.Flush
 flush_plain = record {
-  takes = λ run s turn t. t;
-  says = λ run s turn. refl;
+  on = on_session step.Flush tt;
   actors = λ run s turn. refl;
   moment = λ run s turn. refl;
   streams = λ run s turn. refl;
@@ -193,9 +215,9 @@ module _ {D R C : Type 0} (disk : DiskGhosts D) (directory : DirectoryGhosts R) 
       let p = playing disk directory chronicle run session old is plays in
       elim (stands_behind tell owns run s t e.turn step (slots_in session) e.takes e.behind a.part.stripe.pieces.sound a.part.quiet a.held p) [
         | inl there ↦
-            inl (moves disk directory chronicle run s e.turn step new said p.state (plain.takes run s e.turn e.takes)
-            (plain.says run s e.turn ∙ (ap (λ u. session_said run s u e.turn step) e.behind ∙ e.says))
-            (line_plays disk directory chronicle run session new old part is now names kept slots leaves stays plays (behind run e.turn (Some s) step)
+            inl (moves disk directory chronicle run s e.turn step new said p.state (plain.on.takes run s e.turn e.takes)
+            (plain.on.says run s e.turn ∙ (ap (λ u. session_said run s u e.turn step) e.behind ∙ e.says))
+            (line_plays disk directory chronicle run session new old part is now names kept slots leaves stays plays (then.behind run e.turn (Some s) step)
             (plain.actors run s e.turn) (plain.moment run s e.turn) (plain.streams run s e.turn) (plain.held run s e.turn) (plain.state run s e.turn ∙ ap Some e.behind)
             there.0 (subst (AreOwn t) (plain.same run s (after_all s e.turn.added) e.turn) there.1)))
         | inr shows ↦ inr (subst (λ o. StepShows run o step) (sym p.state) shows)

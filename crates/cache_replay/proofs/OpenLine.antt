@@ -1,5 +1,5 @@
 -- An actor opens a reader.
-use Rattle.std.proofs.Common.{◌≡◌, ℕ, ◌<◌, List, [], ◌∷◌, ◌++◌, length, refl, sym, ◌∙◌, ap, subst, true, false, inl, inr, arith}
+use Rattle.std.proofs.Common.{◌≡◌, ℕ, ◌<◌, List, [], ◌∷◌, length, refl, sym, ◌∙◌, ap, subst, true, false, inl, inr, arith}
 use Rattle.std.specs.Prelude.{Option, Some, None, IfSome, IsSome, if◌then◌else◌, is_some, option_and_then, option_map, unwrap_or, ◌==◌}
 use Rattle.ats_disk.specs.declared.device.Disk.{Ghosts as DiskGhosts}
 use Rattle.dir_table.specs.declared.directory.Directory.{Ghosts as DirectoryGhosts}
@@ -10,26 +10,21 @@ use Rattle.fragment_table.specs.Table.{Table, total_length}
 use Rattle.alternate_vector.specs.Field.{Field}
 use Rattle.actor_table.specs.Table.{Seen, number_of, with_actor}
 use Rattle.cache_model.specs.declared.cause.Cause.{Cause}
-use Rattle.cache_model.specs.declared.cause.Cause.TheVariants as cause
-use Rattle.cache_model.specs.declared.answer.ReadAnswer.{ReadAnswer}
 use Rattle.cache_model.specs.declared.answer.ReadAnswer.TheVariants as read
 use Rattle.cache_model.specs.declared.record.Rec.{Rec}
-use Rattle.cache_model.specs.declared.record.Rec.TheVariants as rec
-use Rattle.cache_model.specs.State.{ReaderRow, Row, State, after_all, reader_of}
+use Rattle.cache_model.specs.State.{ReaderRow, State, after_all, reader_of}
 use Rattle.cache_model.specs.Kept.{with_records}
-use Rattle.cache_model.specs.Verdict.{live_vector_of}
 use Rattle.cache_model.specs.Permit.{Look, Permit, to_do}
 use Rattle.cache_model.specs.Legal.{IsQuiet, nothing}
 use Rattle.cache_model.specs.Vectors.{GroupsTell}
 use Rattle.stripe_actors.specs.Actors.{FallBelow, reader_numbers}
 use Rattle.stripe_actors.proofs.Telling.{was_given}
-use Rattle.stripe_core.specs.Find.{cause_records}
 use Rattle.stripe_core.specs.Stripe.{IsStripe, kept_in, seen_in, state_in}
 use Rattle.stripe_read.specs.declared.reader.Reader.{Reader}
 use Rattle.stripe_read.specs.declared.opening.Opened.{Opened}
 use Rattle.stripe_read.specs.declared.opening.Opened.TheVariants as opened
 use Rattle.stripe_read.specs.Readers.{IsOpenReader, IsReaderOf}
-use Rattle.stripe_read.specs.Lookups.{IfReader, Opens, Tells, answer_in, length_in, open_adds, trouble_with}
+use Rattle.stripe_read.specs.Lookups.{IfReader, Opens, Tells, answer_in, length_in, open_adds}
 use Rattle.stripe_write.proofs.Spending.{state_behind}
 use Rattle.script_lang.specs.declared.step.Step.TheVariants as step
 use Rattle.script_lang.specs.declared.answer.StepAnswer.{StepAnswer}
@@ -45,52 +40,25 @@ use Rattle.script_run.specs.Takes.{IsOther}
 use Rattle.cache_replay.specs.declared.session.Holding.{Holding}
 use Rattle.cache_replay.specs.declared.session.Holding.TheVariants as holding
 use Rattle.cache_replay.specs.declared.session.Part.{Part}
-use Rattle.cache_replay.specs.Session.{AreHeld, IsActive, IsHeld}
-use Rattle.cache_replay.specs.Plays.{IsHeldAs}
-use Rattle.cache_replay.specs.ReaderLines.{PartEnds, PartMoves, PlaysPart, as_held, opened_answer, reader_opened, slots_of}
-use Rattle.cache_replay.proofs.Frames.{Changed, IsElse, OthersElse}
+use Rattle.cache_replay.specs.Session.{AreHeld, IsActive, IsHeld, slots_of}
+use Rattle.cache_replay.specs.Plays.{IsHeldAs, PartEnds, PartMoves, PlaysPart}
+use Rattle.cache_replay.specs.ReaderLines.{as_held, opened_answer, reader_opened}
+use Rattle.cache_replay.proofs.Frames.{Changed, IsElse, OthersElse, some_is}
 use Rattle.cache_replay.proofs.ReaderFrames.{kept_leaves, miss_leaves, open_leaves}
 use Rattle.cache_replay.proofs.Calls.{call_covered, call_permit}
-use Rattle.cache_replay.proofs.ReaderLines.{Goes, as_run, goes_active, part_behind, holds_none, line_ends, none_some, some_same, still_moves}
-
--- ---- what the lookup was answered
-
-looked_cause : (row : Row) (why : Cause) (last : List Rec) → lookup_in (cause_records row why ++ last) ≡ lookup_in last
-looked_cause row cause.NeverPut last = refl
-looked_cause row cause.Removed last = refl
-looked_cause row (cause.Passed place floor unsaved) last = refl
-looked_cause row (cause.NoMatch count) last = refl
-looked_cause row (cause.Displaced segment live) last = refl
-looked_cause row (cause.Aborted writer) last = refl
-looked_cause row (cause.DeviceFault count) last = refl
-looked_cause row (cause.Damaged place kept other) last = refl
-
-looked_trouble : (o : Option Row) (given : ReadAnswer) (last : List Rec) → lookup_in (trouble_with o given ++ last) ≡ lookup_in last
-looked_trouble None given last = refl
-looked_trouble (Some row) (read.Hit put) last = refl
-looked_trouble (Some row) (read.Follow put) last = refl
-looked_trouble (Some row) (read.Miss why) last = looked_cause row why last
-
-looked_up : (s : State) (who : Actor) (key : Key) (request : List Field) (given : ReadAnswer) → lookup_in (open_adds s who key request given) ≡ Some given
-looked_up s who key request given = looked_trouble (live_vector_of s key) given (rec.ReadOpened s.next_reader who key request given ∷ [])
+use Rattle.cache_replay.proofs.ReaderLines.{Goes, as_run, goes_active, part_behind, holds_none, line_ends, none_some, still_moves}
+use Rattle.cache_replay.proofs.WholeGets.{none_next, opened_finds}
 
 -- ---- the number is a new one
 
 below_next : (s : State) (reader : ℕ) (row : ReaderRow) → FallBelow s.next_reader (reader_numbers s.readers) → reader_of s reader ≡ Some row → reader < s.next_reader
 below_next s reader row fall found = (was_given (λ (r : ReaderRow). r.reader) reader s.next_reader s.readers fall (subst IsSome (sym found) refl)).1
 
-not_next : (s : State) (fall : FallBelow s.next_reader (reader_numbers s.readers)) → reader_of s s.next_reader ≡ None
-not_next s fall = by_found (reader_of s s.next_reader) refl
-  where
-    by_found : (o : Option ReaderRow) → reader_of s s.next_reader ≡ o → reader_of s s.next_reader ≡ None
-    by_found None e = e
-    by_found (Some row) e = let k : s.next_reader < s.next_reader = below_next s s.next_reader row fall e in absurd (omega (arith, k))
-
 else_next : (s : State) (h : Holding) → FallBelow s.next_reader (reader_numbers s.readers) → IsHeld s h → IsElse None (Some s.next_reader) h
 else_next s (holding.Writer w) fall held = λ e. none_some w.put e
 else_next s (holding.Reader r) fall held = λ e.
     let k : r.reader < s.next_reader = below_next s r.reader held.row fall held.found in
-    let same : s.next_reader ≡ r.reader = some_same s.next_reader r.reader e in
+    let same : s.next_reader ≡ r.reader = some_is s.next_reader r.reader e in
     omega (arith, k, same)
 
 others_next : (s : State) (slots : ℕ → Option Holding) (n : ℕ) → FallBelow s.next_reader (reader_numbers s.readers) → AreHeld s slots → OthersElse slots n None (Some s.next_reader)
@@ -117,7 +85,7 @@ missed : (s : State) (who : Actor) (key : Key) (request : List Field) (why : Cau
     → reader_at (after_all s (open_adds s who key request (read.Miss why))) s.next_reader ≡ None
 missed s who key request why fall =
     ap (λ (o : Option ReaderRow). if is_some o then Some (Reads s.next_reader) else None)
-    ((miss_leaves s who key request why).readers s.next_reader (λ e. none_some s.next_reader e) ∙ not_next s fall)
+    ((miss_leaves s who key request why).readers s.next_reader (λ e. none_some s.next_reader e) ∙ none_next s fall)
 
 opened_has : (s : State) (who : Actor) (key : Key) (request : List Field) (given : Opened) → FallBelow s.next_reader (reader_numbers s.readers) → Tells s.next_reader given
     → IfReader (IsReaderOf (after_all s (open_adds s who key request (answer_in given)))) given
@@ -130,7 +98,7 @@ opened_has s who key request (opened.Miss why) fall tells own = missed s who key
 
 table_length : (o : Option Table) (size : ℕ) → option_map (λ (t : Table). total_length t.rows) o ≡ Some size → total_length (unwrap_or (option_map (λ (t : Table). t.rows) o) []) ≡ size
 table_length None size e = absurd (none_some size e)
-table_length (Some t) size e = some_same (total_length t.rows) size e
+table_length (Some t) size e = some_is (total_length t.rows) size e
 
 hit_length_is : (t : State) (number : ℕ) (r : Reader) (size : ℕ) → r.reader ≡ number → length_in r ≡ Some size → IsReaderOf t r → says.hit_length t number ≡ size
 hit_length_is t number r size is long own =
@@ -176,7 +144,7 @@ module _ {D R C : Type 0} (disk : DiskGhosts D) (directory : DirectoryGhosts R) 
       → Tells (state_in chronicle old.stripe).next_reader given
       → Opens (state_in chronicle old.stripe) (state_in chronicle new.stripe) (seen_in disk directory old.stripe).device (seen_in disk directory new.stripe).device who key request given
       → IsActive disk directory chronicle old (slots_of before) → IsQuiet (state_in chronicle new.stripe)
-      → (run : Run) → PlaysPart disk directory chronicle run old before → PartEnds disk directory chronicle run (state_in chronicle old.stripe) (step.OpenRead name key request) new after (opened_answer given)
+      → (run : Run) → PlaysPart chronicle run old before → PartEnds chronicle run (state_in chronicle old.stripe) (step.OpenRead name key request) new after (opened_answer given)
   open_line_ends tell own old new before after name n who key request given number who_is names free changed adds tells opens active quiet run plays =
       let s : State = state_in chronicle old.stripe in
       let t : State = state_in chronicle new.stripe in
@@ -189,7 +157,7 @@ module _ {D R C : Type 0} (disk : DiskGhosts D) (directory : DirectoryGhosts R) 
       let whose : who.0 ≡ number_of run.actors name = who_is ∙ (number ∙ ap (λ all. number_of all name) (sym plays.names)) in
       let asked_is : asks.asked run s (step.OpenRead name key request) ≡ Look who.0 key request ∷ [] =
       ap (λ (o : Option running.Holding). asks.if_free o (Look (number_of run.actors name) key request ∷ [])) nobody ∙ ap (λ m. Look m key request ∷ []) (sym whose) in
-      elim (opens.does p covers plays.inside.told.vectors) [
+      elim (opens.does p covers plays.at.told.vectors) [
         | inl right ↦ line_ends disk directory chronicle tell own run old new before after (step.OpenRead name key request) name n (Look who.0 key request) p recs [] s.next_reader (reader_opened given) (opened_answer given)
             (record {
               actor = refl;
@@ -207,7 +175,7 @@ module _ {D R C : Type 0} (disk : DiskGhosts D) (directory : DirectoryGhosts R) 
             (ap (λ (o : Option running.Holding). or_else o (reader_at (after_all s recs) s.next_reader)) nobody ∙ opened_has s who key request given fall tells (if_behind t (after_all s recs) given behind right.1))
             (if_opened (IsReaderOf t) given right.1) active plays (open_goes old new (slots_of before) (slots_of after) n who key request given active changed adds tells)
             (ap (λ (o : Option running.Holding). says.if_free o (says.lookup_said (after_all s recs) s.next_reader (lookup_in recs))) nobody
-            ∙ (ap (says.lookup_said (after_all s recs) s.next_reader) (looked_up s who key request (answer_in given))
+            ∙ (ap (says.lookup_said (after_all s recs) s.next_reader) (opened_finds s who key request (answer_in given))
             ∙ opened_says (after_all s recs) s.next_reader given tells (if_behind t (after_all s recs) given behind right.1)))
         | inr other ↦ inr (record { device = p; added = []; left = to_do (asks.asked run s (step.OpenRead name key request)); grows = nothing; other = IsOther.vector_read key other })
       ]
@@ -220,9 +188,9 @@ module _ {D R C : Type 0} (disk : DiskGhosts D) (directory : DirectoryGhosts R) 
       → Tells (state_in chronicle old.stripe).next_reader given
       → Opens (state_in chronicle old.stripe) (state_in chronicle new.stripe) (seen_in disk directory old.stripe).device (seen_in disk directory new.stripe).device who key request given
       → IsActive disk directory chronicle old (slots_of before) → IsQuiet (state_in chronicle new.stripe)
-      → (run : Run) → PlaysPart disk directory chronicle run old before → PartEnds disk directory chronicle run (state_in chronicle old.stripe) (step.OpenRead name key request) new after said
+      → (run : Run) → PlaysPart chronicle run old before → PartEnds chronicle run (state_in chronicle old.stripe) (step.OpenRead name key request) new after said
   open_answers tell own old new before after name n who key request given said is number who_is names free changed adds tells opens active quiet run plays =
-      subst (PartEnds disk directory chronicle run (state_in chronicle old.stripe) (step.OpenRead name key request) new after) (sym is)
+      subst (PartEnds chronicle run (state_in chronicle old.stripe) (step.OpenRead name key request) new after) (sym is)
       (open_line_ends tell own old new before after name n who key request given number who_is names free changed adds tells opens active quiet run plays)
 
   pub open_active : (old new : Part D R C) (slots later : ℕ → Option Holding) (n : ℕ) (who : Actor) (key : Key) (request : List Field) (given : Opened)
@@ -246,11 +214,11 @@ module _ {D R C : Type 0} (disk : DiskGhosts D) (directory : DirectoryGhosts R) 
   pub open_busy : (part : Part D R C) (before after : Seen Holding) (name : List ℕ) (key : Key) (request : List Field) (n : ℕ) (said : StepAnswer) → said ≡ says.busy
       → n ≡ number_of before.names name → after.names ≡ with_actor before.names name → ((m : ℕ) → slots_of after m ≡ slots_of before m) → is_some (slots_of before n) ≡ true
       → IsActive disk directory chronicle part (slots_of before)
-      → (run : Run) → PlaysPart disk directory chronicle run part before
-      → PartMoves disk directory chronicle run (state_in chronicle part.stripe) (step.OpenRead name key request) part after said
+      → (run : Run) → PlaysPart chronicle run part before
+      → PartMoves chronicle run (state_in chronicle part.stripe) (step.OpenRead name key request) part after said
   open_busy part before after name key request n said is number names same some active run plays =
       let s : State = state_in chronicle part.stripe in
-      let has = some_held run s n (slots_of before n) some (plays.inside.held n) in
+      let has = some_held run s n (slots_of before n) some (plays.at.held n) in
       let by : held_by run name ≡ Some has.0 = ap run.held (ap (λ all. number_of all name) plays.names ∙ sym number) ∙ has.1 in
       still_moves disk directory chronicle run part before after (step.OpenRead name key request) name n said refl number names same
       (ap (λ (o : Option running.Holding). asks.if_free o (Look (number_of run.actors name) key request ∷ [])) by) refl refl

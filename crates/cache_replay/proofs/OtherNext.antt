@@ -22,6 +22,7 @@ use Rattle.script_run.specs.Laws.{OtherShows}
 use Rattle.script_run.specs.Own.{AreOwn, IsOtherFragment}
 use Rattle.script_run.specs.Takes.{IsOther, Shows}
 use Rattle.cache_replay.specs.Getting.{Began, IsUnderway}
+use Rattle.cache_replay.proofs.Frames.{some_is}
 
 -- ---- one call behind another
 
@@ -32,9 +33,6 @@ stays_then (inl first) (inr shows) = inr shows
 stays_then (inr shows) next = inr shows
 
 -- ---- what is shown
-
-some_is : {X : Type 0} (x y : X) → Some x ≡ Some y → x ≡ y
-some_is x y h = cc
 
 -- the document that the device gave
 abbrev pub other_read : (s : State) (r : Reader) → IsOtherNext s r → DeviceRead

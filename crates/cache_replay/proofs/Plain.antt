@@ -1,5 +1,5 @@
 -- A line without an actor, on a session.
-use Rattle.std.proofs.Common.{◌≡◌, ℕ, refl, ◌∙◌}
+use Rattle.std.proofs.Common.{◌≡◌, ℕ}
 use Rattle.std.specs.Prelude.{Option, Some, None}
 use Rattle.cache_model.specs.State.{State}
 use Rattle.cache_model.specs.Vectors.{AreTold}
@@ -8,8 +8,8 @@ use Rattle.script_run.specs.Own.{AreOwn}
 use Rattle.cache_replay.specs.declared.session.Holding.{Holding}
 use Rattle.cache_replay.specs.declared.session.Holding.TheVariants as holding
 use Rattle.cache_replay.specs.Session.{AreHeld, LeavesBut}
-use Rattle.cache_replay.specs.Plays.{IsHeldAs, PlaysIn}
-use Rattle.cache_replay.proofs.Frames.{IsElse, SameStreams, held_as_stays, held_one, held_stays}
+use Rattle.cache_replay.specs.Plays.{PlaysIn}
+use Rattle.cache_replay.proofs.Frames.{IsElse, SameStreams, as_one, held_as_stays, held_one, held_stays}
 
 -- ---- no actor has anything to do with it
 
@@ -24,10 +24,6 @@ none_else slots m (holding.Reader r) is = λ no. cc no
 pub still_held : (put reader : Option ℕ) (s t : State) (slots : ℕ → Option Holding) → LeavesBut put reader s t → AllElse slots put reader → AreHeld s slots → AreHeld t slots
 still_held put reader s t slots leaves others held = λ m. held_one s t (slots m) (λ h is own. held_stays put reader s t h leaves (others m h is) own) (held m)
 
-as_before : (run new : Run) (s t : State) (m : ℕ) (o : Option Holding) → new.held m ≡ run.held m → ((h : Holding) → o ≡ Some h → IsHeldAs run s m (Some h) → IsHeldAs new t m (Some h)) → IsHeldAs run s m o → IsHeldAs new t m o
-as_before run new s t m None same f own = same ∙ own
-as_before run new s t m (Some h) same f own = f h refl own
-
 -- the run goes on with what its actors have
 pub still_plays : (put reader : Option ℕ) (run new : Run) (s t : State) (slots : ℕ → Option Holding) → LeavesBut put reader s t → AllElse slots put reader → SameStreams put run new
     → ((m : ℕ) → new.held m ≡ run.held m) → new.state ≡ Some t → AreTold t → AreOwn t new.streams → PlaysIn run s slots → PlaysIn new t slots
@@ -35,5 +31,5 @@ still_plays put reader run new s t slots leaves others streams held state told o
   state = state;
   told = told;
   own = own;
-  held = λ m. as_before run new s t m (slots m) (held m) (λ h is own. held_as_stays put reader run new s t m h leaves streams (held m) (others m h is) own) (plays.held m);
+  held = λ m. as_one run new s t m (slots m) (held m) (λ h is own. held_as_stays put reader run new s t m h leaves streams (held m) (others m h is) own) (plays.held m);
 }

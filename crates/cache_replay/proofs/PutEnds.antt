@@ -1,16 +1,14 @@
 -- A body that is fed to a new writer, which is then closed.
 use Rattle.std.proofs.Common.{◌≡◌, ℕ, ◌+◌, ◌≤◌, List, [], ◌∷◌, ◌++◌, length, refl, sym, ◌∙◌, ap, subst, arith, true, false, ◌⊎◌, inl, inr, Ok, Err, Result}
-use Rattle.std.specs.Prelude.{Option, Some, None, option_map, unwrap_or, filter}
-use Rattle.std.proofs.lemmas.List.{append-nil, append_assoc, length-append}
-use Rattle.tape_base.specs.declared.keys.Key.{Key}
-use Rattle.fragment_table.specs.Table.{TableRow, total_length}
+use Rattle.std.specs.Prelude.{Option, Some, None, filter}
+use Rattle.std.proofs.lemmas.List.{append-nil, append_assoc}
+use Rattle.fragment_table.specs.Table.{TableRow}
 use Rattle.cache_model.specs.declared.cause.Cause.{Cause}
-use Rattle.cache_model.specs.declared.cause.Cause.TheVariants as cause
 use Rattle.cache_model.specs.declared.record.Rec.{Rec}
-use Rattle.cache_model.specs.State.{PutRow, State, after_all, fragment_piece, put_of}
+use Rattle.cache_model.specs.State.{State, after_all, fragment_piece, put_of}
 use Rattle.cache_model.specs.Kept.{Kept, state_of, with_records}
-use Rattle.cache_model.specs.Verdict.{cause_of_piece, cuts_of}
-use Rattle.cache_model.specs.Permit.{Commit, Exhausted, Fails, Faulted, Finish, Intent, Lost, ManyFragments, Permit, Reason, TooLarge, Weigh, Work, is_cleanup, to_do}
+use Rattle.cache_model.specs.Verdict.{cause_of_piece}
+use Rattle.cache_model.specs.Permit.{Exhausted, Fails, Faulted, Intent, Lost, ManyFragments, Permit, Reason, TooLarge, Work, is_cleanup, to_do}
 use Rattle.cache_model.specs.Legal.{Advances, MayGrow, is_writing, more, nothing}
 use Rattle.cache_model.specs.Tape.{IsSound}
 use Rattle.cache_model.specs.Vectors.{AreTold, GroupsTell, IsOtherVector}
@@ -21,19 +19,20 @@ use Rattle.stripe_core.specs.declared.refusal.Refusal.TheVariants as refusal
 use Rattle.stripe_vectors.specs.Reading.{IsCollision}
 use Rattle.stripe_write.specs.declared.finishing.Receipt.{Receipt}
 use Rattle.stripe_write.specs.declared.writer.Writer.{Writer}
-use Rattle.stripe_write.specs.Writers.{IsAtHand, IsWriterOf}
-use Rattle.stripe_write.specs.Closes.{Closes, ClosesAsAsked, ClosesWhere, IsComplete}
-use Rattle.stripe_write.specs.Closing.{SpendsAll, close_intents, rest_intents, rest_rows, rows_at_close}
-use Rattle.stripe_write.proofs.Ended.{open_put}
+use Rattle.stripe_write.specs.Writers.{IsWriterOf}
+use Rattle.stripe_write.specs.Closes.{Closes, ClosesAsAsked, ClosesWhere}
+use Rattle.stripe_write.specs.Closing.{SpendsAll, close_intents, rows_at_close}
 use Rattle.stripe_write.proofs.Spending.{covers_first, covers_last}
 use Rattle.script_lang.specs.declared.answer.StepAnswer.TheVariants as answer
 use Rattle.script_lang.specs.declared.answer.Refused.TheVariants as refused
-use Rattle.script_run.specs.Asked.{body_intents, count_with, feed_intents, rest_behind, whole_fragments}
-use Rattle.script_run.specs.Asked.{close_intents as closing_of, rest_intents as resting_of}
+use Rattle.script_run.specs.Asked.{body_intents, feed_intents, rest_behind, whole_fragments}
+use Rattle.script_run.specs.Asked.{close_intents as closing_of}
 use Rattle.script_run.specs.Answers.{put_said, said}
 use Rattle.cache_replay.specs.Feeding.{FeedsAsAsked, FeedsWhere, Feeds, IsCutUp, feed_end}
 use Rattle.cache_replay.specs.Putting.{Fills, FillsAsAsked, FillsWhere, IsFresh, IsOver, IsVectorPair, ShowsPair, left_behind, receipt_answer}
-use Rattle.cache_replay.proofs.Endings.{AreClosing, EndsInCommit, IsEnded, ended_along, key_of, rows_then}
+use Rattle.cache_replay.proofs.Endings.{IsEnded}
+use Rattle.cache_replay.proofs.WriterSteps.{key_at}
+use Rattle.cache_replay.proofs.Closings.{cause_at, closing_ended, complete_said, same_asks}
 
 -- ---- vectors and puts may be kept along the way
 
@@ -73,40 +72,11 @@ copied_pair p s asks h = record { added = h.before; left = h.left; grows = h.gro
 
 -- ---- what closing is asked
 
-same_rest : (w : Writer) (bytes : List ℕ) → resting_of w.put (length w.table.rows) bytes ≡ rest_intents w bytes
-same_rest w [] = refl
-same_rest w (byte ∷ bytes) = refl
-
-same_count : (w : Writer) (bytes : List ℕ) → count_with (length w.table.rows) bytes ≡ length (w.table.rows ++ rest_rows bytes)
-same_count w [] = sym (ap length (append-nil w.table.rows))
-same_count w (byte ∷ bytes) = sym (length-append w.table.rows (rest_rows (byte ∷ bytes)))
-
-same_closing : (w : Writer) → closing_of w.put (length w.table.rows) w.gathered.items ≡ close_intents w
-same_closing w =
-    ap (λ is. Weigh w.put (length w.gathered.items) ∷ (is ++ Finish w.put (count_with (length w.table.rows) w.gathered.items) ∷ Commit w.put ∷ [])) (same_rest w w.gathered.items)
-    ∙ ap (λ n. Weigh w.put (length w.gathered.items) ∷ (rest_intents w w.gathered.items ++ Finish w.put n ∷ Commit w.put ∷ [])) (same_count w w.gathered.items)
-
-abbrev closes_of : Writer → List ℕ → ℕ → List Intent
-closes_of w bytes n = Weigh w.put (length w.gathered.items) ∷ (rest_intents w bytes ++ Finish w.put n ∷ Commit w.put ∷ [])
-
-all_closing : (w : Writer) (bytes : List ℕ) (n : ℕ) → AreClosing w.put (closes_of w bytes n) × EndsInCommit w.put (closes_of w bytes n)
-all_closing w [] n = ((refl, (refl, (refl, tt))), refl)
-all_closing w (byte ∷ bytes) n = ((refl, (refl, (refl, (refl, tt)))), refl)
-
-rows_closed : (w : Writer) (bytes : List ℕ) (n : ℕ) (rows : List TableRow) → rows_then (closes_of w bytes n) rows ≡ rows ++ rest_rows bytes
-rows_closed w [] n rows = sym (append-nil rows)
-rows_closed w (byte ∷ bytes) n rows = refl
-
 pub closing_is_work : (put cut : ℕ) (bytes : List ℕ) (rest : List Intent) → filter is_cleanup (closing_of put cut bytes ++ rest) ≡ filter is_cleanup rest
 closing_is_work put cut [] rest = refl
 closing_is_work put cut (byte ∷ bytes) rest = refl
 
 -- ---- what is told of a put that was closed
-
-lost_by : (t : State) (put index : ℕ) (o : Option PutRow) (key : Key) → option_map (λ (p : PutRow). p.key) o ≡ Some key
-    → unwrap_or (option_map (λ (w : PutRow). cause_of_piece t (fragment_piece w.key put index)) o) cause.NeverPut ≡ cause_of_piece t (fragment_piece key put index)
-lost_by t put index None key h = cc
-lost_by t put index (Some row) key h = let same : row.key ≡ key = cc in ap (λ k. cause_of_piece t (fragment_piece k put index)) same
 
 module _ (p : Permit) (old new : Kept) (w : Writer) (own : IsWriterOf (state_of old) w) (writing : is_writing (state_of old) w.put ≡ true) where
   abbrev s : State
@@ -115,36 +85,17 @@ module _ (p : Permit) (old new : Kept) (w : Writer) (own : IsWriterOf (state_of 
   abbrev t : State
   t = state_of new
 
-  abbrev at_hand : (row : PutRow) × (put_of s w.put ≡ Some row) × IsAtHand s.geometry row w
-  at_hand = let o = open_put (put_of s w.put) writing in (o.0, o.1, own o.0 o.1 o.2)
-
-  cuts_are : cuts_of s w.put ≡ w.table.rows
-  cuts_are = ap (λ (o : Option PutRow). unwrap_or (option_map (λ (x : PutRow). x.cuts) o) []) at_hand.1 ∙ at_hand.2.cuts_are
-
-  key_is : key_of s w.put ≡ Some w.key
-  key_is = ap (λ (o : Option PutRow). option_map (λ (x : PutRow). x.key) o) at_hand.1 ∙ ap (λ k. let o : Option Key = Some k in o) at_hand.2.key_is
-
   ended : (added : List Rec) (why : Option Reason) → new ≡ with_records old added → MayGrow p s (to_do (close_intents w ++ [])) added (record { intents = []; refused = why })
       → IsEnded why t w.put (rows_at_close w) (Some w.key)
   ended added why adds grows =
-      let all = all_closing w w.gathered.items (length (rows_at_close w)) in
       let plain : MayGrow p s (to_do (close_intents w)) added (record { intents = []; refused = why }) = subst (λ is. MayGrow p s (to_do is) added (record { intents = []; refused = why })) (append-nil (close_intents w)) grows in
-      let there : IsEnded why (after_all s added) w.put (rows_then (close_intents w) (cuts_of s w.put)) (key_of s w.put) = ended_along plain w.put (close_intents w) why refl refl all.0 all.1 in
-      let rows : rows_then (close_intents w) (cuts_of s w.put) ≡ rows_at_close w = ap (rows_then (close_intents w)) cuts_are ∙ rows_closed w w.gathered.items (length (rows_at_close w)) w.table.rows in
       let state : t ≡ after_all s added = ap state_of adds ∙ after_all-append old.base old.since added in
       subst (λ x. IsEnded why x w.put (rows_at_close w) (Some w.key)) (sym state)
-      (subst (λ r. IsEnded why (after_all s added) w.put r (Some w.key)) rows (subst (λ k. IsEnded why (after_all s added) w.put (rows_then (close_intents w) (cuts_of s w.put)) k) key_is there))
-
-  -- the answer to a put that is complete
-  complete_said : (receipt : Receipt) → IsComplete w receipt → IsEnded None t w.put (rows_at_close w) (Some w.key) → put_said t w.put ≡ receipt_answer (Ok receipt)
-  complete_said receipt whole end =
-      ap (λ (rows : List TableRow). answer.Put w.put (total_length rows) (length rows)) end.1
-      ∙ (ap (λ q. answer.Put q (total_length (rows_at_close w)) (length (rows_at_close w))) (sym whole.put)
-      ∙ (ap (λ n. answer.Put receipt.put n (length (rows_at_close w))) (sym whole.bytes) ∙ ap (answer.Put receipt.put receipt.length) (sym whole.fragments)))
+      (subst (IsEnded why (after_all s added) w.put (rows_at_close w)) (key_at s w writing own) (closing_ended p s w added why writing own plain))
 
   lost_said : (index : ℕ) (why : Cause) → why ≡ cause_of_piece t (fragment_piece w.key w.put index) → IsEnded (Some (Lost w.put index)) t w.put (rows_at_close w) (Some w.key)
       → said t None (Some (Lost w.put index)) (put_said t w.put) ≡ receipt_answer (Err (refusal.Lost index why))
-  lost_said index why is end = ap (λ c. answer.Refused (refused.Lost index c) None) (lost_by t w.put index (put_of t w.put) w.key end.1 ∙ sym is)
+  lost_said index why is end = ap (λ c. answer.Refused (refused.Lost index c) None) (cause_at t w.put index w.key (put_of t w.put) end.1 ∙ sym is)
 
 -- ---- the pieces of a whole body
 
@@ -169,7 +120,7 @@ module _ (p : Permit) (old mid new : Kept) (w v : Writer) (body : List ℕ) (tel
 
   closes_are : close_intents v ≡ closing_of w.put (whole_fragments f body) (rest_behind f body)
   closes_are =
-      sym (same_closing v) ∙ (ap (λ q. closing_of q (length v.table.rows) v.gathered.items) number
+      sym (same_asks v) ∙ (ap (λ q. closing_of q (length v.table.rows) v.gathered.items) number
       ∙ (ap (λ n. closing_of w.put n v.gathered.items) rows_are ∙ ap (closing_of w.put (whole_fragments f body)) rest_is))
 
   feeds_are : feed_intents f w.put (length w.table.rows) (w.gathered.items ++ body) ≡ feed_intents f w.put 0 body
@@ -224,7 +175,7 @@ module _ (p : Permit) (old mid new : Kept) (w v : Writer) (body : List ℕ) (tel
     closed_fills (Ok receipt) c where_ memory =
         let grows : (rest : List Intent) → MayGrow p (state_of mid) (to_do (close_intents v ++ rest)) c.added (left_behind rest None) = λ rest. c.does rest None in
         let end : IsEnded None (state_of new) v.put (rows_at_close v) (Some v.key) = ended p mid new v own_mid writing_mid c.added None c.adds (c.does [] None) in
-        filled (Ok receipt) None c.added c.adds grows (complete_said p mid new v own_mid writing_mid receipt where_.1 end) end.0
+        filled (Ok receipt) None c.added c.adds grows (complete_said (state_of new) v receipt (Some v.key) where_.1 end) end.0
     closed_fills (Err (refusal.VectorTooLarge bytes)) c where_ memory = filled (Err (refusal.VectorTooLarge bytes)) (Some (TooLarge v.put bytes)) c.added c.adds (λ rest. c.does rest None) refl tt
     closed_fills (Err (refusal.Lost index why)) c where_ memory =
         let end : IsEnded (Some (Lost v.put index)) (state_of new) v.put (rows_at_close v) (Some v.key) = ended p mid new v own_mid writing_mid c.added (Some (Lost v.put index)) c.adds (c.does [] None) in

@@ -74,16 +74,16 @@ module _ (now before after : ℕ) (k new : Kept) (key : Key) (body : List ℕ) (
   -- a put that is answered
   pub puts : (result : Result Receipt Refusal) (said : StepAnswer) → closed_answer result ≡ Some said → PutsWhere now before after k new key body request response result
       → Ends run (state_of k) (state_of new) key body request response said
-  puts (Ok receipt) said is h = asked_puts (Ok receipt) said (some_is StepAnswer (receipt_answer (Ok receipt)) said is) h
+  puts (Ok receipt) said is h = asked_puts (Ok receipt) said (some_is (receipt_answer (Ok receipt)) said is) h
   puts (Err (refusal.Memory e)) said is h = cc is
-  puts (Err refusal.TooManyWriters) said is h = asked_puts (Err refusal.TooManyWriters) said (some_is StepAnswer (receipt_answer (Err refusal.TooManyWriters)) said is) h
-  puts (Err refusal.TooManyFragments) said is h = asked_puts (Err refusal.TooManyFragments) said (some_is StepAnswer (receipt_answer (Err refusal.TooManyFragments)) said is) h
-  puts (Err (refusal.VectorTooLarge bytes)) said is h = asked_puts (Err (refusal.VectorTooLarge bytes)) said (some_is StepAnswer (receipt_answer (Err (refusal.VectorTooLarge bytes))) said is) h
-  puts (Err (refusal.Lost index why)) said is h = asked_puts (Err (refusal.Lost index why)) said (some_is StepAnswer (receipt_answer (Err (refusal.Lost index why))) said is) h
-  puts (Err refusal.Sealed) said is h = asked_puts (Err refusal.Sealed) said (some_is StepAnswer (receipt_answer (Err refusal.Sealed)) said is) h
-  puts (Err (refusal.Exhausted number)) said is h = asked_puts (Err (refusal.Exhausted number)) said (some_is StepAnswer (receipt_answer (Err (refusal.Exhausted number))) said is) h
-  puts (Err (refusal.DeviceFault count)) said is h = asked_puts (Err (refusal.DeviceFault count)) said (some_is StepAnswer (receipt_answer (Err (refusal.DeviceFault count))) said is) h
-  puts (Err refusal.NoSuchWriter) said is h = asked_puts (Err refusal.NoSuchWriter) said (some_is StepAnswer (receipt_answer (Err refusal.NoSuchWriter)) said is) h
+  puts (Err refusal.TooManyWriters) said is h = asked_puts (Err refusal.TooManyWriters) said (some_is (receipt_answer (Err refusal.TooManyWriters)) said is) h
+  puts (Err refusal.TooManyFragments) said is h = asked_puts (Err refusal.TooManyFragments) said (some_is (receipt_answer (Err refusal.TooManyFragments)) said is) h
+  puts (Err (refusal.VectorTooLarge bytes)) said is h = asked_puts (Err (refusal.VectorTooLarge bytes)) said (some_is (receipt_answer (Err (refusal.VectorTooLarge bytes))) said is) h
+  puts (Err (refusal.Lost index why)) said is h = asked_puts (Err (refusal.Lost index why)) said (some_is (receipt_answer (Err (refusal.Lost index why))) said is) h
+  puts (Err refusal.Sealed) said is h = asked_puts (Err refusal.Sealed) said (some_is (receipt_answer (Err refusal.Sealed)) said is) h
+  puts (Err (refusal.Exhausted number)) said is h = asked_puts (Err (refusal.Exhausted number)) said (some_is (receipt_answer (Err (refusal.Exhausted number))) said is) h
+  puts (Err (refusal.DeviceFault count)) said is h = asked_puts (Err (refusal.DeviceFault count)) said (some_is (receipt_answer (Err (refusal.DeviceFault count))) said is) h
+  puts (Err refusal.NoSuchWriter) said is h = asked_puts (Err refusal.NoSuchWriter) said (some_is (receipt_answer (Err refusal.NoSuchWriter)) said is) h
 
 -- ---- no actor has anything to do with it
 

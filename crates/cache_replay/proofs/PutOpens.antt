@@ -21,7 +21,7 @@ use Rattle.stripe_write.specs.declared.finishing.Receipt.{Receipt}
 use Rattle.stripe_write.specs.declared.writer.Writer.{Writer}
 use Rattle.stripe_write.specs.Others.{AddsOfPut, OthersStay}
 use Rattle.stripe_write.specs.Writers.{IsWriterOf}
-use Rattle.stripe_write.proofs.Spending.{nothing_more, state_behind}
+use Rattle.stripe_write.proofs.Spending.{nothing_more, state_behind, then_more}
 use Rattle.stripe_write.proofs.Owning.{then_owns}
 use Rattle.script_run.specs.Asked.{feed_intents, put_intents, rest_behind, whole_fragments}
 use Rattle.script_run.specs.Asked.{close_intents as closing_of}
@@ -32,7 +32,7 @@ use Rattle.cache_replay.proofs.CutBodies.{no_cleanup}
 use Rattle.cache_replay.proofs.Lines.{leaves_but, next_is_free}
 use Rattle.cache_replay.proofs.Openings.{nothing_cut, owns_opened}
 use Rattle.cache_replay.proofs.PutEnds.{closing_is_work}
-use Rattle.cache_replay.proofs.PutWhole.{both_add, cleaned}
+use Rattle.cache_replay.proofs.PutWhole.{cleaned}
 
 -- ---- it is opened
 
@@ -84,7 +84,7 @@ module _ (old now : Kept) (who : Actor) (key : Key) (request response : List Fie
 
     puts_behind : (p : Permit) (result : Result Receipt Refusal) → BodyEnds p now new w.put body result → Puts p old new key body request response result
     puts_behind p result b =
-        let all = both_add old now new opened b.added adds b.adds in
+        let all = then_more old now new opened b.added adds b.adds in
         record {
           added = opened ++ b.added;
           why = b.why;

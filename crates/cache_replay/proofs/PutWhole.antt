@@ -1,7 +1,6 @@
 -- A put that is opened, fed, closed, and given up where it is still open.
-use Rattle.std.proofs.Common.{◌≡◌, ℕ, ◌≤◌, List, [], ◌∷◌, ◌++◌, refl, sym, ◌∙◌, ap, subst, arith, true, false, inl, inr, Ok, Err, Result}
+use Rattle.std.proofs.Common.{◌≡◌, ℕ, ◌≤◌, List, [], ◌∷◌, ◌++◌, refl, sym, ◌∙◌, subst, arith, true, false, inl, inr, Ok, Err, Result}
 use Rattle.std.specs.Prelude.{Option, Some, None}
-use Rattle.std.proofs.lemmas.List.{append_assoc}
 use Rattle.tape_base.specs.declared.keys.Key.{Key}
 use Rattle.cache_model.specs.declared.record.Rec.{Rec}
 use Rattle.cache_model.specs.State.{State}
@@ -14,15 +13,9 @@ use Rattle.stripe_core.specs.declared.refusal.Refusal.TheVariants as refusal
 use Rattle.stripe_write.specs.declared.finishing.Receipt.{Receipt}
 use Rattle.stripe_write.specs.declared.writer.Writer.{Writer}
 use Rattle.stripe_write.specs.Writes.{AbortsAsAsked, AbortsWhere, abort_adds}
-use Rattle.stripe_write.proofs.Spending.{nothing_more, state_behind}
+use Rattle.stripe_write.proofs.Spending.{nothing_more, state_behind, then_more}
 use Rattle.script_run.specs.Answers.{put_said, said}
 use Rattle.cache_replay.specs.Putting.{BodyEnds, BodyEndsAsAsked, BodyEndsWhere, Fills, FillsAsAsked, FillsWhere, IsOver, left_behind, receipt_answer, unless_memory}
-
--- ---- one behind the other
-
-pub both_add : (old mid new : Kept) (a b : List Rec) → mid ≡ with_records old a → new ≡ with_records mid b → new ≡ with_records old (a ++ b)
-both_add old mid new a b first then_ =
-    then_ ∙ (ap (λ k. with_records k b) first ∙ ap (λ recs. let k : Kept = record { base = old.base; since = recs } in k) (append_assoc old.since a b))
 
 -- ---- the put is given up, where it is still open
 
@@ -57,7 +50,7 @@ module _ (p : Permit) (old mid new : Kept) (w : Writer) (body : List ℕ) (resul
   ends_with fills says = record {
     added = fills.added ++ recs;
     why = fills.why;
-    adds = both_add old mid new fills.added recs fills.adds adds;
+    adds = then_more old mid new fills.added recs fills.adds adds;
     grows = grows_on (fills.grows (GiveUp w.put ∷ []))
         (subst (λ x. MayGrow p x (left_behind (GiveUp w.put ∷ []) fills.why) recs (record { intents = []; refused = fills.why }))
         (state_behind old mid fills.added fills.adds) (gives_up p (state_of mid) w.put fills.why recs does));

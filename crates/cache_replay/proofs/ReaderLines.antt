@@ -21,21 +21,23 @@ use Rattle.stripe_read.specs.declared.reader.Reader.{Reader}
 use Rattle.stripe_read.specs.Readers.{IsOpenReader, IsReaderOf}
 use Rattle.script_lang.specs.declared.step.Step.{Step}
 use Rattle.script_lang.specs.declared.answer.StepAnswer.{StepAnswer}
-use Rattle.script_run.specs.Run.{Run, Reads, Writes, Stream, actor_of, held_by, put_in, reader_by, reader_in, with_value}
+use Rattle.script_run.specs.Run.{Run, Reads, Writes, Stream, actor_of, held_by, reader_by, reader_in, with_value}
 use Rattle.script_run.specs.Turn.{Turn}
 use Rattle.script_run.specs.Asked.{asked}
 use Rattle.script_run.specs.Answers.{session_said}
 use Rattle.script_run.specs.Behind.{actors_behind, held_behind, holds_behind, in_session, still_open, streams_behind}
 use Rattle.script_run.specs.Laws.{StepsOwn}
-use Rattle.script_run.specs.Own.{AreOwn, AreWriting}
+use Rattle.script_run.specs.Own.{AreOwn}
 use Rattle.script_run.specs.Takes.{GivesOwn, IsOther}
 use Rattle.cache_replay.specs.declared.session.Part.{Part}
 use Rattle.cache_replay.specs.declared.session.Holding.{Holding}
 use Rattle.cache_replay.specs.declared.session.Holding.TheVariants as holding
-use Rattle.cache_replay.specs.Session.{AreApart, AreHeld, Differ, IsActive, IsHeld, IsPart, LeavesBut}
-use Rattle.cache_replay.specs.Plays.{IsHeldAs, IsStreamOf, PlaysIn}
-use Rattle.cache_replay.specs.ReaderLines.{PartEnds, PartMoves, PlaysPart, as_held, reader_held, slots_of, without_reader}
-use Rattle.cache_replay.proofs.Frames.{Changed, IsElse, OthersElse, all_held, all_held_as}
+use Rattle.cache_replay.specs.Session.{AreApart, AreHeld, Differ, IsActive, IsHeld, IsPart, LeavesBut, slots_of}
+use Rattle.cache_replay.specs.Plays.{IsHeldAs, IsStreamOf, PartEnds, PartMoves, PlaysIn, PlaysPart}
+use Rattle.cache_replay.specs.ReaderLines.{as_held, reader_held, without_reader}
+use Rattle.cache_replay.proofs.Frames.{Changed, IsElse, IsMine, OthersElse, all_apart, all_held, all_held_as, some_is}
+use Rattle.cache_replay.proofs.Calls.{call_permit}
+use Rattle.cache_replay.proofs.OnSession.{are_writing}
 
 -- ---- the actors behind a line
 
@@ -52,43 +54,21 @@ not_both b t f = let e : true ≡ false = sym t ∙ f in cc
 pub none_some : {X : Type 0} (x : X) → None ≡ Some x → ⊥
 none_some x e = cc
 
-pub some_same : {X : Type 0} (x y : X) → Some x ≡ Some y → x ≡ y
-some_same x y e = cc
-
 -- no other actor has the reader that an actor has
 else_reader : (r : Reader) (h : Holding) → Differ (holding.Reader r) h → IsElse None (Some r.reader) h
 else_reader r (holding.Writer w) d = λ e. none_some w.put e
-else_reader r (holding.Reader q) d = λ e. d (some_same r.reader q.reader e)
+else_reader r (holding.Reader q) d = λ e. d (some_is r.reader q.reader e)
 
 pub apart_else : (slots : ℕ → Option Holding) (n : ℕ) (r : Reader) → AreApart slots → slots n ≡ Some (holding.Reader r) → OthersElse slots n None (Some r.reader)
 apart_else slots n r apart has = λ m h other is.
     else_reader r h (apart n m (holding.Reader r) h (λ e. not_both (m == n) (eq-eqb m n (sym e)) other) has is)
 
-differ_back : (a b : Holding) → Differ a b → Differ b a
-differ_back (holding.Writer w) (holding.Writer v) d = λ e. d (sym e)
-differ_back (holding.Writer w) (holding.Reader r) d = tt
-differ_back (holding.Reader r) (holding.Writer w) d = tt
-differ_back (holding.Reader r) (holding.Reader q) d = λ e. d (sym e)
-
-mine_reader : (reader : ℕ) (r : Reader) (b : Holding) → r.reader ≡ reader → IsElse None (Some reader) b → Differ (holding.Reader r) b
-mine_reader reader r (holding.Writer w) is other = tt
-mine_reader reader r (holding.Reader q) is other = λ e. other (ap Some (sym is ∙ e))
-
-mine_differs : (reader : ℕ) (has : Option Reader) (a b : Holding) → IfSome has (λ r. r.reader ≡ reader) → as_held has ≡ Some a → IsElse None (Some reader) b → Differ a b
-mine_differs reader None a b number is other = absurd (none_some a is)
-mine_differs reader (Some r) a b number is other = subst (λ h. Differ h b) (some_same (holding.Reader r) a is) (mine_reader reader r b number other)
-
-apart_at : (reader : ℕ) (slots new : ℕ → Option Holding) (n : ℕ) (has : Option Reader) (m k : ℕ) (a b : Holding) (here there : Bool) → (m == n) ≡ here → (k == n) ≡ there
-    → OthersElse slots n None (Some reader) → IfSome has (λ r. r.reader ≡ reader) → AreApart slots → (m ≡ k → ⊥)
-    → (if here then as_held has else slots m) ≡ Some a → (if there then as_held has else slots k) ≡ Some b → Differ a b
-apart_at reader slots new n has m k a b true true e f others number apart ne ma kb = absurd (ne (eqb-true m n e ∙ sym (eqb-true k n f)))
-apart_at reader slots new n has m k a b true false e f others number apart ne ma kb = mine_differs reader has a b number ma (others k b f kb)
-apart_at reader slots new n has m k a b false true e f others number apart ne ma kb = differ_back b a (mine_differs reader has b a number kb (others m a e ma))
-apart_at reader slots new n has m k a b false false e f others number apart ne ma kb = apart m k a b ne ma kb
+mine_held : (reader : ℕ) (has : Option Reader) → IfSome has (λ r. r.reader ≡ reader) → (h : Holding) → as_held has ≡ Some h → IsMine None (Some reader) h
+mine_held reader None number h is = absurd (none_some h is)
+mine_held reader (Some r) number h is = subst (IsMine None (Some reader)) (some_is (holding.Reader r) h is) (ap Some (sym number))
 
 pub goes_apart : (reader : ℕ) (s t : State) (slots new : ℕ → Option Holding) (n : ℕ) (has : Option Reader) → Goes reader s t slots new n has → AreApart slots → AreApart new
-goes_apart reader s t slots new n has g apart = λ m k a b ne ma kb.
-    apart_at reader slots new n has m k a b (m == n) (k == n) refl refl g.others g.number apart ne (sym (g.changed m) ∙ ma) (sym (g.changed k) ∙ kb)
+goes_apart reader s t slots new n has g apart = all_apart None (Some reader) slots new n (as_held has) g.changed g.others (mine_held reader has g.number) apart
 
 open_held : (t : State) (has : Option Reader) → IfSome has (IsOpenReader t) → IfSome (as_held has) (IsHeld t)
 open_held t None h = h
@@ -112,7 +92,7 @@ with_other f n m x e = ap (λ (b : Bool). if b then x else f m) e
 with_here : {X : Type 0} (f : ℕ → X) (n m : ℕ) (x : X) → m ≡ n → with_value f n x m ≡ x
 with_here f n m x e = ap (λ (b : Bool). if b then x else f m) (eq-eqb m n e)
 
-held_is : (run : Run) (s t : State) (step : Step) (name : List ℕ) → actor_of step ≡ Some name
+pub held_is : (run : Run) (s t : State) (step : Step) (name : List ℕ) → actor_of step ≡ Some name
     → held_behind run s t step (actor_of step) ≡ with_value run.held (number_of run.actors name) (holds_behind run s t step name)
 held_is run s t step name is = ap (held_behind run s t step) is
 
@@ -138,24 +118,13 @@ plays_behind run s t turn step name n reader slots new has actor number streams 
           (has_as later t n has (ap (λ (f : ℕ → Option Rattle.script_run.specs.Run.Holding). f n) held_at ∙ (with_here run.held (number_of run.actors name) n (holds_behind run s (after_all s turn.added) step name) number ∙ holds)) mine);
     }
 
--- each put that an actor writes is open
-writing_at : (run : Run) (s : State) (n put : ℕ) (o : Option Holding) → IsHeldAs run s n o → IfSome o (IsHeld s) → option_and_then put_in (run.held n) ≡ Some put → is_writing s put ≡ true
-writing_at run s n put None own held is = absurd (none_some put (sym (ap (option_and_then put_in) own) ∙ is))
-writing_at run s n put (Some (holding.Writer w)) own held is =
-    subst (λ q. is_writing s q ≡ true) (some_same w.put put (sym (ap (option_and_then put_in) own.0) ∙ is)) held.0
-writing_at run s n put (Some (holding.Reader r)) own held is = absurd (none_some put (sym (ap (option_and_then put_in) own.0) ∙ is))
-
-pub are_writing : (run : Run) (s : State) (slots : ℕ → Option Holding) → AreHeld s slots → ((m : ℕ) → IsHeldAs run s m (slots m)) → AreWriting run s
-are_writing run s slots held own = λ name put is.
-    writing_at run s (number_of run.actors name) put (slots (number_of run.actors name)) (own (number_of run.actors name)) (held (number_of run.actors name)) is
-
 -- what a line did that was asked one thing
 abbrev pub line_turn : Permit → List Rec → List ℕ → Turn
 line_turn device added given = record { added = added; refused = None; device = device; given = given }
 
 -- a line that does nothing, at a moment
 abbrev pub still_permit : (now : ℕ) → Permit
-still_permit now = record { packed = false; now = now; faults_before = 0; faults = 0; reads = [] }
+still_permit now = call_permit now 0 0 []
 
 abbrev pub still_turn : (now : ℕ) → Turn
 still_turn now = record { added = []; refused = None; device = still_permit now; given = [] }
@@ -184,7 +153,7 @@ plays_still run s step name slots new actor streams holds same plays =
           ∙ (ap (λ (x : Option Rattle.script_run.specs.Run.Holding). with_value run.held n x m) holds ∙ with_same run.held n m (m == n) refl)) streams (plays.held m));
     }
 
-names_are : (run : Run) (s t : State) (turn : Turn) (step : Step) (name : List ℕ) (before after : List (List ℕ)) → actor_of step ≡ Some name → run.actors ≡ before → after ≡ with_actor before name
+pub names_are : (run : Run) (s t : State) (turn : Turn) (step : Step) (name : List ℕ) (before after : List (List ℕ)) → actor_of step ≡ Some name → run.actors ≡ before → after ≡ with_actor before name
     → (in_session run s t turn step).actors ≡ after
 names_are run s t turn step name before after actor is new = ap (actors_behind run.actors) actor ∙ (ap (λ names. with_actor names name) is ∙ sym new)
 
@@ -209,10 +178,10 @@ module _ {D R C : Type 0} (disk : DiskGhosts D) (directory : DirectoryGhosts R) 
       → holds_behind run (state_in chronicle old.stripe) (after_all (state_in chronicle old.stripe) added) step name ≡ as_run has
       → IfSome has (IsReaderOf (state_in chronicle new.stripe))
       → IsActive disk directory chronicle old (slots_of before)
-      → PlaysPart disk directory chronicle run old before
+      → PlaysPart chronicle run old before
       → Goes reader (state_in chronicle old.stripe) (state_in chronicle new.stripe) (slots_of before) (slots_of after) n has
       → session_said run (state_in chronicle old.stripe) (after_all (state_in chronicle old.stripe) added) (line_turn device added given) step ≡ said
-      → PartEnds disk directory chronicle run (state_in chronicle old.stripe) step new after said
+      → PartEnds chronicle run (state_in chronicle old.stripe) step new after said
   line_ends tell own run old new before after step name n i device added given reader has said line holds mine active plays g says =
       let s : State = state_in chronicle old.stripe in
       let sound : IsSound s = active.part.stripe.pieces.sound in
@@ -221,17 +190,17 @@ module _ {D R C : Type 0} (disk : DiskGhosts D) (directory : DirectoryGhosts R) 
         grows = subst (λ is. MayGrow device s (to_do is) added (record { intents = []; refused = None })) (sym line.asks) (grows_by device s (to_do (i ∷ [])) (record { intents = []; refused = None }) added (Done, line.does, refl));
         quiet = subst IsQuiet line.behind line.quiet;
       } in
-      elim (tell device s i added Done sound plays.inside.told line.does) [
+      elim (tell device s i added Done sound plays.at.told line.does) [
         | inr other ↦ inr (record { device = device; added = []; left = to_do (asked run s step); grows = nothing; other = IsOther.vector_copied other })
-        | inl told ↦ elim (own run s turn step sound plays.inside.told active.part.quiet plays.inside.own (are_writing run s (slots_of before) active.held plays.inside.held) legal) [
+        | inl told ↦ elim (own run s turn step sound plays.at.told active.part.quiet plays.at.own (are_writing run s (slots_of before) plays.at active.held) legal) [
           | inr shown ↦ inr shown.shows
           | inl owned ↦ inl (record {
             turn = turn;
             takes = record { plain = line.plain; moment = line.moment; legal = legal; own = line.gives };
             plays = record {
               names = names_are run s (after_all s added) turn step name before.names after.names line.actor plays.names line.names;
-              inside = plays_behind run s (state_in chronicle new.stripe) turn step name n reader (slots_of before) (slots_of after) has
-                  line.actor (line.number ∙ ap (λ names. number_of names name) (sym plays.names)) line.streams holds line.behind told owned mine plays.inside g;
+              at = plays_behind run s (state_in chronicle new.stripe) turn step name n reader (slots_of before) (slots_of after) has
+                  line.actor (line.number ∙ ap (λ names. number_of names name) (sym plays.names)) line.streams holds line.behind told owned mine plays.at g;
             };
             says = says;
           })
@@ -287,8 +256,8 @@ module _ {D R C : Type 0} (disk : DiskGhosts D) (directory : DirectoryGhosts R) 
       → holds_behind run (state_in chronicle part.stripe) (state_in chronicle part.stripe) step name ≡ held_by run name
       → session_said run (state_in chronicle part.stripe) (state_in chronicle part.stripe) (still_turn run.now) step ≡ said
       → IsQuiet (state_in chronicle part.stripe)
-      → PlaysPart disk directory chronicle run part before
-      → PartMoves disk directory chronicle run (state_in chronicle part.stripe) step part after said
+      → PlaysPart chronicle run part before
+      → PartMoves chronicle run (state_in chronicle part.stripe) step part after said
   still_moves run part before after step name n said actor number names same nothing_asked own streams holds says quiet plays =
       let s : State = state_in chronicle part.stripe in
       record {
@@ -301,7 +270,7 @@ module _ {D R C : Type 0} (disk : DiskGhosts D) (directory : DirectoryGhosts R) 
         };
         plays = record {
           names = names_are run s s (still_turn run.now) step name before.names after.names actor plays.names names;
-          inside = plays_still run s step name (slots_of before) (slots_of after) actor streams holds same plays.inside;
+          at = plays_still run s step name (slots_of before) (slots_of after) actor streams holds same plays.at;
         };
         says = says;
       }
@@ -311,7 +280,7 @@ module _ {D R C : Type 0} (disk : DiskGhosts D) (directory : DirectoryGhosts R) 
 reader_is : (o : Option Holding) (r : Reader) → Some r ≡ reader_held o → o ≡ Some (holding.Reader r)
 reader_is None r e = absurd (none_some r (sym e))
 reader_is (Some (holding.Writer w)) r e = absurd (none_some r (sym e))
-reader_is (Some (holding.Reader q)) r e = ap (λ (x : Reader). Some (holding.Reader x)) (sym (some_same r q e))
+reader_is (Some (holding.Reader q)) r e = ap (λ (x : Reader). Some (holding.Reader x)) (sym (some_is r q e))
 
 -- the actor had the reader, and has nothing
 pub record Took (before after : ℕ → Option Holding) (n : ℕ) (r : Reader) : Type 0 where
@@ -370,24 +339,24 @@ module _ {D R C : Type 0} (disk : DiskGhosts D) (directory : DirectoryGhosts R) 
 
   -- the run says of an actor what it has
   pub held_reader : (run : Run) (part : Part D R C) (actors : Seen Holding) (name : List ℕ) (n : ℕ) (r : Reader) → n ≡ number_of actors.names name → slots_of actors n ≡ Some (holding.Reader r)
-      → PlaysPart disk directory chronicle run part actors → (held_by run name ≡ Some (Reads r.reader)) × IsReaderOf (state_in chronicle part.stripe) r
+      → PlaysPart chronicle run part actors → (held_by run name ≡ Some (Reads r.reader)) × IsReaderOf (state_in chronicle part.stripe) r
   held_reader run part actors name n r number is plays =
-      let own : IsHeldAs run (state_in chronicle part.stripe) n (Some (holding.Reader r)) = subst (IsHeldAs run (state_in chronicle part.stripe) n) is (plays.inside.held n) in
+      let own : IsHeldAs run (state_in chronicle part.stripe) n (Some (holding.Reader r)) = subst (IsHeldAs run (state_in chronicle part.stripe) n) is (plays.at.held n) in
       (held_there run actors name n plays.names number ∙ own.0, own.1)
 
   pub reads_none : (run : Run) (part : Part D R C) (actors : Seen Holding) (name : List ℕ) (n : ℕ) → n ≡ number_of actors.names name → None ≡ reader_held (slots_of actors n)
-      → PlaysPart disk directory chronicle run part actors → reader_by run name ≡ None
+      → PlaysPart chronicle run part actors → reader_by run name ≡ None
   reads_none run part actors name n number none plays =
-      ap (option_and_then reader_in) (held_there run actors name n plays.names number) ∙ no_reader run (state_in chronicle part.stripe) n (slots_of actors n) none (plays.inside.held n)
+      ap (option_and_then reader_in) (held_there run actors name n plays.names number) ∙ no_reader run (state_in chronicle part.stripe) n (slots_of actors n) none (plays.at.held n)
 
   pub holds_none : (run : Run) (part : Part D R C) (actors : Seen Holding) (name : List ℕ) (n : ℕ) → n ≡ number_of actors.names name → slots_of actors n ≡ None
-      → PlaysPart disk directory chronicle run part actors → held_by run name ≡ None
+      → PlaysPart chronicle run part actors → held_by run name ≡ None
   holds_none run part actors name n number none plays =
-      held_there run actors name n plays.names number ∙ subst (IsHeldAs run (state_in chronicle part.stripe) n) none (plays.inside.held n)
+      held_there run actors name n plays.names number ∙ subst (IsHeldAs run (state_in chronicle part.stripe) n) none (plays.at.held n)
 
   pub still_held : (run : Run) (part : Part D R C) (actors : Seen Holding) (name : List ℕ) (n : ℕ) → n ≡ number_of actors.names name → IsActive disk directory chronicle part (slots_of actors)
-      → PlaysPart disk directory chronicle run part actors → still_open (state_in chronicle part.stripe) (held_by run name) ≡ held_by run name
+      → PlaysPart chronicle run part actors → still_open (state_in chronicle part.stripe) (held_by run name) ≡ held_by run name
   still_held run part actors name n number active plays =
       let there : held_by run name ≡ run.held n = held_there run actors name n plays.names number in
       ap (still_open (state_in chronicle part.stripe)) there
-      ∙ (open_still run (state_in chronicle part.stripe) n (slots_of actors n) (plays.inside.held n) (active.held n) ∙ sym there)
+      ∙ (open_still run (state_in chronicle part.stripe) n (slots_of actors n) (plays.at.held n) (active.held n) ∙ sym there)

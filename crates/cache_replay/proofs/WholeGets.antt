@@ -74,7 +74,7 @@ trouble_tells (Some row) (read.Hit put) = refl
 trouble_tells (Some row) (read.Follow put) = refl
 trouble_tells (Some row) (read.Miss why) = cause_tells row why
 
-opened_finds : (s : State) (who : Actor) (key : Key) (request : List Field) (a : ReadAnswer) → lookup_in (open_adds s who key request a) ≡ Some a
+pub opened_finds : (s : State) (who : Actor) (key : Key) (request : List Field) (a : ReadAnswer) → lookup_in (open_adds s who key request a) ≡ Some a
 opened_finds s who key request a =
     lookup_append (lookup_adds s key a) (rec.ReadOpened s.next_reader who key request a ∷ [])
     ∙ ap (λ (o : Option ReadAnswer). first_of o (Some a)) (trouble_finds (live_vector_of s key) a)

@@ -1,11 +1,10 @@
 -- The line of a whole read.
-use Rattle.std.proofs.Common.{◌≡◌, ℕ, ◌+◌, ◌-◌, ◌*◌, min, take, drop, length, length-append, length-drop, length-take, List, [], ◌∷◌, ◌++◌, refl, sym, ◌∙◌, ap, subst, Bool, true, false, ◌⊎◌, inl, inr, arith}
+use Rattle.std.proofs.Common.{◌≡◌, ℕ, ◌+◌, ◌-◌, min, take, drop, length, length-append, length-drop, length-take, List, [], ◌∷◌, ◌++◌, refl, sym, ◌∙◌, ap, subst, Bool, true, false, ◌⊎◌, inl, inr, arith}
 use Rattle.std.specs.Prelude.{Option, Some, None, IfSome, if◌then◌else◌}
 use Rattle.std.specs.List.{AllByRecursion, filter}
 use Rattle.ats_disk.specs.declared.device.Disk.{Ghosts as DiskGhosts}
 use Rattle.dir_table.specs.declared.directory.Directory.{Ghosts as DirectoryGhosts}
 use Rattle.cache_chronicle.specs.declared.chronicle.Chronicle.{Ghosts as ChronicleGhosts}
-use Rattle.tape_base.specs.Geometry.{budget_of}
 use Rattle.tape_base.specs.declared.keys.Key.{Key}
 use Rattle.alternate_vector.specs.Field.{Field}
 use Rattle.cache_model.specs.declared.record.Rec.{Rec}
@@ -37,13 +36,14 @@ use Rattle.cache_replay.specs.declared.session.Part.{Part}
 use Rattle.cache_replay.specs.declared.session.Holding.{Holding}
 use Rattle.cache_replay.specs.declared.session.Holding.TheVariants as holding
 use Rattle.cache_replay.specs.declared.getting.Got.{Got}
-use Rattle.cache_replay.specs.Session.{AreHeld, IsActive, IsAt, IsHeld, IsPart, IsSession, LeavesBut, names_in, slots_in}
+use Rattle.cache_replay.specs.Session.{AreHeld, IsActive, IsHeld, IsPart, LeavesBut, names_in, slots_in}
 use Rattle.cache_replay.specs.Plays.{IsHeldAs, Plays, PlaysIn, StepEnds}
 use Rattle.cache_replay.specs.Getting.{Gets, GetsAsAsked, LineEnds, given_in, got_answer}
 use Rattle.cache_replay.proofs.Frames.{IsElse, held_as_stays, held_stays}
-use Rattle.cache_replay.proofs.OnSession.{told_behind}
+use Rattle.cache_replay.proofs.OnSession.{on_session, told_behind}
 use Rattle.cache_replay.proofs.Calls.{call_covered, call_permit}
-use Rattle.cache_replay.proofs.ReaderSessions.{get_on, line_moved, line_shows, part_plays}
+use Rattle.cache_replay.proofs.ReaderLines.{part_behind}
+use Rattle.cache_replay.proofs.OnPart.{line_moved, line_shows, part_plays}
 
 -- ---- what stands belongs to what writers took behind the whole read
 
@@ -152,14 +152,6 @@ refilled n xs ws h =
     omega (arith, taken, both, dropped, h)
 
 module _ {D R C : Type 0} (disk : DiskGhosts D) (directory : DirectoryGhosts R) (chronicle : ChronicleGhosts C) where
-  pub page_part : (old new : Part D R C) → IsPart disk directory chronicle old → IsStripe disk directory chronicle new.stripe → IsQuiet (state_in chronicle new.stripe)
-      → length new.page.items ≡ length old.page.items → (state_in chronicle new.stripe).geometry ≡ (state_in chronicle old.stripe).geometry → IsPart disk directory chronicle new
-  page_part old new part stripe quiet page geometry = record {
-    stripe = stripe;
-    quiet = quiet;
-    page = page ∙ (part.page ∙ ap (λ g. 512 * budget_of g) (sym geometry));
-  }
-
   pub part_active : (old new : Part D R C) (n : ℕ) (slots : ℕ → Option Holding) → IsPart disk directory chronicle new → LeavesBut None (Some n) (state_in chronicle old.stripe) (state_in chronicle new.stripe)
       → reader_of (state_in chronicle old.stripe) n ≡ None → IsActive disk directory chronicle old slots → IsActive disk directory chronicle new slots
   part_active old new n slots part leaves none active = record {
@@ -174,10 +166,7 @@ module _ {D R C : Type 0} (disk : DiskGhosts D) (directory : DirectoryGhosts R) 
       → IsActive disk directory chronicle old slots → IsActive disk directory chronicle (record { stripe = stripe; page = with_items old.page page }) slots
   read_active old stripe page n slots part whole quiet leaves none active =
       let new : Part D R C = record { stripe = stripe; page = with_items old.page page } in
-      part_active old new n slots (page_part old new part whole quiet (refilled old.page.len old.page.items page (sym old.page.ok.0)) leaves.geometry) leaves none active
-
-  pub active_of : (session : Session D R C) (part : Part D R C) → session.part ≡ Some part → IsSession disk directory chronicle session → IsActive disk directory chronicle part (slots_in session)
-  active_of session part is h = subst (λ o. IsAt disk directory chronicle o (slots_in session)) is h
+      part_active old new n slots (part_behind disk directory chronicle old new part whole quiet (refilled old.page.len old.page.items page (sym old.page.ok.0)) leaves.geometry) leaves none active
 
   pub session_ends : (run : Run) (old new : Session D R C) (part part2 : Part D R C) (key : Key) (request : List Field) (said : StepAnswer) → old.part ≡ Some part → new.part ≡ Some part2 → names_in new ≡ names_in old → new.now ≡ old.now
       → ((m : ℕ) → slots_in new m ≡ slots_in old m) → Plays disk directory chronicle run old → IsActive disk directory chronicle part (slots_in old)
@@ -189,14 +178,14 @@ module _ {D R C : Type 0} (disk : DiskGhosts D) (directory : DirectoryGhosts R) 
       let s : State = state_in chronicle part.stripe in
       let there = part_plays disk directory chronicle run old part was plays in
       let shows : Shows run.streams s (get_intents s key request) → StepShows run run.state (step.Get key request) = λ shown. line_shows disk directory chronicle run old part (step.Get key request) was plays shown in
-      elim (harms run there.inside.told there.inside.own) [
+      elim (harms run there.at.told there.at.own) [
         | inr shown ↦ inr (shows shown)
-        | inl stays ↦ elim (ends (slots_in old) active.held there.inside) [
+        | inl stays ↦ elim (ends (slots_in old) active.held there.at) [
           | inr shown ↦ inr (shows shown)
-          | inl m ↦ inl (line_moved disk directory chronicle run old new part part2 (step.Get key request) said m.turn (get_on key request) was is kept plays stays m.takes
+          | inl m ↦ inl (line_moved disk directory chronicle run old new part part2 (step.Get key request) said m.turn (on_session (step.Get key request) tt) was is kept plays stays m.takes
               (record {
                 names = plays.names ∙ sym names;
-                inside = record {
+                at = record {
                   state = m.plays.state;
                   told = m.plays.told;
                   own = m.plays.own;

@@ -1,7 +1,6 @@
 -- One fragment after the other, up to the end.
 use Rattle.std.proofs.Common.{◌≡◌, ℕ, zero, suc, min, ◌+◌, ◌-◌, ◌*◌, ◌<◌, ◌≤◌, List, [], ◌∷◌, ◌++◌, length, take, refl, sym, ◌∙◌, ap, subst, true, false, cond, ◌⊎◌, inl, inr, arith}
 use Rattle.std.specs.Prelude.{Option, Some, None, is_some, option_map, option_and_then, unwrap_or, slice_get}
-use Rattle.std.specs.List.{AllByRecursion}
 use Rattle.std.proofs.Math.Nat.{add-mul}
 use Rattle.std.proofs.Math.Seq.{take-add}
 use Rattle.ats_disk.specs.Device.{State as Device}
@@ -18,7 +17,7 @@ use Rattle.cache_model.specs.State.{ReaderRow, Row, State, live_row_of}
 use Rattle.cache_model.specs.Kept.{Kept, state_of, with_records}
 use Rattle.cache_model.specs.Verdict
 use Rattle.cache_model.specs.Verdict.{next_piece, next_row}
-use Rattle.cache_model.specs.Permit.{DeviceRead, Done, End, Intent, IsAmong, Permit, ReadAll, ReadOn, Stays, StopReading, Work, to_do, work_after}
+use Rattle.cache_model.specs.Permit.{Done, End, Intent, Permit, ReadAll, ReadOn, Stays, StopReading, Work, to_do, work_after}
 use Rattle.cache_model.specs.Legal
 use Rattle.cache_model.specs.Legal.{Does, IsQuiet, IsReading, MayGrow, MayReadOn, answer_record, has_hit, is_given, live_next}
 use Rattle.cache_model.proofs.Answered.{end_is_whole}
@@ -30,7 +29,7 @@ use Rattle.stripe_read.specs.declared.reading.NextPiece.{NextPiece}
 use Rattle.stripe_read.specs.declared.reading.NextPiece.TheVariants as piece
 use Rattle.stripe_read.specs.Readers.{IsReaderOf, as_row, row_by, rows_in}
 use Rattle.stripe_read.specs.Nexts.{GoesOn, IsFragment, ReadsOn, listed_length, noted, read_adds, trouble_with}
-use Rattle.stripe_write.proofs.Spending.{state_behind}
+use Rattle.stripe_write.proofs.Spending.{covers_first, covers_last, state_behind, then_more}
 use Rattle.script_run.specs.Run.{Run}
 use Rattle.script_run.specs.Turn.{is_told, later, lookup_in, told_in}
 use Rattle.script_run.specs.Answers.{broken_said}
@@ -41,11 +40,12 @@ use Rattle.script_lang.specs.declared.answer.StepAnswer.{StepAnswer}
 use Rattle.script_lang.specs.declared.answer.StepAnswer.TheVariants as answer
 use Rattle.cache_replay.proofs.Calls.{call_covered, call_permit}
 use Rattle.cache_replay.specs.Getting.{Answered, Began, IsAnswered, IsUnderway, Underway, rows_left}
+use Rattle.cache_replay.proofs.Frames.{some_is}
 use Rattle.cache_replay.proofs.ReaderFrames.{read_leaves}
 
 -- ---- what was answered among records
 
-later_none : (o : Option Rec) → later None o ≡ o
+pub later_none : (o : Option Rec) → later None o ≡ o
 later_none None = refl
 later_none (Some r) = refl
 
@@ -128,9 +128,6 @@ answer_is n (next.Ended size) = refl
 answer_is n (next.Waited cut) = refl
 answer_is n (next.Broke why) = refl
 
-some_is : {X : Type 0} (x y : X) → Some x ≡ Some y → x ≡ y
-some_is x y h = cc
-
 same_answer : (a b : List Rec) (n : ℕ) (x y : NextAnswer) → a ++ answer_record n x ∷ [] ≡ b ++ answer_record n y ∷ [] → y ≡ x
 same_answer a b n x y h =
     let same : answer_record n x ≡ answer_record n y =
@@ -186,25 +183,6 @@ more_front fragment index bytes body part some front here =
 
 -- ---- the step
 
-front_known : (p : Permit) (a b : List DeviceRead) → AllByRecursion (λ r. IsAmong r p.reads) (a ++ b) → AllByRecursion (λ r. IsAmong r p.reads) a
-front_known p [] b h = tt
-front_known p (x ∷ a) b h = (h.0, front_known p a b h.1)
-
-rest_known : (p : Permit) (a b : List DeviceRead) → AllByRecursion (λ r. IsAmong r p.reads) (a ++ b) → AllByRecursion (λ r. IsAmong r p.reads) b
-rest_known p [] b h = h
-rest_known p (x ∷ a) b h = rest_known p a b h.1
-
--- a step that covers two calls covers each
-pub covers_first : (p : Permit) (before mid after : ℕ) (a b : List DeviceRead) → mid ≤ after → Covers p before after (a ++ b) → Covers p before mid a
-covers_first p before mid after a b le c = let u : after ≤ p.faults = c.upto in record { plain = c.plain; from = c.from; upto = omega (arith, le, u); knows = front_known p a b c.knows }
-
-pub covers_second : (p : Permit) (before mid after : ℕ) (a b : List DeviceRead) → before ≤ mid → Covers p before after (a ++ b) → Covers p mid after b
-covers_second p before mid after a b le c = let f : p.faults_before ≤ before = c.from in record { plain = c.plain; from = omega (arith, le, f); upto = c.upto; knows = rest_known p a b c.knows }
-
-pub two_calls : (k k1 k2 : Kept) (a b : List Rec) → k1 ≡ with_records k a → k2 ≡ with_records k1 b → k2 ≡ with_records k (a ++ b)
-two_calls k k1 k2 a b e f =
-    f ∙ (ap (λ x. with_records x b) e ∙ ap (λ recs. let new : Kept = record { base = k.base; since = recs } in new) (Rattle.std.proofs.Common.append_assoc k.since a b))
-
 -- one group behind the others
 pub grown : (p : Permit) (k k1 : Kept) (a b : List Rec) (w : Work) (i : Intent) (rest : List Intent) (e : End) → k1 ≡ with_records k a
     → MayGrow p (state_of k) w a (to_do (i ∷ rest)) → Does p (state_of k1) i b e → MayGrow p (state_of k) w (a ++ b) (work_after i rest None e)
@@ -240,7 +218,7 @@ module _ (owns : ReadsOwn) (reads_own_bytes : ReadIsOwn) (given_all : AllIsGiven
       elim (reads_own_bytes p (state_of k) run.streams (as_row r) f.row size into way.own some f.live f.document) [
         | inl same ↦ inl (record {
           added = way.added ++ adds_of (piece.Piece index size);
-          adds = two_calls b.kept k k2 way.added (adds_of (piece.Piece index size)) way.adds is;
+          adds = then_more b.kept k k2 way.added (adds_of (piece.Piece index size)) way.adds is;
           grows = subst (λ n. MayGrow p (state_of b.kept) (to_do b.asks) (way.added ++ adds_of (piece.Piece index size)) (to_do (ReadAll n ∷ StopReading n ∷ []))) (sym goes.reader) (piece_grows index size d);
           own = subst (λ t. AreOwn t run.streams) (sym (state_behind k k2 (adds_of (piece.Piece index size)) is)) (owns p (state_of k) run.streams (ReadOn r.reader) (adds_of (piece.Piece index size)) Done refl way.own d);
           reader = own;
@@ -284,7 +262,7 @@ module _ (owns : ReadsOwn) (reads_own_bytes : ReadIsOwn) (given_all : AllIsGiven
       let all : take ((r.next - 1) * (state_of k).geometry.fragment) (run.streams r.put).bytes ≡ (run.streams r.put).bytes = all_of r.table refl hit none in
       record {
         added = way.added ++ adds_of (piece.End size);
-        adds = two_calls b.kept k k2 way.added (adds_of (piece.End size)) way.adds is;
+        adds = then_more b.kept k k2 way.added (adds_of (piece.End size)) way.adds is;
         grows = stop_grows (piece.End size) refl d;
         body = rw (told_behind (piece.End size), hit_behind (piece.End size)) (way.front ∙ all);
         says = rw (told_behind (piece.End size), hit_behind (piece.End size)) refl;
@@ -300,7 +278,7 @@ module _ (owns : ReadsOwn) (reads_own_bytes : ReadIsOwn) (given_all : AllIsGiven
       → Answered p b k2 run (StopReading r.reader ∷ []) [] (broken_said why)
   broken_way why is d = record {
     added = way.added ++ adds_of (piece.Broken why);
-    adds = two_calls b.kept k k2 way.added (adds_of (piece.Broken why)) way.adds is;
+    adds = then_more b.kept k k2 way.added (adds_of (piece.Broken why)) way.adds is;
     grows = stop_grows (piece.Broken why) refl d;
     body = rw (told_behind (piece.Broken why)) refl;
     says = rw (told_behind (piece.Broken why), hit_behind (piece.Broken why)) refl;
@@ -317,7 +295,7 @@ module _ (owns : ReadsOwn) (own_bytes : ReadIsOwn) (given_all : AllIsGiven) (b :
     (under : IsUnderway b old.faults k r body) (hit : is_some r.table ≡ true) (some : 1 ≤ r.next) (quiet : IsQuiet (state_of k)) (rises : old.faults ≤ new.faults) where
   does_of : (a : NextPiece) (reading : ReadsOn (state_of k) old new r a into) (p : Permit) → Covers p b.faults new.faults (under.reads ++ reading.reads) → IsReaderOf (state_of k) r
       → Does p (state_of k) (ReadOn r.reader) (read_adds (state_of k) r a) Done
-  does_of a reading p covers own = reading.does p (covers_second p b.faults old.faults new.faults under.reads reading.reads under.since covers) own
+  does_of a reading p covers own = reading.does p (covers_last p b.faults old.faults new.faults under.reads reading.reads under.since covers) own
 
   pub piece_comes : (index size : ℕ) (r2 : Reader) → k2 ≡ with_records k (read_adds (state_of k) r (piece.Piece index size)) → ReadsOn (state_of k) old new r (piece.Piece index size) into
       → GoesOn r (piece.Piece index size) r2 → (IsReaderOf (state_of k) r → IsReaderOf (state_of k2) r2) → IsUnderway b new.faults k2 r2 (body ++ take size into)
@@ -327,7 +305,7 @@ module _ (owns : ReadsOwn) (own_bytes : ReadIsOwn) (given_all : AllIsGiven) (b :
     does = λ p run covers told own.
         elim (under.does p run (covers_first p b.faults old.faults new.faults under.reads reading.reads rises covers) told own) [
           | inl way ↦ piece_way owns own_bytes given_all p b run k k2 r body way hit some index size into r2 is (does_of (piece.Piece index size) reading p covers way.reader) goes (keeps way.reader)
-              (reading.gives p (covers_second p b.faults old.faults new.faults under.reads reading.reads under.since covers))
+              (reading.gives p (covers_last p b.faults old.faults new.faults under.reads reading.reads under.since covers))
           | inr shows ↦ inr shows
         ];
   }
@@ -411,7 +389,7 @@ closed_comes b old now n k k2 given said le is does answered = record {
       elim (answered.does p run (let u : now ≤ p.faults = covers.upto in record { plain = covers.plain; from = covers.from; upto = omega (arith, u, le); knows = covers.knows }) told own) [
         | inl a ↦ inl (record {
           added = a.added ++ rec.ReadClosed n ∷ [];
-          adds = two_calls b.kept k k2 a.added (rec.ReadClosed n ∷ []) a.adds is;
+          adds = then_more b.kept k k2 a.added (rec.ReadClosed n ∷ []) a.adds is;
           grows = grown p b.kept k a.added (rec.ReadClosed n ∷ []) (to_do b.asks) (StopReading n) [] Done a.adds a.grows (does p);
           body = rw (told_append a.added (rec.ReadClosed n ∷ []), lookup_stays a.added (rec.ReadClosed n ∷ []) refl) a.body;
           says = rw (told_append a.added (rec.ReadClosed n ∷ []), lookup_stays a.added (rec.ReadClosed n ∷ []) refl) a.says;

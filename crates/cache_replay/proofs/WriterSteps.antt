@@ -1,6 +1,7 @@
 -- What a line asks of a writer, and what it leaves of it.
 use Rattle.std.proofs.Common.{◌≡◌, ℕ, List, [], ◌∷◌, drop, refl, sym, ◌∙◌, ap, subst, Bool, true, false, inl, append-nil}
 use Rattle.std.specs.Prelude.{Option, Some, None, IfSome, if◌then◌else◌, option_and_then, option_map, unwrap_or}
+use Rattle.tape_base.specs.declared.keys.Key.{Key}
 use Rattle.fragment_table.specs.Table.{TableRow, total_length}
 use Rattle.cache_model.specs.declared.record.Rec.{Rec}
 use Rattle.cache_model.specs.declared.record.Rec.TheVariants as rec
@@ -20,11 +21,10 @@ use Rattle.stripe_write.proofs.Ended.{open_put}
 use Rattle.stripe_write.proofs.Spending.{state_behind}
 use Rattle.script_lang.specs.declared.answer.StepAnswer.TheVariants as answer
 use Rattle.script_run.specs.Run.{Run, Writes, gathered_of, put_in, writer_of}
-use Rattle.script_run.specs.Asked.{asked}
 use Rattle.script_run.specs.Behind.{still_open}
 use Rattle.cache_replay.specs.WriterLines.{GivesUp, IsPlayed, WriterDoes, writes_in}
-
--- ---- records that were added
+use Rattle.cache_replay.proofs.Calls.{call_permit}
+use Rattle.cache_replay.proofs.Endings.{key_of}
 
 -- ---- the put of an actor
 
@@ -35,6 +35,11 @@ pub cuts_at : (s : State) (w : Writer) → is_writing s w.put ≡ true → IsWri
 cuts_at s w writing own =
     let o = open_put (put_of s w.put) writing in
     ap (λ (r : Option PutRow). unwrap_or (option_map (λ (p : PutRow). p.cuts) r) []) o.1 ∙ (own o.0 o.1 o.2).cuts_are
+
+pub key_at : (s : State) (w : Writer) → is_writing s w.put ≡ true → IsWriterOf s w → key_of s w.put ≡ Some w.key
+key_at s w writing own =
+    let o = open_put (put_of s w.put) writing in
+    ap (λ (r : Option PutRow). option_map (λ (p : PutRow). p.key) r) o.1 ∙ ap (λ (k : Key). Some k) (own o.0 o.1 o.2).key_is
 
 pub gathered_at : (run : Run) (name : List ℕ) (s : State) (w : Writer) → IsPlayed run name s w → is_writing s w.put ≡ true → IsWriterOf s w → gathered_of run s w.put ≡ w.gathered.items
 gathered_at run name s w played writing own =
@@ -50,7 +55,7 @@ gives_up : (law : WriterIsEnded) (old new : Kept) (w : Writer) (put : ℕ) → I
 gives_up law old new w put quiet adds is does now = λ run name moment played.
     let s : State = state_of old in
     let t : State = state_of new in
-    let p : Permit = record { packed = false; now = run.now; faults_before = 0; faults = 0; reads = [] } in
+    let p : Permit = call_permit run.now 0 0 [] in
     let added : List Rec = rec.Aborted put w.key ∷ [] in
     let there = state_behind old new added adds in
     let legal : IsStep p s (GiveUp w.put ∷ []) added None = record { grows = grows_by p s (to_do (GiveUp w.put ∷ [])) (record { intents = []; refused = None }) added (Done, does p, refl); quiet = subst IsQuiet there quiet } in

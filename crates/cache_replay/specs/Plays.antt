@@ -6,27 +6,28 @@ use Rattle.ats_disk.specs.declared.device.Disk.{Ghosts as DiskGhosts}
 use Rattle.dir_table.specs.declared.directory.Directory.{Ghosts as DirectoryGhosts}
 use Rattle.cache_chronicle.specs.declared.chronicle.Chronicle.{Ghosts as ChronicleGhosts}
 use Rattle.fragment_table.specs.Table.{total_length}
-use Rattle.cache_model.specs.State.{State}
+use Rattle.cache_model.specs.State.{State, after_all}
 use Rattle.cache_model.specs.Vectors.{AreTold}
 use Rattle.stripe_core.specs.Stripe.{seen_in, state_in}
 use Rattle.stripe_core.specs.Unharmed.{IsUnharmed}
 use Rattle.stripe_write.specs.declared.writer.Writer.{Writer}
 use Rattle.stripe_read.specs.Readers.{IsReaderOf}
+use Rattle.actor_table.specs.Table.{Seen}
 use Rattle.script_lang.specs.declared.step.Step.{Step}
 use Rattle.script_lang.specs.declared.answer.StepAnswer.{StepAnswer}
 use Rattle.script_run.specs.Run.{Harm, Run, Stream, Writes, Reads, no_harm}
 use Rattle.script_run.specs.Turn.{Turn}
-use Rattle.script_run.specs.Answers.{step_answer}
-use Rattle.script_run.specs.Behind.{after_step, harm_of}
+use Rattle.script_run.specs.Answers.{session_said, step_answer}
+use Rattle.script_run.specs.Behind.{after_step, harm_of, in_session}
 use Rattle.script_run.specs.Own.{AreOwn}
-use Rattle.script_run.specs.Takes.{StepShows, StepTakes}
+use Rattle.script_run.specs.Takes.{SessionTakes, StepShows, StepTakes}
 use Rattle.cache_replay.specs.declared.session.Session.{Session}
 use Rattle.cache_replay.specs.declared.session.Part.{Part}
 use Rattle.cache_replay.specs.declared.session.Holding.{Holding}
 use Rattle.cache_replay.specs.declared.session.Holding.TheVariants as holding
 use Rattle.cache_replay.specs.declared.stop.Stop.{Stop}
 use Rattle.cache_replay.specs.declared.stop.Stop.TheVariants.{Memory}
-use Rattle.cache_replay.specs.Session.{IsSession, names_in, return_of, slots_in}
+use Rattle.cache_replay.specs.Session.{IsSession, names_in, return_of, slots_in, slots_of}
 
 -- ---- a session beside a run
 
@@ -106,6 +107,25 @@ module _ {D R C : Type 0} (disk : DiskGhosts D) (directory : DirectoryGhosts R) 
   -- so it is, or two documents of one SHA-256 are shown
   abbrev pub StepEnds : Run → Step → Session D R C → StepAnswer → Type 0
   StepEnds run step new said = StepMoves run step new said ⊎ StepShows run run.state step
+
+-- ---- a line on a part
+
+module _ {D R C : Type 0} (chronicle : ChronicleGhosts C) where
+  -- a part and the actors as the run has them
+  pub record PlaysPart (run : Run) (part : Part D R C) (actors : Seen Holding) : Type 0 where
+    pub names : run.actors ≡ actors.names
+    pub at : PlaysIn run (state_in chronicle part.stripe) (slots_of actors)
+
+  -- a line on a session with these records did what it must, and this is its answer
+  pub record PartMoves (run : Run) (s : State) (step : Step) (part : Part D R C) (actors : Seen Holding) (said : StepAnswer) : Type 0 where
+    pub turn : Turn
+    pub takes : SessionTakes run s turn step
+    pub plays : PlaysPart (in_session run s (after_all s turn.added) turn step) part actors
+    pub says : session_said run s (after_all s turn.added) turn step ≡ said
+
+  -- so it is, or two documents of one SHA-256 are shown
+  abbrev pub PartEnds : Run → State → Step → Part D R C → Seen Holding → StepAnswer → Type 0
+  PartEnds run s step part actors said = PartMoves run s step part actors said ⊎ StepShows run (Some s) step
 
 -- ---- devices
 

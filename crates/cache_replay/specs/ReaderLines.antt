@@ -1,38 +1,25 @@
 -- What the lines of readers make of a part, and of what the actors have.
 use Rattle.std.specs.Prelude.{ℕ, ◌≡◌, ◌⊎◌, ◌≤◌, false, List, [], ◌∷◌, length, take, Option, Some, None, option_map}
-use Rattle.dir_table.specs.declared.directory.Directory.{Ghosts as DirectoryGhosts}
-use Rattle.ats_disk.specs.declared.device.Disk.{Ghosts as DiskGhosts}
-use Rattle.cache_chronicle.specs.declared.chronicle.Chronicle.{Ghosts as ChronicleGhosts}
-use Rattle.actor_table.specs.Table.{Seen, slot_of}
 use Rattle.cache_model.specs.declared.record.Rec.{Rec}
 use Rattle.cache_model.specs.State.{State, after_all}
 use Rattle.cache_model.specs.Permit.{Done, Permit, ReadOn}
 use Rattle.cache_model.specs.Legal.{Does}
-use Rattle.stripe_core.specs.Stripe.{state_in}
 use Rattle.stripe_read.specs.declared.reader.Reader.{Reader}
 use Rattle.stripe_read.specs.declared.opening.Opened.{Opened}
 use Rattle.stripe_read.specs.declared.opening.Opened.TheVariants as opened
 use Rattle.stripe_read.specs.declared.reading.NextPiece.{NextPiece}
 use Rattle.stripe_read.specs.declared.reading.NextPiece.TheVariants as piece
 use Rattle.stripe_read.specs.Readers.{IsReaderOf}
-use Rattle.script_lang.specs.declared.step.Step.{Step}
 use Rattle.script_lang.specs.declared.answer.StepAnswer.{StepAnswer}
 use Rattle.script_lang.specs.declared.answer.StepAnswer.TheVariants as answer
 use Rattle.script_run.specs.Run.{Run}
-use Rattle.script_run.specs.Turn.{Turn, told_in}
-use Rattle.script_run.specs.Answers.{broken_said, miss_said, next_said, session_said}
-use Rattle.script_run.specs.Behind.{in_session}
-use Rattle.script_run.specs.Takes.{IsPiece, SessionTakes, Shows, StepShows}
-use Rattle.cache_replay.specs.declared.session.Part.{Part}
+use Rattle.script_run.specs.Turn.{told_in}
+use Rattle.script_run.specs.Answers.{broken_said, miss_said, next_said}
+use Rattle.script_run.specs.Takes.{IsPiece, Shows}
 use Rattle.cache_replay.specs.declared.session.Holding.{Holding}
 use Rattle.cache_replay.specs.declared.session.Holding.TheVariants as holding
-use Rattle.cache_replay.specs.Plays.{PlaysIn}
 
 -- ---- what an actor has
-
--- what the actor of a number has, from 1; nothing where there is no such actor
-abbrev pub slots_of : Seen Holding → ℕ → Option Holding
-slots_of actors n = slot_of actors.slots n
 
 -- what an actor has that has a reader
 abbrev pub as_held : Option Reader → Option Holding
@@ -94,22 +81,3 @@ pub record NextMoves (run : Run) (s t : State) (r new : Reader) (said : StepAnsw
 -- or two documents of one SHA-256 are shown
 abbrev pub NextEnds : Run → (s t : State) → (r new : Reader) → StepAnswer → Type 0
 NextEnds run s t r new said = NextMoves run s t r new said ⊎ Shows run.streams s (ReadOn r.reader ∷ [])
-
--- ---- a line
-
-module _ {D R C : Type 0} (disk : DiskGhosts D) (directory : DirectoryGhosts R) (chronicle : ChronicleGhosts C) where
-  -- a part and the actors as the run has them
-  pub record PlaysPart (run : Run) (part : Part D R C) (actors : Seen Holding) : Type 0 where
-    pub names : run.actors ≡ actors.names
-    pub inside : PlaysIn run (state_in chronicle part.stripe) (slots_of actors)
-
-  -- a step did what it must, and this is its answer
-  pub record PartMoves (run : Run) (s : State) (step : Step) (part : Part D R C) (actors : Seen Holding) (said : StepAnswer) : Type 0 where
-    pub turn : Turn
-    pub takes : SessionTakes run s turn step
-    pub plays : PlaysPart (in_session run s (after_all s turn.added) turn step) part actors
-    pub says : session_said run s (after_all s turn.added) turn step ≡ said
-
-  -- so it is, or two documents of one SHA-256 are shown
-  abbrev pub PartEnds : Run → State → Step → Part D R C → Seen Holding → StepAnswer → Type 0
-  PartEnds run s step part actors said = PartMoves run s step part actors said ⊎ StepShows run (Some s) step

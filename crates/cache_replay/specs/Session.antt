@@ -10,7 +10,7 @@ use Rattle.cache_model.specs.Legal.{IsQuiet, is_writing}
 use Rattle.stripe_core.specs.Stripe.{IsStripe, seen_in, state_in}
 use Rattle.stripe_write.specs.Writers.{IsWriterOf}
 use Rattle.stripe_read.specs.Readers.{IsOpenReader}
-use Rattle.actor_table.specs.Table.{slot_of}
+use Rattle.actor_table.specs.Table.{Seen, slot_of}
 use Rattle.cache_replay.specs.declared.session.Session.{Session}
 use Rattle.cache_replay.specs.declared.session.Part.{Part}
 use Rattle.cache_replay.specs.declared.session.Holding.{Holding}
@@ -44,8 +44,12 @@ abbrev pub names_in : {D R C : Type 0} → Session D R C → List (List ℕ)
 names_in session = session.actors.names
 
 -- what the actor of a number has, from 1; nothing where there is no such actor
+abbrev pub slots_of : Seen Holding → ℕ → Option Holding
+slots_of actors n = slot_of actors.slots n
+
+-- the same of a session's actors
 abbrev pub slots_in : {D R C : Type 0} → Session D R C → ℕ → Option Holding
-slots_in session n = slot_of session.actors.slots n
+slots_in session n = slots_of session.actors n
 
 -- how many things there are, where there may be one
 abbrev pub parts_of : {X : Type 0} → Option X → ℕ
@@ -57,10 +61,6 @@ abbrev pub devices_of : {D R C : Type 0} → Session D R C → ℕ
 devices_of session = parts_of session.part
 
 module _ {D R C : Type 0} (disk : DiskGhosts D) (directory : DirectoryGhosts R) (chronicle : ChronicleGhosts C) where
-  -- what the records of a part stand for
-  abbrev pub state_of_part : Part D R C → State
-  state_of_part part = state_in chronicle part.stripe
-
   -- its stripe, and a page that takes any piece
   pub record IsPart (part : Part D R C) : Type 0 where
     pub stripe : IsStripe disk directory chronicle part.stripe

@@ -1,6 +1,5 @@
--- What a line makes of an actor's writer, and then of a session's part and its actors.
+-- What a line makes of an actor's writer.
 use Rattle.std.specs.Prelude.{ℕ, ◌≡◌, ◌==◌, ◌⊎◌, true, if◌then◌else◌, List, Option, Some, None, IfSome, Result, Ok, Err}
-use Rattle.cache_chronicle.specs.declared.chronicle.Chronicle.{Ghosts as ChronicleGhosts}
 use Rattle.tape_base.specs.declared.keys.Key.{Key}
 use Rattle.alternate_vector.specs.Field.{Field}
 use Rattle.cache_model.specs.State.{State, after_all}
@@ -8,24 +7,23 @@ use Rattle.cache_model.specs.Vectors.{AreTold}
 use Rattle.cache_model.specs.Legal.{is_writing}
 use Rattle.stripe_core.specs.declared.refusal.Refusal.{Refusal}
 use Rattle.stripe_core.specs.declared.refusal.Refusal.TheVariants as refusal
-use Rattle.stripe_core.specs.Stripe.{state_in}
 use Rattle.stripe_write.specs.declared.finishing.Receipt.{Receipt}
 use Rattle.stripe_write.specs.declared.writer.Writer.{Writer}
 use Rattle.stripe_write.specs.Writers.{IsWriterOf}
-use Rattle.actor_table.specs.Table.{Seen, number_of, slot_of}
+use Rattle.actor_table.specs.Table.{Seen, number_of}
 use Rattle.script_lang.specs.declared.step.Step.{Step}
 use Rattle.script_lang.specs.declared.step.Step.TheVariants as step
 use Rattle.script_lang.specs.declared.answer.StepAnswer.{StepAnswer}
 use Rattle.script_lang.specs.declared.answer.StepAnswer.TheVariants as answer
 use Rattle.script_run.specs.Run.{Run, Writes, held_by}
 use Rattle.script_run.specs.Turn.{Turn}
-use Rattle.script_run.specs.Answers.{session_said, step_answer}
-use Rattle.script_run.specs.Behind.{after_step, holds_behind, streams_behind}
-use Rattle.script_run.specs.Takes.{SessionTakes, StepShows, StepTakes}
-use Rattle.cache_replay.specs.declared.session.Part.{Part}
+use Rattle.script_run.specs.Answers.{session_said}
+use Rattle.script_run.specs.Behind.{holds_behind, streams_behind}
+use Rattle.script_run.specs.Takes.{SessionTakes, StepShows}
 use Rattle.cache_replay.specs.declared.session.Holding.{Holding}
 use Rattle.cache_replay.specs.declared.session.Holding.TheVariants as holding
-use Rattle.cache_replay.specs.Plays.{IsStreamOf, PlaysIn}
+use Rattle.cache_replay.specs.Session.{slots_of}
+use Rattle.cache_replay.specs.Plays.{IsStreamOf}
 use Rattle.cache_replay.specs.Putting.{refusal_answer}
 
 -- ---- answers
@@ -114,11 +112,7 @@ abbrev pub closed_answer : Result Receipt Refusal → Option StepAnswer
 closed_answer (Ok receipt) = Some (answer.Put receipt.put receipt.length receipt.fragments)
 closed_answer (Err why) = refused_answer why None
 
--- ---- a part, and its actors
-
--- what the actor of a number has, from 1; nothing where there is no such actor
-abbrev pub slots_at : Seen Holding → ℕ → Option Holding
-slots_at actors n = slot_of actors.slots n
+-- ---- what an actor has
 
 -- no writer
 abbrev pub HasNoWriter : Option Holding → Type 0
@@ -128,22 +122,5 @@ HasNoWriter (Some (holding.Reader r)) = Unit {0}
 
 -- the writer that an actor had is taken; where it had none, it has what it had
 abbrev pub TakesWriter : Seen Holding → Seen Holding → ℕ → Option Writer → Type 0
-TakesWriter old new n None = HasNoWriter (slots_at old n) × ((m : ℕ) → slots_at new m ≡ slots_at old m)
-TakesWriter old new n (Some w) = (slots_at old n ≡ Some (holding.Writer w)) × ((m : ℕ) → slots_at new m ≡ (if m == n then None else slots_at old m))
-
-module _ {D R C : Type 0} (chronicle : ChronicleGhosts C) where
-  -- they are what the run has
-  pub record PartPlays (run : Run) (part : Part D R C) (actors : Seen Holding) : Type 0 where
-    pub names : run.actors ≡ actors.names
-    pub at : PlaysIn run (state_in chronicle part.stripe) (slots_at actors)
-
-  -- a step did what it must, and this is its answer
-  pub record PartMoves (run : Run) (step : Step) (part : Part D R C) (actors : Seen Holding) (said : StepAnswer) : Type 0 where
-    pub turn : Turn
-    pub takes : StepTakes run turn step
-    pub plays : PartPlays (after_step run turn step) part actors
-    pub says : step_answer run turn step ≡ said
-
-  -- so it is, or two documents of one SHA-256 are shown
-  abbrev pub PartEnds : Run → Step → Part D R C → Seen Holding → StepAnswer → Type 0
-  PartEnds run step part actors said = PartMoves run step part actors said ⊎ StepShows run run.state step
+TakesWriter old new n None = HasNoWriter (slots_of old n) × ((m : ℕ) → slots_of new m ≡ slots_of old m)
+TakesWriter old new n (Some w) = (slots_of old n ≡ Some (holding.Writer w)) × ((m : ℕ) → slots_of new m ≡ (if m == n then None else slots_of old m))

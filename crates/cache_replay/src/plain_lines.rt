@@ -1,7 +1,6 @@
 // Lines without an actor that are one call of a stripe: removals and flushes.
-ghost use Rattle.std.specs.Prelude.{◌≡◌, ◌≤◌, None, length, IfOk, IfErr, OnErr};
+ghost use Rattle.std.specs.Prelude.{◌≡◌, ◌≤◌, None, IfOk, IfErr, OnErr};
 ghost use Rattle.script_lang.specs.declared.step.Step.TheVariants as step;
-ghost use Rattle.cache_model.specs.Vectors.{AreTold};
 ghost use Rattle.stripe_core.specs.Stripe.{seen_in, state_in};
 ghost use Rattle.stripe_core.specs.Unharmed.{StaysUnharmed};
 ghost use Rattle.script_run.specs.Run.{Run};

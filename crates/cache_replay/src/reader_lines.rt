@@ -1,5 +1,5 @@
 // The lines of readers: they open, read on and are closed.
-ghost use Rattle.std.specs.Prelude.{◌≡◌, ◌==◌, ◌⊎◌, ◌∷◌, [], ◌+◌, ◌-◌, ◌*◌, ◌^◌, ◌<◌, ◌≤◌, ℕ, length, Some, None, IfOk, IfErr, OnErr, IfSome, if◌then◌else◌, is_some};
+ghost use Rattle.std.specs.Prelude.{◌≡◌, ◌==◌, ◌⊎◌, ◌∷◌, [], ◌+◌, ◌-◌, ◌*◌, ◌^◌, ◌<◌, ◌≤◌, ℕ, length, Some, None, IfOk, IfErr, OnErr, if◌then◌else◌, is_some};
 ghost use Rattle.tape_base.specs.Geometry.{budget_of};
 ghost use Rattle.cache_model.specs.Legal.{IsQuiet};
 ghost use Rattle.cache_model.specs.Permit.{ReadOn};
@@ -12,10 +12,10 @@ ghost use Rattle.script_run.specs.Run.{Run};
 ghost use Rattle.script_run.specs.Own.{AreOwn};
 ghost use Rattle.script_run.specs.Takes.{Shows, StepShows};
 ghost use Rattle.cache_replay.specs.declared.stop.Stop.TheVariants as stop;
-ghost use Rattle.cache_replay.specs.Session.{IsActive, IsPart, IsSession, LeavesBut, devices_of, names_in};
-ghost use Rattle.cache_replay.specs.Plays.{HasReached, Plays, StepEnds};
+ghost use Rattle.cache_replay.specs.Session.{IsActive, IsPart, IsSession, LeavesBut, devices_of, names_in, slots_of};
+ghost use Rattle.cache_replay.specs.Plays.{HasReached, PartEnds, Plays, PlaysPart, StepEnds};
 ghost use Rattle.cache_replay.specs.Stop.{IsSessionStop};
-ghost use Rattle.cache_replay.specs.ReaderLines.{IsWithin, NextEnds, PartEnds, PlaysPart, as_held, next_answer, opened_answer, reader_held, reader_opened, slots_of, without_reader};
+ghost use Rattle.cache_replay.specs.ReaderLines.{IsWithin, NextEnds, as_held, next_answer, opened_answer, reader_held, reader_opened, without_reader};
 
 use crate::answers::{broken_said, miss_said};
 use crate::session::{Holding, Part, Session};
@@ -67,8 +67,8 @@ fn open_reader<D: Disk, R: Directory + Drop, C: Chronicle>(
     requires active { IsActive D.Disk R.Directory C.Chronicle part.old (slots_of actors.old) }
     requires few { length actors.old.names < 2 ^ 32 - 1 }
     ensures active { IsActive D.Disk R.Directory C.Chronicle part.new (slots_of actors.new) }
-    ensures ends { IfOk result (λ said. (run : Run) → PlaysPart D.Disk R.Directory C.Chronicle run part.old actors.old
-        → PartEnds D.Disk R.Directory C.Chronicle run (state_in C.Chronicle part.old.stripe) (step.OpenRead actor.now key request) part.new actors.new said) }
+    ensures ends { IfOk result (λ said. (run : Run) → PlaysPart C.Chronicle run part.old actors.old
+        → PartEnds C.Chronicle run (state_in C.Chronicle part.old.stripe) (step.OpenRead actor.now key request) part.new actors.new said) }
     ensures unharmed { StaysUnharmed D.Disk R.Directory C.Chronicle part.old.stripe part.new.stripe }
     ensures stop { IfErr result (λ why. why ≡ stop.Memory) }
     ensures names { length actors.new.names ≤ length actors.old.names + 1 }
@@ -147,9 +147,9 @@ fn next<D: Disk, R: Directory + Drop, C: Chronicle>(
     requires active { IsActive D.Disk R.Directory C.Chronicle part.old (slots_of actors.old) }
     requires few { length actors.old.names < 2 ^ 32 - 1 }
     ensures active { IsActive D.Disk R.Directory C.Chronicle part.new (slots_of actors.new) }
-    ensures ends { IfOk result (λ said. (run : Run) → PlaysPart D.Disk R.Directory C.Chronicle run part.old actors.old
-        → PartEnds D.Disk R.Directory C.Chronicle run (state_in C.Chronicle part.old.stripe) (step.Next actor.now) part.new actors.new said) }
-    ensures unharmed { (run : Run) → PlaysPart D.Disk R.Directory C.Chronicle run part.old actors.old
+    ensures ends { IfOk result (λ said. (run : Run) → PlaysPart C.Chronicle run part.old actors.old
+        → PartEnds C.Chronicle run (state_in C.Chronicle part.old.stripe) (step.Next actor.now) part.new actors.new said) }
+    ensures unharmed { (run : Run) → PlaysPart C.Chronicle run part.old actors.old
         → StaysUnharmed D.Disk R.Directory C.Chronicle part.old.stripe part.new.stripe ⊎ StepShows run (Some (state_in C.Chronicle part.old.stripe)) (step.Next actor.now) }
     ensures trust { (seen_in D.Disk R.Directory part.new.stripe).device.trust ≤ (seen_in D.Disk R.Directory part.old.stripe).device.trust }
     ensures stop { IfErr result (λ why. why ≡ stop.Memory) }
@@ -271,8 +271,8 @@ fn done<D: Disk, R: Directory + Drop, C: Chronicle>(
     requires active { IsActive D.Disk R.Directory C.Chronicle part.old (slots_of actors.old) }
     requires few { length actors.old.names < 2 ^ 32 - 1 }
     ensures active { IsActive D.Disk R.Directory C.Chronicle part.new (slots_of actors.new) }
-    ensures ends { IfOk result (λ said. (run : Run) → PlaysPart D.Disk R.Directory C.Chronicle run part.old actors.old
-        → PartEnds D.Disk R.Directory C.Chronicle run (state_in C.Chronicle part.old.stripe) (step.Done actor.now) part.new actors.new said) }
+    ensures ends { IfOk result (λ said. (run : Run) → PlaysPart C.Chronicle run part.old actors.old
+        → PartEnds C.Chronicle run (state_in C.Chronicle part.old.stripe) (step.Done actor.now) part.new actors.new said) }
     ensures unharmed { StaysUnharmed D.Disk R.Directory C.Chronicle part.old.stripe part.new.stripe }
     ensures stop { IfErr result (λ why. why ≡ stop.Memory) }
     ensures names { length actors.new.names ≤ length actors.old.names + 1 }

@@ -5,15 +5,14 @@ ghost use Rattle.stripe_core.specs.Stripe.{IsStripe, kept_in, seen_in, state_in}
 ghost use Rattle.stripe_core.specs.Unharmed.{StaysUnharmed};
 ghost use Rattle.stripe_write.specs.Others.{AddsOfPut};
 ghost use Rattle.stripe_write.specs.Writers.{IsWriterOf};
-ghost use Rattle.actor_table.specs.Table.{with_actor};
 ghost use Rattle.script_lang.specs.declared.step.Step.TheVariants as step;
 ghost use Rattle.script_run.specs.Run.{Run};
 ghost use Rattle.script_run.specs.Answers.{busy, idle};
-ghost use Rattle.cache_replay.specs.Session.{IsActive, IsSession, devices_of, names_in};
-ghost use Rattle.cache_replay.specs.Plays.{HasReached, Plays, StepEnds};
+ghost use Rattle.cache_replay.specs.Session.{IsActive, IsSession, devices_of, names_in, slots_of};
+ghost use Rattle.cache_replay.specs.Plays.{HasReached, PartEnds, Plays, PlaysPart, StepEnds};
 ghost use Rattle.cache_replay.specs.Stop.{IsSessionStop};
 ghost use Rattle.cache_replay.specs.declared.stop.Stop.TheVariants as stop;
-ghost use Rattle.cache_replay.specs.WriterLines.{Closes, Feeds, GivesUp, IsLeft, OpenDoes, Opens, PartEnds, PartPlays, TakesWriter, WriterDoes, closed_answer, fed_answer, held_in, slots_at};
+ghost use Rattle.cache_replay.specs.WriterLines.{Closes, Feeds, GivesUp, IsLeft, OpenDoes, Opens, TakesWriter, WriterDoes, closed_answer, fed_answer, held_in};
 
 use crate::answers::{answer_unless_memory, closed_answer};
 use crate::feeding::{Fed, feed};
@@ -63,9 +62,9 @@ fn take_writer(actors: &mut Actors<Holding>, number: u32) -> Option<Writer>
 fn set_back(actors: &mut Actors<Holding>, number: u32, outcome: Outcome) -> Result<StepAnswer, Stop>
     requires known { 0 < number }
     requires within { number ≤ length actors.old.names }
-    requires none { slots_at actors.old number ≡ None }
+    requires none { slots_of actors.old number ≡ None }
     ensures names { actors.new.names ≡ actors.old.names }
-    ensures slots { (n : ℕ) → slots_at actors.new n ≡ (if n == number then held_in outcome.left else slots_at actors.old n) }
+    ensures slots { (n : ℕ) → slots_of actors.new n ≡ (if n == number then held_in outcome.left else slots_of actors.old n) }
     ensures said { IfOk result (λ said. outcome.answer ≡ Some said) }
     ensures stop { IfErr result (λ why. why ≡ stop.Memory) }
 {
@@ -80,9 +79,9 @@ fn set_back(actors: &mut Actors<Holding>, number: u32, outcome: Outcome) -> Resu
 fn put_left(actors: &mut Actors<Holding>, number: u32, left: Option<Writer>)
     requires known { 0 < number }
     requires within { number ≤ length actors.old.names }
-    requires none { slots_at actors.old number ≡ None }
+    requires none { slots_of actors.old number ≡ None }
     ensures names { actors.new.names ≡ actors.old.names }
-    ensures slots { (n : ℕ) → slots_at actors.new n ≡ (if n == number then held_in left else slots_at actors.old n) }
+    ensures slots { (n : ℕ) → slots_of actors.new n ≡ (if n == number then held_in left else slots_of actors.old n) }
 {
     match left {
         Some(writer) => actors.set(number, Holding::Writer(writer)),
@@ -177,11 +176,11 @@ fn open_write_in<D: Disk, R: Directory + Drop, C: Chronicle>(
     request: Fields,
     response: Fields,
 ) -> Result<StepAnswer, Stop>
-    requires active { IsActive D.Disk R.Directory C.Chronicle part.old (slots_at actors.old) }
+    requires active { IsActive D.Disk R.Directory C.Chronicle part.old (slots_of actors.old) }
     requires few { length actors.old.names < 2 ^ 32 - 1 }
-    ensures active { IsActive D.Disk R.Directory C.Chronicle part.new (slots_at actors.new) }
-    ensures ends { IfOk result (λ said. (run : Run) → PartPlays C.Chronicle run part.old actors.old
-        → PartEnds C.Chronicle run (step.OpenWrite actor.now key pin request response) part.new actors.new said) }
+    ensures active { IsActive D.Disk R.Directory C.Chronicle part.new (slots_of actors.new) }
+    ensures ends { IfOk result (λ said. (run : Run) → PlaysPart C.Chronicle run part.old actors.old
+        → PartEnds C.Chronicle run (state_in C.Chronicle part.old.stripe) (step.OpenWrite actor.now key pin request response) part.new actors.new said) }
     ensures stop { IfErr result (λ why. why ≡ stop.Memory) }
     ensures later { (seen_in D.Disk R.Directory part.old.stripe).device.faults ≤ (seen_in D.Disk R.Directory part.new.stripe).device.faults }
     ensures unharmed { StaysUnharmed D.Disk R.Directory C.Chronicle part.old.stripe part.new.stripe }
@@ -265,11 +264,11 @@ fn data_in<D: Disk, R: Directory + Drop, C: Chronicle>(
     body: &[u8],
     now: u64,
 ) -> Result<StepAnswer, Stop>
-    requires active { IsActive D.Disk R.Directory C.Chronicle part.old (slots_at actors.old) }
+    requires active { IsActive D.Disk R.Directory C.Chronicle part.old (slots_of actors.old) }
     requires few { length actors.old.names < 2 ^ 32 - 1 }
-    ensures active { IsActive D.Disk R.Directory C.Chronicle part.new (slots_at actors.new) }
-    ensures ends { IfOk result (λ said. (run : Run) → run.now ≡ now → PartPlays C.Chronicle run part.old actors.old
-        → PartEnds C.Chronicle run (step.Feed actor.now body.now) part.new actors.new said) }
+    ensures active { IsActive D.Disk R.Directory C.Chronicle part.new (slots_of actors.new) }
+    ensures ends { IfOk result (λ said. (run : Run) → run.now ≡ now → PlaysPart C.Chronicle run part.old actors.old
+        → PartEnds C.Chronicle run (state_in C.Chronicle part.old.stripe) (step.Feed actor.now body.now) part.new actors.new said) }
     ensures stop { IfErr result (λ why. why ≡ stop.Memory) }
     ensures later { (seen_in D.Disk R.Directory part.old.stripe).device.faults ≤ (seen_in D.Disk R.Directory part.new.stripe).device.faults }
     ensures unharmed { StaysUnharmed D.Disk R.Directory C.Chronicle part.old.stripe part.new.stripe }
@@ -355,11 +354,11 @@ fn close_in<D: Disk, R: Directory + Drop, C: Chronicle>(
     actor: &[u8],
     now: u64,
 ) -> Result<StepAnswer, Stop>
-    requires active { IsActive D.Disk R.Directory C.Chronicle part.old (slots_at actors.old) }
+    requires active { IsActive D.Disk R.Directory C.Chronicle part.old (slots_of actors.old) }
     requires few { length actors.old.names < 2 ^ 32 - 1 }
-    ensures active { IsActive D.Disk R.Directory C.Chronicle part.new (slots_at actors.new) }
-    ensures ends { IfOk result (λ said. (run : Run) → run.now ≡ now → PartPlays C.Chronicle run part.old actors.old
-        → PartEnds C.Chronicle run (step.Close actor.now) part.new actors.new said) }
+    ensures active { IsActive D.Disk R.Directory C.Chronicle part.new (slots_of actors.new) }
+    ensures ends { IfOk result (λ said. (run : Run) → run.now ≡ now → PlaysPart C.Chronicle run part.old actors.old
+        → PartEnds C.Chronicle run (state_in C.Chronicle part.old.stripe) (step.Close actor.now) part.new actors.new said) }
     ensures stop { IfErr result (λ why. why ≡ stop.Memory) }
     ensures later { (seen_in D.Disk R.Directory part.old.stripe).device.faults ≤ (seen_in D.Disk R.Directory part.new.stripe).device.faults }
     ensures unharmed { StaysUnharmed D.Disk R.Directory C.Chronicle part.old.stripe part.new.stripe }
@@ -434,11 +433,11 @@ fn abort_in<D: Disk, R: Directory + Drop, C: Chronicle>(
     actors: &mut Actors<Holding>,
     actor: &[u8],
 ) -> Result<StepAnswer, Stop>
-    requires active { IsActive D.Disk R.Directory C.Chronicle part.old (slots_at actors.old) }
+    requires active { IsActive D.Disk R.Directory C.Chronicle part.old (slots_of actors.old) }
     requires few { length actors.old.names < 2 ^ 32 - 1 }
-    ensures active { IsActive D.Disk R.Directory C.Chronicle part.new (slots_at actors.new) }
-    ensures ends { IfOk result (λ said. (run : Run) → PartPlays C.Chronicle run part.old actors.old
-        → PartEnds C.Chronicle run (step.Abort actor.now) part.new actors.new said) }
+    ensures active { IsActive D.Disk R.Directory C.Chronicle part.new (slots_of actors.new) }
+    ensures ends { IfOk result (λ said. (run : Run) → PlaysPart C.Chronicle run part.old actors.old
+        → PartEnds C.Chronicle run (state_in C.Chronicle part.old.stripe) (step.Abort actor.now) part.new actors.new said) }
     ensures stop { IfErr result (λ why. why ≡ stop.Memory) }
     ensures later { (seen_in D.Disk R.Directory part.old.stripe).device.faults ≤ (seen_in D.Disk R.Directory part.new.stripe).device.faults }
     ensures unharmed { StaysUnharmed D.Disk R.Directory C.Chronicle part.old.stripe part.new.stripe }

@@ -1,7 +1,6 @@
 // The lines of a script, one after the other.
 ghost use Rattle.std.specs.Prelude.{◌≡◌, ◌+◌, ◌<◌, ◌≤◌, ◌⊎◌, ℕ, List, [], length, Option, OnOk, IfErr};
-ghost use Rattle.std.specs.Io.KnownBytes.{Appends, Keeps};
-ghost use Rattle.edge_io.specs.Causes.{Rose};
+ghost use Rattle.std.specs.Io.KnownBytes.{Appends};
 ghost use Rattle.edge_io.specs.LineReader.{unread, lines_given, source_of};
 ghost use Rattle.script_lang.specs.Texts.{answer_line};
 ghost use Rattle.script_run.specs.Run.{Run, fresh};

@@ -1,7 +1,7 @@
 // The top call: words, a script, and what came of it.
 ghost use Rattle.std.specs.Prelude.{◌≡◌, ◌≤◌, ◌↔◌, ◌⊎◌, [], IsTrue};
 ghost use Rattle.std.specs.Io.KnownBytes.{Keeps};
-ghost use Rattle.script_lang.specs.Texts.{last_line, usage_line};
+ghost use Rattle.script_lang.specs.Texts.{last_line};
 ghost use Rattle.cache_replay.specs.Plays.{ledger_of};
 ghost use Rattle.cache_tool.specs.Story.{Shown, counts};
 ghost use Rattle.cache_tool.specs.Ending.{Ends, IsOfRun};

@@ -1,17 +1,18 @@
 use Rattle.std.proofs.Common.{refl}
 use Rattle.cache_replay.specs.Session.{slots_in}
-use Rattle.cache_replay.proofs.WholeLines.{active_of, session_ends}
+use Rattle.cache_replay.proofs.OnSession.{active}
+use Rattle.cache_replay.proofs.WholeLines.{session_ends}
 use Rattle.cache_replay.proofs.getting.get_line.Goals as goal
 
 pub returns-in-Ok-clause-session : goal.returns-in-Ok-clause-session
 returns-in-Ok-clause-session g c =
-    c.get_in_part.ensures.active (slots_in c.args.session.now) (active_of g.D.Disk g.R.Directory g.C.Chronicle c.args.session.now c.in-Some.part c.in-Some.is c.requires.session)
+    c.get_in_part.ensures.active (slots_in c.args.session.now) (active g.D.Disk g.R.Directory g.C.Chronicle c.args.session.now c.in-Some.part c.in-Some.is c.requires.session)
 
 pub returns-in-Err-clause-session : goal.returns-in-Err-clause-session
 returns-in-Err-clause-session g c =
-    c.get_in_part.ensures.active (slots_in c.args.session.now) (active_of g.D.Disk g.R.Directory g.C.Chronicle c.args.session.now c.in-Some.part c.in-Some.is c.requires.session)
+    c.get_in_part.ensures.active (slots_in c.args.session.now) (active g.D.Disk g.R.Directory g.C.Chronicle c.args.session.now c.in-Some.part c.in-Some.is c.requires.session)
 
 pub returns-in-Ok-clause-ends : goal.returns-in-Ok-clause-ends
 returns-in-Ok-clause-ends g c = λ run plays.
     session_ends g.D.Disk g.R.Directory g.C.Chronicle run c.args.session.now _ c.in-Some.part c.get_in_part.new.part c.args.key c.args.request c.in-Ok.said c.in-Some.is refl refl refl (λ m. refl) plays
-    (active_of g.D.Disk g.R.Directory g.C.Chronicle c.args.session.now c.in-Some.part c.in-Some.is c.requires.session) c.get_in_part.ensures.unharmed (c.in-Ok.ensures.ends run)
+    (active g.D.Disk g.R.Directory g.C.Chronicle c.args.session.now c.in-Some.part c.in-Some.is c.requires.session) c.get_in_part.ensures.unharmed (c.in-Ok.ensures.ends run)

@@ -1,7 +1,7 @@
 use Rattle.std.proofs.Common.{refl}
 use Rattle.cache_replay.proofs.OnSession.{line_reached}
 use Rattle.cache_replay.proofs.PutLine.{put_ends, put_session}
-use Rattle.cache_replay.proofs.ReaderSessions.{line_stops}
+use Rattle.cache_replay.proofs.OnPart.{line_stops}
 use Rattle.cache_replay.proofs.put_line.put_line.Goals as goal
 
 pub returns-in-Some-clause-session : goal.returns-in-Some-clause-session

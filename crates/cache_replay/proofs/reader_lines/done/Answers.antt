@@ -1,5 +1,6 @@
 use Rattle.std.proofs.Common.{refl, ◌∙◌, ap, inl}
-use Rattle.cache_replay.specs.ReaderLines.{reader_held, slots_of}
+use Rattle.cache_replay.specs.Session.{slots_of}
+use Rattle.cache_replay.specs.ReaderLines.{reader_held}
 use Rattle.cache_replay.proofs.DoneLine.{done_active, done_idle, done_ends}
 use Rattle.cache_replay.proofs.ReaderLines.{not_taken, took}
 use Rattle.cache_replay.proofs.reader_lines.done.Goals as goal

@@ -1,7 +1,8 @@
 use Rattle.std.proofs.Common.{◌∙◌, ap, inl}
 use Rattle.std.specs.Prelude.{Some}
 use Rattle.stripe_core.specs.Stripe.{state_in}
-use Rattle.cache_replay.specs.ReaderLines.{reader_held, slots_of}
+use Rattle.cache_replay.specs.Session.{slots_of}
+use Rattle.cache_replay.specs.ReaderLines.{reader_held}
 use Rattle.cache_replay.proofs.NextLine.{if_then, next_goes, next_idle, next_line_ends, next_line_harms}
 use Rattle.cache_replay.proofs.ReaderLines.{goes_active, not_taken, took}
 use Rattle.cache_replay.proofs.reader_lines.next.Goals as goal

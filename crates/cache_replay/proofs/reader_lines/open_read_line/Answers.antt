@@ -1,11 +1,13 @@
 use Rattle.std.proofs.Common.{refl, inl}
 use Rattle.script_lang.specs.declared.step.Step.TheVariants as step
-use Rattle.cache_replay.proofs.ReaderSessions.{line_answers, line_reached, line_stops, open_read_on}
+use Rattle.cache_replay.proofs.OnPart.{line_answers, line_reached, line_stops}
+use Rattle.cache_replay.proofs.OnSession.{on_session}
 use Rattle.cache_replay.proofs.reader_lines.open_read_line.Goals as goal
 
 pub returns-in-Some-clause-ends : goal.returns-in-Some-clause-ends
 returns-in-Some-clause-ends g c =
-    line_answers g.D.Disk g.R.Directory g.C.Chronicle c.args.session.now _ c.in-Some.part c.open_reader.new.part (step.OpenRead c.args.actor.now c.args.key c.args.request) c.open_reader.result (open_read_on c.args.actor.now c.args.key c.args.request)
+    line_answers g.D.Disk g.R.Directory g.C.Chronicle c.args.session.now _ c.in-Some.part c.open_reader.new.part (step.OpenRead c.args.actor.now c.args.key c.args.request) c.open_reader.result
+    (on_session (step.OpenRead c.args.actor.now c.args.key c.args.request) tt)
     c.in-Some.is refl refl (λ run plays. inl c.open_reader.ensures.unharmed) c.open_reader.ensures.ends
 
 pub returns-in-Some-clause-reached : goal.returns-in-Some-clause-reached

@@ -1,6 +1,7 @@
 use Rattle.std.proofs.Common.{ℕ, ◌+◌, ◌≤◌, List, length, refl, sym, ◌∙◌, ap, subst, inl}
 use Rattle.std.specs.Prelude.{is_some}
-use Rattle.cache_replay.specs.ReaderLines.{as_held, reader_opened, slots_of}
+use Rattle.cache_replay.specs.Session.{slots_of}
+use Rattle.cache_replay.specs.ReaderLines.{as_held, reader_opened}
 use Rattle.cache_replay.proofs.Lines.{one_more}
 use Rattle.cache_replay.proofs.ReaderLines.{kept_active}
 use Rattle.cache_replay.proofs.OpenLine.{changed_from, none_there, open_active, open_answers, open_busy}

@@ -1,14 +1,16 @@
 use Rattle.std.proofs.Common.{refl, sym, ◌∙◌, subst}
 use Rattle.stripe_core.specs.Stripe.{state_in}
 use Rattle.script_lang.specs.declared.step.Step.TheVariants as step
-use Rattle.cache_replay.specs.WriterLines.{Feeds, PartEnds, slots_at}
+use Rattle.cache_replay.specs.Plays.{PartEnds}
+use Rattle.cache_replay.specs.Session.{slots_of}
+use Rattle.cache_replay.specs.WriterLines.{Feeds}
 use Rattle.cache_replay.proofs.Lines.{active_by, ends_by, ends_if, given_back, held_writer, idles_by, no_taken, none_changed, others_else, taken_writer}
 use Rattle.cache_replay.proofs.writer_lines.data_in.Goals as goal
 
 pub give_bytes-outcome-requires-clause-writer : goal.give_bytes-outcome-requires-clause-writer
 give_bytes-outcome-requires-clause-writer g c =
     let mine = taken_writer c.args.actors.now c.number.new.self c.take_writer.new.actors c.in-Ok.number c.in-Some.writer c.number.ensures.slots c.in-Some.ensures.takes in
-    (held_writer (state_in g.C.Chronicle c.args.part.now.stripe) (slots_at c.args.actors.now) c.in-Ok.number c.in-Some.writer c.requires.active.held mine).1
+    (held_writer (state_in g.C.Chronicle c.args.part.now.stripe) (slots_of c.args.actors.now) c.in-Ok.number c.in-Some.writer c.requires.active.held mine).1
 
 pub returns-in-Some-clause-active : goal.returns-in-Some-clause-active
 returns-in-Some-clause-active g c =
@@ -17,7 +19,7 @@ returns-in-Some-clause-active g c =
     let mine = taken_writer c.args.actors.now c.number.new.self c.take_writer.new.actors n w c.number.ensures.slots c.in-Some.ensures.takes in
     let changed = given_back c.args.actors.now c.number.new.self c.take_writer.new.actors c.set_back.new.actors n w c.give_bytes-outcome.result.left c.number.ensures.slots c.in-Some.ensures.takes c.set_back.ensures.slots in
     active_by g.D.Disk g.R.Directory g.C.Chronicle c.others_stay.ensures c.args.part.now _ c.args.actors.now c.set_back.new.actors n w.put c.give_bytes-outcome.result.left c.requires.active
-    (others_else (slots_at c.args.actors.now) n w c.requires.active.apart mine) changed c.give_bytes-outcome.ensures.stripe c.give_bytes-outcome.ensures.quiet refl c.give_bytes-outcome.ensures.own c.give_bytes-outcome.ensures.left
+    (others_else (slots_of c.args.actors.now) n w c.requires.active.apart mine) changed c.give_bytes-outcome.ensures.stripe c.give_bytes-outcome.ensures.quiet refl c.give_bytes-outcome.ensures.own c.give_bytes-outcome.ensures.left
 
 pub returns-in-Some-clause-ends : goal.returns-in-Some-clause-ends
 returns-in-Some-clause-ends g c =
@@ -32,7 +34,7 @@ returns-in-Some-clause-ends g c =
 pub returns-in-None-clause-ends : goal.returns-in-None-clause-ends
 returns-in-None-clause-ends g c = λ run moment plays.
     let n = c.in-Ok.number in
-    subst (PartEnds g.C.Chronicle run (step.Feed c.args.actor.now c.args.body.now) c.args.part.now c.take_writer.new.actors) (sym c.idle.ensures)
+    subst (PartEnds g.C.Chronicle run (state_in g.C.Chronicle c.args.part.now.stripe) (step.Feed c.args.actor.now c.args.body.now) c.args.part.now c.take_writer.new.actors) (sym c.idle.ensures)
     (idles_by g.D.Disk g.R.Directory g.C.Chronicle c.others_stay.ensures c.args.part.now c.args.part.now c.args.actors.now c.take_writer.new.actors n (Feeds c.args.body.now) c.args.actor.now tt c.in-Ok.ensures.number c.requires.active
     (no_taken c.args.actors.now c.number.new.self c.take_writer.new.actors n c.number.ensures.slots c.in-None.ensures.takes)
     (none_changed c.args.actors.now c.number.new.self c.take_writer.new.actors n c.number.ensures.slots c.in-None.ensures.takes) (c.in-None.ensures.names ∙ c.in-Ok.ensures.names) run plays)

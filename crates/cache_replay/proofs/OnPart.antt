@@ -1,11 +1,9 @@
--- A line that reads, as a line on a session.
-use Rattle.std.proofs.Common.{◌≡◌, ℕ, ◌≤◌, ◌⊎◌, inl, inr, List, refl, sym, ◌∙◌, subst, Result, Ok, Err}
+-- A line on a part and its actors, as a line on a session.
+use Rattle.std.proofs.Common.{◌≡◌, ◌≤◌, ◌⊎◌, inl, inr, sym, ◌∙◌, subst, Result, Ok, Err}
 use Rattle.std.specs.Prelude.{Some, IfErr, IfOk, OnErr}
 use Rattle.ats_disk.specs.declared.device.Disk.{Ghosts as DiskGhosts}
 use Rattle.dir_table.specs.declared.directory.Directory.{Ghosts as DirectoryGhosts}
 use Rattle.cache_chronicle.specs.declared.chronicle.Chronicle.{Ghosts as ChronicleGhosts}
-use Rattle.tape_base.specs.declared.keys.Key.{Key}
-use Rattle.alternate_vector.specs.Field.{Field}
 use Rattle.cache_model.specs.State.{State, after_all}
 use Rattle.stripe_core.specs.Stripe.{seen_in, state_in}
 use Rattle.stripe_core.specs.Unharmed.{StaysUnharmed}
@@ -23,30 +21,14 @@ use Rattle.cache_replay.specs.declared.session.Part.{Part}
 use Rattle.cache_replay.specs.declared.stop.Stop.{Stop}
 use Rattle.cache_replay.specs.declared.stop.Stop.TheVariants.{Memory}
 use Rattle.cache_replay.specs.Session.{return_of, slots_in}
-use Rattle.cache_replay.specs.Plays.{AreReached, Plays, PlaysAt, StepEnds, StepMoves}
-use Rattle.cache_replay.specs.ReaderLines.{PartEnds, PlaysPart}
+use Rattle.cache_replay.specs.Plays.{AreReached, PartEnds, Plays, PlaysAt, PlaysPart, StepEnds, StepMoves}
 use Rattle.cache_replay.specs.Stop.{IsSessionStop}
+use Rattle.cache_replay.proofs.OnSession.{IsOnSession}
 use Rattle.cache_replay.proofs.Unharming.{part_reached, session_unharmed, unharmed_in}
 
--- ---- lines that need a session
-
-pub record IsOnSession (step : Step) : Type 0 where
-  pub takes : (run : Run) (s : State) (turn : Turn) → SessionTakes run s turn step → Takes run turn (Some s) step
-  pub says : (run : Run) (s : State) (turn : Turn) → step_said run turn (Some s) step ≡ session_said run s (after_all s turn.added) turn step
-  pub behind : (run : Run) (s : State) (turn : Turn) → then.behind run turn (Some s) step ≡ in_session run s (after_all s turn.added) turn step
-
-pub get_on : (key : Key) (request : List Field) → IsOnSession (step.Get key request)
-get_on key request = record { takes = λ run s turn h. h; says = λ run s turn. refl; behind = λ run s turn. refl }
-
-pub open_read_on : (name : List ℕ) (key : Key) (request : List Field) → IsOnSession (step.OpenRead name key request)
-open_read_on name key request = record { takes = λ run s turn h. h; says = λ run s turn. refl; behind = λ run s turn. refl }
-
-pub done_on : (name : List ℕ) → IsOnSession (step.Done name)
-done_on name = record { takes = λ run s turn h. h; says = λ run s turn. refl; behind = λ run s turn. refl }
-
 module _ {D R C : Type 0} (disk : DiskGhosts D) (directory : DirectoryGhosts R) (chronicle : ChronicleGhosts C) where
-  pub part_plays : (run : Run) (session : Session D R C) (part : Part D R C) → session.part ≡ Some part → Plays disk directory chronicle run session → PlaysPart disk directory chronicle run part session.actors
-  part_plays run session part is plays = record { names = plays.names; inside = subst (λ o. PlaysAt disk directory chronicle run o (slots_in session)) is plays.at }
+  pub part_plays : (run : Run) (session : Session D R C) (part : Part D R C) → session.part ≡ Some part → Plays disk directory chronicle run session → PlaysPart chronicle run part session.actors
+  part_plays run session part is plays = record { names = plays.names; at = subst (λ o. PlaysAt disk directory chronicle run o (slots_in session)) is plays.at }
 
   -- ---- a line that ended well
 
@@ -54,13 +36,13 @@ module _ {D R C : Type 0} (disk : DiskGhosts D) (directory : DirectoryGhosts R) 
   pub line_moved : (run : Run) (old new : Session D R C) (before after : Part D R C) (step : Step) (said : StepAnswer) (turn : Turn) → IsOnSession step
       → old.part ≡ Some before → new.part ≡ Some after → new.now ≡ old.now → Plays disk directory chronicle run old → StaysUnharmed disk directory chronicle before.stripe after.stripe
       → SessionTakes run (state_in chronicle before.stripe) turn step
-      → PlaysPart disk directory chronicle (in_session run (state_in chronicle before.stripe) (after_all (state_in chronicle before.stripe) turn.added) turn step) after new.actors
+      → PlaysPart chronicle (in_session run (state_in chronicle before.stripe) (after_all (state_in chronicle before.stripe) turn.added) turn step) after new.actors
       → session_said run (state_in chronicle before.stripe) (after_all (state_in chronicle before.stripe) turn.added) turn step ≡ said
       → StepMoves disk directory chronicle run step new said
   line_moved run old new before after step said turn on was is kept plays stays takes there says =
       let s : State = state_in chronicle before.stripe in
       let later : Run = in_session run s (after_all s turn.added) turn step in
-      let state : run.state ≡ Some s = (part_plays run old before was plays).inside.state in
+      let state : run.state ≡ Some s = (part_plays run old before was plays).at.state in
       record {
         turn = turn;
         takes = subst (λ o. Takes run turn o step) (sym state) (on.takes run s turn takes);
@@ -69,7 +51,7 @@ module _ {D R C : Type 0} (disk : DiskGhosts D) (directory : DirectoryGhosts R) 
             (record {
               names = there.names;
               now = plays.now ∙ sym kept;
-              at = subst (λ o. PlaysAt disk directory chronicle later o (slots_in new)) (sym is) there.inside;
+              at = subst (λ o. PlaysAt disk directory chronicle later o (slots_in new)) (sym is) there.at;
               unharmed = session_unharmed disk directory chronicle old new before after was is stays plays.unharmed;
             }));
         says = subst (λ o. step_said run turn o step ≡ said) (sym state) (on.says run s turn ∙ says);
@@ -78,24 +60,34 @@ module _ {D R C : Type 0} (disk : DiskGhosts D) (directory : DirectoryGhosts R) 
   -- some way into it two documents of one SHA-256 are shown
   pub line_shows : (run : Run) (old : Session D R C) (before : Part D R C) (step : Step) → old.part ≡ Some before → Plays disk directory chronicle run old
       → StepShows run (Some (state_in chronicle before.stripe)) step → StepShows run run.state step
-  line_shows run old before step was plays shown = subst (λ o. StepShows run o step) (sym (part_plays run old before was plays).inside.state) shown
+  line_shows run old before step was plays shown = subst (λ o. StepShows run o step) (sym (part_plays run old before was plays).at.state) shown
 
   line_ends : (run : Run) (old new : Session D R C) (before after : Part D R C) (step : Step) (said : StepAnswer) → IsOnSession step → old.part ≡ Some before → new.part ≡ Some after → new.now ≡ old.now → Plays disk directory chronicle run old
       → StaysUnharmed disk directory chronicle before.stripe after.stripe ⊎ StepShows run (Some (state_in chronicle before.stripe)) step
-      → PartEnds disk directory chronicle run (state_in chronicle before.stripe) step after new.actors said → StepEnds disk directory chronicle run step new said
+      → PartEnds chronicle run (state_in chronicle before.stripe) step after new.actors said → StepEnds disk directory chronicle run step new said
   line_ends run old new before after step said on was is kept plays (inr shown) ends = inr (line_shows run old before step was plays shown)
   line_ends run old new before after step said on was is kept plays (inl stays) (inr shown) = inr (line_shows run old before step was plays shown)
   line_ends run old new before after step said on was is kept plays (inl stays) (inl m) = inl (line_moved run old new before after step said m.turn on was is kept plays stays m.takes m.plays m.says)
 
+  -- whatever it answers
   pub line_answers : (old new : Session D R C) (before after : Part D R C) (step : Step) (result : Result StepAnswer Stop) → IsOnSession step → old.part ≡ Some before → new.part ≡ Some after → new.now ≡ old.now
-      → ((run : Run) → PlaysPart disk directory chronicle run before old.actors
+      → ((run : Run) → PlaysPart chronicle run before old.actors
       → StaysUnharmed disk directory chronicle before.stripe after.stripe ⊎ StepShows run (Some (state_in chronicle before.stripe)) step)
-      → IfOk result (λ said. (run : Run) → PlaysPart disk directory chronicle run before old.actors → PartEnds disk directory chronicle run (state_in chronicle before.stripe) step after new.actors said)
+      → IfOk result (λ said. (run : Run) → PlaysPart chronicle run before old.actors → PartEnds chronicle run (state_in chronicle before.stripe) step after new.actors said)
       → IfOk result (λ said. (run : Run) → Plays disk directory chronicle run old → StepEnds disk directory chronicle run step new said)
   line_answers old new before after step (Ok said) on was is kept harms ends = λ run plays.
       let there = part_plays run old before was plays in
       line_ends run old new before after step said on was is kept plays (harms run there) (ends run there)
   line_answers old new before after step (Err why) on was is kept harms ends = tt
+
+  -- one that does so at the session's moment
+  pub moment_answers : (old new : Session D R C) (before after : Part D R C) (step : Step) (result : Result StepAnswer Stop) → IsOnSession step → old.part ≡ Some before → new.part ≡ Some after → new.now ≡ old.now
+      → StaysUnharmed disk directory chronicle before.stripe after.stripe
+      → IfOk result (λ said. (run : Run) → run.now ≡ old.now → PlaysPart chronicle run before old.actors → PartEnds chronicle run (state_in chronicle before.stripe) step after new.actors said)
+      → IfOk result (λ said. (run : Run) → Plays disk directory chronicle run old → StepEnds disk directory chronicle run step new said)
+  moment_answers old new before after step (Ok said) on was is kept stays ends = λ run plays.
+      line_ends run old new before after step said on was is kept plays (inl stays) (ends run plays.now (part_plays run old before was plays))
+  moment_answers old new before after step (Err why) on was is kept stays ends = tt
 
   -- ---- a line that ended the run
 
@@ -105,7 +97,7 @@ module _ {D R C : Type 0} (disk : DiskGhosts D) (directory : DirectoryGhosts R) 
       → OnErr result ((run : Run) → Plays disk directory chronicle run old → AreReached (harm_of run.state) (return_of disk directory chronicle (Some after)))
   line_reached old before after (Ok said) was less counted = tt
   line_reached old before after (Err why) was less counted = λ run plays.
-      part_reached disk directory chronicle run before after (part_plays run old before was plays).inside.state counted less (unharmed_in disk directory chronicle old before was plays.unharmed)
+      part_reached disk directory chronicle run before after (part_plays run old before was plays).at.state counted less (unharmed_in disk directory chronicle old before was plays.unharmed)
 
   -- only memory was wanting
   pub line_stops : (session : Session D R C) (result : Result StepAnswer Stop) → IfErr result (λ why. why ≡ Memory)
