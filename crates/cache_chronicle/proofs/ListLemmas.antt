@@ -193,10 +193,6 @@ listed-put recs s opened (Some p) before h tells =
     (λ i. record { lines = h.lines i; cuts = h.cuts i })
     (rw h.key at tells)
 
-pub listed-no_put : (recs : List Rec) (s : State) (p : Option PutRow) → AreOpened recs None p → unwrap_or (option_map (merged_list s) p) [] ≡ []
-listed-no_put recs s None h = refl
-listed-no_put recs s (Some p) h = absurd h
-
 -- ---- the records that place no piece
 
 earlier-kept : (listed : PieceId → List Listed) (recs : List Rec) (rows : List Row) (key : Key) (put : ℕ) (last : Option LastVector) → HasListed listed recs rows → HasListed listed recs (without_earlier key put last rows)

@@ -94,6 +94,3 @@ tells-more recs more (e ∷ entries) (a ∷ alternates) h =
 -- as many entries as alternates
 pub length-told : (recs : List Rec) (entries : List Listed) (alternates : List Stored) → Tells recs entries alternates → length entries ≡ length alternates
 length-told recs entries alternates h = sym (length-map entries (told_by recs)) ∙ ap length h ∙ length-map alternates told_of
-
-pub same_list : (recs : List Rec) (entries others : List Listed) (alternates : List Stored) → entries ≡ others → Tells recs others alternates → Tells recs entries alternates
-same_list recs entries others alternates e h = ap (map (told_by recs)) e ∙ h

@@ -12,7 +12,7 @@ use Rattle.cache_model.specs.declared.record.Rec.{Rec}
 use Rattle.cache_model.specs.declared.record.Rec.TheVariants as rec
 use Rattle.cache_model.specs.State.{PutRow, State, Writing, Closed, GivenUp, change_put, state_after, with_cut, with_writing}
 use Rattle.cache_chronicle.specs.declared.puts.Opened.{Opened}
-use Rattle.cache_chronicle.specs.Listing.{Lines, lines_at, lines_in}
+use Rattle.cache_chronicle.specs.Listing.{Lines, lines_at}
 use Rattle.cache_chronicle.specs.Lists.{AreOpened, lines_of}
 
 abbrev pub found_put : ℕ → List PutRow → Option PutRow
@@ -65,11 +65,6 @@ pub lines_at-more : (recs more : List Rec) (i : ℕ) (q : Lines) → lines_at re
 lines_at-more [] more i q h = let t : None ≡ Some q = h in cc
 lines_at-more (r ∷ recs) more zero q h = h
 lines_at-more (r ∷ recs) more (suc i) q h = lines_at-more recs more i q h
-
--- the last record
-pub lines_at-last : (recs : List Rec) (r : Rec) → lines_at (recs ++ r ∷ []) (length recs) ≡ lines_in r
-lines_at-last [] r = refl
-lines_at-last (first ∷ recs) r = lines_at-last recs r
 
 pub opened-more : (recs : List Rec) (r : Rec) (opened : Option Opened) (p : Option PutRow) → AreOpened recs opened p → AreOpened (recs ++ r ∷ []) opened p
 opened-more recs r None None h = tt

@@ -1,5 +1,6 @@
 -- Records beside the pieces: they open no put, cut and place nothing, displace nothing and begin no buffer.
 use Rattle.std.proofs.Common.{ℕ, List, [], ◌∷◌, ◌++◌}
+use Rattle.std.specs.List.{AllByRecursion}
 use Rattle.tape_base.specs.declared.keys.Key.{Key}
 use Rattle.fragment_table.specs.Table.{TableRow}
 use Rattle.alternate_vector.specs.Field.{Field}
@@ -15,6 +16,7 @@ use Rattle.cache_model.specs.Given
 use Rattle.cache_model.specs.Legal
 use Rattle.cache_model.specs.Legal.{answer_record}
 use Rattle.cache_model.proofs.Sound.{LeavesTape, AllLeaveTape}
+use Rattle.cache_model.proofs.Steps.{all_append}
 
 -- the record opens no put, cuts nothing and displaces nothing
 abbrev pub LeavesPuts : Rec → Type 0
@@ -27,16 +29,11 @@ abbrev pub IsAside : Rec → Type 0
 IsAside r = LeavesTape r × LeavesPuts r
 
 abbrev pub AllAside : List Rec → Type 0
-AllAside [] = Unit {0}
-AllAside (r ∷ recs) = IsAside r × AllAside recs
+AllAside recs = AllByRecursion IsAside recs
 
 pub aside_leaves : (recs : List Rec) → AllAside recs → AllLeaveTape recs
 aside_leaves [] h = tt
 aside_leaves (r ∷ recs) h = (h.0.0, aside_leaves recs h.1)
-
-pub aside_append : (a b : List Rec) → AllAside a → AllAside b → AllAside (a ++ b)
-aside_append [] b h k = k
-aside_append (r ∷ a) b h k = (h.0, aside_append a b h.1 k)
 
 -- one record of those
 abbrev pub OneAside : Type 0
@@ -68,4 +65,4 @@ answer_aside reader (next.Waited cut) = (tt, tt)
 answer_aside reader (next.Broke why) = (tt, tt)
 
 pub reading_on_aside : (p : Permit) (s : State) (reader : ℕ) (answer : NextAnswer) (added : List Rec) (m : Legal.MayReadOn p s reader answer added) → AllAside (m.before ++ answer_record reader answer ∷ [])
-reading_on_aside p s reader answer added m = aside_append m.before _ (reading_aside p s m.r m.before answer m.right) (answer_aside reader answer, tt)
+reading_on_aside p s reader answer added m = all_append IsAside m.before _ (reading_aside p s m.r m.before answer m.right) (answer_aside reader answer, tt)

@@ -1,16 +1,16 @@
 -- What a step that ends with a clean-up leaves, also behind a refusal.
-use Rattle.std.proofs.Common.{◌≡◌, ℕ, List, [], ◌∷◌, ◌++◌, refl, sym, ◌∙◌, ap, subst, Bool, true, false, inl, inr, ◌⊎◌}
+use Rattle.std.proofs.Common.{◌≡◌, ℕ, List, [], ◌∷◌, refl, sym, ◌∙◌, ap, subst, Bool, true, false, inl, inr, ◌⊎◌}
 use Rattle.std.specs.Prelude.{Option, None, ◌==◌, option_map, unwrap_or, cond}
 use Rattle.std.specs.List.{AllByRecursion, find, filter}
 use Rattle.cache_model.specs.declared.record.Rec.{Rec}
 use Rattle.cache_model.specs.declared.record.Rec.TheVariants as rec
 use Rattle.cache_model.specs.State.{State, PutRow, ReaderRow, GivenUp, after_all, change_put, reader_of, with_writing, without_reader}
 use Rattle.cache_model.specs.Verdict.{is_open}
-use Rattle.cache_model.specs.Permit.{Permit, Work, Intent, Flush, Write, Fragment, Overflow, Weigh, Finish, Commit, GiveUp, Remove, Look, ReadOn, ReadAll, StopReading, End, Stays, Done, Fails, Reason, work_after, is_cleanup}
+use Rattle.cache_model.specs.Permit.{Permit, Work, Intent, GiveUp, StopReading, End, Stays, Done, Fails, Reason, work_after, is_cleanup}
 use Rattle.cache_model.specs.Legal
 use Rattle.cache_model.specs.Legal.{Does, Advances, MayGrow, nothing, more, IsStep, is_writing}
 use Rattle.cache_model.specs.StepLaws.{EndsWith, CleansUp}
-use Rattle.cache_model.proofs.Steps.{after_all-append, seen}
+use Rattle.cache_model.proofs.Steps.{after_all-append, all_append, seen}
 use Rattle.cache_model.proofs.Found.{number_of}
 
 -- ---- a step whose last intent is a clean-up comes to it, and it is the last group
@@ -72,10 +72,6 @@ clean_left : (is : List Intent) → AllByRecursion IsClean (filter is_cleanup is
 clean_left [] = tt
 clean_left (i ∷ is) = clean_by i (is_cleanup i) (filter is_cleanup is) refl (clean_left is)
 
-clean_append : (a b : List Rec) → AllByRecursion CleansUp a → AllByRecursion CleansUp b → AllByRecursion CleansUp (a ++ b)
-clean_append [] b h k = k
-clean_append (r ∷ a) b h k = (h.0, clean_append a b h.1 k)
-
 not_clean : {X : Type 0} → false ≡ true → X
 not_clean h = cc
 
@@ -88,17 +84,7 @@ cleans p s (GiveUp put) added e h (Legal.DoesGiveUp.aborts w q is) = record { re
 cleans p s (GiveUp put) added e h (Legal.DoesGiveUp.over q o is) = record { records = subst (AllByRecursion CleansUp) (sym is) tt; end = refl }
 cleans p s (StopReading reader) added e h (Legal.DoesStopReading.closes row q l is) = record { records = subst (AllByRecursion CleansUp) (sym is) (refl, tt); end = refl }
 cleans p s (StopReading reader) added e h (Legal.DoesStopReading.closed q l is) = record { records = subst (AllByRecursion CleansUp) (sym is) tt; end = refl }
-cleans p s Flush added e h d = not_clean h
-cleans p s (Write actor key request response pin) added e h d = not_clean h
-cleans p s (Fragment put index payload) added e h d = not_clean h
-cleans p s (Overflow put) added e h d = not_clean h
-cleans p s (Weigh put rest) added e h d = not_clean h
-cleans p s (Finish put fragments) added e h d = not_clean h
-cleans p s (Commit put) added e h d = not_clean h
-cleans p s (Remove key) added e h d = not_clean h
-cleans p s (Look actor key request) added e h d = not_clean h
-cleans p s (ReadOn reader) added e h d = not_clean h
-cleans p s (ReadAll reader) added e h d = not_clean h
+cleans p s _ added e h d = not_clean h
 
 advance_cleans : (p : Permit) (s : State) (is : List Intent) (why : Option Reason) (added : List Rec) (between : Work) → AllByRecursion IsClean is
     → Advances p s is why added between → AllByRecursion CleansUp added × AllByRecursion IsClean between.intents
@@ -111,7 +97,7 @@ grown_cleans : {p : Permit} {s : State} {w after : Work} {recs : List Rec} → M
 grown_cleans nothing h = tt
 grown_cleans {p} {s} {w} (more {rest = tail} added between one others) h =
     let first = advance_cleans p s w.intents w.refused added between h one in
-    clean_append added tail first.0 (grown_cleans others first.1)
+    all_append CleansUp added tail first.0 (grown_cleans others first.1)
 
 pub refusal_ends : (p : Permit) (s : State) (i : Intent) (rest : List Intent) (earlier : Option Reason) (why : Reason) (added : List Rec) (after : Work)
     → MayGrow p s (work_after i rest earlier (Fails why)) added after → AllByRecursion CleansUp added

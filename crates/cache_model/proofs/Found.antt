@@ -1,7 +1,8 @@
 -- What was found in a list.
 use Rattle.std.proofs.Common.{◌≡◌, ℕ, List, [], ◌∷◌, Bool, true, false, refl, sym, ◌∙◌, ap, subst, eqb-true}
-use Rattle.std.specs.Prelude.{Option, Some, None, unwrap_or, cond, find, ◌==◌}
+use Rattle.std.specs.Prelude.{Option, Some, None, option_map, unwrap_or, cond, find, ◌==◌}
 use Rattle.cache_model.specs.State.{State, PutRow, put_of}
+use Rattle.cache_model.specs.Verdict.{cuts_of}
 
 pub no_truth : {X : Type 0} → true ≡ false → X
 no_truth h = cc
@@ -24,3 +25,7 @@ found_passes test (y ∷ ys) x found = found_case (test y) test y x ys refl (fou
 -- a put that was found has its number
 pub number_of : (s : State) (put : ℕ) (w : PutRow) → put_of s put ≡ Some w → w.put ≡ put
 number_of s put w found = eqb-true w.put put (found_passes (λ p. p.put == put) s.puts w found)
+
+-- and what was cut for it is what was cut for its number
+pub cuts_found : (s : State) (put : ℕ) (w : PutRow) → put_of s put ≡ Some w → cuts_of s put ≡ w.cuts
+cuts_found s put w found = ap (λ (o : Option PutRow). unwrap_or (option_map (λ (p : PutRow). p.cuts) o) []) found

@@ -18,11 +18,11 @@ mod Determined
 mod Purged
 mod Possible
 mod Tried
-mod Merged
+pub mod Merged
 mod VectorLaws
-mod Told
+pub mod Told
 mod ToldGroups
-mod Alike
+pub mod Alike
 mod Chosen
 pub mod Walks
 pub mod BackedFlush
@@ -30,7 +30,10 @@ pub mod Copies
 pub mod SoundFlush
 pub mod Written
 pub mod Live
+mod AgreeingFlush
 mod FixedFlush
+mod Faithful
+mod AgreeingSteps
 pub mod TriedFlush
-mod ToldFlush
+pub mod ToldFlush
 mod WorkedFlush

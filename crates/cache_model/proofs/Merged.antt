@@ -61,7 +61,7 @@ within_longest most bytes (a ∷ alternates) some =
 payload_fits : (bytes blocks : ℕ) → (128 + bytes + 511) / 512 ≤ blocks → bytes ≤ 512 * blocks - 128
 payload_fits bytes blocks h = omega (arith, h)
 
-blocks_fit : (bytes blocks : ℕ) → 0 < blocks → bytes ≤ 512 * blocks - 128 → (128 + bytes + 511) / 512 ≤ blocks
+pub blocks_fit : (bytes blocks : ℕ) → 0 < blocks → bytes ≤ 512 * blocks - 128 → (128 + bytes + 511) / 512 ≤ blocks
 blocks_fit bytes blocks some h = omega (arith, some, h)
 
 -- ---- what a put is to list

@@ -14,8 +14,8 @@ use Rattle.cache_model.specs.Legal
 use Rattle.cache_model.specs.Legal.{Does, Advances, MayGrow, nothing, more, IsStep, IsLegal, Course, format_records}
 use Rattle.cache_model.specs.Tape.{IsSound}
 use Rattle.cache_model.specs.Due.{due_pieces}
-use Rattle.cache_model.proofs.Steps.{after_all-append}
-use Rattle.cache_model.proofs.Aside.{aside_append, aside_leaves, lookup_aside, one_aside, reading_on_aside}
+use Rattle.cache_model.proofs.Steps.{after_all-append, all_append}
+use Rattle.cache_model.proofs.Aside.{IsAside, aside_leaves, lookup_aside, one_aside, reading_on_aside}
 use Rattle.cache_model.proofs.Sound.{AllLeaveTape, IsLater, later_self, later_trans, later_leaves, later_insert, displaced_leave}
 use Rattle.cache_model.proofs.SoundFlush.{flush_is_later, stopped_aside}
 
@@ -66,7 +66,7 @@ later_group p s (GiveUp put) added e (Legal.DoesGiveUp.aborts w q is) h = leavin
 later_group p s (GiveUp put) added e (Legal.DoesGiveUp.over q o is) h = leaving s added [] is tt h
 later_group p s (Remove key) added e (Legal.DoesRemove.removes row q l is) h = leaving s added _ is (tt, tt) h
 later_group p s (Remove key) added e (Legal.DoesRemove.absent q l is) h = leaving s added [] is tt h
-later_group p s (Look actor key request) added e (Legal.DoesLook.looks m) h = leaving s added _ m.is (aside_leaves _ (aside_append m.before _ (lookup_aside p s key request m.before m.answer m.right) one_aside)) h
+later_group p s (Look actor key request) added e (Legal.DoesLook.looks m) h = leaving s added _ m.is (aside_leaves _ (all_append IsAside m.before _ (lookup_aside p s key request m.before m.answer m.right) one_aside)) h
 later_group p s (ReadOn reader) added e (Legal.DoesReadOn.reads_on answer m) h = read_on p s reader answer added m h
 later_group p s (ReadAll reader) added e (Legal.DoesReadAll.reads_on answer x m y) h = read_on p s reader answer added m h
 later_group p s (ReadAll reader) added e (Legal.DoesReadAll.has_none q x is y) h = leaving s added [] is tt h

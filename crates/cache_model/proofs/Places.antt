@@ -64,26 +64,14 @@ moved_at : (rows : List Row) (piece : PieceId) (place : ℕ) (digest : Digest) (
 moved_at rows piece place digest id = ap place_in (row_in-copied piece id rows place digest) ∙ copied_at (same_piece piece id) place digest (row_in rows id)
 
 pub place_follows : (s : State) (r : Rec) (id : PieceId) → place_of (state_after s r) id ≡ place_after s r id (place_of s id)
-place_follows s (rec.Formatted geometry) id = refl
 place_follows s (rec.Placed piece place blocks digest pin) id =
     ap place_in (row_in-placed id s.rows (placed_row s piece place blocks digest pin)) ∙ placed_at (same_piece piece id) _ (row_of s id)
 place_follows s (rec.Displaced piece segment live) id = without_at s.rows piece id
 place_follows s (rec.Damaged piece place kept found) id = without_at s.rows piece id
 place_follows s (rec.Moved piece from place digest) id = moved_at s.rows piece place digest id
-place_follows s (rec.Unsaved piece place fault) id = refl
 place_follows s (rec.Committed put key length) id = earlier_at s.rows key put (last_vector s key) id
 place_follows s (rec.Removed put key) id = rw (same_piece-sym id (vector_piece key put)) (without_at s.rows (vector_piece key put) id)
-place_follows s (rec.Began cursor floor) id = refl
-place_follows s (rec.WriteOpened actor put key request response pin) id = refl
-place_follows s (rec.Cut put index length digest) id = refl
-place_follows s (rec.Aborted put key) id = refl
-place_follows s (rec.ReadOpened reader actor key request answer) id = refl
-place_follows s (rec.Gave reader index length) id = refl
-place_follows s (rec.Ended reader length) id = refl
-place_follows s (rec.Waited reader cut) id = refl
-place_follows s (rec.Broke reader why) id = refl
-place_follows s (rec.ReadClosed reader) id = refl
-place_follows s (rec.Fault count) id = refl
+place_follows s _ id = refl
 
 -- ---- records that leave a piece
 
@@ -117,20 +105,9 @@ record_leaves s (rec.Placed piece place blocks digest pin) id before h = rw h re
 record_leaves s (rec.Displaced piece segment live) id before h = rw h refl
 record_leaves s (rec.Damaged piece place kept found) id before h = rw h refl
 record_leaves s (rec.Moved piece from place digest) id before h = rw h refl
-record_leaves s (rec.Unsaved piece place fault) id before h = refl
 record_leaves s (rec.Committed put key length) id before h = rw (commit_leaves (last_vector s key) key put id h) refl
 record_leaves s (rec.Removed put key) id before h = rw (removal_leaves key put id (same_piece id (vector_piece key put)) refl h) refl
-record_leaves s (rec.Began cursor floor) id before h = refl
-record_leaves s (rec.WriteOpened actor put key request response pin) id before h = refl
-record_leaves s (rec.Cut put index length digest) id before h = refl
-record_leaves s (rec.Aborted put key) id before h = refl
-record_leaves s (rec.ReadOpened reader actor key request answer) id before h = refl
-record_leaves s (rec.Gave reader index length) id before h = refl
-record_leaves s (rec.Ended reader length) id before h = refl
-record_leaves s (rec.Waited reader cut) id before h = refl
-record_leaves s (rec.Broke reader why) id before h = refl
-record_leaves s (rec.ReadClosed reader) id before h = refl
-record_leaves s (rec.Fault count) id before h = refl
+record_leaves s _ id before h = refl
 
 -- records that leave a piece leave its place
 pub place-left : (s : State) (id : PieceId) (recs : List Rec) → AllByRecursion (Leaves id) recs → place_of (after_all s recs) id ≡ place_of s id
@@ -153,22 +130,7 @@ gone_at : (s : State) (id : PieceId) (gone : Rec) → takes_away id gone ≡ tru
 gone_at s id (rec.Displaced piece segment live) h = place_follows s (rec.Displaced piece segment live) id ∙ rw h refl
 gone_at s id (rec.Damaged piece place kept found) h = place_follows s (rec.Damaged piece place kept found) id ∙ rw h refl
 gone_at s id (rec.Removed put key) h = place_follows s (rec.Removed put key) id ∙ rw h refl
-gone_at s id (rec.Formatted geometry) h = cc
-gone_at s id (rec.Placed piece place blocks digest pin) h = cc
-gone_at s id (rec.Committed put key length) h = cc
-gone_at s id (rec.Moved piece from place digest) h = cc
-gone_at s id (rec.Unsaved piece place fault) h = cc
-gone_at s id (rec.Began cursor floor) h = cc
-gone_at s id (rec.WriteOpened actor put key request response pin) h = cc
-gone_at s id (rec.Cut put index length digest) h = cc
-gone_at s id (rec.Aborted put key) h = cc
-gone_at s id (rec.ReadOpened reader actor key request answer) h = cc
-gone_at s id (rec.Gave reader index length) h = cc
-gone_at s id (rec.Ended reader length) h = cc
-gone_at s id (rec.Waited reader cut) h = cc
-gone_at s id (rec.Broke reader why) h = cc
-gone_at s id (rec.ReadClosed reader) h = cc
-gone_at s id (rec.Fault count) h = cc
+gone_at s id _ h = cc
 
 pub taken_is_nowhere : (s : State) (id : PieceId) (gone : Rec) (behind : List Rec) → takes_away id gone ≡ true → AllByRecursion (Leaves id) behind
     → place_of (after_all s (gone ∷ behind)) id ≡ None
@@ -192,22 +154,7 @@ vector_stays : (s : State) (key : Key) (r : Rec) → is_about key r ≡ false �
 vector_stays s key (rec.Formatted geometry) h = no_truth h
 vector_stays s key (rec.Committed put k length) h = rw h refl
 vector_stays s key (rec.Removed put k) h = rw h refl
-vector_stays s key (rec.Placed piece place blocks digest pin) h = refl
-vector_stays s key (rec.Displaced piece segment live) h = refl
-vector_stays s key (rec.Damaged piece place kept found) h = refl
-vector_stays s key (rec.Moved piece from place digest) h = refl
-vector_stays s key (rec.Unsaved piece place fault) h = refl
-vector_stays s key (rec.Began cursor floor) h = refl
-vector_stays s key (rec.WriteOpened actor put k request response pin) h = refl
-vector_stays s key (rec.Cut put index length digest) h = refl
-vector_stays s key (rec.Aborted put k) h = refl
-vector_stays s key (rec.ReadOpened reader actor k request answer) h = refl
-vector_stays s key (rec.Gave reader index length) h = refl
-vector_stays s key (rec.Ended reader length) h = refl
-vector_stays s key (rec.Waited reader cut) h = refl
-vector_stays s key (rec.Broke reader why) h = refl
-vector_stays s key (rec.ReadClosed reader) h = refl
-vector_stays s key (rec.Fault count) h = refl
+vector_stays s key _ h = refl
 
 pub vector-left : (s : State) (key : Key) (recs : List Rec) → AllByRecursion (NotAbout key) recs → last_vector (after_all s recs) key ≡ last_vector s key
 vector-left s key [] h = refl
@@ -217,22 +164,7 @@ vector_is : (s : State) (key : Key) (said : Rec) → is_about key said ≡ true 
 vector_is s key (rec.Formatted geometry) h = refl
 vector_is s key (rec.Committed put k length) h = rw h refl
 vector_is s key (rec.Removed put k) h = rw h refl
-vector_is s key (rec.Placed piece place blocks digest pin) h = cc
-vector_is s key (rec.Displaced piece segment live) h = cc
-vector_is s key (rec.Damaged piece place kept found) h = cc
-vector_is s key (rec.Moved piece from place digest) h = cc
-vector_is s key (rec.Unsaved piece place fault) h = cc
-vector_is s key (rec.Began cursor floor) h = cc
-vector_is s key (rec.WriteOpened actor put k request response pin) h = cc
-vector_is s key (rec.Cut put index length digest) h = cc
-vector_is s key (rec.Aborted put k) h = cc
-vector_is s key (rec.ReadOpened reader actor k request answer) h = cc
-vector_is s key (rec.Gave reader index length) h = cc
-vector_is s key (rec.Ended reader length) h = cc
-vector_is s key (rec.Waited reader cut) h = cc
-vector_is s key (rec.Broke reader why) h = cc
-vector_is s key (rec.ReadClosed reader) h = cc
-vector_is s key (rec.Fault count) h = cc
+vector_is s key _ h = cc
 
 pub vector_is_last : (s : State) (key : Key) (said : Rec) (behind : List Rec) → is_about key said ≡ true → AllByRecursion (NotAbout key) behind
     → last_vector (after_all s (said ∷ behind)) key ≡ vector_said said
@@ -241,23 +173,7 @@ vector_is_last s key said behind h k = vector-left (state_after s said) key behi
 floor_stays : (s : State) (r : Rec) → begins_buffer r ≡ false → floor_now (state_after s r) ≡ floor_now s
 floor_stays s (rec.Formatted geometry) h = no_truth h
 floor_stays s (rec.Began cursor floor) h = no_truth h
-floor_stays s (rec.Placed piece place blocks digest pin) h = refl
-floor_stays s (rec.Displaced piece segment live) h = refl
-floor_stays s (rec.Damaged piece place kept found) h = refl
-floor_stays s (rec.Moved piece from place digest) h = refl
-floor_stays s (rec.Unsaved piece place fault) h = refl
-floor_stays s (rec.Committed put key length) h = refl
-floor_stays s (rec.Removed put key) h = refl
-floor_stays s (rec.WriteOpened actor put key request response pin) h = refl
-floor_stays s (rec.Cut put index length digest) h = refl
-floor_stays s (rec.Aborted put key) h = refl
-floor_stays s (rec.ReadOpened reader actor key request answer) h = refl
-floor_stays s (rec.Gave reader index length) h = refl
-floor_stays s (rec.Ended reader length) h = refl
-floor_stays s (rec.Waited reader cut) h = refl
-floor_stays s (rec.Broke reader why) h = refl
-floor_stays s (rec.ReadClosed reader) h = refl
-floor_stays s (rec.Fault count) h = refl
+floor_stays s _ h = refl
 
 pub floor-left : (s : State) (recs : List Rec) → AllByRecursion NoBuffer recs → floor_now (after_all s recs) ≡ floor_now s
 floor-left s [] h = refl

@@ -80,21 +80,11 @@ leaves_one s (rec.Formatted geometry) h = absurd h
 leaves_one s (rec.Began cursor floor) h = absurd h
 leaves_one s (rec.Placed piece place blocks digest pin) h = absurd h
 leaves_one s (rec.Moved piece from place digest) h = absurd h
-leaves_one s (rec.Unsaved piece place fault) h = same_with s _ refl refl refl refl (part_all s.rows)
 leaves_one s (rec.Displaced piece segment live) h = same_with s _ refl refl refl refl (part-filter _ s.rows)
 leaves_one s (rec.Damaged piece place kept found) h = same_with s _ refl refl refl refl (part-filter _ s.rows)
 leaves_one s (rec.Committed put key length) h = same_with s _ refl refl refl refl (earlier_part key put (last_vector s key) s.rows)
 leaves_one s (rec.Removed put key) h = same_with s _ refl refl refl refl (part-filter _ s.rows)
-leaves_one s (rec.WriteOpened actor put key request response pin) h = same_with s _ refl refl refl refl (part_all s.rows)
-leaves_one s (rec.Cut put index length digest) h = same_with s _ refl refl refl refl (part_all s.rows)
-leaves_one s (rec.Aborted put key) h = same_with s _ refl refl refl refl (part_all s.rows)
-leaves_one s (rec.ReadOpened reader actor key request answer) h = same_with s _ refl refl refl refl (part_all s.rows)
-leaves_one s (rec.Gave reader index length) h = same_with s _ refl refl refl refl (part_all s.rows)
-leaves_one s (rec.Ended reader length) h = same_with s _ refl refl refl refl (part_all s.rows)
-leaves_one s (rec.Waited reader cut) h = same_with s _ refl refl refl refl (part_all s.rows)
-leaves_one s (rec.Broke reader why) h = same_with s _ refl refl refl refl (part_all s.rows)
-leaves_one s (rec.ReadClosed reader) h = same_with s _ refl refl refl refl (part_all s.rows)
-leaves_one s (rec.Fault count) h = same_with s _ refl refl refl refl (part_all s.rows)
+leaves_one s _ h = same_with s _ refl refl refl refl (part_all s.rows)
 
 pub later_leaves : (s : State) (recs : List Rec) → AllLeaveTape recs → IsSound s → IsLater s (after_all s recs)
 later_leaves s [] h sound = later_self s sound

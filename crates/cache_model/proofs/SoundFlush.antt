@@ -15,8 +15,8 @@ use Rattle.cache_model.specs.Tape.{AreApart, AreRising, IsSound, NotAmong}
 use Rattle.cache_model.proofs.Found.{no_truth}
 use Rattle.cache_model.proofs.Lists.{row_in-without}
 use Rattle.cache_model.proofs.Rows.{ArePart, done, keep, skip, apart-part, part-filter, part-trans}
-use Rattle.cache_model.proofs.Steps.{after_all-append}
-use Rattle.cache_model.proofs.Aside.{AllAside, aside_append, aside_leaves, one_aside}
+use Rattle.cache_model.proofs.Steps.{after_all-append, all_append}
+use Rattle.cache_model.proofs.Aside.{AllAside, IsAside, aside_leaves, one_aside}
 use Rattle.cache_model.proofs.Sound.{AllLeaveTape, IsLater, buffer_left, later_began, later_leaves, later_trans}
 use Rattle.cache_model.specs.Due.{due_pieces}
 use Rattle.cache_model.specs.Outcomes.{AreOutcomes, Copied, Copy, NoRoom, Outcome, Refused, Spoiled, began_record, copies_of, flush_records, front_of, moved_records, records_of, stopped_front_of, stopped_records, stopped_records_of}
@@ -25,7 +25,7 @@ use Rattle.cache_model.proofs.Copies.{AreReady, IsFilled, IsReady, all_copied, b
 
 -- ---- the records of what is not copied
 
-aside_of : (row : Row) (o : Outcome) → AllAside (records_of row o)
+pub aside_of : (row : Row) (o : Outcome) → AllAside (records_of row o)
 aside_of row NoRoom = one_aside
 aside_of row (Copied bytes) = tt
 aside_of row (Spoiled found) = one_aside
@@ -34,7 +34,7 @@ aside_of row (Refused count) = ((tt, tt), one_aside)
 pub front_aside : (rows : List Row) (outcomes : List Outcome) → AllAside (front_of rows outcomes)
 front_aside [] outcomes = tt
 front_aside (row ∷ rows) [] = tt
-front_aside (row ∷ rows) (o ∷ outcomes) = aside_append (records_of row o) (front_of rows outcomes) (aside_of row o) (front_aside rows outcomes)
+front_aside (row ∷ rows) (o ∷ outcomes) = all_append IsAside (records_of row o) (front_of rows outcomes) (aside_of row o) (front_aside rows outcomes)
 
 pub front_leaves : (rows : List Row) (outcomes : List Outcome) → AllLeaveTape (front_of rows outcomes)
 front_leaves rows outcomes = aside_leaves (front_of rows outcomes) (front_aside rows outcomes)
@@ -179,10 +179,10 @@ stopped_front_aside : (rows : List Row) (outcomes : List Outcome) → AllAside (
 stopped_front_aside [] outcomes = tt
 stopped_front_aside (row ∷ rows) [] = tt
 stopped_front_aside (row ∷ rows) (o ∷ outcomes) =
-    aside_append (stopped_records_of row o) (stopped_front_of rows outcomes) (stopped_aside_of row o) (stopped_front_aside rows outcomes)
+    all_append IsAside (stopped_records_of row o) (stopped_front_of rows outcomes) (stopped_aside_of row o) (stopped_front_aside rows outcomes)
 
 pub stopped_aside : (rows : List Row) (outcomes : List Outcome) (count : ℕ) → AllAside (stopped_records rows outcomes count)
-stopped_aside rows outcomes count = aside_append (stopped_front_of rows outcomes) (rec.Fault count ∷ []) (stopped_front_aside rows outcomes) one_aside
+stopped_aside rows outcomes count = all_append IsAside (stopped_front_of rows outcomes) (rec.Fault count ∷ []) (stopped_front_aside rows outcomes) one_aside
 
 pub stopped_is_sound : (s : State) (rows : List Row) (outcomes : List Outcome) (count : ℕ) → IsSound s
     → (let t : State = after_all s (stopped_records rows outcomes count) in

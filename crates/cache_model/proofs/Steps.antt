@@ -1,11 +1,30 @@
 -- A step, read from its first group on.
 use Rattle.std.proofs.Common.{◌≡◌, List, [], ◌∷◌, ◌++◌, refl, sym, ◌∙◌, ap, subst, inl, inr, ◌⊎◌, append_assoc, append-nil}
 use Rattle.std.specs.Prelude.{Option, Some, None}
+use Rattle.std.specs.List.{AllByRecursion}
 use Rattle.std.proofs.lemmas.List.Sums.{fold-append}
 use Rattle.cache_model.specs.declared.record.Rec.{Rec}
 use Rattle.cache_model.specs.State.{State, state_after, after_all}
 use Rattle.cache_model.specs.Permit.{Permit, Work, Intent, End, Stays, Done, Fails, Reason, work_after}
 use Rattle.cache_model.specs.Legal.{Does, Advances, MayGrow, nothing, more}
+
+-- ---- lists
+
+-- what holds of each element of two lists together holds of each element of either, and the other way round
+pub all_parts : {X : Type 0} (P : X → Type 0) (xs ys : List X) → AllByRecursion P (xs ++ ys) → AllByRecursion P xs × AllByRecursion P ys
+all_parts P [] ys h = (tt, h)
+all_parts P (x ∷ xs) ys h = let rest = all_parts P xs ys h.1 in ((h.0, rest.0), rest.1)
+
+pub all_append : {X : Type 0} (P : X → Type 0) (xs ys : List X) → AllByRecursion P xs → AllByRecursion P ys → AllByRecursion P (xs ++ ys)
+all_append P [] ys front back = back
+all_append P (x ∷ xs) ys front back = (front.0, all_append P xs ys front.1 back)
+
+-- what holds of each element holds of it as another
+pub all_as : {X : Type 0} (P Q : X → Type 0) → ((x : X) → P x → Q x) → (xs : List X) → AllByRecursion P xs → AllByRecursion Q xs
+all_as P Q f [] each = tt
+all_as P Q f (x ∷ xs) each = (f x each.0, all_as P Q f xs each.1)
+
+-- ---- steps
 
 pub after_all-append : (s : State) (a b : List Rec) → after_all s (a ++ b) ≡ after_all (after_all s a) b
 after_all-append s a b = fold-append state_after s a b

@@ -20,6 +20,7 @@ use Rattle.cache_model.proofs.Lists.{row_in-moved}
 use Rattle.cache_model.proofs.Rows.{ArePart, done, keep, skip, part-filter}
 use Rattle.cache_model.proofs.Sound.{AllLeaveTape, SameTape, leaves_one}
 use Rattle.cache_model.proofs.Aside.{AllAside, LeavesPuts}
+use Rattle.cache_model.proofs.Steps.{all_as}
 
 -- ---- rows
 
@@ -27,10 +28,6 @@ pub each_part : {some all : List Row} (P : Row → Type 0) → ArePart some all 
 each_part P done each = tt
 each_part P (keep p) each = (each.0, each_part P p each.1)
 each_part P (skip p) each = each_part P p each.1
-
-pub each_map : (P Q : Row → Type 0) → ((row : Row) → P row → Q row) → (rows : List Row) → AllByRecursion P rows → AllByRecursion Q rows
-each_map P Q f [] each = tt
-each_map P Q f (row ∷ rows) each = (f row each.0, each_map P Q f rows each.1)
 
 pub listed_stays : (s t : State) → t.geometry ≡ s.geometry → (row : Row) → IsListed s row → IsListed t row
 listed_stays s t same row listed vector =
@@ -40,7 +37,7 @@ listed_stays s t same row listed vector =
 
 -- rows that stay list what they listed
 pub vectors_part : (s t : State) → t.geometry ≡ s.geometry → ArePart t.rows s.rows → AreVectors s → AreVectors t
-vectors_part s t same part each = each_map (IsListed s) (IsListed t) (listed_stays s t same) t.rows (each_part (IsListed s) part each)
+vectors_part s t same part each = all_as (IsListed s) (IsListed t) (listed_stays s t same) t.rows (each_part (IsListed s) part each)
 
 vectors_one : (s t : State) → SameTape s t → AreVectors s → AreVectors t
 vectors_one s t same each = vectors_part s t same.geometry same.rows each
@@ -55,7 +52,7 @@ pub vectors_placed : (s : State) (piece : PieceId) (place blocks : ℕ) (digest 
 vectors_placed s piece place blocks digest pin listed each =
     let t : State = state_after s (rec.Placed piece place blocks digest pin) in
     let before : AllByRecursion (IsListed s) (without piece s.rows) = each_part (IsListed s) (part-filter _ s.rows) each in
-    each_map (IsListed s) (IsListed t) (listed_stays s t refl) t.rows (each_push (IsListed s) (without piece s.rows) (placed_row s piece place blocks digest pin) before listed)
+    all_as (IsListed s) (IsListed t) (listed_stays s t refl) t.rows (each_push (IsListed s) (without piece s.rows) (placed_row s piece place blocks digest pin) before listed)
 
 -- ---- puts
 
@@ -147,47 +144,22 @@ no_puts n w found = none_is found
 
 puts_left : (s : State) (r : Rec) → LeavesPuts r → AreFit s.puts → AreFit (state_after s r).puts
 puts_left s (rec.Formatted geometry) h each = no_puts
-puts_left s (rec.Began cursor floor) h each = each
-puts_left s (rec.Placed piece place blocks digest pin) h each = each
-puts_left s (rec.Moved piece from place digest) h each = each
-puts_left s (rec.Unsaved piece place fault) h each = each
 puts_left s (rec.Displaced piece segment live) h each = absurd h
-puts_left s (rec.Damaged piece place kept found) h each = each
 puts_left s (rec.WriteOpened actor put key request response pin) h each = absurd h
 puts_left s (rec.Cut put index length digest) h each = absurd h
 puts_left s (rec.Committed put key length) h each = puts_ended put Closed s.puts each
 puts_left s (rec.Aborted put key) h each = puts_ended put GivenUp s.puts each
-puts_left s (rec.Removed put key) h each = each
-puts_left s (rec.ReadOpened reader actor key request answer) h each = each
-puts_left s (rec.Gave reader index length) h each = each
-puts_left s (rec.Ended reader length) h each = each
-puts_left s (rec.Waited reader cut) h each = each
-puts_left s (rec.Broke reader why) h each = each
-puts_left s (rec.ReadClosed reader) h each = each
-puts_left s (rec.Fault count) h each = each
+puts_left s _ h each = each
 
 -- ---- what an insert displaces
 
 nothing_displaced : (s : State) (r : Rec) → LeavesPuts r → s.displaced ≡ [] → (state_after s r).displaced ≡ []
 nothing_displaced s (rec.Formatted geometry) h none = refl
-nothing_displaced s (rec.Began cursor floor) h none = none
 nothing_displaced s (rec.Placed piece place blocks digest pin) h none = refl
-nothing_displaced s (rec.Moved piece from place digest) h none = none
-nothing_displaced s (rec.Unsaved piece place fault) h none = none
 nothing_displaced s (rec.Displaced piece segment live) h none = absurd h
-nothing_displaced s (rec.Damaged piece place kept found) h none = none
 nothing_displaced s (rec.WriteOpened actor put key request response pin) h none = absurd h
 nothing_displaced s (rec.Cut put index length digest) h none = absurd h
-nothing_displaced s (rec.Committed put key length) h none = none
-nothing_displaced s (rec.Aborted put key) h none = none
-nothing_displaced s (rec.Removed put key) h none = none
-nothing_displaced s (rec.ReadOpened reader actor key request answer) h none = none
-nothing_displaced s (rec.Gave reader index length) h none = none
-nothing_displaced s (rec.Ended reader length) h none = none
-nothing_displaced s (rec.Waited reader cut) h none = none
-nothing_displaced s (rec.Broke reader why) h none = none
-nothing_displaced s (rec.ReadClosed reader) h none = none
-nothing_displaced s (rec.Fault count) h none = none
+nothing_displaced s _ h none = none
 
 -- a record that leaves the puts
 pub told_left : (s : State) (r : Rec) → LeavesPuts r → AreVectors (state_after s r) → AreTold s → AreTold (state_after s r)

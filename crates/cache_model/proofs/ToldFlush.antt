@@ -21,14 +21,14 @@ use Rattle.cache_model.specs.Vectors.{AreTold, IsListed, IsVectorRow, vector_doc
 use Rattle.cache_model.proofs.Found.{no_truth}
 use Rattle.cache_model.proofs.Rows.{apart-part, part-filter, part_all}
 use Rattle.cache_model.proofs.Sound.{buffer_left}
-use Rattle.cache_model.proofs.Steps.{after_all-append}
+use Rattle.cache_model.proofs.Steps.{after_all-append, all_as}
 use Rattle.cache_model.specs.Due.{due_pieces}
 use Rattle.cache_model.specs.Outcomes.{AreOutcomes, Copied, Copy, NoRoom, Outcome, Refused, Spoiled, began_record, copies_of, flush_records, front_of, moved_record, moved_records, records_of, stopped_records}
 use Rattle.cache_model.specs.Vectors.{IsOtherVector}
 use Rattle.cache_model.proofs.Alike.{given_alike}
 use Rattle.cache_model.proofs.Copies.{AreReady, IsReady, copied, copied_is, others_stand, rows_of, still_ready}
 use Rattle.cache_model.proofs.SoundFlush.{copies_part, copies_ready, due_part, front_aside, front_leaves, part_ready, stopped_aside}
-use Rattle.cache_model.proofs.Told.{each_map, each_part, listed_stays, told_aside, told_left, vectors_part}
+use Rattle.cache_model.proofs.Told.{each_part, listed_stays, told_aside, told_left, vectors_part}
 use Rattle.cache_model.proofs.Live.{IsFound, due_are_live}
 
 -- ---- a flush that stops
@@ -61,7 +61,7 @@ are_saved p s t left (row ∷ rows) (Refused count ∷ outcomes) same listed liv
 short_enough : (g : Geometry) (bytes : ℕ) → blocks_of bytes ≤ budget_of g → bytes < 2 ^ 32
 short_enough g bytes fits = omega (arith, fits, g.accepted.agg_fits.1)
 
-abbrev moved : ℕ → Copy → Row
+abbrev pub moved : ℕ → Copy → Row
 moved place c = moved_row place (document_digest (moved_to place c.bytes)) c.row
 
 moved_vector : (p : Permit) (s : State) (place : ℕ) (c : Copy) (list : List Stored) → is_vector c.row.id ≡ true → IsVectorRow s c.row list → IsSaved p s c
@@ -86,14 +86,14 @@ told_moved u c ready listed told =
     let t : State = copied u c.row digest in
     let before : AllByRecursion (IsListed u) (without c.row.id u.rows) = each_part (IsListed u) (part-filter _ u.rows) told.vectors in
     subst AreTold (sym (copied_is u c.row c.row.place digest ready.0)) (record {
-      vectors = each_map (IsListed u) (IsListed t) (listed_stays u t refl) t.rows (each_push (IsListed u) (without c.row.id u.rows) (moved (place_now u) c) before listed);
+      vectors = all_as (IsListed u) (IsListed t) (listed_stays u t refl) t.rows (each_push (IsListed u) (without c.row.id u.rows) (moved (place_now u) c) before listed);
       puts = told.puts;
       displaced = told.displaced;
     })
 
 -- ---- copy after copy
 
-go_on : {X Y Z : Type 0} → X ⊎ Y → (X → Z ⊎ Y) → Z ⊎ Y
+pub go_on : {X Y Z : Type 0} → X ⊎ Y → (X → Z ⊎ Y) → Z ⊎ Y
 go_on (inl x) f = f x
 go_on (inr y) f = inr y
 

@@ -24,11 +24,11 @@ use Rattle.cache_model.specs.Legal.{Does, Advances, MayGrow, nothing, more, IsSt
 use Rattle.cache_model.specs.Due.{due_pieces}
 use Rattle.cache_model.specs.Tape.{IsSound}
 use Rattle.cache_model.specs.Vectors.{ArePuts, AreTold, AreVectors, IsListed, IsOtherVector, IsShownIn, ShowsVector}
-use Rattle.cache_model.proofs.Steps.{after_all-append}
+use Rattle.cache_model.proofs.Steps.{after_all-append, all_append}
 use Rattle.cache_model.proofs.Rows.{part_all}
 use Rattle.cache_model.proofs.Sound.{AllLeaveTape, IsLater, buffer_left, displaced_leave}
 use Rattle.cache_model.proofs.Onward.{later_advanced, legal_is_sound}
-use Rattle.cache_model.proofs.Aside.{AllAside, aside_append, lookup_aside, one_aside, reading_on_aside}
+use Rattle.cache_model.proofs.Aside.{AllAside, IsAside, lookup_aside, one_aside, reading_on_aside}
 use Rattle.cache_model.proofs.Merged.{IsMerged, put_told}
 use Rattle.cache_model.proofs.Told.{AreFit, IsBehind, displaced_behind, no_puts, puts_cut, puts_opened, told_aside, vectors_leave, vectors_part, vectors_placed}
 use Rattle.cache_model.proofs.ToldFlush.{flush_tells, stopped_tells}
@@ -154,7 +154,7 @@ told_group p s (GiveUp put) added e h told (Legal.DoesGiveUp.over q o is) = asid
 told_group p s (Remove key) added e h told (Legal.DoesRemove.removes row q l is) = aside p s added _ is one_aside told
 told_group p s (Remove key) added e h told (Legal.DoesRemove.absent q l is) = aside p s added [] is tt told
 told_group p s (Look actor key request) added e h told (Legal.DoesLook.looks m) =
-    aside p s added _ m.is (aside_append m.before _ (lookup_aside p s key request m.before m.answer m.right) one_aside) told
+    aside p s added _ m.is (all_append IsAside m.before _ (lookup_aside p s key request m.before m.answer m.right) one_aside) told
 told_group p s (ReadOn reader) added e h told (Legal.DoesReadOn.reads_on answer m) = aside p s added _ m.is (reading_on_aside p s reader answer added m) told
 told_group p s (ReadAll reader) added e h told (Legal.DoesReadAll.reads_on answer x m y) = aside p s added _ m.is (reading_on_aside p s reader answer added m) told
 told_group p s (ReadAll reader) added e h told (Legal.DoesReadAll.has_none q x is y) = aside p s added [] is tt told

@@ -14,7 +14,7 @@ use Rattle.cache_model.specs.declared.record.Rec.{Rec}
 use Rattle.cache_model.specs.State.{State, Row, PutRow, ReaderRow, live_row_of, put_of, reader_of}
 use Rattle.cache_model.specs.Verdict
 use Rattle.cache_model.specs.Verdict.{live_vector_of, next_piece, next_row}
-use Rattle.cache_model.specs.Permit.{Permit, Intent, Flush, Write, Fragment, Overflow, Weigh, Finish, Commit, GiveUp, Remove, Look, ReadOn, ReadAll, StopReading, End}
+use Rattle.cache_model.specs.Permit.{Permit, Intent, Flush, Fragment, Weigh, Finish, Look, ReadOn, ReadAll, End}
 use Rattle.cache_model.specs.Due.{due_pieces}
 use Rattle.cache_model.specs.Outcomes.{AreOutcomes, Outcome}
 use Rattle.cache_model.specs.Room.{has_room, is_flush_exhausted}
@@ -69,25 +69,17 @@ weigh_is_tried : (p : Permit) (s : State) (put : ℕ) (w : PutRow) → put_of s 
 weigh_is_tried p s put w found h = subst (λ o. IsTriedWhereLive p s (option_and_then (λ (x : PutRow). live_vector_of s x.key) o)) (sym found) h
 
 asked_is_tried : (p : Permit) (s : State) (i : Intent) (added : List Rec) (e : End) → Does p s i added e → IsTriedWhereLive p s (to_read s i)
-asked_is_tried p s Flush added e d = tt
-asked_is_tried p s (Write actor key request response pin) added e d = tt
-asked_is_tried p s (Fragment put index payload) added e d = tt
-asked_is_tried p s (Overflow put) added e d = tt
 asked_is_tried p s (Weigh put rest) added e (Legal.DoesWeigh.weighs w q r f is) = weigh_is_tried p s put w q.found (where_live p s (live_vector_of s w.key) r)
 asked_is_tried p s (Weigh put rest) added e (Legal.DoesWeigh.too_large w q r f is) = weigh_is_tried p s put w q.found (where_live p s (live_vector_of s w.key) r)
 asked_is_tried p s (Weigh put rest) added e (Legal.DoesWeigh.damaged w row found q live d is) =
     weigh_is_tried p s put w q.found (tried_at p s (live_vector_of s w.key) row live (Choices.IsTried.given d.bytes d.given))
 asked_is_tried p s (Weigh put rest) added e (Legal.DoesWeigh.faulted w row count q live r m is) =
     weigh_is_tried p s put w q.found (tried_at p s (live_vector_of s w.key) row live (Choices.IsTried.refused count r m))
-asked_is_tried p s (Finish put fragments) added e d = tt
-asked_is_tried p s (Commit put) added e d = tt
-asked_is_tried p s (GiveUp put) added e d = tt
-asked_is_tried p s (Remove key) added e d = tt
 asked_is_tried p s (Look actor key request) added e (Legal.DoesLook.looks m) = lookup_is_tried p s key request m.before m.answer m.right
 asked_is_tried p s (ReadOn reader) added e (Legal.DoesReadOn.reads_on answer m) = read_on_is_tried p s reader answer added m
 asked_is_tried p s (ReadAll reader) added e (Legal.DoesReadAll.reads_on answer h m x) = rw h (read_on_is_tried p s reader answer added m)
 asked_is_tried p s (ReadAll reader) added e (Legal.DoesReadAll.has_none q h is x) = rw h tt
-asked_is_tried p s (StopReading reader) added e d = tt
+asked_is_tried p s _ added e d = tt
 
 -- ---- what a flush is to copy
 
@@ -118,16 +110,7 @@ due_is_tried p s (Finish put fragments) added e (Legal.DoesFinish.places d m) fi
 due_is_tried p s (Finish put fragments) added e (Legal.DoesFinish.rooms w c m) first can = room_is_tried p s (vector_length s put) added e m can
 due_is_tried p s (Finish put fragments) added e (Legal.DoesFinish.loses w index x m is) first can = room_not p s (vector_length s put) m.room first
 due_is_tried p s (Finish put fragments) added e (Legal.DoesFinish.exhausted w x c l none) first can = room_not p s (vector_length s put) none.room first
-due_is_tried p s (Write actor key request response pin) added e d first can = no_truth (sym first)
-due_is_tried p s (Overflow put) added e d first can = no_truth (sym first)
-due_is_tried p s (Weigh put rest) added e d first can = no_truth (sym first)
-due_is_tried p s (Commit put) added e d first can = no_truth (sym first)
-due_is_tried p s (GiveUp put) added e d first can = no_truth (sym first)
-due_is_tried p s (Remove key) added e d first can = no_truth (sym first)
-due_is_tried p s (Look actor key request) added e d first can = no_truth (sym first)
-due_is_tried p s (ReadOn reader) added e d first can = no_truth (sym first)
-due_is_tried p s (ReadAll reader) added e d first can = no_truth (sym first)
-due_is_tried p s (StopReading reader) added e d first can = no_truth (sym first)
+due_is_tried p s _ added e d first can = no_truth (sym first)
 
 pub answered_is_tried : (p : Permit) (s : State) (i : Intent) (added : List Rec) (e : End) → Does p s i added e
     → IsTriedWhereLive p s (to_read s i) × AreDueTried p s i

@@ -14,3 +14,4 @@ pub mod VerdictLaws
 pub mod Tape
 pub mod Vectors
 pub mod FlushLaws
+pub mod Agreeing

@@ -6,6 +6,7 @@ ghost use Rattle.cache_model.specs.StepLaws.{RefusalEnds, NumbersFollow, FaultsR
 ghost use Rattle.cache_model.specs.VerdictLaws.{HitMatches, CompleteIsHit, RemovedIsMissed, PassedIsMissed, FormattedIsEmpty, GivenIsOwn, EndIsWhole, FollowedIsClosed, WaitsForOpen};
 ghost use Rattle.cache_model.specs.Tape.{StepsAreSound, LegalIsSound, LiveIsKnown};
 ghost use Rattle.cache_model.specs.FlushLaws.{DueAreFound, FlushIsSound, FrontIsBacked, GivenAreTried, KeptAreChosen, OutcomesAreFixed, OutcomesAreFound, OutcomesAreTried, StoppedIsBacked, StoppedIsSound, WalkFinds, WalkGoesOn};
+ghost use Rattle.cache_model.specs.Agreeing.{GroupsAgree, StepsAgree};
 ghost use Rattle.cache_model.specs.Vectors.{FlushTells, StoppedTells, FormatsTell, GroupsTell, StepsTell, VectorsAreKept, LiveVectorIsListed, VectorIsReadBack, MergedIsSpelled};
 
 /// What each record makes of the place of each piece.
@@ -122,6 +123,17 @@ pub fn faults_rise()
 /// fixes the records of a group and how it ends.
 pub fn group_is_fixed()
     ensures { GroupIsFixed }
+{}
+
+/// Where two devices tell no fault and no damage, and their directories displace nothing, what is asked at
+/// one moment fixes the records of a group and how it ends, or two documents of one SHA-256 are shown.
+pub fn groups_agree()
+    ensures { GroupsAgree }
+{}
+
+/// So it does of a whole step, and why it did less, or the two documents are shown some way into it.
+pub fn steps_agree()
+    ensures { StepsAgree }
 {}
 
 /// On a sound tape what may be asked can be done, or is refused, whatever the device gives for what was

@@ -30,29 +30,9 @@ same run = record { ended = refl; names = refl; now = refl }
 -- a line on a session, where there is one, says nothing new of them
 pub same_beside : (run : Run) (turn : Turn) (state : Option State) (step : Step) → NeedsSession step → SameBeside run (behind run turn state step)
 same_beside run turn state (step.Format name segments buckets content agg reach fragment generation) needs = absurd needs
-same_beside run turn (Some s) (step.Put key body request response) needs = record { ended = refl; names = refl; now = refl }
-same_beside run turn None (step.Put key body request response) needs = same run
-same_beside run turn (Some s) (step.Get key request) needs = record { ended = refl; names = refl; now = refl }
-same_beside run turn None (step.Get key request) needs = same run
-same_beside run turn (Some s) (step.OpenWrite actor key pin request response) needs = record { ended = refl; names = refl; now = refl }
-same_beside run turn None (step.OpenWrite actor key pin request response) needs = same run
-same_beside run turn (Some s) (step.Feed actor body) needs = record { ended = refl; names = refl; now = refl }
-same_beside run turn None (step.Feed actor body) needs = same run
-same_beside run turn (Some s) (step.Close actor) needs = record { ended = refl; names = refl; now = refl }
-same_beside run turn None (step.Close actor) needs = same run
-same_beside run turn (Some s) (step.Abort actor) needs = record { ended = refl; names = refl; now = refl }
-same_beside run turn None (step.Abort actor) needs = same run
-same_beside run turn (Some s) (step.OpenRead actor key request) needs = record { ended = refl; names = refl; now = refl }
-same_beside run turn None (step.OpenRead actor key request) needs = same run
-same_beside run turn (Some s) (step.Next actor) needs = record { ended = refl; names = refl; now = refl }
-same_beside run turn None (step.Next actor) needs = same run
-same_beside run turn (Some s) (step.Done actor) needs = record { ended = refl; names = refl; now = refl }
-same_beside run turn None (step.Done actor) needs = same run
-same_beside run turn (Some s) (step.Remove key) needs = record { ended = refl; names = refl; now = refl }
-same_beside run turn None (step.Remove key) needs = same run
-same_beside run turn (Some s) step.Flush needs = record { ended = refl; names = refl; now = refl }
-same_beside run turn None step.Flush needs = same run
 same_beside run turn state (step.Now at) needs = absurd needs
+same_beside run turn (Some s) _ needs = record { ended = refl; names = refl; now = refl }
+same_beside run turn None _ needs = same run
 
 -- so no device comes back and none is attached
 pub no_deals : (ledger : Ledger) → Deals ledger ledger [] []
@@ -101,18 +81,8 @@ stops run step before now Memory needs is = tt
 -- what is no format and sets no moment works on a session
 pub needs_session : (s : Step) → ((name : List ℕ) (segments buckets content agg reach fragment generation : ℕ) → s ≡ step.Format name segments buckets content agg reach fragment generation → ⊥) → ((at : ℕ) → s ≡ step.Now at → ⊥) → NeedsSession s
 needs_session (step.Format name segments buckets content agg reach fragment generation) h k = absurd (h name segments buckets content agg reach fragment generation refl)
-needs_session (step.Put key body request response) h k = tt
-needs_session (step.Get key request) h k = tt
-needs_session (step.OpenWrite actor key pin request response) h k = tt
-needs_session (step.Feed actor body) h k = tt
-needs_session (step.Close actor) h k = tt
-needs_session (step.Abort actor) h k = tt
-needs_session (step.OpenRead actor key request) h k = tt
-needs_session (step.Next actor) h k = tt
-needs_session (step.Done actor) h k = tt
-needs_session (step.Remove key) h k = tt
-needs_session step.Flush h k = tt
 needs_session (step.Now at) h k = absurd (k at refl)
+needs_session _ h k = tt
 
 -- ---- whatever a line answers
 

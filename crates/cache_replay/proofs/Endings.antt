@@ -10,7 +10,7 @@ use Rattle.cache_model.specs.declared.record.Rec.{Rec}
 use Rattle.cache_model.specs.declared.record.Rec.TheVariants as rec
 use Rattle.cache_model.specs.State.{Closed, GivenUp, PutRow, Row, State, after_all, list_of_put, put_of, state_after, vector_piece, with_cut, with_writing}
 use Rattle.cache_model.specs.Verdict.{cuts_of, is_open}
-use Rattle.cache_model.specs.Permit.{Commit, Done, End, Exhausted, Fails, Faulted, Finish, Flush, Fragment, GiveUp, Intent, Look, Lost, ManyFragments, ManyWriters, Overflow, Permit, ReadAll, ReadOn, Reason, Remove, Stays, StopReading, TooLarge, Weigh, Work, Write, is_cleanup, work_after}
+use Rattle.cache_model.specs.Permit.{Commit, Done, End, Exhausted, Fails, Faulted, Finish, Fragment, Intent, Lost, ManyFragments, ManyWriters, Permit, Reason, Stays, TooLarge, Weigh, Work, is_cleanup, work_after}
 use Rattle.cache_model.specs.Legal.{Advances, Does, DoesCommit, DoesFinish, DoesFragment, DoesWeigh, MakesRoom, MayGrow, is_writing, more, next_fragment_of, nothing, vector_length, vector_payload}
 use Rattle.cache_model.specs.Due.{due_pieces}
 use Rattle.cache_model.specs.Outcomes.{Copy, Outcome, began_record, copies_of, flush_records, front_of, moved_record, moved_records, records_of}
@@ -226,15 +226,7 @@ group p s (Weigh q rest) put added e is does = subst (λ n. IsGroup (Weigh q res
 group p s (Fragment q index payload) put added e is does = subst (λ n. IsGroup (Fragment q index payload) e s (after_all s added) n) is (fragment_group p s q index payload added e does)
 group p s (Finish q fragments) put added e is does = subst (λ n. IsGroup (Finish q fragments) e s (after_all s added) n) is (finish_group p s q fragments added e does)
 group p s (Commit q) put added e is does = subst (λ n. IsGroup (Commit q) e s (after_all s added) n) is (commit_group p s q added e does)
-group p s Flush put added e is does = absurd is
-group p s (Write actor key request response pin) put added e is does = absurd is
-group p s (Overflow q) put added e is does = absurd is
-group p s (GiveUp q) put added e is does = absurd is
-group p s (Remove key) put added e is does = absurd is
-group p s (Look actor key request) put added e is does = absurd is
-group p s (ReadOn reader) put added e is does = absurd is
-group p s (ReadAll reader) put added e is does = absurd is
-group p s (StopReading reader) put added e is does = absurd is
+group p s _ put added e is does = absurd is
 
 -- ---- a whole step
 
@@ -244,15 +236,7 @@ no_cleanup put (Weigh q rest ∷ is) h = no_cleanup put is h.1
 no_cleanup put (Fragment q index payload ∷ is) h = no_cleanup put is h.1
 no_cleanup put (Finish q fragments ∷ is) h = no_cleanup put is h.1
 no_cleanup put (Commit q ∷ is) h = no_cleanup put is h.1
-no_cleanup put (Flush ∷ is) h = absurd h.0
-no_cleanup put (Write actor key request response pin ∷ is) h = absurd h.0
-no_cleanup put (Overflow q ∷ is) h = absurd h.0
-no_cleanup put (GiveUp q ∷ is) h = absurd h.0
-no_cleanup put (Remove key ∷ is) h = absurd h.0
-no_cleanup put (Look actor key request ∷ is) h = absurd h.0
-no_cleanup put (ReadOn reader ∷ is) h = absurd h.0
-no_cleanup put (ReadAll reader ∷ is) h = absurd h.0
-no_cleanup put (StopReading reader ∷ is) h = absurd h.0
+no_cleanup put _ h = absurd h.0
 
 failed : (why : Reason) (s t : State) (put : ℕ) (rows : List TableRow) → HasFailed why s t put → IsEnded (Some why) t put rows (key_of s put)
 failed (TooLarge q bytes) s t put rows h = h.ended

@@ -16,12 +16,13 @@ use Rattle.cache_model.specs.Legal.{most_fragments}
 use Rattle.stripe_core.specs.declared.refusal.Refusal.{Refusal}
 use Rattle.stripe_core.specs.declared.refusal.Refusal.TheVariants as refusal
 use Rattle.stripe_core.specs.Covers.{Spends}
+use Rattle.stripe_core.proofs.OneMore.{covers_first, covers_last}
 use Rattle.stripe_write.specs.declared.writer.Writer.{Writer}
 use Rattle.stripe_write.specs.Closing.{SpendsAll}
 use Rattle.stripe_write.specs.Others.{AddsOfPut}
 use Rattle.stripe_write.specs.Writes.{cuts_fragment, gathered_with, is_cut}
 use Rattle.stripe_write.proofs.Owning.{owns, then_owns}
-use Rattle.stripe_write.proofs.Spending.{covers_first, covers_last, state_behind, then_all, then_more}
+use Rattle.stripe_write.proofs.Spending.{state_behind, then_all, then_more}
 use Rattle.script_run.specs.Asked.{feed_intents, rest_behind, whole_fragments}
 use Rattle.cache_replay.specs.Feeding.{FeedsAsAsked, FeedsWhere, Feeds, IsCutUp, IsCutWhere, IsFed, IsOpenBehind, feed_end, taken_of}
 use Rattle.cache_replay.proofs.CutBodies.{cut_first, not_most, rest_first, whole_first}

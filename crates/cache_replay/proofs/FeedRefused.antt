@@ -13,6 +13,7 @@ use Rattle.cache_model.specs.Kept.{Kept, state_of, with_records}
 use Rattle.cache_model.specs.Verdict.{cuts_of, is_open}
 use Rattle.cache_model.specs.Permit.{DeviceRead, Exhausted, Fails, Faulted, Fragment, Intent, ManyFragments, Overflow, Permit, Reason, is_cleanup}
 use Rattle.cache_model.specs.Legal.{MayGrow, is_writing, most_fragments}
+use Rattle.cache_model.proofs.Found.{cuts_found}
 use Rattle.stripe_core.specs.declared.refusal.Refusal.{Refusal}
 use Rattle.stripe_core.specs.declared.refusal.Refusal.TheVariants as refusal
 use Rattle.stripe_core.specs.Covers.{Covers, Spends}
@@ -28,7 +29,7 @@ use Rattle.stripe_write.proofs.Spending.{nothing_more, one_group, state_behind}
 use Rattle.script_run.specs.Asked.{feed_intents}
 use Rattle.cache_replay.specs.Feeding.{FeedsAsAsked, FeedsWhere, IsOpenBehind, feed_end}
 use Rattle.cache_replay.proofs.CutBodies.{cut_first, cut_many, no_cleanup, not_most}
-use Rattle.cache_replay.proofs.FeedRounds.{cuts_found, few_of, found_changed, put_found, takes_within, writing_found}
+use Rattle.cache_replay.proofs.FeedRounds.{few_of, found_changed, put_found, takes_within, writing_found}
 use Rattle.cache_replay.proofs.FeedEnds.{Ends}
 
 -- ---- it is refused

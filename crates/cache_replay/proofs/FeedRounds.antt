@@ -12,6 +12,7 @@ use Rattle.cache_model.specs.State.{PutRow, State, after_all, change_put, put_of
 use Rattle.cache_model.specs.Kept.{Kept, state_of, with_records}
 use Rattle.cache_model.specs.Verdict.{cuts_of, is_open}
 use Rattle.cache_model.specs.Legal.{is_writing}
+use Rattle.cache_model.proofs.Found.{cuts_found}
 use Rattle.stripe_actors.proofs.Rows.{find-changed}
 use Rattle.stripe_core.specs.declared.refusal.Placed.{Placed}
 use Rattle.stripe_core.specs.Place.{IsCutAs}
@@ -84,9 +85,6 @@ takes_within f g len n few is = (omega (arith, is), omega (arith, is, few))
 
 pub put_found : (s : State) (w : Writer) (writing : is_writing s w.put ≡ true) → (row : PutRow) × (put_of s w.put ≡ Some row) × (row.writing ≡ Rattle.cache_model.specs.State.Open)
 put_found s w writing = open_put (put_of s w.put) writing
-
-pub cuts_found : (s : State) (put : ℕ) (row : PutRow) → put_of s put ≡ Some row → cuts_of s put ≡ row.cuts
-cuts_found s put row h = ap (λ (o : Option PutRow). unwrap_or (option_map (λ (p : PutRow). p.cuts) o) []) h
 
 pub writing_found : (s : State) (put : ℕ) (row : PutRow) → put_of s put ≡ Some row → is_writing s put ≡ is_open row
 writing_found s put row h = ap (λ (o : Option PutRow). unwrap_or (option_map is_open o) false) h

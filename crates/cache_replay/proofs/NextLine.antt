@@ -47,14 +47,9 @@ use Rattle.cache_replay.proofs.WholeReads.{later_none}
 -- ---- what the reader was told
 
 told_cause : (row : Row) (why : Cause) (last : List Rec) → told_in (cause_records row why ++ last) ≡ told_in last
-told_cause row cause.NeverPut last = refl
-told_cause row cause.Removed last = refl
-told_cause row (cause.Passed place floor unsaved) last = refl
-told_cause row (cause.NoMatch count) last = refl
-told_cause row (cause.Displaced segment live) last = refl
-told_cause row (cause.Aborted writer) last = refl
 told_cause row (cause.DeviceFault count) last = later_none (told_in last)
 told_cause row (cause.Damaged place kept other) last = later_none (told_in last)
+told_cause row _ last = refl
 
 told_trouble : (o : Option Row) (given : NextPiece) (last : List Rec) → told_in (trouble_with o given ++ last) ≡ told_in last
 told_trouble None given last = refl

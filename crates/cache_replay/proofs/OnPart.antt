@@ -8,7 +8,6 @@ use Rattle.cache_model.specs.State.{State, after_all}
 use Rattle.stripe_core.specs.Stripe.{seen_in, state_in}
 use Rattle.stripe_core.specs.Unharmed.{StaysUnharmed}
 use Rattle.script_lang.specs.declared.step.Step.{Step}
-use Rattle.script_lang.specs.declared.step.Step.TheVariants as step
 use Rattle.script_lang.specs.declared.answer.StepAnswer.{StepAnswer}
 use Rattle.script_run.specs.Run.{Run}
 use Rattle.script_run.specs.Turn.{Turn}

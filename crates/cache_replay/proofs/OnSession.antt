@@ -95,18 +95,8 @@ pub record IsOnSession (step : Step) : Type 0 where
 
 pub on_session : (step : Step) → NeedsSession step → IsOnSession step
 on_session (step.Format name segments buckets content agg reach fragment generation) needs = absurd needs
-on_session (step.Put key body request response) needs = record { takes = λ run s turn h. h; says = λ run s turn. refl; behind = λ run s turn. refl }
-on_session (step.Get key request) needs = record { takes = λ run s turn h. h; says = λ run s turn. refl; behind = λ run s turn. refl }
-on_session (step.OpenWrite actor key pin request response) needs = record { takes = λ run s turn h. h; says = λ run s turn. refl; behind = λ run s turn. refl }
-on_session (step.Feed actor body) needs = record { takes = λ run s turn h. h; says = λ run s turn. refl; behind = λ run s turn. refl }
-on_session (step.Close actor) needs = record { takes = λ run s turn h. h; says = λ run s turn. refl; behind = λ run s turn. refl }
-on_session (step.Abort actor) needs = record { takes = λ run s turn h. h; says = λ run s turn. refl; behind = λ run s turn. refl }
-on_session (step.OpenRead actor key request) needs = record { takes = λ run s turn h. h; says = λ run s turn. refl; behind = λ run s turn. refl }
-on_session (step.Next actor) needs = record { takes = λ run s turn h. h; says = λ run s turn. refl; behind = λ run s turn. refl }
-on_session (step.Done actor) needs = record { takes = λ run s turn h. h; says = λ run s turn. refl; behind = λ run s turn. refl }
-on_session (step.Remove key) needs = record { takes = λ run s turn h. h; says = λ run s turn. refl; behind = λ run s turn. refl }
-on_session step.Flush needs = record { takes = λ run s turn h. h; says = λ run s turn. refl; behind = λ run s turn. refl }
 on_session (step.Now moment) needs = absurd needs
+on_session _ needs = record { takes = λ run s turn h. h; says = λ run s turn. refl; behind = λ run s turn. refl }
 
 module _ {D R C : Type 0} (disk : DiskGhosts D) (directory : DirectoryGhosts R) (chronicle : ChronicleGhosts C) where
   -- ---- a session that has a cache

@@ -128,9 +128,4 @@ pub not_opened : (old new : Kept) (who : Actor) (key : Key) (request response : 
 not_opened old new who key request response pin refusal.TooManyWriters quiet fall same does = refused_by old new who key request response pin ManyWriters _ quiet fall same does.1 refl
 not_opened old new who key request response pin (refusal.Exhausted number) quiet fall same does = refused_by old new who key request response pin Exhausted _ quiet fall same does.1 refl
 not_opened old new who key request response pin (refusal.Memory e) quiet fall same does = tt
-not_opened old new who key request response pin refusal.TooManyFragments quiet fall same does = absurd does
-not_opened old new who key request response pin (refusal.VectorTooLarge size) quiet fall same does = absurd does
-not_opened old new who key request response pin (refusal.Lost index cause) quiet fall same does = absurd does
-not_opened old new who key request response pin refusal.Sealed quiet fall same does = absurd does
-not_opened old new who key request response pin refusal.NoSuchWriter quiet fall same does = absurd does
-not_opened old new who key request response pin (refusal.DeviceFault count) quiet fall same does = absurd does
+not_opened old new who key request response pin _ quiet fall same does = absurd does

@@ -128,13 +128,7 @@ pub flush_refuses : (now : ℕ) (k new : Kept) (before : ℕ) (after : Device) (
     → IfOk (flush_refused why) (λ said. (run : Run) → run.now ≡ now → Plainly run step.Flush (state_of k) (state_of new) said)
 flush_refuses now k new before after (refusal.DeviceFault count) h quiet = λ run moment. flush_faults run now moment k new before after quiet count h
 flush_refuses now k new before after (refusal.Exhausted number) h quiet = λ run moment. flush_exhausts run now moment k new before after quiet number h
-flush_refuses now k new before after (refusal.Memory e) h quiet = tt
-flush_refuses now k new before after refusal.TooManyWriters h quiet = tt
-flush_refuses now k new before after refusal.TooManyFragments h quiet = tt
-flush_refuses now k new before after (refusal.VectorTooLarge size) h quiet = tt
-flush_refuses now k new before after (refusal.Lost index cause) h quiet = tt
-flush_refuses now k new before after refusal.Sealed h quiet = tt
-flush_refuses now k new before after refusal.NoSuchWriter h quiet = tt
+flush_refuses now k new before after _ h quiet = tt
 
 -- what it leaves to a cache: nothing is pending, and the page is as long as any piece
 module _ (now : ℕ) (k new : Kept) (before : ℕ) (after : Device) where

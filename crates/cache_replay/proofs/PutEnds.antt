@@ -16,13 +16,13 @@ use Rattle.cache_model.proofs.Onward.{later_advanced}
 use Rattle.cache_model.proofs.Steps.{after_all-append, grows_on}
 use Rattle.stripe_core.specs.declared.refusal.Refusal.{Refusal}
 use Rattle.stripe_core.specs.declared.refusal.Refusal.TheVariants as refusal
+use Rattle.stripe_core.proofs.OneMore.{covers_first, covers_last}
 use Rattle.stripe_vectors.specs.Reading.{IsCollision}
 use Rattle.stripe_write.specs.declared.finishing.Receipt.{Receipt}
 use Rattle.stripe_write.specs.declared.writer.Writer.{Writer}
 use Rattle.stripe_write.specs.Writers.{IsWriterOf}
 use Rattle.stripe_write.specs.Closes.{Closes, ClosesAsAsked, ClosesWhere}
 use Rattle.stripe_write.specs.Closing.{SpendsAll, close_intents, rows_at_close}
-use Rattle.stripe_write.proofs.Spending.{covers_first, covers_last}
 use Rattle.script_lang.specs.declared.answer.StepAnswer.TheVariants as answer
 use Rattle.script_lang.specs.declared.answer.Refused.TheVariants as refused
 use Rattle.script_run.specs.Asked.{body_intents, feed_intents, rest_behind, whole_fragments}

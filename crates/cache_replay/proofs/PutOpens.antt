@@ -174,9 +174,4 @@ module _ (moment before after : ℕ) (old new : Kept) (who : Actor) (key : Key) 
   puts_refused refusal.TooManyWriters does = refused_at ManyWriters refusal.TooManyWriters does.1 refl
   puts_refused (refusal.Exhausted number_) does = refused_at Exhausted (refusal.Exhausted number_) does.1 refl
   puts_refused (refusal.Memory e) does = tt
-  puts_refused refusal.TooManyFragments does = absurd does
-  puts_refused (refusal.VectorTooLarge size) does = absurd does
-  puts_refused (refusal.Lost index why) does = absurd does
-  puts_refused refusal.Sealed does = absurd does
-  puts_refused refusal.NoSuchWriter does = absurd does
-  puts_refused (refusal.DeviceFault count) does = absurd does
+  puts_refused _ does = absurd does

@@ -24,12 +24,13 @@ use Rattle.cache_model.proofs.Answered.{end_is_whole}
 use Rattle.cache_model.proofs.Found.{none_is, no_truth}
 use Rattle.cache_model.proofs.Steps.{grows_by, grows_on}
 use Rattle.stripe_core.specs.Covers.{Covers}
+use Rattle.stripe_core.proofs.OneMore.{covers_first, covers_last}
 use Rattle.stripe_read.specs.declared.reader.Reader.{Reader}
 use Rattle.stripe_read.specs.declared.reading.NextPiece.{NextPiece}
 use Rattle.stripe_read.specs.declared.reading.NextPiece.TheVariants as piece
 use Rattle.stripe_read.specs.Readers.{IsReaderOf, as_row, row_by, rows_in}
 use Rattle.stripe_read.specs.Nexts.{GoesOn, IsFragment, ReadsOn, listed_length, noted, read_adds, trouble_with}
-use Rattle.stripe_write.proofs.Spending.{covers_first, covers_last, state_behind, then_more}
+use Rattle.stripe_write.proofs.Spending.{state_behind, then_more}
 use Rattle.script_run.specs.Run.{Run}
 use Rattle.script_run.specs.Turn.{is_told, later, lookup_in, told_in}
 use Rattle.script_run.specs.Answers.{broken_said}

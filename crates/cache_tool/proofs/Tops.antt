@@ -72,13 +72,3 @@ module _ (first old mid new : Option (List ℕ)) (source sink sink_last bay : Co
       → ((s ≡ status.OutOfMemory) × Keeps mid new) ⊎ ((s ≡ status_of why) × WentOut mid new sink_last [] (last_line why)) → ConcludesOrShows first old new source sink bay faultless before now s
   concludes_stopped why begun upto s (inl lost) = subst (λ (t : Status). ConcludesOrShows first old new source sink bay faultless before now t) (sym lost.0) (either-both (λ u. forgotten why u lost.1) (shown_later first old mid new (Keeps-grows mid new lost.1)) upto)
   concludes_stopped why begun upto s (inr said) = subst (λ (t : Status). ConcludesOrShows first old new source sink bay faultless before now t) (sym said.0) (told why begun upto said.1)
-
--- so a run that was begun does not conclude with the status Usage
-pub status-begun : (why : LastLine) → IsOfRun (ending.Stopped why) → status_of why ≡ status.Usage → ⊥
-status-begun last.Usage begun e = begun
-status-begun (last.BadScript line fault) begun e = absurd cc
-status-begun last.ReadFault begun e = absurd cc
-status-begun last.BayFault begun e = absurd cc
-status-begun (last.LineTooLong line) begun e = absurd cc
-status-begun last.TooManyLines begun e = absurd cc
-status-begun (last.NoCache line) begun e = absurd cc

@@ -1,3 +1,4 @@
 pub mod Stands
 pub mod ReadingLaws
 pub mod MovingLaws
+pub mod SameCopies

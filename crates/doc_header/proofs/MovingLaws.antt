@@ -52,10 +52,14 @@ length-moved_fields place bytes long =
     let front = take 48 bytes ++ to_le_bytes w64 place in
     omega (arith, length-append front (field_at 56 56 bytes), length-front bytes (to_le_bytes w64 place) long refl, length-field 56 56 bytes (omega arith))
 
+-- bytes 0 to 127 of a copy
+abbrev pub moved_header : ℕ → List ℕ → List ℕ
+moved_header place bytes = moved_fields place bytes ++ check_of (moved_fields place bytes)
+
 length-check_of : (fields : List ℕ) → length (check_of fields) ≡ 16
 length-check_of fields = omega (arith, length-take 16 (sha256 fields), length-sha256 fields)
 
-length-moved_header : (place : ℕ) (bytes : List ℕ) → 128 ≤ length bytes → length (moved_fields place bytes ++ check_of (moved_fields place bytes)) ≡ 128
+pub length-moved_header : (place : ℕ) (bytes : List ℕ) → 128 ≤ length bytes → length (moved_header place bytes) ≡ 128
 length-moved_header place bytes long =
     let fields = moved_fields place bytes in
     omega (arith, length-append fields (check_of fields), length-moved_fields place bytes long, length-check_of fields)
@@ -63,7 +67,7 @@ length-moved_header place bytes long =
 behind_stays : (place : ℕ) (bytes : List ℕ) → 128 ≤ length bytes → drop 128 (moved_to place bytes) ≡ drop 128 bytes
 unfolding moved_to
 behind_stays place bytes long =
-    drop_at (moved_fields place bytes ++ check_of (moved_fields place bytes)) (drop 128 bytes) 128 (length-moved_header place bytes long)
+    drop_at (moved_header place bytes) (drop 128 bytes) 128 (length-moved_header place bytes long)
 
 -- the front of the front of bytes that others follow
 front_of_three : (n : ℕ) (front a b c : List ℕ) → length front ≡ n → take n (((front ++ a) ++ b) ++ c) ≡ front
@@ -84,7 +88,7 @@ name_stays place bytes long =
 as_many_bytes : (place : ℕ) (bytes : List ℕ) → 128 ≤ length bytes → length (moved_to place bytes) ≡ length bytes
 unfolding moved_to
 as_many_bytes place bytes long =
-    let header = moved_fields place bytes ++ check_of (moved_fields place bytes) in
+    let header = moved_header place bytes in
     omega (arith, length-append header (drop 128 bytes), length-moved_header place bytes long, length-drop 128 bytes, long)
 
 length_stays : (place : ℕ) (bytes : List ℕ) → 128 ≤ length bytes → length_of (moved_to place bytes) ≡ length_of bytes
@@ -167,7 +171,7 @@ header_there bytes doc payload h =
     omega (arith, taken, length-take (length payload + 128) bytes, length-append (header_bytes doc payload) payload, length-header doc payload)
 
 header_moved : (place : ℕ) (bytes : List ℕ) (doc : Doc) (payload : List ℕ) → BeginsWith bytes doc payload
-    → moved_fields place bytes ++ check_of (moved_fields place bytes) ≡ header_bytes (doc_at place doc) payload
+    → moved_header place bytes ≡ header_bytes (doc_at place doc) payload
 header_moved place bytes doc payload h =
     let early = field_bytes doc payload in
     let check = check_of early in

@@ -109,13 +109,15 @@ pub number_64_again : (at n : ℕ) (bytes : List ℕ) → n < 2 ^ 64 → field_a
 unfolding number_at
 number_64_again at n bytes fits h = ap (from_le_bytes w64) h ∙ from_le_bytes-to_le_bytes_8 n fits
 
--- bytes that are the same in front have the same fields there
+-- bytes that are the same in front have the same parts there
+pub part_in_front : (extent at n : ℕ) (a b : List ℕ) → at + n ≤ extent → take extent a ≡ take extent b → take n (drop at a) ≡ take n (drop at b)
+part_in_front extent at n a b within same =
+    let front : take (at + n) a ≡ take (at + n) b = sym (take-take (at + n) extent a within) ∙ (ap (take (at + n)) same ∙ take-take (at + n) extent b within) in
+    sym (drop-take at n a) ∙ (ap (drop at) front ∙ drop-take at n b)
+
 pub field_in_front : (extent at n m : ℕ) (a b : List ℕ) → extent ≡ at + m → n ≤ m → take extent a ≡ take extent b → field_at at n a ≡ field_at at n b
 unfolding field_at
-field_in_front extent at n m a b width fits same =
-    let front : take (at + m) a ≡ take (at + m) b = ap (λ k. take k a) (sym width) ∙ (same ∙ ap (λ k. take k b) width) in
-    let behind : take m (drop at a) ≡ take m (drop at b) = sym (drop-take at m a) ∙ (ap (drop at) front ∙ drop-take at m b) in
-    sym (take-take n m (drop at a) fits) ∙ (ap (take n) behind ∙ take-take n m (drop at b) fits)
+field_in_front extent at n m a b width fits same = part_in_front extent at n a b (omega (arith, width, fits)) same
 
 pub number_32_in_front : (extent at m : ℕ) (a b : List ℕ) → extent ≡ at + m → 4 ≤ m → take extent a ≡ take extent b → number_at w32 at a ≡ number_at w32 at b
 unfolding number_at

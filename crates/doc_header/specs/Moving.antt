@@ -52,3 +52,9 @@ IsMovedOrCollides place bytes doc payload =
 abbrev pub MovedIsSame : Type 0
 MovedIsSame = (place : ℕ) (bytes : List ℕ) (doc : Doc) (payload : List ℕ) → length payload < 2 ^ 32
     → document_digest bytes ≡ digest_of_document doc payload → IsMovedOrCollides place bytes doc payload
+
+-- bytes of one length that are the same as far as they are looked at have copies of one digest, whatever
+-- stands behind that
+abbrev pub MovedAlike : Type 0
+MovedAlike = (place : ℕ) (one other : List ℕ) → length one ≡ length other → take (extent_of one) one ≡ take (extent_of other) other
+    → document_digest (moved_to place one) ≡ document_digest (moved_to place other)

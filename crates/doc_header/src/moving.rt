@@ -2,7 +2,7 @@
 ghost use Rattle.std.specs.Prelude.{◌≡◌, ◌≤◌, ◌+◌, ◌++◌, ℕ, List, length, take, drop};
 ghost use Rattle.doc_header.specs.declared.documents.Doc.{Doc};
 ghost use Rattle.doc_header.specs.Document.{check_of, IsDocument};
-ghost use Rattle.doc_header.specs.Moving.{moved_to, doc_at, MovesKeep, MovedIsSpelled, MovedIsRecorded, MovedIsSame};
+ghost use Rattle.doc_header.specs.Moving.{moved_to, doc_at, MovesKeep, MovedIsSpelled, MovedIsRecorded, MovedIsSame, MovedAlike};
 
 use crate::layout::{CHECK_AT, PLACE_AT};
 use sha2::{Digest as _, Sha256};
@@ -57,4 +57,9 @@ pub fn moved_is_document()
 /// A law for proofs; it does nothing when it runs.
 pub fn moved_is_same()
     ensures { MovedIsSame }
+{}
+
+/// A law for proofs; it does nothing when it runs.
+pub fn moved_alike()
+    ensures { MovedAlike }
 {}

@@ -1,6 +1,6 @@
 -- A piece that is placed as the first fragment of a put that was just opened.
-use Rattle.std.proofs.Common.{◌≡◌, ℕ, ◌+◌, ◌<◌, ◌≤◌, List, [], ◌∷◌, ◌++◌, refl, sym, ◌∙◌, ap, subst, arith, Bool, true, false, Ok, length, eq-eqb}
-use Rattle.std.specs.Prelude.{Some, find, if◌then◌else◌, ◌==◌, not, cond, filter, map, Option, option_to_list}
+use Rattle.std.proofs.Common.{◌≡◌, ℕ, ◌+◌, ◌<◌, ◌≤◌, List, [], ◌∷◌, ◌++◌, refl, sym, ◌∙◌, ap, subst, arith, Bool, true, false, length, eq-eqb}
+use Rattle.std.specs.Prelude.{Some, find, if◌then◌else◌, ◌==◌, filter, map, Option, option_to_list}
 use Rattle.std.specs.List.{AllByRecursion}
 use Rattle.std.proofs.lemmas.List.{length-append}
 use Rattle.std.proofs.lemmas.List.Elements.{filter-append}
@@ -13,14 +13,17 @@ use Rattle.tape_base.specs.Digest.{digest_of}
 use Rattle.tape_base.specs.Piece.{same_piece}
 use Rattle.doc_header.specs.Document.{digest_of_document}
 use Rattle.fragment_table.specs.Table.{made_row}
+use Rattle.alternate_vector.proofs.Loops.{each_push}
 use Rattle.cache_model.specs.declared.record.Rec.{Rec}
 use Rattle.cache_model.specs.declared.record.Rec.TheVariants as rec
 use Rattle.cache_model.specs.State.{PutRow, Row, State, after_all, change_put, moved_row, opened_put, place_now, row_in, state_after, with_cut, without}
 use Rattle.cache_model.specs.Kept.{Kept, state_of, with_records}
 use Rattle.cache_model.specs.Room.{doc_at}
+use Rattle.cache_model.proofs.Steps.{all_append, all_as}
 use Rattle.stripe_core.specs.declared.refusal.Placed.{Placed}
 use Rattle.stripe_core.specs.Flush.{AreOfFlush, IsOfFlush}
 use Rattle.stripe_core.specs.Place.{IsCutAs, IsFragmentOf, piece_records}
+use Rattle.stripe_core.proofs.Going.{all_left}
 use Rattle.place_timing.specs.Ready.{IsBelow, IsCut, IsOpened, first_piece, is_placed, placed_in}
 
 state_behind : (k new : Kept) (recs : List Rec) → new ≡ with_records k recs → state_of new ≡ after_all (state_of k) recs
@@ -29,20 +32,7 @@ state_behind k new recs is = ap state_of is ∙ fold-append state_after k.base k
 -- ---- rows
 
 all_below : (a b : ℕ) (rows : List Row) → a ≤ b → AllByRecursion (IsBelow a) rows → AllByRecursion (IsBelow b) rows
-all_below a b [] le all = tt
-all_below a b (row ∷ rows) le all = (omega (arith, all.0), all_below a b rows le all.1)
-
-left_by : (P : Row → Type 0) (row : Row) (left : List Row) (b : Bool) → P row → AllByRecursion P left → AllByRecursion P (cond b (row ∷ left) left)
-left_by P row left true h all = (h, all)
-left_by P row left false h all = all
-
-all_left : (P : Row → Type 0) (id : PieceId) (rows : List Row) → AllByRecursion P rows → AllByRecursion P (without id rows)
-all_left P id [] all = tt
-all_left P id (row ∷ rows) all = left_by P row (without id rows) (not (same_piece row.id id)) all.0 (all_left P id rows all.1)
-
-all_more : (P : Row → Type 0) (row : Row) (rows : List Row) → AllByRecursion P rows → P row → AllByRecursion P (rows ++ row ∷ [])
-all_more P row [] all h = (h, tt)
-all_more P row (x ∷ rows) all h = (all.0, all_more P row rows all.1 h)
+all_below a b rows le all = all_as (IsBelow a) (IsBelow b) (λ row below. omega (arith, below, le)) rows all
 
 -- ---- puts
 
@@ -89,10 +79,6 @@ moved_rows : (P : PieceId → Type 0) (place : ℕ) (digest : Digest) (rows : Li
 moved_rows P place digest [] id all = tt
 moved_rows P place digest (row ∷ rows) id all = moved_by P place digest row (row_in rows id) (same_piece row.id id) all.0 (moved_rows P place digest rows id all.1)
 
-all_both : (P : Row → Type 0) (a b : List Row) → AllByRecursion P a → AllByRecursion P b → AllByRecursion P (a ++ b)
-all_both P [] b h k = k
-all_both P (row ∷ a) b h k = (h.0, all_both P a b h.1 k)
-
 one_leaves : (s : State) (put : ℕ) (key : Key) (r : Rec) → IsOfFlush r → IsOpened s put key → IsOpened (state_after s r) put key
 one_leaves s put key (rec.Began cursor floor) h o = record {
   actor = o.actor;
@@ -112,7 +98,7 @@ one_leaves s put key (rec.Moved piece from place digest) h o = record {
   others = o.others;
   quiet = o.quiet;
   puts_are = o.puts_are;
-  below = all_both (IsBelow put) (without piece s.rows) _ (all_left (IsBelow put) piece s.rows o.below) (moved_rows (λ id. id.put < put) place digest s.rows piece o.below);
+  below = all_append (IsBelow put) (without piece s.rows) _ (all_left (IsBelow put) piece s.rows o.below) (moved_rows (λ id. id.put < put) place digest s.rows piece o.below);
   next = o.next;
   takes = o.takes;
 }
@@ -215,7 +201,7 @@ cut_behind s put key size place blocks digest document pin opened =
       is_open = refl;
       ready = record {
         quiet = opened.quiet;
-        below = all_more (IsBelow s.next_put) _ (without (first_piece key put) s.rows)
+        below = each_push (IsBelow s.next_put) (without (first_piece key put) s.rows) _
             (all_left (IsBelow s.next_put) (first_piece key put) s.rows (all_below put s.next_put s.rows up opened.below)) above;
         takes = opened.takes;
       };

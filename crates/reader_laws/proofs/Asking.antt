@@ -7,9 +7,9 @@ use Rattle.cache_model.specs.State.{State}
 use Rattle.cache_model.specs.Verdict.{cuts_of}
 use Rattle.cache_model.specs.Permit.{Intent, Fragment, Overflow}
 use Rattle.cache_model.specs.Legal.{most_fragments}
+use Rattle.cache_model.proofs.Steps.{all_append}
 use Rattle.script_run.specs.Run.{Holding, Run, gathered_of}
 use Rattle.script_run.specs.Asked.{body_intents, close_intents, closing, cut_intents, feed_intents, feeding, get_intents, if_free, if_has, put_intents, rest_behind, whole_fragments}
-use Rattle.script_run.proofs.Carried.{all_append}
 use Rattle.reader_laws.proofs.Beside.{AllOther, IsOther}
 
 module _ (R P : ℕ → Type 0) where

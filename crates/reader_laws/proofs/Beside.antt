@@ -21,7 +21,8 @@ use Rattle.cache_model.specs.Given
 use Rattle.cache_model.specs.Legal
 use Rattle.cache_model.specs.Legal.{Advances, Does, MayGrow, nothing, more, aborted_record, answer_record}
 use Rattle.cache_model.proofs.Found.{number_of}
-use Rattle.script_run.proofs.Carried.{all_append, all_filter}
+use Rattle.cache_model.proofs.Steps.{all_append}
+use Rattle.script_run.proofs.Carried.{all_filter}
 
 -- another number than this one, and any number
 abbrev pub OtherThan : ℕ → ℕ → Type 0

@@ -107,16 +107,8 @@ module _ (run : Run) (s t : State) (n : ℕ) (r : ReaderRow) (stands : StandsKep
 
   -- each line leaves that front
   pub fronts : (turn : Turn) (step : Step) → take Given (run.streams r.put).bytes ≡ take Given (streams_behind run s t turn step r.put).bytes
-  fronts turn (step.Format name segments buckets content agg reach fragment generation) = refl
   fronts turn (step.Put key body request response) = front_beside Given s.next_put r.put run.streams _ not_next
-  fronts turn (step.Get key request) = refl
   fronts turn (step.OpenWrite actor key pin request response) = opened_front (held_by run actor)
   fronts turn (step.Feed actor body) = fed_front body turn.refused (writer_of run actor) (stands.writing actor)
   fronts turn (step.Close actor) = closed_front turn.refused (writer_of run actor)
-  fronts turn (step.Abort actor) = refl
-  fronts turn (step.OpenRead actor key request) = refl
-  fronts turn (step.Next actor) = refl
-  fronts turn (step.Done actor) = refl
-  fronts turn (step.Remove key) = refl
-  fronts turn step.Flush = refl
-  fronts turn (step.Now at) = refl
+  fronts turn _ = refl

@@ -89,12 +89,6 @@ closed_reader n reader rs = find-without (λ (x : ReaderRow). x.reader) reader n
 
 pub keeps_one : (n m : ℕ) (s : State) (r : Rec) → IsNumbered s r → IsBeside (OtherThan n) AnyNumber r → KeepsReader n m s (state_after s r)
 keeps_one n m s (rec.Formatted geometry) numbered beside = absurd beside
-keeps_one n m s (rec.Began cursor floor) numbered beside = keeps_same n m s _ refl refl refl refl refl
-keeps_one n m s (rec.Placed piece place blocks digest pin) numbered beside = keeps_same n m s _ refl refl refl refl refl
-keeps_one n m s (rec.Moved piece from place digest) numbered beside = keeps_same n m s _ refl refl refl refl refl
-keeps_one n m s (rec.Unsaved piece place fault) numbered beside = keeps_same n m s _ refl refl refl refl refl
-keeps_one n m s (rec.Displaced piece segment live) numbered beside = keeps_same n m s _ refl refl refl refl refl
-keeps_one n m s (rec.Damaged piece place kept found) numbered beside = keeps_same n m s _ refl refl refl refl refl
 keeps_one n m s (rec.WriteOpened actor put key request response pin) numbered beside =
     let is : put ≡ s.next_put = numbered.0 in
     record {
@@ -113,7 +107,6 @@ keeps_one n m s (rec.Cut put index size digest) numbered beside =
     keeps_changed n m s _ put (with_cut row) (λ p. refl) (λ p. omega (arith, length-append p.cuts (row ∷ []))) refl refl refl refl refl
 keeps_one n m s (rec.Committed put key size) numbered beside = keeps_changed n m s _ put (with_writing Closed) (λ p. refl) (λ p. omega arith) refl refl refl refl refl
 keeps_one n m s (rec.Aborted put key) numbered beside = keeps_changed n m s _ put (with_writing GivenUp) (λ p. refl) (λ p. omega arith) refl refl refl refl refl
-keeps_one n m s (rec.Removed put key) numbered beside = keeps_same n m s _ refl refl refl refl refl
 keeps_one n m s (rec.ReadOpened reader actor key request answer) numbered beside =
     keeps_readers n m s _ (reader + 1) (λ h. omega (arith, h, numbered)) (λ h. opened_beside n s reader actor.0 key request answer (λ e. omega (arith, h, numbered, e)))
 keeps_one n m s (rec.Gave reader index size) numbered beside =
@@ -123,7 +116,7 @@ keeps_one n m s (rec.Waited reader cut) numbered beside = keeps_self n m s
 keeps_one n m s (rec.Broke reader why) numbered beside = keeps_self n m s
 keeps_one n m s (rec.ReadClosed reader) numbered beside =
     keeps_readers n m s _ s.next_reader (λ h. h) (λ h. closed_reader n reader s.readers ∙ other_than None (reader_of s n) reader n beside)
-keeps_one n m s (rec.Fault count) numbered beside = keeps_same n m s _ refl refl refl refl refl
+keeps_one n m s _ numbered beside = keeps_same n m s _ refl refl refl refl refl
 
 pub keeps_all : (n m : ℕ) (s : State) (recs : List Rec) → AllAlong IsNumbered s recs → AllBeside (OtherThan n) AnyNumber recs → KeepsReader n m s (after_all s recs)
 keeps_all n m s [] numbered beside = keeps_self n m s

@@ -17,11 +17,11 @@ use Rattle.cache_model.specs.Legal
 use Rattle.cache_model.specs.Legal.{answer_record}
 use Rattle.cache_model.proofs.Answered.{end_gives_none, given_is_own}
 use Rattle.cache_model.proofs.Found.{same_some}
+use Rattle.cache_model.proofs.Steps.{all_append}
 use Rattle.script_run.specs.Run.{Run, Stream}
 use Rattle.script_run.specs.Turn.{told_in}
 use Rattle.script_run.specs.Own.{piece_of}
 use Rattle.script_run.specs.Takes.{IsPiece}
-use Rattle.script_run.proofs.Carried.{all_append}
 use Rattle.script_run.proofs.Cuts.{at_next}
 use Rattle.reader_laws.specs.Along.{IsOpenAt}
 use Rattle.reader_laws.proofs.Beside.{AllBeside, AnyNumber, IsBeside, OtherThan, reading_beside}

@@ -79,24 +79,11 @@ module _ (P : ℕ → Key → List Field → List Field → ℕ → Type 0) wher
   -- a record leaves it, where it is said of the put that it opens
   record_puts : (s : State) (r : Rec) → AllByRecursion OfPut s.puts → OfRecord r → AllByRecursion OfPut (state_after s r).puts
   record_puts s (rec.Formatted geometry) each said = tt
-  record_puts s (rec.Began cursor floor) each said = each
-  record_puts s (rec.Placed piece place blocks digest pin) each said = each
-  record_puts s (rec.Moved piece from place digest) each said = each
-  record_puts s (rec.Unsaved piece place fault) each said = each
-  record_puts s (rec.Displaced piece segment live) each said = each
-  record_puts s (rec.Damaged piece place kept found) each said = each
   record_puts s (rec.WriteOpened who put key request response pin) each said = (said, each)
   record_puts s (rec.Cut put index length digest) each said = changed_puts put (with_cut (made_row length digest.0)) (λ p h. h) s.puts each
   record_puts s (rec.Committed put key length) each said = changed_puts put (with_writing Closed) (λ p h. h) s.puts each
   record_puts s (rec.Aborted put key) each said = changed_puts put (with_writing GivenUp) (λ p h. h) s.puts each
-  record_puts s (rec.Removed put key) each said = each
-  record_puts s (rec.ReadOpened reader actor key request answer) each said = each
-  record_puts s (rec.Gave reader index length) each said = each
-  record_puts s (rec.Ended reader length) each said = each
-  record_puts s (rec.Waited reader cut) each said = each
-  record_puts s (rec.Broke reader why) each said = each
-  record_puts s (rec.ReadClosed reader) each said = each
-  record_puts s (rec.Fault count) each said = each
+  record_puts s _ each said = each
 
   records_puts : (s : State) (recs : List Rec) → AllByRecursion OfPut s.puts → AllByRecursion OfRecord recs → AllByRecursion OfPut (after_all s recs).puts
   records_puts s [] each said = each
@@ -107,25 +94,8 @@ module _ (P : ℕ → Key → List Field → List Field → ℕ → Type 0) wher
   IsSaid recs = (who : Actor) (put : ℕ) (key : Key) (request response : List Field) (pin : ℕ) → IsAmong (rec.WriteOpened who put key request response pin) recs → P put key request response pin
 
   of_record : (r : Rec) → ((who : Actor) (put : ℕ) (key : Key) (request response : List Field) (pin : ℕ) → rec.WriteOpened who put key request response pin ≡ r → P put key request response pin) → OfRecord r
-  of_record (rec.Formatted geometry) said = tt
-  of_record (rec.Began cursor floor) said = tt
-  of_record (rec.Placed piece place blocks digest pin) said = tt
-  of_record (rec.Moved piece from place digest) said = tt
-  of_record (rec.Unsaved piece place fault) said = tt
-  of_record (rec.Displaced piece segment live) said = tt
-  of_record (rec.Damaged piece place kept found) said = tt
   of_record (rec.WriteOpened who put key request response pin) said = said who put key request response pin refl
-  of_record (rec.Cut put index length digest) said = tt
-  of_record (rec.Committed put key length) said = tt
-  of_record (rec.Aborted put key) said = tt
-  of_record (rec.Removed put key) said = tt
-  of_record (rec.ReadOpened reader actor key request answer) said = tt
-  of_record (rec.Gave reader index length) said = tt
-  of_record (rec.Ended reader length) said = tt
-  of_record (rec.Waited reader cut) said = tt
-  of_record (rec.Broke reader why) said = tt
-  of_record (rec.ReadClosed reader) said = tt
-  of_record (rec.Fault count) said = tt
+  of_record _ said = tt
 
   of_records : (recs : List Rec) → IsSaid recs → AllByRecursion OfRecord recs
   of_records [] said = tt

@@ -65,28 +65,8 @@ pub goes : (run : Run) (turn : Turn) (o : Option State) (st : Step) → Takes.Ta
 goes run turn o (step.Format name segments buckets content agg reach fragment generation) takes =
     format_goes run turn o _ name segments buckets content agg reach fragment generation (first_refusal segments buckets content agg reach fragment) refl takes
 goes run turn o (step.Now at) takes = waits at refl
-goes run turn (Some s) (step.Put key body request response) takes = steps s refl takes
-goes run turn None (step.Put key body request response) takes = absurd takes
-goes run turn (Some s) (step.Get key request) takes = steps s refl takes
-goes run turn None (step.Get key request) takes = absurd takes
-goes run turn (Some s) (step.OpenWrite actor key pin request response) takes = steps s refl takes
-goes run turn None (step.OpenWrite actor key pin request response) takes = absurd takes
-goes run turn (Some s) (step.Feed actor body) takes = steps s refl takes
-goes run turn None (step.Feed actor body) takes = absurd takes
-goes run turn (Some s) (step.Close actor) takes = steps s refl takes
-goes run turn None (step.Close actor) takes = absurd takes
-goes run turn (Some s) (step.Abort actor) takes = steps s refl takes
-goes run turn None (step.Abort actor) takes = absurd takes
-goes run turn (Some s) (step.OpenRead actor key request) takes = steps s refl takes
-goes run turn None (step.OpenRead actor key request) takes = absurd takes
-goes run turn (Some s) (step.Next actor) takes = steps s refl takes
-goes run turn None (step.Next actor) takes = absurd takes
-goes run turn (Some s) (step.Done actor) takes = steps s refl takes
-goes run turn None (step.Done actor) takes = absurd takes
-goes run turn (Some s) (step.Remove key) takes = steps s refl takes
-goes run turn None (step.Remove key) takes = absurd takes
-goes run turn (Some s) step.Flush takes = steps s refl takes
-goes run turn None step.Flush takes = absurd takes
+goes run turn (Some s) _ takes = steps s refl takes
+goes run turn None _ takes = absurd takes
 
 -- ---- whatever a copy shows
 

@@ -60,12 +60,6 @@ ended_beside m s put f other w found = ap is_open (other_stays put f w (λ here.
 
 keeps_one : (m : ℕ) (s : State) (r : Rec) → IsNumbered s r → IsBeside AnyNumber (OtherThan m) r → KeepsPut m s (state_after s r)
 keeps_one m s (rec.Formatted geometry) numbered beside = absurd beside
-keeps_one m s (rec.Began cursor floor) numbered beside = keeps_same m s _ refl refl
-keeps_one m s (rec.Placed piece place blocks digest pin) numbered beside = keeps_same m s _ refl refl
-keeps_one m s (rec.Moved piece from place digest) numbered beside = keeps_same m s _ refl refl
-keeps_one m s (rec.Unsaved piece place fault) numbered beside = keeps_same m s _ refl refl
-keeps_one m s (rec.Displaced piece segment live) numbered beside = keeps_same m s _ refl refl
-keeps_one m s (rec.Damaged piece place kept found) numbered beside = keeps_same m s _ refl refl
 keeps_one m s (rec.WriteOpened actor put key request response pin) numbered beside =
     let is : put ≡ s.next_put = numbered.0 in
     record {
@@ -77,14 +71,10 @@ keeps_one m s (rec.Cut put index size digest) numbered beside =
     (λ w found. either (λ (y : PutRow). is_open y ≡ is_open w) put (with_cut (made_row size digest.0)) w (λ e. refl) refl) refl refl
 keeps_one m s (rec.Committed put key size) numbered beside = keeps_changed m s _ put (with_writing Closed) (λ p. refl) (ended_beside m s put (with_writing Closed) beside) refl refl
 keeps_one m s (rec.Aborted put key) numbered beside = keeps_changed m s _ put (with_writing GivenUp) (λ p. refl) (ended_beside m s put (with_writing GivenUp) beside) refl refl
-keeps_one m s (rec.Removed put key) numbered beside = keeps_same m s _ refl refl
-keeps_one m s (rec.ReadOpened reader actor key request answer) numbered beside = keeps_same m s _ refl refl
-keeps_one m s (rec.Gave reader index size) numbered beside = keeps_same m s _ refl refl
 keeps_one m s (rec.Ended reader size) numbered beside = keeps_self m s
 keeps_one m s (rec.Waited reader cut) numbered beside = keeps_self m s
 keeps_one m s (rec.Broke reader why) numbered beside = keeps_self m s
-keeps_one m s (rec.ReadClosed reader) numbered beside = keeps_same m s _ refl refl
-keeps_one m s (rec.Fault count) numbered beside = keeps_same m s _ refl refl
+keeps_one m s _ numbered beside = keeps_same m s _ refl refl
 
 keeps_all : (m : ℕ) (s : State) (recs : List Rec) → AllAlong IsNumbered s recs → AllBeside AnyNumber (OtherThan m) recs → KeepsPut m s (after_all s recs)
 keeps_all m s [] numbered beside = keeps_self m s

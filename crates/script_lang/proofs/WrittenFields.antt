@@ -20,6 +20,7 @@ use Rattle.script_lang.specs.Words.{is_word_byte, located}
 use Rattle.script_lang.specs.Fields.{is_escaped, unescaped, is_colon, parted, with_word, fields_after, no_fields}
 use Rattle.script_lang.specs.Spelled.{HasBytes, HoldsFields, field_word, request_words, response_words, written_byte, written_value}
 use Rattle.script_lang.proofs.Joined.{IsWord, all_wider}
+use Rattle.cache_model.proofs.Steps.{all_append}
 
 -- ---- values
 
@@ -196,12 +197,8 @@ each_word : (sign : ℕ) → is_word_byte sign ≡ true → (fields : List Field
 each_word sign s [] h = tt
 each_word sign s (f ∷ fields) h = (field_word_is_word sign f s h.0, each_word sign s fields h.1)
 
-all_of_both : (xs ys : List (List ℕ)) → AllByRecursion IsWord xs → AllByRecursion IsWord ys → AllByRecursion IsWord (xs ++ ys)
-all_of_both [] ys h k = k
-all_of_both (x ∷ xs) ys h k = (h.0, all_of_both xs ys h.1 k)
-
 pub request_words_are : (request : List Field) → HoldsFields request → AllByRecursion IsWord (request_words request)
 request_words_are request h = each_word 62 refl request h.are.each
 
 pub both_words_are : (request response : List Field) → HoldsFields request → HoldsFields response → AllByRecursion IsWord (request_words request ++ response_words response)
-both_words_are request response h k = all_of_both (request_words request) (response_words response) (request_words_are request h) (each_word 60 refl response k.are.each)
+both_words_are request response h k = all_append IsWord (request_words request) (response_words response) (request_words_are request h) (each_word 60 refl response k.are.each)

@@ -29,24 +29,8 @@ use Rattle.script_laws.proofs.Said.{answers_are_traced}
 
 damage_kept : (p : Permit) (s : State) (r : Rec) → IsKept p r → has_damage s ≡ true → has_damage (state_after s r) ≡ true
 damage_kept p s (rec.Formatted geometry) k h = absurd k
-damage_kept p s (rec.Began cursor floor) k h = h
-damage_kept p s (rec.Placed piece place blocks digest pin) k h = h
-damage_kept p s (rec.Moved piece from place digest) k h = h
-damage_kept p s (rec.Unsaved piece place fault) k h = h
-damage_kept p s (rec.Displaced piece segment live) k h = h
 damage_kept p s (rec.Damaged piece place kept found) k h = refl
-damage_kept p s (rec.WriteOpened actor put key request response pin) k h = h
-damage_kept p s (rec.Cut put index length digest) k h = h
-damage_kept p s (rec.Committed put key length) k h = h
-damage_kept p s (rec.Aborted put key) k h = h
-damage_kept p s (rec.Removed put key) k h = h
-damage_kept p s (rec.ReadOpened reader actor key request answer) k h = h
-damage_kept p s (rec.Gave reader index length) k h = h
-damage_kept p s (rec.Ended reader length) k h = h
-damage_kept p s (rec.Waited reader cut) k h = h
-damage_kept p s (rec.Broke reader why) k h = h
-damage_kept p s (rec.ReadClosed reader) k h = h
-damage_kept p s (rec.Fault count) k h = h
+damage_kept p s _ k h = h
 
 damages_kept : (p : Permit) (s : State) (recs : List Rec) → AllByRecursion (IsKept p) recs → has_damage s ≡ true → has_damage (after_all s recs) ≡ true
 damages_kept p s [] k h = h
@@ -73,56 +57,20 @@ not_standing : {X : Type 0} (why : Cause) → is_damage why ≡ true → is_stan
 not_standing (cause.Damaged place kept found) damage e = no_truth (sym e)
 not_standing (cause.DeviceFault count) damage e = no_truth (sym e)
 not_standing (cause.Displaced segment live) damage e = no_truth (sym e)
-not_standing cause.NeverPut damage e = no_truth (sym damage)
-not_standing cause.Removed damage e = no_truth (sym damage)
-not_standing (cause.Passed place floor unsaved) damage e = no_truth (sym damage)
-not_standing (cause.NoMatch count) damage e = no_truth (sym damage)
-not_standing (cause.Aborted writer) damage e = no_truth (sym damage)
+not_standing _ damage e = no_truth (sym damage)
 
 -- the record that stands for damage tells it
 damage_given : (r : Rec) (why : Cause) → is_damage why ≡ true → cause_given r ≡ Some why → tells_damage r ≡ true
 damage_given (rec.Damaged piece place kept found) why damage h = refl
 damage_given (rec.Displaced piece segment live) why damage h = let same : cause.Displaced segment live ≡ why = cc in no_truth (sym (ap is_damage same ∙ damage))
 damage_given (rec.Fault count) why damage h = let same : cause.DeviceFault count ≡ why = cc in no_truth (sym (ap is_damage same ∙ damage))
-damage_given (rec.Formatted geometry) why damage h = none_is h
-damage_given (rec.Began cursor floor) why damage h = none_is h
-damage_given (rec.Placed piece place blocks digest pin) why damage h = none_is h
-damage_given (rec.Moved piece from place digest) why damage h = none_is h
-damage_given (rec.Unsaved piece place fault) why damage h = none_is h
-damage_given (rec.WriteOpened actor put key request response pin) why damage h = none_is h
-damage_given (rec.Cut put index length digest) why damage h = none_is h
-damage_given (rec.Committed put key length) why damage h = none_is h
-damage_given (rec.Aborted put key) why damage h = none_is h
-damage_given (rec.Removed put key) why damage h = none_is h
-damage_given (rec.ReadOpened reader actor key request answer) why damage h = none_is h
-damage_given (rec.Gave reader index length) why damage h = none_is h
-damage_given (rec.Ended reader length) why damage h = none_is h
-damage_given (rec.Waited reader cut) why damage h = none_is h
-damage_given (rec.Broke reader cause) why damage h = none_is h
-damage_given (rec.ReadClosed reader) why damage h = none_is h
+damage_given _ why damage h = none_is h
 
 told_by : (s : State) (r : Rec) → tells_damage r ≡ true → has_damage (state_after s r) ≡ true
 told_by s (rec.Damaged piece place kept found) h = refl
-told_by s (rec.Formatted geometry) h = no_truth (sym h)
-told_by s (rec.Began cursor floor) h = no_truth (sym h)
-told_by s (rec.Placed piece place blocks digest pin) h = no_truth (sym h)
-told_by s (rec.Moved piece from place digest) h = no_truth (sym h)
-told_by s (rec.Unsaved piece place fault) h = no_truth (sym h)
-told_by s (rec.Displaced piece segment live) h = no_truth (sym h)
-told_by s (rec.WriteOpened actor put key request response pin) h = no_truth (sym h)
-told_by s (rec.Cut put index length digest) h = no_truth (sym h)
-told_by s (rec.Committed put key length) h = no_truth (sym h)
-told_by s (rec.Aborted put key) h = no_truth (sym h)
-told_by s (rec.Removed put key) h = no_truth (sym h)
-told_by s (rec.ReadOpened reader actor key request answer) h = no_truth (sym h)
-told_by s (rec.Gave reader index length) h = no_truth (sym h)
-told_by s (rec.Ended reader length) h = no_truth (sym h)
-told_by s (rec.Waited reader cut) h = no_truth (sym h)
-told_by s (rec.Broke reader why) h = no_truth (sym h)
-told_by s (rec.ReadClosed reader) h = no_truth (sym h)
-told_by s (rec.Fault count) h = no_truth (sym h)
+told_by s _ h = no_truth (sym h)
 
-told_among : (p : Permit) (s : State) (recs : List Rec) (r : Rec) → AllByRecursion (IsKept p) recs → IsAmong r recs → tells_damage r ≡ true → has_damage (after_all s recs) ≡ true
+pub told_among : (p : Permit) (s : State) (recs : List Rec) (r : Rec) → AllByRecursion (IsKept p) recs → IsAmong r recs → tells_damage r ≡ true → has_damage (after_all s recs) ≡ true
 told_among p s [] r k h told = absurd h
 told_among p s (first ∷ recs) r k h told = elim h [
   | inl same ↦ damages_kept p (state_after s first) recs k.1 (told_by s first (subst (λ x. tells_damage x ≡ true) same told))

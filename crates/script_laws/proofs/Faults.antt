@@ -29,22 +29,7 @@ fault_given : (r : Rec) (count : ℕ) → cause_given r ≡ Some (cause.DeviceFa
 fault_given (rec.Fault other) count h = cc
 fault_given (rec.Displaced piece segment live) count h = absurd cc
 fault_given (rec.Damaged piece place kept found) count h = absurd cc
-fault_given (rec.Formatted geometry) count h = none_is h
-fault_given (rec.Began cursor floor) count h = none_is h
-fault_given (rec.Placed piece place blocks digest pin) count h = none_is h
-fault_given (rec.Moved piece from place digest) count h = none_is h
-fault_given (rec.Unsaved piece place fault) count h = none_is h
-fault_given (rec.WriteOpened actor put key request response pin) count h = none_is h
-fault_given (rec.Cut put index length digest) count h = none_is h
-fault_given (rec.Committed put key length) count h = none_is h
-fault_given (rec.Aborted put key) count h = none_is h
-fault_given (rec.Removed put key) count h = none_is h
-fault_given (rec.ReadOpened reader actor key request answer) count h = none_is h
-fault_given (rec.Gave reader index length) count h = none_is h
-fault_given (rec.Ended reader length) count h = none_is h
-fault_given (rec.Waited reader cut) count h = none_is h
-fault_given (rec.Broke reader why) count h = none_is h
-fault_given (rec.ReadClosed reader) count h = none_is h
+fault_given _ count h = none_is h
 
 fault_traced : (s : State) (added : List Rec) (count : ℕ) → NoLossIsAFault s → IsTraced s added (cause.DeviceFault count) → IsAmong (rec.Fault count) added
 fault_traced s added count none (Causes.IsTraced.stands e) = no_truth (sym e)
@@ -70,13 +55,7 @@ fault_is_recorded run s turn step count took takes none answered =
 cause_recorded : (p : Permit) (s : State) (intents : List Intent) (added : List Rec) (refused : Option Reason) (why : Cause) → IsStep p s intents added refused → NoLossIsAFault s
     → is_fault why ≡ true → IsTraced s added why → 0 < (after_all s added).fault
 cause_recorded p s intents added refused (cause.DeviceFault count) h none fault traced = (fault_is_told p s intents added refused count h (fault_traced s added count none traced)).told
-cause_recorded p s intents added refused cause.NeverPut h none fault traced = no_truth (sym fault)
-cause_recorded p s intents added refused cause.Removed h none fault traced = no_truth (sym fault)
-cause_recorded p s intents added refused (cause.Passed place floor unsaved) h none fault traced = no_truth (sym fault)
-cause_recorded p s intents added refused (cause.NoMatch count) h none fault traced = no_truth (sym fault)
-cause_recorded p s intents added refused (cause.Displaced segment live) h none fault traced = no_truth (sym fault)
-cause_recorded p s intents added refused (cause.Aborted writer) h none fault traced = no_truth (sym fault)
-cause_recorded p s intents added refused (cause.Damaged place kept found) h none fault traced = no_truth (sym fault)
+cause_recorded p s intents added refused _ h none fault traced = no_truth (sym fault)
 
 pub named_is_recorded : (run : Run) (s : State) (turn : Turn) (step : Step) (why : Cause) → SessionTakes run s turn step → NoLossIsAFault s
     → cause_answered (session_said run s (after_all s turn.added) turn step) ≡ Some why → is_fault why ≡ true → 0 < (after_all s turn.added).fault

@@ -28,7 +28,7 @@ use Rattle.cache_model.proofs.Found.{none_is}
 use Rattle.script_laws.specs.Causes
 use Rattle.script_laws.specs.Causes.{IsGivenBy, IsTraced, cause_given, cause_told}
 use Rattle.script_laws.specs.Troubles.{IsCounted}
-use Rattle.script_run.proofs.Carried.{all_append, all_as}
+use Rattle.cache_model.proofs.Steps.{all_append, all_as}
 use Rattle.script_laws.proofs.Among.{among_right}
 use Rattle.script_laws.proofs.Losses.{given_left}
 use Rattle.script_laws.proofs.Standing.{LookIsTraced, NextIsTraced, look_stands, next_stands}

@@ -7,3 +7,7 @@ mod Said
 mod Faults
 mod Damages
 mod Runs
+mod Untroubled
+mod Formats
+mod Alike
+mod Agreeing

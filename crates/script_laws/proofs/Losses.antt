@@ -18,24 +18,9 @@ use Rattle.script_laws.proofs.Among.{among_left, among_right}
 
 record_stays : (s : State) (r : Rec) → NoLossIsAFault s → NoLossIsAFault (state_after s r)
 record_stays s (rec.Formatted geometry) h = tt
-record_stays s (rec.Began cursor floor) h = h
-record_stays s (rec.Placed piece place blocks digest pin) h = h
-record_stays s (rec.Moved piece from place digest) h = h
-record_stays s (rec.Unsaved piece place fault) h = h
 record_stays s (rec.Displaced piece segment live) h = (refl, h)
 record_stays s (rec.Damaged piece place kept found) h = (refl, h)
-record_stays s (rec.WriteOpened actor put key request response pin) h = h
-record_stays s (rec.Cut put index length digest) h = h
-record_stays s (rec.Committed put key length) h = h
-record_stays s (rec.Aborted put key) h = h
-record_stays s (rec.Removed put key) h = h
-record_stays s (rec.ReadOpened reader actor key request answer) h = h
-record_stays s (rec.Gave reader index length) h = h
-record_stays s (rec.Ended reader length) h = h
-record_stays s (rec.Waited reader cut) h = h
-record_stays s (rec.Broke reader why) h = h
-record_stays s (rec.ReadClosed reader) h = h
-record_stays s (rec.Fault count) h = h
+record_stays s _ h = h
 
 pub losses_stay : (s : State) (added : List Rec) → NoLossIsAFault s → NoLossIsAFault (after_all s added)
 losses_stay s [] h = h
@@ -48,24 +33,9 @@ formats_lose_none s geometry = tt
 
 loss_by : (s : State) (r : Rec) (piece : PieceId) (why : Cause) → IsAmong (piece, why) (state_after s r).lost → IsAmong (piece, why) s.lost ⊎ (cause_given r ≡ Some why)
 loss_by s (rec.Formatted geometry) piece why h = absurd h
-loss_by s (rec.Began cursor floor) piece why h = inl h
-loss_by s (rec.Placed id place blocks digest pin) piece why h = inl h
-loss_by s (rec.Moved id from place digest) piece why h = inl h
-loss_by s (rec.Unsaved id place fault) piece why h = inl h
 loss_by s (rec.Displaced id segment live) piece why h = elim h [ inl same ↦ inr (ap (λ (x : PieceId × Cause). Some x.1) (sym same)) | inr before ↦ inl before ]
 loss_by s (rec.Damaged id place kept found) piece why h = elim h [ inl same ↦ inr (ap (λ (x : PieceId × Cause). Some x.1) (sym same)) | inr before ↦ inl before ]
-loss_by s (rec.WriteOpened actor put key request response pin) piece why h = inl h
-loss_by s (rec.Cut put index length digest) piece why h = inl h
-loss_by s (rec.Committed put key length) piece why h = inl h
-loss_by s (rec.Aborted put key) piece why h = inl h
-loss_by s (rec.Removed put key) piece why h = inl h
-loss_by s (rec.ReadOpened reader actor key request answer) piece why h = inl h
-loss_by s (rec.Gave reader index length) piece why h = inl h
-loss_by s (rec.Ended reader length) piece why h = inl h
-loss_by s (rec.Waited reader cut) piece why h = inl h
-loss_by s (rec.Broke reader cause) piece why h = inl h
-loss_by s (rec.ReadClosed reader) piece why h = inl h
-loss_by s (rec.Fault count) piece why h = inl h
+loss_by s _ piece why h = inl h
 
 given_by : (r : Rec) (recs : List Rec) (why : Cause) → cause_given r ≡ Some why → IsGivenBy (r ∷ recs) why
 given_by r recs why e = record { r = r; among = inl refl; gives = e }

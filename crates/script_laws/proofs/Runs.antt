@@ -1,5 +1,5 @@
 -- What holds of every line of a script, by what holds of what was told of the devices in the end.
-use Rattle.std.proofs.Common.{◌≡◌, ℕ, ◌<◌, List, [], ◌∷◌, ◌++◌, Bool, true, false, refl, sym, ◌∙◌, subst, arith}
+use Rattle.std.proofs.Common.{◌≡◌, ℕ, ◌<◌, List, [], ◌∷◌, ◌++◌, Bool, true, false, refl, sym, ◌∙◌, ap, subst, arith}
 use Rattle.std.specs.Prelude.{All, Option, Some, None, option_map, suc, unwrap_or, zero}
 use Rattle.std.proofs.lemmas.Bool.{false_from_ne_true}
 use Rattle.std.proofs.lemmas.List.Elements.{All-append, All-cons, All-head, All-nil, All-tail}
@@ -19,7 +19,7 @@ use Rattle.script_lang.specs.declared.line.LineAnswer.TheVariants as line
 use Rattle.script_lang.specs.declared.answer.StepAnswer.{StepAnswer}
 use Rattle.script_lang.specs.declared.answer.StepAnswer.TheVariants as answer
 use Rattle.script_lang.specs.Grammar.{reading_of}
-use Rattle.script_run.specs.Run.{Harm, Run, fresh}
+use Rattle.script_run.specs.Run.{Harm, Run, fresh, no_harm}
 use Rattle.script_run.specs.Turn.{Turn}
 use Rattle.script_run.specs.Asked.{asked}
 use Rattle.script_run.specs.Answers.{format_said, session_said, step_said}
@@ -27,6 +27,7 @@ use Rattle.script_run.specs.Behind.{after_format, after_line, after_reading, beh
 use Rattle.script_run.specs.Takes.{FormatTakes, IsRun, ReadingTakes, SessionTakes, Takes, run_after}
 use Rattle.script_laws.specs.Causes.{cause_answered}
 use Rattle.script_laws.specs.Troubles.{NoLossIsAFault, is_fault}
+use Rattle.script_laws.specs.Agreeing.{NoneHarmed}
 use Rattle.script_laws.specs.Runs.{NoneAnswers, ReadsWithout, answers_damage, answers_fault}
 use Rattle.script_laws.proofs.Losses.{formats_lose_none, losses_stay}
 use Rattle.script_laws.proofs.Walking.{fault_stays}
@@ -39,7 +40,7 @@ all_front : {X : Type 0} (P : X → Type 0) (xs ys : List X) → All P (xs ++ ys
 all_front P [] ys all = All-nil P
 all_front P (x ∷ xs) ys all = All-cons P x xs (All-head P x (xs ++ ys) all) (all_front P xs ys (All-tail P x (xs ++ ys) all))
 
-all_behind : {X : Type 0} (P : X → Type 0) (xs ys : List X) → All P (xs ++ ys) → All P ys
+pub all_behind : {X : Type 0} (P : X → Type 0) (xs ys : List X) → All P (xs ++ ys) → All P ys
 all_behind P [] ys all = all
 all_behind P (x ∷ xs) ys all = all_behind P xs ys (All-tail P x (xs ++ ys) all)
 
@@ -106,28 +107,8 @@ module _ (test : StepAnswer → Bool) (Fine : Harm → Type 0) (Sound : State �
     sound = subst IsSound (sym e) sound;
     back = λ fine. (w.moment at, subst (λ (x : Option State). AreFine (run.ended ++ harm_of x)) e fine);
   }
-  played run turn (Some s) (step.Put key body request response) e sound takes = in_session run s turn (step.Put key body request response) (behind run turn (Some s) (step.Put key body request response)) refl refl sound takes
-  played run turn (Some s) (step.Get key request) e sound takes = in_session run s turn (step.Get key request) (behind run turn (Some s) (step.Get key request)) refl refl sound takes
-  played run turn (Some s) (step.OpenWrite actor key pin request response) e sound takes = in_session run s turn (step.OpenWrite actor key pin request response) (behind run turn (Some s) (step.OpenWrite actor key pin request response)) refl refl sound takes
-  played run turn (Some s) (step.Feed actor body) e sound takes = in_session run s turn (step.Feed actor body) (behind run turn (Some s) (step.Feed actor body)) refl refl sound takes
-  played run turn (Some s) (step.Close actor) e sound takes = in_session run s turn (step.Close actor) (behind run turn (Some s) (step.Close actor)) refl refl sound takes
-  played run turn (Some s) (step.Abort actor) e sound takes = in_session run s turn (step.Abort actor) (behind run turn (Some s) (step.Abort actor)) refl refl sound takes
-  played run turn (Some s) (step.OpenRead actor key request) e sound takes = in_session run s turn (step.OpenRead actor key request) (behind run turn (Some s) (step.OpenRead actor key request)) refl refl sound takes
-  played run turn (Some s) (step.Next actor) e sound takes = in_session run s turn (step.Next actor) (behind run turn (Some s) (step.Next actor)) refl refl sound takes
-  played run turn (Some s) (step.Done actor) e sound takes = in_session run s turn (step.Done actor) (behind run turn (Some s) (step.Done actor)) refl refl sound takes
-  played run turn (Some s) (step.Remove key) e sound takes = in_session run s turn (step.Remove key) (behind run turn (Some s) (step.Remove key)) refl refl sound takes
-  played run turn (Some s) step.Flush e sound takes = in_session run s turn step.Flush (behind run turn (Some s) step.Flush) refl refl sound takes
-  played run turn None (step.Put key body request response) e sound takes = absurd takes
-  played run turn None (step.Get key request) e sound takes = absurd takes
-  played run turn None (step.OpenWrite actor key pin request response) e sound takes = absurd takes
-  played run turn None (step.Feed actor body) e sound takes = absurd takes
-  played run turn None (step.Close actor) e sound takes = absurd takes
-  played run turn None (step.Abort actor) e sound takes = absurd takes
-  played run turn None (step.OpenRead actor key request) e sound takes = absurd takes
-  played run turn None (step.Next actor) e sound takes = absurd takes
-  played run turn None (step.Done actor) e sound takes = absurd takes
-  played run turn None (step.Remove key) e sound takes = absurd takes
-  played run turn None step.Flush e sound takes = absurd takes
+  played run turn (Some s) step e sound takes = in_session run s turn step (behind run turn (Some s) step) refl refl sound takes
+  played run turn None step e sound takes = absurd takes
 
   read : (run : Run) (turn : Turn) (reading : LineAnswer) → IsSound run.state → ReadingTakes run turn reading
       → IsPlayed run run.state (after_reading run turn reading) (ReadsWithout test run turn reading)
@@ -162,27 +143,9 @@ none_named test (Some why) h = false_from_ne_true (test why) (h why refl)
 no_fault : (a : StepAnswer) → ((count : ℕ) (took : Option ℕ) → a ≡ answer.DeviceFault count took → ⊥) → ((why : Cause) → cause_answered a ≡ Some why → is_fault why ≡ true → ⊥)
     → answers_fault a ≡ false
 no_fault (answer.DeviceFault count took) h named = absurd (h count took refl)
-no_fault (answer.Formatted serial cursor floor) h named = none_named is_fault (cause_answered (answer.Formatted serial cursor floor)) named
-no_fault (answer.Put put length fragments) h named = none_named is_fault (cause_answered (answer.Put put length fragments)) named
-no_fault (answer.Got put length bytes) h named = none_named is_fault (cause_answered (answer.Got put length bytes)) named
-no_fault (answer.Miss why) h named = none_named is_fault (cause_answered (answer.Miss why)) named
-no_fault (answer.Broken why) h named = none_named is_fault (cause_answered (answer.Broken why)) named
-no_fault (answer.Follow put) h named = none_named is_fault (cause_answered (answer.Follow put)) named
-no_fault (answer.Writer put) h named = none_named is_fault (cause_answered (answer.Writer put)) named
-no_fault (answer.Took count) h named = none_named is_fault (cause_answered (answer.Took count)) named
-no_fault (answer.Aborted put) h named = none_named is_fault (cause_answered (answer.Aborted put)) named
-no_fault (answer.Hit put length) h named = none_named is_fault (cause_answered (answer.Hit put length)) named
-no_fault (answer.Piece index length bytes) h named = none_named is_fault (cause_answered (answer.Piece index length bytes)) named
-no_fault (answer.End length) h named = none_named is_fault (cause_answered (answer.End length)) named
-no_fault (answer.NotYet cut) h named = none_named is_fault (cause_answered (answer.NotYet cut)) named
-no_fault answer.Done h named = none_named is_fault (cause_answered answer.Done) named
-no_fault (answer.Removed put) h named = none_named is_fault (cause_answered (answer.Removed put)) named
-no_fault (answer.Absent why) h named = none_named is_fault (cause_answered (answer.Absent why)) named
-no_fault (answer.Flushed blocks cursor floor synced) h named = none_named is_fault (cause_answered (answer.Flushed blocks cursor floor synced)) named
-no_fault (answer.Now at) h named = none_named is_fault (cause_answered (answer.Now at)) named
-no_fault (answer.Refused why took) h named = none_named is_fault (cause_answered (answer.Refused why took)) named
+no_fault x h named = none_named is_fault (cause_answered x) named
 
-none_below : (n : ℕ) → n ≡ 0 → 0 < n → ⊥
+pub none_below : (n : ℕ) → n ≡ 0 → 0 < n → ⊥
 none_below n e h = omega (arith, e, h)
 
 none_before : (n m : ℕ) → (0 < n → 0 < m) → m ≡ 0 → n ≡ 0
@@ -230,3 +193,29 @@ undamaged = record {
 
 pub undamaged_runs : (lines : List (List ℕ)) (turns : List Turn) → IsRun fresh lines turns → All (λ (harm : Harm). harm.damaged ≡ false) (harms_of (run_after fresh lines turns)) → NoneAnswers answers_damage fresh lines turns
 undamaged_runs = whole answers_damage (λ harm. harm.damaged ≡ false) (λ s. Unit {0}) undamaged
+
+-- ---- neither of them
+
+harmless : (harm : Harm) → harm.fault ≡ 0 → harm.damaged ≡ false → harm ≡ no_harm
+harmless harm fault damaged = λ i. record { fault = fault i; damaged = damaged i }
+
+-- no answer is asked about: what was told is followed back alone
+none_harmed : IsWitnessed (λ a. false) (λ harm. harm ≡ no_harm) (λ s. Unit {0})
+none_harmed = record {
+  formats = λ geometry. tt;
+  stays = λ run s turn step takes sound. tt;
+  before = λ run s turn step takes fine. harmless (harm_in s)
+      (faultless.before run s turn step takes (ap (λ (harm : Harm). harm.fault) fine))
+      (undamaged.before run s turn step takes (ap (λ (harm : Harm). harm.damaged) fine));
+  without = λ run s turn step takes sound fine. refl;
+  format = λ added bad. refl;
+  moment = λ at. refl;
+}
+
+any_session : (o : Option State) → IsSound (λ a. false) (λ harm. harm ≡ no_harm) (λ s. Unit {0}) none_harmed o
+any_session None = tt
+any_session (Some s) = tt
+
+-- what was told of no device behind lines was told of none before them
+pub harmless_before : (run : Run) (lines : List (List ℕ)) (turns : List Turn) → IsRun run lines turns → NoneHarmed (run_after run lines turns) → NoneHarmed run
+harmless_before run lines turns is clean = (along (λ a. false) (λ harm. harm ≡ no_harm) (λ s. Unit {0}) none_harmed run lines turns is (any_session run.state) clean).1

@@ -72,24 +72,10 @@ look_told (rec.Fault count ∷ recs) why h = told_later _ recs why (look_told re
 -- a break that is told is told by its record
 break_told : (r : Rec) (reader : ℕ) (why : Cause) → is_told r ≡ Some (rec.Broke reader why) → cause_told r ≡ Some why
 break_told (rec.Broke other cause) reader why h = cc
-break_told (rec.ReadOpened other actor key request answer) reader why h = none_is h
-break_told (rec.Formatted geometry) reader why h = none_is h
-break_told (rec.Began cursor floor) reader why h = none_is h
-break_told (rec.Placed piece place blocks digest pin) reader why h = none_is h
-break_told (rec.Moved piece from place digest) reader why h = none_is h
-break_told (rec.Unsaved piece place fault) reader why h = none_is h
-break_told (rec.Displaced piece segment live) reader why h = none_is h
-break_told (rec.Damaged piece place kept found) reader why h = none_is h
-break_told (rec.WriteOpened actor put key request response pin) reader why h = none_is h
-break_told (rec.Cut put index length digest) reader why h = none_is h
-break_told (rec.Committed put key length) reader why h = none_is h
-break_told (rec.Aborted put key) reader why h = none_is h
-break_told (rec.Removed put key) reader why h = none_is h
 break_told (rec.Gave other index length) reader why h = absurd cc
 break_told (rec.Ended other length) reader why h = absurd cc
 break_told (rec.Waited other cut) reader why h = absurd cc
-break_told (rec.ReadClosed other) reader why h = none_is h
-break_told (rec.Fault count) reader why h = none_is h
+break_told _ reader why h = none_is h
 
 next_by : (r : Rec) (recs : List Rec) (reader : ℕ) (why : Cause) (o : Option Rec) → (o ≡ Some (rec.Broke reader why) → IsToldBy recs why)
     → later (is_told r) o ≡ Some (rec.Broke reader why) → IsToldBy (r ∷ recs) why
@@ -134,23 +120,11 @@ module _ (s t : State) (turn : Turn) (told_traced : (why : Cause) → IsToldBy t
 
   miss : (why : Cause) → IsTraced s turn.added why → Says (miss_said why)
   miss (cause.DeviceFault count) h = inr h
-  miss cause.NeverPut h = h
-  miss cause.Removed h = h
-  miss (cause.Passed place floor unsaved) h = h
-  miss (cause.NoMatch count) h = h
-  miss (cause.Displaced segment live) h = h
-  miss (cause.Aborted writer) h = h
-  miss (cause.Damaged place kept found) h = h
+  miss _ h = h
 
   broken : (why : Cause) → IsTraced s turn.added why → Says (broken_said why)
   broken (cause.DeviceFault count) h = inr h
-  broken cause.NeverPut h = h
-  broken cause.Removed h = h
-  broken (cause.Passed place floor unsaved) h = h
-  broken (cause.NoMatch count) h = h
-  broken (cause.Displaced segment live) h = h
-  broken (cause.Aborted writer) h = h
-  broken (cause.Damaged place kept found) h = h
+  broken _ h = h
 
   look : (reader : ℕ) (o : Option ReadAnswer) → lookup_in turn.added ≡ o → Says (lookup_said t reader o)
   look reader None e = tt
@@ -215,25 +189,8 @@ module _ (s t : State) (turn : Turn) (told_traced : (why : Cause) → IsToldBy t
 
   removal : (key : Key) (recs : List Rec) → Says (remove_said s key recs)
   removal key [] = of_miss s turn.added key
-  removal key (rec.Formatted geometry ∷ recs) = of_miss s turn.added key
-  removal key (rec.Began cursor floor ∷ recs) = of_miss s turn.added key
-  removal key (rec.Placed piece place blocks digest pin ∷ recs) = of_miss s turn.added key
-  removal key (rec.Moved piece from place digest ∷ recs) = of_miss s turn.added key
-  removal key (rec.Unsaved piece place fault ∷ recs) = of_miss s turn.added key
-  removal key (rec.Displaced piece segment live ∷ recs) = of_miss s turn.added key
-  removal key (rec.Damaged piece place kept found ∷ recs) = of_miss s turn.added key
-  removal key (rec.WriteOpened actor put k request response pin ∷ recs) = of_miss s turn.added key
-  removal key (rec.Cut put index length digest ∷ recs) = of_miss s turn.added key
-  removal key (rec.Committed put k length ∷ recs) = of_miss s turn.added key
-  removal key (rec.Aborted put k ∷ recs) = of_miss s turn.added key
   removal key (rec.Removed put k ∷ recs) = tt
-  removal key (rec.ReadOpened reader actor k request answer ∷ recs) = of_miss s turn.added key
-  removal key (rec.Gave reader index length ∷ recs) = of_miss s turn.added key
-  removal key (rec.Ended reader length ∷ recs) = of_miss s turn.added key
-  removal key (rec.Waited reader cut ∷ recs) = of_miss s turn.added key
-  removal key (rec.ReadClosed reader ∷ recs) = of_miss s turn.added key
-  removal key (rec.Fault count ∷ recs) = of_miss s turn.added key
-  removal key (rec.Broke reader why ∷ recs) = of_miss s turn.added key
+  removal key _ = of_miss s turn.added key
 
   free : (o : Option Holding) (a : StepAnswer) → Says a → Says (if_free o a)
   free None a h = h

@@ -11,7 +11,7 @@ use Rattle.cache_model.specs.Legal.{Advances, MayGrow, nothing, more, IsStep}
 use Rattle.cache_model.proofs.Found.{none_is}
 use Rattle.script_laws.specs.Causes.{IsTraced, cause_told}
 use Rattle.script_laws.specs.Troubles.{IsCounted, IsFaultRecorded}
-use Rattle.script_run.proofs.Carried.{all_append, all_as}
+use Rattle.cache_model.proofs.Steps.{all_append, all_as}
 use Rattle.script_run.proofs.Listed.{is_among}
 use Rattle.script_laws.proofs.Among.{among_left, among_right}
 use Rattle.script_laws.proofs.Losses.{traced_left, traced_right}
@@ -89,31 +89,15 @@ above p count c =
 
 fault_kept : (p : Permit) (s : State) (r : Rec) → IsKept p r → 0 < s.fault → 0 < (state_after s r).fault
 fault_kept p s (rec.Formatted geometry) k h = absurd k
-fault_kept p s (rec.Began cursor floor) k h = h
-fault_kept p s (rec.Placed piece place blocks digest pin) k h = h
-fault_kept p s (rec.Moved piece from place digest) k h = h
-fault_kept p s (rec.Unsaved piece place fault) k h = h
-fault_kept p s (rec.Displaced piece segment live) k h = h
-fault_kept p s (rec.Damaged piece place kept found) k h = h
-fault_kept p s (rec.WriteOpened actor put key request response pin) k h = h
-fault_kept p s (rec.Cut put index length digest) k h = h
-fault_kept p s (rec.Committed put key length) k h = h
-fault_kept p s (rec.Aborted put key) k h = h
-fault_kept p s (rec.Removed put key) k h = h
-fault_kept p s (rec.ReadOpened reader actor key request answer) k h = h
-fault_kept p s (rec.Gave reader index length) k h = h
-fault_kept p s (rec.Ended reader length) k h = h
-fault_kept p s (rec.Waited reader cut) k h = h
-fault_kept p s (rec.Broke reader why) k h = h
-fault_kept p s (rec.ReadClosed reader) k h = h
 fault_kept p s (rec.Fault count) k h = above p count k
+fault_kept p s _ k h = h
 
 faults_kept : (p : Permit) (s : State) (recs : List Rec) → AllByRecursion (IsKept p) recs → 0 < s.fault → 0 < (after_all s recs).fault
 faults_kept p s [] k h = h
 faults_kept p s (r ∷ recs) k h = faults_kept p (state_after s r) recs k.1 (fault_kept p s r k.0 h)
 
 -- behind a recorded fault
-told_behind : (p : Permit) (s : State) (recs : List Rec) (count : ℕ) → AllByRecursion (IsKept p) recs → IsAmong (rec.Fault count) recs → 0 < (after_all s recs).fault
+pub told_behind : (p : Permit) (s : State) (recs : List Rec) (count : ℕ) → AllByRecursion (IsKept p) recs → IsAmong (rec.Fault count) recs → 0 < (after_all s recs).fault
 told_behind p s [] count k h = absurd h
 told_behind p s (r ∷ recs) count k h = elim h [
   | inl same ↦ faults_kept p (state_after s r) recs k.1 (subst (λ x. IsKept p x → 0 < (state_after s x).fault) same (above p count) k.0)

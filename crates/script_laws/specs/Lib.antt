@@ -2,3 +2,4 @@ pub mod Causes
 pub mod Troubles
 pub mod Damages
 pub mod Runs
+pub mod Agreeing

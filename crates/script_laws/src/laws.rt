@@ -1,8 +1,11 @@
 // Laws of what lines answer. These functions do nothing when they run.
+ghost use Rattle.script_laws.specs.Agreeing.{OutputIsFixed};
 ghost use Rattle.script_laws.specs.Causes.{AnswersAreTraced, CausesAreTraced};
 ghost use Rattle.script_laws.specs.Damages.{DamageIsRecorded, DamageStays};
 ghost use Rattle.script_laws.specs.Runs.{FaultlessRuns, UndamagedRuns};
 ghost use Rattle.script_laws.specs.Troubles.{FaultIsRecorded, FaultStays, FormatsLoseNone, LossesStay, RefusalIsRecorded};
+
+use cache_model::steps_agree;
 
 /// Each cause that a step tells to those who read is how things stand, or that of a piece that was lost
 /// before, or that of a record of the step.
@@ -60,3 +63,11 @@ pub fn faultless_runs()
 pub fn undamaged_runs()
     ensures { UndamagedRuns }
 {}
+
+/// Where no fault and no damage was told in either of two runs of a script, they print the same, or a line of
+/// it shows two documents of one SHA-256.
+pub fn output_is_fixed()
+    ensures { OutputIsFixed }
+{
+    steps_agree();
+}

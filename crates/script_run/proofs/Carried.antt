@@ -1,5 +1,5 @@
 -- What stands stays what its writer took where the puts that it stands for stay or go on.
-use Rattle.std.proofs.Common.{◌≡◌, ℕ, ◌≤◌, List, [], ◌∷◌, ◌++◌, length, refl, sym, ◌∙◌, ap, arith, inl, inr, Bool}
+use Rattle.std.proofs.Common.{◌≡◌, ℕ, ◌≤◌, List, length, refl, sym, ◌∙◌, ap, arith, inl, inr, Bool}
 use Rattle.std.specs.Prelude.{Option, Some, None, find, ◌==◌}
 use Rattle.std.specs.List.{AllByRecursion, filter}
 use Rattle.std.proofs.lemmas.List.Elements.{All-filter, All-from_recursion, recursion_from_All}
@@ -7,24 +7,10 @@ use Rattle.tape_base.specs.declared.keys.Key.{Key}
 use Rattle.fragment_table.specs.Table.{TableRow}
 use Rattle.alternate_vector.specs.Alternates.{Stored}
 use Rattle.cache_model.specs.State.{State, Row, PutRow, ReaderRow, alternate_of, put_of}
-use Rattle.cache_model.proofs.Rows.{ArePart, done, keep, skip}
+use Rattle.cache_model.proofs.Rows.{ArePart}
+use Rattle.cache_model.proofs.Steps.{all_as}
 use Rattle.script_run.specs.Run.{Stream}
 use Rattle.script_run.specs.Own.{AreListedOf, AreOwnPuts, IsComplete, IsListedOf, IsOwnFragment, IsOwnPut, IsOwnReader, IsTableOf, IsTableOfHit}
-
--- ---- lists
-
-pub all_part : (P : Row → Type 0) {some all : List Row} → ArePart some all → AllByRecursion P all → AllByRecursion P some
-all_part P done each = tt
-all_part P (keep p) each = (each.0, all_part P p each.1)
-all_part P (skip p) each = all_part P p each.1
-
-pub all_as : {X : Type 0} (P Q : X → Type 0) → ((x : X) → P x → Q x) → (xs : List X) → AllByRecursion P xs → AllByRecursion Q xs
-all_as P Q f [] each = tt
-all_as P Q f (x ∷ xs) each = (f x each.0, all_as P Q f xs each.1)
-
-pub all_append : {X : Type 0} (P : X → Type 0) (xs ys : List X) → AllByRecursion P xs → AllByRecursion P ys → AllByRecursion P (xs ++ ys)
-all_append P [] ys front back = back
-all_append P (x ∷ xs) ys front back = (front.0, all_append P xs ys front.1 back)
 
 pub all_filter : {X : Type 0} (P : X → Type 0) (test : X → Bool) (xs : List X) → AllByRecursion P xs → AllByRecursion P (filter test xs)
 all_filter P test xs each = recursion_from_All P (filter test xs) (All-filter test P xs (All-from_recursion P xs each))

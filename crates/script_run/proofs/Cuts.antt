@@ -3,9 +3,10 @@ use Rattle.std.proofs.Common.{◌≡◌, ℕ, zero, suc, ◌+◌, ◌-◌, ◌*�
 use Rattle.std.specs.Prelude.{min}
 use Rattle.std.proofs.Math.Nat.{mul-le-mul_left, mul_comm}
 use Rattle.std.proofs.lemmas.Bool.{cases_lt}
-use Rattle.std.proofs.lemmas.List.{drop-take, length-drop, length-take, take-append-le, take-take, take_all}
+use Rattle.std.proofs.lemmas.List.{length-drop, length-take, take-append-le, take-take, take_all}
 use Rattle.std.proofs.lemmas.List.Sums.{sum_by-cons, sum_by_push}
 use Rattle.tape_base.specs.Digest.{digest_of}
+use Rattle.doc_header.proofs.Stands.{part_in_front}
 use Rattle.fragment_table.specs.Table.{TableRow, made_row, total_length}
 use Rattle.script_run.specs.Own.{AreCuts, piece_of, rows_from}
 
@@ -126,14 +127,8 @@ cuts_of_other fragment a b cuts c have within = record {
 }
 
 -- what stands before a place tells the fragments that end there
-same_before : (fragment at end : ℕ) (a b : List ℕ) → take end a ≡ take end b → at + fragment ≤ end → take fragment (drop at a) ≡ take fragment (drop at b)
-same_before fragment at end a b same within =
-    sym (drop-take at fragment a)
-    ∙ (ap (drop at) (sym (take-take (at + fragment) end a within) ∙ (ap (take (at + fragment)) same ∙ take-take (at + fragment) end b within))
-    ∙ drop-take at fragment b)
-
 have_front : (fragment n : ℕ) (a b : List ℕ) → take (n * fragment) a ≡ take (n * fragment) b → HaveCut fragment n a b
-have_front fragment n a b same = record { pieces = λ index some within. same_before fragment ((index - 1) * fragment) (n * fragment) a b same (ends_within index n fragment some within) }
+have_front fragment n a b same = record { pieces = λ index some within. part_in_front (n * fragment) ((index - 1) * fragment) fragment a b (ends_within index n fragment some within) same }
 
 -- whole fragments stay where a body goes on
 pub have_longer : (fragment n : ℕ) (a more : List ℕ) → n * fragment ≤ length a → HaveCut fragment n a (a ++ more)

@@ -6,7 +6,7 @@ use Rattle.cache_model.specs.declared.record.Rec.{Rec}
 use Rattle.cache_model.specs.declared.record.Rec.TheVariants as rec
 use Rattle.cache_model.specs.State.{State, PutRow, Writing, Open, Closed, GivenUp, after_all, put_of, state_after, with_writing}
 use Rattle.cache_model.specs.Verdict.{is_open}
-use Rattle.cache_model.specs.Permit.{Permit, Intent, Flush, Write, Fragment, Overflow, Weigh, Finish, Commit, GiveUp, Remove, Look, ReadOn, ReadAll, StopReading, End, Stays, Done, Fails, Exhausted, Faulted, Work, Reason, is_cleanup, work_after}
+use Rattle.cache_model.specs.Permit.{Permit, Intent, Fragment, Weigh, Finish, Commit, GiveUp, StopReading, End, Stays, Done, Fails, Exhausted, Faulted, Work, Reason, is_cleanup, work_after}
 use Rattle.cache_model.specs.Legal
 use Rattle.cache_model.specs.Legal.{Advances, Does, IsStep, MayGrow, nothing, more, IsWriting, aborted_record, is_writing}
 use Rattle.cache_model.specs.StepLaws.{EndsWith}
@@ -115,33 +115,15 @@ group_left p s put (Finish n fragments) added e same (Legal.DoesFinish.loses w i
 group_left p s put (Finish n fragments) added e same (Legal.DoesFinish.exhausted w d c l q) = subst (IsLeft (after_all s added) put (Finish n fragments)) (sym d) (inl refl)
 group_left p s put (Commit n) added e same (Legal.DoesCommit.commits w f o q is) =
     subst (λ xs. IsNotOpen (after_all s xs) put) (sym is) (subst (λ m. IsNotOpen (state_after s (rec.Committed n w.key (total_length w.cuts))) m) same (committed_ends s n w (total_length w.cuts)))
-group_left p s put Flush added e same does = absurd same
-group_left p s put (Write actor key request response pin) added e same does = absurd same
-group_left p s put (Overflow n) added e same does = absurd same
-group_left p s put (GiveUp n) added e same does = absurd same
-group_left p s put (Remove key) added e same does = absurd same
-group_left p s put (Look actor key request) added e same does = absurd same
-group_left p s put (ReadOn reader) added e same does = absurd same
-group_left p s put (ReadAll reader) added e same does = absurd same
-group_left p s put (StopReading reader) added e same does = absurd same
+group_left p s put _ added e same does = absurd same
 
 -- ---- along a close
 
 -- nothing that a close asks is done behind a refusal
 no_cleanup : (put : ℕ) (i : Intent) → IsClosing put i → is_cleanup i ≡ false
-no_cleanup put (Weigh n rest) c = refl
-no_cleanup put (Fragment n index payload) c = refl
-no_cleanup put (Finish n fragments) c = refl
-no_cleanup put (Commit n) c = refl
-no_cleanup put Flush c = refl
-no_cleanup put (Write actor key request response pin) c = refl
-no_cleanup put (Overflow n) c = refl
 no_cleanup put (GiveUp n) c = absurd c
-no_cleanup put (Remove key) c = refl
-no_cleanup put (Look actor key request) c = refl
-no_cleanup put (ReadOn reader) c = refl
-no_cleanup put (ReadAll reader) c = refl
 no_cleanup put (StopReading reader) c = absurd c
+no_cleanup put _ c = refl
 
 none_cleaned : (put : ℕ) (is : List Intent) → AreClosing put is → filter is_cleanup is ≡ []
 none_cleaned put [] c = refl

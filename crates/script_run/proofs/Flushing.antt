@@ -1,5 +1,5 @@
 -- A flush leaves what stands to what writers took, or shows two documents of one SHA-256.
-use Rattle.std.proofs.Common.{◌≡◌, ℕ, ◌-◌, List, [], ◌∷◌, refl, sym, ◌∙◌, ap, subst, arith, inl, inr, ◌⊎◌, Bool, true, false}
+use Rattle.std.proofs.Common.{◌≡◌, ℕ, ◌-◌, List, [], ◌∷◌, refl, sym, ◌∙◌, ap, subst, arith, inl, ◌⊎◌, Bool, true, false}
 use Rattle.std.specs.Prelude.{find, ◌==◌}
 use Rattle.std.specs.List.{AllByRecursion}
 use Rattle.alternate_vector.proofs.Loops.{each_push}
@@ -11,7 +11,6 @@ use Rattle.cache_model.specs.declared.record.Rec.{Rec}
 use Rattle.cache_model.specs.declared.record.Rec.TheVariants as rec
 use Rattle.cache_model.specs.State.{State, Row, PutRow, after_all, place_now, state_after, without}
 use Rattle.cache_model.specs.Permit.{Permit}
-use Rattle.cache_model.specs.Given.{IsGiven}
 use Rattle.cache_model.specs.Tape.{AreApart, IsSound}
 use Rattle.cache_model.specs.Due.{due_pieces}
 use Rattle.cache_model.specs.Outcomes.{AreOutcomes, Copied, Copy, NoRoom, Outcome, Refused, Spoiled, began_record, copies_of, flush_records, front_of, moved_record, moved_records, records_of, stopped_front_of, stopped_records, stopped_records_of}
@@ -20,10 +19,13 @@ use Rattle.cache_model.proofs.Steps.{after_all-append}
 use Rattle.cache_model.proofs.Copies.{AreReady, IsReady, copied_is, others_stand, rows_of, still_ready}
 use Rattle.cache_model.proofs.SoundFlush.{copies_part, copies_ready, due_part, part_ready}
 use Rattle.cache_model.proofs.Live.{IsFound, due_are_live}
+use Rattle.cache_model.proofs.Told.{each_part}
+use Rattle.cache_model.proofs.ToldFlush.{go_on, moved}
+use Rattle.cache_model.proofs.Alike.{given_alike}
 use Rattle.script_run.specs.Run.{Stream}
 use Rattle.script_run.specs.Own.{IsOwnReader}
-use Rattle.script_run.proofs.Saying.{IsCopied, IsRow, Kind, Stands, moved, rows_carried}
-use Rattle.script_run.proofs.Carried.{AreAlike, Carries, all_part, puts_stay, readers_carried, same_carries}
+use Rattle.script_run.proofs.Saying.{IsCopied, IsRow, Kind, Stands, rows_carried}
+use Rattle.script_run.proofs.Carried.{AreAlike, Carries, puts_stay, readers_carried, same_carries}
 use Rattle.script_run.proofs.Held.{IsHeld, IsPendingWhole, held_alike}
 
 -- ---- what no record of a flush changes
@@ -159,10 +161,6 @@ loses_alike s t l = record {
 
 -- ---- what is copied
 
-pub go_on : {X Y Z : Type 0} → X ⊎ Y → (X → Z ⊎ Y) → Z ⊎ Y
-go_on (inl x) f = f x
-go_on (inr y) f = inr y
-
 -- it belongs to what its writer took, and was given
 record IsSaved (kind : Kind) (p : Permit) (s : State) (streams : ℕ → Stream) (c : Copy) : Type 0 where
   own : IsRow kind s streams c.row
@@ -176,8 +174,7 @@ are_saved kind p s t streams left (row ∷ rows) [] same own live h = tt
 are_saved kind p s t streams left (row ∷ rows) (NoRoom ∷ outcomes) same own live h =
     are_saved kind p s (after_all t (records_of row NoRoom)) streams left rows outcomes same own.1 live.1 h.1
 are_saved kind p s t streams left (row ∷ rows) (Copied bytes ∷ outcomes) same own live h = (
-  (let g : IsGiven p t row bytes = h.0.1 in
-      record { own = own.0; copied = record { live = live.0; given = record { written = omega (arith, same, g.written); given = g.given; whole = g.whole }; digest = h.0.2 } }),
+  record { own = own.0; copied = record { live = live.0; given = given_alike p t s row bytes (sym same) h.0.1; digest = h.0.2 } },
   are_saved kind p s t streams (left - row.blocks) rows outcomes same own.1 live.1 h.1,
 )
 are_saved kind p s t streams left (row ∷ rows) (Spoiled found ∷ outcomes) same own live h =
@@ -192,7 +189,7 @@ rows_moved : (kind : Kind) (s u : State) (streams : ℕ → Stream) (c : Copy) �
     → AllByRecursion (IsRow kind s streams) (state_after u (moved_record u c)).rows
 rows_moved kind s u streams c ready own each =
     let digest : Digest = document_digest (moved_to (place_now u) c.bytes) in
-    let before : AllByRecursion (IsRow kind s streams) (without c.row.id u.rows) = all_part (IsRow kind s streams) (part-filter _ u.rows) each in
+    let before : AllByRecursion (IsRow kind s streams) (without c.row.id u.rows) = each_part (IsRow kind s streams) (part-filter _ u.rows) each in
     subst (λ (t : State). AllByRecursion (IsRow kind s streams) t.rows) (sym (copied_is u c.row c.row.place digest ready.0))
     (each_push (IsRow kind s streams) (without c.row.id u.rows) (moved (place_now u) c) before own)
 
@@ -214,9 +211,9 @@ flush_rows kind p s streams now left outcomes h own o =
     let u : State = opened_buffer s (front_of rows outcomes) in
     let apart : AreApart rows = apart-part (due_part s now) h.apart in
     let saved : AllByRecursion (IsSaved kind p s streams) copies =
-    are_saved kind p s s streams left rows outcomes refl (all_part (IsRow kind s streams) (due_part s now) own.rows) (due_are_live s now h) o in
+    are_saved kind p s s streams left rows outcomes refl (each_part (IsRow kind s streams) (due_part s now) own.rows) (due_are_live s now h) o in
     let ready : AreReady u.rows (rows_of copies) = copies_ready s rows outcomes apart (part_ready s rows h (due_part s now)) in
-    let each : AllByRecursion (IsRow kind s streams) u.rows = all_part (IsRow kind s streams) (opened_loses s rows outcomes).rows own.rows in
+    let each : AllByRecursion (IsRow kind s streams) u.rows = each_part (IsRow kind s streams) (opened_loses s rows outcomes).rows own.rows in
     flush_is s rows outcomes (λ (t : State). AllByRecursion (IsRow kind s streams) t.rows ⊎ kind.shows p s streams)
     (all_moved kind p s u streams copies (apart-part (copies_part rows outcomes) apart) ready saved each)
 

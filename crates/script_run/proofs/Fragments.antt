@@ -13,11 +13,12 @@ use Rattle.cache_model.specs.Permit.{Permit}
 use Rattle.cache_model.specs.Given.{IsGiven}
 use Rattle.cache_model.specs.Outcomes.{Copy}
 use Rattle.cache_model.proofs.Found.{number_of}
+use Rattle.cache_model.proofs.ToldFlush.{moved}
 use Rattle.script_run.specs.Run.{Stream}
 use Rattle.script_run.specs.Own.{AreKept, AreOwn, IsOtherFragment, IsOwnFragment, fragment_doc, fragment_document, piece_of}
 use Rattle.script_run.proofs.Carried.{fragment_carried}
 use Rattle.script_run.proofs.Cuts.{length-piece}
-use Rattle.script_run.proofs.Saying.{AllTellAlike, IsCopied, Kind, SameBytes, Stands, TellAlike, alternates_of_rows, moved}
+use Rattle.script_run.proofs.Saying.{AllTellAlike, IsCopied, Kind, SameBytes, Stands, TellAlike, alternates_of_rows}
 
 abbrev IsOwn : State → (ℕ → Stream) → Row → Type 0
 IsOwn s streams row = 0 < row.id.index → IsOwnFragment s streams row
@@ -34,7 +35,7 @@ fragment_told s a b row told is some =
 -- ---- copies
 
 -- what a copy shows: two documents of one SHA-256, of which the device gave one
-pub record IsOtherCopy (p : Permit) (s : State) (streams : ℕ → Stream) : Type 0 where
+pub record ShowsFragment (p : Permit) (s : State) (streams : ℕ → Stream) : Type 0 where
   pub other : IsOtherFragment p s streams
   pub given : IsGiven p s other.row other.bytes
 
@@ -44,7 +45,7 @@ short_piece g body index = omega (arith, length-piece g.fragment body index, g.a
 
 -- a copy of a fragment is the document of the same part at its place
 moved_fragment : (p : Permit) (s : State) (streams : ℕ → Stream) (place : ℕ) (c : Copy) → 0 < c.row.id.index → IsOwnFragment s streams c.row → IsCopied p s c
-    → IsOwnFragment s streams (moved place c) ⊎ IsOtherCopy p s streams
+    → IsOwnFragment s streams (moved place c) ⊎ ShowsFragment p s streams
 moved_fragment p s streams place c some f copied =
     let payload : List ℕ = piece_of s.geometry.fragment (streams c.row.id.put).bytes c.row.id.index in
     elim (moved_is_same_lem place c.bytes (fragment_doc s c.row) payload (short_piece s.geometry (streams c.row.id.put).bytes c.row.id.index) (sym copied.digest ∙ f.digest)) [
@@ -55,7 +56,7 @@ moved_fragment p s streams place c some f copied =
       })
     ]
 
-pub fragment_copied : (p : Permit) (s : State) (streams : ℕ → Stream) (place : ℕ) (c : Copy) → IsCopied p s c → IsOwn s streams c.row → IsOwn s streams (moved place c) ⊎ IsOtherCopy p s streams
+pub fragment_copied : (p : Permit) (s : State) (streams : ℕ → Stream) (place : ℕ) (c : Copy) → IsCopied p s c → IsOwn s streams c.row → IsOwn s streams (moved place c) ⊎ ShowsFragment p s streams
 fragment_copied p s streams place c copied is = elim (cases_lt 0 c.row.id.index) [
   | inl some ↦ elim (moved_fragment p s streams place c some (is some) copied) [
     | inl f ↦ inl (λ x. f)
@@ -64,7 +65,7 @@ fragment_copied p s streams place c copied is = elim (cases_lt 0 c.row.id.index)
   | inr none ↦ inl (λ some. absurd (omega (arith, some, none)))
 ]
 
-pub copy_as : (p : Permit) (s : State) (a b : ℕ → Stream) → SameBytes a b → IsOtherCopy p s a → IsOtherCopy p s b
+pub copy_as : (p : Permit) (s : State) (a b : ℕ → Stream) → SameBytes a b → ShowsFragment p s a → ShowsFragment p s b
 copy_as p s a b same o = record {
   other = record {
     row = o.other.row;
@@ -83,7 +84,7 @@ copy_as p s a b same o = record {
 abbrev pub own_kind : Kind
 own_kind = record {
   says = IsOwn;
-  shows = IsOtherCopy;
+  shows = ShowsFragment;
   own = λ s streams row is. is;
   carried = λ s t c streams row is some. fragment_carried s t c streams row (is some);
   told = fragment_told;

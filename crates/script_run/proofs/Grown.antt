@@ -23,12 +23,13 @@ use Rattle.cache_model.specs.Due.{due_pieces}
 use Rattle.cache_model.specs.Tape.{IsSound}
 use Rattle.cache_model.proofs.Onward.{later_advanced}
 use Rattle.cache_model.proofs.Sound.{IsLater}
-use Rattle.cache_model.proofs.Steps.{after_all-append}
+use Rattle.cache_model.proofs.Steps.{after_all-append, all_append}
+use Rattle.cache_model.proofs.ToldFlush.{go_on}
 use Rattle.script_run.specs.Run.{Stream}
 use Rattle.script_run.specs.Own.{rows_from}
 use Rattle.script_run.proofs.Saying.{Kind}
-use Rattle.script_run.proofs.Carried.{all_append, same_carries}
-use Rattle.script_run.proofs.Flushing.{go_on, held_flushed, held_stopped}
+use Rattle.script_run.proofs.Carried.{same_carries}
+use Rattle.script_run.proofs.Flushing.{held_flushed, held_stopped}
 use Rattle.script_run.proofs.Held.{IsHeld, IsPlain, held_aborted, held_plain}
 use Rattle.script_run.proofs.Opened.{held_opened, held_read_opened, verdict_own}
 use Rattle.script_run.proofs.Placed.{IsPiece, held_committed, held_fragment, held_vector}
@@ -54,17 +55,7 @@ AllFit fragment streams (i ∷ is) = IsSmall fragment i → Fits fragment stream
 cleanup_fits : (fragment : ℕ) (streams : ℕ → Stream) (i : Intent) → is_cleanup i ≡ true → Fits fragment streams i
 cleanup_fits fragment streams (Fragment put index payload) e = absurd cc
 cleanup_fits fragment streams (Finish put fragments) e = absurd cc
-cleanup_fits fragment streams Flush e = tt
-cleanup_fits fragment streams (Write actor key request response pin) e = tt
-cleanup_fits fragment streams (Overflow put) e = tt
-cleanup_fits fragment streams (Weigh put rest) e = tt
-cleanup_fits fragment streams (Commit put) e = tt
-cleanup_fits fragment streams (GiveUp put) e = tt
-cleanup_fits fragment streams (Remove key) e = tt
-cleanup_fits fragment streams (Look actor key request) e = tt
-cleanup_fits fragment streams (ReadOn reader) e = tt
-cleanup_fits fragment streams (ReadAll reader) e = tt
-cleanup_fits fragment streams (StopReading reader) e = tt
+cleanup_fits fragment streams _ e = tt
 
 cleanups_by : (fragment : ℕ) (streams : ℕ → Stream) (i : Intent) (is : List Intent) (b : Bool) → is_cleanup i ≡ b → AllFit fragment streams is → AllFit fragment streams (cond b (i ∷ is) is)
 cleanups_by fragment streams i is true e fits = λ small. (cleanup_fits fragment streams i e, fits)
@@ -203,18 +194,7 @@ module _ (kind : Kind) (g : Geometry) (streams : ℕ → Stream) where
   is_small : (p : Permit) (s : State) (i : Intent) (added : List Rec) (e : End) → s.geometry ≡ g → Does p s i added e → IsSmall g.fragment i
   is_small p s (Fragment put index payload) added e same does =
       subst (λ (x : Geometry). length payload ≤ x.fragment) same (small_fragment p s put index payload added e does)
-  is_small p s Flush added e same does = tt
-  is_small p s (Write actor key request response pin) added e same does = tt
-  is_small p s (Overflow put) added e same does = tt
-  is_small p s (Weigh put rest) added e same does = tt
-  is_small p s (Finish put fragments) added e same does = tt
-  is_small p s (Commit put) added e same does = tt
-  is_small p s (GiveUp put) added e same does = tt
-  is_small p s (Remove key) added e same does = tt
-  is_small p s (Look actor key request) added e same does = tt
-  is_small p s (ReadOn reader) added e same does = tt
-  is_small p s (ReadAll reader) added e same does = tt
-  is_small p s (StopReading reader) added e same does = tt
+  is_small p s _ added e same does = tt
 
   left_fit : (i : Intent) (is : List Intent) (why : Option Reason) (e : End) → AllFit g.fragment streams (i ∷ is) → AllFit g.fragment streams is → AllFit g.fragment streams (work_after i is why e).intents
   left_fit i is why Stays all rest = all

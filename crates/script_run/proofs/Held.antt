@@ -84,19 +84,10 @@ alike_with : (s t : State) → t.geometry ≡ s.geometry → t.next_put ≡ s.ne
 alike_with s t g n p q r d m = record { geometry = g; next_put = n; puts = p; pending = q; rows = r; readers = d; next_reader = m }
 
 pub held_plain : (kind : Kind) (g : Geometry) (streams : ℕ → Stream) (s : State) (r : Rec) → IsPlain r → IsHeld kind g streams s → IsHeld kind g streams (state_after s r)
-held_plain kind g streams s (rec.Formatted geometry) p h = absurd p
 held_plain kind g streams s (rec.Began cursor floor) p h = held_alike kind g streams s _ (alike_with s _ refl refl refl refl (part_all s.rows) refl refl) h.displaced h
-held_plain kind g streams s (rec.Placed piece place blocks digest pin) p h = absurd p
-held_plain kind g streams s (rec.Moved piece from place digest) p h = absurd p
 held_plain kind g streams s (rec.Unsaved piece place fault) p h = held_alike kind g streams s _ (alike_with s _ refl refl refl refl (part_all s.rows) refl refl) h.displaced h
-held_plain kind g streams s (rec.Displaced piece segment live) p h = absurd p
 held_plain kind g streams s (rec.Damaged piece place kept found) p h = held_alike kind g streams s _ (alike_with s _ refl refl refl refl (part-filter _ s.rows) refl refl) h.displaced h
-held_plain kind g streams s (rec.WriteOpened actor put key request response pin) p h = absurd p
-held_plain kind g streams s (rec.Cut put index length digest) p h = absurd p
-held_plain kind g streams s (rec.Committed put key length) p h = absurd p
-held_plain kind g streams s (rec.Aborted put key) p h = absurd p
 held_plain kind g streams s (rec.Removed put key) p h = held_alike kind g streams s _ (alike_with s _ refl refl refl refl (part-filter _ s.rows) refl refl) h.displaced h
-held_plain kind g streams s (rec.ReadOpened reader actor key request answer) p h = absurd p
 held_plain kind g streams s (rec.Gave reader index length) p h =
     let t : State = state_after s (rec.Gave reader index length) in
     held_readers kind g streams s (change_reader reader (index + 1) s.readers) s.next_reader (omega arith)
@@ -109,6 +100,7 @@ held_plain kind g streams s (rec.ReadClosed reader) p h =
     held_readers kind g streams s (without_reader reader s.readers) s.next_reader (omega arith)
     (all_filter (IsOwnReader t) _ s.readers (readers_carried s t (same_carries s t refl refl refl) (omega arith) s.readers h.stands.readers)) h
 held_plain kind g streams s (rec.Fault count) p h = held_alike kind g streams s _ (alike_with s _ refl refl refl refl (part_all s.rows) refl refl) h.displaced h
+held_plain kind g streams s _ p h = absurd p
 
 -- ---- a put changes
 

@@ -12,8 +12,10 @@ use Rattle.cache_model.specs.Permit.{IsAmong}
 use Rattle.cache_model.specs.Room.{displaced_record}
 use Rattle.cache_model.proofs.Lists.{found_row, own_piece}
 use Rattle.cache_model.proofs.Rows.{part_all, part-filter, part-trans}
+use Rattle.cache_model.proofs.Steps.{all_append, all_as}
+use Rattle.cache_model.proofs.Told.{each_part}
 use Rattle.script_run.specs.Own.{AreAlternates, AreListedOf, IsListedOf, IsTableOf}
-use Rattle.script_run.proofs.Carried.{AreAlike, alike_carries, all_append, all_as, all_filter, all_part, listed_carried}
+use Rattle.script_run.proofs.Carried.{AreAlike, alike_carries, all_filter, listed_carried}
 
 -- ---- what a key's vector lists
 
@@ -92,7 +94,7 @@ displaced_listed s segment live [] each gone = record {
 displaced_listed s segment live (row ∷ rows) each gone =
     let t : State = state_after s (displaced_record segment live row) in
     let a : AreAlike s t = record { geometry = refl; next_put = refl; puts = refl; pending = refl; rows = part-filter _ s.rows; readers = refl; next_reader = refl } in
-    let left : AllByRecursion (AreAlternates t) t.rows = alternates_alike s t a t.rows (all_part (AreAlternates s) a.rows each) in
+    let left : AllByRecursion (AreAlternates t) t.rows = alternates_alike s t a t.rows (each_part (AreAlternates s) a.rows each) in
     let moved : AllByRecursion (AreAlternates s) t.displaced = all_append (AreAlternates s) s.displaced _ gone (taken_out s row.id s.rows (row_in s.rows row.id) refl each) in
     let rest : AreDisplaced t (after_all t (map (displaced_record segment live) rows)) = displaced_listed t segment live rows left (alternates_alike s t a t.displaced moved) in
     record { alike = alike_trans s t (after_all t (map (displaced_record segment live) rows)) a rest.alike; listed = rest.listed }

@@ -18,7 +18,7 @@ use Rattle.cache_model.specs.declared.record.Rec.{Rec}
 use Rattle.cache_model.specs.declared.record.Rec.TheVariants as rec
 use Rattle.cache_model.specs.State.{State, Row, ReaderRow, after_all, state_after, table_of_hit}
 use Rattle.cache_model.specs.Verdict.{lookup_verdict}
-use Rattle.cache_model.specs.Permit.{Permit, Intent, Flush, Write, Fragment, Overflow, Weigh, Finish, Commit, GiveUp, Remove, Look, ReadOn, ReadAll, StopReading, End}
+use Rattle.cache_model.specs.Permit.{Permit, Intent, Look, ReadOn, ReadAll, StopReading, End}
 use Rattle.cache_model.specs.Given
 use Rattle.cache_model.specs.Legal
 use Rattle.cache_model.specs.Legal.{Does, answer_record}
@@ -175,15 +175,7 @@ reads_leave kind p s streams (ReadAll reader) added e reads own (Legal.DoesReadA
 reads_leave kind p s streams (ReadAll reader) added e reads own (Legal.DoesReadAll.has_none quiet none is d) = none_leaves kind s streams added is own
 reads_leave kind p s streams (StopReading reader) added e reads own (Legal.DoesStopReading.closes r quiet found is) = one_leaves kind s streams added _ is (closed_leaves kind s streams reader own)
 reads_leave kind p s streams (StopReading reader) added e reads own (Legal.DoesStopReading.closed quiet none is) = none_leaves kind s streams added is own
-reads_leave kind p s streams Flush added e reads own d = no_truth (sym reads)
-reads_leave kind p s streams (Write actor key request response pin) added e reads own d = no_truth (sym reads)
-reads_leave kind p s streams (Fragment put index payload) added e reads own d = no_truth (sym reads)
-reads_leave kind p s streams (Overflow put) added e reads own d = no_truth (sym reads)
-reads_leave kind p s streams (Weigh put rest) added e reads own d = no_truth (sym reads)
-reads_leave kind p s streams (Finish put fragments) added e reads own d = no_truth (sym reads)
-reads_leave kind p s streams (Commit put) added e reads own d = no_truth (sym reads)
-reads_leave kind p s streams (GiveUp put) added e reads own d = no_truth (sym reads)
-reads_leave kind p s streams (Remove key) added e reads own d = no_truth (sym reads)
+reads_leave kind p s streams _ added e reads own d = no_truth (sym reads)
 
 pub reads_own : (p : Permit) (s : State) (streams : ℕ → Stream) (i : Intent) (added : List Rec) (e : End) → is_reading i ≡ true → AreOwn s streams → Does p s i added e → AreOwn (after_all s added) streams
 reads_own p s streams i added e reads own does = own_stands (after_all s added) streams (reads_leave own_kind p s streams i added e reads (stands_own s streams own) does)

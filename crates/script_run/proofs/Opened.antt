@@ -16,12 +16,13 @@ use Rattle.cache_model.specs.Verdict.{followed, hit, hit_answer, follow_answer, 
 use Rattle.cache_model.specs.Legal.{IsQuiet}
 use Rattle.cache_model.proofs.Found.{number_of}
 use Rattle.cache_model.proofs.Answered.{hit_matches}
+use Rattle.cache_model.proofs.Steps.{all_append}
 use Rattle.script_run.specs.Run.{Stream}
 use Rattle.script_run.specs.Own.{AreOwnPuts, IsListedOf, IsOwnPut, IsOwnReader, IsTableOf}
 use Rattle.script_run.proofs.Saying.{alternates_of_rows, Kind, Stands, rows_carried}
 use Rattle.script_run.proofs.Cuts.{no_cuts}
 use Rattle.script_run.proofs.Finding.{found_by}
-use Rattle.script_run.proofs.Carried.{Carries, all_append, put_stays, readers_carried, same_carries, table_carried}
+use Rattle.script_run.proofs.Carried.{Carries, put_stays, readers_carried, same_carries, table_carried}
 use Rattle.script_run.proofs.Held.{IsHeld, held_readers, quiet_whole}
 use Rattle.script_run.proofs.Listed.{is_among, listed_among, listed_table}
 use Rattle.script_run.proofs.Values.{other_than}

@@ -1,6 +1,6 @@
 -- A fragment or a vector that is placed, and a put that is complete.
 use Rattle.std.proofs.Common.{◌≡◌, ℕ, ◌+◌, ◌-◌, ◌*◌, ◌≤◌, List, [], ◌∷◌, ◌++◌, length, refl, sym, ◌∙◌, ap, subst, arith, inl, inr, ◌⊎◌, false, length-append}
-use Rattle.std.specs.Prelude.{Option, Some, None, if◌then◌else◌, find, option_map, unwrap_or, ◌==◌}
+use Rattle.std.specs.Prelude.{Option, Some, None, if◌then◌else◌, find, unwrap_or, ◌==◌}
 use Rattle.std.specs.List.{AllByRecursion}
 use Rattle.std.proofs.lemmas.Bool.{ne_eqb}
 use Rattle.std.proofs.lemmas.List.Sums.{sum_by_push}
@@ -16,20 +16,22 @@ use Rattle.doc_header.specs.Document.{digest_of_document}
 use Rattle.fragment_table.specs.Table.{TableRow, made_row, total_length}
 use Rattle.cache_model.specs.declared.record.Rec.{Rec}
 use Rattle.cache_model.specs.declared.record.Rec.TheVariants as rec
-use Rattle.cache_model.specs.State.{State, PutRow, Closed, Open, after_all, alternate_of, change_put, list_among, list_of_put, merged_list, place_now, placed_row, put_of, state_after, vector_piece, with_cut, with_writing, without}
+use Rattle.cache_model.specs.State.{State, PutRow, Closed, Open, after_all, alternate_of, change_put, list_among, list_of_put, place_now, placed_row, put_of, state_after, vector_piece, with_cut, with_writing, without}
 use Rattle.cache_model.specs.Permit.{Permit}
 use Rattle.cache_model.specs.Room.{MayDisplace, doc_at, greatest_pin}
 use Rattle.cache_model.specs.Legal
 use Rattle.cache_model.specs.Legal.{IsQuiet, next_fragment_of}
-use Rattle.cache_model.proofs.Steps.{after_all-append}
+use Rattle.cache_model.proofs.Steps.{after_all-append, all_append, all_as}
 use Rattle.cache_model.proofs.Found.{none_is, number_of, same_some}
 use Rattle.cache_model.proofs.Rows.{part-filter}
 use Rattle.cache_model.proofs.Sound.{leaves_one}
+use Rattle.cache_model.proofs.Told.{each_part}
+use Rattle.cache_model.proofs.Merged.{list_found}
 use Rattle.script_run.specs.Run.{Stream}
 use Rattle.script_run.specs.Own.{AreAlternates, AreListedOf, IsListedOf, IsOwnPut, piece_of, rows_from}
 use Rattle.script_run.proofs.Saying.{alternates_of_rows, IsRow, Kind, Stands, stands_alike, rows_carried}
 use Rattle.script_run.proofs.Cuts.{cuts_more}
-use Rattle.script_run.proofs.Carried.{Carries, all_append, alternate_carried, all_as, all_part, put_stays, puts_stay, readers_carried, same_carries}
+use Rattle.script_run.proofs.Carried.{Carries, alternate_carried, put_stays, puts_stay, readers_carried, same_carries}
 use Rattle.script_run.proofs.Changed.{Changes, Was, changed, changed_from, changed_to, either, found_as, itself}
 use Rattle.script_run.proofs.Held.{IsHeld, change_stands, quiet_whole}
 use Rattle.script_run.proofs.Listed.{AreDisplaced, all_merged, displaced_listed, listed_among}
@@ -44,7 +46,7 @@ stands_placed : (kind : Kind) (t : State) (streams : ℕ → Stream) (piece : Pi
     → (let u : State = state_after t (rec.Placed piece place blocks digest pin) in Carries t u → IsRow kind u streams (placed_row t piece place blocks digest pin) → Stands kind t streams → Stands kind u streams)
 stands_placed kind t streams piece place blocks digest pin c row own =
     let u : State = state_after t (rec.Placed piece place blocks digest pin) in
-    let before : AllByRecursion (IsRow kind t streams) (without piece t.rows) = all_part (IsRow kind t streams) (part-filter _ t.rows) own.rows in
+    let before : AllByRecursion (IsRow kind t streams) (without piece t.rows) = each_part (IsRow kind t streams) (part-filter _ t.rows) own.rows in
     record {
       puts = puts_stay t u streams refl refl refl own.puts;
       rows = each_push (IsRow kind u streams) (without piece t.rows) (placed_row t piece place blocks digest pin) (rows_carried kind t u c streams (without piece t.rows) before) row;
@@ -206,7 +208,7 @@ held_vector kind g streams p s put fragments added whole m h =
     let before : AllByRecursion (IsListedOf u w.key) (list_among t (t.displaced ++ t.rows) w.key) =
     all_as (IsListedOf t w.key) (IsListedOf u w.key) (alternate_carried t u c w.key) (list_among t (t.displaced ++ t.rows) w.key) (listed_among t (t.displaced ++ t.rows) w.key rows) in
     let listed : AllByRecursion (IsListedOf u w.key) (list_of_put t put) =
-    subst (AllByRecursion (IsListedOf u w.key)) (sym (ap (λ (o : Option PutRow). unwrap_or (option_map (merged_list t) o) []) found)) (all_merged (IsListedOf u w.key) _ _ (list_among t (t.displaced ++ t.rows) w.key) (alternate_of w) before own_new) in
+    subst (AllByRecursion (IsListedOf u w.key)) (sym (list_found t put w found)) (all_merged (IsListedOf u w.key) _ _ (list_among t (t.displaced ++ t.rows) w.key) (alternate_of w) before own_new) in
     let row : IsRow kind u streams (placed_row t id (place_now s) blocks digest pin) =
     (kind.own u streams (placed_row t id (place_now s) blocks digest pin) (λ some. absurd (omega (arith, some))), listed) in
     let cut : total_length w.cuts ≡ length (streams w.put).bytes =
@@ -268,7 +270,7 @@ held_committed kind g streams s put size w found waits h =
     let changes : Changes s t put (with_writing Closed) = record { puts = refl; keeps = λ p. refl } in
     let c : Carries s t = committed_carries s t put w found waits changes refl in
     let new : IsOwnPut t streams (with_writing Closed w) = committed_put kind g streams s t put w found waits refl refl h in
-    let left : AllByRecursion (IsRow kind s streams) t.rows = all_part (IsRow kind s streams) (leaves_one s r tt).rows h.stands.rows in
+    let left : AllByRecursion (IsRow kind s streams) t.rows = each_part (IsRow kind s streams) (leaves_one s r tt).rows h.stands.rows in
     record {
       geometry = h.geometry;
       stands = record {

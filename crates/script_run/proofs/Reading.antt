@@ -1,6 +1,6 @@
 -- What is read of a session's pieces is what was put.
-use Rattle.std.proofs.Common.{◌≡◌, ℕ, ◌-◌, ◌*◌, ◌<◌, ◌≤◌, List, [], length, take, refl, sym, ◌∙◌, ap, subst, arith, inl, inr, ◌⊎◌}
-use Rattle.std.specs.Prelude.{min, Option, Some, None, option_map, slice_get, unwrap_or}
+use Rattle.std.proofs.Common.{◌≡◌, ℕ, ◌-◌, ◌*◌, ◌<◌, ◌≤◌, List, length, take, refl, sym, ◌∙◌, ap, subst, arith, inl, inr, ◌⊎◌}
+use Rattle.std.specs.Prelude.{min, Option, Some, None, slice_get, unwrap_or}
 use Rattle.std.proofs.Math.Nat.{mul-le-mul_left, mul_comm}
 use Rattle.std.proofs.lemmas.List.{take_all}
 use Rattle.std.proofs.lemmas.Option.{cond_some, option_and_then_some, slice_get_cases}
@@ -14,7 +14,7 @@ use Rattle.cache_model.specs.State.{State, Row, PutRow, ReaderRow, Closed, after
 use Rattle.cache_model.specs.Verdict.{cuts_of, next_piece, next_row}
 use Rattle.cache_model.specs.Permit.{Permit}
 use Rattle.cache_model.specs.Legal.{IsQuiet, format_records}
-use Rattle.cache_model.proofs.Found.{none_is, number_of}
+use Rattle.cache_model.proofs.Found.{cuts_found, none_is, number_of}
 use Rattle.cache_model.proofs.Lists.{found_row, own_piece}
 use Rattle.stripe_core.specs.Find.{IsDocumentOf}
 use Rattle.script_run.specs.Run.{Stream}
@@ -99,7 +99,7 @@ pub kept_is_followed : (s : State) (streams : ℕ → Stream) (r : ReaderRow) (w
     → take ((r.next - 1) * s.geometry.fragment) (streams r.put).bytes ≡ (streams r.put).bytes
 kept_is_followed s streams r w kept quiet some follows found closed none =
     let t : IsTableOf s r.put w.cuts = record { w = w; found = found; cuts = refl; complete = inl closed } in
-    let cut : cuts_of s r.put ≡ w.cuts = ap (λ (o : Option PutRow). unwrap_or (option_map (λ (p : PutRow). p.cuts) o) []) found in
+    let cut : cuts_of s r.put ≡ w.cuts = cuts_found s r.put w found in
     let last : slice_get (cuts_of s r.put) (r.next - 1) ≡ None =
     subst (λ (o : Option (List TableRow)). slice_get (unwrap_or o (cuts_of s r.put)) (r.next - 1) ≡ None) follows none in
     given_whole s streams r.put r.next w.cuts (closed_by s streams r.put w.cuts quiet kept t)

@@ -3,17 +3,19 @@
 use Rattle.std.proofs.Common.{◌≡◌, ℕ, ◌*◌, ◌<◌, ◌≤◌, ◌⊎◌, length, inl, false, subst, sym, arith}
 use Rattle.std.specs.Prelude.{Some, List}
 use Rattle.std.specs.List.{AllByRecursion}
-use Rattle.doc_header.specs.Moving.{moved_to}
 use Rattle.doc_header.specs.Reading.{document_digest}
 use Rattle.fragment_table.specs.Table.{total_length}
-use Rattle.cache_model.specs.State.{State, Row, PutRow, Open, Closed, moved_row, put_of}
+use Rattle.cache_model.specs.State.{State, Row, PutRow, Open, Closed, put_of}
 use Rattle.cache_model.specs.Permit.{Permit}
 use Rattle.cache_model.specs.Given.{IsGiven}
 use Rattle.cache_model.specs.Outcomes.{Copy}
 use Rattle.cache_model.proofs.Live.{IsFound}
+use Rattle.cache_model.proofs.Steps.{all_as}
+use Rattle.cache_model.proofs.Told.{each_part}
+use Rattle.cache_model.proofs.ToldFlush.{moved}
 use Rattle.script_run.specs.Run.{Stream}
 use Rattle.script_run.specs.Own.{AreAlternates, AreKept, AreOwnPuts, IsOwnFragment, IsOwnReader}
-use Rattle.script_run.proofs.Carried.{AreAlike, Carries, alike_carries, all_as, all_part, listed_carried, puts_stay, readers_carried}
+use Rattle.script_run.proofs.Carried.{AreAlike, Carries, alike_carries, listed_carried, puts_stay, readers_carried}
 use Rattle.script_run.proofs.Cuts.{HaveCut}
 
 -- ---- what writers took, told otherwise
@@ -39,9 +41,6 @@ pub record IsCopied (p : Permit) (s : State) (c : Copy) : Type 0 where
   pub live : IsFound s c.row
   pub given : IsGiven p s c.row c.bytes
   pub digest : c.row.digest ≡ document_digest c.bytes
-
-abbrev pub moved : ℕ → Copy → Row
-moved place c = moved_row place (document_digest (moved_to place c.bytes)) c.row
 
 -- ---- kinds
 
@@ -77,7 +76,7 @@ stands_alike kind s t streams a own =
     let c : Carries s t = alike_carries s t a in
     record {
       puts = puts_stay s t streams a.geometry a.next_put a.puts own.puts;
-      rows = all_part (IsRow kind t streams) a.rows (rows_carried kind s t c streams s.rows own.rows);
+      rows = each_part (IsRow kind t streams) a.rows (rows_carried kind s t c streams s.rows own.rows);
       readers = subst (AllByRecursion (IsOwnReader t)) (sym a.readers) (readers_carried s t c (omega (arith, a.next_reader)) s.readers own.readers);
     }
 

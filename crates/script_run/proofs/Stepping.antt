@@ -15,7 +15,8 @@ use Rattle.cache_model.specs.Tape.{IsSound}
 use Rattle.cache_model.specs.StepLaws.{EndsWith, WriterIsEnded}
 use Rattle.cache_model.specs.Vectors.{AreTold}
 use Rattle.cache_model.proofs.Steps.{alone}
-use Rattle.cache_model.proofs.Found.{no_truth, number_of, same_some}
+use Rattle.cache_model.proofs.Found.{cuts_found, no_truth, number_of, same_some}
+use Rattle.cache_model.proofs.ToldFlush.{go_on}
 use Rattle.script_lang.specs.declared.step.Step.{Step}
 use Rattle.script_lang.specs.declared.step.Step.TheVariants as step
 use Rattle.script_run.specs.Run.{Run, Holding, Stream, gathered_of, held_by, no_stream, reader_by, with_value, writer_of}
@@ -26,7 +27,6 @@ use Rattle.script_run.specs.Own.{AreKept, AreOwn, AreWriting, IsOwnPut, rows_fro
 use Rattle.script_run.specs.Takes.{ShownIn, offered, streams_offered, streams_with}
 use Rattle.script_run.proofs.Saying.{Kind, Stands, kept_kind, kept_stands, stands_kept}
 use Rattle.script_run.proofs.Fragments.{own_kind, own_stands, stands_own}
-use Rattle.script_run.proofs.Flushing.{go_on}
 use Rattle.script_run.proofs.Held.{IsHeld, quiet_whole}
 use Rattle.script_run.proofs.Grown.{AllFit, IsShownFrom, held_grown, held_write}
 use Rattle.script_run.proofs.Showing.{copy_shown, same_instead, same_with, shown_as}
@@ -117,9 +117,6 @@ opened_leaves kind run s turn actor key request response pin None sound none qui
 opened_leaves kind run s turn actor key request response pin (Some holding) sound none quiet stands step = stepped kind turn.device s run.streams [] turn.added turn.refused sound none quiet stands tt step
 
 -- ---- a writer that is fed
-
-cuts_found : (s : State) (put : ℕ) (w : PutRow) → put_of s put ≡ Some w → cuts_of s put ≡ w.cuts
-cuts_found s put w found = ap (λ (o : Option PutRow). unwrap_or (option_map (λ (p : PutRow). p.cuts) o) []) found
 
 -- what was cut was taken
 taken_covers : (run : Run) (t : State) (body : List ℕ) (why : Option Reason) (put : ℕ) (w : PutRow) → put_of t put ≡ Some w → total_length w.cuts ≤ length ((run.streams put).bytes ++ body)

@@ -6,11 +6,11 @@ use Rattle.std.proofs.Math.Seq.{take-append-add}
 use Rattle.fragment_table.specs.Table.{total_length}
 use Rattle.cache_model.specs.State.{State, PutRow, Open, put_of}
 use Rattle.cache_model.proofs.Found.{no_truth, number_of}
+use Rattle.cache_model.proofs.Steps.{all_as}
 use Rattle.script_run.specs.Run.{Stream, with_value}
 use Rattle.script_run.specs.Own.{AreCuts, IsOwnPut}
 use Rattle.script_run.proofs.Saying.{AllTellAlike, Kind, Stands, TellAlike, IsRow}
 use Rattle.script_run.proofs.Cuts.{HaveCut, cuts_of_other, have_longer, have_same, have_shorter}
-use Rattle.script_run.proofs.Carried.{all_as}
 use Rattle.script_run.proofs.Values.{value_by, value_here}
 
 pub tells_itself : (s : State) (a : ℕ → Stream) (w : PutRow) → IsOwnPut s a w → TellAlike s.geometry.fragment w (a w.put) (a w.put)

@@ -2,7 +2,6 @@
 use Rattle.std.proofs.Common.{◌≡◌, ℕ, ◌<◌, List, [], ◌∷◌, refl, sym, ◌∙◌, ap, subst, arith, Bool, true, false, cond, inl, inr, suc, zero, length, slice_index_or, ◌⊎◌}
 use Rattle.std.specs.Prelude.{map, ◌&&◌, ◌==◌, Option, Some, None, option_and_then, option_map, if◌then◌else◌, Contains}
 use Rattle.std.specs.List.{filter}
-use Rattle.std.specs.Map.{lookup}
 use Rattle.std.proofs.lemmas.Bool.{eq-eqb, eqb-true}
 use Rattle.tape_base.specs.declared.geometries.Geometry.{Geometry}
 use Rattle.tape_base.specs.declared.pieces.PieceId.{PieceId}
@@ -15,13 +14,13 @@ use Rattle.dir_table.specs.Window.{is_in_range}
 use Rattle.dir_table.specs.Candidates.{candidates_of, places_at}
 use Rattle.cyclone.specs.Cyclone.{Seen}
 use Rattle.cache_model.specs.State.{State, Row, is_live, live_row_of, only_live, row_in}
-use Rattle.cache_model.specs.Verdict.{piece_at, if_at, if_still_at}
+use Rattle.cache_model.specs.Verdict.{if_at, if_still_at}
+use Rattle.cache_model.proofs.Lists.{own_piece}
 use Rattle.stripe_core.specs.Held.{IsHeld, entry_of, rows_in_range, same_entry, times}
 use Rattle.stripe_core.specs.Pieces.{live_place_of}
 use Rattle.stripe_core.specs.This.{is_this}
-use Rattle.tape_base.proofs.NameLaws.{same_piece-same, same_piece-true}
+use Rattle.tape_base.proofs.NameLaws.{same_piece-same}
 use Rattle.stripe_core.proofs.Entries.{one_more, same_entry-true}
-use Rattle.stripe_core.proofs.Going.{own}
 
 -- an entry is the same as itself
 same_entry-same : (a : DirRow) → same_entry a a ≡ true
@@ -105,7 +104,7 @@ live_is_candidate s c id row held live =
     let some : 0 < times e (rows_in_range c) = subst (λ n. 0 < n) (sym (held.entered e)) (counts s s.geometry id row s.rows found.1 found.0) in
     let geometry : c.window.geometry ≡ s.geometry = held.turning.geometry ∙ held.geometry in
     let spot : spot_of_key c.window.geometry (key_of_piece id) ≡ spot_of_key s.geometry (key_of_piece row.id) =
-    ap (λ g. spot_of_key g (key_of_piece id)) geometry ∙ ap (λ i. spot_of_key s.geometry (key_of_piece i)) (sym (own id s.rows row found.0)) in
+    ap (λ g. spot_of_key g (key_of_piece id)) geometry ∙ ap (λ i. spot_of_key s.geometry (key_of_piece i)) (sym (own_piece id s.rows row found.0)) in
     subst (λ sp. Contains (places_at c.window sp c.rows) row.place) (sym spot)
     (counted_is_candidate c.window (spot_of_key s.geometry (key_of_piece row.id)) e (same_spot-same (spot_of_key s.geometry (key_of_piece row.id))) c.rows some)
 
@@ -125,15 +124,7 @@ at_known s place id (Some other) h =
     let p : (other ≡ id) × (option_map (λ (r : Row). r.place) (live_row_of s other) ≡ Some place) = at_row place id other (live_row_of s other) h in
     subst (λ i. live_place_of s i ≡ Some place) p.0 p.1
 
--- a piece that is known at a place is live there
-pub known_is_live : (s : State) (place : ℕ) (id : PieceId) → piece_at s place ≡ Some id → live_place_of s id ≡ Some place
-known_is_live s place id h = at_known s place id (lookup (λ p. p == place) s.places) h
-
 -- ---- a walk
-
-pub this_is : (o : Option PieceId) (id : PieceId) → is_this o id ≡ true → o ≡ Some id
-this_is (Some other) id h = ap Some (same_piece-true other id h)
-this_is None id h = cc
 
 pub not_this : (o : Option PieceId) (id : PieceId) → is_this o id ≡ false → o ≡ Some id → ⊥
 not_this o id h e = let f : true ≡ false = sym (same_piece-same id) ∙ (ap (λ x. is_this x id) (sym e) ∙ h) in cc
@@ -145,9 +136,6 @@ in_rest x y ys (suc k) h e = inr (k, omega (arith, h), e)
 -- what a list has beyond its first element is in the rest
 pub beyond_first : (x y : ℕ) (ys : List ℕ) → Contains (y ∷ ys) x → (x ≡ y → ⊥) → Contains ys x
 beyond_first x y ys h n = elim (in_rest x y ys h.0 h.1 h.2) [ inl e ↦ absurd (n e) | inr r ↦ r ]
-
-pub nothing_in : (x : ℕ) → Contains [] x → ⊥
-nothing_in x h = let within : h.0 < 0 = h.1 in omega (arith, within)
 
 pub none_live : (s : State) (id : PieceId) (o : Option Row) → ((row : Row) → o ≡ Some row → ⊥) → option_map (λ (r : Row). r.place) o ≡ None
 none_live s id None h = refl

@@ -1,7 +1,6 @@
 -- Writers and readers that come and go leave the pieces held.
-use Rattle.std.proofs.Common.{◌≡◌, ℕ, ◌+◌, ◌-◌, ◌^◌, ◌<◌, ◌≤◌, List, [], ◌∷◌, refl, sym, ◌∙◌, ap, subst, arith, Bool, true, false, Result, Ok, Err, length}
-use Rattle.std.specs.Prelude.{Option, Some, None, IfOk, IsSome, find, option_map, option_and_then, unwrap_or, if◌then◌else◌, ◌==◌, IfSome}
-use Rattle.std.proofs.lemmas.Bool.{eqb-true}
+use Rattle.std.proofs.Common.{◌≡◌, ℕ, ◌+◌, ◌-◌, ◌^◌, ◌<◌, ◌≤◌, List, [], ◌∷◌, refl, sym, ◌∙◌, ap, subst, arith, Result, Ok, Err, length}
+use Rattle.std.specs.Prelude.{Option, Some, None, IfOk, IsSome, option_and_then, IfSome}
 use Rattle.tape_base.specs.declared.actors.Actor.{Actor}
 use Rattle.tape_base.specs.declared.keys.Key.{Key}
 use Rattle.tape_base.specs.declared.pieces.PieceId.{PieceId}
@@ -12,13 +11,15 @@ use Rattle.cache_model.specs.declared.answer.NextAnswer.{NextAnswer}
 use Rattle.cache_model.specs.declared.answer.NextAnswer.TheVariants as next
 use Rattle.cache_model.specs.declared.record.Rec.{Rec}
 use Rattle.cache_model.specs.declared.record.Rec.TheVariants as rec
-use Rattle.cache_model.specs.State.{PutRow, Row, State, live_row_of, put_of, row_in, state_after, vector_piece}
+use Rattle.cache_model.specs.State.{Row, State, live_row_of, row_in, state_after, vector_piece}
 use Rattle.cache_model.specs.Verdict.{cuts_of, live_vector_of, vector_of}
 use Rattle.cache_model.specs.Kept.{Kept, state_of, with_records}
 use Rattle.cache_model.specs.Permit.{Commit, Done, Exhausted, Fails, GiveUp, ManyWriters, Permit, Remove, Write}
 use Rattle.cache_model.specs.Legal.{Does, DoesCommit, DoesGiveUp, DoesRemove, DoesWrite, IsQuiet, answer_record, most_writers, open_writers}
 use Rattle.cache_model.specs.Room.{limit}
 use Rattle.cache_model.proofs.Sound.{LeavesTape, later_leaves}
+use Rattle.cache_model.proofs.Lists.{own_piece}
+use Rattle.cache_model.proofs.Found.{cuts_found, number_of}
 use Rattle.stripe_core.specs.declared.refusal.Refusal.{Refusal}
 use Rattle.stripe_core.specs.declared.refusal.Refusal.TheVariants as refusal
 use Rattle.stripe_core.specs.Acts.{IsCommitting, IsGivingUp, IsRefusedPut, OpensAsAsked, RefusesAsAsked, committed_record, opened_record}
@@ -27,7 +28,7 @@ use Rattle.stripe_core.specs.Held.{IsHeld}
 use Rattle.stripe_core.specs.Stripe.{IsSpared}
 use Rattle.stripe_core.proofs.Candidates.{live_is}
 use Rattle.stripe_core.proofs.Flushes.{state_of-with_records}
-use Rattle.stripe_core.proofs.Going.{alike_is_held, own}
+use Rattle.stripe_core.proofs.Going.{alike_is_held}
 use Rattle.stripe_core.proofs.Sparing.{one_told, spent_calm}
 
 -- ---- records that leave the pieces
@@ -91,21 +92,10 @@ one_record u f room left c some h more = one_told (u - 1) f room left c (subst (
 
 -- ---- what is asked
 
-own_number_by : (put : ℕ) (first w : PutRow) (rest : Option PutRow) (b : Bool) → (first.put == put) ≡ b → (rest ≡ Some w → w.put ≡ put) → (if b then Some first else rest) ≡ Some w → w.put ≡ put
-own_number_by put first w rest true e later h = let same : first ≡ w = cc in ap (λ (p : PutRow). p.put) (sym same) ∙ eqb-true first.put put e
-own_number_by put first w rest false e later h = later h
-
-own_number : (put : ℕ) (puts : List PutRow) (w : PutRow) → find (λ p. p.put == put) puts ≡ Some w → w.put ≡ put
-own_number put [] w h = cc
-own_number put (first ∷ puts) w h = own_number_by put first w (find (λ p. p.put == put) puts) (first.put == put) refl (own_number put puts w) h
-
 pub gives_up : (p : Permit) (s : State) (put : ℕ) (key : Key) → IsGivingUp s put key → Does p s (GiveUp put) (rec.Aborted put key ∷ []) Done
 gives_up p s put key g =
     DoesGiveUp.aborts g.w g.writing
-    (ap (λ n. rec.Aborted n key ∷ []) (sym (own_number put s.puts g.w g.writing.found)) ∙ ap (λ k. rec.Aborted g.w.put k ∷ []) (sym g.key_is))
-
-cuts_found : (s : State) (put : ℕ) (w : PutRow) → put_of s put ≡ Some w → cuts_of s put ≡ w.cuts
-cuts_found s put w h = ap (λ (o : Option PutRow). unwrap_or (option_map (λ (p : PutRow). p.cuts) o) []) h
+    (ap (λ n. rec.Aborted n key ∷ []) (sym (number_of s put g.w g.writing.found)) ∙ ap (λ k. rec.Aborted g.w.put k ∷ []) (sym g.key_is))
 
 pub commits : (p : Permit) (s : State) (put : ℕ) (key : Key) → IsCommitting s put key → Does p s (Commit put) (committed_record s put key ∷ []) Done
 commits p s put key g =
@@ -121,7 +111,7 @@ removes p s key put quiet live is =
     let found = some_row (live_vector_of s key) live in
     let row : Row = found.0 in
     let there : live_row_of s (vector_piece key put) ≡ Some row = ap (option_and_then (live_row_of s)) (sym is) ∙ found.1 in
-    let name : row.id ≡ vector_piece key put = own (vector_piece key put) s.rows row (live_is s (row_in s.rows (vector_piece key put)) row there).0 in
+    let name : row.id ≡ vector_piece key put = own_piece (vector_piece key put) s.rows row (live_is s (row_in s.rows (vector_piece key put)) row there).0 in
     DoesRemove.removes row quiet found.1 (ap (λ (i : PieceId). rec.Removed i.put key ∷ []) (sym name))
 
 pub opens : (p : Permit) (s : State) (who : Actor) (key : Key) (request response : List Field) (pin : ℕ) → IsQuiet s → open_writers s < most_writers → s.next_put + 1 < limit
@@ -154,13 +144,7 @@ pub refused_opens : (s : State) (who : Actor) (key : Key) (request response : Li
     → OpensAsAsked s who key request response pin (Err why)
 refused_opens s who key request response pin refusal.TooManyWriters quiet h = (h, λ p. too_many p s who key request response pin quiet h)
 refused_opens s who key request response pin (refusal.Exhausted number) quiet h = (h.2, λ p. no_number p s who key request response pin quiet h.0 h.1)
-refused_opens s who key request response pin refusal.TooManyFragments quiet h = absurd h
-refused_opens s who key request response pin (refusal.VectorTooLarge bytes) quiet h = absurd h
-refused_opens s who key request response pin (refusal.Lost index why) quiet h = absurd h
-refused_opens s who key request response pin (refusal.DeviceFault count) quiet h = absurd h
-refused_opens s who key request response pin refusal.Sealed quiet h = absurd h
-refused_opens s who key request response pin refusal.NoSuchWriter quiet h = absurd h
-refused_opens s who key request response pin (refusal.Memory e) quiet h = absurd h
+refused_opens s who key request response pin _ quiet h = absurd h
 
 pub refusals_open : (s : State) (why : Option Refusal) → IsQuiet s → IsRefusedPut s why → IfSome why (RefusesAsAsked s)
 refusals_open s (Some why) quiet h = λ who key request response pin. refused_opens s who key request response pin why quiet h

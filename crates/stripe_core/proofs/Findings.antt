@@ -16,20 +16,19 @@ use Rattle.cache_model.specs.declared.cause.Cause.TheVariants as cause
 use Rattle.cache_model.specs.State.{State, Row, floor_now, live_row_of, row_in}
 use Rattle.cache_model.specs.Permit.{DeviceRead, IsAmong, Permit}
 use Rattle.cache_model.specs.Given.{IsGiven, Trouble}
+use Rattle.cache_model.proofs.Lists.{found_row, own_piece}
 use Rattle.stripe_core.specs.declared.refusal.Found.{Found}
 use Rattle.stripe_core.specs.declared.refusal.Found.TheVariants as found
 use Rattle.stripe_core.specs.Held.{IsBufferedWhereNew, IsHeld, IsIntactWhereWritten}
 use Rattle.stripe_core.specs.Damages.{TellNoDamage}
 use Rattle.stripe_core.specs.Find.{Finds, IsFoundAs, IsJudged, IsRecorded, cause_records, find_adds, judged_records}
 use Rattle.stripe_core.proofs.Candidates.{live_is}
-use Rattle.stripe_core.proofs.Going.{own}
-use Rattle.stripe_core.proofs.Lives.{all_found}
 
 -- ---- records
 
 -- the piece that is live is the one that was recorded
 own_name : (s : State) (id : PieceId) (row : Row) → live_row_of s id ≡ Some row → row.id ≡ id
-own_name s id row live = own id s.rows row (live_is s (row_in s.rows id) row live).0
+own_name s id row live = own_piece id s.rows row (live_is s (row_in s.rows id) row live).0
 
 pub judged_adds : (s : State) (id : PieceId) (place blocks : ℕ) (kept : Digest) (bytes : List ℕ) (answer : Found) (into : List ℕ) → IsRecorded s id place blocks kept
     → IsJudged place kept bytes answer into → judged_records id place answer ≡ find_adds s id answer
@@ -49,7 +48,7 @@ module _ (s : State) (c new : Seen) (id : PieceId) (row : Row) (bytes into : Lis
   own_digest : s.cursor ≤ row.place → row.digest ≡ document_digest bytes
   own_digest above =
       let from : c.buffer.cursor ≤ row.place = omega (arith, above, held.cursor) in
-      let here = all_found (IsBufferedWhereNew c.buffer) id s.rows row held.buffered (live_is s (row_in s.rows id) row live).0 in
+      let here = found_row (IsBufferedWhereNew c.buffer) id s.rows row held.buffered (live_is s (row_in s.rows id) row live).0 in
       sym (ap document_digest (read.buffered from) ∙ (here from).digest)
 
   -- what the device gave
@@ -99,7 +98,7 @@ module _ (s : State) (c new : Seen) (id : PieceId) (row : Row) (bytes into : Lis
   right_by (inr below) told =
       let before : IsTold c.device = omega (arith, told, read.keeps.trust) in
       let found = live_is s (row_in s.rows id) row live in
-      let i = all_found (IsIntactWhereWritten s c.device.seen) id s.rows row (held.intact before) found.0 (leb-true (floor_now s) row.place found.1) below in
+      let i = found_row (IsIntactWhereWritten s c.device.seen) id s.rows row (held.intact before) found.0 (leb-true (floor_now s) row.place found.1) below in
       sym (ap document_digest (read.given (omega (arith, below, held.cursor)) told ∙ ap (λ g. span c.device.seen (slot_of g row.place) row.blocks) held.geometry) ∙ i.digest)
 
   no_damage_by : (answer : Found) → ((s.cursor ≤ row.place) ⊎ (row.place < s.cursor)) → IsJudged row.place row.digest bytes answer into → IsTold new.device → TellNoDamage (find_adds s id answer)

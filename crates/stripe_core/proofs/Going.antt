@@ -5,7 +5,6 @@ use Rattle.std.specs.List.{AllByRecursion}
 use Rattle.std.proofs.lemmas.Bool.{leb-true, leb-false, lt-leb}
 use Rattle.tape_base.specs.declared.pieces.PieceId.{PieceId}
 use Rattle.tape_base.specs.Piece.{key_of_piece, same_piece}
-use Rattle.tape_base.proofs.NameLaws.{same_piece-true}
 use Rattle.std.specs.Prelude.{Result, Ok, Err, OnOk, OnErr}
 use Rattle.ats_disk.specs.Device.{State as Device, Grows, Image, IsTold, SameBut, SameSeen}
 use Rattle.tape_base.specs.Place.{slot_of}
@@ -15,6 +14,7 @@ use Rattle.agg_buffer.specs.Buffer.{filled_of}
 use Rattle.cyclone.specs.Cyclone.{Seen, IsTurning, SameButRoom, SameButRows, SameTape, row_of_piece}
 use Rattle.cache_model.specs.State.{State, Row, floor_now, is_live, live_row_of, only_live, place_now, row_in, without}
 use Rattle.cache_model.specs.Tape.{AreApart, AreRising}
+use Rattle.cache_model.proofs.Lists.{own_piece}
 use Rattle.stripe_core.specs.Held.{IsBufferedWhereNew, IsHeld, IsInLap, IsIntactWhereWritten, entry_of, rows_in_range, same_entry, times}
 use Rattle.stripe_core.specs.Records.{IsAlike, IsWithout, SparesPieces}
 use Rattle.stripe_core.proofs.Intact.{each_same_intact, each_stays_intact}
@@ -34,15 +34,6 @@ stood s None row h = cc
 stood s (Some other) row h =
     let r : (other ≡ row) × (floor_now s ≤ other.place) = stood_by s other row (is_live s other) refl h in
     (ap Some r.0, subst (λ (x : Row). floor_now s ≤ x.place) r.0 r.1)
-
-own_by : (id : PieceId) (first row : Row) (other : Option Row) (b : Bool) → same_piece first.id id ≡ b → (other ≡ Some row → row.id ≡ id) → (if b then Some first else other) ≡ Some row → row.id ≡ id
-own_by id first row other true e rest h = let same : first ≡ row = cc in ap (λ (r : Row). r.id) (sym same) ∙ same_piece-true first.id id e
-own_by id first row other false e rest h = rest h
-
--- a row that is found is that of the piece
-pub own : (id : PieceId) (rows : List Row) (row : Row) → row_in rows id ≡ Some row → row.id ≡ id
-own id [] row h = cc
-own id (first ∷ rows) row h = own_by id first row (row_in rows id) (same_piece first.id id) refl (own id rows row) h
 
 below_by : (id : PieceId) (first row : Row) (rows : List Row) (high : ℕ) (b : Bool) → same_piece first.id id ≡ b → first.place < high → (row_in rows id ≡ Some row → row.place < high)
     → (if b then Some first else row_in rows id) ≡ Some row → row.place < high
@@ -82,7 +73,7 @@ module _ (s t : State) (c new : Seen) (id : PieceId) (row : Row) (held : IsHeld 
   found = stood s (row_in s.rows id) row live
 
   entry_is : row_of_piece c id row.place ≡ entry_of s.geometry row
-  entry_is = ap (λ g. row_of_key g (key_of_piece id) row.place) held.geometry ∙ ap (λ i. row_of_key s.geometry (key_of_piece i) row.place) (sym (own id s.rows row found.0))
+  entry_is = ap (λ g. row_of_key g (key_of_piece id) row.place) held.geometry ∙ ap (λ i. row_of_key s.geometry (key_of_piece i) row.place) (sym (own_piece id s.rows row found.0))
 
   entries_are : (x : DirRow) → times x c.rows ≡ one_more (same_entry (entry_of s.geometry row) x) (times x new.rows)
   entries_are x = sym (times-permutation x c.rows (row_of_piece c id row.place ∷ new.rows) took) ∙ ap (λ e. times x (e ∷ new.rows)) entry_is

@@ -1,6 +1,6 @@
 -- A fragment that is placed, by its groups of records.
 use Rattle.std.proofs.Common.{◌≡◌, ℕ, ◌+◌, ◌*◌, ◌<◌, ◌≤◌, List, [], ◌∷◌, ◌++◌, refl, sym, ◌∙◌, ap, subst, arith, Bool, true, false, Result, Ok, Err, length}
-use Rattle.std.specs.Prelude.{if◌then◌else◌, ◌==◌, ◌&&◌, find, MatchBool, Option, None, Some, option_map, unwrap_or}
+use Rattle.std.specs.Prelude.{if◌then◌else◌, ◌==◌, ◌&&◌, find, MatchBool, Option, None, Some, option_map}
 use Rattle.std.proofs.lemmas.Bool.{eqb-true}
 use Rattle.std.proofs.lemmas.List.{append-nil}
 use Rattle.tape_base.specs.declared.geometries.Geometry.{Geometry}
@@ -20,17 +20,18 @@ use Rattle.cache_model.specs.Permit.{End, Exhausted, Fails, Finish, Fragment, In
 use Rattle.cache_model.specs.Room.{greatest_pin, MayDisplace, has_room, is_full_for, limit, placed_record}
 use Rattle.cache_model.specs.Legal.{AreLiveTo, Does, DoesFinish, DoesFragment, vector_length, vector_payload, MakesRoom, MayGrow, next_fragment_of}
 use Rattle.cache_model.proofs.Lists.{row_in-copied, row_in-without}
+use Rattle.cache_model.proofs.Found.{cuts_found}
+use Rattle.cache_model.proofs.Steps.{all_append}
 use Rattle.stripe_core.specs.declared.refusal.Placed.{Placed}
 use Rattle.stripe_core.specs.declared.refusal.Stop.{Stop}
 use Rattle.stripe_core.specs.declared.refusal.Stop.TheVariants as stop
 use Rattle.stripe_core.specs.Covers.{Covers, Spends}
-use Rattle.stripe_core.specs.Damages.{TellNoDamage}
+use Rattle.stripe_core.specs.Damages.{TellNoDamage, tells_damage}
 use Rattle.stripe_core.specs.Flush.{AreOfFlush, IsOfFlush, LiveBefore, StopsWith, stop_end}
 use Rattle.stripe_core.specs.Place.{CutsAsAsked, IsFragmentAs, IsFragmentOf, IsNew, IsStoppedAs, IsVectorOf, PlacesAt, ReachesLimit, RoomIsMade, RoomsAsAsked, StopsBehind, piece_records, place_adds, place_end}
 use Rattle.stripe_core.proofs.Flushes.{state_of-with_records, with_records-append}
 use Rattle.stripe_core.proofs.Looked.{own_covers, own_permit}
 use Rattle.stripe_core.proofs.Naming.{SamePuts, same_puts}
-use Rattle.stripe_core.proofs.Unharmed.{no_damage-append}
 
 -- ---- groups one behind the other
 
@@ -209,7 +210,7 @@ module _ (now : ℕ) (old mid : Kept) (before : ℕ) (device : Device) (id : Pie
             ∙ (with_records-append old r.added (place_adds (state_of mid) id pin start payload result)
             ∙ ap (λ x. with_records old (r.added ++ place_adds x id pin start payload result)) mid_is));
         shape = shape_by after.faults result here there;
-        unharmed = λ told. no_damage-append r.added _ (r.unharmed (subst IsTold still told)) (no_damage_adds t id pin start payload result);
+        unharmed = λ told. all_append (λ r. tells_damage r ≡ false) r.added _ (r.unharmed (subst IsTold still told)) (no_damage_adds t id pin start payload result);
         does = λ p moment covers.
             by_room p result covers.plain (r.does p moment (subst (λ (d : Device). Covers p before d.faults r.reads) still covers)) f small here there (has_room s (length payload)) refl;
       }
@@ -257,7 +258,7 @@ cuts_stop now old new before after id pin start payload why f full stops r =
 -- ---- a vector
 
 vector_cuts : (s : State) (put : ℕ) (w : PutRow) → put_of s put ≡ Some w → length (cuts_of s put) ≡ length w.cuts
-vector_cuts s put w h = ap (λ (o : Option PutRow). length (unwrap_or (option_map (λ (p : PutRow). p.cuts) o) [])) h
+vector_cuts s put w h = ap length (cuts_found s put w h)
 
 vector_is : (s : State) (id : PieceId) (pin start : ℕ) (payload : List ℕ) (v : IsVectorOf s id pin start payload) → is_vector id ≡ true
     → piece_records s id pin start payload

@@ -1,8 +1,8 @@
 -- The walk over what is due: the piece at each index, and whether the budget keeps it.
-use Rattle.std.proofs.Common.{◌≡◌, ℕ, zero, suc, ◌+◌, ◌<◌, ◌≤◌, List, [], ◌∷◌, ◌++◌, refl, sym, ◌∙◌, ap, subst, arith, Bool, false, length, take, map}
+use Rattle.std.proofs.Common.{◌≡◌, ℕ, zero, suc, ◌+◌, ◌<◌, List, [], ◌∷◌, ◌++◌, refl, sym, ◌∙◌, ap, subst, arith, Bool, false, length, take, map}
 use Rattle.std.specs.Prelude.{Option, Some, if◌then◌else◌, nat_le, slice_get, slice_index, slice_index_or}
 use Rattle.std.specs.List.{AllByRecursion}
-use Rattle.std.proofs.lemmas.List.{length-map, take-take, take_all}
+use Rattle.std.proofs.lemmas.List.{length-map, take-take}
 use Rattle.ats_disk.specs.Device.{Keeps, State as Device}
 use Rattle.evacuator.specs.declared.choosing.Candidate.{Candidate}
 use Rattle.evacuator.specs.Choice.{IsChoice, blocks_of_all, kept_blocks}
@@ -31,9 +31,6 @@ next_by s (row ∷ rows) (suc i) all h =
 pub next_row : (s : State) (candidates : List Candidate) (rows : List Row) (i : ℕ) → AreOfRows s candidates rows → i < length candidates → IsNext s candidates rows i
 next_row s candidates rows i of h =
     subst (λ ds. IsNext s ds rows i) (sym of.are) (next_by s rows i of.each (omega (arith, ap (λ (ds : List Candidate). length ds) of.are, length-map rows candidate_of)))
-
-pub all_rows : (s : State) (candidates : List Candidate) (rows : List Row) (n : ℕ) → AreOfRows s candidates rows → length candidates ≤ n → take n rows ≡ rows
-all_rows s candidates rows n of h = take_all n rows (omega (arith, ap (λ (ds : List Candidate). length ds) of.are, length-map rows candidate_of))
 
 -- ---- whether it is kept
 

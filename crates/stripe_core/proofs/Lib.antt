@@ -32,6 +32,6 @@ mod Making
 pub mod Unharmed
 mod ReadAhead
 mod Noting
-mod OneMore
+pub mod OneMore
 mod Kept
 mod Due

@@ -19,10 +19,11 @@ use Rattle.cache_model.specs.Tape.{AreApart, IsSound}
 use Rattle.cache_model.proofs.Copies.{AreReady, IsReady, others_stand, rows_of, still_ready}
 use Rattle.cache_model.proofs.Lists.{row_in-copied, row_in-without}
 use Rattle.cache_model.proofs.Live.{IsFound, due_are_live}
-use Rattle.cache_model.proofs.Rows.{ArePart, apart-part, done, keep, skip}
+use Rattle.cache_model.proofs.Rows.{apart-part}
 use Rattle.cache_model.proofs.Sound.{AllLeaveTape, buffer_left}
 use Rattle.cache_model.proofs.SoundFlush.{copies_part, copies_ready, due_part, front_leaves, part_ready}
-use Rattle.cache_model.proofs.Steps.{after_all-append}
+use Rattle.cache_model.proofs.Steps.{after_all-append, all_append}
+use Rattle.cache_model.proofs.Told.{each_part}
 use Rattle.stripe_core.specs.Flush.{AreOfFlush, IsOfFlush, IsSamePiece, LiveBefore}
 use Rattle.stripe_core.proofs.Candidates.{live_is}
 
@@ -38,10 +39,6 @@ IsBeside _ = ⊥
 abbrev AreBeside : List Rec → Type 0
 AreBeside recs = AllByRecursion IsBeside recs
 
-beside_append : (a b : List Rec) → AreBeside a → AreBeside b → AreBeside (a ++ b)
-beside_append [] b h k = k
-beside_append (r ∷ a) b h k = (h.0, beside_append a b h.1 k)
-
 one_beside : (row : Row) (o : Outcome) → AreBeside (records_of row o)
 one_beside row NoRoom = (tt, tt)
 one_beside row (Copied bytes) = tt
@@ -51,7 +48,7 @@ one_beside row (Refused count) = (tt, (tt, tt))
 front_beside : (rows : List Row) (outcomes : List Outcome) → AreBeside (front_of rows outcomes)
 front_beside [] outcomes = tt
 front_beside (row ∷ rows) [] = tt
-front_beside (row ∷ rows) (o ∷ outcomes) = beside_append (records_of row o) (front_of rows outcomes) (one_beside row o) (front_beside rows outcomes)
+front_beside (row ∷ rows) (o ∷ outcomes) = all_append IsBeside (records_of row o) (front_of rows outcomes) (one_beside row o) (front_beside rows outcomes)
 
 one_stopped : (row : Row) (o : Outcome) → AreBeside (stopped_records_of row o)
 one_stopped row NoRoom = tt
@@ -62,10 +59,10 @@ one_stopped row (Refused count) = (tt, tt)
 stopped_front : (rows : List Row) (outcomes : List Outcome) → AreBeside (stopped_front_of rows outcomes)
 stopped_front [] outcomes = tt
 stopped_front (row ∷ rows) [] = tt
-stopped_front (row ∷ rows) (o ∷ outcomes) = beside_append (stopped_records_of row o) (stopped_front_of rows outcomes) (one_stopped row o) (stopped_front rows outcomes)
+stopped_front (row ∷ rows) (o ∷ outcomes) = all_append IsBeside (stopped_records_of row o) (stopped_front_of rows outcomes) (one_stopped row o) (stopped_front rows outcomes)
 
 stopped_beside : (rows : List Row) (outcomes : List Outcome) (count : ℕ) → AreBeside (stopped_records rows outcomes count)
-stopped_beside rows outcomes count = beside_append (stopped_front_of rows outcomes) (rec.Fault count ∷ []) (stopped_front rows outcomes) (tt, tt)
+stopped_beside rows outcomes count = all_append IsBeside (stopped_front_of rows outcomes) (rec.Fault count ∷ []) (stopped_front rows outcomes) (tt, tt)
 
 -- ---- they are records of a flush
 
@@ -167,11 +164,6 @@ all_moved s u (c ∷ copies) apart ready due live =
 
 -- ---- a flush
 
-all_part : (P : Row → Type 0) {some all : List Row} → ArePart some all → AllByRecursion P all → AllByRecursion P some
-all_part P done h = h
-all_part P (keep p) h = (h.0, all_part P p h.1)
-all_part P (skip p) h = all_part P p h.1
-
 pub flush_before : (s : State) (now : ℕ) (outcomes : List Outcome) → IsSound s → floor_now s ≤ floor_next s → LiveBefore s (after_all s (flush_records s (due_pieces s now) outcomes))
 flush_before s now outcomes sound up =
     let rows : List Row = due_pieces s now in
@@ -185,7 +177,7 @@ flush_before s now outcomes sound up =
     let begun : LiveBefore s u = begun_before s m (cursor_next s) (floor_next s) (omega (arith, up, floor.0, floor.1)) first in
     rw (after_all-append s front (began_record s ∷ moved_records u copies))
     (all_moved s u copies (apart-part (copies_part rows outcomes) apart) (copies_ready s rows outcomes apart (part_ready s rows sound (due_part s now)))
-    (all_part (IsFound s) (copies_part rows outcomes) (due_are_live s now sound)) begun)
+    (each_part (IsFound s) (copies_part rows outcomes) (due_are_live s now sound)) begun)
   where
     floors : (s : State) (front : List Rec) → AllLeaveTape front
         → (floor_now (after_all s front) ≡ floor_now s) × (floor_now (state_after (after_all s front) (began_record s)) ≡ floor_next s)

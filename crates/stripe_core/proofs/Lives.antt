@@ -1,11 +1,11 @@
 -- What is known of a live piece in a cyclone that holds the records.
 use Rattle.std.proofs.Common.{◌≡◌, ℕ, ◌+◌, ◌<◌, ◌≤◌, List, [], ◌∷◌, refl, sym, ◌∙◌, ap, subst, arith, Bool, true, false, cond}
-use Rattle.std.specs.Prelude.{Option, Some, None, option_map, if◌then◌else◌, ◌||◌}
+use Rattle.std.specs.Prelude.{Option, Some, None, option_map, ◌||◌}
 use Rattle.std.specs.List.{AllByRecursion, filter}
 use Rattle.std.proofs.lemmas.Bool.{eq-eqb}
 use Rattle.tape_base.specs.declared.geometries.Geometry.{Geometry}
 use Rattle.tape_base.specs.declared.pieces.PieceId.{PieceId}
-use Rattle.tape_base.specs.Piece.{key_of_piece, same_piece}
+use Rattle.tape_base.specs.Piece.{key_of_piece}
 use Rattle.tape_base.specs.Place.{lap_end_of}
 use Rattle.dir_table.specs.declared.rows.DirRow.{DirRow}
 use Rattle.dir_table.specs.Rows.{has_row, row_of_key, same_row}
@@ -13,11 +13,11 @@ use Rattle.cyclone.specs.Cyclone.{IsStored, Seen, row_of_piece}
 use Rattle.cache_model.specs.State.{State, Row, live_row_of, place_now, row_in}
 use Rattle.cache_model.specs.Tape.{AreRising}
 use Rattle.cache_model.proofs.Rows.{rising_ends}
+use Rattle.cache_model.proofs.Lists.{found_row, own_piece}
 use Rattle.stripe_core.specs.Held.{IsHeld, IsInLap, entry_of, rows_in_range, same_entry, times}
 use Rattle.stripe_core.specs.Pieces.{live_place_of}
 use Rattle.stripe_core.proofs.Candidates.{counts, live_is}
 use Rattle.stripe_core.proofs.Entries.{same_entry-true}
-use Rattle.stripe_core.proofs.Going.{own}
 
 -- a live piece, by its place
 pub record IsLiveAt (s : State) (id : PieceId) (place : ℕ) : Type 0 where
@@ -35,28 +35,17 @@ live_at s id place h = let r = placed_row (live_row_of s id) place h in record {
 pub blocks_of_live : (s : State) (id : PieceId) (row : Row) (blocks : ℕ) → live_row_of s id ≡ Some row → Some blocks ≡ option_map (λ (r : Row). r.blocks) (live_row_of s id) → blocks ≡ row.blocks
 blocks_of_live s id row blocks live h = let same : Some blocks ≡ Some row.blocks = h ∙ ap (option_map (λ (r : Row). r.blocks)) live in cc
 
--- ---- a row that is found is one of them
-
-all_by : (P : Row → Type 0) (id : PieceId) (first row : Row) (rows : List Row) (b : Bool) → P first → (row_in rows id ≡ Some row → P row)
-    → (if b then Some first else row_in rows id) ≡ Some row → P row
-all_by P id first row rows true here rest h = let same : first ≡ row = cc in subst P same here
-all_by P id first row rows false here rest h = rest h
-
-pub all_found : (P : Row → Type 0) (id : PieceId) (rows : List Row) (row : Row) → AllByRecursion P rows → row_in rows id ≡ Some row → P row
-all_found P id [] row all h = cc
-all_found P id (first ∷ rows) row all h = all_by P id first row rows (same_piece first.id id) all.0 (all_found P id rows row all.1) h
-
--- it has blocks, and ends below the next piece
+-- each row has blocks, and ends at the end of all or below it
 pub within : (id : PieceId) (low high : ℕ) (rows : List Row) → AreRising low rows high → AllByRecursion (λ (row : Row). (0 < row.blocks) × (row.place + row.blocks ≤ high)) rows
 within id low high [] r = tt
 within id low high (row ∷ rows) r = ((r.1, rising_ends (row.place + row.blocks) rows high r.2), within id (row.place + row.blocks) high rows r.2)
 
 pub live_within : (s : State) (c : Seen) (id : PieceId) (row : Row) → IsHeld s c → live_row_of s id ≡ Some row → (0 < row.blocks) × (row.place + row.blocks ≤ place_now s)
 live_within s c id row held live =
-    all_found (λ (r : Row). (0 < r.blocks) × (r.place + r.blocks ≤ place_now s)) id s.rows row (within id s.geometry.content (place_now s) s.rows held.sound.rising) (live_is s (row_in s.rows id) row live).0
+    found_row (λ (r : Row). (0 < r.blocks) × (r.place + r.blocks ≤ place_now s)) id s.rows row (within id s.geometry.content (place_now s) s.rows held.sound.rising) (live_is s (row_in s.rows id) row live).0
 
 pub live_in_lap : (s : State) (c : Seen) (id : PieceId) (row : Row) → IsHeld s c → live_row_of s id ≡ Some row → IsInLap s.geometry row
-live_in_lap s c id row held live = all_found (IsInLap s.geometry) id s.rows row held.laps (live_is s (row_in s.rows id) row live).0
+live_in_lap s c id row held live = found_row (IsInLap s.geometry) id s.rows row held.laps (live_is s (row_in s.rows id) row live).0
 
 -- so it can be read
 pub live_is_stored : (s : State) (c : Seen) (id : PieceId) (row : Row) → IsHeld s c → live_row_of s id ≡ Some row → IsStored c row.place row.blocks
@@ -99,5 +88,5 @@ live_has_row s c id row held live =
     let e : DirRow = entry_of s.geometry row in
     let some : 0 < times e (rows_in_range c) = subst (λ n. 0 < n) (sym (held.entered e)) (counts s s.geometry id row s.rows found.1 found.0) in
     let entry_is : row_of_piece c id row.place ≡ e =
-    ap (λ g. row_of_key g (key_of_piece id) row.place) held.geometry ∙ ap (λ i. row_of_key s.geometry (key_of_piece i) row.place) (sym (own id s.rows row found.0)) in
+    ap (λ g. row_of_key g (key_of_piece id) row.place) held.geometry ∙ ap (λ i. row_of_key s.geometry (key_of_piece i) row.place) (sym (own_piece id s.rows row found.0)) in
     subst (λ x. has_row x c.rows ≡ true) (sym entry_is) (counted_has _ e c.rows some)

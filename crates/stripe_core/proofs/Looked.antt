@@ -28,6 +28,7 @@ use Rattle.cache_model.proofs.Sound.{buffer_left, later_began}
 use Rattle.cache_model.proofs.SoundFlush.{copies_part, copies_ready, due_part, flush_is_sound, front_leaves, part_ready}
 use Rattle.cache_model.proofs.Walks.{all_among}
 use Rattle.cache_model.proofs.Written.{passes}
+use Rattle.cache_model.proofs.Steps.{all_append}
 use Rattle.stripe_due.specs.Finding.{most_passed}
 use Rattle.stripe_core.specs.declared.ahead.Ahead.{Ahead}
 use Rattle.stripe_core.specs.declared.refusal.Flushed.{Flushed}
@@ -35,13 +36,12 @@ use Rattle.stripe_core.specs.declared.refusal.Stop.TheVariants as stop
 use Rattle.stripe_core.specs.Ahead.{LooksAhead}
 use Rattle.stripe_core.specs.Copying.{AreCopyable, AreTellable, begun_behind, copied_of, copies_among, done_records, told_of}
 use Rattle.stripe_core.specs.Covers.{Covers, Uses}
-use Rattle.stripe_core.specs.Damages.{TellNoDamage}
+use Rattle.stripe_core.specs.Damages.{TellNoDamage, tells_damage}
 use Rattle.stripe_core.specs.Flush.{FlushesAsAsked, LiveBefore}
 use Rattle.stripe_core.proofs.Flushes.{state_of-with_records}
 use Rattle.stripe_core.proofs.LiveBehind.{flush_before, flush_kinds, stopped_before, stopped_kinds}
 use Rattle.stripe_core.proofs.Readied.{IsPassed, are_copyable, copied_is, copies_within, few_copies}
 use Rattle.stripe_core.proofs.Told.{AllCame, all_came, are_tellable, few_told, last_fault, stopped_is, told_is}
-use Rattle.stripe_core.proofs.Unharmed.{no_damage-append}
 
 -- ---- a step that the flush alone makes
 
@@ -155,7 +155,7 @@ moved_unharmed u (c ∷ copies) = (refl, moved_unharmed (state_after u (moved_re
 
 flush_unharmed : (s : State) (rows : List Row) (outcomes : List Outcome) → TellNoDamage (front_of rows outcomes) → TellNoDamage (flush_records s rows outcomes)
 flush_unharmed s rows outcomes h =
-    no_damage-append (front_of rows outcomes) _ h (refl, moved_unharmed (state_after (after_all s (front_of rows outcomes)) (began_record s)) (copies_of rows outcomes))
+    all_append (λ r. tells_damage r ≡ false) (front_of rows outcomes) _ h (refl, moved_unharmed (state_after (after_all s (front_of rows outcomes)) (began_record s)) (copies_of rows outcomes))
 
 front_unharmed : (rows : List Row) (outcomes : List Outcome) → TellNoDamage (front_of rows outcomes) → TellNoDamage (stopped_front_of rows outcomes)
 front_unharmed [] outcomes h = tt
@@ -166,7 +166,7 @@ front_unharmed (row ∷ rows) (Spoiled found ∷ outcomes) h = (h.0, front_unhar
 front_unharmed (row ∷ rows) (Refused count ∷ outcomes) h = (refl, front_unharmed rows outcomes h.1.1)
 
 stopped_unharmed : (rows : List Row) (outcomes : List Outcome) (count : ℕ) → TellNoDamage (front_of rows outcomes) → TellNoDamage (stopped_records rows outcomes count)
-stopped_unharmed rows outcomes count h = no_damage-append (stopped_front_of rows outcomes) (rec.Fault count ∷ []) (front_unharmed rows outcomes h) (refl, tt)
+stopped_unharmed rows outcomes count h = all_append (λ r. tells_damage r ≡ false) (stopped_front_of rows outcomes) (rec.Fault count ∷ []) (front_unharmed rows outcomes h) (refl, tt)
 
 -- ---- what was asked
 

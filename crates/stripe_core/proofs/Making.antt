@@ -92,13 +92,7 @@ module _ (now : ℕ) (old new : Kept) (before : ℕ) (after : Device) (bytes : �
       → Answers {X = Unit {0}} (Err why) (RoomsAsAsked now old new before after bytes) same
   refusal_makes_none (refusal.DeviceFault count) same h = stop_makes_none (stop.DeviceFault count) h
   refusal_makes_none (refusal.Exhausted number) same h = stop_makes_none (stop.Exhausted number) h
-  refusal_makes_none (refusal.Memory e) same h = h
-  refusal_makes_none refusal.TooManyWriters same h = h
-  refusal_makes_none refusal.TooManyFragments same h = h
-  refusal_makes_none (refusal.VectorTooLarge size) same h = h
-  refusal_makes_none (refusal.Lost index why) same h = h
-  refusal_makes_none refusal.Sealed same h = h
-  refusal_makes_none refusal.NoSuchWriter same h = h
+  refusal_makes_none _ same h = h
 
 -- why it stops says nothing of what it would have answered
 pub stops_alike : (s : State) (faults : ℕ) (why : Refusal) → Answers {X = Flushed} (Err why) (λ r. IfErr r (StopsWith s faults)) (Unit {0})

@@ -17,20 +17,22 @@ use Rattle.dir_table.specs.Rows.{has_row, row_of_key}
 use Rattle.agg_buffer.specs.Buffer.{Buffer, blocks_in, bytes_at, filled_of, next_place_of}
 use Rattle.ats_disk.specs.Device.{State as Device, IsTold}
 use Rattle.cyclone.specs.Cyclone.{IsMoved, IsTurning, Seen, row_of_piece}
+use Rattle.alternate_vector.proofs.Loops.{each_push}
 use Rattle.cache_model.specs.State.{Row, State, floor_now, moved_row, only_live, place_now, row_in, state_after, without}
 use Rattle.cache_model.specs.Tape.{IsSound}
 use Rattle.cache_model.specs.Outcomes.{Copy}
 use Rattle.cache_model.proofs.Copies.{all_copied, copied_by}
 use Rattle.cache_model.proofs.Laps.{lap-is}
+use Rattle.cache_model.proofs.Lists.{found_row, own_piece}
 use Rattle.stripe_core.specs.Held.{IsBufferedWhereNew, IsHeld, IsInLap, IsIntactWhereWritten, entry_of, same_entry, times}
 use Rattle.stripe_core.specs.Records.{IsMovable, moved_to_here}
 use Rattle.stripe_core.proofs.Intact.{each_same_intact}
 use Rattle.stripe_core.proofs.Entries.{kept, one_more, same_entry-true, times-permutation}
 use Rattle.stripe_core.proofs.Counts.{is_between, more_between}
 use Rattle.stripe_core.proofs.Holding.{AreCounted, counted, end_is, entered, floor_is, none_behind}
-use Rattle.stripe_core.proofs.Placements.{all_append, count_behind, kept_more, nothing_goes, still_buffered}
-use Rattle.stripe_core.proofs.Going.{all_left, own, same_live, unseen_by}
-use Rattle.stripe_core.proofs.Lives.{all_found, within}
+use Rattle.stripe_core.proofs.Placements.{count_behind, kept_more, nothing_goes, still_buffered}
+use Rattle.stripe_core.proofs.Going.{all_left, same_live, unseen_by}
+use Rattle.stripe_core.proofs.Lives.{within}
 
 -- ---- rows from which one may have been taken
 
@@ -82,10 +84,10 @@ module _ (s : State) (c new : Seen) (id : PieceId) (row : Row) (bytes : List ℕ
 
   -- a piece that stands is not empty
   some : 0 < row.blocks
-  some = (all_found (λ (r : Row). (0 < r.blocks) × (r.place + r.blocks ≤ place_now s)) id s.rows row (within id s.geometry.content (place_now s) s.rows held.sound.rising) movable.found).0
+  some = (found_row (λ (r : Row). (0 < r.blocks) × (r.place + r.blocks ≤ place_now s)) id s.rows row (within id s.geometry.content (place_now s) s.rows held.sound.rising) movable.found).0
 
   own_id : row.id ≡ id
-  own_id = own id s.rows row movable.found
+  own_id = own_piece id s.rows row movable.found
 
   -- ---- the buffer
 
@@ -189,7 +191,7 @@ module _ (s : State) (c new : Seen) (id : PieceId) (row : Row) (bytes : List ℕ
 
   in_lap : IsInLap s.geometry copy
   in_lap =
-      let old : IsInLap s.geometry row = all_found (IsInLap s.geometry) id s.rows row held.laps movable.found in
+      let old : IsInLap s.geometry row = found_row (IsInLap s.geometry) id s.rows row held.laps movable.found in
       record { small = old.small; within = omega (arith, same_lap, movable.room, held.sound.lap) }
 
   -- it is in the buffer
@@ -220,13 +222,13 @@ module _ (s : State) (c new : Seen) (id : PieceId) (row : Row) (bytes : List ℕ
     filled = filled_is;
     entered = entered after new counts;
     buffered =
-        all_append (IsBufferedWhereNew new.buffer) others copy
+        each_push (IsBufferedWhereNew new.buffer) others copy
         (still_buffered c.buffer new.buffer (moved_to (next_place_of c.buffer) bytes) others moved.buffer same_cursor (all_left (IsBufferedWhereNew c.buffer) id s.rows held.buffered))
         own_buffered;
     intact = subst (λ (d : Device). IsTold d → AllByRecursion (IsIntactWhereWritten after d.seen) after.rows) (sym moved.device)
-        (λ told. all_append (IsIntactWhereWritten after c.device.seen) others copy
+        (λ told. each_push (IsIntactWhereWritten after c.device.seen) others copy
         (each_same_intact s after c.device.seen others refl refl (all_left (IsIntactWhereWritten s c.device.seen) id s.rows (held.intact told))) not_written);
-    laps = all_append (IsInLap s.geometry) others copy (all_left (IsInLap s.geometry) id s.rows held.laps) in_lap;
+    laps = each_push (IsInLap s.geometry) others copy (all_left (IsInLap s.geometry) id s.rows held.laps) in_lap;
     faults = subst (λ n. s.fault ≤ n) (sym (ap (λ (d : Device). d.faults) moved.device)) held.faults;
   }
 

@@ -14,6 +14,7 @@ use Rattle.tape_base.specs.Piece.{is_vector, same_piece}
 use Rattle.tape_base.proofs.NameLaws.{same_piece-true}
 use Rattle.fragment_table.specs.Table.{TableRow, made_row}
 use Rattle.alternate_vector.specs.Field.{Field}
+use Rattle.alternate_vector.proofs.Loops.{each_push}
 use Rattle.cache_model.specs.declared.answer.NextAnswer.{NextAnswer}
 use Rattle.cache_model.specs.declared.answer.NextAnswer.TheVariants as next
 use Rattle.cache_model.specs.declared.cause.Cause.{Cause}
@@ -23,6 +24,8 @@ use Rattle.cache_model.specs.declared.record.Rec.TheVariants as rec
 use Rattle.cache_model.specs.State.{Closed, Complete, GivenUp, LastVector, Open, PutRow, Row, State, TakenOut, Writing, after_all, change_put, last_vector, live_row_of, moved_row, opened_put, placed_row, put_of, row_in, row_of, state_after, vector_piece, with_cut, with_writing, without, without_earlier}
 use Rattle.cache_model.specs.Kept.{Kept, state_of, with_records}
 use Rattle.cache_model.specs.Legal.{answer_record}
+use Rattle.cache_model.proofs.Steps.{all_as}
+use Rattle.cache_model.proofs.Lists.{found_row}
 use Rattle.stripe_actors.specs.Actors.{AreActors, Seen as Actors}
 use Rattle.stripe_actors.proofs.Rows.{find-changed}
 use Rattle.stripe_actors.proofs.Telling.{was_given}
@@ -34,35 +37,17 @@ use Rattle.stripe_core.specs.Named.{IsNamed, IsOwn, IsOwnOf, IsPieceOf}
 use Rattle.stripe_core.specs.Place.{IsFragmentOf, IsNew, IsVectorFor}
 use Rattle.stripe_core.proofs.Flushes.{state_of-with_records}
 use Rattle.stripe_core.proofs.Going.{all_left}
-use Rattle.stripe_core.proofs.Lives.{all_found}
-use Rattle.stripe_core.proofs.Placements.{all_append}
-
-all_map : (P Q : Row → Type 0) → ((row : Row) → P row → Q row) → (rows : List Row) → AllByRecursion P rows → AllByRecursion Q rows
-all_map P Q f [] all = tt
-all_map P Q f (row ∷ rows) all = (f row all.0, all_map P Q f rows all.1)
 
 -- ---- records that leave the names
 
 abbrev pub leaves_names : Rec → Bool
 leaves_names (rec.Formatted geometry) = false
-leaves_names (rec.Began cursor floor) = true
 leaves_names (rec.Placed piece place blocks digest pin) = false
-leaves_names (rec.Moved piece from place digest) = true
-leaves_names (rec.Unsaved piece place fault) = true
-leaves_names (rec.Displaced piece segment live) = true
-leaves_names (rec.Damaged piece place kept other) = true
 leaves_names (rec.WriteOpened actor put key request response pin) = false
 leaves_names (rec.Cut put index length digest) = false
 leaves_names (rec.Committed put key length) = false
 leaves_names (rec.Aborted put key) = false
-leaves_names (rec.Removed put key) = true
-leaves_names (rec.ReadOpened reader actor key request answer) = true
-leaves_names (rec.Gave reader index length) = true
-leaves_names (rec.Ended reader length) = true
-leaves_names (rec.Waited reader cut) = true
-leaves_names (rec.Broke reader why) = true
-leaves_names (rec.ReadClosed reader) = true
-leaves_names (rec.Fault count) = true
+leaves_names _ = true
 
 same : (s t : State) → t.next_put ≡ s.next_put → t.puts ≡ s.puts → t.pending ≡ s.pending → (row : Row) → IsOwn s row → IsOwn t row
 same s t n p q row h = record {
@@ -71,36 +56,30 @@ same s t n p q row h = record {
 }
 
 named_left : (s t : State) (id : PieceId) → t.next_put ≡ s.next_put → t.puts ≡ s.puts → t.pending ≡ s.pending → t.rows ≡ without id s.rows → IsNamed s → IsNamed t
-named_left s t id n p q r h = subst (AllByRecursion (IsOwn t)) (sym r) (all_map (IsOwn s) (IsOwn t) (same s t n p q) (without id s.rows) (all_left (IsOwn s) id s.rows h))
+named_left s t id n p q r h = subst (AllByRecursion (IsOwn t)) (sym r) (all_as (IsOwn s) (IsOwn t) (same s t n p q) (without id s.rows) (all_left (IsOwn s) id s.rows h))
 
 named_same : (s t : State) → t.next_put ≡ s.next_put → t.puts ≡ s.puts → t.pending ≡ s.pending → t.rows ≡ s.rows → IsNamed s → IsNamed t
-named_same s t n p q r h = subst (AllByRecursion (IsOwn t)) (sym r) (all_map (IsOwn s) (IsOwn t) (same s t n p q) s.rows h)
+named_same s t n p q r h = subst (AllByRecursion (IsOwn t)) (sym r) (all_as (IsOwn s) (IsOwn t) (same s t n p q) s.rows h)
 
 -- a piece that is copied keeps its name
 moved_in : (P : Row → Type 0) (rows : List Row) (place : ℕ) (digest : Digest) (o : Option Row) → ((row : Row) → P row → P (moved_row place digest row))
     → AllByRecursion P rows → ((row : Row) → o ≡ Some row → P row) → AllByRecursion P (rows ++ map (moved_row place digest) (option_to_list o))
 moved_in P rows place digest None keeps all h = subst (AllByRecursion P) (sym (append-nil rows)) all
-moved_in P rows place digest (Some row) keeps all h = all_append P rows (moved_row place digest row) all (keeps row (h row refl))
+moved_in P rows place digest (Some row) keeps all h = each_push P rows (moved_row place digest row) all (keeps row (h row refl))
 
 named_moved : (s : State) (piece : PieceId) (from place : ℕ) (digest : Digest) → IsNamed s → IsNamed (state_after s (rec.Moved piece from place digest))
 named_moved s piece from place digest h =
     let t : State = state_after s (rec.Moved piece from place digest) in
     let kept : (row : Row) → IsOwn s row → IsOwn t row = same s t refl refl refl in
     moved_in (IsOwn t) (without piece s.rows) place digest (row_of s piece) (λ row own. record { begun = own.begun; own = own.own })
-    (all_map (IsOwn s) (IsOwn t) kept (without piece s.rows) (all_left (IsOwn s) piece s.rows h)) (λ row found. kept row (all_found (IsOwn s) piece s.rows row h found))
+    (all_as (IsOwn s) (IsOwn t) kept (without piece s.rows) (all_left (IsOwn s) piece s.rows h)) (λ row found. kept row (found_row (IsOwn s) piece s.rows row h found))
 
 pub name_left : (s : State) (r : Rec) → leaves_names r ≡ true → IsNamed s → IsNamed (state_after s r)
-name_left s (rec.Formatted geometry) h named = cc
 name_left s (rec.Began cursor floor) h named = named_same s _ refl refl refl refl named
-name_left s (rec.Placed piece place blocks digest pin) h named = cc
 name_left s (rec.Moved piece from place digest) h named = named_moved s piece from place digest named
 name_left s (rec.Unsaved piece place fault) h named = named_same s _ refl refl refl refl named
 name_left s (rec.Displaced piece segment live) h named = named_left s _ piece refl refl refl refl named
 name_left s (rec.Damaged piece place kept other) h named = named_left s _ piece refl refl refl refl named
-name_left s (rec.WriteOpened actor put key request response pin) h named = cc
-name_left s (rec.Cut put index length digest) h named = cc
-name_left s (rec.Committed put key length) h named = cc
-name_left s (rec.Aborted put key) h named = cc
 name_left s (rec.Removed put key) h named = named_left s _ (vector_piece key put) refl refl refl refl named
 name_left s (rec.ReadOpened reader actor key request answer) h named = named_same s _ refl refl refl refl named
 name_left s (rec.Gave reader index length) h named = named_same s _ refl refl refl refl named
@@ -109,6 +88,7 @@ name_left s (rec.Waited reader cut) h named = named
 name_left s (rec.Broke reader why) h named = named
 name_left s (rec.ReadClosed reader) h named = named_same s _ refl refl refl refl named
 name_left s (rec.Fault count) h named = named_same s _ refl refl refl refl named
+name_left s _ h named = cc
 
 abbrev pub AllLeaveNames : List Rec → Type 0
 AllLeaveNames recs = AllByRecursion (λ r. leaves_names r ≡ true) recs
@@ -134,7 +114,7 @@ found_later put q row puts is below = by (row.put == q) refl
 
 pub named_opened : (s : State) (who : Actor) (key : Key) (request response : List Field) (pin : ℕ) → IsNamed s → IsNamed (state_after s (rec.WriteOpened who s.next_put key request response pin))
 named_opened s who key request response pin h =
-    all_map (IsOwn s) (IsOwn (state_after s (rec.WriteOpened who s.next_put key request response pin)))
+    all_as (IsOwn s) (IsOwn (state_after s (rec.WriteOpened who s.next_put key request response pin)))
     (λ row own. let begun : row.id.put < s.next_put = own.begun in
     record {
       begun = omega (arith, begun);
@@ -154,7 +134,7 @@ named_changed : (s : State) (put : ℕ) (f : PutRow → PutRow) (pending : Optio
     → ((x : Option PutRow) (row : Row) → (put == row.id.put) ≡ false → IsOwnOf x s.pending row.id → IsOwnOf x pending row.id)
     → AllByRecursion (IsOwn s) rows → AllByRecursion (IsOwn (record s { puts = change_put put f s.puts; pending = pending })) rows
 named_changed s put f pending rows keeps here there all =
-    all_map (IsOwn s) (IsOwn (record s { puts = change_put put f s.puts; pending = pending }))
+    all_as (IsOwn s) (IsOwn (record s { puts = change_put put f s.puts; pending = pending }))
     (λ row own. record {
       begun = own.begun;
       own = rw (find-changed (λ (p : PutRow). p.put) f keeps put row.id.put s.puts)
@@ -181,7 +161,7 @@ ended writing over old new (Some w) id h = λ o. absurd (over o)
 -- a put is given up
 pub named_aborted : (s : State) (put : ℕ) (key : Key) → IsNamed s → IsNamed (state_after s (rec.Aborted put key))
 named_aborted s put key h =
-    all_map (IsOwn (record s { puts = change_put put (with_writing GivenUp) s.puts; pending = s.pending })) (IsOwn (state_after s (rec.Aborted put key))) (λ row own. record { begun = own.begun; own = own.own }) s.rows
+    all_as (IsOwn (record s { puts = change_put put (with_writing GivenUp) s.puts; pending = s.pending })) (IsOwn (state_after s (rec.Aborted put key))) (λ row own. record { begun = own.begun; own = own.own }) s.rows
     (named_changed s put (with_writing GivenUp) s.pending s.rows (λ w. refl) (ended GivenUp (λ e. cc) s.pending s.pending) (λ x row e own. own) h)
 
 -- a pending vector is that of its put
@@ -213,7 +193,7 @@ earlier_left P key put (Some (Complete old)) rows all = by (old == put)
 -- a put is complete
 pub named_committed : (s : State) (put length : ℕ) (key : Key) → s.pending ≡ Some (vector_piece key put) → IsNamed s → IsNamed (state_after s (rec.Committed put key length))
 named_committed s put length key is h =
-    all_map (IsOwn (record s { puts = change_put put (with_writing Closed) s.puts; pending = None })) (IsOwn (state_after s (rec.Committed put key length))) (λ row own. record { begun = own.begun; own = own.own })
+    all_as (IsOwn (record s { puts = change_put put (with_writing Closed) s.puts; pending = None })) (IsOwn (state_after s (rec.Committed put key length))) (λ row own. record { begun = own.begun; own = own.own })
     (without_earlier key put (last_vector s key) s.rows)
     (named_changed s put (with_writing Closed) None (without_earlier key put (last_vector s key) s.rows) (λ w. refl) (ended Closed (λ e. cc) s.pending None) (λ x row e own. other_vector s.pending key put x row.id is e own)
     (earlier_left (IsOwn s) key put (last_vector s key) s.rows h))
@@ -231,8 +211,8 @@ pub named_placed : (s : State) (id : PieceId) (place blocks pin : ℕ) (digest :
     → IsNamed (state_after s (rec.Placed id place blocks digest pin))
 named_placed s id place blocks pin digest w h quiet begun found cut =
     let t : State = state_after s (rec.Placed id place blocks digest pin) in
-    all_append (IsOwn t) (without id s.rows) (placed_row s id place blocks digest pin)
-    (all_map (IsOwn s) (IsOwn t) (λ row own. record { begun = own.begun; own = none_pending s.pending t.pending (put_of s row.id.put) row.id quiet own.own }) (without id s.rows) (all_left (IsOwn s) id s.rows h))
+    each_push (IsOwn t) (without id s.rows) (placed_row s id place blocks digest pin)
+    (all_as (IsOwn s) (IsOwn t) (λ row own. record { begun = own.begun; own = none_pending s.pending t.pending (put_of s row.id.put) row.id quiet own.own }) (without id s.rows) (all_left (IsOwn s) id s.rows h))
     (record {
       begun = begun;
       own = rw found (λ o. record { cut = cut; vector = λ v. rw v refl });
@@ -256,7 +236,7 @@ own_of s id w row found o is own =
 -- the next fragment of a put stands nowhere
 pub fragment_nowhere : (s : State) (id : PieceId) (pin start : ℕ) (payload : List ℕ) → IsFragmentOf s id pin start payload → IsNamed s → row_of s id ≡ None
 fragment_nowhere s id pin start payload f h =
-    none_in id s.rows (all_map (IsOwn s) (λ (row : Row). row.id ≡ id → ⊥)
+    none_in id s.rows (all_as (IsOwn s) (λ (row : Row). row.id ≡ id → ⊥)
     (λ row own is.
     let piece : IsPieceOf f.w s.pending id = own_of s id f.w row f.next.writing.found f.next.writing.is_open is own in
     let cut : id.index ≤ length f.w.cuts = piece.cut in
@@ -266,7 +246,7 @@ fragment_nowhere s id pin start payload f h =
 -- nor does the vector of an open put
 pub vector_nowhere : (s : State) (id : PieceId) (start : ℕ) (payload : List ℕ) → IsVectorFor s id start payload → is_vector id ≡ true → IsNamed s → row_of s id ≡ None
 vector_nowhere s id start payload v kind h =
-    none_in id s.rows (all_map (IsOwn s) (λ (row : Row). row.id ≡ id → ⊥)
+    none_in id s.rows (all_as (IsOwn s) (λ (row : Row). row.id ≡ id → ⊥)
     (λ row own is.
     let piece : IsPieceOf v.w s.pending id = own_of s id v.w row v.writing.found v.writing.is_open is own in
     let clash : None ≡ Some id = sym v.writing.quiet ∙ piece.vector kind in
@@ -316,14 +296,9 @@ named_fragment s t id place blocks pin size cut digest w h quiet begun found ind
 -- ---- which records leave the names
 
 causes_leave : (row : Row) (why : Cause) → AllLeaveNames (cause_records row why)
-causes_leave row cause.NeverPut = tt
-causes_leave row cause.Removed = tt
-causes_leave row (cause.Passed place floor unsaved) = tt
-causes_leave row (cause.NoMatch count) = tt
-causes_leave row (cause.Displaced segment live) = tt
-causes_leave row (cause.Aborted writer) = tt
 causes_leave row (cause.DeviceFault count) = (refl, tt)
 causes_leave row (cause.Damaged place kept other) = (refl, tt)
+causes_leave row _ = tt
 
 found_leave : (o : Option Row) (answer : Found) → AllLeaveNames (found_records o answer)
 found_leave None answer = tt
@@ -350,9 +325,6 @@ answer_leaves_names s reader (next.Gave index length) h = name_left s (rec.Gave 
 answer_leaves_names s reader (next.Ended length) h = h
 answer_leaves_names s reader (next.Waited cut) h = h
 answer_leaves_names s reader (next.Broke why) h = h
-
-pub named_kept : (k new : Kept) → new ≡ k → IsNamed (state_of k) → IsNamed (state_of new)
-named_kept k new is h = subst IsNamed (sym (ap state_of is)) h
 
 -- ---- a fragment behind the flush that it may need
 

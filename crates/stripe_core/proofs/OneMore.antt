@@ -1,19 +1,22 @@
 -- Pieces that were looked at, and one more behind them.
-use Rattle.std.proofs.Common.{◌≡◌, ℕ, ◌+◌, ◌-◌, ◌*◌, ◌≤◌, List, [], ◌∷◌, ◌++◌, refl, sym, ◌∙◌, ap, subst, arith, take, drop, append_assoc}
-use Rattle.std.specs.List.{AllByRecursion}
-use Rattle.std.proofs.lemmas.List.{append-nil, drop-take, take-take}
+use Rattle.std.proofs.Common.{◌≡◌, ℕ, ◌+◌, ◌-◌, ◌*◌, ◌≤◌, List, [], ◌∷◌, ◌++◌, refl, sym, ◌∙◌, ap, subst, arith, false, take, append_assoc}
+use Rattle.std.proofs.lemmas.List.{append-nil}
 use Rattle.ats_disk.specs.Device.{State as Device, IsTold}
 use Rattle.tape_base.specs.Geometry.{budget_of}
+use Rattle.doc_header.proofs.Stands.{part_in_front}
 use Rattle.cache_model.specs.State.{State, Row, after_all}
 use Rattle.cache_model.specs.Permit.{DeviceRead, IsAmong, Permit}
 use Rattle.cache_model.specs.Outcomes.{AreOutcomes, Copied, IsOutcome, NoRoom, Outcome, Refused, Spoiled, front_of, left_behind, records_of}
-use Rattle.cache_model.proofs.Steps.{after_all-append}
+use Rattle.cache_model.proofs.Steps.{after_all-append, all_append, all_parts}
+use Rattle.cache_model.proofs.Aside.{aside_leaves}
+use Rattle.cache_model.proofs.Sound.{buffer_left}
+use Rattle.cache_model.proofs.SoundFlush.{aside_of}
 use Rattle.stripe_core.specs.declared.ahead.Ahead.{Ahead}
 use Rattle.stripe_core.specs.declared.ahead.Fate.{Fate}
 use Rattle.stripe_core.specs.Ahead.{AreFates, IsFate, StandFrom, StandsAt, taken_by, taken_by_all}
 use Rattle.stripe_core.specs.Looks.{CountsUpTo, Looked, LooksOn}
 use Rattle.stripe_core.specs.Covers.{Covers}
-use Rattle.stripe_core.specs.Damages.{TellNoDamage}
+use Rattle.stripe_core.specs.Damages.{TellNoDamage, tells_damage}
 
 -- ---- lists of the same length
 
@@ -59,16 +62,9 @@ taken_more (r ∷ rows) (x ∷ outcomes) row o h = omega (arith, taken_more rows
 
 -- ---- the memory
 
--- what stands below a place where nothing changed
-part_same : (from size end : ℕ) (old new : List ℕ) → from + size ≤ end → take end new ≡ take end old → take size (drop from new) ≡ take size (drop from old)
-part_same from size end old new within same =
-    let front : take (from + size) new ≡ take (from + size) old =
-    sym (take-take (from + size) end new within) ∙ (ap (take (from + size)) same ∙ take-take (from + size) end old within) in
-    sym (drop-take from size new) ∙ (ap (drop from) front ∙ drop-take from size old)
-
 still_stands : (at end : ℕ) (row : Row) (o : Outcome) (old new : List ℕ) → at + taken_by row o ≤ end → take (512 * end) new ≡ take (512 * end) old → StandsAt at row o old → StandsAt at row o new
 still_stands at end row NoRoom old new within same h = tt
-still_stands at end row (Copied bytes) old new within same h = part_same (512 * at) (512 * row.blocks) (512 * end) old new (omega arith) same ∙ h
+still_stands at end row (Copied bytes) old new within same h = part_in_front (512 * end) (512 * at) (512 * row.blocks) new old (omega arith) same ∙ h
 still_stands at end row (Spoiled found) old new within same h = tt
 still_stands at end row (Refused count) old new within same h = tt
 
@@ -103,13 +99,7 @@ outcomes_more p s left (r ∷ rows) (x ∷ outcomes) row o h k =
           (subst (λ t. IsOutcome p t (left - (taken_by r x + taken_by_all rows outcomes)) row o) (after_all-append s (records_of r x) (front_of rows outcomes)) k)),
     )
 
--- the records of a piece leave the buffer, and tell no later fault
-cursor_stays : (s : State) (row : Row) (o : Outcome) → (after_all s (records_of row o)).cursor ≡ s.cursor
-cursor_stays s row NoRoom = refl
-cursor_stays s row (Copied bytes) = refl
-cursor_stays s row (Spoiled found) = refl
-cursor_stays s row (Refused count) = refl
-
+-- the records of a piece tell no later fault
 fault_within : (s : State) (row : Row) (o : Outcome) (faults : ℕ) → s.fault ≤ faults → CountsUpTo faults o → (after_all s (records_of row o)).fault ≤ faults
 fault_within s row NoRoom faults h k = h
 fault_within s row (Copied bytes) faults h k = h
@@ -118,20 +108,12 @@ fault_within s row (Refused count) faults h k = k
 
 -- ---- what covers the whole covers each part
 
-all_parts : {X : Type 0} (P : X → Type 0) (xs ys : List X) → AllByRecursion P (xs ++ ys) → AllByRecursion P xs × AllByRecursion P ys
-all_parts P [] ys h = (tt, h)
-all_parts P (x ∷ xs) ys h = let rest = all_parts P xs ys h.1 in ((h.0, rest.0), rest.1)
-
-both_undamaged : (a b : List Rattle.cache_model.specs.declared.record.Rec.Rec) → TellNoDamage a → TellNoDamage b → TellNoDamage (a ++ b)
-both_undamaged [] b h k = k
-both_undamaged (r ∷ a) b h k = (h.0, both_undamaged a b h.1 k)
-
-covers_first : (p : Permit) (before mid after : ℕ) (reads more : List DeviceRead) → mid ≤ after → Covers p before after (reads ++ more) → Covers p before mid reads
+pub covers_first : (p : Permit) (before mid after : ℕ) (reads more : List DeviceRead) → mid ≤ after → Covers p before after (reads ++ more) → Covers p before mid reads
 covers_first p before mid after reads more later c =
     let upto : after ≤ p.faults = c.upto in
     record { plain = c.plain; from = c.from; upto = omega arith; knows = (all_parts (λ (r : DeviceRead). IsAmong r p.reads) reads more c.knows).0 }
 
-covers_last : (p : Permit) (before mid after : ℕ) (reads more : List DeviceRead) → before ≤ mid → Covers p before after (reads ++ more) → Covers p mid after more
+pub covers_last : (p : Permit) (before mid after : ℕ) (reads more : List DeviceRead) → before ≤ mid → Covers p before after (reads ++ more) → Covers p mid after more
 covers_last p before mid after reads more later c =
     let from : p.faults_before ≤ before = c.from in
     record { plain = c.plain; from = omega arith; upto = c.upto; knows = (all_parts (λ (r : DeviceRead). IsAmong r p.reads) reads more c.knows).1 }
@@ -168,10 +150,10 @@ looked_more s before mid after rows row at end old new first last trust h k =
       taken = omega (arith, k.taken, h.taken, taken_more rows h.outcomes row k.outcome pair);
       unharmed = λ told.
           subst TellNoDamage (sym front)
-          (both_undamaged (front_of rows h.outcomes) (records_of row k.outcome) (h.unharmed (let before_told : IsTold mid = omega (arith, told, trust) in before_told)) (k.unharmed told));
+          (all_append (λ r. tells_damage r ≡ false) (front_of rows h.outcomes) (records_of row k.outcome) (h.unharmed (let before_told : IsTold mid = omega (arith, told, trust) in before_told)) (k.unharmed told));
       are = λ p covers.
           outcomes_more p s (budget_of s.geometry) rows h.outcomes row k.outcome (h.are p (covers_first p before mid.faults after.faults h.reads k.reads last covers))
           (subst (λ n. IsOutcome p t (budget_of s.geometry - n) row k.outcome) h.taken (k.is p t (covers_last p before mid.faults after.faults h.reads k.reads first covers) h.cursor low));
-      cursor = ap (λ (x : State). x.cursor) behind ∙ (cursor_stays t row k.outcome ∙ h.cursor);
+      cursor = ap (λ (x : State). x.cursor) behind ∙ ((buffer_left t (records_of row k.outcome) (aside_leaves (records_of row k.outcome) (aside_of row k.outcome))).1 ∙ h.cursor);
       fault = subst (λ (x : State). x.fault ≤ after.faults) (sym behind) (fault_within t row k.outcome after.faults (omega arith) k.count);
     }

@@ -19,6 +19,7 @@ use Rattle.dir_table.specs.Displacement.{Displacement, rows_without}
 use Rattle.agg_buffer.specs.Buffer.{Buffer, Adds, blocks_in, bytes_at, filled_of, next_place_of}
 use Rattle.ats_disk.specs.Device.{State as Device, IsTold}
 use Rattle.cyclone.specs.Cyclone.{Seen, IsTurning, IsPut}
+use Rattle.alternate_vector.proofs.Loops.{each_push}
 use Rattle.cache_model.specs.declared.record.Rec.TheVariants as rec
 use Rattle.cache_model.specs.State.{State, Row, floor_now, place_now, placed_row, row_in, state_after, without}
 use Rattle.cache_model.specs.Tape.{IsSound}
@@ -63,10 +64,6 @@ kept_more false false n h = refl
 kept_more false true n h = let f : false ≡ true = h refl in cc
 
 -- ---- what is buffered
-
-pub all_append : (P : Row → Type 0) (rows : List Row) (row : Row) → AllByRecursion P rows → P row → AllByRecursion P (rows ++ row ∷ [])
-all_append P [] row all h = (h, all)
-all_append P (first ∷ rows) row all h = (all.0, all_append P rows row all.1 h)
 
 pub still_buffered : (b after : Buffer) (piece : List ℕ) (rows : List Row) → Adds b after piece → after.cursor ≡ b.cursor → AllByRecursion (IsBufferedWhereNew b) rows → AllByRecursion (IsBufferedWhereNew after) rows
 still_buffered b after piece [] adds same all = tt
@@ -202,10 +199,10 @@ module _ (s : State) (c new : Seen) (doc : Doc) (payload : List ℕ) (digest : D
     filled = filled_is;
     entered = entered after new counts;
     buffered = subst (AllByRecursion (IsBufferedWhereNew new.buffer)) (sym rows_are)
-        (all_append (IsBufferedWhereNew new.buffer) s.rows row (still_buffered c.buffer new.buffer (document_bytes doc payload) s.rows put.buffer same_cursor held.buffered) own_buffered);
+        (each_push (IsBufferedWhereNew new.buffer) s.rows row (still_buffered c.buffer new.buffer (document_bytes doc payload) s.rows put.buffer same_cursor held.buffered) own_buffered);
     intact = subst (λ (d : Device). IsTold d → AllByRecursion (IsIntactWhereWritten after d.seen) after.rows) (sym put.device)
-        (λ told. subst (AllByRecursion (IsIntactWhereWritten after c.device.seen)) (sym rows_are) (all_append (IsIntactWhereWritten after c.device.seen) s.rows row (each_same_intact s after c.device.seen s.rows refl refl (held.intact told)) not_written));
-    laps = subst (AllByRecursion (IsInLap s.geometry)) (sym rows_are) (all_append (IsInLap s.geometry) s.rows row held.laps in_lap);
+        (λ told. subst (AllByRecursion (IsIntactWhereWritten after c.device.seen)) (sym rows_are) (each_push (IsIntactWhereWritten after c.device.seen) s.rows row (each_same_intact s after c.device.seen s.rows refl refl (held.intact told)) not_written));
+    laps = subst (AllByRecursion (IsInLap s.geometry)) (sym rows_are) (each_push (IsInLap s.geometry) s.rows row held.laps in_lap);
     faults = subst (λ n. s.fault ≤ n) (sym (ap (λ (d : Device). d.faults) put.device)) held.faults;
   }
 

@@ -54,24 +54,14 @@ others_keep s a (r ∷ recs) all h = others_keep (state_after s r) a recs all.1 
 
 reader_stays : (s : State) (r : Rec) → speaks_of_actors r ≡ false → (state_after s r).next_reader ≡ s.next_reader
 reader_stays s (rec.Formatted geometry) h = cc
-reader_stays s (rec.Began cursor floor) h = refl
-reader_stays s (rec.Placed piece place blocks digest pin) h = refl
-reader_stays s (rec.Moved piece from place digest) h = refl
-reader_stays s (rec.Unsaved piece place fault) h = refl
-reader_stays s (rec.Displaced piece segment live) h = refl
-reader_stays s (rec.Damaged piece place kept other) h = refl
 reader_stays s (rec.WriteOpened actor put key request response pin) h = cc
 reader_stays s (rec.Cut put index length digest) h = cc
 reader_stays s (rec.Committed put key length) h = cc
 reader_stays s (rec.Aborted put key) h = cc
-reader_stays s (rec.Removed put key) h = refl
 reader_stays s (rec.ReadOpened reader actor key request answer) h = cc
 reader_stays s (rec.Gave reader index length) h = cc
-reader_stays s (rec.Ended reader length) h = refl
-reader_stays s (rec.Waited reader cut) h = refl
-reader_stays s (rec.Broke reader why) h = refl
 reader_stays s (rec.ReadClosed reader) h = cc
-reader_stays s (rec.Fault count) h = refl
+reader_stays s _ h = refl
 
 pub readers_stay : (s : State) (recs : List Rec) → AllOthers recs → (after_all s recs).next_reader ≡ s.next_reader
 readers_stay s [] all = refl
@@ -96,14 +86,9 @@ actors_with k new a recs is all h =
 -- ---- which these are
 
 causes_are_others : (row : Row) (why : Rattle.cache_model.specs.declared.cause.Cause.Cause) → AllOthers (cause_records row why)
-causes_are_others row cause.NeverPut = tt
-causes_are_others row cause.Removed = tt
-causes_are_others row (cause.Passed place floor unsaved) = tt
-causes_are_others row (cause.NoMatch count) = tt
-causes_are_others row (cause.Displaced segment live) = tt
-causes_are_others row (cause.Aborted writer) = tt
 causes_are_others row (cause.DeviceFault count) = (refl, tt)
 causes_are_others row (cause.Damaged place kept other) = (refl, tt)
+causes_are_others row _ = tt
 
 found_are_others : (o : Option Row) (answer : Found) → AllOthers (found_records o answer)
 found_are_others None answer = tt

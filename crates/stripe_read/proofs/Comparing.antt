@@ -13,12 +13,12 @@ use Rattle.cache_model.specs.declared.record.Rec.TheVariants as rec
 use Rattle.cache_model.specs.State.{Row, State, live_row_of, row_in}
 use Rattle.cache_model.specs.Permit.{Permit}
 use Rattle.cache_model.specs.Given.{IsWritten}
+use Rattle.cache_model.proofs.Lists.{own_piece}
 use Rattle.stripe_core.specs.declared.refusal.Found.{Found}
 use Rattle.stripe_core.specs.declared.refusal.Found.TheVariants as found
 use Rattle.stripe_core.specs.Find.{Finds, IsDocumentOf, IsFoundAs, find_adds, found_records}
 use Rattle.stripe_core.specs.Pieces.{live_place_of}
 use Rattle.stripe_core.proofs.Candidates.{live_is}
-use Rattle.stripe_core.proofs.Going.{own}
 use Rattle.stripe_vectors.proofs.Finding.{own_covers, own_permit}
 use Rattle.stripe_read.specs.declared.fetching.Unlike.{Unlike}
 use Rattle.stripe_read.specs.Fetches.{Fetches, IsCompared, IsFetched, IsListedAs, IsOtherDocument, IsUnlike}
@@ -45,7 +45,7 @@ found_size s old new id size into f =
 pub unlike_adds : (s : State) (id : PieceId) (listed : Option Digest) (payload : List ℕ) (u : Unlike) (h : IsUnlike s id listed payload u)
     → rec.Damaged id u.place u.kept u.found ∷ [] ≡ find_adds s id (found.Missing (cause.Damaged u.place u.kept u.found))
 unlike_adds s id listed payload u h =
-    let name : h.row.id ≡ id = own id s.rows h.row (live_is s (row_in s.rows id) h.row h.live).0 in
+    let name : h.row.id ≡ id = own_piece id s.rows h.row (live_is s (row_in s.rows id) h.row h.live).0 in
     ap (λ i. rec.Damaged i u.place u.kept u.found ∷ []) (sym name)
     ∙ (ap (λ n. rec.Damaged h.row.id n u.kept u.found ∷ []) (sym h.place_is)
     ∙ ap (λ o. found_records o (found.Missing (cause.Damaged u.place u.kept u.found))) (sym h.live))

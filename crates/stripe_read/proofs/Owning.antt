@@ -8,6 +8,7 @@ use Rattle.std.proofs.lemmas.List.{append-nil}
 use Rattle.tape_base.specs.declared.actors.Actor.{Actor}
 use Rattle.tape_base.specs.declared.keys.Key.{Key}
 use Rattle.alternate_vector.specs.Field.{Field}
+use Rattle.alternate_vector.proofs.Loops.{each_push}
 use Rattle.cache_model.specs.declared.cause.Cause.{Cause}
 use Rattle.cache_model.specs.declared.cause.Cause.TheVariants as cause
 use Rattle.cache_model.specs.declared.answer.NextAnswer.{NextAnswer}
@@ -120,11 +121,6 @@ owns_none reader old new h = record { added = []; adds = h ∙ sym (ap (λ recs.
 pub owns : (reader : ℕ) (old new : Kept) (added : List Rec) → new ≡ with_records old added → AllByRecursion (IsOfReader reader) added → AddsOfReader reader old new
 owns reader old new added adds own = record { added = added; adds = adds; own = own }
 
--- one record behind others
-own_last : (reader : ℕ) (before : List Rec) (last : Rec) → AllByRecursion (IsOfReader reader) before → IsOfReader reader last → AllByRecursion (IsOfReader reader) (before ++ last ∷ [])
-own_last reader [] last own then_ = (then_, tt)
-own_last reader (r ∷ before) last own then_ = (own.0, own_last reader before last own.1 then_)
-
 own_cause : (reader : ℕ) (row : Row) (why : Cause) → AllByRecursion (IsOfReader reader) (cause_records row why)
 own_cause reader row cause.NeverPut = tt
 own_cause reader row cause.Removed = tt
@@ -160,7 +156,7 @@ pub owns_open : (old new : Kept) (who : Actor) (key : Key) (request : List Field
 owns_open old new who key request (Ok opened) adds ok =
     let answer = lookups.answer_in opened in
     owns (state_of old).next_reader old new _ adds
-    (own_last (state_of old).next_reader (lookups.lookup_adds (state_of old) key answer) (rec.ReadOpened (state_of old).next_reader who key request answer)
+    (each_push (IsOfReader (state_of old).next_reader) (lookups.lookup_adds (state_of old) key answer) (rec.ReadOpened (state_of old).next_reader who key request answer)
     (own_look_trouble (state_of old).next_reader (live_vector_of (state_of old) key) answer) refl)
 owns_open old new who key request (Err e) adds ok = cc
 
@@ -169,7 +165,7 @@ pub owns_read : (old new : Kept) (r : Reader) (answer : NextPiece) → new ≡ w
 owns_read old new r answer adds =
     let noted = nexts.noted (nexts.listed_length (state_of old) r) answer in
     owns r.reader old new _ adds
-    (own_last r.reader (nexts.trouble_with (live_next (state_of old) (as_row r)) answer) (answer_record r.reader noted)
+    (each_push (IsOfReader r.reader) (nexts.trouble_with (live_next (state_of old) (as_row r)) answer) (answer_record r.reader noted)
     (own_next_trouble r.reader (live_next (state_of old) (as_row r)) answer) (own_answer r.reader noted))
 
 -- or wants memory

@@ -1,5 +1,5 @@
--- The vector that a put is to have: its pin, and that it is a piece.
-use Rattle.std.proofs.Common.{◌≡◌, ℕ, zero, suc, ◌+◌, ◌-◌, ◌*◌, ◌/◌, ◌<◌, ◌≤◌, List, [], ◌∷◌, refl, ◌∙◌, ap, arith, Bool, true, false, take, length}
+-- The vector that a put is to have: its pin and its size.
+use Rattle.std.proofs.Common.{◌≡◌, ℕ, zero, suc, ◌+◌, ◌-◌, ◌<◌, ◌≤◌, List, [], ◌∷◌, refl, ◌∙◌, ap, arith, Bool, true, false, take, length}
 use Rattle.std.specs.Prelude.{Some, max, slice_get, fold, nat_le, if◌then◌else◌}
 use Rattle.std.proofs.lemmas.Bool.{and_parts, leb-true}
 use Rattle.std.proofs.lemmas.List.{take_all}
@@ -29,7 +29,3 @@ size_by most bytes a list false e rest some = rest some
 pub size_longest : (most bytes : ℕ) (list : List Stored) → 0 < length (longest_within most bytes list) → vector_size (longest_within most bytes list) ≤ bytes
 size_longest most bytes [] some = absurd (omega (arith, some))
 size_longest most bytes (a ∷ list) some = size_by most bytes a list (is_within most bytes (a ∷ list)) refl (size_longest most bytes list) some
-
--- so it is a piece
-pub blocks_small : (bytes budget : ℕ) → 0 < budget → bytes ≤ 512 * budget - 128 → (128 + bytes + 511) / 512 ≤ budget
-blocks_small bytes budget some h = omega (arith, some, h)

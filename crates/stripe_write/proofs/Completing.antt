@@ -22,6 +22,7 @@ use Rattle.cache_model.specs.State.{after_all}
 use Rattle.cache_model.specs.Kept.{Kept, state_of, with_records}
 use Rattle.cache_model.specs.Permit.{Commit, Done, Exhausted, Fails, Finish}
 use Rattle.cache_model.specs.Legal.{Does}
+use Rattle.cache_model.proofs.Found.{cuts_found}
 use Rattle.stripe_core.specs.declared.refusal.Placed.{Placed}
 use Rattle.stripe_core.specs.declared.refusal.Refusal.{Refusal}
 use Rattle.stripe_core.specs.declared.refusal.Refusal.TheVariants as refusal
@@ -192,11 +193,8 @@ closed_writer s w key bytes = λ row found o.
 
 -- ---- what it makes of the records
 
-cuts_of_put : (s : State) (put : ℕ) (w : PutRow) → put_of s put ≡ Some w → cuts_of s put ≡ w.cuts
-cuts_of_put s put w h = ap (λ (o : Option PutRow). unwrap_or (option_map (λ (p : PutRow). p.cuts) o) []) h
-
 pub cuts_at_hand : (s : State) (w : Writer) (c : IsClosing s w) → cuts_of s w.put ≡ w.table.rows
-cuts_at_hand s w c = cuts_of_put s w.put c.row c.writing.found ∙ c.cuts_are
+cuts_at_hand s w c = cuts_found s w.put c.row c.writing.found ∙ c.cuts_are
 
 fragments : (s : State) (w : Writer) (c : IsClosing s w) → length (cuts_of s w.put) ≡ length w.table.rows
 fragments s w c = ap length (cuts_at_hand s w c)
@@ -232,12 +230,7 @@ module _ (now : ℕ) (old new : Kept) (before after : ℕ) (w : Writer) (v : Vec
   refused_finishes (refusal.Exhausted number) h memory = no_place number h
   refused_finishes (refusal.DeviceFault number) h memory = absurd h.at
   refused_finishes (refusal.Memory e) h memory = absurd memory
-  refused_finishes refusal.TooManyWriters h memory = absurd h
-  refused_finishes refusal.TooManyFragments h memory = absurd h
-  refused_finishes (refusal.VectorTooLarge size) h memory = absurd h
-  refused_finishes (refusal.Lost index why) h memory = absurd h
-  refused_finishes refusal.Sealed h memory = absurd h
-  refused_finishes refusal.NoSuchWriter h memory = absurd h
+  refused_finishes _ h memory = absurd h
 
   pub completes : (mid : Kept) (between : ℕ) (placed : Placed) (receipt : Receipt) → after ≡ between → PlacesVector old mid before between id pin 0 payload (Ok placed)
       → new ≡ with_records mid (committed_record (state_of mid) w.put w.key ∷ []) → CommitsAsAsked (state_of mid) w.put w.key → FinishesAsRead now before after old new w v (Ok receipt)
@@ -265,12 +258,7 @@ pub not_placed : (old new : Kept) (before after : ℕ) (piece : PieceId) (pin : 
 not_placed old new before after piece pin payload (refusal.Exhausted number) h = h.adds ∙ nothing_more old
 not_placed old new before after piece pin payload (refusal.DeviceFault count) h = h.adds ∙ nothing_more old
 not_placed old new before after piece pin payload (refusal.Memory e) h = h
-not_placed old new before after piece pin payload refusal.TooManyWriters h = absurd h
-not_placed old new before after piece pin payload refusal.TooManyFragments h = absurd h
-not_placed old new before after piece pin payload (refusal.VectorTooLarge size) h = absurd h
-not_placed old new before after piece pin payload (refusal.Lost index why) h = absurd h
-not_placed old new before after piece pin payload refusal.Sealed h = absurd h
-not_placed old new before after piece pin payload refusal.NoSuchWriter h = absurd h
+not_placed old new before after piece pin payload _ h = absurd h
 
 pub refused_writer : (old new : Kept) (before after : ℕ) (w : Writer) (pin : ℕ) (payload : List ℕ) (why : Refusal)
     → Answers {X = Placed} (Err why) (PlacesVector old new before after (vector_piece w.key w.put) pin 0 payload) (new ≡ old) → IsWriterOf (state_of old) w → IsWriterOf (state_of new) w

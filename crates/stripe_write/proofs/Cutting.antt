@@ -18,7 +18,7 @@ use Rattle.cache_model.specs.State.{PutRow, State, after_all, change_put, fragme
 use Rattle.cache_model.specs.Kept.{Kept, state_of}
 use Rattle.cache_model.specs.Legal.{IsQuiet}
 use Rattle.cache_model.specs.Room.{placed_record}
-use Rattle.cache_model.proofs.Steps.{after_all-append}
+use Rattle.cache_model.proofs.Steps.{after_all-append, all_append}
 use Rattle.stripe_actors.proofs.Rows.{find-changed}
 use Rattle.stripe_core.specs.declared.refusal.Placed.{Placed}
 use Rattle.stripe_core.specs.declared.refusal.Refusal.{Refusal}
@@ -165,25 +165,14 @@ module _ (w : Writer) (n t : ℕ) (p : List ℕ) (n_is : n ≡ length w.table.ro
 pub cut_stops : (now : ℕ) (old new : Kept) (first : ℕ) (after : Device) (piece : PieceId) (pin start : ℕ) (payload : List ℕ) (why : Refusal)
     → Answers {X = Placed} (Err why) (CutsAsAsked now old new first after piece pin start payload) (new ≡ old) → StopsAtLimit (state_of new) (length payload) why
 cut_stops now old new first after piece pin start payload (refusal.Exhausted number) h = subst (λ t. ReachesLimit t (length payload) number) (sym (state_behind old new h.added h.adds)) h.shape.why_is
-cut_stops now old new first after piece pin start payload (refusal.DeviceFault count) h = tt
-cut_stops now old new first after piece pin start payload (refusal.Memory e) h = tt
-cut_stops now old new first after piece pin start payload refusal.TooManyWriters h = tt
-cut_stops now old new first after piece pin start payload refusal.TooManyFragments h = tt
-cut_stops now old new first after piece pin start payload (refusal.VectorTooLarge size) h = tt
-cut_stops now old new first after piece pin start payload (refusal.Lost index cause) h = tt
-cut_stops now old new first after piece pin start payload refusal.Sealed h = tt
-cut_stops now old new first after piece pin start payload refusal.NoSuchWriter h = tt
+cut_stops now old new first after piece pin start payload _ h = tt
 
 -- the records of a cut are its put's own
-pub both_own : (put : ℕ) (a b : List Rec) → AllByRecursion (IsOfPut put) a → AllByRecursion (IsOfPut put) b → AllByRecursion (IsOfPut put) (a ++ b)
-both_own put [] b own then_ = then_
-both_own put (r ∷ a) b own then_ = (own.0, both_own put a b own.1 then_)
-
 pub cut_is_own : (s : State) (piece : PieceId) (pin start : ℕ) (payload : List ℕ) (added : List Rec) (placed : Placed) → is_vector piece ≡ false → IsCutAs s piece pin start payload added placed → AllByRecursion (IsOfPut piece.put) added
 cut_is_own s piece pin start payload added placed kind c =
     let room : State = after_all s c.room in
     let two : AllByRecursion (IsOfPut piece.put) (piece_records room piece pin start payload) = subst (AllByRecursion (IsOfPut piece.put)) (sym (cut_two room piece pin start payload kind)) (refl, (tt, tt)) in
-    subst (AllByRecursion (IsOfPut piece.put)) (sym c.is) (both_own piece.put c.room (piece_records room piece pin start payload) (flush_is_own piece.put c.room c.kinds) two)
+    subst (AllByRecursion (IsOfPut piece.put)) (sym c.is) (all_append (IsOfPut piece.put) c.room (piece_records room piece pin start payload) (flush_is_own piece.put c.room c.kinds) two)
 
 pub rows_behind : (r : Result (Unit {0}) AllocError) (u : Unit {0}) (before after : List TableRow) (size : ℕ) (digest : Digest) (bytes : List ℕ) → r ≡ Ok u → OnOk r (after ≡ before ++ made_row size digest.0 ∷ [])
     → size ≡ length bytes → digest ≡ digest_of bytes → after ≡ before ++ made_row (length bytes) (digest_of bytes).0 ∷ []

@@ -50,20 +50,7 @@ one_leaves s (rec.Moved piece from place digest) h = record { geometry = refl; p
 one_leaves s (rec.Unsaved piece place fault) h = record { geometry = refl; puts = refl; readers = refl; pending = refl; displaced = refl; vectors = refl; next_put = refl; next_reader = refl }
 one_leaves s (rec.Damaged piece place kept found) h = record { geometry = refl; puts = refl; readers = refl; pending = refl; displaced = refl; vectors = refl; next_put = refl; next_reader = refl }
 one_leaves s (rec.Fault count) h = record { geometry = refl; puts = refl; readers = refl; pending = refl; displaced = refl; vectors = refl; next_put = refl; next_reader = refl }
-one_leaves s (rec.Formatted geometry) h = absurd h
-one_leaves s (rec.Placed piece place blocks digest pin) h = absurd h
-one_leaves s (rec.Displaced piece segment live) h = absurd h
-one_leaves s (rec.WriteOpened actor put key request response pin) h = absurd h
-one_leaves s (rec.Cut put index size digest) h = absurd h
-one_leaves s (rec.Committed put key size) h = absurd h
-one_leaves s (rec.Aborted put key) h = absurd h
-one_leaves s (rec.Removed put key) h = absurd h
-one_leaves s (rec.ReadOpened reader actor key request answer) h = absurd h
-one_leaves s (rec.Gave reader index size) h = absurd h
-one_leaves s (rec.Ended reader size) h = absurd h
-one_leaves s (rec.Waited reader cut) h = absurd h
-one_leaves s (rec.Broke reader why) h = absurd h
-one_leaves s (rec.ReadClosed reader) h = absurd h
+one_leaves s _ h = absurd h
 
 pub flush_leaves : (s : State) (recs : List Rec) → AreOfFlush recs → LeavesActors s (after_all s recs)
 flush_leaves s [] h = leaves_all s
@@ -77,20 +64,7 @@ one_of_put put (rec.Moved piece from place digest) h = tt
 one_of_put put (rec.Unsaved piece place fault) h = tt
 one_of_put put (rec.Damaged piece place kept found) h = tt
 one_of_put put (rec.Fault count) h = tt
-one_of_put put (rec.Formatted geometry) h = absurd h
-one_of_put put (rec.Placed piece place blocks digest pin) h = absurd h
-one_of_put put (rec.Displaced piece segment live) h = absurd h
-one_of_put put (rec.WriteOpened actor q key request response pin) h = absurd h
-one_of_put put (rec.Cut q index size digest) h = absurd h
-one_of_put put (rec.Committed q key size) h = absurd h
-one_of_put put (rec.Aborted q key) h = absurd h
-one_of_put put (rec.Removed q key) h = absurd h
-one_of_put put (rec.ReadOpened reader actor key request answer) h = absurd h
-one_of_put put (rec.Gave reader index size) h = absurd h
-one_of_put put (rec.Ended reader size) h = absurd h
-one_of_put put (rec.Waited reader cut) h = absurd h
-one_of_put put (rec.Broke reader why) h = absurd h
-one_of_put put (rec.ReadClosed reader) h = absurd h
+one_of_put put _ h = absurd h
 
 pub flush_is_own : (put : ℕ) (recs : List Rec) → AreOfFlush recs → AllByRecursion (IsOfPut put) recs
 flush_is_own put [] h = tt
@@ -122,10 +96,4 @@ vector_before s t key row same live h =
 pub stop_in : {X : Type 0} (R : Result X Stop → Type 0) (why : Refusal) → Answers {X = X} (Err why) R ⊥ → (x : Stop) × R (Err x)
 stop_in R (refusal.DeviceFault count) h = (stop.DeviceFault count, h)
 stop_in R (refusal.Exhausted number) h = (stop.Exhausted number, h)
-stop_in R (refusal.Memory e) h = absurd h
-stop_in R refusal.TooManyWriters h = absurd h
-stop_in R refusal.TooManyFragments h = absurd h
-stop_in R (refusal.VectorTooLarge size) h = absurd h
-stop_in R (refusal.Lost index why) h = absurd h
-stop_in R refusal.Sealed h = absurd h
-stop_in R refusal.NoSuchWriter h = absurd h
+stop_in R _ h = absurd h

@@ -226,24 +226,14 @@ writes_refused now old old1 new before before1 after w w' bytes (refusal.Exhaust
       does = record { shape = mine.shape; does = mine.does };
     }
 writes_refused now old old1 new before before1 after w w' bytes (refusal.Memory memory) e f same g h = writes_none now old new before after w bytes (Err (refusal.Memory memory)) (h ∙ e) refl
-writes_refused now old old1 new before before1 after w w' bytes refusal.TooManyWriters e f same g h = absurd h
-writes_refused now old old1 new before before1 after w w' bytes refusal.TooManyFragments e f same g h = absurd h
-writes_refused now old old1 new before before1 after w w' bytes (refusal.VectorTooLarge size) e f same g h = absurd h
-writes_refused now old old1 new before before1 after w w' bytes (refusal.Lost index cause) e f same g h = absurd h
-writes_refused now old old1 new before before1 after w w' bytes refusal.Sealed e f same g h = absurd h
-writes_refused now old old1 new before before1 after w w' bytes refusal.NoSuchWriter e f same g h = absurd h
+writes_refused now old old1 new before before1 after w w' bytes _ e f same g h = absurd h
 
 -- a cut is refused where the fragment has gathered
 pub refused_where : (s : State) (w : Writer) (bytes : List ℕ) (why : Refusal) (P : Result Placed Stop → Type 0) (Wanting : Type 0) → Answers {X = Placed} (Err why) P Wanting → IsCutting s w bytes → WritesWhere s w bytes (Err why)
 refused_where s w bytes (refusal.DeviceFault count) P Wanting h cutting = cutting
 refused_where s w bytes (refusal.Exhausted number) P Wanting h cutting = cutting
 refused_where s w bytes (refusal.Memory e) P Wanting h cutting = cutting.taking
-refused_where s w bytes refusal.TooManyWriters P Wanting h cutting = absurd h
-refused_where s w bytes refusal.TooManyFragments P Wanting h cutting = absurd h
-refused_where s w bytes (refusal.VectorTooLarge size) P Wanting h cutting = absurd h
-refused_where s w bytes (refusal.Lost index why) P Wanting h cutting = absurd h
-refused_where s w bytes refusal.Sealed P Wanting h cutting = absurd h
-refused_where s w bytes refusal.NoSuchWriter P Wanting h cutting = absurd h
+refused_where s w bytes _ P Wanting h cutting = absurd h
 
 -- ---- a cut that could not be made leaves the puts
 
@@ -263,12 +253,7 @@ pub failed_leaves : (now : ℕ) (kept new : Kept) (before : ℕ) (after : Device
 failed_leaves now kept new before after id pin start payload (refusal.DeviceFault count) h = flush_behind kept new h.added h.adds h.shape.kinds
 failed_leaves now kept new before after id pin start payload (refusal.Exhausted number) h = flush_behind kept new h.added h.adds h.shape.kinds
 failed_leaves now kept new before after id pin start payload (refusal.Memory e) h = subst (λ k. LeavesActors (state_of kept) (state_of k)) (sym h) (leaves_all (state_of kept))
-failed_leaves now kept new before after id pin start payload refusal.TooManyWriters h = absurd h
-failed_leaves now kept new before after id pin start payload refusal.TooManyFragments h = absurd h
-failed_leaves now kept new before after id pin start payload (refusal.VectorTooLarge bytes) h = absurd h
-failed_leaves now kept new before after id pin start payload (refusal.Lost index why) h = absurd h
-failed_leaves now kept new before after id pin start payload refusal.Sealed h = absurd h
-failed_leaves now kept new before after id pin start payload refusal.NoSuchWriter h = absurd h
+failed_leaves now kept new before after id pin start payload _ h = absurd h
 
 -- what makes room leaves so, also where none is made
 pub room_leaves : (now : ℕ) (old new : Kept) (before : ℕ) (after : Device) (bytes : ℕ) (result : Result (Unit {0}) Stop) → RoomsAsAsked now old new before after bytes result → LeavesActors (state_of old) (state_of new)

@@ -96,12 +96,7 @@ rest_refused now old new before after w (refusal.Exhausted number) some memory h
   does = λ p at covers. stop_spends p (state_of old) w w.gathered.items h.added Exhausted some (h.does p at covers);
 }
 rest_refused now old new before after w (refusal.Memory e) some memory h = memory
-rest_refused now old new before after w refusal.TooManyWriters some memory h = h
-rest_refused now old new before after w refusal.TooManyFragments some memory h = h
-rest_refused now old new before after w (refusal.VectorTooLarge size) some memory h = h
-rest_refused now old new before after w (refusal.Lost index cause) some memory h = h
-rest_refused now old new before after w refusal.Sealed some memory h = h
-rest_refused now old new before after w refusal.NoSuchWriter some memory h = h
+rest_refused now old new before after w _ some memory h = h
 
 -- ---- what its records leave
 

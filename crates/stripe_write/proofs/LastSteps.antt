@@ -20,6 +20,7 @@ use Rattle.stripe_core.specs.Covers.{Covers, Spends}
 use Rattle.stripe_core.specs.Flush.{stop_end}
 use Rattle.stripe_core.specs.Place.{ReachesLimit}
 use Rattle.stripe_core.specs.Stripe.{Answers}
+use Rattle.stripe_core.proofs.OneMore.{covers_first, covers_last}
 use Rattle.stripe_vectors.specs.Reading.{IsCollision}
 use Rattle.stripe_write.specs.declared.finishing.Receipt.{Receipt}
 use Rattle.stripe_write.specs.declared.weighing.Vectors.{Vectors}
@@ -36,7 +37,7 @@ use Rattle.stripe_write.proofs.Keeping.{KeepsVectors, keeps_rest, read_kept}
 use Rattle.stripe_write.proofs.LastCut.{rest_puts}
 use Rattle.stripe_write.proofs.Reaching.{finished_stops, rest_stops}
 use Rattle.stripe_write.proofs.Sealing.{IsSealed, SameAtClose, cut_same, sealed_same, sealed_writer, then_same}
-use Rattle.stripe_write.proofs.Spending.{covers_first, covers_last, nothing_more, state_behind, then_all, then_more}
+use Rattle.stripe_write.proofs.Spending.{nothing_more, state_behind, then_all, then_more}
 
 -- ---- what is asked, one behind the other
 
@@ -152,13 +153,7 @@ no_rest_ends now old new before after w sealed v (refusal.Exhausted number) is w
     number = rest_stops_at now old new before after w sealed (stop.Exhausted number) number is writing own some rests stops;
   };
 }
-no_rest_ends now old new before after w sealed v (refusal.Memory e) is writing own some stops rests = absurd rests
-no_rest_ends now old new before after w sealed v refusal.TooManyWriters is writing own some stops rests = absurd rests
-no_rest_ends now old new before after w sealed v refusal.TooManyFragments is writing own some stops rests = absurd rests
-no_rest_ends now old new before after w sealed v (refusal.VectorTooLarge size) is writing own some stops rests = absurd rests
-no_rest_ends now old new before after w sealed v (refusal.Lost index why) is writing own some stops rests = absurd rests
-no_rest_ends now old new before after w sealed v refusal.Sealed is writing own some stops rests = absurd rests
-no_rest_ends now old new before after w sealed v refusal.NoSuchWriter is writing own some stops rests = absurd rests
+no_rest_ends now old new before after w sealed v _ is writing own some stops rests = absurd rests
 
 -- ---- weighing, and then the rest
 
@@ -210,24 +205,12 @@ refused_spent : (p : Permit) (s t : State) (w : Writer) (why : Refusal) (added :
 refused_spent p s t w (refusal.VectorTooLarge size) added where_ h = weigh_fails_by p s w w.gathered.items added (TooLarge w.put size) h
 refused_spent p s t w (refusal.DeviceFault count) added where_ h = weigh_fails_by p s w w.gathered.items added (Faulted count) h
 refused_spent p s t w (refusal.Memory e) added where_ h = h
-refused_spent p s t w (refusal.Lost index why) added where_ h = absurd where_
-refused_spent p s t w (refusal.Exhausted number) added where_ h = absurd where_
-refused_spent p s t w refusal.TooManyWriters added where_ h = absurd where_
-refused_spent p s t w refusal.TooManyFragments added where_ h = absurd where_
-refused_spent p s t w refusal.Sealed added where_ h = absurd where_
-refused_spent p s t w refusal.NoSuchWriter added where_ h = absurd where_
+refused_spent p s t w _ added where_ h = absurd where_
 
 -- weighing does not come to the end of the tape
 weighed_stops : (s t : State) (w : Writer) (why : Refusal) → WeighsWhere s w (Err why) → StopsAtLimit t (bytes_next t w) why
 weighed_stops s t w (refusal.Exhausted number) where_ = absurd where_
-weighed_stops s t w (refusal.DeviceFault count) where_ = tt
-weighed_stops s t w (refusal.Memory e) where_ = tt
-weighed_stops s t w refusal.TooManyWriters where_ = tt
-weighed_stops s t w refusal.TooManyFragments where_ = tt
-weighed_stops s t w (refusal.VectorTooLarge size) where_ = tt
-weighed_stops s t w (refusal.Lost index cause) where_ = tt
-weighed_stops s t w refusal.Sealed where_ = tt
-weighed_stops s t w refusal.NoSuchWriter where_ = tt
+weighed_stops s t w _ where_ = tt
 
 pub refused_closes : (now : ℕ) (old new : Kept) (before after : Device) (w : Writer) (why : Refusal) → WeighsWhere (state_of old) w (Err why) → WeighsAsAsked before after old new w (Err why) → ClosesAsAsked now before.faults after.faults old new w (Err why)
 refused_closes now old new before after w why where_ weighs = record {
@@ -316,39 +299,22 @@ pub refused_where : (s t : State) (w : Writer) (why : Refusal) → is_writing s 
 refused_where s t w (refusal.VectorTooLarge size) writing h = (writing, h.0, h.1)
 refused_where s t w (refusal.DeviceFault count) writing h = writing
 refused_where s t w (refusal.Memory e) writing h = writing
-refused_where s t w (refusal.Lost index why) writing h = absurd h
-refused_where s t w (refusal.Exhausted number) writing h = absurd h
-refused_where s t w refusal.TooManyWriters writing h = absurd h
-refused_where s t w refusal.TooManyFragments writing h = absurd h
-refused_where s t w refusal.Sealed writing h = absurd h
-refused_where s t w refusal.NoSuchWriter writing h = absurd h
+refused_where s t w _ writing h = absurd h
 
 -- the writer behind a refusal
 abbrev pub sealed_by : Refusal → Writer → Writer
 sealed_by why w = record { put = w.put; key = w.key; request = w.request; response = w.response; pin = w.pin; gathered = w.gathered; table = w.table; sealed = is_sealed_by why w.sealed }
 
 pub refused_seals : (s : State) (w : Writer) (why : Refusal) → WeighsWhere s w (Err why) → SealsWhere w (sealed_by why w) (Err why)
-refused_seals s w (refusal.VectorTooLarge size) h = tt
 refused_seals s w (refusal.DeviceFault count) h = refl
 refused_seals s w (refusal.Memory e) h = refl
-refused_seals s w (refusal.Lost index why) h = tt
 refused_seals s w (refusal.Exhausted number) h = absurd h
-refused_seals s w refusal.TooManyWriters h = tt
-refused_seals s w refusal.TooManyFragments h = tt
-refused_seals s w refusal.Sealed h = tt
-refused_seals s w refusal.NoSuchWriter h = tt
+refused_seals s w _ h = tt
 
 pub refused_own : (s t : State) (w : Writer) (why : Refusal) → WeighsWhere t w (Err why) → IsWriterOf s w → IsWriterOf s (sealed_by why w)
 refused_own s t w (refusal.DeviceFault count) h own =
     sealed_writer s w (sealed_by (refusal.DeviceFault count) w) (record { put = refl; key = refl; request = refl; response = refl; pin = refl; gathered = refl; rows = refl; sealed = refl }) own
-refused_own s t w (refusal.VectorTooLarge size) h own = own
-refused_own s t w (refusal.Memory e) h own = own
-refused_own s t w (refusal.Lost index why) h own = own
-refused_own s t w (refusal.Exhausted number) h own = own
-refused_own s t w refusal.TooManyWriters h own = own
-refused_own s t w refusal.TooManyFragments h own = own
-refused_own s t w refusal.Sealed h own = own
-refused_own s t w refusal.NoSuchWriter h own = own
+refused_own s t w _ h own = own
 
 -- ---- what a writer has at hand once it was closed
 

@@ -12,6 +12,7 @@ use Rattle.cache_model.specs.declared.record.Rec.TheVariants as rec
 use Rattle.cache_model.specs.State.{PutRow, Row, State, after_all, change_put, state_after, vector_piece}
 use Rattle.cache_model.specs.Kept.{Kept, state_of, with_records}
 use Rattle.cache_model.specs.Verdict.{live_vector_of}
+use Rattle.cache_model.proofs.Steps.{all_append}
 use Rattle.stripe_actors.proofs.Rows.{find-changed}
 use Rattle.stripe_core.specs.declared.refusal.Placed.{Placed}
 use Rattle.stripe_core.specs.declared.refusal.Refusal.{Refusal}
@@ -29,7 +30,6 @@ use Rattle.stripe_write.specs.Weighing.{fit_adds}
 use Rattle.stripe_write.specs.Others.{AddsOfPut, IsOfPut, LeavesOthers}
 use Rattle.stripe_write.proofs.Spending.{nothing_more, state_behind, then_more}
 use Rattle.stripe_write.proofs.Flushed.{flush_is_own}
-use Rattle.stripe_write.proofs.Cutting.{both_own}
 
 -- ---- one record, and several
 
@@ -53,24 +53,17 @@ same_others put s t p r g = record { puts = λ q other. ap (find (λ (x : PutRow
 
 one_record : (put : ℕ) (s : State) (r : Rec) → IsOfPut put r → LeavesOthers put s (state_after s r)
 one_record put s (rec.Formatted geometry) h = absurd h
-one_record put s (rec.Began cursor floor) h = same_others put s _ refl refl refl
-one_record put s (rec.Placed piece place blocks digest pin) h = same_others put s _ refl refl refl
-one_record put s (rec.Moved piece from place digest) h = same_others put s _ refl refl refl
-one_record put s (rec.Unsaved piece place fault) h = same_others put s _ refl refl refl
-one_record put s (rec.Displaced piece segment live) h = same_others put s _ refl refl refl
-one_record put s (rec.Damaged piece place kept other) h = same_others put s _ refl refl refl
 one_record put s (rec.WriteOpened actor q key request response pin) h = record { puts = λ n other. find_other put n _ s.puts h other; readers = refl; geometry = refl }
 one_record put s (rec.Cut q index size digest) h = record { puts = λ n other. changed_other q n _ s.puts (λ x. refl) (λ e. other (e ∙ h)); readers = refl; geometry = refl }
 one_record put s (rec.Committed q key size) h = record { puts = λ n other. changed_other q n _ s.puts (λ x. refl) (λ e. other (e ∙ h)); readers = refl; geometry = refl }
 one_record put s (rec.Aborted q key) h = record { puts = λ n other. changed_other q n _ s.puts (λ x. refl) (λ e. other (e ∙ h)); readers = refl; geometry = refl }
-one_record put s (rec.Removed q key) h = same_others put s _ refl refl refl
 one_record put s (rec.ReadOpened reader actor key request answer) h = absurd h
 one_record put s (rec.Gave reader index size) h = absurd h
 one_record put s (rec.Ended reader size) h = absurd h
 one_record put s (rec.Waited reader cut) h = absurd h
 one_record put s (rec.Broke reader why) h = absurd h
 one_record put s (rec.ReadClosed reader) h = absurd h
-one_record put s (rec.Fault count) h = same_others put s _ refl refl refl
+one_record put s _ h = same_others put s _ refl refl refl
 
 then_others : (put : ℕ) (s t u : State) → LeavesOthers put s t → LeavesOthers put t u → LeavesOthers put s u
 then_others put s t u a b = record { puts = λ q other. b.puts q other ∙ a.puts q other; readers = b.readers ∙ a.readers; geometry = b.geometry ∙ a.geometry }
@@ -97,20 +90,15 @@ pub then_owns : (put : ℕ) (old mid new : Kept) → AddsOfPut put old mid → A
 then_owns put old mid new a b = record {
   added = a.added ++ b.added;
   adds = then_more old mid new a.added b.added a.adds b.adds;
-  own = both_own put a.added b.added a.own b.own;
+  own = all_append (IsOfPut put) a.added b.added a.own b.own;
 }
 
 -- ---- the records of each
 
 own_cause : (put : ℕ) (row : Row) (why : Cause) → AllByRecursion (IsOfPut put) (cause_records row why)
-own_cause put row cause.NeverPut = tt
-own_cause put row cause.Removed = tt
-own_cause put row (cause.Passed place floor unsaved) = tt
-own_cause put row (cause.NoMatch count) = tt
-own_cause put row (cause.Displaced segment live) = tt
-own_cause put row (cause.Aborted writer) = tt
 own_cause put row (cause.DeviceFault count) = (tt, tt)
 own_cause put row (cause.Damaged place kept other) = (tt, tt)
+own_cause put row _ = tt
 
 own_trouble : (put : ℕ) (o : Option Row) (answer : KeyVector) → AllByRecursion (IsOfPut put) (trouble_records o answer)
 own_trouble put None answer = tt

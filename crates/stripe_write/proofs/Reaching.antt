@@ -63,14 +63,7 @@ vector_stops : (t : State) (w cut : Writer) (why : Refusal) → cut.put ≡ w.pu
 vector_stops t w cut (refusal.Exhausted number) put rows stops =
     let whole : cuts_of t w.put ≡ rows_at_close w = ap (cuts_of t) (sym put) ∙ (stops.0 ∙ rows) in
     subst (λ n. ReachesLimit t n number) (sym (vector_next t w (ap length whole))) (subst (λ n. ReachesLimit t (vector_length t n) number) put stops.1)
-vector_stops t w cut (refusal.DeviceFault count) put rows stops = tt
-vector_stops t w cut (refusal.Memory e) put rows stops = tt
-vector_stops t w cut refusal.TooManyWriters put rows stops = tt
-vector_stops t w cut refusal.TooManyFragments put rows stops = tt
-vector_stops t w cut (refusal.VectorTooLarge size) put rows stops = tt
-vector_stops t w cut (refusal.Lost index cause) put rows stops = tt
-vector_stops t w cut refusal.Sealed put rows stops = tt
-vector_stops t w cut refusal.NoSuchWriter put rows stops = tt
+vector_stops t w cut _ put rows stops = tt
 
 pub finished_stops : (t : State) (w cut : Writer) (result : Result Receipt Refusal) → cut.put ≡ w.put → cut.table.rows ≡ rows_at_close w → IfErr result (VectorStops t cut) → IfErr result (StopsAtLimit t (bytes_next t w))
 finished_stops t w cut (Ok receipt) put rows stops = tt

@@ -25,6 +25,7 @@ use Rattle.stripe_core.specs.declared.refusal.Stop.TheVariants as stop
 use Rattle.stripe_core.specs.Flush.{LiveBefore, StopsWith}
 use Rattle.stripe_core.specs.Place.{ReachesLimit, RoomsAsAsked}
 use Rattle.stripe_core.specs.Stripe.{Answers}
+use Rattle.stripe_core.proofs.OneMore.{covers_first, covers_last}
 use Rattle.stripe_vectors.proofs.Finding.{own_covers, own_permit}
 use Rattle.stripe_write.specs.declared.finishing.Receipt.{Receipt}
 use Rattle.stripe_write.specs.declared.weighing.Vectors.{Vectors}
@@ -36,7 +37,7 @@ use Rattle.stripe_write.proofs.Gathering.{room_leaves}
 use Rattle.stripe_write.proofs.Keeping.{KeepsVectors, keeps_flush, read_stays}
 use Rattle.stripe_write.proofs.Reaching.{flush_reaches}
 use Rattle.stripe_write.proofs.Ended.{own_number}
-use Rattle.stripe_write.proofs.Spending.{covers_first, covers_last, nothing_more, one_group, state_behind, then_more}
+use Rattle.stripe_write.proofs.Spending.{nothing_more, one_group, state_behind, then_more}
 
 -- ---- a lost fragment
 
@@ -145,13 +146,7 @@ module _ (now : ℕ) (old new : Kept) (before : ℕ) (after : Device) (w : Write
           number = subst (λ k. VectorStops (state_of k) w (refusal.Exhausted number)) (sym same) (limit_at number none read full stops);
         };
   }
-  no_room_ends (refusal.Memory e) room full stops = absurd room
-  no_room_ends refusal.TooManyWriters room full stops = absurd room
-  no_room_ends refusal.TooManyFragments room full stops = absurd room
-  no_room_ends (refusal.VectorTooLarge size) room full stops = absurd room
-  no_room_ends (refusal.Lost index why) room full stops = absurd room
-  no_room_ends refusal.Sealed room full stops = absurd room
-  no_room_ends refusal.NoSuchWriter room full stops = absurd room
+  no_room_ends _ room full stops = absurd room
 
 -- ---- room for either vector
 

@@ -1,14 +1,13 @@
 -- What is asked is spent in order.
-use Rattle.std.proofs.Common.{◌≡◌, ℕ, ◌≤◌, List, [], ◌∷◌, ◌++◌, refl, ◌∙◌, ap, arith}
-use Rattle.std.specs.List.{AllByRecursion}
+use Rattle.std.proofs.Common.{◌≡◌, List, [], ◌∷◌, ◌++◌, refl, ◌∙◌, ap}
 use Rattle.std.proofs.lemmas.List.{append-nil, append_assoc}
 use Rattle.cache_model.specs.declared.record.Rec.{Rec}
 use Rattle.cache_model.specs.State.{State, after_all}
 use Rattle.cache_model.specs.Kept.{Kept, state_of, with_records}
-use Rattle.cache_model.specs.Permit.{DeviceRead, Done, End, Intent, IsAmong, Permit}
+use Rattle.cache_model.specs.Permit.{Done, End, Intent, Permit}
 use Rattle.cache_model.specs.Legal.{Does}
 use Rattle.cache_model.proofs.Steps.{after_all-append, grows_by, grows_on}
-use Rattle.stripe_core.specs.Covers.{Covers, Spends}
+use Rattle.stripe_core.specs.Covers.{Spends}
 use Rattle.stripe_write.specs.Closing.{SpendsAll}
 
 -- one group of records
@@ -34,19 +33,3 @@ then_more old mid new a b first last = last ∙ (ap (λ k. with_records k b) fir
 
 pub state_behind : (kept new : Kept) (recs : List Rec) → new ≡ with_records kept recs → state_of new ≡ after_all (state_of kept) recs
 state_behind kept new recs is = ap state_of is ∙ after_all-append kept.base kept.since recs
-
--- ---- a step that covers two calls covers each
-
-known_first : (p : Permit) (a b : List DeviceRead) → AllByRecursion (λ r. IsAmong r p.reads) (a ++ b) → AllByRecursion (λ r. IsAmong r p.reads) a
-known_first p [] b h = tt
-known_first p (r ∷ a) b h = (h.0, known_first p a b h.1)
-
-known_last : (p : Permit) (a b : List DeviceRead) → AllByRecursion (λ r. IsAmong r p.reads) (a ++ b) → AllByRecursion (λ r. IsAmong r p.reads) b
-known_last p [] b h = h
-known_last p (r ∷ a) b h = known_last p a b h.1
-
-pub covers_first : (p : Permit) (first between last : ℕ) (a b : List DeviceRead) → between ≤ last → Covers p first last (a ++ b) → Covers p first between a
-covers_first p first between last a b l covers = record { plain = covers.plain; from = covers.from; upto = omega (arith, l, covers.upto); knows = known_first p a b covers.knows }
-
-pub covers_last : (p : Permit) (first between last : ℕ) (a b : List DeviceRead) → first ≤ between → Covers p first last (a ++ b) → Covers p between last b
-covers_last p first between last a b f covers = record { plain = covers.plain; from = omega (arith, f, covers.from); upto = covers.upto; knows = known_last p a b covers.knows }

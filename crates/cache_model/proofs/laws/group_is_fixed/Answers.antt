@@ -1,4 +1,4 @@
-use Rattle.cache_model.proofs.Determined.{group_is_fixed}
+use Rattle.cache_model.proofs.Faithful.{group_is_fixed}
 use Rattle.cache_model.proofs.laws.group_is_fixed.Goals as goal
 
 pub returns : goal.returns

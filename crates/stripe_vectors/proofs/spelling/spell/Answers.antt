@@ -4,8 +4,9 @@ use Rattle.alternate_vector.specs.Alternates.{merged, stored_of, vector_size, wi
 use Rattle.alternate_vector.specs.Spelling.{vector_bytes}
 use Rattle.cache_model.specs.State.{most_alternates, most_payload}
 use Rattle.cache_model.specs.Room.{greatest_pin}
+use Rattle.cache_model.proofs.Merged.{blocks_fit}
 use Rattle.stripe_vectors.specs.Spelled.{listed_with}
-use Rattle.stripe_vectors.proofs.Pins.{blocks_small, size_longest}
+use Rattle.stripe_vectors.proofs.Pins.{size_longest}
 use Rattle.stripe_vectors.proofs.spelling.spell.Goals as goal
 
 pub returns : goal.returns
@@ -24,5 +25,5 @@ returns c =
       bytes = encoded ∙ ap vector_bytes same;
       size = size;
       pin = c.greatest_pin.ensures ∙ ap greatest_pin same;
-      small = blocks_small (length c.encode.new.into.items) (budget_of g) budget (omega (arith, size, within));
+      small = blocks_fit (length c.encode.new.into.items) (budget_of g) budget (omega (arith, size, within));
     }
