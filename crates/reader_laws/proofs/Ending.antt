@@ -8,7 +8,7 @@ use Rattle.cache_model.specs.declared.cause.Cause.{Cause}
 use Rattle.cache_model.specs.declared.cause.Cause.TheVariants as cause
 use Rattle.cache_model.specs.declared.record.Rec.{Rec}
 use Rattle.cache_model.specs.declared.record.Rec.TheVariants as rec
-use Rattle.cache_model.specs.State.{State, PutRow, Row, ReaderRow, reader_of}
+use Rattle.cache_model.specs.State.{State, Row, ReaderRow, reader_of}
 use Rattle.cache_model.specs.Verdict.{next_row, reader_verdict, verdict_at_end, verdict_of_fragment}
 use Rattle.cache_model.specs.Permit.{End, Permit, ReadOn}
 use Rattle.cache_model.specs.Given
@@ -91,35 +91,33 @@ table_told s streams put table quiet own t =
     let whole : total_length t.w.cuts ≡ length (streams t.w.put).bytes = elim t.complete [ inl closed ↦ p.whole closed | inr pending ↦ none_is (sym quiet ∙ pending) ] in
     ap total_length (sym t.cuts) ∙ (whole ∙ ap (λ k. length (streams k).bytes) (number_of s put t.w t.found))
 
-record IsAll (s : State) (streams : ℕ → Stream) (r : ReaderRow) (size : ℕ) : Type 0 where
-  all : take ((r.next - 1) * s.geometry.fragment) (streams r.put).bytes ≡ (streams r.put).bytes
-  told : size ≡ length (streams r.put).bytes
-
 at_end : (s : State) (r : ReaderRow) (size : ℕ) (table : List TableRow) → next_row s r ≡ None → r.table ≡ Some table → reader_verdict s r ≡ next.Ended size → total_length table ≡ size
 at_end s r size table none hit verdict =
     let last : verdict_at_end s r r.table ≡ next.Ended size = subst (λ (o : Option TableRow). unwrap_or (option_map (verdict_of_fragment s r) o) (verdict_at_end s r r.table) ≡ next.Ended size) none verdict in
     let told : next.Ended (total_length table) ≡ next.Ended size = subst (λ (o : Option (List TableRow)). verdict_at_end s r o ≡ next.Ended size) hit last in
     cc
 
-all_by : (n : ℕ) (s : State) (streams : ℕ → Stream) (r : ReaderRow) (size : ℕ) (o : Option (List TableRow)) → r.table ≡ o → AreKept s streams → IsQuiet s → 0 < r.next → reader_of s n ≡ Some r
-    → reader_verdict s r ≡ next.Ended size → IsAll s streams r size
-all_by n s streams r size (Some table) hit own quiet first found verdict =
-    let none : next_row s r ≡ None = end_is_whole s r size verdict in
+-- the table of a reader that hit something tells the length of all that the writer of its put took
+pub hit_told : (n : ℕ) (s : State) (streams : ℕ → Stream) (r : ReaderRow) (table : List TableRow) → r.table ≡ Some table → AreKept s streams → IsQuiet s → reader_of s n ≡ Some r
+    → total_length table ≡ length (streams r.put).bytes
+hit_told n s streams r table hit own quiet found =
     let o : IsOwnReader s r = found_in (IsOwnReader s) _ s.readers r own.readers found in
-    let t : IsTableOf s r.put table = subst (IsTableOfHit s r) hit o.table in
-    record {
-      all = kept_is_given s streams n r table own quiet first found hit none;
-      told = sym (at_end s r size table none hit verdict) ∙ table_told s streams r.put table quiet own t;
-    }
-all_by n s streams r size None follows own quiet first found verdict =
-    let none : next_row s r ≡ None = end_is_whole s r size verdict in
+    table_told s streams r.put table quiet own (subst (IsTableOfHit s r) hit o.table)
+
+-- and so does the end that is told
+pub end_told : (n : ℕ) (s : State) (streams : ℕ → Stream) (r : ReaderRow) (size : ℕ) (o : Option (List TableRow)) → r.table ≡ o → AreKept s streams → IsQuiet s → reader_of s n ≡ Some r
+    → reader_verdict s r ≡ next.Ended size → size ≡ length (streams r.put).bytes
+end_told n s streams r size (Some table) hit own quiet found verdict = sym (at_end s r size table (end_is_whole s r size verdict) hit verdict) ∙ hit_told n s streams r table hit own quiet found
+end_told n s streams r size None follows own quiet found verdict =
     let c = followed_is_closed s r size follows verdict in
-    let w : PutRow = c.0 in
-    let t : IsTableOf s r.put w.cuts = record { w = w; found = c.1.0; cuts = refl; complete = inl c.1.1 } in
-    record {
-      all = kept_is_followed s streams r w own quiet first follows c.1.0 c.1.1 none;
-      told = c.1.2 ∙ table_told s streams r.put w.cuts quiet own t;
-    }
+    c.1.2 ∙ table_told s streams r.put c.0.cuts quiet own (record { w = c.0; found = c.1.0; cuts = refl; complete = inl c.1.1 })
+
+all_by : (n : ℕ) (s : State) (streams : ℕ → Stream) (r : ReaderRow) (size : ℕ) (o : Option (List TableRow)) → r.table ≡ o → AreKept s streams → IsQuiet s → 0 < r.next → reader_of s n ≡ Some r
+    → reader_verdict s r ≡ next.Ended size → take ((r.next - 1) * s.geometry.fragment) (streams r.put).bytes ≡ (streams r.put).bytes
+all_by n s streams r size (Some table) hit own quiet first found verdict = kept_is_given s streams n r table own quiet first found hit (end_is_whole s r size verdict)
+all_by n s streams r size None follows own quiet first found verdict =
+    let c = followed_is_closed s r size follows verdict in
+    kept_is_followed s streams r c.0 own quiet first follows c.1.0 c.1.1 (end_is_whole s r size verdict)
 
 -- ---- behind lines
 
@@ -141,16 +139,16 @@ has_all : (s t : State) (n : ℕ) (r u : ReaderRow) (old now : ℕ → Stream) (
 has_all s t n r u old now given size at g first geometry own quiet found verdict =
     let here : IsOpenAt s n g.r = subst (IsOpenAt s n) (sym first) at in
     let last : IsOpenAt t n u = g.opens here in
-    let all : IsAll t now u size = all_by n t now u size u.table refl own quiet last.first found verdict in
+    let all : take ((u.next - 1) * t.geometry.fragment) (now u.put).bytes ≡ (now u.put).bytes = all_by n t now u size u.table refl own quiet last.first found verdict in
     let put : u.put ≡ r.put = g.put ∙ ap (λ (x : ReaderRow). x.put) first in
     let fragment : t.geometry.fragment ≡ s.geometry.fragment = ap (λ (x : Rattle.tape_base.specs.declared.geometries.Geometry.Geometry). x.fragment) geometry in
     let whole : take ((u.next - 1) * s.geometry.fragment) (now r.put).bytes ≡ (now r.put).bytes =
-    subst (λ k. take ((u.next - 1) * s.geometry.fragment) (now k).bytes ≡ (now k).bytes) put (subst (λ f. take ((u.next - 1) * f) (now u.put).bytes ≡ (now u.put).bytes) fragment all.all) in
+    subst (λ k. take ((u.next - 1) * s.geometry.fragment) (now k).bytes ≡ (now k).bytes) put (subst (λ f. take ((u.next - 1) * f) (now u.put).bytes ≡ (now u.put).bytes) fragment all) in
     let is : given ≡ drop ((r.next - 1) * s.geometry.fragment) (take ((u.next - 1) * s.geometry.fragment) (now r.put).bytes) =
     subst (λ (x : ReaderRow). given ≡ drop ((x.next - 1) * s.geometry.fragment) (take ((u.next - 1) * s.geometry.fragment) (now x.put).bytes)) first (g.told here).is in
     record {
       is = is ∙ ap (drop ((r.next - 1) * s.geometry.fragment)) whole;
-      told = subst (λ k. size ≡ length (now k).bytes) put all.told;
+      told = subst (λ k. size ≡ length (now k).bytes) put (end_told n t now u size u.table refl own quiet found verdict);
     }
 
 pub end_is_all : (laws : OfSteps) (run : Run) (lines : List (List ℕ)) (turns : List Turn) (s : State) (reader : ℕ) (r : ReaderRow) (actor : List ℕ) (turn : Turn) (size : ℕ)

@@ -1,5 +1,5 @@
 -- What a line is answered that it hit or follows was put under the key that it asks for, by a put whose lines fit.
-use Rattle.std.proofs.Common.{◌≡◌, ℕ, List, [], ◌∷◌, ◌++◌, refl, sym, ◌∙◌, ap, subst, inl, inr, true, ◌&&◌}
+use Rattle.std.proofs.Common.{◌≡◌, ℕ, List, [], ◌∷◌, ◌++◌, refl, sym, ◌∙◌, ap, subst, inl, inr, true, ◌&&◌, append-nil}
 use Rattle.std.specs.Prelude.{Option, Some, None}
 use Rattle.std.proofs.lemmas.Bool.{and_parts}
 use Rattle.std.proofs.lemmas.Option.{same_Some}
@@ -7,6 +7,7 @@ use Rattle.tape_base.specs.declared.actors.Actor.{Actor}
 use Rattle.tape_base.specs.declared.keys.Key.{Key}
 use Rattle.tape_base.specs.Key.{same_key}
 use Rattle.tape_base.proofs.NameLaws.{same_key-true}
+use Rattle.fragment_table.specs.Table.{TableRow}
 use Rattle.alternate_vector.specs.Field.{Field}
 use Rattle.alternate_vector.specs.Vary.{request_matches}
 use Rattle.cache_model.specs.declared.answer.ReadAnswer.{ReadAnswer}
@@ -15,14 +16,14 @@ use Rattle.cache_model.specs.declared.cause.Cause.{Cause}
 use Rattle.cache_model.specs.declared.cause.Cause.TheVariants as cause
 use Rattle.cache_model.specs.declared.record.Rec.{Rec}
 use Rattle.cache_model.specs.declared.record.Rec.TheVariants as rec
-use Rattle.cache_model.specs.State.{State, PutRow, ReaderRow, after_all, reader_of, state_after}
+use Rattle.cache_model.specs.State.{State, PutRow, ReaderRow, after_all, reader_of, state_after, table_of_hit}
 use Rattle.cache_model.specs.Verdict.{followed, hit, is_open, lookup_verdict, may_follow}
 use Rattle.cache_model.specs.Permit.{End, Intent, Look, Permit, Reason}
 use Rattle.cache_model.specs.Given
 use Rattle.cache_model.specs.Legal
 use Rattle.cache_model.specs.Legal.{IsStep}
 use Rattle.cache_model.specs.StepLaws.{OneGroup}
-use Rattle.cache_model.proofs.Found.{none_is}
+use Rattle.cache_model.proofs.Found.{none_is, same_some}
 use Rattle.script_lang.specs.declared.answer.StepAnswer.{StepAnswer}
 use Rattle.script_lang.specs.declared.answer.StepAnswer.TheVariants as answer
 use Rattle.script_lang.specs.declared.step.Step.{Step}
@@ -31,7 +32,7 @@ use Rattle.actor_table.specs.Table.{number_of as number_in}
 use Rattle.script_run.specs.Run.{Holding, Run, fresh, held_by}
 use Rattle.script_run.specs.Asked
 use Rattle.script_run.specs.Turn.{Turn, lookup_in, told_in}
-use Rattle.script_run.specs.Answers.{broken_said, end_said, get_said, if_free, lookup_said, miss_said, step_answer, step_said}
+use Rattle.script_run.specs.Answers.{broken_said, end_said, get_said, hit_length, if_free, lookup_said, miss_said, step_answer, step_said}
 use Rattle.script_run.specs.Laws.{HitIsPut, IsPutFor}
 use Rattle.script_run.specs.Takes.{IsBody, IsRun, SessionTakes, StepTakes, Takes, run_after}
 use Rattle.reader_laws.specs.Along.{OpenedAlong, StandsWhere}
@@ -39,7 +40,8 @@ use Rattle.reader_laws.specs.Laws
 use Rattle.reader_laws.specs.Laws.{AnswersFollow, AnswersHit, WasPutFor}
 use Rattle.script_run.proofs.Finding.{found_true}
 use Rattle.script_run.proofs.Hitting.{step_answers}
-use Rattle.reader_laws.proofs.Opening.{follow_by, front_row}
+use Rattle.script_run.proofs.Values.{value_here}
+use Rattle.reader_laws.proofs.Opening.{follow_by}
 use Rattle.reader_laws.proofs.Origins.{found_opened, put_opened}
 use Rattle.reader_laws.proofs.Standing.{Keeps, KeepsIn, OfKept, keeps_after}
 
@@ -104,34 +106,35 @@ end_says put given (Some (rec.ReadClosed reader)) = names_none refl
 end_says put given (Some (rec.Fault count)) = names_none refl
 
 -- a whole read hit the put, and was told the end
-record IsGot (given : List ℕ) (told : Option Rec) (lookup : Option ReadAnswer) (put : ℕ) (bytes : List ℕ) : Type 0 where
-  reader : ℕ
-  last : ℕ
-  hit : lookup ≡ Some (read.Hit put)
-  ended : told ≡ Some (rec.Ended reader last)
-  all : given ≡ bytes
+pub record IsGot (given : List ℕ) (told : Option Rec) (lookup : Option ReadAnswer) (put size : ℕ) (bytes : List ℕ) : Type 0 where
+  pub reader : ℕ
+  pub hit : lookup ≡ Some (read.Hit put)
+  pub ended : told ≡ Some (rec.Ended reader size)
+  pub all : given ≡ bytes
 
 ended_by : (hit : ℕ) (given : List ℕ) (put size : ℕ) (bytes : List ℕ) {told : Option Rec} {said : StepAnswer} → EndSays hit given told said → said ≡ answer.Got put size bytes
-    → IsGot given told (Some (read.Hit hit)) put bytes
+    → IsGot given told (Some (read.Hit hit)) put size bytes
 ended_by hit given put size bytes (ends reader last) h =
     let same : hit ≡ put = cc in
+    let told : last ≡ size = cc in
     let all : given ≡ bytes = cc in
-    record { reader = reader; last = last; hit = ap (λ n. Some (read.Hit n)) same; ended = refl; all = all }
+    record { reader = reader; hit = ap (λ n. Some (read.Hit n)) same; ended = ap (λ n. Some (rec.Ended reader n)) told; all = all }
 ended_by hit given put size bytes {said = said} (names_none none) h = not_named said (answer.Got put size bytes) put none refl h
 
 ended_follows_none : {X : Type 0} (hit : ℕ) (given : List ℕ) (put : ℕ) {told : Option Rec} {said : StepAnswer} → EndSays hit given told said → said ≡ answer.Follow put → X
 ended_follows_none hit given put (ends reader last) h = absurd cc
 ended_follows_none hit given put {said = said} (names_none none) h = not_named said (answer.Follow put) put none refl h
 
-got_by : (given : List ℕ) (told : Option Rec) (lookup : Option ReadAnswer) (put size : ℕ) (bytes : List ℕ) → get_said given told lookup ≡ answer.Got put size bytes → IsGot given told lookup put bytes
+pub got_by : (given : List ℕ) (told : Option Rec) (lookup : Option ReadAnswer) (put size : ℕ) (bytes : List ℕ) → get_said given told lookup ≡ answer.Got put size bytes → IsGot given told lookup put size bytes
 got_by given told None put size bytes h = absurd cc
 got_by given told (Some (read.Hit hit)) put size bytes h = ended_by hit given put size bytes (end_says hit given told) h
 got_by given told (Some (read.Follow writer)) put size bytes h = absurd cc
 got_by given told (Some (read.Miss why)) put size bytes h = not_named (miss_said why) (answer.Got put size bytes) put (miss_names_none why) refl h
 
-hit_by : (t : State) (reader : ℕ) (lookup : Option ReadAnswer) (put size : ℕ) → lookup_said t reader lookup ≡ answer.Hit put size → lookup ≡ Some (read.Hit put)
+hit_by : (t : State) (reader : ℕ) (lookup : Option ReadAnswer) (put size : ℕ) → lookup_said t reader lookup ≡ answer.Hit put size
+    → (lookup ≡ Some (read.Hit put)) × (hit_length t reader ≡ size)
 hit_by t reader None put size h = absurd cc
-hit_by t reader (Some (read.Hit hit)) put size h = let same : hit ≡ put = cc in ap (λ n. Some (read.Hit n)) same
+hit_by t reader (Some (read.Hit hit)) put size h = let same : hit ≡ put = cc in (ap (λ n. Some (read.Hit n)) same, cc)
 hit_by t reader (Some (read.Follow writer)) put size h = absurd cc
 hit_by t reader (Some (read.Miss why)) put size h = not_named (miss_said why) (answer.Hit put size) put (miss_names_none why) refl h
 
@@ -153,26 +156,26 @@ abbrev PutWhere : Option State → Key → List Field → ℕ → Type 0
 PutWhere None key request put = ⊥
 PutWhere (Some s) key request put = IsPutFor s key request put
 
-module _ (law : HitIsPut) (run : Run) (turn : Turn) (key : Key) (request : List Field) (put : ℕ) where
-  got_put : (size : ℕ) (bytes : List ℕ) (o : Option State) → StandsWhere Keeps run o → Takes run turn o (step.Get key request)
+module _ (law : HitIsPut) (run : Run) (turn : Turn) (key : Key) (request : List Field) (put size : ℕ) where
+  got_put : (bytes : List ℕ) (o : Option State) → StandsWhere Keeps run o → Takes run turn o (step.Get key request)
       → step_said run turn o (step.Get key request) ≡ answer.Got put size bytes → PutWhere o key request put
-  got_put size bytes None keeps takes said = takes
-  got_put size bytes (Some s) keeps takes said =
+  got_put bytes None keeps takes said = takes
+  got_put bytes (Some s) keeps takes said =
       law turn.device s run.streams 0 key request _ turn.added turn.refused put keeps.kept takes.legal (got_by turn.given (told_in turn.added) (lookup_in turn.added) put size bytes said).hit
 
-  opens_by : (s : State) (t : State) (actor : ℕ) (size : ℕ) (o : Option Holding) → Keeps run s → IsStep turn.device s (Asked.if_free o (Look actor key request ∷ [])) turn.added turn.refused
+  opens_by : (s : State) (t : State) (actor : ℕ) (o : Option Holding) → Keeps run s → IsStep turn.device s (Asked.if_free o (Look actor key request ∷ [])) turn.added turn.refused
       → if_free o (lookup_said t s.next_reader (lookup_in turn.added)) ≡ answer.Hit put size → IsPutFor s key request put
-  opens_by s t actor size None keeps legal said = law turn.device s run.streams actor key request [] turn.added turn.refused put keeps.kept legal (hit_by t s.next_reader (lookup_in turn.added) put size said)
-  opens_by s t actor size (Some holding) keeps legal said = absurd cc
+  opens_by s t actor None keeps legal said = law turn.device s run.streams actor key request [] turn.added turn.refused put keeps.kept legal (hit_by t s.next_reader (lookup_in turn.added) put size said).0
+  opens_by s t actor (Some holding) keeps legal said = absurd cc
 
-  opens_put : (actor : List ℕ) (size : ℕ) (o : Option State) → StandsWhere Keeps run o → Takes run turn o (step.OpenRead actor key request)
+  opens_put : (actor : List ℕ) (o : Option State) → StandsWhere Keeps run o → Takes run turn o (step.OpenRead actor key request)
       → step_said run turn o (step.OpenRead actor key request) ≡ answer.Hit put size → PutWhere o key request put
-  opens_put actor size None keeps takes said = takes
-  opens_put actor size (Some s) keeps takes said = opens_by s (after_all s turn.added) (number_in run.actors actor) size (held_by run actor) keeps takes.legal said
+  opens_put actor None keeps takes said = takes
+  opens_put actor (Some s) keeps takes said = opens_by s (after_all s turn.added) (number_in run.actors actor) (held_by run actor) keeps takes.legal said
 
-  put_where : {asks : Step} → KeepsIn run → StepTakes run turn asks → AnswersHit run turn key request put asks → PutWhere run.state key request put
-  put_where keeps takes (Laws.AnswersHit.got size bytes said) = got_put size bytes run.state keeps takes said
-  put_where keeps takes (Laws.AnswersHit.opens actor size said) = opens_put actor size run.state keeps takes said
+  put_where : {asks : Step} → KeepsIn run → StepTakes run turn asks → AnswersHit run turn key request put size asks → PutWhere run.state key request put
+  put_where keeps takes (Laws.AnswersHit.got bytes said) = got_put bytes run.state keeps takes said
+  put_where keeps takes (Laws.AnswersHit.opens actor said) = opens_put actor run.state keeps takes said
 
 -- ---- the line that opened it
 
@@ -187,11 +190,11 @@ was_put lines turns key request put (Some s) legal state h = record {
   fits = h.fits;
 }
 
-pub hit_is_asked : (laws : OfKept) (law : HitIsPut) (lines : List (List ℕ)) (turns : List Turn) (turn : Turn) (asks : Step) (key : Key) (request : List Field) (put : ℕ) → IsRun fresh lines turns
-    → StepTakes (run_after fresh lines turns) turn asks → AnswersHit (run_after fresh lines turns) turn key request put asks → WasPutFor lines turns key request put
-hit_is_asked laws law lines turns turn asks key request put legal takes said =
+pub hit_is_asked : (laws : OfKept) (law : HitIsPut) (lines : List (List ℕ)) (turns : List Turn) (turn : Turn) (asks : Step) (key : Key) (request : List Field) (put size : ℕ) → IsRun fresh lines turns
+    → StepTakes (run_after fresh lines turns) turn asks → AnswersHit (run_after fresh lines turns) turn key request put size asks → WasPutFor lines turns key request put
+hit_is_asked laws law lines turns turn asks key request put size legal takes said =
     let run : Run = run_after fresh lines turns in
-    was_put lines turns key request put run.state legal refl (put_where law run turn key request put (keeps_after laws lines turns fresh legal tt) takes said)
+    was_put lines turns key request put run.state legal refl (put_where law run turn key request put size (keeps_after laws lines turns fresh legal tt) takes said)
 
 -- ---- a put that is followed
 
@@ -261,40 +264,52 @@ follow_is_asked lines turns turn asks key request put legal takes said =
 
 -- ---- the reader that opens
 
--- a reader that opens with a hit stands first
-opened_put : (s : State) (who : Actor) (key : Key) (request : List Field) (answer : ReadAnswer) (put : ℕ) (r : ReaderRow) → answer ≡ read.Hit put
-    → reader_of (state_after s (rec.ReadOpened s.next_reader who key request answer)) s.next_reader ≡ Some r → r.put ≡ put
-opened_put s who key request answer put r is found =
-    let there : reader_of (state_after s (rec.ReadOpened s.next_reader who key request (read.Hit put))) s.next_reader ≡ Some r =
-    subst (λ (a : ReadAnswer). reader_of (state_after s (rec.ReadOpened s.next_reader who key request a)) s.next_reader ≡ Some r) is found in
-    sym (ap (λ (x : ReaderRow). x.put) (front_row _ r (reader_of s s.next_reader) s.next_reader refl there))
+-- it reads the put that is hit, and has a table
+pub record OpensHit (t : State) (n put : ℕ) : Type 0 where
+  pub r : ReaderRow
+  pub found : reader_of t n ≡ Some r
+  pub put_is : r.put ≡ put
+  pub table : List TableRow
+  pub hit : r.table ≡ Some table
 
-looked_put : (p : Permit) (s : State) (who : Actor) (key : Key) (request : List Field) (before : List Rec) (answer : ReadAnswer) (put : ℕ) (r : ReaderRow) → Legal.IsLookup p s key request before answer
+opened_hit : (s : State) (who : Actor) (key : Key) (request : List Field) (answer : ReadAnswer) (put : ℕ) → answer ≡ read.Hit put
+    → OpensHit (state_after s (rec.ReadOpened s.next_reader who key request answer)) s.next_reader put
+opened_hit s who key request answer put is =
+    let r : ReaderRow = record { actor = who.0; reader = s.next_reader; key = key; put = put; table = Some (table_of_hit s key request); next = 1 } in
+    subst (λ (a : ReadAnswer). OpensHit (state_after s (rec.ReadOpened s.next_reader who key request a)) s.next_reader put) (sym is)
+    (record { r = r; found = value_here (Some r) (reader_of s s.next_reader) s.next_reader s.next_reader refl; put_is = refl; table = table_of_hit s key request; hit = refl })
+
+looked_hit : (p : Permit) (s : State) (who : Actor) (key : Key) (request : List Field) (before : List Rec) (answer : ReadAnswer) (rest : List Rec) (put : ℕ) → Legal.IsLookup p s key request before answer
     → (let added : List Rec = before ++ rec.ReadOpened s.next_reader who key request answer ∷ [] in
-    lookup_in added ≡ Some (read.Hit put) → reader_of (after_all s added) s.next_reader ≡ Some r → r.put ≡ put)
-looked_put p s who key request before answer put r (Legal.IsLookup.verdict x) told found =
-    opened_put s who key request (lookup_verdict s key request) put r (same_Some (lookup_verdict s key request) (read.Hit put) told) found
-looked_put p s who key request before answer put r (Legal.IsLookup.trouble row b why live (Given.Trouble.faulted count w m)) told found = absurd cc
-looked_put p s who key request before answer put r (Legal.IsLookup.trouble row b why live (Given.Trouble.damaged other d)) told found = absurd cc
+    lookup_in (added ++ rest) ≡ Some (read.Hit put) → OpensHit (after_all s added) s.next_reader put)
+looked_hit p s who key request before answer rest put (Legal.IsLookup.verdict x) told =
+    opened_hit s who key request (lookup_verdict s key request) put (same_Some (lookup_verdict s key request) (read.Hit put) told)
+looked_hit p s who key request before answer rest put (Legal.IsLookup.trouble row b why live (Given.Trouble.faulted count w m)) told = absurd cc
+looked_hit p s who key request before answer rest put (Legal.IsLookup.trouble row b why live (Given.Trouble.damaged other d)) told = absurd cc
 
-look_put : (p : Permit) (s : State) (actor : ℕ) (key : Key) (request : List Field) (added : List Rec) (e : End) (put : ℕ) (r : ReaderRow) → Legal.DoesLook p s actor key request added e
-    → lookup_in added ≡ Some (read.Hit put) → reader_of (after_all s added) s.next_reader ≡ Some r → r.put ≡ put
-look_put p s actor key request added e put r (Legal.DoesLook.looks m) told found =
-    looked_put p s m.who key request m.before m.answer put r m.right (ap lookup_in (sym m.is) ∙ told) (subst (λ recs. reader_of (after_all s recs) s.next_reader ≡ Some r) m.is found)
+pub look_hit : (p : Permit) (s : State) (actor : ℕ) (key : Key) (request : List Field) (added rest : List Rec) (e : End) (put : ℕ) → Legal.DoesLook p s actor key request added e
+    → lookup_in (added ++ rest) ≡ Some (read.Hit put) → OpensHit (after_all s added) s.next_reader put
+look_hit p s actor key request added rest e put (Legal.DoesLook.looks m) told =
+    subst (λ recs. OpensHit (after_all s recs) s.next_reader put) (sym m.is)
+    (looked_hit p s m.who key request m.before m.answer rest put m.right (ap (λ recs. lookup_in (recs ++ rest)) (sym m.is) ∙ told))
 
-module _ (one : OneGroup) (run : Run) (s : State) (turn : Turn) (key : Key) (request : List Field) (put size : ℕ) (r : ReaderRow) where
-  free_put : (actor : ℕ) (o : Option Holding) → IsStep turn.device s (Asked.if_free o (Look actor key request ∷ [])) turn.added turn.refused
-      → if_free o (lookup_said (after_all s turn.added) s.next_reader (lookup_in turn.added)) ≡ answer.Hit put size → reader_of (after_all s turn.added) s.next_reader ≡ Some r → r.put ≡ put
-  free_put actor None legal said found =
+module _ (one : OneGroup) (run : Run) (s : State) (turn : Turn) (key : Key) (request : List Field) (put size : ℕ) where
+  pub free_hit : (actor : ℕ) (o : Option Holding) → IsStep turn.device s (Asked.if_free o (Look actor key request ∷ [])) turn.added turn.refused
+      → if_free o (lookup_said (after_all s turn.added) s.next_reader (lookup_in turn.added)) ≡ answer.Hit put size
+      → OpensHit (after_all s turn.added) s.next_reader put × (hit_length (after_all s turn.added) s.next_reader ≡ size)
+  free_hit actor None legal said =
       let does = one turn.device s (Look actor key request) turn.added turn.refused refl legal in
-      look_put turn.device s actor key request turn.added does.0 put r does.1 (hit_by (after_all s turn.added) s.next_reader (lookup_in turn.added) put size said) found
-  free_put actor (Some holding) legal said found = absurd cc
+      let h = hit_by (after_all s turn.added) s.next_reader (lookup_in turn.added) put size said in
+      (look_hit turn.device s actor key request turn.added [] does.0 put does.1 (ap lookup_in (append-nil turn.added) ∙ h.0), h.1)
+  free_hit actor (Some holding) legal said = absurd cc
 
-  pub hit_opens : (actor : List ℕ) → run.state ≡ Some s → StepTakes run turn (step.OpenRead actor key request) → step_answer run turn (step.OpenRead actor key request) ≡ answer.Hit put size
+  pub hit_opens : (r : ReaderRow) (actor : List ℕ) → run.state ≡ Some s → StepTakes run turn (step.OpenRead actor key request) → step_answer run turn (step.OpenRead actor key request) ≡ answer.Hit put size
       → reader_of (after_all s turn.added) s.next_reader ≡ Some r → r.put ≡ put
-  hit_opens actor state takes said found =
+  hit_opens r actor state takes said found =
       let here : SessionTakes run s turn (step.OpenRead actor key request) = subst (λ (o : Option State). Takes run turn o (step.OpenRead actor key request)) state takes in
-      free_put (number_in run.actors actor) (held_by run actor) here.legal (subst (λ (o : Option State). step_said run turn o (step.OpenRead actor key request) ≡ answer.Hit put size) state said) found
+      let there = subst (λ (o : Option State). step_said run turn o (step.OpenRead actor key request) ≡ answer.Hit put size) state said in
+      let h : OpensHit (after_all s turn.added) s.next_reader put = (free_hit (number_in run.actors actor) (held_by run actor) here.legal there).0 in
+      ap (λ (x : ReaderRow). x.put) (same_some r h.r (reader_of (after_all s turn.added) s.next_reader) found h.found) ∙ h.put_is
 
 -- ---- the bytes
 
@@ -302,9 +317,9 @@ got_all : (run : Run) (turn : Turn) (key : Key) (request : List Field) (put size
     → step_said run turn o (step.Get key request) ≡ answer.Got put size bytes → bytes ≡ (run.streams put).bytes
 got_all run turn key request put size bytes None takes said = absurd takes
 got_all run turn key request put size bytes (Some s) takes said =
-    let g : IsGot turn.given (told_in turn.added) (lookup_in turn.added) put bytes = got_by turn.given (told_in turn.added) (lookup_in turn.added) put size bytes said in
-    let own : IsBody run turn.given (Some (rec.Ended g.reader g.last)) (Some (read.Hit put)) =
-    subst (λ (l : Option ReadAnswer). IsBody run turn.given (Some (rec.Ended g.reader g.last)) l) g.hit
+    let g : IsGot turn.given (told_in turn.added) (lookup_in turn.added) put size bytes = got_by turn.given (told_in turn.added) (lookup_in turn.added) put size bytes said in
+    let own : IsBody run turn.given (Some (rec.Ended g.reader size)) (Some (read.Hit put)) =
+    subst (λ (l : Option ReadAnswer). IsBody run turn.given (Some (rec.Ended g.reader size)) l) g.hit
     (subst (λ (told : Option Rec). IsBody run turn.given told (lookup_in turn.added)) g.ended takes.own) in
     sym g.all ∙ own
 

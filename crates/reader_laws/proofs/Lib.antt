@@ -14,3 +14,5 @@ pub mod Standing
 pub mod Joining
 pub mod Origins
 pub mod Hits
+pub mod Lengths
+pub mod Measures

@@ -69,7 +69,7 @@ record OpensAt (put : ℕ) (r : ReaderRow) : Type 0 where
   begun : r.put < put
   first : r.next ≡ 1
 
-pub front_row : (row r : ReaderRow) (rest : Option ReaderRow) (n : ℕ) → row.reader ≡ n → cond (row.reader == n) (Some row) rest ≡ Some r → row ≡ r
+front_row : (row r : ReaderRow) (rest : Option ReaderRow) (n : ℕ) → row.reader ≡ n → cond (row.reader == n) (Some row) rest ≡ Some r → row ≡ r
 front_row row r rest n same h = same_some row r (Some row) refl (sym (value_here (Some row) rest row.reader n same) ∙ h)
 
 -- no reader had the next number

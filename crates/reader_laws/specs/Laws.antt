@@ -1,5 +1,5 @@
 -- All that a reader is given, line after line, is in order what the writer of its put took.
-use Rattle.std.specs.Prelude.{ℕ, ◌≡◌, ◌-◌, ◌*◌, ◌≤◌, ◌⊎◌, true, List, ◌++◌, length, drop, take, Some}
+use Rattle.std.specs.Prelude.{ℕ, ◌≡◌, ◌-◌, ◌*◌, ◌<◌, ◌≤◌, ◌⊎◌, true, List, ◌++◌, length, drop, take, Some}
 use Rattle.tape_base.specs.declared.keys.Key.{Key}
 use Rattle.alternate_vector.specs.Field.{Field}
 use Rattle.alternate_vector.specs.Vary.{request_matches}
@@ -10,7 +10,7 @@ use Rattle.script_lang.specs.declared.step.Step.TheVariants as step
 use Rattle.script_lang.specs.declared.answer.StepAnswer.TheVariants as answer
 use Rattle.script_run.specs.Run.{Run, fresh, reader_by}
 use Rattle.script_run.specs.Turn.{Turn}
-use Rattle.script_run.specs.Behind.{after_line}
+use Rattle.script_run.specs.Behind.{after_line, after_step}
 use Rattle.script_run.specs.Answers.{step_answer}
 use Rattle.script_run.specs.Own.{AreKept}
 use Rattle.script_run.specs.Takes.{IsRun, SessionTakes, StepTakes, run_after}
@@ -90,11 +90,11 @@ AllGiven = (run : Run) (s : State) (turn : Turn) (bytes : List ℕ) (lines : Lis
 
 -- ---- what is hit
 
--- the step is answered that it hit this put: all of it is read, or a reader opens
-pub data AnswersHit (run : Run) (turn : Turn) (key : Key) (request : List Field) (put : ℕ) : Step → Type 0 where
-  got : (size : ℕ) (bytes : List ℕ) → step_answer run turn (step.Get key request) ≡ answer.Got put size bytes → AnswersHit run turn key request put (step.Get key request)
-  opens : (actor : List ℕ) (size : ℕ) → step_answer run turn (step.OpenRead actor key request) ≡ answer.Hit put size
-      → AnswersHit run turn key request put (step.OpenRead actor key request)
+-- the step is answered that it hit this put, of so many bytes: all of it is read, or a reader opens
+pub data AnswersHit (run : Run) (turn : Turn) (key : Key) (request : List Field) (put size : ℕ) : Step → Type 0 where
+  got : (bytes : List ℕ) → step_answer run turn (step.Get key request) ≡ answer.Got put size bytes → AnswersHit run turn key request put size (step.Get key request)
+  opens : (actor : List ℕ) → step_answer run turn (step.OpenRead actor key request) ≡ answer.Hit put size
+      → AnswersHit run turn key request put size (step.OpenRead actor key request)
 
 -- an earlier line of the same session opened the put under this key, with lines that fit the request (RFC
 -- 9111, section 4.1)
@@ -108,8 +108,8 @@ pub record WasPutFor (lines : List (List ℕ)) (turns : List Turn) (key : Key) (
 -- behind each legal script what a step is answered that it hit was put under the asked key, by a put whose
 -- lines fit the request
 abbrev pub HitIsAsked : Type 0
-HitIsAsked = (lines : List (List ℕ)) (turns : List Turn) (turn : Turn) (asks : Step) (key : Key) (request : List Field) (put : ℕ) → IsRun fresh lines turns
-    → StepTakes (run_after fresh lines turns) turn asks → AnswersHit (run_after fresh lines turns) turn key request put asks → WasPutFor lines turns key request put
+HitIsAsked = (lines : List (List ℕ)) (turns : List Turn) (turn : Turn) (asks : Step) (key : Key) (request : List Field) (put size : ℕ) → IsRun fresh lines turns
+    → StepTakes (run_after fresh lines turns) turn asks → AnswersHit (run_after fresh lines turns) turn key request put size asks → WasPutFor lines turns key request put
 
 -- the step is answered that its reader follows the writer of this put
 pub data AnswersFollow (run : Run) (turn : Turn) (key : Key) (request : List Field) (put : ℕ) : Step → Type 0 where
@@ -131,3 +131,34 @@ HitOpens = (run : Run) (s : State) (turn : Turn) (actor : List ℕ) (key : Key) 
 abbrev pub GotIsPut : Type 0
 GotIsPut = (run : Run) (turn : Turn) (key : Key) (request : List Field) (put size : ℕ) (bytes : List ℕ) → StepTakes run turn (step.Get key request)
     → step_answer run turn (step.Get key request) ≡ answer.Got put size bytes → bytes ≡ (run.streams put).bytes
+
+-- ---- what is told of lengths
+
+-- behind each legal script the length that is told of what a step hit is that of all that the put's writer
+-- took; what is got are those bytes (`GotIsPut`), so that it is their number
+abbrev pub LengthIsTold : Type 0
+LengthIsTold = (lines : List (List ℕ)) (turns : List Turn) (turn : Turn) (asks : Step) (key : Key) (request : List Field) (put size : ℕ) → IsRun fresh lines turns
+    → StepTakes (run_after fresh lines turns) turn asks → AnswersHit (run_after fresh lines turns) turn key request put size asks
+    → size ≡ length ((run_after fresh lines turns).streams put).bytes
+
+-- the step is answered that this put is complete, with so many bytes in so many fragments
+pub data AnswersPut (run : Run) (turn : Turn) (put size fragments : ℕ) : Step → Type 0 where
+  puts : (key : Key) (body : List ℕ) (request response : List Field) → step_answer run turn (step.Put key body request response) ≡ answer.Put put size fragments
+      → AnswersPut run turn put size fragments (step.Put key body request response)
+  closes : (actor : List ℕ) → step_answer run turn (step.Close actor) ≡ answer.Put put size fragments → AnswersPut run turn put size fragments (step.Close actor)
+
+-- so many bytes are all that the put's writer took, and so many fragments are the fewest that have room for
+-- them
+pub record IsMeasured (run : Run) (put size fragments : ℕ) : Type 0 where
+  pub s : State
+  pub state : run.state ≡ Some s
+  pub told : size ≡ length (run.streams put).bytes
+  pub enough : size ≤ fragments * s.geometry.fragment
+  pub needed : 0 < fragments → (fragments - 1) * s.geometry.fragment < size
+
+-- in each legal script the put of a `put` or a `close` that is answered so is measured so behind it; of a `put`
+-- the writer took the whole body
+abbrev pub PutIsMeasured : Type 0
+PutIsMeasured = (lines : List (List ℕ)) (turns : List Turn) (turn : Turn) (asks : Step) (put size fragments : ℕ) → IsRun fresh lines turns
+    → StepTakes (run_after fresh lines turns) turn asks → AnswersPut (run_after fresh lines turns) turn put size fragments asks
+    → IsMeasured (after_step (run_after fresh lines turns) turn asks) put size fragments

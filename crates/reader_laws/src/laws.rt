@@ -1,5 +1,5 @@
 // Laws of all that a reader is given. These functions do nothing when they run.
-ghost use Rattle.reader_laws.specs.Laws.{AllGiven, EndIsAll, FirstGiven, FollowIsAsked, FragmentsGiven, GotIsPut, HitIsAsked, HitOpens, LegalIsKept, LegalIsOwn, OpensFirst, OwnIsKeptAlong};
+ghost use Rattle.reader_laws.specs.Laws.{AllGiven, EndIsAll, FirstGiven, FollowIsAsked, FragmentsGiven, GotIsPut, HitIsAsked, HitOpens, LegalIsKept, LegalIsOwn, LengthIsTold, OpensFirst, OwnIsKeptAlong, PutIsMeasured};
 
 use cache_model::{
     formats_tell, legal_is_sound, nothing_asked, numbers_follow, one_group, reader_is_closed,
@@ -127,3 +127,28 @@ pub fn hit_opens()
 pub fn got_is_put()
     ensures { GotIsPut }
 {}
+
+/// Behind each legal script the length that is told of what a line hits is that of all that the put's writer
+/// took.
+pub fn length_is_told()
+    ensures { LengthIsTold }
+{
+    one_group();
+    numbers_follow();
+    legal_is_sound();
+    steps_are_sound();
+    formats_keep();
+    steps_keep();
+}
+
+/// And the length that is told of a put which completes is that of all that its writer took, and its fragments
+/// are the fewest that have room for that.
+pub fn put_is_measured()
+    ensures { PutIsMeasured }
+{
+    numbers_follow();
+    legal_is_sound();
+    steps_are_sound();
+    formats_keep();
+    steps_keep();
+}
