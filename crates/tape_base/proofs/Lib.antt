@@ -1,3 +1,4 @@
+pub mod Bytes
 pub mod DigestLaw
 mod LowBytes
 pub mod NameLaws

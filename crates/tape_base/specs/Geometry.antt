@@ -3,7 +3,7 @@ use Rattle.std.specs.Prelude.{ℕ, ◌≡◌, ◌/◌}
 use Rattle.tape_base.specs.declared.geometries.Geometry.{Geometry}
 
 -- the geometry has these numbers
-pub record HasNumbers (g : Geometry) (segments buckets content agg reach fragment generation : ℕ) : Type 0 where
+pub record HasNumbers (g : Geometry) (segments buckets content agg reach fragment generation alternates : ℕ) : Type 0 where
   pub has_segments : g.segments ≡ segments
   pub has_buckets : g.buckets ≡ buckets
   pub has_content : g.content ≡ content
@@ -11,6 +11,7 @@ pub record HasNumbers (g : Geometry) (segments buckets content agg reach fragmen
   pub has_reach : g.reach ≡ reach
   pub has_fragment : g.fragment ≡ fragment
   pub has_generation : g.generation ≡ generation
+  pub has_alternates : g.alternates ≡ alternates
 
 -- the most blocks of one document, and the most that one flush moves
 abbrev pub budget_of : Geometry → ℕ

@@ -1,6 +1,6 @@
 // Digests of byte strings, and what two equal ones say.
 ghost use Rattle.std.specs.Prelude.{◌≡◌};
-ghost use Rattle.tape_base.specs.Digest.{digest_of, DigestsTell};
+ghost use Rattle.tape_base.specs.Digest.{DigestsTell, NumbersShowNothing, SidesAreBytes, digest_of};
 
 use sha2::{Digest as _, Sha256};
 
@@ -19,4 +19,10 @@ impl Digest {
 /// A law for proofs; it does nothing when it runs.
 pub fn digests_tell()
     ensures { DigestsTell }
+{}
+
+/// A law for proofs; it does nothing when it runs.
+pub fn sides_are_bytes()
+    ensures sides { SidesAreBytes }
+    ensures numbers { NumbersShowNothing }
 {}

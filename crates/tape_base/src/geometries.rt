@@ -1,12 +1,15 @@
 // The numbers by which a cache is laid out, and which of them are refused.
 ghost use Rattle.std.specs.Prelude.{◌≡◌, ◌↔◌, IsOk, IfOk};
 ghost use Rattle.std.specs.Result.{result_err};
-ghost use Rattle.tape_base.specs.Limits.{IsGeometry, first_refusal};
+ghost use Rattle.tape_base.specs.Limits.{AlternatesAreLast, IsGeometry, MayKeep, alternates_refusal, first_refusal};
 
 use crate::blocks::blocks_of_document;
 
 // What the content area and the reach stay below, in blocks.
 const LIMIT: u64 = 1 << 40;
+
+// The most alternates of a geometry for which no other number is asked.
+const ALTERNATES: u32 = 5;
 
 /// How a stripe is laid out.
 #[derive(Clone, Copy, Debug, PartialEq, Eq)]
@@ -25,7 +28,10 @@ pub struct Geometry {
     pub fragment: u32,
     /// A number that tells the documents of one format from those of another.
     pub generation: u64,
+    /// The most alternates that a vector lists.
+    pub alternates: u32,
     ghost accepted: { IsGeometry segments buckets content agg reach fragment },
+    ghost keeps: { MayKeep alternates },
 }
 
 /// The number that is refused.
@@ -37,11 +43,13 @@ pub enum BadGeometry {
     Content,
     Reach,
     Fragment,
+    Alternates,
 }
 
 impl Geometry {
     ghost use Rattle.tape_base.specs.Geometry.{HasNumbers};
 
+    /// Five alternates are kept of an object; `with_alternates` asks for another number.
     pub fn check(
         segments: u32,
         buckets: u32,
@@ -53,9 +61,9 @@ impl Geometry {
     ) -> Result<Geometry, BadGeometry>
         ensures accepted { IsOk result ↔ IsGeometry segments buckets content agg reach fragment }
         ensures numbers { IfOk result (λ g.
-            HasNumbers g segments buckets content agg reach fragment generation) }
+            HasNumbers g segments buckets content agg reach fragment generation 5) }
         ensures refused { result_err result
-            ≡ first_refusal segments buckets content agg reach fragment }
+            ≡ first_refusal segments buckets content agg reach fragment 5 }
     {
         if !(1..=4096).contains(&segments) {
             return Err(BadGeometry::Segments);
@@ -84,12 +92,35 @@ impl Geometry {
             reach,
             fragment,
             generation,
+            alternates: ALTERNATES,
+        })
+    }
+
+    /// The same geometry with another number of alternates.
+    pub fn with_alternates(self, most: u32) -> Result<Geometry, BadGeometry>
+        ensures accepted { IsOk result ↔ MayKeep most }
+        ensures numbers { IfOk result (λ g. HasNumbers g self.segments self.buckets self.content
+            self.agg self.reach self.fragment self.generation most) }
+        ensures refused { result_err result ≡ alternates_refusal most }
+    {
+        if !(1..=16).contains(&most) {
+            return Err(BadGeometry::Alternates);
+        }
+        Ok(Geometry {
+            segments: self.segments,
+            buckets: self.buckets,
+            content: self.content,
+            agg: self.agg,
+            reach: self.reach,
+            fragment: self.fragment,
+            generation: self.generation,
+            alternates: most,
         })
     }
 
     /// The geometry of a stripe for which no other is asked.
     pub fn usual(generation: u64) -> Geometry
-        ensures { HasNumbers result 4 8192 2097152 8192 65536 1048576 generation }
+        ensures { HasNumbers result 4 8192 2097152 8192 65536 1048576 generation 5 }
     {
         Geometry {
             segments: 4,
@@ -99,6 +130,12 @@ impl Geometry {
             reach: 65_536,
             fragment: 1_048_576,
             generation,
+            alternates: ALTERNATES,
         }
     }
 }
+
+/// A law for proofs; it does nothing when it runs.
+pub fn alternates_are_last()
+    ensures { AlternatesAreLast }
+{}

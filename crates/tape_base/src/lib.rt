@@ -12,8 +12,8 @@ mod probes;
 
 pub use actors::Actor;
 pub use blocks::blocks_of;
-pub use digests::{Digest, digests_tell};
-pub use geometries::{BadGeometry, Geometry};
+pub use digests::{Digest, digests_tell, sides_are_bytes};
+pub use geometries::{BadGeometry, Geometry, alternates_are_last};
 pub use keys::Key;
 pub use pieces::PieceId;
 pub use places::{floor_of, lap, lap_end, next_cursor, phase, slot};

@@ -62,6 +62,21 @@ fn a_vector_is_entered_under_its_first_key_and_a_fragment_under_a_digest(rt: Hos
 }
 
 #[test]
+fn from_one_to_sixteen_alternates_may_be_kept(rt: HostRuntime) {
+    let kept = |most| {
+        check(SMALL)
+            .and_then(|g| g.with_alternates(most))
+            .map(|g| (g.agg, g.generation, g.alternates))
+    };
+    assert_eq!(rt; check(SMALL).map(|g| g.alternates), Ok(5));
+    assert_eq!(rt; Geometry::usual(7).alternates, 5);
+    assert_eq!(rt; kept(0), Err(BadGeometry::Alternates));
+    assert_eq!(rt; kept(1), Ok((8, 7, 1)));
+    assert_eq!(rt; kept(16), Ok((8, 7, 16)));
+    assert_eq!(rt; kept(17), Err(BadGeometry::Alternates));
+}
+
+#[test]
 fn geometries_are_refused_by_the_first_number_outside(rt: HostRuntime) {
     let good = [
         SMALL,
