@@ -73,11 +73,11 @@ ShowsPair IsPlaced p s intents added = ShowsFrom IsPlaced p s (to_do intents) ad
 -- ---- laws
 
 -- both sides of a pair are bytes
-abbrev pub PairsAreBytes : Type 1
-PairsAreBytes = (IsPlaced : Documents) (p : Permit) (s : State) (row : Row) (pair : IsPairOf IsPlaced p s row)
+abbrev pub PairsAreBytes : Documents → Type 0
+PairsAreBytes IsPlaced = (p : Permit) (s : State) (row : Row) (pair : IsPairOf IsPlaced p s row)
     → IsBytes (take (extent_of pair.bytes) pair.bytes) × IsBytes pair.document
 
 -- of a piece that was written out no pair is shown in a step in which the device gave nothing for its place
-abbrev pub PairsAreGiven : Type 1
-PairsAreGiven = (IsPlaced : Documents) (p : Permit) (s : State) (row : Row) → IsWritten s row
+abbrev pub PairsAreGiven : Documents → Type 0
+PairsAreGiven IsPlaced = (p : Permit) (s : State) (row : Row) → IsWritten s row
     → ((bytes : List ℕ) → IsAmong (record { place = row.place; bytes = bytes }) p.reads → ⊥) → IsPairOf IsPlaced p s row → ⊥
