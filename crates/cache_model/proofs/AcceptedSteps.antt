@@ -39,6 +39,7 @@ geometry = record {
   reach = 16;
   fragment = 4;
   generation = 7;
+  alternates = 5;
   accepted = record {
     segments_fit = (lit≤ tt, lit≤ tt);
     buckets_fit = (lit≤ tt, lit≤ tt);
@@ -47,6 +48,7 @@ geometry = record {
     reach_fits = (lit≤ tt, lit< tt);
     fragment_fits = (lit≤ tt, lit≤ tt);
   };
+  keeps = record { some = lit≤ tt; few = lit≤ tt };
 }
 
 abbrev k : Key

@@ -60,9 +60,9 @@ longest_by : (most bytes : ℕ) (x : Stored) (all : List Stored) (a : Stored) (b
 longest_by most bytes x all a true whole rest = whole
 longest_by most bytes x all a false whole rest = rest
 
-longest_ends : (bytes : ℕ) (before : List Stored) (a : Stored) → vector_size (a ∷ []) ≤ bytes → (kept : List Stored) × (longest_within 5 bytes (before ++ a ∷ []) ≡ kept ++ a ∷ [])
-longest_ends bytes [] a fits = ([], rw (le-leb (vector_size (a ∷ [])) bytes fits) refl)
-longest_ends bytes (x ∷ before) a fits = longest_by 5 bytes x (before ++ a ∷ []) a (is_within 5 bytes (x ∷ before ++ a ∷ [])) (x ∷ before, refl) (longest_ends bytes before a fits)
+longest_ends : (most bytes : ℕ) (before : List Stored) (a : Stored) → 1 ≤ most → vector_size (a ∷ []) ≤ bytes → (kept : List Stored) × (longest_within most bytes (before ++ a ∷ []) ≡ kept ++ a ∷ [])
+longest_ends most bytes [] a some fits = ([], rw (le-leb (length (a ∷ [])) most some, le-leb (vector_size (a ∷ [])) bytes fits) refl)
+longest_ends most bytes (x ∷ before) a some fits = longest_by most bytes x (before ++ a ∷ []) a (is_within most bytes (x ∷ before ++ a ∷ [])) (x ∷ before, refl) (longest_ends most bytes before a some fits)
 
 -- ---- a put that is complete
 
@@ -105,7 +105,7 @@ pub complete_is_hit : (s : State) (w : PutRow) (place blocks pin n : ℕ) (diges
     → lookup_verdict (after_all s (rec.Placed (vector_piece w.key w.put) place blocks digest pin ∷ rec.Committed w.put w.key n ∷ [])) w.key request ≡ read.Hit w.put
 complete_is_hit s w place blocks pin n digest request found fits small live =
     let before : List Stored = Rattle.std.specs.List.filter (λ a. not (is_match w.request a)) (State.list_among s (s.displaced ++ s.rows) w.key) in
-    let ends : (kept : List Stored) × (merged_list s w ≡ kept ++ alternate_of w ∷ []) = longest_ends (most_payload s.geometry) before (alternate_of w) small in
+    let ends : (kept : List Stored) × (merged_list s w ≡ kept ++ alternate_of w ∷ []) = longest_ends s.geometry.alternates (most_payload s.geometry) before (alternate_of w) s.geometry.keeps.some small in
     let list : alternates_of (complete s w place blocks pin n digest found live) w.key ≡ ends.0 ++ alternate_of w ∷ [] = list_is s w place blocks pin n digest found live ∙ ends.1 in
     let hits : hit (complete s w place blocks pin n digest found live) w.key request ≡ Some (alternate_of w) = ap (last_match request) list ∙ last_matches request ends.0 (alternate_of w) fits in
     rw hits refl

@@ -10,7 +10,7 @@ use Rattle.tape_base.specs.Piece.{is_vector}
 use Rattle.alternate_vector.specs.Alternates.{Stored, IsStored, is_within, longest_within, merged, vector_size, with_new}
 use Rattle.alternate_vector.specs.Spelling.{IsSpelling, vector_bytes}
 use Rattle.alternate_vector.proofs.Chosen.{each_merged, some_merged}
-use Rattle.cache_model.specs.State.{State, Row, PutRow, LastVector, Complete, TakenOut, alternate_of, is_live, list_among, list_of_last, list_of_put, list_of_row, merged_list, most_alternates, most_payload, put_of, row_in, last_vector, vector_piece}
+use Rattle.cache_model.specs.State.{State, Row, PutRow, LastVector, Complete, TakenOut, alternate_of, is_live, list_among, list_of_last, list_of_put, list_of_row, merged_list, most_payload, put_of, row_in, last_vector, vector_piece}
 use Rattle.cache_model.specs.Legal.{FitsAlone}
 use Rattle.cache_model.specs.Vectors.{AreTold, IsListed, IsVectorRow}
 use Rattle.cache_model.proofs.Lists.{found_row, own_piece}
@@ -71,21 +71,21 @@ pub record IsMerged (s : State) (list : List Stored) : Type 0 where
   pub small : blocks_of (vector_size list) ≤ budget_of s.geometry
 
 merged_fits : (s : State) (before : List Stored) (new : Stored) → AllByRecursion IsStored before → IsStored new → blocks_of (vector_size (new ∷ [])) ≤ budget_of s.geometry
-    → IsMerged s (merged most_alternates (most_payload s.geometry) before new)
+    → IsMerged s (merged s.geometry.alternates (most_payload s.geometry) before new)
 merged_fits s before new each stored fits =
-    let list : List Stored = merged most_alternates (most_payload s.geometry) before new in
+    let list : List Stored = merged s.geometry.alternates (most_payload s.geometry) before new in
     let alone : vector_size (new ∷ []) ≤ most_payload s.geometry = payload_fits (vector_size (new ∷ [])) (budget_of s.geometry) fits in
-    let some : 0 < length list = some_merged most_alternates (most_payload s.geometry) before new (omega arith) alone in
-    let within : (nat_le (length list) most_alternates && nat_le (vector_size list) (most_payload s.geometry)) ≡ true =
-    within_longest most_alternates (most_payload s.geometry) (with_new before new) some in
-    let parts = and_parts (nat_le (length list) most_alternates) (nat_le (vector_size list) (most_payload s.geometry)) within in
-    let few : length list ≤ most_alternates = leb-true (length list) most_alternates parts.0 in
+    let some : 0 < length list = some_merged s.geometry.alternates (most_payload s.geometry) before new s.geometry.keeps.some alone in
+    let within : (nat_le (length list) s.geometry.alternates && nat_le (vector_size list) (most_payload s.geometry)) ≡ true =
+    within_longest s.geometry.alternates (most_payload s.geometry) (with_new before new) some in
+    let parts = and_parts (nat_le (length list) s.geometry.alternates) (nat_le (vector_size list) (most_payload s.geometry)) within in
+    let few : length list ≤ s.geometry.alternates = leb-true (length list) s.geometry.alternates parts.0 in
     let small : vector_size list ≤ most_payload s.geometry = leb-true (vector_size list) (most_payload s.geometry) parts.1 in
     let blocks : 0 < budget_of s.geometry = omega (arith, fits) in
     record {
       spelled = record {
         some = some;
-        stored = record { few = omega (arith, few); each = each_merged most_alternates (most_payload s.geometry) before new each stored };
+        stored = record { few = omega (arith, few, s.geometry.keeps.few); each = each_merged s.geometry.alternates (most_payload s.geometry) before new each stored };
         spelled = refl;
       };
       small = blocks_fit (vector_size list) (budget_of s.geometry) blocks small;

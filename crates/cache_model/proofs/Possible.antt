@@ -18,7 +18,7 @@ use Rattle.tape_base.specs.Blocks.{blocks_of}
 use Rattle.tape_base.specs.Geometry.{budget_of}
 use Rattle.alternate_vector.specs.Alternates.{Stored, is_within, longest_within, vector_size, is_match}
 use Rattle.cache_model.specs.declared.record.Rec.{Rec}
-use Rattle.cache_model.specs.State.{State, Row, PutRow, ReaderRow, Writing, Open, Closed, GivenUp, put_of, reader_of, alternate_of, fragment_piece, list_among, live_row_of, merged_list, most_alternates, most_payload, place_now, vector_piece}
+use Rattle.cache_model.specs.State.{State, Row, PutRow, ReaderRow, Writing, Open, Closed, GivenUp, put_of, reader_of, alternate_of, fragment_piece, list_among, live_row_of, merged_list, most_payload, place_now, vector_piece}
 use Rattle.cache_model.specs.Permit.{Permit, Intent, Flush, Write, Fragment, Overflow, Weigh, Finish, Commit, GiveUp, Remove, Look, ReadOn, ReadAll, StopReading, End, Done}
 use Rattle.cache_model.specs.Room.{HasPlace, has_room, is_flush_exhausted, limit}
 use Rattle.cache_model.specs.Given
@@ -54,14 +54,14 @@ kept_is_within most bytes [] new alone = subst (λ t. is_within most bytes (if t
 kept_is_within most bytes (x ∷ before) new alone =
     within_case (is_within most bytes (x ∷ (before ++ new ∷ []))) most bytes (x ∷ (before ++ new ∷ [])) _ refl (kept_is_within most bytes before new alone)
 
-alone_is_within : (g : Geometry) (new : Stored) → vector_size (new ∷ []) ≤ most_payload g → is_within most_alternates (most_payload g) (new ∷ []) ≡ true
-alone_is_within g new fits = le-leb (vector_size (new ∷ [])) (most_payload g) fits
+alone_is_within : (g : Geometry) (new : Stored) → vector_size (new ∷ []) ≤ most_payload g → is_within g.alternates (most_payload g) (new ∷ []) ≡ true
+alone_is_within g new fits = rw (le-leb (length (new ∷ [])) g.alternates g.keeps.some) (le-leb (vector_size (new ∷ [])) (most_payload g) fits)
 
 merged_fits : (s : State) (w : PutRow) → FitsAlone s w 0 → vector_size (merged_list s w) ≤ most_payload s.geometry
 merged_fits s w alone =
     leb-true (vector_size (merged_list s w)) (most_payload s.geometry)
-    (and_parts (nat_le (length (merged_list s w)) most_alternates) (nat_le (vector_size (merged_list s w)) (most_payload s.geometry))
-    (kept_is_within most_alternates (most_payload s.geometry) (filter (λ a. not (is_match w.request a)) (list_among s (s.displaced ++ s.rows) w.key)) (alternate_of w)
+    (and_parts (nat_le (length (merged_list s w)) s.geometry.alternates) (nat_le (vector_size (merged_list s w)) (most_payload s.geometry))
+    (kept_is_within s.geometry.alternates (most_payload s.geometry) (filter (λ a. not (is_match w.request a)) (list_among s (s.displaced ++ s.rows) w.key)) (alternate_of w)
     (alone_is_within s.geometry (alternate_of w) (fits_bytes s.geometry (vector_size (alternate_of w ∷ [])) (omega (arith, alone)))))).1
 
 vector_fits : {s : State} {put fragments : ℕ} {w : PutRow} → IsCut s put fragments w → blocks_of (vector_length s put) ≤ budget_of s.geometry

@@ -11,7 +11,7 @@ use Rattle.alternate_vector.specs.Alternates.{IsStored}
 use Rattle.alternate_vector.proofs.Loops.{each_push}
 use Rattle.cache_model.specs.declared.record.Rec.{Rec}
 use Rattle.cache_model.specs.declared.record.Rec.TheVariants as rec
-use Rattle.cache_model.specs.State.{State, Row, PutRow, LastVector, Complete, TakenOut, Writing, Closed, GivenUp, after_all, alternate_of, change_put, last_vector, list_of_last, list_of_put, list_of_row, merged_list, most_alternates, most_payload, placed_row, put_of, state_after, vector_piece, with_cut, with_writing, without}
+use Rattle.cache_model.specs.State.{State, Row, PutRow, LastVector, Complete, TakenOut, Writing, Closed, GivenUp, after_all, alternate_of, change_put, last_vector, list_of_last, list_of_put, list_of_row, merged_list, most_payload, placed_row, put_of, state_after, vector_piece, with_cut, with_writing, without}
 use Rattle.alternate_vector.specs.Alternates.{merged}
 use Rattle.cache_model.specs.Room.{displaced_record}
 use Rattle.cache_model.specs.Vectors.{AreTold, AreVectors, IsListed, IsVectorRow}
@@ -181,7 +181,7 @@ last_moved s piece segment live key None = refl
 put_moved : (s : State) (piece : PieceId) (segment live : ℕ) (o : Option PutRow)
     → unwrap_or (option_map (merged_list (state_after s (rec.Displaced piece segment live))) o) [] ≡ unwrap_or (option_map (merged_list s) o) []
 put_moved s piece segment live None = refl
-put_moved s piece segment live (Some w) = ap (λ before. merged most_alternates (most_payload s.geometry) before (alternate_of w)) (last_moved s piece segment live w.key (last_vector s w.key))
+put_moved s piece segment live (Some w) = ap (λ before. merged s.geometry.alternates (most_payload s.geometry) before (alternate_of w)) (last_moved s piece segment live w.key (last_vector s w.key))
 
 -- behind the records of what an insert displaces
 pub record IsBehind (s t : State) (put : ℕ) : Type 0 where

@@ -25,6 +25,7 @@ small = record {
   reach = 16;
   fragment = 4;
   generation = 7;
+  alternates = 5;
   accepted = record {
     segments_fit = (lit≤ tt, lit≤ tt);
     buckets_fit = (lit≤ tt, lit≤ tt);
@@ -33,6 +34,7 @@ small = record {
     reach_fits = (lit≤ tt, lit< tt);
     fragment_fits = (lit≤ tt, lit≤ tt);
   };
+  keeps = record { some = lit≤ tt; few = lit≤ tt };
 }
 
 abbrev key_of : ℕ → Key

@@ -35,6 +35,7 @@ geometry_of buckets some few = record {
   reach = 16;
   fragment = 4;
   generation = 7;
+  alternates = 5;
   accepted = record {
     segments_fit = (lit≤ tt, lit≤ tt);
     buckets_fit = (some, few);
@@ -43,6 +44,7 @@ geometry_of buckets some few = record {
     reach_fits = (lit≤ tt, lit< tt);
     fragment_fits = (lit≤ tt, lit≤ tt);
   };
+  keeps = record { some = lit≤ tt; few = lit≤ tt };
 }
 
 -- what a line is answered

@@ -105,6 +105,7 @@ least_geometry = record {
   reach = 8;
   fragment = 1;
   generation = 0;
+  alternates = 5;
   accepted = record {
     segments_fit = (lit≤ tt, lit≤ tt);
     buckets_fit = (lit≤ tt, lit≤ tt);
@@ -113,6 +114,7 @@ least_geometry = record {
     reach_fits = (lit≤ tt, lit< tt);
     fragment_fits = (lit≤ tt, lit≤ tt);
   };
+  keeps = record { some = lit≤ tt; few = lit≤ tt };
 }
 
 -- at the beginning of a session that a format began
@@ -237,10 +239,6 @@ list_among s rows key = unwrap_or (option_map (list_of_last s rows key) (last_ve
 abbrev pub alternates_of : State → Key → List Stored
 alternates_of s key = list_among s s.rows key
 
--- how many alternates a vector lists at most
-abbrev pub most_alternates : ℕ
-most_alternates = 5
-
 -- the most bytes of payload that one piece may have
 abbrev pub most_payload : Geometry → ℕ
 most_payload g = 512 * budget_of g - 128
@@ -248,7 +246,7 @@ most_payload g = 512 * budget_of g - 128
 -- the alternates of a put's vector: those before that the new request does not match, and the put's
 -- own, as many from the end as there may be; what the insert displaces counts as still there
 abbrev pub merged_list : State → PutRow → List Stored
-merged_list s p = merged most_alternates (most_payload s.geometry) (list_among s (s.displaced ++ s.rows) p.key) (alternate_of p)
+merged_list s p = merged s.geometry.alternates (most_payload s.geometry) (list_among s (s.displaced ++ s.rows) p.key) (alternate_of p)
 
 -- the same by the put's number; nothing of a put that is not known
 abbrev pub list_of_put : State → ℕ → List Stored
