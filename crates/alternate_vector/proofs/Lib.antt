@@ -1,4 +1,5 @@
 pub mod Again
+pub mod Bytes
 pub mod Chosen
 pub mod Lengths
 pub mod Loops

@@ -7,6 +7,7 @@ use Rattle.std.specs.declared.cmp.Ordering.{Ordering}
 use Rattle.std.specs.declared.cmp.Ordering.TheVariants.{Less, Equal, Greater}
 use Rattle.std.specs.Cmp.{upto, tied_itself}
 use Rattle.std.specs.Cmp.Lexicographic.{slice_cmp, nat_list_cmp_total}
+use Rattle.hex.specs.Hex.{IsBytes}
 use Rattle.http_header.specs.Token.{is_token_byte, lowercase}
 use Rattle.http_header.specs.FieldValue.{plain_value}
 use Rattle.http_header.proofs.TokenLemmas.{is_token_byte-to_ascii_lowercase, lowercase-lowercase_lem}
@@ -121,8 +122,8 @@ name_lower bytes h =
     three_back (ltb 0 (length (lowercase bytes))) (leb (length (lowercase bytes)) 256) (list_all is_token_byte (lowercase bytes))
     (ap (λ (n : ℕ). ltb 0 n) same ∙ parts.0) (ap (λ (n : ℕ). leb n 256) same ∙ parts.1) (token_lower bytes parts.2)
 
-pub kept_made : (name value : List ℕ) → is_name name ≡ true → is_value value ≡ true → IsKept (made_field name value)
-kept_made name value n v = record { name = name_lower name n; lower = lowercase-lowercase_lem name; value = v }
+pub kept_made : (name value : List ℕ) → is_name name ≡ true → is_value value ≡ true → IsBytes value → IsKept (made_field name value)
+kept_made name value n v b = record { name = name_lower name n; lower = lowercase-lowercase_lem name; value = v; bytes = b }
 
 pub some_line : Line
 some_line = record { name = []; value = plain_value [] }

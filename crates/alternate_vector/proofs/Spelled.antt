@@ -10,7 +10,8 @@ use Rattle.std.proofs.lemmas.Nat.{le_bytes_2, le_bytes_4, le_bytes_8}
 use Rattle.fragment_table.specs.Table.{TableRow, table_bytes}
 use Rattle.fragment_table.specs.Reading.{read_table}
 use Rattle.fragment_table.specs.declared.fault.TableFault.{TableFault}
-use Rattle.fragment_table.proofs.Rows.{IsBytes, IsBytes-drop, IsBytes-take}
+use Rattle.hex.specs.Hex.{IsBytes}
+use Rattle.tape_base.proofs.Bytes.{IsBytes-drop, IsBytes-take}
 use Rattle.fragment_table.proofs.Whole.{is_spelled}
 use Rattle.alternate_vector.specs.declared.fault.VectorFault.{VectorFault}
 use Rattle.alternate_vector.specs.declared.fault.VectorFault.TheVariants.{Short, Count, Name, Value, Rest}

@@ -3,6 +3,7 @@ use Rattle.std.specs.Prelude.{◌≡◌, ℕ, ◌≤◌, nat_lt, nat_le, Bool, t
 use Rattle.std.specs.List.{list_all, AllByRecursion}
 use Rattle.std.specs.Ordering.{nat_cmp, is_gt}
 use Rattle.std.specs.Cmp.Lexicographic.{slice_cmp}
+use Rattle.hex.specs.Hex.{IsBytes}
 use Rattle.http_header.specs.Token.{is_token_byte, is_value_byte, lowercase}
 use Rattle.alternate_vector.specs.declared.fault.FieldFault.{FieldFault}
 use Rattle.alternate_vector.specs.declared.fault.FieldFault.TheVariants.{Name, Value, TooMany, Memory}
@@ -43,11 +44,12 @@ abbrev pub IsRising : List Field → Type 0
 IsRising [] = ⊤
 IsRising (field ∷ fields) = AllByRecursion (λ other. is_above field.name other.name ≡ false) fields × IsRising fields
 
--- a line that may be kept
+-- a line that may be kept; its name is bytes as each of a token is, and so is its value
 pub record IsKept (field : Field) : Type 0 where
   pub name : is_name field.name ≡ true
   pub lower : lowercase field.name ≡ field.name
   pub value : is_value field.value ≡ true
+  pub bytes : IsBytes field.value
 
 -- the lines that a request or a response may have
 pub record AreFields (fields : List Field) : Type 0 where

@@ -199,7 +199,8 @@ fn is_lowercase(name: &[u8]) -> bool
 fn kept_line(alloc: Global, name: &[u8], value: &[u8]) -> Result<Line, AllocError>
     requires name { is_name name.now ≡ true }
     requires lower { lowercase name.now ≡ name.now }
-    ensures { IfOk result (λ line. field_of line ≡ plain_field name.now value.now) }
+    ensures field { IfOk result (λ line. field_of line ≡ plain_field name.now value.now) }
+    ensures kept { IfOk result (λ line. IsKept (field_of line)) }
 {
     match read_line(alloc, name, value) {
         Ok(line) => Ok(line),

@@ -5,7 +5,9 @@ use Rattle.std.specs.Prelude.{◌≢◌, Option, Some, None, codes, length, repl
 use Rattle.tape_base.specs.declared.keys.Key.{Key}
 use Rattle.tape_base.specs.declared.digests.Digest.{Digest}
 use Rattle.tape_base.specs.declared.geometries.Geometry.{Geometry}
+use Rattle.hex.specs.Hex.{IsBytes}
 use Rattle.tape_base.specs.Digest.{digest_of}
+use Rattle.tape_base.proofs.Bytes.{bytes_by_test, zeros_are_bytes}
 use Rattle.doc_header.specs.Reading.{document_digest}
 use Rattle.fragment_table.specs.Table.{made_row}
 use Rattle.alternate_vector.specs.Field.{AreFields}
@@ -109,7 +111,7 @@ places : Does idle s1 (Fragment 1 1 body) cut Done
 places = Legal.DoesFragment.places refl (record {
   w = w1;
   displaced = [];
-  cut = record { writing = is_writing_1; next = refl; few = lit< tt; full = refl; some = lit< tt; small = lit≤ tt };
+  cut = record { writing = is_writing_1; next = refl; few = lit< tt; full = refl; some = lit< tt; small = lit≤ tt; of_bytes = bytes_by_test body refl };
   place = record { small = lit≤ tt; room = refl; below = lit< tt };
   displaces = record { purged = []; full = (λ h. let f : false ≡ true = h in cc); free = (λ h. refl); is = refl };
   is = refl;
@@ -222,7 +224,7 @@ opens_full = Legal.opens (record { who = record { 0 = 0 }; number = refl; quiet 
 
 faults : Does faulty f1 (Fragment 1 1 body) fault (Fails (Faulted 1))
 faults = Legal.DoesFragment.rooms w1
-    (record { writing = record { quiet = refl; found = refl; is_open = refl }; next = refl; few = lit< tt; full = refl; some = lit< tt; small = lit≤ tt })
+    (record { writing = record { quiet = refl; found = refl; is_open = refl }; next = refl; few = lit< tt; full = refl; some = lit< tt; small = lit≤ tt; of_bytes = bytes_by_test body refl })
     (Legal.MakesRoom.stops 1 refl (record {
       outcomes = [];
       can = record { quiet = refl; filled = lit< tt; below = refl };
@@ -328,7 +330,7 @@ misses kept differ = Legal.looks (record {
   right = Legal.IsLookup.trouble (stored_row kept) _ _ refl
       (Given.Trouble.damaged (document_digest junk) (record {
         bytes = junk;
-        given = record { written = lit< tt; given = inl refl; whole = refl };
+        given = record { written = lit< tt; given = inl refl; whole = refl; of_bytes = zeros_are_bytes 512 };
         digest = refl;
         differ = differ;
       }));
@@ -371,14 +373,14 @@ ended_empty = rec.Ended 1 0 ∷ []
 abbrev g2 : List ℕ → State
 g2 bytes = after_all (g1 bytes) ended_empty
 
-looks_up : (bytes : List ℕ) → length bytes ≡ 512 → Does (giving bytes) (kept_state bytes) (Look 0 k []) hit Done
-looks_up bytes whole = Legal.looks (record {
+looks_up : (bytes : List ℕ) → length bytes ≡ 512 → IsBytes bytes → Does (giving bytes) (kept_state bytes) (Look 0 k []) hit Done
+looks_up bytes whole small = Legal.looks (record {
   who = record { 0 = 0 };
   before = [];
   answer = read.Hit 1;
   number = refl;
   quiet = refl;
-  right = Legal.IsLookup.verdict (Given.IsRead.given bytes (record { written = lit< tt; given = inl refl; whole = whole }) refl);
+  right = Legal.IsLookup.verdict (Given.IsRead.given bytes (record { written = lit< tt; given = inl refl; whole = whole; of_bytes = small }) refl);
   is = refl;
 })
 
@@ -389,10 +391,10 @@ ends_empty bytes =
 stops_empty : (bytes : List ℕ) → Does (giving bytes) (g2 bytes) (StopReading 1) stopped Done
 stops_empty bytes = Legal.closes _ refl refl refl
 
-pub a_get_of_what_the_device_gives_is_a_step : (bytes : List ℕ) → length bytes ≡ 512
+pub a_get_of_what_the_device_gives_is_a_step : (bytes : List ℕ) → length bytes ≡ 512 → IsBytes bytes
     → IsStep (giving bytes) (kept_state bytes) get_line (hit ++ ended_empty ++ stopped) None
-a_get_of_what_the_device_gives_is_a_step bytes whole = record {
-  grows = grows_on (grows_on (group (giving bytes) (kept_state bytes) _ _ _ Done hit (looks_up bytes whole))
+a_get_of_what_the_device_gives_is_a_step bytes whole small = record {
+  grows = grows_on (grows_on (group (giving bytes) (kept_state bytes) _ _ _ Done hit (looks_up bytes whole small))
       (group (giving bytes) (g1 bytes) _ _ _ Done ended_empty (ends_empty bytes))) (group (giving bytes) (g2 bytes) _ _ _ Done stopped (stops_empty bytes));
   quiet = refl;
 }

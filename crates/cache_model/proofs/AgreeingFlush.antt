@@ -1,6 +1,7 @@
 -- Where two devices tell no trouble in a flush, they copy the same, or two documents of one SHA-256 are shown.
 use Rattle.std.proofs.Common.{◌≡◌, ℕ, ◌-◌, ◌≤◌, ◌⊎◌, List, [], ◌∷◌, ◌++◌, refl, sym, ◌∙◌, ap, arith, inl, inr}
 use Rattle.std.specs.Prelude.{take}
+use Rattle.tape_base.proofs.Bytes.{IsBytes-take}
 use Rattle.tape_base.proofs.DigestLaw.{digests_tell_lem}
 use Rattle.doc_header.specs.Reading.{document_digest, extent_of}
 use Rattle.doc_header.proofs.SameCopies.{moved_alike_lem}
@@ -59,7 +60,8 @@ copies_agree u due (no_room m) = copies_agree u (λ row among. due row (inr amon
 copies_agree {p} {q} {s} u due (copied {row = row} {rows = rows} {one = one} {other = other} bytes others g k kept kept2 m) =
     let c : Copy = record { row = row; bytes = bytes } in
     let d : Copy = record { row = row; bytes = others } in
-    elim (digests_tell_lem (take (extent_of bytes) bytes) (take (extent_of others) others) (sym kept ∙ kept2)) [
+    elim (digests_tell_lem (take (extent_of bytes) bytes) (take (extent_of others) others)
+    (IsBytes-take (extent_of bytes) bytes g.of_bytes) (IsBytes-take (extent_of others) others k.of_bytes) (sym kept ∙ kept2)) [
       | inr collide ↦ inr (record { row = row; one = bytes; other = others; due = due row (inl refl); one_given = g; other_given = k; kept = kept; collide = collide })
       | inl alike ↦ elim (copies_agree (state_after u (moved_record u c)) (λ x among. due x (inr among)) m) [
         | inr shown ↦ inr shown

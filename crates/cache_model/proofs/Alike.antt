@@ -19,7 +19,7 @@ pub written_alike : (s t : State) (row : Row) → t.cursor ≡ s.cursor → IsWr
 written_alike s t row same h = omega (arith, same, h)
 
 pub given_alike : (p : Permit) (s t : State) (row : Row) (bytes : List ℕ) → t.cursor ≡ s.cursor → IsGiven p s row bytes → IsGiven p t row bytes
-given_alike p s t row bytes same g = record { written = written_alike s t row same g.written; given = g.given; whole = g.whole }
+given_alike p s t row bytes same g = record { written = written_alike s t row same g.written; given = g.given; whole = g.whole; of_bytes = g.of_bytes }
 
 pub counts_alike : (p : Permit) (s t : State) (count : ℕ) → t.fault ≡ s.fault → MayCount p s count → MayCount p t count
 counts_alike p s t count same m = record { rose = subst (λ n. min (max p.faults_before n + 1) (2 ^ 64 - 1) ≤ count) (sym same) m.rose; reached = m.reached }

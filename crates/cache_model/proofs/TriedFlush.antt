@@ -97,7 +97,7 @@ outcomes_are_tried p s left rows outcomes h = tried p s s left rows outcomes (al
 within_by : (p : Permit) (s : State) (left : ℕ) (row : Row) (rows : List Row) (b : Bool) → nat_le row.blocks left ≡ b → IsWritten s row → HasBytes p row
     → ((n : ℕ) → AreTried p s n rows) → AreTried p s left (row ∷ rows)
 within_by p s left row rows true e written has rest =
-    Choices.AreTried.given has.bytes (leb-true row.blocks left e) (record { written = written; given = has.given; whole = has.whole }) (rest (left - row.blocks))
+    Choices.AreTried.given has.bytes (leb-true row.blocks left e) (record { written = written; given = has.given; whole = has.whole; of_bytes = has.of_bytes }) (rest (left - row.blocks))
 within_by p s left row rows false e written has rest = Choices.AreTried.no_room (leb-false row.blocks left e) (rest left)
 
 given_tried : (p : Permit) (s : State) (left : ℕ) (rows : List Row) → AllByRecursion (IsWritten s) rows → AllByRecursion (HasBytes p) rows → AreTried p s left rows

@@ -5,9 +5,13 @@ use Rattle.tape_base.specs.declared.keys.Key.{Key}
 use Rattle.tape_base.specs.Blocks.{blocks_of}
 use Rattle.tape_base.specs.Digest.{Collide}
 use Rattle.tape_base.specs.Geometry.{budget_of}
+use Rattle.hex.specs.Hex.{IsBytes}
+use Rattle.tape_base.proofs.Bytes.{IsBytes-take}
 use Rattle.tape_base.proofs.DigestLaw.{digests_tell_lem}
 use Rattle.doc_header.specs.Reading.{document_digest, extent_of, payload_of}
+use Rattle.doc_header.proofs.MovingLaws.{document_small}
 use Rattle.doc_header.proofs.ReadingLaws.{payload_told}
+use Rattle.alternate_vector.proofs.Bytes.{vector_small}
 use Rattle.alternate_vector.specs.Alternates.{Stored, vector_size}
 use Rattle.alternate_vector.specs.Spelling.{IsSpelling, vector_bytes}
 use Rattle.cache_model.specs.State.{State, Row, PutRow, LastVector, Complete, TakenOut, alternates_of, is_live, last_vector, list_of_last, list_of_put, list_of_row, live_row_of, only_live, put_of, row_in, vector_piece}
@@ -49,12 +53,14 @@ live_vector_is_listed s key row each h = listed_last s key row (last_vector s ke
 
 -- ---- its bytes
 
-pub vector_is_read_back : (s : State) (row : Row) (list : List Stored) (bytes : List ℕ) → IsVectorRow s row list → row.digest ≡ document_digest bytes
+pub vector_is_read_back : (s : State) (row : Row) (list : List Stored) (bytes : List ℕ) → IsVectorRow s row list → IsBytes bytes → row.digest ≡ document_digest bytes
     → (payload_of bytes ≡ vector_bytes list) ⊎ Collide (take (extent_of bytes) bytes) (vector_document s row list)
-vector_is_read_back s row list bytes v h = elim (digests_tell_lem (take (extent_of bytes) bytes) (vector_document s row list) (sym h ∙ v.digest)) [
-  | inl same ↦ inl (payload_told bytes (vector_doc s row) (vector_bytes list) same)
-  | inr collide ↦ inr collide
-]
+vector_is_read_back s row list bytes v small h =
+    elim (digests_tell_lem (take (extent_of bytes) bytes) (vector_document s row list) (IsBytes-take (extent_of bytes) bytes small)
+    (document_small (vector_doc s row) (vector_bytes list) (vector_small list v.spelled.stored)) (sym h ∙ v.digest)) [
+      | inl same ↦ inl (payload_told bytes (vector_doc s row) (vector_bytes list) same)
+      | inr collide ↦ inr collide
+    ]
 
 -- ---- the vector that a put is to have
 

@@ -1,6 +1,7 @@
 -- How many groups of records fit what is asked: one at most where the device is faithful, and one at
 -- least wherever it may be asked; and what a group has read.
 use Rattle.std.specs.Prelude.{ℕ, ◌≡◌, ◌-◌, ◌*◌, ◌^◌, ◌<◌, ◌≤◌, ◌⊎◌, Bool, true, false, not, List, [], ◌∷◌, length, Option, Some, None, option_and_then, if◌then◌else◌}
+use Rattle.hex.specs.Hex.{IsBytes}
 use Rattle.tape_base.specs.declared.keys.Key.{Key}
 use Rattle.tape_base.specs.declared.pieces.PieceId.{PieceId}
 use Rattle.tape_base.specs.declared.actors.Actor.{Actor}
@@ -85,6 +86,7 @@ pub record HasBytes (p : Permit) (row : Row) : Type 0 where
   pub bytes : List ℕ
   pub given : IsAmong (record { place = row.place; bytes = bytes }) p.reads
   pub whole : length bytes ≡ 512 * row.blocks
+  pub of_bytes : IsBytes bytes
 
 -- what is asked begins with a flush: it is one, or a piece is to be placed that has no room
 abbrev pub flushes_first : State → Intent → Bool

@@ -1,6 +1,7 @@
 -- What the device gave for a piece in a step, or that it refused: what was read, what is damaged, and
 -- the trouble with a piece that is asked for.
 use Rattle.std.specs.Prelude.{ℕ, ◌≡◌, ◌≢◌, ◌*◌, ◌<◌, ◌≤◌, List, [], ◌∷◌, length, Option, Some, None, max}
+use Rattle.hex.specs.Hex.{IsBytes}
 use Rattle.edge_io.specs.Causes.{Rose}
 use Rattle.tape_base.specs.declared.digests.Digest.{Digest}
 use Rattle.doc_header.specs.Reading.{document_digest}
@@ -26,6 +27,7 @@ pub record IsGiven (p : Permit) (s : State) (row : Row) (bytes : List ℕ) : Typ
   pub written : IsWritten s row
   pub given : IsAmong (record { place = row.place; bytes = bytes }) p.reads
   pub whole : length bytes ≡ 512 * row.blocks
+  pub of_bytes : IsBytes bytes
 
 -- the piece is in the buffer, or the device gave its document in this step
 pub data IsRead (p : Permit) (s : State) (row : Row) : Type 0 where

@@ -2,6 +2,7 @@
 -- was asked first.
 use Rattle.std.specs.Prelude.{ℕ, ◌≡◌, ◌≢◌, ◌+◌, ◌-◌, ◌*◌, ◌^◌, ◌<◌, ◌≤◌, ◌==◌, Bool, true, false, if◌then◌else◌, List, [], ◌∷◌, ◌++◌, length, Option, Some, None, option_map, option_and_then, unwrap_or, is_some, cond}
 use Rattle.std.specs.List.{count_by}
+use Rattle.hex.specs.Hex.{IsBytes}
 use Rattle.tape_base.specs.declared.keys.Key.{Key}
 use Rattle.tape_base.specs.declared.pieces.PieceId.{PieceId}
 use Rattle.tape_base.specs.declared.digests.Digest.{Digest}
@@ -131,6 +132,7 @@ pub record IsNext (s : State) (put index : ℕ) (payload : List ℕ) (w : PutRow
   pub full : total_length w.cuts ≡ length w.cuts * s.geometry.fragment
   pub some : 0 < length payload
   pub small : length payload ≤ s.geometry.fragment
+  pub of_bytes : IsBytes payload
 
 -- it is cut, then its entry displaces, then it is placed, as the part of the body behind all cut before
 pub record MayPlaceFragment (p : Permit) (s : State) (put index : ℕ) (payload : List ℕ) (added : List Rec) : Type 0 where

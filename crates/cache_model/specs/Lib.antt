@@ -10,6 +10,7 @@ pub mod Kept
 pub mod PlaceLaws
 pub mod StepLaws
 pub mod Choices
+pub mod Pair
 pub mod VerdictLaws
 pub mod Tape
 pub mod Vectors

@@ -1,6 +1,7 @@
 -- What a vector is: in each legal chronicle the document that spells its alternates.
 use Rattle.std.specs.Prelude.{ℕ, ◌≡◌, ◌≤◌, ◌⊎◌, ◌++◌, Bool, true, List, [], length, take, Option, Some}
 use Rattle.std.specs.List.{AllByRecursion}
+use Rattle.hex.specs.Hex.{IsBytes}
 use Rattle.tape_base.specs.declared.keys.Key.{Key}
 use Rattle.tape_base.specs.declared.geometries.Geometry.{Geometry}
 use Rattle.tape_base.specs.Blocks.{blocks_of}
@@ -17,7 +18,7 @@ use Rattle.cache_model.specs.State.{State, Row, PutRow, after_all, alternate_of,
 use Rattle.cache_model.specs.Verdict.{live_vector_of}
 use Rattle.cache_model.specs.Permit.{Permit, IsAmong, Intent, Reason, End, Work, to_do}
 use Rattle.cache_model.specs.Due.{due_pieces}
-use Rattle.cache_model.specs.Given.{IsGiven}
+use Rattle.cache_model.specs.Pair.{IsCopyPair, IsPair, ShowsPair}
 use Rattle.cache_model.specs.Outcomes.{AreOutcomes, Outcome, flush_records, stopped_records}
 use Rattle.cache_model.specs.Room.{greatest_pin}
 use Rattle.cache_model.specs.Tape.{IsSound}
@@ -58,37 +59,24 @@ pub record AreTold (s : State) : Type 0 where
   pub puts : ArePuts s
   pub displaced : s.displaced ≡ []
 
--- ---- what a copy may show
+-- ---- what may be shown
 
--- the document as which a live vector was placed, and other bytes that the device gave for it in the
--- step, have one SHA-256
-pub record IsOtherVector (p : Permit) (s : State) : Type 0 where
-  pub row : Row
+-- the document as which a vector was placed
+pub record IsVectorAs (s : State) (row : Row) (document : List ℕ) : Type 0 where
   pub list : List Stored
-  pub bytes : List ℕ
   pub vector : is_vector row.id ≡ true
-  pub live : live_row_of s row.id ≡ Some row
-  pub placed : IsVectorRow s row list
-  pub given : IsGiven p s row bytes
-  pub collide : Collide (take (extent_of bytes) bytes) (vector_document s row list)
+  pub lists : IsVectorRow s row list
+  pub is : document ≡ vector_document s row list
 
--- so it is some way into a step
-pub record ShowsVector (p : Permit) (s : State) (intents : List Intent) (added : List Rec) : Type 0 where
-  pub before : List Rec
-  pub rest : List Rec
-  pub left : Work
-  pub grows : MayGrow p s (to_do intents) before left
-  pub is : added ≡ before ++ rest
-  pub other : IsOtherVector p (after_all s before)
-
--- and so in one of the steps of a chronicle
+-- in one of the steps of a chronicle two documents of one SHA-256 are shown for a vector
 pub record IsShownIn (courses : List Course) (recs : List Rec) : Type 0 where
   pub course : Course
   pub among : IsAmong course courses
   pub before : List Rec
+  pub added : List Rec
   pub rest : List Rec
-  pub is : recs ≡ before ++ rest
-  pub other : IsOtherVector course.permit (after_all nothing_yet before)
+  pub is : recs ≡ before ++ added ++ rest
+  pub shows : ShowsPair IsVectorAs course.permit (after_all nothing_yet before) course.intents added
 
 -- ---- laws
 
@@ -99,7 +87,7 @@ FormatsTell = (s : State) (geometry : Geometry) → AreTold (after_all s (format
 -- a flush that copies what is due leaves it so, or two documents of one SHA-256 are shown
 abbrev pub FlushTells : Type 0
 FlushTells = (p : Permit) (s : State) (now left : ℕ) (outcomes : List Outcome) → IsSound s → AreTold s → AreOutcomes p s left (due_pieces s now) outcomes
-    → AreTold (after_all s (flush_records s (due_pieces s now) outcomes)) ⊎ IsOtherVector p s
+    → AreTold (after_all s (flush_records s (due_pieces s now) outcomes)) ⊎ IsCopyPair IsVectorAs p s now
 
 -- one that stops copies none
 abbrev pub StoppedTells : Type 0
@@ -108,12 +96,12 @@ StoppedTells = (s : State) (rows : List Row) (outcomes : List Outcome) (count : 
 -- each group of records leaves it so, on a sound tape
 abbrev pub GroupsTell : Type 0
 GroupsTell = (p : Permit) (s : State) (i : Intent) (added : List Rec) (e : End) → IsSound s → AreTold s → Does p s i added e
-    → AreTold (after_all s added) ⊎ IsOtherVector p s
+    → AreTold (after_all s added) ⊎ IsPair IsVectorAs p s i
 
 -- and so does each step
 abbrev pub StepsTell : Type 0
 StepsTell = (p : Permit) (s : State) (intents : List Intent) (added : List Rec) (why : Option Reason)
-    → IsSound s → AreTold s → IsStep p s intents added why → AreTold (after_all s added) ⊎ ShowsVector p s intents added
+    → IsSound s → AreTold s → IsStep p s intents added why → AreTold (after_all s added) ⊎ ShowsPair IsVectorAs p s intents added
 
 -- in each legal chronicle each vector lists its alternates, or a step shows two documents of one SHA-256
 abbrev pub VectorsAreKept : Type 0
@@ -128,7 +116,7 @@ LiveVectorIsListed = (s : State) (key : Key) (row : Row) → AreVectors s → li
 -- what bytes of a vector's digest tell as their payload spells its alternates, or the bytes collide
 -- with the document as which the vector was placed
 abbrev pub VectorIsReadBack : Type 0
-VectorIsReadBack = (s : State) (row : Row) (list : List Stored) (bytes : List ℕ) → IsVectorRow s row list → row.digest ≡ document_digest bytes
+VectorIsReadBack = (s : State) (row : Row) (list : List Stored) (bytes : List ℕ) → IsVectorRow s row list → IsBytes bytes → row.digest ≡ document_digest bytes
     → (payload_of bytes ≡ vector_bytes list) ⊎ Collide (take (extent_of bytes) bytes) (vector_document s row list)
 
 -- where the vector of a put's alternate alone is a piece, so is the vector that the put is to have

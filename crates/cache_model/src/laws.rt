@@ -7,7 +7,8 @@ ghost use Rattle.cache_model.specs.VerdictLaws.{HitMatches, CompleteIsHit, Remov
 ghost use Rattle.cache_model.specs.Tape.{StepsAreSound, LegalIsSound, LiveIsKnown};
 ghost use Rattle.cache_model.specs.FlushLaws.{DueAreFound, FlushIsSound, FrontIsBacked, GivenAreTried, KeptAreChosen, OutcomesAreFixed, OutcomesAreFound, OutcomesAreTried, StoppedIsBacked, StoppedIsSound, WalkFinds, WalkGoesOn};
 ghost use Rattle.cache_model.specs.Agreeing.{GroupsAgree, StepsAgree};
-ghost use Rattle.cache_model.specs.Vectors.{FlushTells, StoppedTells, FormatsTell, GroupsTell, StepsTell, VectorsAreKept, LiveVectorIsListed, VectorIsReadBack, MergedIsSpelled};
+ghost use Rattle.cache_model.specs.Pair.{PairsAreBytes, PairsAreGiven};
+ghost use Rattle.cache_model.specs.Vectors.{FlushTells, IsVectorAs, StoppedTells, FormatsTell, GroupsTell, StepsTell, VectorsAreKept, LiveVectorIsListed, VectorIsReadBack, MergedIsSpelled};
 
 /// What each record makes of the place of each piece.
 pub fn place_follows()
@@ -232,6 +233,13 @@ pub fn groups_tell()
 /// And so does each step.
 pub fn steps_tell()
     ensures { StepsTell }
+{}
+
+/// Both sides of a pair are bytes; and of a piece that was written out none is shown where the device gave
+/// nothing for it.
+pub fn pairs_are_given()
+    ensures bytes { PairsAreBytes IsVectorAs }
+    ensures given { PairsAreGiven IsVectorAs }
 {}
 
 /// In each legal chronicle each vector is the document that spells its alternates, or a step shows two

@@ -16,10 +16,11 @@ pub use laws::{
     hit_is_read, hit_matches, kept_are_chosen, legal_is_sound, live_is_known, live_is_removed,
     live_vector_is_listed, lookup_is_one, merged_is_spelled, moved_is_there, nothing_asked,
     numbers_follow, one_group, outcomes_are_fixed, outcomes_are_found, outcomes_are_tried,
-    passed_is_missed, passed_is_not_live, place_follows, place_is_last, reader_is_closed,
-    refusal_ends, removed_is_missed, replaced_is_nowhere, steps_agree, steps_are_sound, steps_tell,
-    stopped_is_backed, stopped_is_sound, stopped_tells, taken_is_nowhere, too_large_is_not_placed,
-    trouble_is_backed, vector_is_last, vector_is_read_back, vectors_are_kept, waits_for_open,
-    walk_finds, walk_goes_on, writer_is_ended,
+    pairs_are_given, passed_is_missed, passed_is_not_live, place_follows, place_is_last,
+    reader_is_closed, refusal_ends, removed_is_missed, replaced_is_nowhere, steps_agree,
+    steps_are_sound, steps_tell, stopped_is_backed, stopped_is_sound, stopped_tells,
+    taken_is_nowhere, too_large_is_not_placed, trouble_is_backed, vector_is_last,
+    vector_is_read_back, vectors_are_kept, waits_for_open, walk_finds, walk_goes_on,
+    writer_is_ended,
 };
 pub use record::Rec;

@@ -1,7 +1,8 @@
 -- What is copied to another place keeps its payload, and stays the document that it was.
-use Rattle.std.proofs.Common.{◌≡◌, ◌≤◌, ◌<◌, ◌^◌, ◌+◌, ℕ, List, [], ◌∷◌, ◌++◌, length, take, drop, refl, sym, ap, ◌∙◌, append_assoc, arith, inl, inr}
+use Rattle.std.proofs.Common.{◌≡◌, ◌≤◌, ◌<◌, ◌^◌, ◌+◌, ℕ, List, [], ◌∷◌, ◌++◌, length, take, drop, refl, sym, ap, ◌∙◌, append_assoc, arith, inl, inr, subst}
 use Rattle.std.specs.Prelude.{codes}
 use Rattle.std.specs.Int.{w32, w64, to_le_bytes}
+use Rattle.std.specs.List.{AllByRecursion}
 use Rattle.std.proofs.Math.Seq.{take-append-add}
 use Rattle.std.proofs.lemmas.Slice.{drop-append-drop}
 use Rattle.std.proofs.lemmas.List.{take-append-drop, take_at, drop-take, drop_at, length-append, length-take, length-drop}
@@ -9,6 +10,8 @@ use Rattle.sha2.specs.Sha256.{sha256}
 use Rattle.tape_base.specs.Key.{key_bytes}
 use Rattle.tape_base.specs.Blocks.{blocks_of}
 use Rattle.tape_base.specs.Digest.{digest_of, IsSame}
+use Rattle.hex.specs.Hex.{IsBytes}
+use Rattle.tape_base.proofs.Bytes.{IsBytes-append, IsBytes-nil, IsBytes-take, bytes_by_test, key_bytes-small, le_bytes-small, sha256-small}
 use Rattle.tape_base.proofs.NameLaws.{length-key_bytes}
 use Rattle.tape_base.proofs.DigestLaw.{digests_tell_lem}
 use Rattle.doc_header.specs.declared.documents.Doc.{Doc}
@@ -16,7 +19,7 @@ use Rattle.doc_header.specs.Document.{name_bytes, field_bytes, header_bytes, che
 use Rattle.doc_header.specs.Reading.{field_at, length_of, extent_of, payload_of, document_digest}
 use Rattle.doc_header.specs.Moving.{doc_at, moved_fields, moved_to, MovesKeep, BeginsWith, MovedIsSpelled, MovedIsRecorded, IsMovedOrCollides, MovedIsSame}
 use Rattle.doc_header.proofs.Stands.{joined, AreWide, joined-front, length-joined, length-field, field_behind, number_32_again, number_32_in_front}
-use Rattle.doc_header.proofs.ReadingLaws.{length-sha256, header_is, length-header, apart}
+use Rattle.doc_header.proofs.ReadingLaws.{length-sha256, fields_joined, fields_of, header_is, length-header, apart}
 
 -- ---- what two writes into the bytes make of them
 
@@ -102,6 +105,32 @@ payload_stays place bytes long =
 pub moves_keep_lem : MovesKeep
 moves_keep_lem place bytes long =
     record { as_many = as_many_bytes place bytes long; told = length_stays place bytes long; payload = payload_stays place bytes long }
+
+-- ---- a document is bytes where its payload is
+
+joined_small : (front : List ℕ) (fs : List (ℕ × List ℕ)) → IsBytes front → AllByRecursion (λ f. IsBytes f.1) fs → IsBytes (joined front fs)
+joined_small front [] small each = small
+joined_small front (f ∷ fs) small each = joined_small (front ++ f.1) fs (IsBytes-append front f.1 small each.0) each.1
+
+magic_small : IsBytes (codes "TSCDOCM1")
+magic_small = bytes_by_test (codes "TSCDOCM1") refl
+
+fields_small : (doc : Doc) (payload : List ℕ) → AllByRecursion (λ f. IsBytes f.1) (fields_of doc payload)
+fields_small doc payload =
+    (magic_small, (le_bytes-small w32 1, (le_bytes-small w32 (length payload), (key_bytes-small doc.id.first,
+    (le_bytes-small w64 doc.id.put, (le_bytes-small w32 doc.id.index, (le_bytes-small w32 (blocks_of (length payload)),
+    (le_bytes-small w64 doc.place, (le_bytes-small w64 doc.generation, (le_bytes-small w64 doc.pin, (le_bytes-small w64 doc.start,
+    (sha256-small payload, tt))))))))))))
+
+header_small : (doc : Doc) (payload : List ℕ) → IsBytes (header_bytes doc payload)
+header_small doc payload =
+    let fields = field_bytes doc payload in
+    let small : IsBytes fields = subst IsBytes (sym (fields_joined doc payload)) (joined_small [] (fields_of doc payload) IsBytes-nil (fields_small doc payload)) in
+    subst IsBytes (sym (header_is doc payload)) (IsBytes-append fields (check_of fields) small (IsBytes-take 16 (sha256 fields) (sha256-small fields)))
+
+-- what is digested of a document
+pub document_small : (doc : Doc) (payload : List ℕ) → IsBytes payload → IsBytes (header_bytes doc payload ++ payload)
+document_small doc payload few = IsBytes-append (header_bytes doc payload) payload (header_small doc payload) few
 
 -- ---- a copy of a document is a document
 
@@ -228,8 +257,9 @@ same_or_collides place bytes doc payload fits (inl same) = inl (moved_is_recorde
 same_or_collides place bytes doc payload fits (inr collide) = inr collide
 
 pub moved_is_same_lem : MovedIsSame
-moved_is_same_lem place bytes doc payload fits h =
-    same_or_collides place bytes doc payload fits (digests_tell_lem (take (extent_of bytes) bytes) (header_bytes doc payload ++ payload) h)
+moved_is_same_lem place bytes doc payload small few fits h =
+    same_or_collides place bytes doc payload fits
+    (digests_tell_lem (take (extent_of bytes) bytes) (header_bytes doc payload ++ payload) (IsBytes-take (extent_of bytes) bytes small) (document_small doc payload few) h)
 
 -- what was read at one place is read at the other
 pub moved_document : (place : ℕ) (bytes : List ℕ) (generation before : ℕ) (doc : Doc) (payload : List ℕ) → place < 2 ^ 64

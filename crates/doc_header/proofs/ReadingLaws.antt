@@ -8,6 +8,7 @@ use Rattle.std.proofs.lemmas.Slice.Eq.{bytes_eq-Decides}
 use Rattle.std.proofs.lemmas.Bool.{eqb-true, eq-eqb, and_parts, ltb-false, le-ltb}
 use Rattle.std.proofs.lemmas.List.{take-append-drop, take_at, drop-take, drop_at, length-append, length-take}
 use Rattle.sha2.specs.Sha256.{sha256, digest_bytes}
+use Rattle.hex.specs.Hex.{IsBytes}
 use Rattle.tape_base.specs.Key.{key_bytes, key_of_bytes}
 use Rattle.tape_base.specs.Blocks.{blocks_of}
 use Rattle.tape_base.specs.declared.digests.Digest.{Digest}
@@ -18,7 +19,7 @@ use Rattle.doc_header.specs.declared.documents.DocRef.{DocRef}
 use Rattle.doc_header.specs.declared.documents.DocFault.{DocFault}
 use Rattle.doc_header.specs.Document.{name_bytes, field_bytes, header_bytes, document_bytes, check_of, digest_of_document, Fits, IsDocument}
 use Rattle.doc_header.specs.Reading.{field_at, number_at, length_of, extent_of, doc_of, payload_of, kept_of, has_blocks, header_fault, address_fault, payload_fault, first_fault, document_digest, Answers}
-use Rattle.doc_header.proofs.Stands.{Stands, joined, AreWide, AreBytes, take-field, length-joined, joined_as_they_stand, stand_as_joined, field_behind, length-field, spelled_32, spelled_64, below_32, below_64, number_32_again, number_64_again, field_in_front, number_32_in_front, number_64_in_front}
+use Rattle.doc_header.proofs.Stands.{Stands, joined, AreWide, take-field, length-joined, joined_as_they_stand, stand_as_joined, field_behind, length-field, spelled_32, spelled_64, below_32, below_64, number_32_again, number_64_again, field_in_front, number_32_in_front, number_64_in_front}
 
 pub length-sha256 : (m : List ℕ) → length (sha256 m) ≡ 32
 unfolding sha256 digest_bytes
@@ -32,7 +33,7 @@ fields_of doc payload =
     ∷ (8, to_le_bytes w64 doc.place) ∷ (8, to_le_bytes w64 doc.generation) ∷ (8, to_le_bytes w64 doc.pin)
     ∷ (8, to_le_bytes w64 doc.start) ∷ (32, sha256 payload) ∷ []
 
-fields_joined : (doc : Doc) (payload : List ℕ) → field_bytes doc payload ≡ joined [] (fields_of doc payload)
+pub fields_joined : (doc : Doc) (payload : List ℕ) → field_bytes doc payload ≡ joined [] (fields_of doc payload)
 unfolding name_bytes
 fields_joined doc payload = refl
 
@@ -143,7 +144,7 @@ room bytes h =
     let both = and_parts (number_at w32 44 bytes == blocks_of (length_of bytes)) (not (nat_lt (length bytes) (512 * blocks_of (length_of bytes)))) h in
     record { counted = eqb-true _ _ both.0; there = ltb-false _ _ (not_false _ both.1) }
 
-fields_spelled : (bytes payload : List ℕ) → AreBytes bytes → 128 ≤ length bytes → key_bytes (key_of_bytes (field_at 16 16 bytes)) ≡ field_at 16 16 bytes
+fields_spelled : (bytes payload : List ℕ) → IsBytes bytes → 128 ≤ length bytes → key_bytes (key_of_bytes (field_at 16 16 bytes)) ≡ field_at 16 16 bytes
     → length payload ≡ length_of bytes → field_at 80 32 bytes ≡ sha256 payload → Passes bytes → HasRoom bytes → take 112 bytes ≡ field_bytes (doc_of bytes) payload
 fields_spelled bytes payload small long key size kept p r =
     let doc = doc_of bytes in
@@ -165,7 +166,7 @@ unfolding field_at header_bytes
 header_spelled bytes payload doc check fields =
     take-field 112 16 bytes ∙ (ap (λ l. take 112 bytes ++ l) check ∙ ap (λ l. l ++ check_of l) fields)
 
-pub spelled : (bytes : List ℕ) (generation place : ℕ) → AreBytes bytes → key_bytes (key_of_bytes (field_at 16 16 bytes)) ≡ field_at 16 16 bytes
+pub spelled : (bytes : List ℕ) (generation place : ℕ) → IsBytes bytes → key_bytes (key_of_bytes (field_at 16 16 bytes)) ≡ field_at 16 16 bytes
     → first_fault bytes generation place ≡ None → IsDocument bytes generation place (doc_of bytes) (payload_of bytes)
 spelled bytes generation place small key h =
     let m = length_of bytes in
@@ -196,7 +197,7 @@ spelled bytes generation place small key h =
       is_spelled = ap (λ n. take n bytes) extent ∙ whole;
     }
 
-pub is_found : (bytes : List ℕ) (generation place : ℕ) (r : Result DocRef DocFault) → AreBytes bytes → IfOk r (λ _. key_bytes (key_of_bytes (field_at 16 16 bytes)) ≡ field_at 16 16 bytes)
+pub is_found : (bytes : List ℕ) (generation place : ℕ) (r : Result DocRef DocFault) → IsBytes bytes → IfOk r (λ _. key_bytes (key_of_bytes (field_at 16 16 bytes)) ≡ field_at 16 16 bytes)
     → Answers r (first_fault bytes generation place) (doc_of bytes) (payload_of bytes) → IfOk r (λ read. IsDocument bytes generation place read.doc read.payload.now)
 is_found bytes generation place (Ok read) small key given =
     let law = spelled bytes generation place small key given.0 in

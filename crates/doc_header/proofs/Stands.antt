@@ -6,6 +6,8 @@ use Rattle.std.proofs.Math.Seq.{take-add}
 use Rattle.std.proofs.lemmas.Bool.{cases_lt}
 use Rattle.std.proofs.lemmas.List.{take_all, take_at, take-take, drop-take, drop_at, append-nil, length-append, length-take, length-drop, get_or-take, get_or-drop, get_or_past}
 use Rattle.std.proofs.lemmas.Nat.{le_bytes_4, le_bytes_8, from_le_bytes-to_le_bytes_4, from_le_bytes-to_le_bytes_8}
+use Rattle.hex.specs.Hex.{IsBytes}
+use Rattle.tape_base.proofs.Bytes.{IsBytes-drop, IsBytes-take}
 use Rattle.doc_header.specs.Reading.{field_at, number_at}
 
 -- all bytes, where no more than these are looked at
@@ -61,40 +63,30 @@ stand_as_joined at (f ∷ fs) bytes front rest before wide h =
     let after : length (front ++ f.1) ≡ at + f.0 = omega (arith, length-append front f.1, before, wide.0) in
     (ap (field_at at f.0) parts ∙ field_behind front f.1 (joined [] fs ++ rest) at f.0 before wide.0, stand_as_joined (at + f.0) fs bytes (front ++ f.1) rest after wide.1 h)
 
-abbrev pub AreBytes : List ℕ → Type 0
-AreBytes bytes = (i : ℕ) → get_or bytes i 0 < 256
-
-bytes_taken : (n : ℕ) (bytes : List ℕ) → AreBytes bytes → AreBytes (take n bytes)
-bytes_taken n bytes small i =
-    elim (cases_lt i n) [
-      | inl below ↦ rw (get_or-take n bytes i 0 below) (small i)
-      | inr past ↦ rw (get_or_past (take n bytes) i 0 (omega (arith, length-take n bytes))) (omega arith)
-    ]
-
-field_small : (at n : ℕ) (bytes : List ℕ) → AreBytes bytes → AreBytes (field_at at n bytes)
+field_small : (at n : ℕ) (bytes : List ℕ) → IsBytes bytes → IsBytes (field_at at n bytes)
 unfolding field_at
-field_small at n bytes small = bytes_taken n (drop at bytes) (λ i. rw (get_or-drop at bytes i 0) (small (at + i)))
+field_small at n bytes small = IsBytes-take n (drop at bytes) (IsBytes-drop at bytes small)
 
 pub length-field : (at n : ℕ) (bytes : List ℕ) → at + n ≤ length bytes → length (field_at at n bytes) ≡ n
 unfolding field_at
 length-field at n bytes there = omega (arith, length-take n (drop at bytes), length-drop at bytes)
 
 -- a number that is read is spelled so, and is as wide as its field
-pub spelled_32 : (at : ℕ) (bytes : List ℕ) → AreBytes bytes → at + 4 ≤ length bytes → field_at at 4 bytes ≡ to_le_bytes w32 (number_at w32 at bytes)
+pub spelled_32 : (at : ℕ) (bytes : List ℕ) → IsBytes bytes → at + 4 ≤ length bytes → field_at at 4 bytes ≡ to_le_bytes w32 (number_at w32 at bytes)
 unfolding number_at
 spelled_32 at bytes small there = sym (le_bytes_4 (field_at at 4 bytes) _ (length-field at 4 bytes there) (field_small at 4 bytes small) refl)
 
-pub spelled_64 : (at : ℕ) (bytes : List ℕ) → AreBytes bytes → at + 8 ≤ length bytes → field_at at 8 bytes ≡ to_le_bytes w64 (number_at w64 at bytes)
+pub spelled_64 : (at : ℕ) (bytes : List ℕ) → IsBytes bytes → at + 8 ≤ length bytes → field_at at 8 bytes ≡ to_le_bytes w64 (number_at w64 at bytes)
 unfolding number_at
 spelled_64 at bytes small there = sym (le_bytes_8 (field_at at 8 bytes) _ (length-field at 8 bytes there) (field_small at 8 bytes small) refl)
 
-pub below_32 : (at : ℕ) (bytes : List ℕ) → AreBytes bytes → number_at w32 at bytes < 2 ^ 32
+pub below_32 : (at : ℕ) (bytes : List ℕ) → IsBytes bytes → number_at w32 at bytes < 2 ^ 32
 unfolding number_at
 below_32 at bytes small =
     let fits = field_small at 4 bytes small in
     omega (arith, fits 0, fits 1, fits 2, fits 3)
 
-pub below_64 : (at : ℕ) (bytes : List ℕ) → AreBytes bytes → number_at w64 at bytes < 2 ^ 64
+pub below_64 : (at : ℕ) (bytes : List ℕ) → IsBytes bytes → number_at w64 at bytes < 2 ^ 64
 unfolding number_at
 below_64 at bytes small =
     let fits = field_small at 8 bytes small in

@@ -1,6 +1,7 @@
 -- What the bytes of a document are at another place: a copy of the same document, block by block.
 use Rattle.std.specs.Prelude.{ℕ, ◌≡◌, ◌≤◌, ◌<◌, ◌^◌, ◌+◌, ◌⊎◌, List, ◌++◌, length, take, drop}
 use Rattle.std.specs.Int.{to_le_bytes, w64}
+use Rattle.hex.specs.Hex.{IsBytes}
 use Rattle.tape_base.specs.Digest.{Collide}
 use Rattle.doc_header.specs.declared.documents.Doc.{Doc}
 use Rattle.doc_header.specs.Document.{header_bytes, check_of, digest_of_document}
@@ -50,7 +51,7 @@ IsMovedOrCollides place bytes doc payload =
 
 -- bytes whose digest is that of a document are copied as that document, unless they collide
 abbrev pub MovedIsSame : Type 0
-MovedIsSame = (place : ℕ) (bytes : List ℕ) (doc : Doc) (payload : List ℕ) → length payload < 2 ^ 32
+MovedIsSame = (place : ℕ) (bytes : List ℕ) (doc : Doc) (payload : List ℕ) → IsBytes bytes → IsBytes payload → length payload < 2 ^ 32
     → document_digest bytes ≡ digest_of_document doc payload → IsMovedOrCollides place bytes doc payload
 
 -- bytes of one length that are the same as far as they are looked at have copies of one digest, whatever

@@ -1,5 +1,5 @@
 -- Rows that are read one after the other are spelled so, and the other way round.
-use Rattle.std.proofs.Common.{◌≡◌, ℕ, zero, suc, ◌+◌, ◌-◌, ◌*◌, ◌^◌, ◌<◌, ◌≤◌, Bool, true, false, ltb, List, [], ◌∷◌, ◌++◌, length, get_or, take, drop, refl, sym, ap, ◌∙◌, append_assoc, arith, inl, inr, length-append, length-drop}
+use Rattle.std.proofs.Common.{◌≡◌, ℕ, zero, suc, ◌+◌, ◌-◌, ◌*◌, ◌^◌, ◌<◌, ◌≤◌, Bool, true, false, ltb, List, [], ◌∷◌, ◌++◌, length, get_or, take, drop, refl, sym, ap, subst, ◌∙◌, append_assoc, arith, length-append, length-drop}
 use Rattle.std.specs.Prelude.{◌&&◌}
 use Rattle.std.specs.List.{flat_map, AllByRecursion}
 use Rattle.std.specs.Int.{w32, to_le_bytes, from_le_bytes}
@@ -9,21 +9,10 @@ use Rattle.std.proofs.lemmas.List.{take_at, drop_at, length-take, get_or-drop, g
 use Rattle.std.proofs.lemmas.List.Concat.{flat_map-cons}
 use Rattle.std.proofs.lemmas.List.Folds.{list_all-append}
 use Rattle.std.proofs.lemmas.Nat.{le_bytes_4, from_le_bytes-to_le_bytes_4}
-use Rattle.fragment_table.specs.Table.{TableRow, made_row, IsRow, row_bytes}
+use Rattle.hex.specs.Hex.{IsBytes}
+use Rattle.tape_base.proofs.Bytes.{IsBytes-drop, IsBytes-take, IsBytes-append, le_bytes-small, IsBytes-nil}
+use Rattle.fragment_table.specs.Table.{TableRow, made_row, IsRow, AreRows, row_bytes, table_bytes}
 use Rattle.fragment_table.specs.Reading.{row_at, rows_at, none_empty}
-
-abbrev pub IsBytes : List ℕ → Type 0
-IsBytes bytes = (i : ℕ) → get_or bytes i 0 < 256
-
-pub IsBytes-drop : (n : ℕ) (bytes : List ℕ) → IsBytes bytes → IsBytes (drop n bytes)
-IsBytes-drop n bytes h i = rw get_or-drop (h (n + i))
-
-pub IsBytes-take : (n : ℕ) (bytes : List ℕ) → IsBytes bytes → IsBytes (take n bytes)
-IsBytes-take n bytes h i =
-    elim (cases_lt i n) [
-      | inl lt ↦ rw (get_or-take n bytes i 0 lt) (h i)
-      | inr le ↦ rw (get_or_past (take n bytes) i 0 (omega (arith, length-take n bytes))) (omega arith)
-    ]
 
 -- four bytes are those of the number that they spell
 pub four_back : (bytes : List ℕ) → 4 ≤ length bytes → IsBytes bytes → to_le_bytes w32 (from_le_bytes w32 (take 4 bytes)) ≡ take 4 bytes
@@ -36,7 +25,7 @@ row_back : (bytes : List ℕ) → 36 ≤ length bytes → IsBytes bytes → row_
 row_back bytes long fits = ap (λ (front : List ℕ). front ++ take 32 (drop 4 bytes)) (four_back bytes (omega arith) fits) ∙ sym (take-add 4 32 bytes)
 
 row_is : (bytes : List ℕ) → 36 ≤ length bytes → IsBytes bytes → 0 < (row_at bytes).length → IsRow (row_at bytes)
-row_is bytes long fits some = record { some = some; short = four_small bytes fits; digest = omega (arith, length-take 32 (drop 4 bytes), length-drop 4 bytes) }
+row_is bytes long fits some = record { some = some; short = four_small bytes fits; digest = omega (arith, length-take 32 (drop 4 bytes), length-drop 4 bytes); bytes = IsBytes-take 32 (drop 4 bytes) (IsBytes-drop 4 bytes fits) }
 
 both_true : (a b : Bool) → (a && b) ≡ true → (a ≡ true) × (b ≡ true)
 both_true true b h = (refl, h)
@@ -117,3 +106,17 @@ empty_found front all n i rest lt so_far none =
 pub full_push : (front : List TableRow) (row : TableRow) → none_empty front ≡ true → 0 < row.length → none_empty (front ++ row ∷ []) ≡ true
 full_push front row full some =
     list_all-append (λ (r : TableRow). ltb 0 r.length) front (row ∷ []) ∙ ap (λ (b : Bool). b && (ltb 0 row.length && true)) full ∙ ap (λ (b : Bool). b && true) (lt-ltb 0 row.length some)
+
+-- ---- what is spelled is bytes
+
+row_bytes-small : (row : TableRow) → IsRow row → IsBytes (row_bytes row)
+row_bytes-small row is = IsBytes-append (to_le_bytes w32 row.length) row.digest (le_bytes-small w32 row.length) is.bytes
+
+rows_bytes-small : (rows : List TableRow) → AllByRecursion IsRow rows → IsBytes (flat_map row_bytes rows)
+rows_bytes-small [] each = IsBytes-nil
+rows_bytes-small (row ∷ rows) each =
+    subst IsBytes (sym (flat_map-cons row_bytes row rows)) (IsBytes-append (row_bytes row) (flat_map row_bytes rows) (row_bytes-small row each.0) (rows_bytes-small rows each.1))
+
+pub table_bytes-small : (rows : List TableRow) → AreRows rows → IsBytes (table_bytes rows)
+table_bytes-small rows are =
+    IsBytes-append (to_le_bytes w32 (length rows)) (flat_map row_bytes rows) (le_bytes-small w32 (length rows)) (rows_bytes-small rows are.each)

@@ -10,7 +10,9 @@ use Rattle.fragment_table.specs.declared.fault.TableFault.{TableFault}
 use Rattle.fragment_table.specs.declared.fault.TableFault.TheVariants.{Short, Count, Sum}
 use Rattle.fragment_table.specs.Table.{TableRow, Table, AreRows, row_bytes, table_bytes, total_length}
 use Rattle.fragment_table.specs.Reading.{Gives, HasSum, IsReadFrom, has_sum, is_cut, none_empty, read_table, rows_at, told_count, told_length, told_rows}
-use Rattle.fragment_table.proofs.Rows.{IsBytes, IsBytes-drop, four_back, rows_read, length-rows, rows_again, none_empty_rows}
+use Rattle.hex.specs.Hex.{IsBytes}
+use Rattle.tape_base.proofs.Bytes.{IsBytes-drop}
+use Rattle.fragment_table.proofs.Rows.{four_back, rows_read, length-rows, rows_again, none_empty_rows}
 
 abbrev Found : Type 0
 Found = List TableRow × ℕ

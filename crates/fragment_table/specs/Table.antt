@@ -3,6 +3,7 @@
 use Rattle.std.specs.Prelude.{◌≡◌, ℕ, ◌+◌, ◌-◌, ◌^◌, ◌<◌, ◌≤◌, nat_lt, if◌then◌else◌, List, [], ◌∷◌, ◌++◌, length, sum_by, Option, Some, None, option_map}
 use Rattle.std.specs.List.{flat_map, AllByRecursion}
 use Rattle.std.specs.Int.{w32, to_le_bytes}
+use Rattle.hex.specs.Hex.{IsBytes}
 
 -- the length of a fragment, and the digest of its bytes
 pub record TableRow : Type 0 where
@@ -18,11 +19,12 @@ pub record Table : Type 0 where
 abbrev pub made_row : ℕ → List ℕ → TableRow
 made_row n digest = record { length = n; digest = digest }
 
--- a fragment has bytes
+-- a fragment has bytes, and its digest is 32 bytes
 pub record IsRow (row : TableRow) : Type 0 where
   pub some : 0 < row.length
   pub short : row.length < 2 ^ 32
   pub digest : length row.digest ≡ 32
+  pub bytes : IsBytes row.digest
 
 -- the rows that a table may have
 pub record AreRows (rows : List TableRow) : Type 0 where

@@ -17,6 +17,7 @@ use Rattle.cache_model.specs.Tape.{IsSound}
 use Rattle.cache_model.specs.Legal.{Does, IsQuiet, IsStep, digest_in, format_records}
 use Rattle.tape_base.specs.Digest.{digest_of}
 use Rattle.doc_header.specs.Reading.{document_digest, payload_of}
+use Rattle.cache_model.specs.Pair.{IsCopyPair, IsPairOf, ShowsPair}
 use Rattle.cache_model.specs.Vectors.{AreTold}
 use Rattle.stripe_core.specs.Find.{IsDocumentOf}
 use Rattle.script_lang.specs.declared.step.Step.{Step}
@@ -24,8 +25,8 @@ use Rattle.script_run.specs.Run.{Run, Stream}
 use Rattle.script_run.specs.Asked.{asked}
 use Rattle.script_run.specs.Turn.{Turn, lookup_in}
 use Rattle.script_run.specs.Behind.{streams_behind}
-use Rattle.script_run.specs.Own.{AreKept, AreOwn, AreWriting, IsComplete, IsOtherFragment, piece_of}
-use Rattle.script_run.specs.Takes.{ShownIn, streams_with}
+use Rattle.script_run.specs.Own.{AreKept, AreOwn, AreWriting, IsComplete, IsPlacedAs, piece_of}
+use Rattle.script_run.specs.Takes.{streams_with}
 
 -- behind a format nothing was put
 abbrev pub FormatsOwn : Type 0
@@ -36,7 +37,7 @@ FormatsOwn = (s : State) (geometry : Geometry) (streams : ℕ → Stream) → Ar
 abbrev pub FlushOwns : Type 0
 FlushOwns = (p : Permit) (s : State) (streams : ℕ → Stream) (now left : ℕ) (outcomes : List Outcome) → IsSound s → AreOwn s streams
     → AreOutcomes p s left (due_pieces s now) outcomes
-    → AreOwn (after_all s (flush_records s (due_pieces s now) outcomes)) streams ⊎ IsOtherFragment p s streams
+    → AreOwn (after_all s (flush_records s (due_pieces s now) outcomes)) streams ⊎ IsCopyPair (IsPlacedAs streams) p s now
 
 -- one that stops copies none
 abbrev pub StoppedOwns : Type 0
@@ -50,7 +51,7 @@ abbrev pub StepsOwn : Type 0
 StepsOwn = (run : Run) (s : State) (turn : Turn) (step : Step) → IsSound s → AreTold s → IsQuiet s → AreOwn s run.streams → AreWriting run s
     → IsStep turn.device s (asked run s step) turn.added turn.refused
     → AreOwn (after_all s turn.added) (streams_behind run s (after_all s turn.added) turn step)
-    ⊎ ShownIn turn.device (streams_with run s step) s (asked run s step)
+    ⊎ ShowsPair (IsPlacedAs (streams_with run s step)) turn.device s (asked run s step) turn.added
 
 -- what stands belongs to what writers took but for what fragments are
 abbrev pub OwnIsKept : Type 0
@@ -72,21 +73,21 @@ StepsKeep = (run : Run) (s : State) (turn : Turn) (step : Step) → IsSound s �
 abbrev pub ReadIsOwn : Type 0
 ReadIsOwn = (p : Permit) (s : State) (streams : ℕ → Stream) (r : ReaderRow) (row : Row) (size : ℕ) (into : List ℕ) → AreOwn s streams → 0 < r.next
     → live_row_of s (next_piece r) ≡ Some row → IsDocumentOf p s row size into
-    → (take size into ≡ piece_of s.geometry.fragment (streams r.put).bytes r.next) ⊎ IsOtherFragment p s streams
+    → (take size into ≡ piece_of s.geometry.fragment (streams r.put).bytes r.next) ⊎ IsPairOf (IsPlacedAs streams) p s row
 
 -- the payload of the fragment that a reader takes next, written out or in the buffer, has the digest that
 -- its table lists, or the writer that it follows has cut; or two documents of one SHA-256 are shown
 abbrev pub GivenIsListed : Type 0
 GivenIsListed = (p : Permit) (s : State) (streams : ℕ → Stream) (reader : ℕ) (r : ReaderRow) (entry : TableRow) (row : Row) (size : ℕ) (into : List ℕ) → AreOwn s streams → 0 < r.next
     → reader_of s reader ≡ Some r → next_row s r ≡ Some entry → live_row_of s (next_piece r) ≡ Some row
-    → IsDocumentOf p s row size into → (digest_of (take size into) ≡ digest_in entry) ⊎ IsOtherFragment p s streams
+    → IsDocumentOf p s row size into → (digest_of (take size into) ≡ digest_in entry) ⊎ IsPairOf (IsPlacedAs streams) p s row
 
 -- a document of the digest of the fragment that a reader takes next, which has another payload than the
 -- one that the reader's table lists, is another than the one as which the fragment was placed
 abbrev pub OtherShows : Type 0
 OtherShows = (p : Permit) (s : State) (streams : ℕ → Stream) (reader : ℕ) (r : ReaderRow) (table : List TableRow) (entry : TableRow) (row : Row) (bytes : List ℕ) → AreOwn s streams → 0 < r.next
     → reader_of s reader ≡ Some r → r.table ≡ Some table → next_row s r ≡ Some entry → live_row_of s (next_piece r) ≡ Some row
-    → IsGiven p s row bytes → row.digest ≡ document_digest bytes → digest_in entry ≢ digest_of (payload_of bytes) → IsOtherFragment p s streams
+    → IsGiven p s row bytes → row.digest ≡ document_digest bytes → digest_in entry ≢ digest_of (payload_of bytes) → IsPairOf (IsPlacedAs streams) p s row
 
 -- a reader that hit something and was given all that its table lists was given all that was put
 abbrev pub AllIsGiven : Type 0

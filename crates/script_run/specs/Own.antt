@@ -2,16 +2,16 @@
 -- its writers took.
 use Rattle.std.specs.Prelude.{ℕ, zero, suc, ◌≡◌, ◌-◌, ◌*◌, ◌<◌, ◌≤◌, ◌⊎◌, ◌++◌, ◌+◌, false, true, List, [], ◌∷◌, length, take, drop, Option, Some, None}
 use Rattle.std.specs.List.{AllByRecursion}
+use Rattle.hex.specs.Hex.{IsBytes}
 use Rattle.tape_base.specs.declared.keys.Key.{Key}
-use Rattle.tape_base.specs.Digest.{Collide, digest_of}
+use Rattle.tape_base.specs.Digest.{digest_of}
 use Rattle.doc_header.specs.declared.documents.Doc.{Doc}
 use Rattle.doc_header.specs.Document.{digest_of_document, header_bytes}
-use Rattle.doc_header.specs.Reading.{extent_of}
 use Rattle.fragment_table.specs.Table.{TableRow, made_row, total_length}
 use Rattle.alternate_vector.specs.Alternates.{Stored}
-use Rattle.cache_model.specs.State.{State, Row, PutRow, ReaderRow, Open, Closed, alternate_of, live_row_of, put_of, vector_piece}
-use Rattle.cache_model.specs.Permit.{Permit}
-use Rattle.cache_model.specs.Given.{IsGiven, IsWritten}
+use Rattle.cache_model.specs.State.{State, Row, PutRow, ReaderRow, Open, Closed, alternate_of, put_of, vector_piece}
+use Rattle.cache_model.specs.Pair.{Documents}
+use Rattle.cache_model.specs.Vectors.{IsVectorAs}
 use Rattle.cache_model.specs.Legal.{is_writing}
 use Rattle.script_run.specs.Run.{Run, Stream, writer_of}
 
@@ -25,10 +25,11 @@ rows_from fragment body index zero = []
 rows_from fragment body index (suc count) =
     made_row (length (piece_of fragment body index)) (digest_of (piece_of fragment body index)).0 ∷ rows_from fragment body (index + 1) count
 
--- what a put has cut are the first fragments of what its writer took, none of them empty
+-- what a put has cut are the first fragments of what its writer took, each of them some bytes
 pub record AreCuts (fragment : ℕ) (body : List ℕ) (cuts : List TableRow) : Type 0 where
   pub rows : cuts ≡ rows_from fragment body 1 (length cuts)
   pub within : total_length cuts ≤ length body
+  pub of_bytes : (index : ℕ) → 0 < index → index ≤ length cuts → IsBytes (piece_of fragment body index)
   pub none_empty : (index : ℕ) → 0 < index → index ≤ length cuts → 0 < length (piece_of fragment body index)
 
 -- a put has begun, where it is complete it has cut all of that, and where it may be fed it has cut
@@ -118,12 +119,11 @@ AreWriting run s = (name : List ℕ) (put : ℕ) → writer_of run name ≡ Some
 abbrev pub fragment_document : State → Row → List ℕ → List ℕ
 fragment_document s row payload = header_bytes (fragment_doc s row) payload ++ payload
 
--- the document as which a live fragment was placed, and other bytes that were read for it, have one
--- SHA-256
-pub record IsOtherFragment (p : Permit) (s : State) (streams : ℕ → Stream) : Type 0 where
-  pub row : Row
-  pub bytes : List ℕ
-  pub live : live_row_of s row.id ≡ Some row
+-- a fragment was placed as the document of that part of what its writer took
+pub record IsFragmentAs (streams : ℕ → Stream) (s : State) (row : Row) (document : List ℕ) : Type 0 where
   pub fragment : 0 < row.id.index
-  pub given : IsWritten s row → IsGiven p s row bytes
-  pub collide : Collide (take (extent_of bytes) bytes) (fragment_document s row (piece_of s.geometry.fragment (streams row.id.put).bytes row.id.index))
+  pub is : document ≡ fragment_document s row (piece_of s.geometry.fragment (streams row.id.put).bytes row.id.index)
+
+-- the document as which a piece was placed: a vector as that of the alternates that it lists
+abbrev pub IsPlacedAs : (ℕ → Stream) → Documents
+IsPlacedAs streams s row document = IsVectorAs s row document ⊎ IsFragmentAs streams s row document

@@ -10,11 +10,8 @@ use Rattle.cache_model.specs.declared.answer.ReadAnswer.TheVariants as read
 use Rattle.cache_model.specs.declared.record.Rec.{Rec}
 use Rattle.cache_model.specs.declared.record.Rec.TheVariants as rec
 use Rattle.cache_model.specs.State.{State, ReaderRow, after_all, reader_of}
-use Rattle.cache_model.specs.Permit.{Intent, Permit, Work, to_do}
-use Rattle.cache_model.specs.Given.{IsGiven}
-use Rattle.cache_model.specs.Legal.{IsStep, MayGrow, format_records}
-use Rattle.cache_model.specs.Vectors.{IsOtherVector}
-use Rattle.stripe_vectors.specs.Reading.{IsCollision}
+use Rattle.cache_model.specs.Legal.{IsStep, format_records}
+use Rattle.cache_model.specs.Pair.{ShowsPair}
 use Rattle.script_lang.specs.declared.step.Step.{Step}
 use Rattle.script_lang.specs.declared.step.Step.TheVariants as step
 use Rattle.script_lang.specs.declared.line.LineAnswer.{LineAnswer}
@@ -26,7 +23,7 @@ use Rattle.script_run.specs.Asked.{asked}
 use Rattle.script_run.specs.Turn.{Turn, lookup_in, no_turn, told_in}
 use Rattle.script_run.specs.Answers.{step_answer}
 use Rattle.script_run.specs.Behind.{Streams, after_line, of_put, with_bytes}
-use Rattle.script_run.specs.Own.{IsOtherFragment, piece_of}
+use Rattle.script_run.specs.Own.{IsPlacedAs, piece_of}
 
 -- ---- the bytes that are given
 
@@ -102,35 +99,6 @@ line_text run turn bytes = reading_text run turn (reading_of bytes)
 
 -- ---- where SHA-256 fails
 
--- two documents of one SHA-256: one that was put, and other bytes that were read for it
-pub data IsOther (p : Permit) (s : State) (streams : Streams) : Type 0 where
-  -- for a key's vector, which was asked for
-  vector_read : (key : Key) → IsCollision p s key → IsOther p s streams
-  -- for a vector that was copied
-  vector_copied : IsOtherVector p s → IsOther p s streams
-  -- for a fragment that was asked for or copied
-  fragment : IsOtherFragment p s streams → IsOther p s streams
-
--- some way into a step such a pair is shown
-pub record Shows (streams : Streams) (s : State) (asks : List Intent) : Type 0 where
-  pub device : Permit
-  pub added : List Rec
-  pub left : Work
-  pub grows : MayGrow device s (to_do asks) added left
-  pub other : IsOther device (after_all s added) streams
-
--- the device gave the other bytes of such a pair, for the piece that was placed
-abbrev pub AreGiven : (p : Permit) (s : State) (streams : Streams) → IsOther p s streams → Type 0
-AreGiven p s streams (vector_read key o) = IsGiven p s o.row o.bytes
-AreGiven p s streams (vector_copied o) = IsGiven p s o.row o.bytes
-AreGiven p s streams (fragment o) = IsGiven p s o.row o.bytes
-
--- such a pair is shown with this device, by bytes that are among its reads
-pub record ShownIn (device : Permit) (streams : Streams) (s : State) (asks : List Intent) : Type 0 where
-  pub shows : Shows streams s asks
-  pub same : shows.device ≡ device
-  pub given : AreGiven shows.device (after_all s shows.added) streams shows.other
-
 -- a writer with all of these bytes
 abbrev pub offered : Stream → List ℕ → Stream
 offered stream body = record { bytes = stream.bytes ++ body; sealed = stream.sealed }
@@ -148,35 +116,27 @@ streams_with run s (step.Put key body request response) = with_bytes run.streams
 streams_with run s (step.Feed actor body) = of_put run (writer_of run actor) (streams_offered run body)
 streams_with run s _ = run.streams
 
--- in a step on a session such a pair is shown; without a session there is no piece that could be
-abbrev pub StepShows : Run → Option State → Step → Type 0
-StepShows run None step = ⊥
-StepShows run (Some s) step = Shows (streams_with run s step) s (asked run s step)
+-- some way into the turn of a step on a session two documents of one SHA-256 are shown for a piece that the step
+-- reads there: the one as which it was placed, and other bytes, which the device gave in that turn
+pub record SessionShows (run : Run) (s : State) (turn : Turn) (step : Step) : Type 0 where
+  pub plain : turn.device.packed ≡ false
+  pub moment : turn.device.now ≡ run.now
+  pub shows : ShowsPair (IsPlacedAs (streams_with run s step)) turn.device s (asked run s step) turn.added
 
--- only a line that is a step can show one
-abbrev pub ReadingShows : Run → LineAnswer → Type 0
-ReadingShows run (line.Step s) = StepShows run run.state s
-ReadingShows run line.Nothing = ⊥
-ReadingShows run (line.Bad fault) = ⊥
+-- without a session there is no piece that could be
+abbrev pub StepShows : Run → Turn → Option State → Step → Type 0
+StepShows run turn None step = ⊥
+StepShows run turn (Some s) step = SessionShows run s turn step
 
--- the same of the bytes of a line, by any reads that make the records legal
-abbrev pub LineShows : Run → List ℕ → Type 0
-LineShows run bytes = ReadingShows run (reading_of bytes)
+-- only a line that is a step can show a pair
+abbrev pub ReadingShows : Run → Turn → LineAnswer → Type 0
+ReadingShows run turn (line.Step s) = StepShows run turn run.state s
+ReadingShows run turn line.Nothing = ⊥
+ReadingShows run turn (line.Bad fault) = ⊥
 
--- the same with the device of the line's turn
-abbrev pub StepShownIn : Permit → Run → Option State → Step → Type 0
-StepShownIn device run None step = ⊥
-StepShownIn device run (Some s) step = ShownIn device (streams_with run s step) s (asked run s step)
-
--- again only a line that is a step can show one
-abbrev pub ReadingShownIn : Permit → Run → LineAnswer → Type 0
-ReadingShownIn device run (line.Step s) = StepShownIn device run run.state s
-ReadingShownIn device run line.Nothing = ⊥
-ReadingShownIn device run (line.Bad fault) = ⊥
-
--- the same of the bytes of a line, by the reads of this device
-abbrev pub LineShownIn : Permit → Run → List ℕ → Type 0
-LineShownIn device run bytes = ReadingShownIn device run (reading_of bytes)
+-- the same of the bytes of a line
+abbrev pub LineShows : Run → Turn → List ℕ → Type 0
+LineShows run turn bytes = ReadingShows run turn (reading_of bytes)
 
 -- ---- a whole script
 

@@ -1,5 +1,6 @@
 -- What is found of a piece, and what is recorded where it is not.
 use Rattle.std.specs.Prelude.{ℕ, ◌≡◌, ◌≢◌, ◌*◌, ◌≤◌, List, [], ◌∷◌, length, take, Option, Some, None, IfSome}
+use Rattle.hex.specs.Hex.{IsBytes}
 use Rattle.tape_base.specs.declared.pieces.PieceId.{PieceId}
 use Rattle.tape_base.specs.declared.digests.Digest.{Digest}
 use Rattle.ats_disk.specs.Device.{State as Device}
@@ -60,6 +61,7 @@ IsJudged place kept bytes (found.Missing why) into = (why ≡ cause.Damaged plac
 pub record IsDocumentOf (p : Permit) (s : State) (row : Row) (size : ℕ) (into : List ℕ) : Type 0 where
   pub bytes : List ℕ
   pub whole : length bytes ≡ 512 * row.blocks
+  pub of_bytes : IsBytes bytes
   pub digest : row.digest ≡ document_digest bytes
   pub given : IsWritten s row → IsGiven p s row bytes
   pub size_is : size ≡ length (payload_of bytes)

@@ -14,10 +14,10 @@ use Rattle.cache_model.specs.State.{Row, State, table_of_hit}
 use Rattle.cache_model.specs.Verdict.{cause_of_miss, follow_answer, followed, live_vector_of}
 use Rattle.cache_model.specs.Permit.{DeviceRead, Done, Look, Permit}
 use Rattle.cache_model.specs.Legal.{Does, IsLookup}
-use Rattle.cache_model.specs.Vectors.{AreVectors}
+use Rattle.cache_model.specs.Vectors.{AreVectors, IsVectorAs}
 use Rattle.stripe_core.specs.Covers.{AreSeen, Covers}
 use Rattle.stripe_core.specs.Find.{cause_records}
-use Rattle.stripe_vectors.specs.Reading.{IsCollision}
+use Rattle.cache_model.specs.Pair.{IsKeyPair}
 use Rattle.stripe_read.specs.declared.reader.Reader.{Reader}
 use Rattle.stripe_read.specs.declared.opening.Chosen.{Chosen}
 use Rattle.stripe_read.specs.declared.opening.Looked.{Looked}
@@ -72,7 +72,7 @@ pub record IsFound (p : Permit) (s : State) (key : Key) (request : List Field) (
 pub record LooksUp (s : State) (old new : Device) (key : Key) (request : List Field) (found : Looked) : Type 0 where
   pub reads : List DeviceRead
   pub seen : AreSeen s.geometry new reads
-  pub answers : (p : Permit) → Covers p old.faults new.faults reads → AreVectors s → IsFound p s key request found ⊎ IsCollision p s key
+  pub answers : (p : Permit) → Covers p old.faults new.faults reads → AreVectors s → IsFound p s key request found ⊎ IsKeyPair IsVectorAs p s key
 
 -- ---- what opens
 
@@ -116,4 +116,4 @@ pub record Opens (s t : State) (old new : Device) (who : Actor) (key : Key) (req
   pub reads : List DeviceRead
   pub seen : AreSeen s.geometry new reads
   pub does : (p : Permit) → Covers p old.faults new.faults reads → AreVectors s
-      → (Does p s (Look who.0 key request) (open_adds s who key request (answer_in answer)) Done × IfReader (IsReaderOf t) answer) ⊎ IsCollision p s key
+      → (Does p s (Look who.0 key request) (open_adds s who key request (answer_in answer)) Done × IfReader (IsReaderOf t) answer) ⊎ IsKeyPair IsVectorAs p s key

@@ -1,9 +1,9 @@
 -- What is read of a key's vector, and what that says of the records.
-use Rattle.std.specs.Prelude.{ℕ, ◌≡◌, ◌*◌, ◌⊎◌, List, [], length, take, Option, Some, None, Result, Ok, Err}
+use Rattle.std.specs.Prelude.{ℕ, ◌≡◌, ◌*◌, ◌⊎◌, List, [], length, Option, Some, None, Result, Ok, Err}
+use Rattle.hex.specs.Hex.{IsBytes}
 use Rattle.tape_base.specs.declared.keys.Key.{Key}
-use Rattle.tape_base.specs.Digest.{Collide}
 use Rattle.ats_disk.specs.Device.{State as Device}
-use Rattle.doc_header.specs.Reading.{document_digest, extent_of, payload_of}
+use Rattle.doc_header.specs.Reading.{document_digest, payload_of}
 use Rattle.alternate_vector.specs.declared.fault.VectorFault.{VectorFault}
 use Rattle.alternate_vector.specs.Alternates.{Stored}
 use Rattle.alternate_vector.specs.Reading.{read_vector}
@@ -12,7 +12,8 @@ use Rattle.cache_model.specs.State.{Row, State, alternates_of}
 use Rattle.cache_model.specs.Verdict.{live_vector_of}
 use Rattle.cache_model.specs.Permit.{DeviceRead, Permit}
 use Rattle.cache_model.specs.Given.{IsGiven, IsWritten, Trouble}
-use Rattle.cache_model.specs.Vectors.{AreVectors, IsVectorRow, vector_document}
+use Rattle.cache_model.specs.Pair.{IsKeyPair}
+use Rattle.cache_model.specs.Vectors.{AreVectors, IsVectorAs}
 use Rattle.stripe_core.specs.Covers.{AreSeen, Covers}
 use Rattle.stripe_core.specs.Find.{cause_records}
 use Rattle.stripe_vectors.specs.declared.reading.KeyVector.{KeyVector}
@@ -31,6 +32,7 @@ listed_in payload = spelled_in (read_vector payload)
 pub record IsReadAs (p : Permit) (s : State) (row : Row) (list : List Stored) : Type 0 where
   pub bytes : List ℕ
   pub whole : length bytes ≡ 512 * row.blocks
+  pub of_bytes : IsBytes bytes
   pub digest : row.digest ≡ document_digest bytes
   pub given : IsWritten s row → IsGiven p s row bytes
   pub spelled : list ≡ listed_in (payload_of bytes)
@@ -61,18 +63,7 @@ trouble_records (Some row) (found.Trouble why) = cause_records row why
 abbrev pub vector_adds : State → Key → KeyVector → List Rec
 vector_adds s key answer = trouble_records (live_vector_of s key) answer
 
--- the document as which the key's live vector was placed, and other bytes that were read for it, have
--- one SHA-256
-pub record IsCollision (p : Permit) (s : State) (key : Key) : Type 0 where
-  pub row : Row
-  pub list : List Stored
-  pub bytes : List ℕ
-  pub live : live_vector_of s key ≡ Some row
-  pub placed : IsVectorRow s row list
-  pub given : IsWritten s row → IsGiven p s row bytes
-  pub collide : Collide (take (extent_of bytes) bytes) (vector_document s row list)
-
 -- what was read is what the key has, or two documents of one SHA-256 are shown
 abbrev pub ReadIsListed : Type 0
 ReadIsListed = (p : Permit) (s : State) (key : Key) (row : Row) (list : List Stored) → AreVectors s → live_vector_of s key ≡ Some row → IsReadAs p s row list
-    → (list ≡ alternates_of s key) ⊎ IsCollision p s key
+    → (list ≡ alternates_of s key) ⊎ IsKeyPair IsVectorAs p s key

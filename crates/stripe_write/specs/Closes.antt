@@ -10,11 +10,11 @@ use Rattle.cache_model.specs.Verdict.{cause_of_piece, cuts_of}
 use Rattle.cache_model.specs.Permit.{Commit, DeviceRead, Done, Finish, Intent, End, Exhausted, Fails, Faulted, Lost, Permit, Stays, TooLarge, Weigh}
 use Rattle.cache_model.specs.Legal.{is_writing, vector_length}
 use Rattle.cache_model.specs.Room.{limit}
-use Rattle.cache_model.specs.Vectors.{AreTold}
+use Rattle.cache_model.specs.Vectors.{AreTold, IsVectorAs}
 use Rattle.stripe_core.specs.declared.refusal.Refusal.{Refusal}
 use Rattle.stripe_core.specs.declared.refusal.Refusal.TheVariants as refusal
 use Rattle.stripe_core.specs.Covers.{Covers, Spends}
-use Rattle.stripe_vectors.specs.Reading.{IsCollision}
+use Rattle.cache_model.specs.Pair.{IsKeyPair}
 use Rattle.stripe_write.specs.declared.finishing.Receipt.{Receipt}
 use Rattle.stripe_write.specs.declared.weighing.Vectors.{Vectors}
 use Rattle.stripe_write.specs.declared.writer.Writer.{Writer}
@@ -97,7 +97,7 @@ pub record Closes (p : Permit) (old new : Kept) (w : Writer) (result : Result Re
 -- of one SHA-256 are shown
 pub record ClosesAsAsked (now before after : ℕ) (old new : Kept) (w : Writer) (result : Result Receipt Refusal) : Type 0 where
   pub reads : List DeviceRead
-  pub does : (p : Permit) → p.now ≡ now → Covers p before after reads → AreTold (state_of old) → Closes p old new w result ⊎ IsCollision p (state_of old) w.key
+  pub does : (p : Permit) → p.now ≡ now → Covers p before after reads → AreTold (state_of old) → Closes p old new w result ⊎ IsKeyPair IsVectorAs p (state_of old) w.key
 
 -- a writer that was refused by the device, or by the end of the tape, takes no more bytes
 abbrev pub SealsWhere : Writer → Writer → Result Receipt Refusal → Type 0

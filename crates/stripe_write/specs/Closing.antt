@@ -12,13 +12,13 @@ use Rattle.cache_model.specs.State.{Row, State, alternates_of}
 use Rattle.cache_model.specs.Kept.{Kept, state_of, with_records}
 use Rattle.cache_model.specs.Verdict.{live_vector_of}
 use Rattle.cache_model.specs.Permit.{Commit, DeviceRead, Done, End, Fails, Faulted, Finish, Fragment, Intent, Permit, Reason, Stays, TooLarge, Weigh, Work, is_cleanup}
-use Rattle.cache_model.specs.Vectors.{AreVectors}
+use Rattle.cache_model.specs.Vectors.{AreVectors, IsVectorAs}
 use Rattle.cache_model.specs.Legal.{MayGrow}
 use Rattle.stripe_core.specs.declared.refusal.Refusal.{Refusal}
 use Rattle.stripe_core.specs.declared.refusal.Refusal.TheVariants as refusal
 use Rattle.stripe_core.specs.Covers.{AreSeen, Covers, Spends}
 use Rattle.stripe_vectors.specs.declared.spelling.Spelled.{Spelled}
-use Rattle.stripe_vectors.specs.Reading.{IsCollision}
+use Rattle.cache_model.specs.Pair.{IsKeyPair}
 use Rattle.stripe_vectors.specs.Spelled.{IsSpelled}
 use Rattle.stripe_write.specs.declared.weighing.Vectors.{Vectors}
 use Rattle.stripe_write.specs.declared.writer.Writer.{Writer}
@@ -107,7 +107,7 @@ pub record Weighs (p : Permit) (old new : Kept) (w : Writer) (result : Result Ve
   pub added : List Rec
   pub adds : new ≡ with_records old added
   pub does : Spends p (state_of old) (Weigh w.put (length w.gathered.items)) added (weigh_end w result)
-  pub told : IfOk result (λ v. AreVectors (state_of old) → IsReadFor (state_of new) w v ⊎ IsCollision p (state_of old) w.key)
+  pub told : IfOk result (λ v. AreVectors (state_of old) → IsReadFor (state_of new) w v ⊎ IsKeyPair IsVectorAs p (state_of old) w.key)
 
 -- what the device gave, and what came of it in any step that covers the call
 pub record WeighsAsAsked (before after : Device) (old new : Kept) (w : Writer) (result : Result Vectors Refusal) : Type 0 where

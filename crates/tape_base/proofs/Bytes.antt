@@ -1,8 +1,9 @@
 -- Which lists are bytes: parts and joins of bytes, numbers that are written as bytes, and digests.
 use Rattle.std.proofs.Common.{ℕ, zero, suc, ◌+◌, ◌<◌, ◌≤◌, List, [], ◌∷◌, ◌++◌, length, get_or, take, drop, replicate, arith, inl, inr}
 use Rattle.std.specs.Int.{Width, byte_at, byte_len, bytes_high_first, bytes_low_first, to_be_bytes, to_le_bytes, w32}
-use Rattle.std.specs.Prelude.{slice_index}
-use Rattle.std.proofs.lemmas.Bool.{cases_lt}
+use Rattle.std.specs.Prelude.{◌≡◌, nat_lt, slice_index, true}
+use Rattle.std.specs.List.{list_all}
+use Rattle.std.proofs.lemmas.Bool.{and_parts, cases_lt, ltb-true}
 use Rattle.std.proofs.lemmas.List.{get_or-drop, get_or-take, get_or_past, length-take}
 use Rattle.hex.specs.Hex.{IsBytes}
 use Rattle.sha2.specs.Sha256.{digest_bytes, final_hash, initial_hash_256, sha256}
@@ -29,6 +30,13 @@ IsBytes-take n bytes h i =
       | inl lt ↦ rw (get_or-take n bytes i 0 lt) (h i)
       | inr le ↦ rw (get_or_past (take n bytes) i 0 (omega (arith, length-take n bytes))) (omega arith)
     ]
+
+-- a list whose numbers are known is tested
+pub bytes_by_test : (bytes : List ℕ) → list_all (λ b. nat_lt b 256) bytes ≡ true → IsBytes bytes
+bytes_by_test [] h = IsBytes-nil
+bytes_by_test (b ∷ bytes) h =
+    let parts = and_parts (nat_lt b 256) (list_all (λ b. nat_lt b 256) bytes) h in
+    IsBytes-cons b bytes (ltb-true b 256 parts.0) (bytes_by_test bytes parts.1)
 
 pub zeros_are_bytes : (n : ℕ) → IsBytes (replicate n 0)
 zeros_are_bytes zero = IsBytes-nil
