@@ -50,6 +50,7 @@ pub fn step<B: Bay>(
             reach,
             fragment,
             generation,
+            alternates,
         } => format_line(
             session,
             bay,
@@ -61,6 +62,7 @@ pub fn step<B: Bay>(
             reach,
             fragment,
             generation,
+            alternates,
         ),
         Step::Now { moment } => Ok(now_line(session, moment)),
         other => in_session(session, other),
