@@ -1,5 +1,5 @@
 -- The table as it is made, and as it is closed.
-use Rattle.std.proofs.Common.{◌≡◌, ℕ, zero, suc, ◌%◌, ◌<◌, ◌≤◌, min, List, [], ◌∷◌, sym, refl, ap, ◌∙◌, subst, ⊎_elim, inl, arith}
+use Rattle.std.proofs.Common.{◌≡◌, ℕ, zero, suc, ◌%◌, ◌<◌, ◌≤◌, min, List, [], ◌∷◌, sym, refl, ap, slice_index, length, ◌∙◌, subst, ⊎_elim, inl, arith}
 use mathlib.Core.Logic.{dite}
 use mathlib.Core.List.{IsPrefix}
 use mathlib.Core.Option.{Option, none, some, some-ne-none, some-injective}
@@ -11,7 +11,7 @@ use Rattle.stripe_lock.specs.declared.kept.KeptState.{Ghosts}
 use Rattle.stripe_lock.specs.declared.view.StripeTurn.{StripeTurn}
 use Rattle.stripe_lock.specs.declared.view.View.{View}
 use Rattle.stripe_lock.specs.History.{HasJust, HasNumber, AreUnder}
-use Rattle.stripe_lock.specs.Rule.{outside, holding, weight, tickets, NoneHolds, Course, IsSeen, Knows, IsHome}
+use Rattle.stripe_lock.specs.Rule.{outside, holding, weight, tickets, NoneHolds, Course, IsSeen, Knows, IsHome, HomeIsPublished}
 use Rattle.stripe_lock.specs.Steps.{opener}
 use Rattle.stripe_lock.specs.Passes.{pass_of}
 use Rattle.stripe_lock.specs.Turns.{Ends}
@@ -44,11 +44,10 @@ module _ {T R : Type 0} (k : Ghosts T R) (seats : ℕ) (start : List R) where
       c = record { log = []; told = []; top = k.floor_of start []; drawn = 0; served = 0; owner = λ _. 0; line = λ _. 0 }
 
       nothing : IsSeen k.floor_of start c first.sight
-      nothing = record { seen = prefix_same []; told = prefix_same []; floor_is = refl; below = omega arith }
+      nothing = record { chronicle = refl; seen = prefix_same []; told = prefix_same []; floor_is = refl; below = omega arith }
 
       only : (j : ℕ) (v : View R) → get_elem? (first ∷ []) j ≡ some v → Knows k.floor_of seats start c j v
       only zero v e = subst (Knows k.floor_of seats start c 0) (some-injective first v e) record {
-        chronicle = λ _. refl;
         sight = λ _. nothing;
         other = λ _. nothing;
         owned = owns_unused seats 0 seats c refl refl (omega arith);
@@ -73,7 +72,7 @@ module _ {T R : Type 0} (k : Ghosts T R) (seats : ℕ) (start : List R) where
         x,
         f.4 0 x (ap (λ (l : List (Option T)). get_elem? l 0) h.1),
         record {
-          chronicle = home.chronicle_is ∙ sym (known.chronicle some_weight);
+          chronicle = home.chronicle_is ∙ sym g.chronicle;
           seen = subst (λ (l : List (StripeTurn R)). IsPrefix v.sight.seen l) (sym home.turns_are) g.seen;
           told = subst (λ (l : List (StripeTurn R)). IsPrefix v.sight.told l) (home.told_is ∙ sym home.turns_are) g.told;
           known = subst (λ (l : List (StripeTurn R)). HasJust l v.owned) (sym home.turns_are) (owns_just seats c id v.owned known.owned);
@@ -88,4 +87,15 @@ module _ {T R : Type 0} (k : Ghosts T R) (seats : ℕ) (start : List R) where
       let one_out : tickets h.1 ≡ 1 = ap (min 1) st in
       dite (ℕ_discrete h.0 id) (λ e. let same : v.stage ≡ h.1.stage = ap (λ (z : View R). z.stage) (one_view s.views id h.0 v h.1 at h.3 e) in omega arith)
       (λ ne. let none = total_alone weight s.views id h.0 v h.1 at h.3 ne in omega arith)))
+      r.place
+
+module _ {T R : Type 0} (k : Ghosts T R) where
+  pub home_is_published : HomeIsPublished k
+  home_is_published seats start s x r here = ⊎_elim
+      (λ (h : (y : T) × (s.homes ≡ some y ∷ []) × IsHome k start r.c y × NoneHolds s.views). let home = h.2 in
+      let same : h.0 ≡ x = some-injective h.0 x (some-injective _ _ (ap (λ (l : List (Option T)). get_elem? l 0) (sym h.1 ∙ here))) in
+      subst (λ (y : T). (slice_index s.words 3 ≡ length (k.turns y)) × (slice_index s.words 4 ≡ k.floor_of (k.chronicle y) (k.turns y)) × k.is_sound y) same
+      (r.words.count ∙ ap length (sym home.turns_are), r.words.floor ∙ (r.top_is ∙ (λ i. k.floor_of (sym home.chronicle_is i) ((home.told_is ∙ sym home.turns_are) i))), home.sound))
+      (λ (h : (j : ℕ) × (v : View R) × (s.homes ≡ none ∷ []) × (get_elem? s.views j ≡ some v) × (v.stage ≡ holding)).
+      absurd (some-ne-none x (sym (some-injective _ _ (ap (λ (l : List (Option T)). get_elem? l 0) (sym h.2 ∙ here))))))
       r.place

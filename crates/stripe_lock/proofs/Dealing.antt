@@ -1,5 +1,5 @@
 -- The first pass is cut into passes.
-use Rattle.std.proofs.Common.{◌≡◌, ℕ, zero, suc, ◌+◌, List, [], ◌∷◌, ◌++◌, sym, ap, ◌∙◌, arith}
+use Rattle.std.proofs.Common.{◌≡◌, ℕ, zero, suc, ◌+◌, All, List, [], ◌∷◌, ◌++◌, sym, refl, ap, ◌∙◌, arith}
 use Rattle.atomic_table.specs.Seated.{TableId}
 use Rattle.stripe_lock.specs.declared.view.View.{View}
 use Rattle.stripe_lock.specs.History.{unused}
@@ -10,7 +10,7 @@ use Rattle.stripe_lock.specs.Passes.{PassState, pass_of, view_of, dealt}
 module _ {R : Type 0} where
   -- it has n numbers left, from k on
   abbrev pub dealer : List R → ℕ → ℕ → ℕ → View R
-  dealer chronicle floor k n = record { chronicle = chronicle; sight = whole_sight [] floor; other = whole_sight [] floor; owned = unused k n; stage = outside; ticket = 0 }
+  dealer chronicle floor k n = record { sight = whole_sight chronicle [] floor; other = whole_sight chronicle [] floor; owned = unused k n; stage = outside; ticket = 0 }
 
   -- the pass with the number k
   abbrev pub fresh_pass : TableId → List R → ℕ → ℕ → PassState R
@@ -32,3 +32,8 @@ module _ {R : Type 0} where
 
   pub is_fresh : (lock lock' : TableId) (chronicle : List R) (floor k : ℕ) (views : List (View R)) → lock' ≡ lock → views ≡ dealer chronicle floor k 1 ∷ [] → pass_of lock' (view_of views) ≡ fresh_pass lock chronicle floor k
   is_fresh lock lock' chronicle floor k views a b = λ i. pass_of (a i) (view_of (b i))
+
+  pub all_dealt : (lock : TableId) (chronicle : List R) (floor k n : ℕ) → All (λ (p : PassState R). p.lock ≡ lock) (dealt lock chronicle floor k n)
+  all_dealt lock chronicle floor k zero i d l = absurd (omega arith)
+  all_dealt lock chronicle floor k (suc n) zero d l = refl
+  all_dealt lock chronicle floor k (suc n) (suc i) d l = all_dealt lock chronicle floor (suc k) n i d (omega arith)

@@ -65,7 +65,7 @@ module _ {T R : Type 0} (k : Ghosts T R) (seats : ℕ) (start : List R) where
 
   -- what was seen is seen where the course goes on
   pub still_seen : (c c' : Course R) → IsPrefix c.log c'.log → IsPrefix c.told c'.told → c.top ≤ c'.top → (g : Sight R) → IsSeen k.floor_of start c g → IsSeen k.floor_of start c' g
-  still_seen c c' log told top g h = let low = h.below in record { seen = prefix_more g.seen c.log c'.log h.seen log; told = prefix_more g.told c.told c'.told h.told told; floor_is = h.floor_is; below = omega arith }
+  still_seen c c' log told top g h = let low = h.below in record { chronicle = h.chronicle; seen = prefix_more g.seen c.log c'.log h.seen log; told = prefix_more g.told c.told c'.told h.told told; floor_is = h.floor_is; below = omega arith }
 
   -- at most as many tickets are out as there are seats
   few_out : (s : State T (View R)) (r : Rule s) → total tickets s.views ≤ seats
@@ -89,10 +89,10 @@ module _ {T R : Type 0} (k : Ghosts T R) (seats : ℕ) (start : List R) where
   same_word s i homes views = subst (λ (ws : List ℕ). Rule record { words = ws; homes = homes; views = views }) (sym (set-get_or s.words i 0))
 
   -- a view in the line that has its numbers and its ticket as before
-  pub moves : (s : State T (View R)) (r : Rule s) (id : ℕ) (v w : View R) (homes : List (Option T)) → get_elem? s.views id ≡ some v → w.owned ≡ v.owned → w.ticket ≡ v.ticket → w.chronicle ≡ v.chronicle → w.other ≡ v.other
-      → 0 < v.stage → 0 < w.stage → IsSeen k.floor_of start r.c w.sight → (called ≤ w.stage → v.ticket ≡ r.c.served) → (w.stage ≡ holding → w.sight ≡ record { seen = r.c.log; told = r.c.told; floor = r.c.top })
+  pub moves : (s : State T (View R)) (r : Rule s) (id : ℕ) (v w : View R) (homes : List (Option T)) → get_elem? s.views id ≡ some v → w.owned ≡ v.owned → w.ticket ≡ v.ticket → w.other ≡ v.other
+      → 0 < v.stage → 0 < w.stage → IsSeen k.floor_of start r.c w.sight → (called ≤ w.stage → v.ticket ≡ r.c.served) → (w.stage ≡ holding → w.sight ≡ record { chronicle = start; seen = r.c.log; told = r.c.told; floor = r.c.top })
       → IsPlaced k start r.c homes (set s.views id w) → Rule record { words = s.words; homes = homes; views = set s.views id w }
-  moves s r id v w homes at same_owned same_ticket same_chronicle same_other before after sight turn holds place = let known = r.each_view id v at in
+  moves s r id v w homes at same_owned same_ticket same_other before after sight turn holds place = let known = r.each_view id v at in
       let out = r.out in let weights = r.weights in let parts = known.parts in let heavy : weight w ≡ weight v = ap length same_owned in
       let ts = total_set tickets s.views id v w at in let cs = total_set weight s.views id v w at in record {
         c = r.c;
@@ -104,7 +104,6 @@ module _ {T R : Type 0} (k : Ghosts T R) (seats : ℕ) (start : List R) where
         few = r.few;
         each_view = each_after (Knows k.floor_of seats start r.c) s.views id w
             record {
-              chronicle = λ _. same_chronicle ∙ known.chronicle (omega arith);
               sight = λ _. sight;
               other = λ _. subst (IsSeen k.floor_of start r.c) (sym same_other) (known.other (omega arith));
               owned = subst (Owns seats r.c id) (sym same_owned) known.owned;
@@ -121,9 +120,9 @@ module _ {T R : Type 0} (k : Ghosts T R) (seats : ℕ) (start : List R) where
       }
 
   -- a view outside the line that sees more
-  pub learns : (s : State T (View R)) (r : Rule s) (id : ℕ) (v w : View R) → get_elem? s.views id ≡ some v → v.stage ≡ outside → w.stage ≡ outside → w.owned ≡ v.owned → w.chronicle ≡ v.chronicle → w.other ≡ v.other
+  pub learns : (s : State T (View R)) (r : Rule s) (id : ℕ) (v w : View R) → get_elem? s.views id ≡ some v → v.stage ≡ outside → w.stage ≡ outside → w.owned ≡ v.owned → w.other ≡ v.other
       → (0 < weight v → IsSeen k.floor_of start r.c w.sight) → Rule record { words = s.words; homes = s.homes; views = set s.views id w }
-  learns s r id v w at idle idle' same_owned same_chronicle same_other sight = let known = r.each_view id v at in
+  learns s r id v w at idle idle' same_owned same_other sight = let known = r.each_view id v at in
       let out = r.out in let weights = r.weights in let heavy : weight w ≡ weight v = ap length same_owned in
       let ts = total_set tickets s.views id v w at in let cs = total_set weight s.views id v w at in let none_out : tickets v ≡ 0 = ap (min 1) idle in let none_out' : tickets w ≡ 0 = ap (min 1) idle' in record {
         c = r.c;
@@ -135,7 +134,6 @@ module _ {T R : Type 0} (k : Ghosts T R) (seats : ℕ) (start : List R) where
         few = r.few;
         each_view = each_after (Knows k.floor_of seats start r.c) s.views id w
             record {
-              chronicle = λ z. same_chronicle ∙ known.chronicle (omega arith);
               sight = λ z. sight (omega arith);
               other = λ z. subst (IsSeen k.floor_of start r.c) (sym same_other) (known.other (omega arith));
               owned = subst (Owns seats r.c id) (sym same_owned) known.owned;

@@ -46,8 +46,8 @@ module _ {T R : Type 0} (k : Ghosts T R) (seats : ℕ) (start : List R) where
     w,
     keeps,
     tt,
-    same_word k seats start s 3 s.homes (set s.views id w) (learns k seats start s r id v w at idle idle refl refl refl
-        (λ _. record { seen = prefix_same r.c.log; told = g.told; floor_is = g.floor_is; below = g.below })),
+    same_word k seats start s 3 s.homes (set s.views id w) (learns k seats start s r id v w at idle idle refl refl
+        (λ _. record { chronicle = g.chronicle; seen = prefix_same r.c.log; told = g.told; floor_is = g.floor_is; below = g.below })),
     (r.c.log, refl, r.words.count, g.seen, owns_just seats r.c id v.owned known.owned),
   )
 
@@ -57,25 +57,26 @@ module _ {T R : Type 0} (k : Ghosts T R) (seats : ℕ) (start : List R) where
         w,
         keeps,
         tt,
-        same_word k seats start s 4 s.homes (set s.views id w) (learns k seats start s r id v w at idle idle refl refl refl
-            (λ _. record { seen = g.seen; told = prefix_same r.c.told; floor_is = found ∙ r.top_is; below = omega arith })),
-        (r.c.told, refl, found ∙ (r.top_is ∙ (λ i. k.floor_of (sym (known.chronicle some_weight) i) r.c.told)), g.told, omega arith),
+        same_word k seats start s 4 s.homes (set s.views id w) (learns k seats start s r id v w at idle idle refl refl
+            (λ _. record { chronicle = g.chronicle; seen = g.seen; told = prefix_same r.c.told; floor_is = found ∙ r.top_is; below = omega arith })),
+        (r.c.told, refl, found ∙ (r.top_is ∙ (λ i. k.floor_of (sym g.chronicle i) r.c.told)), g.told, omega arith),
       )
 
   -- behind a join
   pub settles : (slots id : ℕ) (me : Me T (View R)) → me.0.stage ≡ outside → 0 < weight me.0 → Allows (Rule k seats start) slots id me 4 (λ n. n) (settled k (step slots 4 0 0 none) me)
-  settles slots id me idle some_weight s r deep at _ = let v = me.0 in let n = get_or s.words 4 0 in let both = longer v.sight.seen v.other.seen in let w : View R = with_sight (record { seen = both; told = r.c.told; floor = n }) v in
+  settles slots id me idle some_weight s r deep at _ = let v = me.0 in let n = get_or s.words 4 0 in let both = longer v.sight.seen v.other.seen in let w : View R = with_sight (record { chronicle = v.sight.chronicle; seen = both; told = r.c.told; floor = n }) v in
       let known = r.each_view id v at in let g = known.sight some_weight in let h = known.other some_weight in let found : n ≡ r.c.top = r.words.floor in let low = g.below in let low' = h.below in
       let begin = both_begin r.c.log v.sight.seen v.other.seen g.seen h.seen in (
         w,
         keeps,
         tt,
-        same_word k seats start s 4 s.homes (set s.views id w) (learns k seats start s r id v w at idle idle refl refl refl
-            (λ _. record { seen = longer_begins r.c.log v.sight.seen v.other.seen g.seen h.seen; told = prefix_same r.c.told; floor_is = found ∙ r.top_is; below = omega arith })),
+        same_word k seats start s 4 s.homes (set s.views id w) (learns k seats start s r id v w at idle idle refl refl
+            (λ _. record { chronicle = g.chronicle; seen = longer_begins r.c.log v.sight.seen v.other.seen g.seen h.seen; told = prefix_same r.c.told; floor_is = found ∙ r.top_is; below = omega arith })),
         (
           r.c.told,
           refl,
-          found ∙ (r.top_is ∙ (λ i. k.floor_of (sym (known.chronicle some_weight) i) r.c.told)),
+          found ∙ (r.top_is ∙ (λ i. k.floor_of (sym g.chronicle i) r.c.told)),
+          h.chronicle ∙ sym g.chronicle,
           begin.0,
           begin.1,
           g.told,

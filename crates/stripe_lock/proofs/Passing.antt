@@ -48,7 +48,6 @@ module _ {T R : Type 0} (k : Ghosts T R) (seats : ℕ) (start : List R) where
         few = r.few;
         each_view = each_after (Knows k.floor_of seats start c') vs other spent
             record {
-              chronicle = λ z. absurd (omega arith);
               sight = λ z. absurd (omega arith);
               other = λ z. absurd (omega arith);
               owned = tt;
@@ -61,7 +60,6 @@ module _ {T R : Type 0} (k : Ghosts T R) (seats : ℕ) (start : List R) where
             (λ (same : j ≡ id). subst (λ (x : ℕ × View R). Knows k.floor_of seats start c' x.0 x.1)
             (λ i. (sym same i, one_view vs id j b u (set_here s.views id b (in_range s.views id v at)) e same i))
             record {
-              chronicle = λ _. kv.chronicle some_weight;
               sight = λ _. still v.sight (kv.sight some_weight);
               other = λ _. still w.sight (kw.sight more_weight);
               owned = owns-append seats c' id v.owned w.owned
@@ -73,7 +71,6 @@ module _ {T R : Type 0} (k : Ghosts T R) (seats : ℕ) (start : List R) where
               parts = let parts = kv.parts in omega arith;
             })
             (λ ne. let ku = r.each_view j u (sym (set_else s.views id j b ne) ∙ e) in record {
-              chronicle = ku.chronicle;
               sight = λ z. still u.sight (ku.sight z);
               other = λ z. still u.other (ku.other z);
               owned = owns_moved seats c c' j j u.owned (λ p _ o. (moved_else c.owner other id p (λ q. far (sym o ∙ q)) ∙ o, refl)) ku.owned;
@@ -113,7 +110,6 @@ module _ {T R : Type 0} (k : Ghosts T R) (seats : ℕ) (start : List R) where
         each_view = λ j u e. ⊎_elim
             (each_after (Knows k.floor_of seats start c') s.views id a
             record {
-              chronicle = λ _. known.chronicle some_weight;
               sight = λ _. still v.sight (known.sight some_weight);
               other = λ _. still v.other (known.other some_weight);
               owned = subst (Owns seats c' id) (sym left) (owns_moved seats c c' id id (unused (suc p) n)
@@ -124,7 +120,6 @@ module _ {T R : Type 0} (k : Ghosts T R) (seats : ℕ) (start : List R) where
               parts = omega arith;
             }
             (λ i x ne q. let kx = r.each_view i x q in record {
-              chronicle = kx.chronicle;
               sight = λ z. still x.sight (kx.sight z);
               other = λ z. still x.other (kx.other z);
               owned = owns_moved seats c c' i i x.owned (λ n' _ o. (put_else c.owner p m n' (λ same. ne (sym o ∙ (ap c.owner same ∙ owned.1))) ∙ o, refl)) kx.owned;
@@ -135,7 +130,6 @@ module _ {T R : Type 0} (k : Ghosts T R) (seats : ℕ) (start : List R) where
             }) j u)
             (λ (t : (j ≡ length vs) × (b ≡ u)). subst (λ (x : ℕ × View R). Knows k.floor_of seats start c' x.0 x.1) (λ i. (sym (t.0 ∙ end) i, t.1 i))
             record {
-              chronicle = λ _. known.chronicle some_weight;
               sight = λ _. still v.sight (known.sight some_weight);
               other = λ _. still v.other (known.other some_weight);
               owned = subst (Owns seats c' m) (sym right) (owned.0, put_here c.owner p m, owned.2, tt);

@@ -44,17 +44,15 @@ module _ {T R : Type 0} (k : Ghosts T R) (seats : ℕ) (start : List R) where
           few = r.few;
           each_view = each_after (Knows k.floor_of seats start c') s.views id w
               record {
-                chronicle = λ z. known.chronicle (omega arith);
-                sight = λ z. let g = known.sight (omega arith) in record { seen = prefix_same log; told = g.told; floor_is = g.floor_is; below = g.below };
+                sight = λ z. let g = known.sight (omega arith) in record { chronicle = g.chronicle; seen = prefix_same log; told = g.told; floor_is = g.floor_is; below = g.below };
                 other = λ z. still v.other (known.other (omega arith));
                 owned = owns_noted seats c c' id v.owned refl known.owned;
                 ticket = known.ticket;
                 turn = known.turn;
-                holds = λ z. λ i. record { seen = log; told = (all i).told; floor = (all i).floor };
+                holds = λ z. λ i. record { chronicle = (all i).chronicle; seen = log; told = (all i).told; floor = (all i).floor };
                 parts = omega arith;
               }
               (λ j u other e. let ku = r.each_view j u e in record {
-                chronicle = ku.chronicle;
                 sight = λ z. still u.sight (ku.sight z);
                 other = λ z. still u.other (ku.other z);
                 owned = owns_moved seats c c' j j u.owned (λ p _ o. (o, sym (ap (places_of p) now ∙ places-other p c.log t (λ q. other (sym o ∙ (ap c.owner (sym q) ∙ mine.1)))))) ku.owned;
@@ -76,13 +74,13 @@ module _ {T R : Type 0} (k : Ghosts T R) (seats : ℕ) (start : List R) where
       )
 
   -- the floor behind the whole history is published
-  pub raises : (slots id n : ℕ) (me : Me T (View R)) → me.0.stage ≡ holding → me.0.sight.floor ≤ n → n ≡ k.floor_of me.0.chronicle me.0.sight.seen
+  pub raises : (slots id n : ℕ) (me : Me T (View R)) → me.0.stage ≡ holding → me.0.sight.floor ≤ n → n ≡ k.floor_of me.0.sight.chronicle me.0.sight.seen
       → Allows (Rule k seats start) slots id me 4 (λ m. max m n) (raised (step slots 4 n 0 none) me)
-  raises slots id n me st up is s r deep at _ = let v = me.0 in let c = r.c in let w : View R = with_sight (whole_sight v.sight.seen n) v in let known = r.each_view id v at in
+  raises slots id n me st up is s r deep at _ = let v = me.0 in let c = r.c in let w : View R = with_sight (whole_sight v.sight.chronicle v.sight.seen n) v in let known = r.each_view id v at in
       let parts = known.parts in let all = known.holds st in let log_is : v.sight.seen ≡ c.log = ap (λ (g : Sight R). g.seen) all in let top : v.sight.floor ≡ c.top = ap (λ (g : Sight R). g.floor) all in
       let c' : Course R = record c { told = c.log; top = n } in
       let wide = r.words.wide in let out = r.out in let weights = r.weights in let found = r.words.floor in let grows : c.top ≤ n = omega arith in let still = still_seen k seats start c c' (prefix_same c.log) r.told grows in
-      let now : n ≡ k.floor_of start c.log = is ∙ (λ i. k.floor_of (known.chronicle (omega arith) i) (log_is i)) in
+      let now : n ≡ k.floor_of start c.log = is ∙ (λ i. k.floor_of ((known.sight (omega arith)).chronicle i) (log_is i)) in
       let ts = total_set tickets s.views id v w at in let cs = total_set weight s.views id v w at in (
         w,
         keeps,
@@ -103,17 +101,15 @@ module _ {T R : Type 0} (k : Ghosts T R) (seats : ℕ) (start : List R) where
           few = r.few;
           each_view = each_after (Knows k.floor_of seats start c') s.views id w
               record {
-                chronicle = known.chronicle;
-                sight = λ z. let begins : IsPrefix v.sight.seen c.log = (known.sight z).seen in record { seen = begins; told = begins; floor_is = is ∙ (λ i. k.floor_of (known.chronicle z i) v.sight.seen); below = omega arith };
+                sight = λ z. let begins : IsPrefix v.sight.seen c.log = (known.sight z).seen in record { chronicle = (known.sight z).chronicle; seen = begins; told = begins; floor_is = is ∙ (λ i. k.floor_of ((known.sight z).chronicle i) v.sight.seen); below = omega arith };
                 other = λ z. still v.other (known.other z);
                 owned = owns_moved seats c c' id id v.owned (λ p _ e. (e, refl)) known.owned;
                 ticket = known.ticket;
                 turn = known.turn;
-                holds = λ z. λ i. whole_sight (log_is i) n;
+                holds = λ z. λ i. whole_sight ((all i).chronicle) (log_is i) n;
                 parts = known.parts;
               }
               (λ j u other e. let ku = r.each_view j u e in record {
-                chronicle = ku.chronicle;
                 sight = λ z. still u.sight (ku.sight z);
                 other = λ z. still u.other (ku.other z);
                 owned = owns_moved seats c c' j j u.owned (λ p _ q. (q, refl)) ku.owned;

@@ -42,7 +42,6 @@ module _ {T R : Type 0} (k : Ghosts T R) (seats : ℕ) (start : List R) where
           few = r.few;
           each_view = each_after (Knows k.floor_of seats start c') s.views id w
               record {
-                chronicle = known.chronicle;
                 sight = λ z. still v.sight (known.sight z);
                 other = λ z. still v.other (known.other z);
                 owned = owns_moved seats c c' id id v.owned (λ p _ e. (e, refl)) known.owned;
@@ -52,7 +51,6 @@ module _ {T R : Type 0} (k : Ghosts T R) (seats : ℕ) (start : List R) where
                 parts = some_weight;
               }
               (λ j u other e. let ku = r.each_view j u e in record {
-                chronicle = ku.chronicle;
                 sight = λ z. still u.sight (ku.sight z);
                 other = λ z. still u.other (ku.other z);
                 owned = owns_moved seats c c' j j u.owned (λ p _ q. (q, refl)) ku.owned;
@@ -83,7 +81,7 @@ module _ {T R : Type 0} (k : Ghosts T R) (seats : ℕ) (start : List R) where
         w,
         keeps,
         tt,
-        same_word k seats start s 2 s.homes (set s.views id w) (moves k seats start s r id v w s.homes at refl refl refl refl (omega arith) (omega arith) (known.sight (omega arith))
+        same_word k seats start s 2 s.homes (set s.views id w) (moves k seats start s r id v w s.homes at refl refl refl (omega arith) (omega arith) (known.sight (omega arith))
             (λ _. its_turn k seats start s r id v at (omega arith) e) (λ z. absurd (omega arith)) (placed_after k seats start r.c s.homes s.views id v w at here (λ z. omega arith) r.place)),
         ((λ _. refl), λ ne. absurd (ne e)),
       ))
@@ -91,7 +89,7 @@ module _ {T R : Type 0} (k : Ghosts T R) (seats : ℕ) (start : List R) where
         v,
         keeps,
         tt,
-        same_word k seats start s 2 s.homes (set s.views id v) (moves k seats start s r id v v s.homes at refl refl refl refl (omega arith) (omega arith) (known.sight (omega arith))
+        same_word k seats start s 2 s.homes (set s.views id v) (moves k seats start s r id v v s.homes at refl refl refl (omega arith) (omega arith) (known.sight (omega arith))
             (λ z. absurd (omega arith)) (λ z. absurd (omega arith)) (placed_after k seats start r.c s.homes s.views id v v at here here r.place)),
         ((λ e. absurd (ne e)), λ _. refl),
       ))
@@ -101,13 +99,14 @@ module _ {T R : Type 0} (k : Ghosts T R) (seats : ℕ) (start : List R) where
       ⊎_elim
       (λ (h : (x : T) × (s.homes ≡ some x ∷ []) × IsHome k start c x × NoneHolds s.views). let x = h.0 in let home = h.2 in let g = known.sight (omega arith) in
       let top : c.top ≡ k.floor_of (k.chronicle x) (k.turns x) = r.top_is ∙ (λ i. k.floor_of (sym home.chronicle_is i) ((home.told_is ∙ sym home.turns_are) i)) in
-      let w : View R = at_stage holding (with_sight (whole_sight (k.turns x) (k.floor_of (k.chronicle x) (k.turns x))) v) in
-      let all : w.sight ≡ record { seen = c.log; told = c.told; floor = c.top } = λ i. record { seen = home.turns_are i; told = (home.turns_are ∙ sym home.told_is) i; floor = sym top i } in (
+      let w : View R = at_stage holding (with_sight (whole_sight (k.chronicle x) (k.turns x) (k.floor_of (k.chronicle x) (k.turns x))) v) in
+      let all : w.sight ≡ record { chronicle = start; seen = c.log; told = c.told; floor = c.top } = λ i. record { chronicle = home.chronicle_is i; seen = home.turns_are i; told = (home.turns_are ∙ sym home.told_is) i; floor = sym top i } in (
         w,
         takes 0 x,
         ap (λ (l : List (Option T)). get_elem? l 0) h.1,
-        same_word k seats start s 2 (set s.homes 0 none) (set s.views id w) (moves k seats start s r id v w (set s.homes 0 none) at refl refl refl refl (omega arith) (omega arith)
+        same_word k seats start s 2 (set s.homes 0 none) (set s.views id w) (moves k seats start s r id v w (set s.homes 0 none) at refl refl refl (omega arith) (omega arith)
             record {
+              chronicle = home.chronicle_is;
               seen = subst (λ (l : List (StripeTurn R)). IsPrefix l c.log) (sym home.turns_are) (prefix_same c.log);
               told = subst (λ (l : List (StripeTurn R)). IsPrefix l c.told) (home.told_is ∙ sym home.turns_are) (prefix_same c.told);
               floor_is = λ i. k.floor_of (home.chronicle_is i) (k.turns x);
@@ -119,7 +118,7 @@ module _ {T R : Type 0} (k : Ghosts T R) (seats : ℕ) (start : List R) where
           x,
           ap (λ (l : List (ℕ × T)). (0, x) ∷ l) bare,
           refl,
-          home.chronicle_is ∙ sym (known.chronicle (omega arith)),
+          home.chronicle_is ∙ sym g.chronicle,
           subst (λ (l : List (StripeTurn R)). IsPrefix v.sight.seen l) (sym home.turns_are) g.seen,
           subst (λ (l : List (StripeTurn R)). IsPrefix v.sight.told l) (home.told_is ∙ sym home.turns_are) g.told,
           subst (λ (n : ℕ). v.sight.floor ≤ n) top g.below,
@@ -133,7 +132,7 @@ module _ {T R : Type 0} (k : Ghosts T R) (seats : ℕ) (start : List R) where
       r.place
 
   -- the holder gives back a state that is as its view says, the floor of which was published
-  pub gives_it : (slots id : ℕ) (me : Me T (View R)) (x : T) → slots ≡ 1 → me.0.stage ≡ holding → me.1 ≡ (0, x) ∷ [] → k.chronicle x ≡ me.0.chronicle → k.turns x ≡ me.0.sight.seen → me.0.sight.told ≡ me.0.sight.seen → k.is_sound x
+  pub gives_it : (slots id : ℕ) (me : Me T (View R)) (x : T) → slots ≡ 1 → me.0.stage ≡ holding → me.1 ≡ (0, x) ∷ [] → k.chronicle x ≡ me.0.sight.chronicle → k.turns x ≡ me.0.sight.seen → me.0.sight.told ≡ me.0.sight.seen → k.is_sound x
       → Allows (Rule k seats start) slots id me 2 (λ n. n) (gave (step slots 2 0 0 none) me)
   gives_it slots id me x one st held same_chronicle same_turns told sound s r deep at _ = let v = me.0 in let c = r.c in let w : View R = at_stage called v in let known = r.each_view id v at in let parts = known.parts in
       let all = known.holds st in let log_is : v.sight.seen ≡ c.log = ap (λ g. g.seen) all in let told_is : v.sight.told ≡ c.told = ap (λ g. g.told) all in (
@@ -141,11 +140,11 @@ module _ {T R : Type 0} (k : Ghosts T R) (seats : ℕ) (start : List R) where
         gives,
         tt,
         subst (λ (l : List (ℕ × T)). Rule k seats start (stepped s 2 (get_or s.words 2 0) id l w gives)) (sym held)
-            (same_word k seats start s 2 (set s.homes 0 (some x)) (set s.views id w) (moves k seats start s r id v w (set s.homes 0 (some x)) at refl refl refl refl (omega arith) (omega arith) (known.sight (omega arith))
+            (same_word k seats start s 2 (set s.homes 0 (some x)) (set s.views id w) (moves k seats start s r id v w (set s.homes 0 (some x)) at refl refl refl (omega arith) (omega arith) (known.sight (omega arith))
             (λ _. known.turn (omega arith)) (λ z. absurd (omega arith)) (inl (
               x,
               only s.homes (deep ∙ one),
-              record { turns_are = same_turns ∙ log_is; told_is = sym told_is ∙ (told ∙ log_is); chronicle_is = same_chronicle ∙ known.chronicle (omega arith); sound = sound },
+              record { turns_are = same_turns ∙ log_is; told_is = sym told_is ∙ (told ∙ log_is); chronicle_is = same_chronicle ∙ (known.sight (omega arith)).chronicle; sound = sound },
               each_after (λ _ (u : View R). u.stage ≢ holding) s.views id w (λ z. omega arith) (λ j u other e z. other (one_called seats start c j id u v (r.each_view j u e) known (omega arith) (omega arith))),
             )))),
         ap (λ (l : List (ℕ × T)). (w, rest l)) held,
@@ -181,7 +180,6 @@ module _ {T R : Type 0} (k : Ghosts T R) (seats : ℕ) (start : List R) where
           few = r.few;
           each_view = each_after (Knows k.floor_of seats start c') s.views id w
               record {
-                chronicle = known.chronicle;
                 sight = λ z. still v.sight (known.sight z);
                 other = λ z. still v.other (known.other z);
                 owned = owns_moved seats c c' id id v.owned (λ p _ e. (e, refl)) known.owned;
@@ -191,7 +189,6 @@ module _ {T R : Type 0} (k : Ghosts T R) (seats : ℕ) (start : List R) where
                 parts = omega arith;
               }
               (λ j u other e. let ku = r.each_view j u e in record {
-                chronicle = ku.chronicle;
                 sight = λ z. still u.sight (ku.sight z);
                 other = λ z. still u.other (ku.other z);
                 owned = owns_moved seats c c' j j u.owned (λ p _ q. (q, refl)) ku.owned;

@@ -18,15 +18,15 @@ use Rattle.stripe_lock.proofs.Histories.{prefix_more, length-noted, first_number
 module _ {T R : Type 0} (k : Ghosts T R) where
   -- the view with the state x in hand
   abbrev holder : View R → T → ℕ → View R
-  holder v x ticket = record v { sight = whole_sight (k.turns x) (k.floor_of (k.chronicle x) (k.turns x)); stage = holding; ticket = ticket }
+  holder v x ticket = record v { sight = whole_sight (k.chronicle x) (k.turns x) (k.floor_of (k.chronicle x) (k.turns x)); stage = holding; ticket = ticket }
 
   pub in_hand : (v u : View R) (ticket : ℕ) (m : Me T (View R)) → u ≡ record v { stage = called; ticket = ticket } → took k (step 0 0 0 0 none) (u, []) 0 m → (x : T) × InHand k v m x
-  in_hand v u ticket m u_is t = let x = t.0 in let view : m.0 ≡ holder v x ticket = t.2 ∙ ap (λ (z : View R). at_stage holding (with_sight (whole_sight (k.turns x) (k.floor_of (k.chronicle x) (k.turns x))) z)) u_is in (
+  in_hand v u ticket m u_is t = let x = t.0 in let view : m.0 ≡ holder v x ticket = t.2 ∙ ap (λ (z : View R). at_stage holding (with_sight (whole_sight (k.chronicle x) (k.turns x) (k.floor_of (k.chronicle x) (k.turns x))) z)) u_is in (
     x,
     record {
       carried = t.1;
       view = view ∙ ap (holder v x) (sym (ap (λ (z : View R). z.ticket) view));
-      chronicle = t.3 ∙ ap (λ (z : View R). z.chronicle) u_is;
+      chronicle = t.3 ∙ ap (λ (z : View R). z.sight.chronicle) u_is;
       seen = subst (λ (z : View R). IsPrefix z.sight.seen (k.turns x)) u_is t.4;
       told = subst (λ (z : View R). IsPrefix z.sight.told (k.turns x)) u_is t.5;
       higher = subst (λ (z : View R). z.sight.floor ≤ k.floor_of (k.chronicle x) (k.turns x)) u_is t.6;
@@ -39,10 +39,10 @@ module _ {T R : Type 0} (k : Ghosts T R) where
     pub turned : (w : View R) (l l' : TableId) → InHand k v m x → w ≡ at_stage outside (published (k.turns y) floor m.0) → l' ≡ l → number ≡ first_number v.owned → 0 < weight v → Works k job fits number x y answer count floor
         → Turned k job fits (pass_of l v) (pass_of l' w) answer count
     turned w l l' h now same own some_weight d = let seen : w.sight.seen ≡ k.turns y = ap (λ (z : View R). z.sight.seen) now in let told : w.sight.told ≡ k.turns y = ap (λ (z : View R). z.sight.told) now in
-        let chronicle : w.chronicle ≡ v.chronicle = ap (λ (z : View R). z.chronicle) now ∙ ap (λ (z : View R). z.chronicle) h.view in
+        let chronicle : w.sight.chronicle ≡ v.sight.chronicle = ap (λ (z : View R). z.sight.chronicle) now ∙ (ap (λ (z : View R). z.sight.chronicle) h.view ∙ h.chronicle) in
         let owned : w.owned ≡ with_places (k.turns y) v.owned = ap (λ (z : View R). z.owned) now ∙ ap (λ (z : View R). with_places (k.turns y) z.owned) h.view in
         let low : w.sight.floor ≡ floor = ap (λ (z : View R). z.sight.floor) now in let up = d.higher in let from = h.higher in let is = d.floor_is in
-        let kept : k.chronicle y ≡ w.chronicle = d.chronicle ∙ (h.chronicle ∙ sym chronicle) in record {
+        let kept : k.chronicle y ≡ w.sight.chronicle = d.chronicle ∙ (h.chronicle ∙ sym chronicle) in record {
           lock = same;
           chronicle = chronicle;
           before = k.turns x;

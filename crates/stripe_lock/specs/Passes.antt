@@ -25,7 +25,7 @@ pub record PassState (R : Type 0) : Type 0 where
 module _ {R : Type 0} where
   -- what is seen of a view
   abbrev pub pass_of : TableId → View R → PassState R
-  pass_of lock v = record { lock = lock; chronicle = v.chronicle; seen = v.sight.seen; owned = v.owned; told = v.sight.told; floor = v.sight.floor }
+  pass_of lock v = record { lock = lock; chronicle = v.sight.chronicle; seen = v.sight.seen; owned = v.owned; told = v.sight.told; floor = v.sight.floor }
 
   -- the view of a pass between two calls
   abbrev pub view_of : List (View R) → View R

@@ -63,8 +63,9 @@ pub record AreWords {R : Type 0} (c : Course R) (words : List ℕ) : Type 0 wher
   pub count : slice_index words 3 ≡ length c.log
   pub floor : slice_index words 4 ≡ c.top
 
--- what was seen begins the history, and the floor is that behind a beginning of the turns that were told
+-- what was seen is the chronicle and begins the history, and the floor is that behind a beginning of the turns that were told
 pub record IsSeen {R : Type 0} (floor_of : List R → List (StripeTurn R) → ℕ) (start : List R) (c : Course R) (g : Sight R) : Type 0 where
+  pub chronicle : g.chronicle ≡ start
   pub seen : IsPrefix g.seen c.log
   pub told : IsPrefix g.told c.told
   pub floor_is : g.floor ≡ floor_of start g.told
@@ -77,13 +78,12 @@ Owns seats c j (k ∷ ks) = (k.number < seats) × (c.owner k.number ≡ j) × (k
 
 -- what the view j knows, if it holds a number, and where it stands in the line
 pub record Knows {R : Type 0} (floor_of : List R → List (StripeTurn R) → ℕ) (seats : ℕ) (start : List R) (c : Course R) (j : ℕ) (v : View R) : Type 0 where
-  pub chronicle : 0 < weight v → v.chronicle ≡ start
   pub sight : 0 < weight v → IsSeen floor_of start c v.sight
   pub other : 0 < weight v → IsSeen floor_of start c v.other
   pub owned : Owns seats c j v.owned
   pub ticket : 0 < v.stage → (c.served ≤ v.ticket) × (v.ticket < c.drawn) × (c.line v.ticket ≡ j)
   pub turn : called ≤ v.stage → v.ticket ≡ c.served
-  pub holds : v.stage ≡ holding → v.sight ≡ record { seen = c.log; told = c.told; floor = c.top }
+  pub holds : v.stage ≡ holding → v.sight ≡ record { chronicle = start; seen = c.log; told = c.told; floor = c.top }
   pub parts : tickets v ≤ weight v
 
 module _ {T R : Type 0} (k : Ghosts T R) where
@@ -114,3 +114,8 @@ module _ {T R : Type 0} (k : Ghosts T R) where
     pub each_ticket : (t : ℕ) → c.served ≤ t → t < c.drawn → (v : View R) × (get_elem? s.views (c.line t) ≡ some v) × (0 < v.stage) × (v.ticket ≡ t)
     pub workers : AreBelow seats c.log
     pub place : IsPlaced start c s.homes s.views
+
+  -- whenever a state is at home, `count` is the number of its turns, `floor` is its floor, and it is sound
+  abbrev pub HomeIsPublished : Type 0
+  HomeIsPublished = (seats : ℕ) (start : List R) (s : State T (View R)) (x : T) → IsLocked seats start s → s.homes ≡ some x ∷ []
+      → (slice_index s.words 3 ≡ length (k.turns x)) × (slice_index s.words 4 ≡ k.floor_of (k.chronicle x) (k.turns x)) × k.is_sound x

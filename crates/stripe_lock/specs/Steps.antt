@@ -19,13 +19,13 @@ module _ {R : Type 0} where
   with_sight g v = record v { sight = g }
 
   -- what is seen where the floor behind all of these turns was published
-  abbrev pub whole_sight : List (StripeTurn R) → ℕ → Sight R
-  whole_sight turns floor = record { seen = turns; told = turns; floor = floor }
+  abbrev pub whole_sight : List R → List (StripeTurn R) → ℕ → Sight R
+  whole_sight chronicle turns floor = record { chronicle = chronicle; seen = turns; told = turns; floor = floor }
 
   -- the first pass, which has all numbers, behind no turn
   abbrev pub opener : ℕ → List R → ℕ → View R
-  opener seats chronicle floor = let nothing : Sight R = whole_sight [] floor in
-      record { chronicle = chronicle; sight = nothing; other = nothing; owned = unused 0 seats; stage = outside; ticket = 0 }
+  opener seats chronicle floor = let nothing : Sight R = whole_sight chronicle [] floor in
+      record { sight = nothing; other = nothing; owned = unused 0 seats; stage = outside; ticket = 0 }
 
   -- a pass that was joined into another
   abbrev pub spent : View R
@@ -70,7 +70,7 @@ module _ {T R : Type 0} where
 
   -- the floor behind all turns that are seen was published
   abbrev pub raised : Step T → Holder T R → ℕ → Holder T R → Type 0
-  raised st m n m' = m' ≡ (with_sight (whole_sight m.0.sight.seen st.first) m.0, m.1)
+  raised st m n m' = m' ≡ (with_sight (whole_sight m.0.sight.chronicle m.0.sight.seen st.first) m.0, m.1)
 
   -- the history so far is seen, which is as long as the count, and has under its numbers the turns that are known
   abbrev pub saw : Step T → Holder T R → ℕ → Holder T R → Type 0
@@ -80,8 +80,8 @@ module _ {T R : Type 0} where
   module _ (k : Ghosts T R) where
     -- the state is in hand, and with it all that it tells
     abbrev pub took : Step T → Holder T R → ℕ → Holder T R → Type 0
-    took st m n m' = (x : T) × (m'.1 ≡ (0, x) ∷ []) × (m'.0 ≡ at_stage holding (with_sight (whole_sight (k.turns x) (k.floor_of (k.chronicle x) (k.turns x))) m.0))
-        × (k.chronicle x ≡ m.0.chronicle) × IsPrefix m.0.sight.seen (k.turns x) × IsPrefix m.0.sight.told (k.turns x)
+    took st m n m' = (x : T) × (m'.1 ≡ (0, x) ∷ []) × (m'.0 ≡ at_stage holding (with_sight (whole_sight (k.chronicle x) (k.turns x) (k.floor_of (k.chronicle x) (k.turns x))) m.0))
+        × (k.chronicle x ≡ m.0.sight.chronicle) × IsPrefix m.0.sight.seen (k.turns x) × IsPrefix m.0.sight.told (k.turns x)
         × (m.0.sight.floor ≤ k.floor_of (k.chronicle x) (k.turns x)) × HasJust (k.turns x) m.0.owned × k.is_sound x
 
     -- the history is that of the state in hand
@@ -92,11 +92,11 @@ module _ {T R : Type 0} where
     -- the floor is seen, which was published behind more turns than had been told
     abbrev pub lowered : Step T → Holder T R → ℕ → Holder T R → Type 0
     lowered st m n m' = (told : List (StripeTurn R)) × (m' ≡ (with_sight (record m.0.sight { told = told; floor = n }) m.0, m.1))
-        × (n ≡ k.floor_of m.0.chronicle told) × IsPrefix m.0.sight.told told × (m.0.sight.floor ≤ n)
+        × (n ≡ k.floor_of m.0.sight.chronicle told) × IsPrefix m.0.sight.told told × (m.0.sight.floor ≤ n)
 
     -- the floor is seen, and what either of two joined passes had seen begins the longer of the two
     abbrev pub settled : Step T → Holder T R → ℕ → Holder T R → Type 0
     settled st m n m' = let both = longer m.0.sight.seen m.0.other.seen in (told : List (StripeTurn R))
-        × (m' ≡ (with_sight (record { seen = both; told = told; floor = n }) m.0, m.1)) × (n ≡ k.floor_of m.0.chronicle told)
-        × IsPrefix m.0.sight.seen both × IsPrefix m.0.other.seen both × IsPrefix m.0.sight.told told × IsPrefix m.0.other.told told
+        × (m' ≡ (with_sight (record { chronicle = m.0.sight.chronicle; seen = both; told = told; floor = n }) m.0, m.1)) × (n ≡ k.floor_of m.0.sight.chronicle told)
+        × (m.0.other.chronicle ≡ m.0.sight.chronicle) × IsPrefix m.0.sight.seen both × IsPrefix m.0.other.seen both × IsPrefix m.0.sight.told told × IsPrefix m.0.other.told told
         × (m.0.sight.floor ≤ n) × (m.0.other.floor ≤ n)

@@ -45,6 +45,7 @@ module _ {T R : Type 0} (k : Ghosts T R) where
   -- a pass has the numbers of both, and has seen what either had seen, and a floor that is not below those of either
   pub record Joins (old other new : PassState R) : Type 0 where
     pub same : new ≡ record old { seen = longer old.seen other.seen; owned = old.owned ++ other.owned; told = new.told; floor = new.floor }
+    pub chronicle : other.chronicle ≡ old.chronicle
     pub seen : IsPrefix old.seen new.seen × IsPrefix other.seen new.seen
     pub told : IsPrefix old.told new.told × IsPrefix other.told new.told
     pub floor_is : new.floor ≡ k.floor_of new.chronicle new.told

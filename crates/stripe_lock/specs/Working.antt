@@ -12,14 +12,14 @@ use Rattle.stripe_lock.specs.Steps.{whole_sight}
 module _ {R : Type 0} where
   -- a pass that knows the whole history, with the places of its turns, and has published its floor
   abbrev pub published : List (StripeTurn R) → ℕ → View R → View R
-  published turns floor v = record v { sight = whole_sight turns floor; owned = with_places turns v.owned }
+  published turns floor v = record v { sight = whole_sight v.sight.chronicle turns floor; owned = with_places turns v.owned }
 
 module _ {T R : Type 0} (k : Ghosts T R) where
   -- the pass that was v has the state x in hand
   pub record InHand (v : View R) (m : Me T (View R)) (x : T) : Type 0 where
     pub carried : m.1 ≡ (0, x) ∷ []
-    pub view : m.0 ≡ record v { sight = whole_sight (k.turns x) (k.floor_of (k.chronicle x) (k.turns x)); stage = holding; ticket = m.0.ticket }
-    pub chronicle : k.chronicle x ≡ v.chronicle
+    pub view : m.0 ≡ record v { sight = whole_sight (k.chronicle x) (k.turns x) (k.floor_of (k.chronicle x) (k.turns x)); stage = holding; ticket = m.0.ticket }
+    pub chronicle : k.chronicle x ≡ v.sight.chronicle
     pub seen : IsPrefix v.sight.seen (k.turns x)
     pub told : IsPrefix v.sight.told (k.turns x)
     pub higher : v.sight.floor ≤ k.floor_of (k.chronicle x) (k.turns x)
@@ -53,14 +53,14 @@ module _ {T R : Type 0} (k : Ghosts T R) where
     pub own : HasNumber m.0.owned turn.worker
     pub counted : count ≡ length (k.turns x)
     pub higher : m.0.sight.floor ≤ floor
-    pub floor_is : floor ≡ k.floor_of m.0.chronicle (k.turns x)
+    pub floor_is : floor ≡ k.floor_of m.0.sight.chronicle (k.turns x)
 
   -- the state in hand is sound, its history is seen, and the floor behind it was published
   pub record MayLeave (m : Me T (View R)) : Type 0 where
     pub x : T
     pub carried : m.1 ≡ (0, x) ∷ []
     pub stage : m.0.stage ≡ holding
-    pub chronicle : k.chronicle x ≡ m.0.chronicle
+    pub chronicle : k.chronicle x ≡ m.0.sight.chronicle
     pub seen : k.turns x ≡ m.0.sight.seen
     pub told : m.0.sight.told ≡ m.0.sight.seen
     pub sound : k.is_sound x

@@ -3,6 +3,7 @@
 #![tactic(auto)]
 
 mod kept;
+mod laws;
 mod lock;
 mod pass;
 mod steps;

@@ -104,10 +104,10 @@ impl<T: KeptState> Gate<T> {
     /// Cuts the first seat into passes.
     pub fn deal(&self, seat: Seat<T, View<T::Record>>, passes: &mut Vec<Pass<T::Record>>)
         requires table { seat.table_id ≡ self.now.table.shared.table_id }
-        requires first { seat.me ≡ (opener self.now.seats seat.me.0.chronicle seat.me.0.sight.floor, []) }
+        requires first { seat.me ≡ (opener self.now.seats seat.me.0.sight.chronicle seat.me.0.sight.floor, []) }
         requires seats { (0 < self.now.seats) × (self.now.seats ≤ 64) }
         requires room { (passes.old.items ≡ []) × (vec_len passes.old ≡ 0) × (self.now.seats ≤ vec_capacity passes.old) }
-        ensures { passes.new.items ≡ dealt self.now.table.shared.table_id seat.me.0.chronicle seat.me.0.sight.floor 0 self.now.seats }
+        ensures { passes.new.items ≡ dealt self.now.table.shared.table_id seat.me.0.sight.chronicle seat.me.0.sight.floor 0 self.now.seats }
     {
         let mut seat = seat;
         let last = self.seats - 1;
@@ -252,7 +252,7 @@ impl<T: KeptState> Gate<T> {
         requires rests { (badge.views ≡ view_of badge.views ∷ []) × ((view_of badge.views).stage ≡ outside) × (0 < weight (view_of badge.views)) }
         ensures { (told : List (StripeTurn T.Record)) × (result.0.table_id ≡ badge.table_id)
             × (result.0.views ≡ with_sight (record (view_of badge.views).sight { told = told; floor = result.1 }) (view_of badge.views) ∷ [])
-            × (result.1 ≡ T.floor_of (view_of badge.views).chronicle told) × IsPrefix (view_of badge.views).sight.told told
+            × (result.1 ≡ T.floor_of (view_of badge.views).sight.chronicle told) × IsPrefix (view_of badge.views).sight.told told
             × ((view_of badge.views).sight.floor ≤ result.1) }
     {
         let mut seat = badge.into_seat::<T>();

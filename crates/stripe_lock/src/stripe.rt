@@ -1,5 +1,5 @@
 //! The lock, as callers see it.
-ghost use Rattle.std.specs.Prelude.{◌≡◌, ◌<◌, ◌≤◌, [], length, IfOk, IfErr, IsOk, ◌↔◌};
+ghost use Rattle.std.specs.Prelude.{◌≡◌, ◌<◌, ◌≤◌, [], length, IfOk, IfErr, IsOk, ◌↔◌, All};
 ghost use Rattle.stripe_lock.specs.History.{first_number};
 ghost use Rattle.stripe_lock.specs.Passes.{dealt};
 ghost use Rattle.stripe_lock.specs.Turns.{Turned, LookedIn, SeesCount, SeesFloor, Joins, Ends};
@@ -29,6 +29,7 @@ impl<T: KeptState> Model for SharedStripe<T> {
 }
 
 impl<T: KeptState> SharedStripe<T> {
+    #[tactic(auto, using(crate::proofs::Dealing::all_dealt))]
     /// A lock round this state, which has no turn, and its passes in the order of their numbers.
     pub fn new(
         alloc: Global,
@@ -39,6 +40,7 @@ impl<T: KeptState> SharedStripe<T> {
         requires blank { T.turns state ≡ [] }
         requires sound { T.is_sound state }
         ensures seats { IfOk result (λ r. r.0.seats ≡ seats) }
+        ensures lock { IfOk result (λ r. All (λ p. p.lock ≡ r.0.lock) r.1.items) }
         ensures passes { IfOk result (λ r. r.1.items ≡ dealt r.0.lock (T.chronicle state)
             (T.floor_of (T.chronicle state) []) 0 seats) }
         ensures back { IfErr result (λ e. e.1 ≡ state) }

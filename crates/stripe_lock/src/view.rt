@@ -14,8 +14,10 @@ pub struct PassTurns {
     pub places: LinkedList<u64>,
 }
 
-/// What was seen: the turns so far, and the floor with the turns behind which it was published.
+/// What was seen: the chronicle from before the first turn, the turns so far, and the floor with the
+/// turns behind which it was published.
 pub struct Sight<R> {
+    pub chronicle: LinkedList<R>,
     pub seen: LinkedList<StripeTurn<R>>,
     pub told: LinkedList<StripeTurn<R>>,
     pub floor: u64,
@@ -23,7 +25,6 @@ pub struct Sight<R> {
 
 /// What one pass knows, and how far it is in the line.
 pub struct View<R> {
-    pub chronicle: LinkedList<R>,
     pub sight: Sight<R>,
     /// What a pass that was just joined had seen.
     pub other: Sight<R>,

@@ -11,5 +11,5 @@ fetch_max-requires g c = let h = c.requires.turn in let noted = c.store.ensures.
   search rules,
   search rules,
   raises g.T.KeptState _ _ _ _ _ _ (ap (λ v. v.stage) noted ∙ h.stage) (subst (λ (v : View _). v.sight.floor ≤ c.args.floor) (sym noted) h.higher)
-      (h.floor_is ∙ (λ i. g.T.KeptState.floor_of (sym noted i).chronicle (sym noted i).sight.seen)),
+      (h.floor_is ∙ (λ i. g.T.KeptState.floor_of (sym noted i).sight.chronicle (sym noted i).sight.seen)),
 )
