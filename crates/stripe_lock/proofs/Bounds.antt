@@ -27,6 +27,7 @@ module _ {T R : Type 0} (k : Ghosts T R) (seats : ℕ) (start : List R) where
     words = record { wide = refl; ticket = refl; serving = refl; count = refl; floor = top };
     top_is = refl;
     told = prefix_same [];
+    near = omega arith;
     out = refl;
     weights = let l = length-unused 0 seats in omega arith;
     few = few;

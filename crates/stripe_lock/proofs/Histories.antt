@@ -1,8 +1,8 @@
 -- Histories that grow, and the places of the turns under a number.
-use Rattle.std.proofs.Common.{◌≡◌, ◌≢◌, ℕ, zero, suc, ◌+◌, ◌<◌, ◌≤◌, Bool, true, false, cond, eqb, ltb, ne_eqb, eq-eqb, List, [], ◌∷◌, ◌++◌, length, sym, refl, ap, ◌∙◌, subst, inl, inr, ⊎_elim, arith, append-nil, append_assoc, length-append}
+use Rattle.std.proofs.Common.{◌≡◌, ◌≢◌, ℕ, zero, suc, ◌+◌, ◌-◌, ◌<◌, ◌≤◌, Bool, true, false, cond, eqb, ltb, ne_eqb, eq-eqb, List, [], ◌∷◌, ◌++◌, length, sym, refl, ap, ◌∙◌, subst, inl, inr, ⊎_elim, arith, append-nil, append_assoc, length-append}
 use Rattle.std.proofs.lemmas.Bool.Decides.{nat_tests}
 use mathlib.Core.Logic.{dite}
-use mathlib.Core.List.{IsPrefix}
+use mathlib.Core.List.{IsPrefix, drop_last, drop_last-prefix}
 use native.Mathlib.Decide.{ℕ_discrete}
 use Rattle.stripe_lock.specs.declared.view.StripeTurn.{StripeTurn}
 use Rattle.stripe_lock.specs.declared.view.PassTurns.{PassTurns}
@@ -15,6 +15,11 @@ Turns R = List (StripeTurn R)
 cond-append : (b : Bool) (k : ℕ) (xs ys : List ℕ) → cond b (k ∷ xs ++ ys) (xs ++ ys) ≡ cond b (k ∷ xs) xs ++ ys
 cond-append true k xs ys = refl
 cond-append false k xs ys = refl
+
+length-drop_last : {A : Type 0} (l : List A) → length (drop_last l) ≡ length l - 1
+length-drop_last [] = refl
+length-drop_last (x ∷ []) = refl
+length-drop_last (x ∷ y ∷ l) = let h = length-drop_last (y ∷ l) in omega arith
 
 module _ {R : Type 0} where
   places_from-snoc : (p k : ℕ) (log : Turns R) (t : StripeTurn R) → places_from p k (log ++ t ∷ []) ≡ places_from p k log ++ cond (eqb t.worker p) ((k + length log) ∷ []) []
@@ -47,6 +52,11 @@ module _ {R : Type 0} where
   prefix_of [] b r s e l = (b, refl)
   prefix_of (x ∷ a) [] r s e l = absurd (omega arith)
   prefix_of (x ∷ a) (y ∷ b) r s e l = let head : x ≡ y = cc in let tail : a ++ r ≡ b ++ s = cc in let h = prefix_of a b r s tail (omega arith) in (h.0, λ i. head i ∷ h.1 i)
+
+  -- of two beginnings, of which one is at most a turn shorter, that one begins with all but the last turn of the other
+  pub but_last : (seen log told : Turns R) → IsPrefix seen log → IsPrefix told log → length log ≤ length told + 1 → IsPrefix (drop_last seen) told
+  but_last seen log told h m near = let p = prefix_more (drop_last seen) seen log (drop_last-prefix seen) h in
+      let short : length (drop_last seen) ≤ length told = let all = ap length h.1 in let sum = length-append seen h.0 in omega (arith, length-drop_last seen) in prefix_of (drop_last seen) told p.0 m.0 (p.1 ∙ sym m.1) short
 
   pub longer_begins : (log a b : Turns R) → IsPrefix a log → IsPrefix b log → IsPrefix (longer a b) log
   longer_begins log a b h k = go (ltb (length a) (length b))

@@ -99,6 +99,7 @@ module _ {T R : Type 0} (k : Ghosts T R) (seats : ℕ) (start : List R) where
         words = r.words;
         top_is = r.top_is;
         told = r.told;
+        near = r.near;
         out = omega arith;
         weights = omega arith;
         few = r.few;
@@ -129,6 +130,7 @@ module _ {T R : Type 0} (k : Ghosts T R) (seats : ℕ) (start : List R) where
         words = r.words;
         top_is = r.top_is;
         told = r.told;
+        near = r.near;
         out = omega arith;
         weights = omega arith;
         few = r.few;

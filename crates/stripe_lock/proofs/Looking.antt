@@ -9,7 +9,7 @@ use Rattle.stripe_lock.specs.declared.view.View.{View}
 use Rattle.stripe_lock.specs.History.{longer}
 use Rattle.stripe_lock.specs.Rule.{outside, total, weight, tickets, IsPlaced}
 use Rattle.stripe_lock.specs.Steps.{with_sight, stayed, saw, lowered, settled}
-use Rattle.stripe_lock.proofs.Histories.{prefix_same, longer_begins, both_begin, owns_just}
+use Rattle.stripe_lock.proofs.Histories.{prefix_same, prefix_more, but_last, longer_begins, both_begin, owns_just}
 use Rattle.stripe_lock.proofs.Keeping.{Rule, same_word, learns}
 
 module _ {T R : Type 0} (k : Ghosts T R) (seats : ℕ) (start : List R) where
@@ -29,6 +29,7 @@ module _ {T R : Type 0} (k : Ghosts T R) (seats : ℕ) (start : List R) where
       };
       top_is = r.top_is;
       told = r.told;
+      near = r.near;
       out = subst (λ (vs : List (View R)). c.served + total tickets vs ≡ c.drawn) (sym same) r.out;
       weights = subst (λ (vs : List (View R)). total weight vs ≡ seats) (sym same) r.weights;
       few = r.few;
@@ -48,7 +49,7 @@ module _ {T R : Type 0} (k : Ghosts T R) (seats : ℕ) (start : List R) where
     tt,
     same_word k seats start s 3 s.homes (set s.views id w) (learns k seats start s r id v w at idle idle refl refl
         (λ _. record { chronicle = g.chronicle; seen = prefix_same r.c.log; told = g.told; floor_is = g.floor_is; below = g.below })),
-    (r.c.log, refl, r.words.count, g.seen, owns_just seats r.c id v.owned known.owned),
+    (r.c.log, refl, r.words.count, g.seen, prefix_more v.sight.told r.c.told r.c.log g.told r.told, owns_just seats r.c id v.owned known.owned),
   )
 
   pub lowers : (slots id : ℕ) (me : Me T (View R)) → me.0.stage ≡ outside → 0 < weight me.0 → Allows (Rule k seats start) slots id me 4 (λ n. n) (lowered k (step slots 4 0 0 none) me)
@@ -59,7 +60,7 @@ module _ {T R : Type 0} (k : Ghosts T R) (seats : ℕ) (start : List R) where
         tt,
         same_word k seats start s 4 s.homes (set s.views id w) (learns k seats start s r id v w at idle idle refl refl
             (λ _. record { chronicle = g.chronicle; seen = g.seen; told = prefix_same r.c.told; floor_is = found ∙ r.top_is; below = omega arith })),
-        (r.c.told, refl, found ∙ (r.top_is ∙ (λ i. k.floor_of (sym g.chronicle i) r.c.told)), g.told, omega arith),
+        (r.c.told, refl, found ∙ (r.top_is ∙ (λ i. k.floor_of (sym g.chronicle i) r.c.told)), g.told, but_last v.sight.seen r.c.log r.c.told g.seen r.told r.near, omega arith),
       )
 
   -- behind a join

@@ -43,6 +43,7 @@ module _ {T R : Type 0} (k : Ghosts T R) (seats : ℕ) (start : List R) where
         words = record { wide = r.words.wide; ticket = r.words.ticket; serving = r.words.serving; count = r.words.count; floor = r.words.floor };
         top_is = r.top_is;
         told = r.told;
+        near = r.near;
         out = omega arith;
         weights = omega arith;
         few = r.few;
@@ -104,6 +105,7 @@ module _ {T R : Type 0} (k : Ghosts T R) (seats : ℕ) (start : List R) where
         words = record { wide = r.words.wide; ticket = r.words.ticket; serving = r.words.serving; count = r.words.count; floor = r.words.floor };
         top_is = r.top_is;
         told = r.told;
+        near = r.near;
         out = omega arith;
         weights = omega arith;
         few = r.few;

@@ -1,5 +1,5 @@
 -- The steps that publish a turn keep the rule.
-use Rattle.std.proofs.Common.{◌≡◌, ℕ, ◌≤◌, max, List, [], ◌∷◌, ◌++◌, length, get_or, sym, refl, ap, ◌∙◌, subst, arith, length-set, get_or-set_other, get_or-set_same}
+use Rattle.std.proofs.Common.{◌≡◌, ℕ, ◌+◌, ◌≤◌, max, List, [], ◌∷◌, ◌++◌, length, get_or, sym, refl, ap, ◌∙◌, subst, arith, length-set, length-append, get_or-set_other, get_or-set_same}
 use mathlib.Core.List.{IsPrefix}
 use mathlib.Core.Option.{none}
 use Rattle.atomic_table.specs.Table.{Me, step, keeps, Allows}
@@ -16,12 +16,14 @@ use Rattle.stripe_lock.proofs.Keeping.{each_after, number_after, ticket_after, o
 
 module _ {T R : Type 0} (k : Ghosts T R) (seats : ℕ) (start : List R) where
   -- the history goes on with the turn that was made
-  pub notes : (slots id new : ℕ) (me : Me T (View R)) (x : T) (t : StripeTurn R) → me.0.stage ≡ holding → me.1 ≡ (0, x) ∷ [] → k.turns x ≡ me.0.sight.seen ++ t ∷ [] → HasNumber me.0.owned t.worker → new ≡ length (k.turns x)
+  pub notes : (slots id new : ℕ) (me : Me T (View R)) (x : T) (t : StripeTurn R) → me.0.stage ≡ holding → me.1 ≡ (0, x) ∷ [] → me.0.sight.told ≡ me.0.sight.seen → k.turns x ≡ me.0.sight.seen ++ t ∷ [] → HasNumber me.0.owned t.worker → new ≡ length (k.turns x)
       → Allows (Rule k seats start) slots id me 3 (λ _. new) (λ _. noted k (step slots 3 new 0 none) me new)
-  notes slots id new me x t st held grown own count s r deep at _ = let v = me.0 in let c = r.c in let log : List (StripeTurn R) = k.turns x in
+  notes slots id new me x t st held told grown own count s r deep at _ = let v = me.0 in let c = r.c in let log : List (StripeTurn R) = k.turns x in
       let w : View R = record v { sight = record v.sight { seen = log }; owned = with_places log v.owned } in let known = r.each_view id v at in
       let c' : Course R = record c { log = log } in let all = known.holds st in
       let now : log ≡ c.log ++ t ∷ [] = grown ∙ ap (λ (g : Sight R). g.seen ++ t ∷ []) all in let more : IsPrefix c.log log = (t ∷ [], sym now) in let still = still_seen k seats start c c' more (prefix_same c.told) (omega arith) in
+      let near : length log ≤ length c.told + 1 = let all_told : c.told ≡ c.log = sym (ap (λ (g : Sight R). g.told) all) ∙ (told ∙ ap (λ (g : Sight R). g.seen) all) in
+      let longer_by : length log ≡ length c.log + 1 = ap length now ∙ length-append c.log (t ∷ []) in let as_long = ap length all_told in omega arith in
       let mine = owns_owner seats c id t.worker v.owned known.owned own in
       let wide = r.words.wide in let out = r.out in let weights = r.weights in let parts = known.parts in let heavy : weight w ≡ weight v = length-noted log v.owned in
       let ts = total_set tickets s.views id v w at in let cs = total_set weight s.views id v w at in (
@@ -39,6 +41,7 @@ module _ {T R : Type 0} (k : Ghosts T R) (seats : ℕ) (start : List R) where
           };
           top_is = r.top_is;
           told = prefix_more c.told c.log log r.told more;
+          near = near;
           out = omega arith;
           weights = omega arith;
           few = r.few;
@@ -96,6 +99,7 @@ module _ {T R : Type 0} (k : Ghosts T R) (seats : ℕ) (start : List R) where
           };
           top_is = now;
           told = prefix_same c.log;
+          near = omega arith;
           out = omega arith;
           weights = omega arith;
           few = r.few;

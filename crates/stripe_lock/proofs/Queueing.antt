@@ -37,6 +37,7 @@ module _ {T R : Type 0} (k : Ghosts T R) (seats : ℕ) (start : List R) where
           };
           top_is = r.top_is;
           told = r.told;
+          near = r.near;
           out = omega arith;
           weights = omega arith;
           few = r.few;
@@ -175,6 +176,7 @@ module _ {T R : Type 0} (k : Ghosts T R) (seats : ℕ) (start : List R) where
           };
           top_is = r.top_is;
           told = r.told;
+          near = r.near;
           out = omega arith;
           weights = omega arith;
           few = r.few;

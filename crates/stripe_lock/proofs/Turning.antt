@@ -13,7 +13,7 @@ use Rattle.stripe_lock.specs.Steps.{at_stage, with_sight, whole_sight, took}
 use Rattle.stripe_lock.specs.Passes.{pass_of, Rests}
 use Rattle.stripe_lock.specs.Turns.{Turned}
 use Rattle.stripe_lock.specs.Working.{published, InHand, Works}
-use Rattle.stripe_lock.proofs.Histories.{prefix_more, length-noted, first_number-noted, first_places-noted}
+use Rattle.stripe_lock.proofs.Histories.{length-noted, first_number-noted, first_places-noted}
 
 module _ {T R : Type 0} (k : Ghosts T R) where
   -- the view with the state x in hand
@@ -60,7 +60,7 @@ module _ {T R : Type 0} (k : Ghosts T R) where
           owned = owned ∙ ap (λ (z : List (StripeTurn R)). with_places z v.owned) (sym seen);
           mine = ap first_places (owned ∙ ap (λ (z : List (StripeTurn R)). with_places z v.owned) d.turn.added) ∙ first_places-noted (k.turns x) d.turn.turn v.owned some_weight (d.turn.worker_is ∙ own) h.known;
           told = told ∙ sym seen;
-          higher = (subst (IsPrefix v.sight.told) (sym told) (prefix_more v.sight.told (k.turns x) (k.turns y) h.told (d.turn.turn ∷ [], sym d.turn.added)), omega arith);
+          higher = (h.told, omega arith);
           floor = low ∙ (d.floor_is ∙ (λ i. k.floor_of (kept i) (sym told i)));
         }
 

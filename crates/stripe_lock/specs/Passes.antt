@@ -32,6 +32,12 @@ module _ {R : Type 0} where
   view_of [] = spent
   view_of (v ∷ vs) = v
 
+  -- a pass that waits for nothing, and was not joined into another
+  pub record IsResting (views : List (View R)) : Type 0 where
+    pub one : views ≡ view_of views ∷ []
+    pub idle : (view_of views).stage ≡ outside
+    pub some_weight : 0 < length (view_of views).owned
+
   -- a pass between two calls, which has this number and weight at run time
   pub record Rests (number weight : ℕ) (views : List (View R)) : Type 0 where
     pub one : views ≡ view_of views ∷ []

@@ -106,6 +106,7 @@ module _ {T R : Type 0} (k : Ghosts T R) where
     pub words : AreWords c s.words
     pub top_is : c.top ≡ k.floor_of start c.told
     pub told : IsPrefix c.told c.log
+    pub near : length c.log ≤ length c.told + 1
     pub out : c.served + total tickets s.views ≡ c.drawn
     pub weights : total weight s.views ≡ seats
     pub few : seats ≤ 64

@@ -1,6 +1,6 @@
 -- What a pass learns at each step.
 use Rattle.std.specs.Prelude.{◌≡◌, ◌≢◌, ℕ, ◌%◌, ◌≤◌, List, [], ◌∷◌, ◌++◌, length, drop, take}
-use mathlib.Core.List.{IsPrefix}
+use mathlib.Core.List.{IsPrefix, drop_last}
 use Rattle.atomic_table.specs.Table.{Me, Step}
 use Rattle.stripe_lock.specs.declared.kept.KeptState.{Ghosts}
 use Rattle.stripe_lock.specs.declared.view.StripeTurn.{StripeTurn}
@@ -72,10 +72,10 @@ module _ {T R : Type 0} where
   abbrev pub raised : Step T → Holder T R → ℕ → Holder T R → Type 0
   raised st m n m' = m' ≡ (with_sight (whole_sight m.0.sight.chronicle m.0.sight.seen st.first) m.0, m.1)
 
-  -- the history so far is seen, which is as long as the count, and has under its numbers the turns that are known
+  -- the history so far is seen, which is as long as the count, and begins with all that was told
   abbrev pub saw : Step T → Holder T R → ℕ → Holder T R → Type 0
   saw st m n m' = (log : List (StripeTurn R)) × (m' ≡ (with_sight (record m.0.sight { seen = log }) m.0, m.1)) × (n ≡ length log)
-      × IsPrefix m.0.sight.seen log × HasJust log m.0.owned
+      × IsPrefix m.0.sight.seen log × IsPrefix m.0.sight.told log × HasJust log m.0.owned
 
   module _ (k : Ghosts T R) where
     -- the state is in hand, and with it all that it tells
@@ -89,10 +89,10 @@ module _ {T R : Type 0} where
     noted st m n m' = (m'.1 ≡ m.1) × ((x : T) → m.1 ≡ (0, x) ∷ []
         → m'.0 ≡ record m.0 { sight = record m.0.sight { seen = k.turns x }; owned = with_places (k.turns x) m.0.owned })
 
-    -- the floor is seen, which was published behind more turns than had been told
+    -- the floor is seen, which was published behind all turns that had been told, and all that were seen but perhaps the last
     abbrev pub lowered : Step T → Holder T R → ℕ → Holder T R → Type 0
     lowered st m n m' = (told : List (StripeTurn R)) × (m' ≡ (with_sight (record m.0.sight { told = told; floor = n }) m.0, m.1))
-        × (n ≡ k.floor_of m.0.sight.chronicle told) × IsPrefix m.0.sight.told told × (m.0.sight.floor ≤ n)
+        × (n ≡ k.floor_of m.0.sight.chronicle told) × IsPrefix m.0.sight.told told × IsPrefix (drop_last m.0.sight.seen) told × (m.0.sight.floor ≤ n)
 
     -- the floor is seen, and what either of two joined passes had seen begins the longer of the two
     abbrev pub settled : Step T → Holder T R → ℕ → Holder T R → Type 0

@@ -1,6 +1,6 @@
 -- What the calls of a lock do to a pass.
 use Rattle.std.specs.Prelude.{◌≡◌, ℕ, ◌≤◌, List, [], ◌∷◌, ◌++◌, length}
-use mathlib.Core.List.{IsPrefix}
+use mathlib.Core.List.{IsPrefix, drop_last}
 use Rattle.stripe_lock.specs.declared.kept.KeptState.{Ghosts}
 use Rattle.stripe_lock.specs.declared.view.StripeTurn.{StripeTurn}
 use Rattle.stripe_lock.specs.History.{AddsTurn, HasJust, with_places, AreUnder, longer, first_number, first_places}
@@ -20,7 +20,7 @@ module _ {T R : Type 0} (k : Ghosts T R) where
     pub owned : new.owned ≡ with_places new.seen old.owned
     pub mine : first_places new.owned ≡ first_places old.owned ++ length before ∷ []
     pub told : new.told ≡ new.seen
-    pub higher : IsPrefix old.told new.told × (old.floor ≤ new.floor)
+    pub higher : IsPrefix old.told before × (old.floor ≤ new.floor)
     pub floor : new.floor ≡ k.floor_of new.chronicle new.told
 
   -- The history goes on where it had been seen, with no turn under a number of the pass but those that it knew. The pass knows it and its floor
@@ -35,11 +35,12 @@ module _ {T R : Type 0} (k : Ghosts T R) where
     pub higher : IsPrefix old.told new.told × (old.floor ≤ new.floor)
     pub floor : new.floor ≡ k.floor_of new.chronicle new.told
 
-  -- the floor was published behind more turns than had been told to the pass, and did not fall; nothing else changes
+  -- the floor did not fall. It was published behind all turns that had been told to the pass, and all that it has seen but perhaps the last; nothing else changes
   pub record SeesFloor (old new : PassState R) (floor : ℕ) : Type 0 where
     pub same : new ≡ record old { told = new.told; floor = floor }
     pub floor_is : floor ≡ k.floor_of old.chronicle new.told
     pub later : IsPrefix old.told new.told
+    pub fresh : IsPrefix (drop_last old.seen) new.told
     pub higher : old.floor ≤ floor
 
   -- a pass has the numbers of both, and has seen what either had seen, and a floor that is not below those of either
@@ -64,5 +65,6 @@ module _ {T R : Type 0} (k : Ghosts T R) where
 pub record SeesCount {R : Type 0} (old new : PassState R) (count : ℕ) : Type 0 where
   pub same : new ≡ record old { seen = new.seen }
   pub later : IsPrefix old.seen new.seen
+  pub fresh : IsPrefix old.told new.seen
   pub counted : count ≡ length new.seen
   pub known : HasJust new.seen new.owned

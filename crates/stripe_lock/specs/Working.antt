@@ -49,6 +49,7 @@ module _ {T R : Type 0} (k : Ghosts T R) where
     pub turn : StripeTurn R
     pub carried : m.1 ≡ (0, x) ∷ []
     pub stage : m.0.stage ≡ holding
+    pub told : m.0.sight.told ≡ m.0.sight.seen
     pub added : k.turns x ≡ m.0.sight.seen ++ turn ∷ []
     pub own : HasNumber m.0.owned turn.worker
     pub counted : count ≡ length (k.turns x)

@@ -1,11 +1,8 @@
 //! The table of a lock, and the parts of a turn. A seat is a pass in its turn, a badge one that rests.
 ghost use Rattle.std.specs.Prelude.{◌≡◌, ◌%◌, ◌<◌, ◌≤◌, ◌∷◌, [], List, length, MatchResult, IfOk, IfErr, vec_len, vec_capacity};
-ghost use mathlib.Core.List.{IsPrefix};
-ghost use Rattle.stripe_lock.specs.declared.view.StripeTurn.{StripeTurn};
-ghost use Rattle.stripe_lock.specs.History.{HasJust};
 ghost use Rattle.stripe_lock.specs.Rule.{outside, waiting, called, weight};
-ghost use Rattle.stripe_lock.specs.Steps.{at_stage, with_sight, opener};
-ghost use Rattle.stripe_lock.specs.Passes.{pass_of, view_of, dealt, Rests};
+ghost use Rattle.stripe_lock.specs.Steps.{at_stage, opener};
+ghost use Rattle.stripe_lock.specs.Passes.{pass_of, view_of, dealt, Rests, IsResting};
 ghost use Rattle.stripe_lock.specs.Turns.{Turned, LookedIn, SeesCount, SeesFloor, Joins, Ends};
 ghost use Rattle.stripe_lock.specs.Working.{InHand, KeepsTurns, Works, MayPublish, MayLeave, published};
 
@@ -35,7 +32,8 @@ const FLOOR: usize = 4;
 pub struct Gate<T: KeptState> {
     pub(crate) table: Table<T, View<T::Record>, About<T>, Line, Global>,
     pub(crate) seats: u32,
-    ghost sized: { (table.shared.table_id.words ≡ 5) × (table.shared.table_id.slots ≡ 1) × (table.shared.key.seats ≡ seats) },
+    ghost sized: { (table.shared.table_id.words ≡ 5) × (table.shared.table_id.slots ≡ 1)
+        × (table.shared.key.seats ≡ seats) },
 }
 
 /// What a turn made: its answer, and the count and the floor behind it.
@@ -52,8 +50,10 @@ fn run_in<T: KeptState, J: Job<T>>(
     worker: u32,
 ) -> Result<Made<J::Answer>, AllocError>
     requires { T.is_sound state.old }
-    ensures done { IfOk result (λ r. Works T.KeptState (J.number job.old) (J.fits job.old job.new) worker state.old state.new r.answer r.count r.floor) }
-    ensures short { IfErr result (λ _. KeepsTurns T.KeptState state.old state.new × (job.new ≡ job.old)) }
+    ensures done { IfOk result (λ r. Works T.KeptState (J.number job.old) (J.fits job.old job.new)
+        worker state.old state.new r.answer r.count r.floor) }
+    ensures short { IfErr result (λ _. KeepsTurns T.KeptState state.old state.new
+        × (job.new ≡ job.old)) }
 {
     let room = state.make_room();
     state.has_legal_turns();
@@ -77,8 +77,10 @@ impl<T: KeptState> Gate<T> {
         requires seats { seats ≤ 64 }
         requires blank { T.turns state ≡ [] }
         requires sound { T.is_sound state }
-        ensures gate { IfOk result (λ r. (r.0.seats ≡ seats) × (r.1.table_id ≡ r.0.table.shared.table_id)) }
-        ensures seat { IfOk result (λ r. r.1.me ≡ (opener seats (T.chronicle state) (T.floor_of (T.chronicle state) []), [])) }
+        ensures gate { IfOk result (λ r. (r.0.seats ≡ seats)
+            × (r.1.table_id ≡ r.0.table.shared.table_id)) }
+        ensures seat { IfOk result (λ r. r.1.me
+            ≡ (opener seats (T.chronicle state) (T.floor_of (T.chronicle state) []), [])) }
         ensures back { IfErr result (λ e. e.1 ≡ state) }
     {
         let about = About {
@@ -104,10 +106,13 @@ impl<T: KeptState> Gate<T> {
     /// Cuts the first seat into passes.
     pub fn deal(&self, seat: Seat<T, View<T::Record>>, passes: &mut Vec<Pass<T::Record>>)
         requires table { seat.table_id ≡ self.now.table.shared.table_id }
-        requires first { seat.me ≡ (opener self.now.seats seat.me.0.sight.chronicle seat.me.0.sight.floor, []) }
+        requires first { let g = seat.me.0.sight in
+            seat.me ≡ (opener self.now.seats g.chronicle g.floor, []) }
         requires seats { (0 < self.now.seats) × (self.now.seats ≤ 64) }
-        requires room { (passes.old.items ≡ []) × (vec_len passes.old ≡ 0) × (self.now.seats ≤ vec_capacity passes.old) }
-        ensures { passes.new.items ≡ dealt self.now.table.shared.table_id seat.me.0.sight.chronicle seat.me.0.sight.floor 0 self.now.seats }
+        requires room { (passes.old.items ≡ []) × (vec_len passes.old ≡ 0)
+            × (self.now.seats ≤ vec_capacity passes.old) }
+        ensures { let g = seat.me.0.sight in passes.new.items
+            ≡ dealt self.now.table.shared.table_id g.chronicle g.floor 0 self.now.seats }
     {
         let mut seat = seat;
         let last = self.seats - 1;
@@ -131,7 +136,8 @@ impl<T: KeptState> Gate<T> {
     // Waits until its ticket is called, asleep while another is served.
     fn await_turn<H: Wait>(&self, rt: &H, seat: &mut Seat<T, View<T::Record>>, ticket: u64)
         requires table { seat.old.table_id ≡ self.now.table.shared.table_id }
-        requires waits { (seat.old.me.0.stage ≡ waiting) × (ticket ≡ seat.old.me.0.ticket % 18446744073709551616) }
+        requires waits { (seat.old.me.0.stage ≡ waiting)
+            × (ticket ≡ seat.old.me.0.ticket % 18446744073709551616) }
         ensures seat { (seat.new.table_id ≡ seat.old.table_id) × (seat.new.id ≡ seat.old.id) }
         ensures turn { seat.new.me ≡ (at_stage called seat.old.me.0, seat.old.me.1) }
     {
@@ -150,7 +156,8 @@ impl<T: KeptState> Gate<T> {
     // Draws a ticket, waits until it is called, and takes the state in hand.
     fn enter<H: Wait>(&self, rt: &H, seat: &mut Seat<T, View<T::Record>>)
         requires table { seat.old.table_id ≡ self.now.table.shared.table_id }
-        requires idle { (seat.old.me.0.stage ≡ outside) × (seat.old.me.1 ≡ []) × (0 < weight seat.old.me.0) }
+        requires idle { (seat.old.me.0.stage ≡ outside) × (seat.old.me.1 ≡ [])
+            × (0 < weight seat.old.me.0) }
         ensures seat { (seat.new.table_id ≡ seat.old.table_id) × (seat.new.id ≡ seat.old.id) }
         ensures hand { (x : T) × InHand T.KeptState seat.old.me.0 seat.new.me x }
     {
@@ -168,8 +175,12 @@ impl<T: KeptState> Gate<T> {
     ) -> Result<Made<J::Answer>, AllocError>
         requires table { seat.old.table_id ≡ self.now.table.shared.table_id }
         requires hand { (x : T) × (seat.old.me.1 ≡ (0, x) ∷ []) × T.is_sound x }
-        ensures seat { (seat.new.table_id ≡ seat.old.table_id) × (seat.new.id ≡ seat.old.id) × (seat.new.me.0 ≡ seat.old.me.0) }
-        ensures done { (x : T) → seat.old.me.1 ≡ (0, x) ∷ [] → (y : T) × (seat.new.me.1 ≡ (0, y) ∷ []) × MatchResult result (λ r. Works T.KeptState (J.number job.old) (J.fits job.old job.new) worker x y r.answer r.count r.floor) (λ _. KeepsTurns T.KeptState x y × (job.new ≡ job.old)) }
+        ensures seat { (seat.new.table_id ≡ seat.old.table_id) × (seat.new.id ≡ seat.old.id)
+            × (seat.new.me.0 ≡ seat.old.me.0) }
+        ensures done { (x : T) → seat.old.me.1 ≡ (0, x) ∷ [] → (y : T) × (seat.new.me.1 ≡ (0, y) ∷ [])
+            × MatchResult result (λ r. Works T.KeptState (J.number job.old) (J.fits job.old job.new)
+            worker x y r.answer r.count r.floor)
+            (λ _. KeepsTurns T.KeptState x y × (job.new ≡ job.old)) }
     {
         let state = seat.slot_mut(&self.table.shared, 0);
         run_in(state, job, worker)
@@ -179,8 +190,10 @@ impl<T: KeptState> Gate<T> {
     fn publish(&self, seat: &mut Seat<T, View<T::Record>>, count: u64, floor: u64)
         requires table { seat.old.table_id ≡ self.now.table.shared.table_id }
         requires turn { MayPublish T.KeptState seat.old.me count floor }
-        ensures seat { (seat.new.table_id ≡ seat.old.table_id) × (seat.new.id ≡ seat.old.id) × (seat.new.me.1 ≡ seat.old.me.1) }
-        ensures view { (x : T) → seat.old.me.1 ≡ (0, x) ∷ [] → seat.new.me.0 ≡ published (T.turns x) floor seat.old.me.0 }
+        ensures seat { (seat.new.table_id ≡ seat.old.table_id) × (seat.new.id ≡ seat.old.id)
+            × (seat.new.me.1 ≡ seat.old.me.1) }
+        ensures view { (x : T) → seat.old.me.1 ≡ (0, x) ∷ []
+            → seat.new.me.0 ≡ published (T.turns x) floor seat.old.me.0 }
     {
         self.table.shared.store::<Note>(seat, COUNT, count);
         self.table.shared.fetch_max::<Raise>(seat, FLOOR, floor);
@@ -209,8 +222,12 @@ impl<T: KeptState> Gate<T> {
         requires table { badge.table_id ≡ self.now.table.shared.table_id }
         requires rests { Rests number (weight (view_of badge.views) % 4294967296) badge.views }
         ensures rests { Rests number (weight (view_of badge.views) % 4294967296) result.0.views }
-        ensures done { IfOk result.1 (λ r. Turned T.KeptState (J.number job.old) (J.fits job.old job.new) (pass_of badge.table_id (view_of badge.views)) (pass_of result.0.table_id (view_of result.0.views)) r.0 r.1) }
-        ensures short { IfErr result.1 (λ _. LookedIn T.KeptState (pass_of badge.table_id (view_of badge.views)) (pass_of result.0.table_id (view_of result.0.views)) × (job.new ≡ job.old)) }
+        ensures done { IfOk result.1 (λ r. Turned T.KeptState (J.number job.old)
+            (J.fits job.old job.new) (pass_of badge.table_id (view_of badge.views))
+            (pass_of result.0.table_id (view_of result.0.views)) r.0 r.1) }
+        ensures short { IfErr result.1 (λ _. LookedIn T.KeptState
+            (pass_of badge.table_id (view_of badge.views))
+            (pass_of result.0.table_id (view_of result.0.views)) × (job.new ≡ job.old)) }
     {
         let mut seat = badge.into_seat::<T>();
         self.enter(rt, &mut seat);
@@ -236,10 +253,11 @@ impl<T: KeptState> Gate<T> {
     /// Looks at the count.
     pub fn look(&self, badge: Badge<View<T::Record>>) -> (Badge<View<T::Record>>, u64)
         requires table { badge.table_id ≡ self.now.table.shared.table_id }
-        requires rests { (badge.views ≡ view_of badge.views ∷ []) × ((view_of badge.views).stage ≡ outside) × (0 < weight (view_of badge.views)) }
-        ensures { (log : List (StripeTurn T.Record)) × (result.0.table_id ≡ badge.table_id)
-            × (result.0.views ≡ with_sight (record (view_of badge.views).sight { seen = log }) (view_of badge.views) ∷ [])
-            × (result.1 ≡ length log) × IsPrefix (view_of badge.views).sight.seen log × HasJust log (view_of badge.views).owned }
+        requires rests { IsResting badge.views }
+        ensures rests { IsResting result.0.views }
+        ensures same { (view_of result.0.views).owned ≡ (view_of badge.views).owned }
+        ensures sees { SeesCount (pass_of badge.table_id (view_of badge.views))
+            (pass_of result.0.table_id (view_of result.0.views)) result.1 }
     {
         let mut seat = badge.into_seat::<T>();
         let count = self.table.shared.load::<See>(&mut seat, COUNT);
@@ -249,11 +267,11 @@ impl<T: KeptState> Gate<T> {
     /// Looks at the floor.
     pub fn look_down(&self, badge: Badge<View<T::Record>>) -> (Badge<View<T::Record>>, u64)
         requires table { badge.table_id ≡ self.now.table.shared.table_id }
-        requires rests { (badge.views ≡ view_of badge.views ∷ []) × ((view_of badge.views).stage ≡ outside) × (0 < weight (view_of badge.views)) }
-        ensures { (told : List (StripeTurn T.Record)) × (result.0.table_id ≡ badge.table_id)
-            × (result.0.views ≡ with_sight (record (view_of badge.views).sight { told = told; floor = result.1 }) (view_of badge.views) ∷ [])
-            × (result.1 ≡ T.floor_of (view_of badge.views).sight.chronicle told) × IsPrefix (view_of badge.views).sight.told told
-            × ((view_of badge.views).sight.floor ≤ result.1) }
+        requires rests { IsResting badge.views }
+        ensures rests { IsResting result.0.views }
+        ensures same { (view_of result.0.views).owned ≡ (view_of badge.views).owned }
+        ensures sees { SeesFloor T.KeptState (pass_of badge.table_id (view_of badge.views))
+            (pass_of result.0.table_id (view_of result.0.views)) result.1 }
     {
         let mut seat = badge.into_seat::<T>();
         let floor = self.table.shared.load::<Low>(&mut seat, FLOOR);
@@ -266,12 +284,16 @@ impl<T: KeptState> Gate<T> {
         badge: Badge<View<T::Record>>,
         other: Badge<View<T::Record>>,
     ) -> Badge<View<T::Record>>
-        requires table { (badge.table_id ≡ self.now.table.shared.table_id) × (other.table_id ≡ self.now.table.shared.table_id) }
-        requires rests { (badge.views ≡ view_of badge.views ∷ []) × ((view_of badge.views).stage ≡ outside) × (0 < weight (view_of badge.views)) }
-        requires other { (other.views ≡ view_of other.views ∷ []) × ((view_of other.views).stage ≡ outside) × (0 < weight (view_of other.views)) }
+        requires table { (badge.table_id ≡ self.now.table.shared.table_id)
+            × (other.table_id ≡ self.now.table.shared.table_id) }
+        requires rests { IsResting badge.views }
+        requires other { IsResting other.views }
         ensures table { result.table_id ≡ badge.table_id }
-        ensures rests { (result.views ≡ view_of result.views ∷ []) × ((view_of result.views).stage ≡ outside) }
-        ensures joins { Joins T.KeptState (pass_of badge.table_id (view_of badge.views)) (pass_of other.table_id (view_of other.views)) (pass_of result.table_id (view_of result.views)) }
+        ensures rests { (result.views ≡ view_of result.views ∷ [])
+            × ((view_of result.views).stage ≡ outside) }
+        ensures joins { Joins T.KeptState (pass_of badge.table_id (view_of badge.views))
+            (pass_of other.table_id (view_of other.views))
+            (pass_of result.table_id (view_of result.views)) }
     {
         let mut seat = badge.into_seat::<T>();
         self.table
@@ -284,7 +306,7 @@ impl<T: KeptState> Gate<T> {
     /// Takes the table apart, where the pass has all numbers.
     pub fn open(self, badge: Badge<View<T::Record>>) -> T
         requires table { badge.table_id ≡ self.table.shared.table_id }
-        requires rests { (badge.views ≡ view_of badge.views ∷ []) × ((view_of badge.views).stage ≡ outside) × (0 < weight (view_of badge.views)) }
+        requires rests { IsResting badge.views }
         requires all { weight (view_of badge.views) % 4294967296 ≡ self.seats }
         ensures ends { Ends T.KeptState (pass_of badge.table_id (view_of badge.views)) result }
         ensures weight { weight (view_of badge.views) ≡ self.seats }

@@ -13,14 +13,14 @@ join_seat-requires g c = let mine = ap view_of c.into_seat-seat.ensures.2 in let
   search rules,
   search rules,
   search rules,
-  joins g.T.KeptState _ _ _ _ _ _ (subst (λ (v : View _). 0 < weight v) mine c.requires.rests.2) (subst (λ (v : View _). 0 < weight v) theirs c.requires.other.2)
-      (ap (λ (v : View _). v.stage) (sym mine) ∙ c.requires.rests.1) (ap (λ (v : View _). v.stage) (sym theirs) ∙ c.requires.other.1),
+  joins g.T.KeptState _ _ _ _ _ _ (subst (λ (v : View _). 0 < weight v) mine c.requires.rests.some_weight) (subst (λ (v : View _). 0 < weight v) theirs c.requires.other.some_weight)
+      (ap (λ (v : View _). v.stage) (sym mine) ∙ c.requires.rests.idle) (ap (λ (v : View _). v.stage) (sym theirs) ∙ c.requires.other.idle),
 )
 
 pub load-requires : goal.load-requires
 load-requires g c = let mine = ap view_of c.into_seat-seat.ensures.2 in let joined = ap (λ m. m.0) c.join_seat.ensures.2 in (
   search rules,
   search rules,
-  settles g.T.KeptState _ _ _ _ _ (ap (λ (v : View _). v.stage) joined ∙ (ap (λ (v : View _). v.stage) (sym mine) ∙ c.requires.rests.1))
-      (subst (λ (v : View _). 0 < weight v) (sym joined) (some_more _ _ (subst (λ (v : View _). 0 < weight v) mine c.requires.rests.2))),
+  settles g.T.KeptState _ _ _ _ _ (ap (λ (v : View _). v.stage) joined ∙ (ap (λ (v : View _). v.stage) (sym mine) ∙ c.requires.rests.idle))
+      (subst (λ (v : View _). 0 < weight v) (sym joined) (some_more _ _ (subst (λ (v : View _). 0 < weight v) mine c.requires.rests.some_weight))),
 )

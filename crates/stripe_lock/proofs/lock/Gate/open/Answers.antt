@@ -14,7 +14,7 @@ out : (g : _) (c : goal.After-free g) → (x : g.row.T.Denot) × (get_elem? (slo
     × Ends g.T.KeptState (pass_of c.args.badge.table_id c.into_seat.result.me.0) x × (weight c.into_seat.result.me.0 ≡ c.args.self.table.shared.key.seats)
 out g c = let is = ap view_of c.into_seat.ensures.2 in
     closes g.T.KeptState c.args.self.table.shared.key.seats _ _ _ _ _ c.args.badge.table_id (ap (λ (v : View _). weight v % 4294967296) (sym is) ∙ (c.requires.all ∙ (search rules)))
-    (subst (λ (v : View _). 0 < weight v) is c.requires.rests.2) (ap (λ (v : View _). v.stage) (sym is) ∙ c.requires.rests.1) c.close_with-closed.ensures.values.2
+    (subst (λ (v : View _). 0 < weight v) is c.requires.rests.some_weight) (ap (λ (v : View _). v.stage) (sym is) ∙ c.requires.rests.idle) c.close_with-closed.ensures.values.2
 
 pub returns-clause-ends : goal.returns-clause-ends
 returns-clause-ends g c = let f = out g c in let is = ap view_of c.into_seat.ensures.2 in let same : f.0 ≡ c.take-state.result = some-injective _ _ (sym f.1 ∙ c.take-state.ensures.value) in

@@ -4,7 +4,7 @@ use Rattle.stripe_lock.proofs.Publishing.{notes, raises}
 use Rattle.stripe_lock.proofs.lock.Gate.publish.Goals as goal
 
 pub store-requires : goal.store-requires
-store-requires g c = let h = c.requires.turn in (search rules, search rules, notes g.T.KeptState _ _ _ _ _ _ h.x h.turn h.stage h.carried h.added h.own h.counted)
+store-requires g c = let h = c.requires.turn in (search rules, search rules, notes g.T.KeptState _ _ _ _ _ _ h.x h.turn h.stage h.carried h.told h.added h.own h.counted)
 
 pub fetch_max-requires : goal.fetch_max-requires
 fetch_max-requires g c = let h = c.requires.turn in let noted = c.store.ensures.2.1 h.x h.carried in (
