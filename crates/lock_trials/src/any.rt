@@ -38,7 +38,8 @@ fn once<T: KeptState, J: Job<T>, H: Wait>(
 ) -> Outcome<T::Record, J::Answer>
     requires { pass.lock ≡ lock.now.lock }
     ensures lock { result.pass.lock ≡ lock.now.lock }
-    ensures turned { (after : J) × IfOk result.answer (λ r. Turned T.KeptState (J.number job.old) (J.fits job.old after) pass result.pass r.0 r.1) }
+    ensures turned { (after : J) × IfOk result.answer (λ r.
+        Turned T.KeptState (J.number job.old) (J.fits job.old after) pass result.pass r.0 r.1) }
 {
     let answer = lock.with(rt, &mut pass, job);
     Outcome { pass, answer }
@@ -60,8 +61,10 @@ pub fn once_each<
 ) -> (Outcome<T::Record, A>, Outcome<T::Record, A>)
     requires { (first.lock ≡ lock.now.lock) × (second.lock ≡ lock.now.lock) }
     ensures lock { (result.0.pass.lock ≡ lock.now.lock) × (result.1.pass.lock ≡ lock.now.lock) }
-    ensures first { (after : J) × IfOk result.0.answer (λ r. Turned T.KeptState (J.number a.old) (J.fits a.old after) first result.0.pass r.0 r.1) }
-    ensures second { (after : J) × IfOk result.1.answer (λ r. Turned T.KeptState (J.number b.old) (J.fits b.old after) second result.1.pass r.0 r.1) }
+    ensures first { (after : J) × IfOk result.0.answer (λ r.
+        Turned T.KeptState (J.number a.old) (J.fits a.old after) first result.0.pass r.0 r.1) }
+    ensures second { (after : J) × IfOk result.1.answer (λ r.
+        Turned T.KeptState (J.number b.old) (J.fits b.old after) second result.1.pass r.0 r.1) }
 {
     join(
         rt,
@@ -86,8 +89,10 @@ pub fn both_stand<
     b: &mut J,
 ) -> Option<(T, u64, u64)>
     requires { (first.lock ≡ lock.lock) × (second.lock ≡ lock.lock) }
-    ensures first { IfSome result (λ r. StandsAt (T.turns r.0) (first_number first.owned) (J.number a.old) r.1) }
-    ensures second { IfSome result (λ r. StandsAt (T.turns r.0) (first_number second.owned) (J.number b.old) r.2) }
+    ensures first { IfSome result (λ r.
+        StandsAt (T.turns r.0) (first_number first.owned) (J.number a.old) r.1) }
+    ensures second { IfSome result (λ r.
+        StandsAt (T.turns r.0) (first_number second.owned) (J.number b.old) r.2) }
 {
     let (one, two) = once_each(rt, &lock, first, second, a, b);
     let Outcome {

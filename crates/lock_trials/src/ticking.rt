@@ -30,9 +30,10 @@ pub fn tick_all<H: Wait>(
     requires fresh { pass.owned ≡ record { number = first_number pass.owned; places = [] } ∷ [] }
     ensures lock { IfOk result (λ r. r.pass.lock ≡ lock.now.lock) }
     ensures all { IfOk result (λ r. vec_len r.numbers ≡ ticks) }
-    ensures stand { IfOk result (λ r. StandFrom r.pass.seen (first_number pass.owned) 0 r.numbers.items) }
-    ensures owned { IfOk result (λ r. r.pass.owned
-        ≡ record { number = first_number pass.owned; places = map (λ n. n - 1) r.numbers.items } ∷ []) }
+    ensures stand { IfOk result (λ r.
+        StandFrom r.pass.seen (first_number pass.owned) 0 r.numbers.items) }
+    ensures owned { IfOk result (λ r. let places = map (λ n. n - 1) r.numbers.items in
+        r.pass.owned ≡ record { number = first_number pass.owned; places = places } ∷ []) }
 {
     let mut numbers = Vec::with_capacity(alloc, ticks as usize)?;
     for job in 0..ticks {
@@ -52,7 +53,8 @@ pub fn tick_both<H: Threads + Wait + Sync>(
     ensures ticks { IfSome result (λ r. (vec_len r.1 ≡ ticks) × (vec_len r.2 ≡ ticks)) }
     ensures first { IfSome result (λ r. StandFrom (turns_of r.0.rows.items) 0 0 r.1.items) }
     ensures second { IfSome result (λ r. StandFrom (turns_of r.0.rows.items) 1 0 r.2.items) }
-    ensures once { IfSome result (λ r. AreAllOf (turns_of r.0.rows.items) 0 r.1.items × AreAllOf (turns_of r.0.rows.items) 1 r.2.items) }
+    ensures once { IfSome result (λ r. AreAllOf (turns_of r.0.rows.items) 0 r.1.items
+        × AreAllOf (turns_of r.0.rows.items) 1 r.2.items) }
     ensures no_others { IfSome result (λ r. vec_len r.0.rows ≡ ticks + ticks) }
 {
     let Ok((lock, mut passes)) = SharedStripe::new(alloc, Tally::new(alloc), 2) else {

@@ -43,7 +43,8 @@ pub trait KeptState {
         requires { is_sound self.old }
         ensures room { OnOk result (has_room self.new) }
         ensures sound { is_sound self.new }
-        ensures same { (chronicle self.new ≡ chronicle self.old) × (turns self.new ≡ turns self.old) };
+        ensures same { (chronicle self.new ≡ chronicle self.old)
+            × (turns self.new ≡ turns self.old) };
 
     /// A sound state's history is legal.
     fn has_legal_turns(&self)
@@ -61,7 +62,8 @@ pub trait Job<T: KeptState> {
 
     /// What a job was and became fits a chronicle, the turns behind it, the job's own turn behind
     /// these, and the answer.
-    ghost fits: { Self → Self → List T.Record → List (StripeTurn T.Record) → StripeTurn T.Record → Self.Answer → Type 0 };
+    ghost fits: { Self → Self → List T.Record → List (StripeTurn T.Record)
+        → StripeTurn T.Record → Self.Answer → Type 0 };
 
     /// Adds exactly one turn to the state, of this worker.
     fn run(&mut self, state: &mut T, worker: u32) -> Self::Answer

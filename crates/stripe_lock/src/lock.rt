@@ -207,8 +207,11 @@ impl<T: KeptState> Gate<T> {
         ensures idle { seat.new.me ≡ (at_stage outside seat.old.me.0, []) }
     {
         self.table.shared.load::<Give>(seat, SERVING);
-        self.table.shared.fetch_add::<End>(seat, SERVING, 1);
-        self.table.shared.wake_all(SERVING);
+        let served = self.table.shared.fetch_add::<End>(seat, SERVING, 1);
+        // One who draws a ticket behind this look finds it called.
+        if self.table.shared.peek(TICKET) != served.wrapping_add(1) {
+            self.table.shared.wake_all(SERVING);
+        }
     }
 
     /// A whole turn, of a pass with this number.

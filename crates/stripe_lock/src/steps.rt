@@ -28,7 +28,8 @@ impl<T: KeptState> TableRule<T, View<T::Record>, About<T>> for Line {
 
     ghost holds = { λ key s. IsLocked T.KeptState key.seats (T.chronicle key.first.value) s };
 
-    ghost first = { λ key. opener key.seats (T.chronicle key.first.value) (T.floor_of (T.chronicle key.first.value) []) };
+    ghost first = { λ key. let start = T.chronicle key.first.value in
+        opener key.seats start (T.floor_of start []) };
 }
 
 /// Adds one to `passes`, before a pass is given.
