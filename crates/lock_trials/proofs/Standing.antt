@@ -9,14 +9,14 @@ use Rattle.stripe_lock.specs.Passes.{PassState}
 use Rattle.stripe_lock.specs.Turns.{Turned}
 use Rattle.lock_trials.specs.declared.tally.Row.{Row}
 use Rattle.lock_trials.specs.Rows.{turns_of, HaveOneRecord}
-use Rattle.lock_trials.specs.Standing.{StandsAt, StandFrom}
+use Rattle.lock_trials.specs.Standing.{TurnStandsAt, TurnsStandFrom}
 
 pub one_record : (rows : List Row) → HaveOneRecord (turns_of rows)
 one_record [] = tt
 one_record (r ∷ rs) = (refl, one_record rs)
 
 module _ {R : Type 0} where
-  pub stands_later : (a b : List (StripeTurn R)) (worker job number : ℕ) → IsPrefix a b → StandsAt a worker job number → StandsAt b worker job number
+  pub stands_later : (a b : List (StripeTurn R)) (worker job number : ℕ) → IsPrefix a b → TurnStandsAt a worker job number → TurnStandsAt b worker job number
   stands_later a b worker job number p s = record {
     before = s.before;
     turn = s.turn;
@@ -27,13 +27,13 @@ module _ {R : Type 0} where
     number_is = s.number_is;
   }
 
-  pub stand_later : (a b : List (StripeTurn R)) (worker k : ℕ) (ns : List ℕ) → IsPrefix a b → StandFrom a worker k ns → StandFrom b worker k ns
+  pub stand_later : (a b : List (StripeTurn R)) (worker k : ℕ) (ns : List ℕ) → IsPrefix a b → TurnsStandFrom a worker k ns → TurnsStandFrom b worker k ns
   stand_later a b worker k [] p s = tt
   stand_later a b worker k (n ∷ ns) p s = (stands_later a b worker k n p s.0, stand_later a b worker (suc k) ns p s.1)
 
-  pub stand-snoc : (a : List (StripeTurn R)) (worker k n : ℕ) (ns : List ℕ) → StandFrom a worker k ns → StandsAt a worker (k + length ns) n → StandFrom a worker k (ns ++ n ∷ [])
-  stand-snoc a worker k n [] s l = let same : k + 0 ≡ k = omega arith in (subst (λ (j : ℕ). StandsAt a worker j n) same l, tt)
-  stand-snoc a worker k n (m ∷ ns) s l = let same : k + suc (length ns) ≡ suc k + length ns = omega arith in (s.0, stand-snoc a worker (suc k) n ns s.1 (subst (λ (j : ℕ). StandsAt a worker j n) same l))
+  pub stand-snoc : (a : List (StripeTurn R)) (worker k n : ℕ) (ns : List ℕ) → TurnsStandFrom a worker k ns → TurnStandsAt a worker (k + length ns) n → TurnsStandFrom a worker k (ns ++ n ∷ [])
+  stand-snoc a worker k n [] s l = let same : k + 0 ≡ k = omega arith in (subst (λ (j : ℕ). TurnStandsAt a worker j n) same l, tt)
+  stand-snoc a worker k n (m ∷ ns) s l = let same : k + suc (length ns) ≡ suc k + length ns = omega arith in (s.0, stand-snoc a worker (suc k) n ns s.1 (subst (λ (j : ℕ). TurnStandsAt a worker j n) same l))
 
   -- a turn under a number without turns is none
   pub none_under : (n : ℕ) (turns : List (StripeTurn R)) → HasJust turns (record { number = n; places = [] } ∷ []) → AreUnder (record { number = n; places = [] } ∷ []) turns → turns ≡ []
@@ -60,7 +60,7 @@ module _ {R : Type 0} where
   counts_both p q ns ms turns apart h u = let all = count_under p q (map (λ n. n - 1) ns) (map (λ n. n - 1) ms) 0 turns apart u in let a = ap length h.0 in let b = ap length h.1.0 in omega (arith, length-map ns (λ n. n - 1), length-map ms (λ n. n - 1))
 
 module _ {T R A : Type 0} (k : Ghosts T R) (job : ℕ) (fits : List R → List (StripeTurn R) → StripeTurn R → A → Type 0) (old new : PassState R) (answer : A) (count : ℕ) where
-  pub stands : (log : List (StripeTurn R)) → Turned k job fits old new answer count → IsPrefix new.seen log → StandsAt log (first_number old.owned) job count
+  pub stands : (log : List (StripeTurn R)) → Turned k job fits old new answer count → IsPrefix new.seen log → TurnStandsAt log (first_number old.owned) job count
   stands log t p = record {
     before = t.before;
     turn = t.turn.turn;

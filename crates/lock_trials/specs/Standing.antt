@@ -5,7 +5,7 @@ use Rattle.stripe_lock.specs.History.{places_of}
 
 module _ {R : Type 0} where
   -- the turn with this number, from 1, is of this worker and job
-  pub record StandsAt (turns : List (StripeTurn R)) (worker job number : ℕ) : Type 0 where
+  pub record TurnStandsAt (turns : List (StripeTurn R)) (worker job number : ℕ) : Type 0 where
     pub before : List (StripeTurn R)
     pub turn : StripeTurn R
     pub after : List (StripeTurn R)
@@ -15,9 +15,9 @@ module _ {R : Type 0} where
     pub number_is : number ≡ length (before ++ turn ∷ [])
 
   -- the turns with these numbers are those of a worker's jobs k, k + 1 and so on
-  abbrev pub StandFrom : List (StripeTurn R) → ℕ → ℕ → List ℕ → Type 0
-  StandFrom turns worker k [] = Unit {0}
-  StandFrom turns worker k (n ∷ ns) = StandsAt turns worker k n × StandFrom turns worker (suc k) ns
+  abbrev pub TurnsStandFrom : List (StripeTurn R) → ℕ → ℕ → List ℕ → Type 0
+  TurnsStandFrom turns worker k [] = Unit {0}
+  TurnsStandFrom turns worker k (n ∷ ns) = TurnStandsAt turns worker k n × TurnsStandFrom turns worker (suc k) ns
 
   -- they are all turns of that worker
   abbrev pub AreAllOf : List (StripeTurn R) → ℕ → List ℕ → Type 0

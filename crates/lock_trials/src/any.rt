@@ -2,7 +2,7 @@
 ghost use Rattle.std.specs.Prelude.{◌≡◌, [], IfOk, IfErr, IfSome};
 ghost use Rattle.stripe_lock.specs.History.{first_number};
 ghost use Rattle.stripe_lock.specs.Turns.{Turned};
-ghost use Rattle.lock_trials.specs.Standing.{StandsAt};
+ghost use Rattle.lock_trials.specs.Standing.{TurnStandsAt};
 
 use std::alloc::{AllocError, Global};
 use std::sync::Wait;
@@ -90,9 +90,9 @@ pub fn both_stand<
 ) -> Option<(T, u64, u64)>
     requires { (first.lock ≡ lock.lock) × (second.lock ≡ lock.lock) }
     ensures first { IfSome result (λ r.
-        StandsAt (T.turns r.0) (first_number first.owned) (J.number a.old) r.1) }
+        TurnStandsAt (T.turns r.0) (first_number first.owned) (J.number a.old) r.1) }
     ensures second { IfSome result (λ r.
-        StandsAt (T.turns r.0) (first_number second.owned) (J.number b.old) r.2) }
+        TurnStandsAt (T.turns r.0) (first_number second.owned) (J.number b.old) r.2) }
 {
     let (one, two) = once_each(rt, &lock, first, second, a, b);
     let Outcome {

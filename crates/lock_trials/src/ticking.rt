@@ -3,7 +3,7 @@ ghost use Rattle.std.specs.Prelude.{◌≡◌, ◌+◌, ◌-◌, [], ◌∷◌, 
 ghost use mathlib.Core.List.{IsPrefix};
 ghost use Rattle.stripe_lock.specs.History.{first_number};
 ghost use Rattle.lock_trials.specs.Rows.{turns_of};
-ghost use Rattle.lock_trials.specs.Standing.{StandFrom, AreAllOf};
+ghost use Rattle.lock_trials.specs.Standing.{TurnsStandFrom, AreAllOf};
 
 use crate::tally::{Tally, Tick};
 use std::alloc::{AllocError, Global};
@@ -31,7 +31,7 @@ pub fn tick_all<H: Wait>(
     ensures lock { IfOk result (λ r. r.pass.lock ≡ lock.now.lock) }
     ensures all { IfOk result (λ r. vec_len r.numbers ≡ ticks) }
     ensures stand { IfOk result (λ r.
-        StandFrom r.pass.seen (first_number pass.owned) 0 r.numbers.items) }
+        TurnsStandFrom r.pass.seen (first_number pass.owned) 0 r.numbers.items) }
     ensures owned { IfOk result (λ r. let places = map (λ n. n - 1) r.numbers.items in
         r.pass.owned ≡ record { number = first_number pass.owned; places = places } ∷ []) }
 {
@@ -51,8 +51,8 @@ pub fn tick_both<H: Threads + Wait + Sync>(
     ticks: u64,
 ) -> Option<(Tally, Vec<u64>, Vec<u64>)>
     ensures ticks { IfSome result (λ r. (vec_len r.1 ≡ ticks) × (vec_len r.2 ≡ ticks)) }
-    ensures first { IfSome result (λ r. StandFrom (turns_of r.0.rows.items) 0 0 r.1.items) }
-    ensures second { IfSome result (λ r. StandFrom (turns_of r.0.rows.items) 1 0 r.2.items) }
+    ensures first { IfSome result (λ r. TurnsStandFrom (turns_of r.0.rows.items) 0 0 r.1.items) }
+    ensures second { IfSome result (λ r. TurnsStandFrom (turns_of r.0.rows.items) 1 0 r.2.items) }
     ensures once { IfSome result (λ r. AreAllOf (turns_of r.0.rows.items) 0 r.1.items
         × AreAllOf (turns_of r.0.rows.items) 1 r.2.items) }
     ensures no_others { IfSome result (λ r. vec_len r.0.rows ≡ ticks + ticks) }

@@ -10,11 +10,11 @@ use Rattle.atomic_table.specs.Seated.{TableId}
 use Rattle.stripe_lock.specs.declared.kept.KeptState.{Ghosts}
 use Rattle.stripe_lock.specs.declared.view.StripeTurn.{StripeTurn}
 use Rattle.stripe_lock.specs.declared.view.View.{View}
-use Rattle.stripe_lock.specs.History.{HasJust, HasNumber, AreUnder}
-use Rattle.stripe_lock.specs.Rule.{outside, holding, weight, tickets, NoneHolds, Course, IsSeen, Knows, IsHome, HomeIsPublished}
+use Rattle.stripe_lock.specs.History.{HasJust, OwnsNumber, AreUnder}
+use Rattle.stripe_lock.specs.Rule.{outside, holding, weight, tickets, NoneHolds, LockCourse, IsSeen, Knows, IsHome, HomeIsPublished}
 use Rattle.stripe_lock.specs.Steps.{opener}
 use Rattle.stripe_lock.specs.Passes.{pass_of}
-use Rattle.stripe_lock.specs.Turns.{Ends}
+use Rattle.stripe_lock.specs.Turns.{LockEnds}
 use Rattle.stripe_lock.proofs.Totals.{total_at, total_alone}
 use Rattle.stripe_lock.proofs.Histories.{prefix_same, owns_just, owns_unused, under_all, has_some, has_unused, length-unused}
 use Rattle.stripe_lock.proofs.Keeping.{one_view, Rule}
@@ -41,7 +41,7 @@ module _ {T R : Type 0} (k : Ghosts T R) (seats : ℕ) (start : List R) where
       first : View R
       first = opener seats start (k.floor_of start [])
 
-      c : Course R
+      c : LockCourse R
       c = record { log = []; told = []; top = k.floor_of start []; drawn = 0; served = 0; owner = λ _. 0; line = λ _. 0 }
 
       nothing : IsSeen k.floor_of start c first.sight
@@ -65,7 +65,7 @@ module _ {T R : Type 0} (k : Ghosts T R) (seats : ℕ) (start : List R) where
 
   -- what comes back where one pass has all numbers
   pub closes : (id : ℕ) (v : View R) (words : List ℕ) (slots : List T) (lock : TableId) → weight v % 4294967296 ≡ seats → 0 < weight v → v.stage ≡ outside → Final (Seen (Rule k seats start) id v) words slots
-      → (x : T) × (get_elem? slots 0 ≡ some x) × Ends k (pass_of lock v) x × (weight v ≡ seats)
+      → (x : T) × (get_elem? slots 0 ≡ some x) × LockEnds k (pass_of lock v) x × (weight v ≡ seats)
   closes id v words slots lock all' some_weight idle f = let s : State T (View R) = f.0 in let r : Rule k seats start s = f.1.0 in let at = f.1.1 in let c = r.c in let known = r.each_view id v at in let g = known.sight some_weight in
       let weights = r.weights in let most = total_at weight s.views id v at in let few = r.few in let all : weight v ≡ seats = omega arith in
       ⊎_elim
@@ -78,7 +78,7 @@ module _ {T R : Type 0} (k : Ghosts T R) (seats : ℕ) (start : List R) where
           told = subst (λ (l : List (StripeTurn R)). IsPrefix v.sight.told l) (home.told_is ∙ sym home.turns_are) g.told;
           known = subst (λ (l : List (StripeTurn R)). HasJust l v.owned) (sym home.turns_are) (owns_just seats c id v.owned known.owned);
           under = subst (AreUnder v.owned) (sym home.turns_are) (under_all seats v.owned c.log (λ p l. let n = r.each_number p l in dite (ℕ_discrete (c.owner p) id)
-              (λ e. subst (λ (u : View R). HasNumber u.owned p) (sym (one_view s.views id (c.owner p) v n.0 at n.1 e)) n.2)
+              (λ e. subst (λ (u : View R). OwnsNumber u.owned p) (sym (one_view s.views id (c.owner p) v n.0 at n.1 e)) n.2)
               (λ ne. absurd (let none = total_alone weight s.views id (c.owner p) v n.0 at n.1 ne in let some_there = has_some p n.0.owned n.2 in omega arith))) r.workers);
           sound = home.sound;
         },

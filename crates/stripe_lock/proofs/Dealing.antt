@@ -4,7 +4,7 @@ use Rattle.atomic_table.specs.Seated.{TableId}
 use Rattle.stripe_lock.specs.declared.view.View.{View}
 use Rattle.stripe_lock.specs.History.{unused}
 use Rattle.stripe_lock.specs.Rule.{outside}
-use Rattle.stripe_lock.specs.Steps.{whole_sight, left_of}
+use Rattle.stripe_lock.specs.Steps.{whole_sight, left_view}
 use Rattle.stripe_lock.specs.Passes.{PassState, pass_of, view_of, dealt}
 
 module _ {R : Type 0} where
@@ -22,8 +22,8 @@ module _ {R : Type 0} where
       ap (dealt lock chronicle floor k) one ∙ (ap (λ (l : List (PassState R)). fresh_pass lock chronicle floor k ∷ l) (dealt-snoc lock chronicle floor (suc k) n)
       ∙ ap (λ (m : ℕ). fresh_pass lock chronicle floor k ∷ dealt lock chronicle floor (suc k) n ++ fresh_pass lock chronicle floor m ∷ []) at)
 
-  pub left_of-dealer : (chronicle : List R) (floor k n : ℕ) → left_of (dealer chronicle floor k (suc n)) ≡ dealer chronicle floor (k + 1) n
-  left_of-dealer chronicle floor k n = ap (λ (m : ℕ). dealer chronicle floor m n) (omega arith)
+  pub left_view-dealer : (chronicle : List R) (floor k n : ℕ) → left_view (dealer chronicle floor k (suc n)) ≡ dealer chronicle floor (k + 1) n
+  left_view-dealer chronicle floor k n = ap (λ (m : ℕ). dealer chronicle floor m n) (omega arith)
 
   pub dealt_more : (lock : TableId) (chronicle : List R) (floor k : ℕ) (items items' : List (PassState R)) (p : PassState R) → items ≡ dealt lock chronicle floor 0 k → items' ≡ items ++ p ∷ [] → p ≡ fresh_pass lock chronicle floor k
       → items' ≡ dealt lock chronicle floor 0 (k + 1)

@@ -6,8 +6,8 @@ use mathlib.Core.List.{IsPrefix, drop_last, drop_last-prefix}
 use native.Mathlib.Decide.{ℕ_discrete}
 use Rattle.stripe_lock.specs.declared.view.StripeTurn.{StripeTurn}
 use Rattle.stripe_lock.specs.declared.view.PassTurns.{PassTurns}
-use Rattle.stripe_lock.specs.History.{places_from, places_of, HasJust, with_places, HasNumber, AreUnder, AreBelow, unused, longer, first_number, first_places}
-use Rattle.stripe_lock.specs.Rule.{Course, Owns}
+use Rattle.stripe_lock.specs.History.{places_from, places_of, HasJust, with_places, OwnsNumber, AreUnder, AreBelow, unused, longer, first_number, first_places}
+use Rattle.stripe_lock.specs.Rule.{LockCourse, Owns}
 
 abbrev Turns : Type 0 → Type 0
 Turns R = List (StripeTurn R)
@@ -73,38 +73,38 @@ module _ {R : Type 0} where
       go false e = let l : length b ≤ length a = grind (arith, nat_tests) in (prefix_same a, prefix_of b a k.0 h.0 (k.1 ∙ sym h.1) l)
 
   -- what a view owns, where the course and the view are other
-  pub owns_moved : (seats : ℕ) (c c' : Course R) (j j' : ℕ) (ks : List PassTurns) → ((p : ℕ) → HasNumber ks p → c.owner p ≡ j → (c'.owner p ≡ j') × (places_of p c.log ≡ places_of p c'.log)) → Owns seats c j ks → Owns seats c' j' ks
+  pub owns_moved : (seats : ℕ) (c c' : LockCourse R) (j j' : ℕ) (ks : List PassTurns) → ((p : ℕ) → OwnsNumber ks p → c.owner p ≡ j → (c'.owner p ≡ j') × (places_of p c.log ≡ places_of p c'.log)) → Owns seats c j ks → Owns seats c' j' ks
   owns_moved seats c c' j j' [] f o = tt
   owns_moved seats c c' j j' (k ∷ ks) f o = let h = f k.number (inl refl) o.1 in (o.0, h.0, o.2 ∙ h.1, owns_moved seats c c' j j' ks (λ p has. f p (inr has)) o.3)
 
   -- with the places of another history
-  pub owns_noted : (seats : ℕ) (c c' : Course R) (j : ℕ) (ks : List PassTurns) → c'.owner ≡ c.owner → Owns seats c j ks → Owns seats c' j (with_places c'.log ks)
+  pub owns_noted : (seats : ℕ) (c c' : LockCourse R) (j : ℕ) (ks : List PassTurns) → c'.owner ≡ c.owner → Owns seats c j ks → Owns seats c' j (with_places c'.log ks)
   owns_noted seats c c' j [] same o = tt
   owns_noted seats c c' j (k ∷ ks) same o = (o.0, ap (λ (f : ℕ → ℕ). f k.number) same ∙ o.1, refl, owns_noted seats c c' j ks same o.3)
 
-  pub owns_owner : (seats : ℕ) (c : Course R) (j p : ℕ) (ks : List PassTurns) → Owns seats c j ks → HasNumber ks p → (p < seats) × (c.owner p ≡ j)
+  pub owns_owner : (seats : ℕ) (c : LockCourse R) (j p : ℕ) (ks : List PassTurns) → Owns seats c j ks → OwnsNumber ks p → (p < seats) × (c.owner p ≡ j)
   owns_owner seats c j p [] o h = absurd h
   owns_owner seats c j p (k ∷ ks) o h = ⊎_elim (λ (e : k.number ≡ p). (subst (λ n. n < seats) e o.0, ap c.owner (sym e) ∙ o.1)) (owns_owner seats c j p ks o.3) h
 
-  pub owns_just : (seats : ℕ) (c : Course R) (j : ℕ) (ks : List PassTurns) → Owns seats c j ks → HasJust c.log ks
+  pub owns_just : (seats : ℕ) (c : LockCourse R) (j : ℕ) (ks : List PassTurns) → Owns seats c j ks → HasJust c.log ks
   owns_just seats c j [] o = tt
   owns_just seats c j (k ∷ ks) o = (o.2, owns_just seats c j ks o.3)
 
-  pub owns-append : (seats : ℕ) (c : Course R) (j : ℕ) (ks ls : List PassTurns) → Owns seats c j ks → Owns seats c j ls → Owns seats c j (ks ++ ls)
+  pub owns-append : (seats : ℕ) (c : LockCourse R) (j : ℕ) (ks ls : List PassTurns) → Owns seats c j ks → Owns seats c j ls → Owns seats c j (ks ++ ls)
   owns-append seats c j [] ls o q = q
   owns-append seats c j (k ∷ ks) ls o q = (o.0, o.1, o.2, owns-append seats c j ks ls o.3 q)
 
-  pub owns_unused : (seats k n : ℕ) (c : Course R) → c.log ≡ [] → c.owner ≡ (λ _. 0) → k + n ≤ seats → Owns seats c 0 (unused k n)
+  pub owns_unused : (seats k n : ℕ) (c : LockCourse R) → c.log ≡ [] → c.owner ≡ (λ _. 0) → k + n ≤ seats → Owns seats c 0 (unused k n)
   owns_unused seats k zero c blank one l = tt
   owns_unused seats k (suc n) c blank one l = (omega arith, ap (λ (f : ℕ → ℕ). f k) one, ap (places_of k) (sym blank), owns_unused seats (suc k) n c blank one (omega arith))
 
-  pub under_all : (seats : ℕ) (ks : List PassTurns) (log : Turns R) → ((p : ℕ) → p < seats → HasNumber ks p) → AreBelow seats log → AreUnder ks log
+  pub under_all : (seats : ℕ) (ks : List PassTurns) (log : Turns R) → ((p : ℕ) → p < seats → OwnsNumber ks p) → AreBelow seats log → AreUnder ks log
   under_all seats ks [] h b = tt
   under_all seats ks (t ∷ ts) h b = (h t.worker b.0, under_all seats ks ts h b.1)
 
-  pub has_noted : (log : Turns R) (p : ℕ) (ks : List PassTurns) → HasNumber ks p → HasNumber (with_places log ks) p
+  pub has_noted : (log : Turns R) (p : ℕ) (ks : List PassTurns) → OwnsNumber ks p → OwnsNumber (with_places log ks) p
   has_noted log p [] h = absurd h
-  has_noted log p (k ∷ ks) h = ⊎_elim inl (λ (r : HasNumber ks p). inr (has_noted log p ks r)) h
+  has_noted log p (k ∷ ks) h = ⊎_elim inl (λ (r : OwnsNumber ks p). inr (has_noted log p ks r)) h
 
   pub length-noted : (log : Turns R) (ks : List PassTurns) → length (with_places log ks) ≡ length ks
   length-noted log [] = refl
@@ -127,29 +127,29 @@ module _ {R : Type 0} where
   first_places-noted log t [] h e f = absurd (omega arith)
   first_places-noted log t (k ∷ ks) h e f = places-own k.number log t e ∙ ap (λ l. l ++ length log ∷ []) (sym f.0)
 
-pub has_first : (ks : List PassTurns) → 0 < length ks → HasNumber ks (first_number ks)
+pub has_first : (ks : List PassTurns) → 0 < length ks → OwnsNumber ks (first_number ks)
 has_first [] h = absurd (omega arith)
 has_first (k ∷ ks) h = inl refl
 
-pub has_some : (p : ℕ) (ks : List PassTurns) → HasNumber ks p → 0 < length ks
+pub has_some : (p : ℕ) (ks : List PassTurns) → OwnsNumber ks p → 0 < length ks
 has_some p [] h = absurd h
 has_some p (k ∷ ks) h = omega arith
 
-pub has_left : (p : ℕ) (ks ls : List PassTurns) → HasNumber ks p → HasNumber (ks ++ ls) p
+pub has_left : (p : ℕ) (ks ls : List PassTurns) → OwnsNumber ks p → OwnsNumber (ks ++ ls) p
 has_left p [] ls h = absurd h
-has_left p (k ∷ ks) ls h = ⊎_elim inl (λ (r : HasNumber ks p). inr (has_left p ks ls r)) h
+has_left p (k ∷ ks) ls h = ⊎_elim inl (λ (r : OwnsNumber ks p). inr (has_left p ks ls r)) h
 
-pub has_right : (p : ℕ) (ks ls : List PassTurns) → HasNumber ls p → HasNumber (ks ++ ls) p
+pub has_right : (p : ℕ) (ks ls : List PassTurns) → OwnsNumber ls p → OwnsNumber (ks ++ ls) p
 has_right p [] ls h = h
 has_right p (k ∷ ks) ls h = inr (has_right p ks ls h)
 
-pub has_unused : (p k n : ℕ) → k ≤ p → p < k + n → HasNumber (unused k n) p
+pub has_unused : (p k n : ℕ) → k ≤ p → p < k + n → OwnsNumber (unused k n) p
 has_unused p k zero l h = absurd (omega arith)
 has_unused p k (suc n) l h = dite (ℕ_discrete k p) inl (λ ne. inr (has_unused p (suc k) n (omega arith) (omega arith)))
 
-pub unused_above : (p k n : ℕ) → HasNumber (unused k n) p → k ≤ p
+pub unused_above : (p k n : ℕ) → OwnsNumber (unused k n) p → k ≤ p
 unused_above p k zero h = absurd h
-unused_above p k (suc n) h = ⊎_elim (λ (e : k ≡ p). omega arith) (λ (r : HasNumber (unused (suc k) n) p). let l = unused_above p (suc k) n r in omega arith) h
+unused_above p k (suc n) h = ⊎_elim (λ (e : k ≡ p). omega arith) (λ (r : OwnsNumber (unused (suc k) n) p). let l = unused_above p (suc k) n r in omega arith) h
 
 pub length-unused : (k n : ℕ) → length (unused k n) ≡ n
 length-unused k zero = refl

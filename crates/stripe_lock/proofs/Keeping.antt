@@ -13,8 +13,8 @@ use Rattle.stripe_lock.specs.declared.kept.KeptState.{Ghosts}
 use Rattle.stripe_lock.specs.declared.view.StripeTurn.{StripeTurn}
 use Rattle.stripe_lock.specs.declared.view.Sight.{Sight}
 use Rattle.stripe_lock.specs.declared.view.View.{View}
-use Rattle.stripe_lock.specs.History.{HasNumber}
-use Rattle.stripe_lock.specs.Rule.{outside, called, holding, total, weight, tickets, NoneHolds, Course, IsSeen, Owns, Knows, IsHome, IsPlaced, IsLocked}
+use Rattle.stripe_lock.specs.History.{OwnsNumber}
+use Rattle.stripe_lock.specs.Rule.{outside, called, holding, total, weight, tickets, NoneHolds, LockCourse, IsSeen, Owns, Knows, IsHome, IsPlaced, IsLocked}
 use Rattle.stripe_lock.proofs.Totals.{in_range, total_set, total_le}
 use Rattle.stripe_lock.proofs.Histories.{prefix_more}
 
@@ -39,11 +39,11 @@ module _ {R : Type 0} where
   one_view vs i j v u a b e = some-injective v u (sym a ∙ (ap (get_elem? vs) (sym e) ∙ b))
 
   -- each number is still owned, where the view that changed has as many as before
-  pub number_after : (vs : Views R) (owner : ℕ → ℕ) (id : ℕ) (v w : View R) → get_elem? vs id ≡ some v → ((p : ℕ) → HasNumber v.owned p → HasNumber w.owned p)
-      → (p : ℕ) → (u : View R) × (get_elem? vs (owner p) ≡ some u) × HasNumber u.owned p → (u : View R) × (get_elem? (set vs id w) (owner p) ≡ some u) × HasNumber u.owned p
+  pub number_after : (vs : Views R) (owner : ℕ → ℕ) (id : ℕ) (v w : View R) → get_elem? vs id ≡ some v → ((p : ℕ) → OwnsNumber v.owned p → OwnsNumber w.owned p)
+      → (p : ℕ) → (u : View R) × (get_elem? vs (owner p) ≡ some u) × OwnsNumber u.owned p → (u : View R) × (get_elem? (set vs id w) (owner p) ≡ some u) × OwnsNumber u.owned p
   number_after vs owner id v w at more p h = dite (ℕ_discrete (owner p) id)
       (λ e. let same : v ≡ h.0 = one_view vs id (owner p) v h.0 at h.1 e in
-      (w, ap (get_elem? (set vs id w)) e ∙ set_here vs id w (in_range vs id v at), more p (subst (λ (u : View R). HasNumber u.owned p) (sym same) h.2)))
+      (w, ap (get_elem? (set vs id w)) e ∙ set_here vs id w (in_range vs id v at), more p (subst (λ (u : View R). OwnsNumber u.owned p) (sym same) h.2)))
       (λ ne. (h.0, set_else vs id (owner p) w ne ∙ h.1, h.2))
 
   -- each ticket is still out, where the view that changed keeps its own
@@ -55,7 +55,7 @@ module _ {R : Type 0} where
       (λ ne. (h.0, set_else vs id (line t) w ne ∙ h.1, h.2, h.3))
 
   -- two views that are called are one
-  pub one_called : {floor_of : List R → List (StripeTurn R) → ℕ} (seats : ℕ) (start : List R) (c : Course R) (i j : ℕ) (v u : View R) → Knows floor_of seats start c i v → Knows floor_of seats start c j u
+  pub one_called : {floor_of : List R → List (StripeTurn R) → ℕ} (seats : ℕ) (start : List R) (c : LockCourse R) (i j : ℕ) (v u : View R) → Knows floor_of seats start c i v → Knows floor_of seats start c j u
       → called ≤ v.stage → called ≤ u.stage → i ≡ j
   one_called seats start c i j v u a b p q = sym (a.ticket (omega arith)).2 ∙ (ap c.line (a.turn p ∙ sym (b.turn q)) ∙ (b.ticket (omega arith)).2)
 
@@ -64,7 +64,7 @@ module _ {T R : Type 0} (k : Ghosts T R) (seats : ℕ) (start : List R) where
   Rule = IsLocked k seats start
 
   -- what was seen is seen where the course goes on
-  pub still_seen : (c c' : Course R) → IsPrefix c.log c'.log → IsPrefix c.told c'.told → c.top ≤ c'.top → (g : Sight R) → IsSeen k.floor_of start c g → IsSeen k.floor_of start c' g
+  pub still_seen : (c c' : LockCourse R) → IsPrefix c.log c'.log → IsPrefix c.told c'.told → c.top ≤ c'.top → (g : Sight R) → IsSeen k.floor_of start c g → IsSeen k.floor_of start c' g
   still_seen c c' log told top g h = let low = h.below in record { chronicle = h.chronicle; seen = prefix_more g.seen c.log c'.log h.seen log; told = prefix_more g.told c.told c'.told h.told told; floor_is = h.floor_is; below = omega arith }
 
   -- at most as many tickets are out as there are seats
@@ -76,7 +76,7 @@ module _ {T R : Type 0} (k : Ghosts T R) (seats : ℕ) (start : List R) where
   its_turn s r id v at out e = let t = (r.each_view id v at).ticket out in let few = few_out s r in let most = r.few in let sum = r.out in let low = t.0 in let high = t.1 in
       sym (one_turn r.c.served v.ticket W low (omega arith) (sym r.words.serving ∙ e))
 
-  pub placed_after : (c : Course R) (homes : List (Option T)) (vs : List (View R)) (id : ℕ) (v w : View R) → get_elem? vs id ≡ some v → v.stage ≢ holding → w.stage ≢ holding
+  pub placed_after : (c : LockCourse R) (homes : List (Option T)) (vs : List (View R)) (id : ℕ) (v w : View R) → get_elem? vs id ≡ some v → v.stage ≢ holding → w.stage ≢ holding
       → IsPlaced k start c homes vs → IsPlaced k start c homes (set vs id w)
   placed_after c homes vs id v w at free stays = ⊎_elim
       (λ (h : (x : T) × (homes ≡ some x ∷ []) × IsHome k start c x × NoneHolds vs).
@@ -114,7 +114,7 @@ module _ {T R : Type 0} (k : Ghosts T R) (seats : ℕ) (start : List R) where
               parts = omega arith;
             }
             (λ j u _. r.each_view j u);
-        each_number = λ p l. number_after s.views r.c.owner id v w at (λ q. subst (λ (ks : List _). HasNumber ks q) (sym same_owned)) p (r.each_number p l);
+        each_number = λ p l. number_after s.views r.c.owner id v w at (λ q. subst (λ (ks : List _). OwnsNumber ks q) (sym same_owned)) p (r.each_number p l);
         each_ticket = λ t low high. ticket_after s.views r.c.line id v w at (λ _. (after, same_ticket)) t (r.each_ticket t low high);
         workers = r.workers;
         place = place;
@@ -145,13 +145,13 @@ module _ {T R : Type 0} (k : Ghosts T R) (seats : ℕ) (start : List R) where
               parts = omega arith;
             }
             (λ j u _. r.each_view j u);
-        each_number = λ p l. number_after s.views r.c.owner id v w at (λ q. subst (λ (ks : List _). HasNumber ks q) (sym same_owned)) p (r.each_number p l);
+        each_number = λ p l. number_after s.views r.c.owner id v w at (λ q. subst (λ (ks : List _). OwnsNumber ks q) (sym same_owned)) p (r.each_number p l);
         each_ticket = λ t low high. ticket_after s.views r.c.line id v w at (λ z. absurd (omega arith)) t (r.each_ticket t low high);
         workers = r.workers;
         place = placed_after r.c s.homes s.views id v w at (λ z. omega arith) (λ z. omega arith) r.place;
       }
 
   -- the state is out with this view
-  pub out_with : (s : State T (View R)) (r : Rule s) (id : ℕ) (v w : View R) (c : Course R) → get_elem? s.views id ≡ some v → v.stage ≡ holding → w.stage ≡ holding → IsPlaced k start c s.homes (set s.views id w)
+  pub out_with : (s : State T (View R)) (r : Rule s) (id : ℕ) (v w : View R) (c : LockCourse R) → get_elem? s.views id ≡ some v → v.stage ≡ holding → w.stage ≡ holding → IsPlaced k start c s.homes (set s.views id w)
   out_with s r id v w c at st st' = ⊎_elim (λ (h : (x : T) × (s.homes ≡ some x ∷ []) × IsHome k start r.c x × NoneHolds s.views). absurd (h.3 id v at st))
       (λ (h : (j : ℕ) × (u : View R) × (s.homes ≡ none ∷ []) × (get_elem? s.views j ≡ some u) × (u.stage ≡ holding)). inr (id, w, h.2, set_here s.views id w (in_range s.views id v at), st')) r.place

@@ -9,9 +9,9 @@ use Rattle.atomic_table.proofs.Lists.{set_here, set_else, at_snoc, at_last, at_l
 use Rattle.stripe_lock.specs.declared.kept.KeptState.{Ghosts}
 use Rattle.stripe_lock.specs.declared.view.PassTurns.{PassTurns}
 use Rattle.stripe_lock.specs.declared.view.View.{View}
-use Rattle.stripe_lock.specs.History.{HasNumber, unused}
-use Rattle.stripe_lock.specs.Rule.{outside, holding, weight, tickets, NoneHolds, Course, Owns, Knows, IsHome, IsPlaced}
-use Rattle.stripe_lock.specs.Steps.{left_of, right_of, joined, spent}
+use Rattle.stripe_lock.specs.History.{OwnsNumber, unused}
+use Rattle.stripe_lock.specs.Rule.{outside, holding, weight, tickets, NoneHolds, LockCourse, Owns, Knows, IsHome, IsPlaced}
+use Rattle.stripe_lock.specs.Steps.{left_view, right_view, joined_view, spent}
 use Rattle.stripe_lock.proofs.Totals.{put, put_here, put_else, moved, moved_here, moved_else, in_range, total_set, total_snoc}
 use Rattle.stripe_lock.proofs.Histories.{prefix_same, has_left, has_right, owns_moved, owns-append, unused_above, length-unused}
 use Rattle.stripe_lock.proofs.Keeping.{each_after, one_view, ticket_after, Rule, still_seen, placed_after}
@@ -25,14 +25,14 @@ at_end (y ∷ l) x u (suc j) e = ⊎_elim inl (λ (t : (j ≡ length l) × (x �
 
 module _ {T R : Type 0} (k : Ghosts T R) (seats : ℕ) (start : List R) where
   -- the same place, in a course that has the same history
-  placed_again : (c : Course R) (owner : ℕ → ℕ) (homes : List (Option T)) (vs : List (View R)) → IsPlaced k start c homes vs → IsPlaced k start (record c { owner = owner }) homes vs
+  placed_again : (c : LockCourse R) (owner : ℕ → ℕ) (homes : List (Option T)) (vs : List (View R)) → IsPlaced k start c homes vs → IsPlaced k start (record c { owner = owner }) homes vs
   placed_again c owner homes vs = ⊎_elim (λ (h : (x : T) × (homes ≡ some x ∷ []) × IsHome k start c x × NoneHolds vs).
       inl (h.0, h.1, record { turns_are = h.2.turns_are; told_is = h.2.told_is; chronicle_is = h.2.chronicle_is; sound = h.2.sound }, h.3)) inr
 
-  pub joins : (id : ℕ) (v : View R) (other : ℕ) (w : View R) → 0 < weight v → 0 < weight w → v.stage ≡ outside → w.stage ≡ outside → Joins (Rule k seats start) id v other w (joined v w) spent
-  joins id v other w some_weight more_weight free idle s r at apart there = let b : View R = joined v w in let vs : List (View R) = set s.views id b in let c = r.c in
+  pub joins : (id : ℕ) (v : View R) (other : ℕ) (w : View R) → 0 < weight v → 0 < weight w → v.stage ≡ outside → w.stage ≡ outside → Joins (Rule k seats start) id v other w (joined_view v w) spent
+  joins id v other w some_weight more_weight free idle s r at apart there = let b : View R = joined_view v w in let vs : List (View R) = set s.views id b in let c = r.c in
       let near : get_elem? s.views other ≡ some w = sym (set_else s.views id other b apart) ∙ there in
-      let kv = r.each_view id v at in let kw = r.each_view other w near in let owner' : ℕ → ℕ = moved c.owner other id in let c' : Course R = record c { owner = owner' } in
+      let kv = r.each_view id v at in let kw = r.each_view other w near in let owner' : ℕ → ℕ = moved c.owner other id in let c' : LockCourse R = record c { owner = owner' } in
       let still = still_seen k seats start c c' (prefix_same c.log) (prefix_same c.told) (omega arith) in
       let out = r.out in let weights = r.weights in let heavy : weight b ≡ weight v + weight w = length-append v.owned w.owned in
       let t1 = total_set tickets s.views id v b at in let t2 = total_set tickets vs other w spent there in
@@ -81,9 +81,9 @@ module _ {T R : Type 0} (k : Ghosts T R) (seats : ℕ) (start : List R) where
               parts = ku.parts;
             }));
         each_number = λ p l. let h = r.each_number p l in dite (ℕ_discrete (c.owner p) other)
-            (λ e. (b, ap (get_elem? (set vs other spent)) (moved_here c.owner other id p e) ∙ here, has_right p v.owned w.owned (subst (λ (u : View R). HasNumber u.owned p) (sym (one_view s.views other (c.owner p) w h.0 near h.1 e)) h.2)))
+            (λ e. (b, ap (get_elem? (set vs other spent)) (moved_here c.owner other id p e) ∙ here, has_right p v.owned w.owned (subst (λ (u : View R). OwnsNumber u.owned p) (sym (one_view s.views other (c.owner p) w h.0 near h.1 e)) h.2)))
             (λ ne. dite (ℕ_discrete (c.owner p) id)
-            (λ e. (b, ap (get_elem? (set vs other spent)) (moved_else c.owner other id p ne ∙ e) ∙ here, has_left p v.owned w.owned (subst (λ (u : View R). HasNumber u.owned p) (sym (one_view s.views id (c.owner p) v h.0 at h.1 e)) h.2)))
+            (λ e. (b, ap (get_elem? (set vs other spent)) (moved_else c.owner other id p ne ∙ e) ∙ here, has_left p v.owned w.owned (subst (λ (u : View R). OwnsNumber u.owned p) (sym (one_view s.views id (c.owner p) v h.0 at h.1 e)) h.2)))
             (λ far. (h.0, ap (get_elem? (set vs other spent)) (moved_else c.owner other id p ne) ∙ (set_else vs other (c.owner p) spent ne ∙ (set_else s.views id (c.owner p) b far ∙ h.1)), h.2)));
         each_ticket = λ t low high. ticket_after vs c.line other w spent there (λ z. absurd (omega arith)) t (ticket_after s.views c.line id v b at (λ z. (z, refl)) t (r.each_ticket t low high));
         workers = r.workers;
@@ -91,9 +91,9 @@ module _ {T R : Type 0} (k : Ghosts T R) (seats : ℕ) (start : List R) where
             (placed_after k seats start c s.homes s.views id v b at (λ z. omega arith) (λ z. omega arith) r.place));
       }
 
-  pub splits : (id : ℕ) (v : View R) (p n : ℕ) → v.stage ≡ outside → v.owned ≡ unused p (suc n) → Splits (Rule k seats start) id v (left_of v) (right_of v)
-  splits id v p n idle own s r at = let a : View R = left_of v in let b : View R = right_of v in let vs : List (View R) = set s.views id a in let c = r.c in let m = length s.views in
-      let owner' : ℕ → ℕ = put c.owner p m in let c' : Course R = record c { owner = owner' } in let still = still_seen k seats start c c' (prefix_same c.log) (prefix_same c.told) (omega arith) in
+  pub splits : (id : ℕ) (v : View R) (p n : ℕ) → v.stage ≡ outside → v.owned ≡ unused p (suc n) → Splits (Rule k seats start) id v (left_view v) (right_view v)
+  splits id v p n idle own s r at = let a : View R = left_view v in let b : View R = right_view v in let vs : List (View R) = set s.views id a in let c = r.c in let m = length s.views in
+      let owner' : ℕ → ℕ = put c.owner p m in let c' : LockCourse R = record c { owner = owner' } in let still = still_seen k seats start c c' (prefix_same c.log) (prefix_same c.told) (omega arith) in
       let left : a.owned ≡ unused (suc p) n = ap (drop 1) own in let right : b.owned ≡ record { number = p; places = [] } ∷ [] = ap (take 1) own in
       let known = r.each_view id v at in let owned : Owns seats c id (unused p (suc n)) = subst (Owns seats c id) own known.owned in
       let heavy : weight v ≡ suc n = ap length own ∙ length-unused p (suc n) in let la : weight a ≡ n = ap length left ∙ length-unused (suc p) n in let lb : weight b ≡ 1 = ap length right in
@@ -142,13 +142,13 @@ module _ {T R : Type 0} (k : Ghosts T R) (seats : ℕ) (start : List R) where
             })
             (at_end vs b u j e);
         each_number = λ q l. let h = r.each_number q l in dite (ℕ_discrete q p)
-            (λ e. (b, ap (get_elem? (vs ++ b ∷ [])) (ap owner' e ∙ put_here c.owner p m) ∙ at_last vs b m end, subst (λ (ks : List PassTurns). HasNumber ks q) (sym right) (inl (sym e))))
+            (λ e. (b, ap (get_elem? (vs ++ b ∷ [])) (ap owner' e ∙ put_here c.owner p m) ∙ at_last vs b m end, subst (λ (ks : List PassTurns). OwnsNumber ks q) (sym right) (inl (sym e))))
             (λ ne. dite (ℕ_discrete (c.owner q) id)
             (λ e. (
               a,
               ap (get_elem? (vs ++ b ∷ [])) (put_else c.owner p m q ne ∙ e) ∙ at_longer vs (b ∷ []) id a (set_here s.views id a low),
-              subst (λ (ks : List PassTurns). HasNumber ks q) (sym left) (⊎_elim (λ (same : p ≡ q). absurd (ne (sym same))) (λ (rest : HasNumber (unused (suc p) n) q). rest)
-                  (subst (λ (ks : List PassTurns). HasNumber ks q) own (subst (λ (u : View R). HasNumber u.owned q) (sym (one_view s.views id (c.owner q) v h.0 at h.1 e)) h.2))),
+              subst (λ (ks : List PassTurns). OwnsNumber ks q) (sym left) (⊎_elim (λ (same : p ≡ q). absurd (ne (sym same))) (λ (rest : OwnsNumber (unused (suc p) n) q). rest)
+                  (subst (λ (ks : List PassTurns). OwnsNumber ks q) own (subst (λ (u : View R). OwnsNumber u.owned q) (sym (one_view s.views id (c.owner q) v h.0 at h.1 e)) h.2))),
             ))
             (λ far. (h.0, ap (get_elem? (vs ++ b ∷ [])) (put_else c.owner p m q ne) ∙ at_longer vs (b ∷ []) (c.owner q) h.0 (set_else s.views id (c.owner q) a far ∙ h.1), h.2)));
         each_ticket = λ t low' high. let h = ticket_after s.views c.line id v a at (λ z. (z, refl)) t (r.each_ticket t low' high) in

@@ -7,20 +7,20 @@ use Rattle.stripe_lock.specs.declared.kept.KeptState.{Ghosts}
 use Rattle.stripe_lock.specs.declared.view.StripeTurn.{StripeTurn}
 use Rattle.stripe_lock.specs.declared.view.Sight.{Sight}
 use Rattle.stripe_lock.specs.declared.view.View.{View}
-use Rattle.stripe_lock.specs.History.{places_of, with_places, HasNumber, AreBelow}
-use Rattle.stripe_lock.specs.Rule.{holding, weight, tickets, Course, Knows}
-use Rattle.stripe_lock.specs.Steps.{with_sight, whole_sight, noted, raised}
+use Rattle.stripe_lock.specs.History.{places_of, with_places, OwnsNumber, AreBelow}
+use Rattle.stripe_lock.specs.Rule.{holding, weight, tickets, LockCourse, Knows}
+use Rattle.stripe_lock.specs.Steps.{with_sight, whole_sight, noted_turn, raised}
 use Rattle.stripe_lock.proofs.Totals.{total_set}
 use Rattle.stripe_lock.proofs.Histories.{places-other, below-snoc, prefix_same, prefix_more, owns_moved, owns_noted, owns_owner, has_noted, length-noted}
 use Rattle.stripe_lock.proofs.Keeping.{each_after, number_after, ticket_after, one_called, Rule, still_seen, out_with}
 
 module _ {T R : Type 0} (k : Ghosts T R) (seats : ℕ) (start : List R) where
   -- the history goes on with the turn that was made
-  pub notes : (slots id new : ℕ) (me : Me T (View R)) (x : T) (t : StripeTurn R) → me.0.stage ≡ holding → me.1 ≡ (0, x) ∷ [] → me.0.sight.told ≡ me.0.sight.seen → k.turns x ≡ me.0.sight.seen ++ t ∷ [] → HasNumber me.0.owned t.worker → new ≡ length (k.turns x)
-      → Allows (Rule k seats start) slots id me 3 (λ _. new) (λ _. noted k (step slots 3 new 0 none) me new)
+  pub notes : (slots id new : ℕ) (me : Me T (View R)) (x : T) (t : StripeTurn R) → me.0.stage ≡ holding → me.1 ≡ (0, x) ∷ [] → me.0.sight.told ≡ me.0.sight.seen → k.turns x ≡ me.0.sight.seen ++ t ∷ [] → OwnsNumber me.0.owned t.worker → new ≡ length (k.turns x)
+      → Allows (Rule k seats start) slots id me 3 (λ _. new) (λ _. noted_turn k (step slots 3 new 0 none) me new)
   notes slots id new me x t st held told grown own count s r deep at _ = let v = me.0 in let c = r.c in let log : List (StripeTurn R) = k.turns x in
       let w : View R = record v { sight = record v.sight { seen = log }; owned = with_places log v.owned } in let known = r.each_view id v at in
-      let c' : Course R = record c { log = log } in let all = known.holds st in
+      let c' : LockCourse R = record c { log = log } in let all = known.holds st in
       let now : log ≡ c.log ++ t ∷ [] = grown ∙ ap (λ (g : Sight R). g.seen ++ t ∷ []) all in let more : IsPrefix c.log log = (t ∷ [], sym now) in let still = still_seen k seats start c c' more (prefix_same c.told) (omega arith) in
       let near : length log ≤ length c.told + 1 = let all_told : c.told ≡ c.log = sym (ap (λ (g : Sight R). g.told) all) ∙ (told ∙ ap (λ (g : Sight R). g.seen) all) in
       let longer_by : length log ≡ length c.log + 1 = ap length now ∙ length-append c.log (t ∷ []) in let as_long = ap length all_told in omega arith in
@@ -81,7 +81,7 @@ module _ {T R : Type 0} (k : Ghosts T R) (seats : ℕ) (start : List R) where
       → Allows (Rule k seats start) slots id me 4 (λ m. max m n) (raised (step slots 4 n 0 none) me)
   raises slots id n me st up is s r deep at _ = let v = me.0 in let c = r.c in let w : View R = with_sight (whole_sight v.sight.chronicle v.sight.seen n) v in let known = r.each_view id v at in
       let parts = known.parts in let all = known.holds st in let log_is : v.sight.seen ≡ c.log = ap (λ (g : Sight R). g.seen) all in let top : v.sight.floor ≡ c.top = ap (λ (g : Sight R). g.floor) all in
-      let c' : Course R = record c { told = c.log; top = n } in
+      let c' : LockCourse R = record c { told = c.log; top = n } in
       let wide = r.words.wide in let out = r.out in let weights = r.weights in let found = r.words.floor in let grows : c.top ≤ n = omega arith in let still = still_seen k seats start c c' (prefix_same c.log) r.told grows in
       let now : n ≡ k.floor_of start c.log = is ∙ (λ i. k.floor_of ((known.sight (omega arith)).chronicle i) (log_is i)) in
       let ts = total_set tickets s.views id v w at in let cs = total_set weight s.views id v w at in (

@@ -11,8 +11,8 @@ use Rattle.stripe_lock.specs.declared.kept.KeptState.{Ghosts}
 use Rattle.stripe_lock.specs.declared.view.StripeTurn.{StripeTurn}
 use Rattle.stripe_lock.specs.declared.view.View.{View}
 use Rattle.stripe_lock.specs.History.{HasJust}
-use Rattle.stripe_lock.specs.Rule.{outside, waiting, called, holding, weight, tickets, NoneHolds, Course, Knows, IsHome, IsPlaced}
-use Rattle.stripe_lock.specs.Steps.{at_stage, with_sight, whole_sight, drew, looked, took, gave, ended}
+use Rattle.stripe_lock.specs.Rule.{outside, waiting, called, holding, weight, tickets, NoneHolds, LockCourse, Knows, IsHome, IsPlaced}
+use Rattle.stripe_lock.specs.Steps.{at_stage, with_sight, whole_sight, drew, looked, took, gave, ended_turn}
 use Rattle.stripe_lock.proofs.Totals.{put, put_here, put_else, in_range, total_set}
 use Rattle.stripe_lock.proofs.Histories.{prefix_same, owns_just, owns_moved}
 use Rattle.stripe_lock.proofs.Keeping.{W, counts_on, each_after, one_view, number_after, ticket_after, one_called, Rule, still_seen, its_turn, placed_after, same_word, moves}
@@ -21,7 +21,7 @@ module _ {T R : Type 0} (k : Ghosts T R) (seats : ℕ) (start : List R) where
   pub draws : (slots id : ℕ) (me : Me T (View R)) → me.0.stage ≡ outside → 0 < weight me.0 → Allows (Rule k seats start) slots id me 1 (λ n. (n + 1) % 2 ^ 64) (drew (step slots 1 1 0 none) me)
   draws slots id me idle some_weight s r deep at _ = let v = me.0 in let c = r.c in let w : View R = record v { stage = waiting; ticket = c.drawn } in
       let wide = r.words.wide in let out = r.out in let weights = r.weights in let known = r.each_view id v at in
-      let c' : Course R = record c { drawn = c.drawn + 1; line = put c.line c.drawn id } in let still = still_seen k seats start c c' (prefix_same c.log) (prefix_same c.told) (omega arith) in
+      let c' : LockCourse R = record c { drawn = c.drawn + 1; line = put c.line c.drawn id } in let still = still_seen k seats start c c' (prefix_same c.log) (prefix_same c.told) (omega arith) in
       let ts = total_set tickets s.views id v w at in let cs = total_set weight s.views id v w at in let none_out : tickets v ≡ 0 = ap (min 1) idle in (
         w,
         keeps,
@@ -71,7 +71,7 @@ module _ {T R : Type 0} (k : Ghosts T R) (seats : ℕ) (start : List R) where
         (c.drawn, r.words.ticket, refl, refl),
       )
     where
-      again : (c c' : Course R) → c'.log ≡ c.log → c'.told ≡ c.told → (homes : List (Option T)) (vs : List (View R)) → IsPlaced k start c homes vs → IsPlaced k start c' homes vs
+      again : (c c' : LockCourse R) → c'.log ≡ c.log → c'.told ≡ c.told → (homes : List (Option T)) (vs : List (View R)) → IsPlaced k start c homes vs → IsPlaced k start c' homes vs
       again c c' a b homes vs = ⊎_elim (λ (h : (x : T) × (homes ≡ some x ∷ []) × IsHome k start c x × NoneHolds vs).
           inl (h.0, h.1, record { turns_are = h.2.turns_are ∙ sym a; told_is = b ∙ (h.2.told_is ∙ sym a); chronicle_is = h.2.chronicle_is; sound = h.2.sound }, h.3)) inr
 
@@ -156,10 +156,10 @@ module _ {T R : Type 0} (k : Ghosts T R) (seats : ℕ) (start : List R) where
       only (h ∷ []) e = refl
       only (h ∷ g ∷ l) e = absurd (omega arith)
 
-  pub ends_it : (slots id : ℕ) (me : Me T (View R)) → me.0.stage ≡ called → Allows (Rule k seats start) slots id me 2 (λ n. (n + 1) % 2 ^ 64) (ended (step slots 2 1 0 none) me)
+  pub ends_it : (slots id : ℕ) (me : Me T (View R)) → me.0.stage ≡ called → Allows (Rule k seats start) slots id me 2 (λ n. (n + 1) % 2 ^ 64) (ended_turn (step slots 2 1 0 none) me)
   ends_it slots id me ready s r deep at _ = let v = me.0 in let c = r.c in let w : View R = at_stage outside v in
       let wide = r.words.wide in let out = r.out in let weights = r.weights in let known = r.each_view id v at in let mine = known.ticket (omega arith) in
-      let c' : Course R = record c { served = c.served + 1 } in let still = still_seen k seats start c c' (prefix_same c.log) (prefix_same c.told) (omega arith) in
+      let c' : LockCourse R = record c { served = c.served + 1 } in let still = still_seen k seats start c c' (prefix_same c.log) (prefix_same c.told) (omega arith) in
       let ts = total_set tickets s.views id v w at in let cs = total_set weight s.views id v w at in let one_out : tickets v ≡ 1 = ap (min 1) ready in
       let here : c.line c.served ≡ id = ap c.line (sym (known.turn (omega arith))) ∙ mine.2 in (
         w,

@@ -43,14 +43,14 @@ module _ {R : Type 0} where
   longer xs ys = cond (ltb (length xs) (length ys)) ys xs
 
 -- a number is one of these
-abbrev pub HasNumber : List PassTurns → ℕ → Type 0
-HasNumber [] n = ⊥
-HasNumber (k ∷ ks) n = (k.number ≡ n) ⊎ HasNumber ks n
+abbrev pub OwnsNumber : List PassTurns → ℕ → Type 0
+OwnsNumber [] n = ⊥
+OwnsNumber (k ∷ ks) n = (k.number ≡ n) ⊎ OwnsNumber ks n
 
 -- each turn of a history was made under one of these numbers
 abbrev pub AreUnder : {R : Type 0} → List PassTurns → List (StripeTurn R) → Type 0
 AreUnder owned [] = Unit {0}
-AreUnder owned (t ∷ ts) = HasNumber owned t.worker × AreUnder owned ts
+AreUnder owned (t ∷ ts) = OwnsNumber owned t.worker × AreUnder owned ts
 
 -- the numbers k, k + 1 and so on, n of them, with no turns
 abbrev pub unused : ℕ → ℕ → List PassTurns

@@ -9,7 +9,7 @@ use Rattle.stripe_lock.specs.declared.view.StripeTurn.{StripeTurn}
 use Rattle.stripe_lock.specs.declared.view.PassTurns.{PassTurns}
 use Rattle.stripe_lock.specs.declared.view.Sight.{Sight}
 use Rattle.stripe_lock.specs.declared.view.View.{View}
-use Rattle.stripe_lock.specs.History.{places_of, HasNumber, AreBelow}
+use Rattle.stripe_lock.specs.History.{places_of, OwnsNumber, AreBelow}
 
 -- the stage of a pass that has no ticket
 abbrev pub outside : ℕ
@@ -46,7 +46,7 @@ module _ {R : Type 0} where
   NoneHolds views = (j : ℕ) (v : View R) → get_elem? views j ≡ some v → v.stage ≢ holding
 
 -- Where a lock stands: its history, the turns behind which the floor was published and that floor, how many tickets were drawn and how many were served, and which view has each number and each ticket. Numbers of tickets have no end
-pub record Course (R : Type 0) : Type 0 where
+pub record LockCourse (R : Type 0) : Type 0 where
   pub log : List (StripeTurn R)
   pub told : List (StripeTurn R)
   pub top : ℕ
@@ -56,7 +56,7 @@ pub record Course (R : Type 0) : Type 0 where
   pub line : ℕ → ℕ
 
 -- the words `passes`, `ticket`, `serving`, `count` and `floor`, of which the first is not bound
-pub record AreWords {R : Type 0} (c : Course R) (words : List ℕ) : Type 0 where
+pub record AreWords {R : Type 0} (c : LockCourse R) (words : List ℕ) : Type 0 where
   pub wide : length words ≡ 5
   pub ticket : slice_index words 1 ≡ c.drawn % 18446744073709551616
   pub serving : slice_index words 2 ≡ c.served % 18446744073709551616
@@ -64,7 +64,7 @@ pub record AreWords {R : Type 0} (c : Course R) (words : List ℕ) : Type 0 wher
   pub floor : slice_index words 4 ≡ c.top
 
 -- what was seen is the chronicle and begins the history, and the floor is that behind a beginning of the turns that were told
-pub record IsSeen {R : Type 0} (floor_of : List R → List (StripeTurn R) → ℕ) (start : List R) (c : Course R) (g : Sight R) : Type 0 where
+pub record IsSeen {R : Type 0} (floor_of : List R → List (StripeTurn R) → ℕ) (start : List R) (c : LockCourse R) (g : Sight R) : Type 0 where
   pub chronicle : g.chronicle ≡ start
   pub seen : IsPrefix g.seen c.log
   pub told : IsPrefix g.told c.told
@@ -72,12 +72,12 @@ pub record IsSeen {R : Type 0} (floor_of : List R → List (StripeTurn R) → �
   pub below : g.floor ≤ c.top
 
 -- each number is below `seats` and owned by the view j, and its places are those of all its turns
-abbrev pub Owns : {R : Type 0} → ℕ → Course R → ℕ → List PassTurns → Type 0
+abbrev pub Owns : {R : Type 0} → ℕ → LockCourse R → ℕ → List PassTurns → Type 0
 Owns seats c j [] = Unit {0}
 Owns seats c j (k ∷ ks) = (k.number < seats) × (c.owner k.number ≡ j) × (k.places ≡ places_of k.number c.log) × Owns seats c j ks
 
 -- what the view j knows, if it holds a number, and where it stands in the line
-pub record Knows {R : Type 0} (floor_of : List R → List (StripeTurn R) → ℕ) (seats : ℕ) (start : List R) (c : Course R) (j : ℕ) (v : View R) : Type 0 where
+pub record Knows {R : Type 0} (floor_of : List R → List (StripeTurn R) → ℕ) (seats : ℕ) (start : List R) (c : LockCourse R) (j : ℕ) (v : View R) : Type 0 where
   pub sight : 0 < weight v → IsSeen floor_of start c v.sight
   pub other : 0 < weight v → IsSeen floor_of start c v.other
   pub owned : Owns seats c j v.owned
@@ -88,21 +88,21 @@ pub record Knows {R : Type 0} (floor_of : List R → List (StripeTurn R) → ℕ
 
 module _ {T R : Type 0} (k : Ghosts T R) where
   -- the state x has the lock's history, whose floor was published, and is sound
-  pub record IsHome (start : List R) (c : Course R) (x : T) : Type 0 where
+  pub record IsHome (start : List R) (c : LockCourse R) (x : T) : Type 0 where
     pub turns_are : k.turns x ≡ c.log
     pub told_is : c.told ≡ c.log
     pub chronicle_is : k.chronicle x ≡ start
     pub sound : k.is_sound x
 
   -- the state is at home and no pass has it, or it is out with a pass
-  abbrev pub IsPlaced : List R → Course R → List (Option T) → List (View R) → Type 0
+  abbrev pub IsPlaced : List R → LockCourse R → List (Option T) → List (View R) → Type 0
   IsPlaced start c homes views =
       ((x : T) × (homes ≡ some x ∷ []) × IsHome start c x × NoneHolds views)
       ⊎ ((j : ℕ) × (v : View R) × (homes ≡ none ∷ []) × (get_elem? views j ≡ some v) × (v.stage ≡ holding))
 
   -- what holds of the table of a lock with so many seats, whose history begins behind this chronicle
   pub record IsLocked (seats : ℕ) (start : List R) (s : State T (View R)) : Type 0 where
-    pub c : Course R
+    pub c : LockCourse R
     pub words : AreWords c s.words
     pub top_is : c.top ≡ k.floor_of start c.told
     pub told : IsPrefix c.told c.log
@@ -111,7 +111,7 @@ module _ {T R : Type 0} (k : Ghosts T R) where
     pub weights : total weight s.views ≡ seats
     pub few : seats ≤ 64
     pub each_view : (j : ℕ) (v : View R) → get_elem? s.views j ≡ some v → Knows k.floor_of seats start c j v
-    pub each_number : (p : ℕ) → p < seats → (v : View R) × (get_elem? s.views (c.owner p) ≡ some v) × HasNumber v.owned p
+    pub each_number : (p : ℕ) → p < seats → (v : View R) × (get_elem? s.views (c.owner p) ≡ some v) × OwnsNumber v.owned p
     pub each_ticket : (t : ℕ) → c.served ≤ t → t < c.drawn → (v : View R) × (get_elem? s.views (c.line t) ≡ some v) × (0 < v.stage) × (v.ticket ≡ t)
     pub workers : AreBelow seats c.log
     pub place : IsPlaced start c s.homes s.views

@@ -32,16 +32,16 @@ module _ {R : Type 0} where
   spent = opener 0 [] 0
 
   -- the first number goes to a new pass, which has seen as much
-  abbrev pub left_of : View R → View R
-  left_of v = record v { owned = drop 1 v.owned }
+  abbrev pub left_view : View R → View R
+  left_view v = record v { owned = drop 1 v.owned }
 
   -- the new pass
-  abbrev pub right_of : View R → View R
-  right_of v = record v { owned = take 1 v.owned; stage = outside; ticket = 0 }
+  abbrev pub right_view : View R → View R
+  right_view v = record v { owned = take 1 v.owned; stage = outside; ticket = 0 }
 
   -- a pass takes in the numbers of another, and what it had seen
-  abbrev pub joined : View R → View R → View R
-  joined v w = record v { other = w.sight; owned = v.owned ++ w.owned }
+  abbrev pub joined_view : View R → View R → View R
+  joined_view v w = record v { other = w.sight; owned = v.owned ++ w.owned }
 
 -- a pass of a lock, with the state where it has that in hand
 abbrev Holder : Type 0 → Type 0 → Type 0
@@ -61,8 +61,8 @@ module _ {T R : Type 0} where
   gave st m n m' = m' ≡ (at_stage called m.0, [])
 
   -- the ticket is gone
-  abbrev pub ended : Step T → Holder T R → ℕ → Holder T R → Type 0
-  ended st m n m' = m' ≡ (at_stage outside m.0, m.1)
+  abbrev pub ended_turn : Step T → Holder T R → ℕ → Holder T R → Type 0
+  ended_turn st m n m' = m' ≡ (at_stage outside m.0, m.1)
 
   -- nothing is learned
   abbrev pub stayed : Step T → Holder T R → ℕ → Holder T R → Type 0
@@ -85,8 +85,8 @@ module _ {T R : Type 0} where
         × (m.0.sight.floor ≤ k.floor_of (k.chronicle x) (k.turns x)) × HasJust (k.turns x) m.0.owned × k.is_sound x
 
     -- the history is that of the state in hand
-    abbrev pub noted : Step T → Holder T R → ℕ → Holder T R → Type 0
-    noted st m n m' = (m'.1 ≡ m.1) × ((x : T) → m.1 ≡ (0, x) ∷ []
+    abbrev pub noted_turn : Step T → Holder T R → ℕ → Holder T R → Type 0
+    noted_turn st m n m' = (m'.1 ≡ m.1) × ((x : T) → m.1 ≡ (0, x) ∷ []
         → m'.0 ≡ record m.0 { sight = record m.0.sight { seen = k.turns x }; owned = with_places (k.turns x) m.0.owned })
 
     -- the floor is seen, which was published behind all turns that had been told, and all that were seen but perhaps the last

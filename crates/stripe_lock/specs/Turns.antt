@@ -53,7 +53,7 @@ module _ {T R : Type 0} (k : Ghosts T R) where
     pub higher : (old.floor ≤ new.floor) × (other.floor ≤ new.floor)
 
   -- a sound state, whose chronicle is the one that the pass knows, whose turns begin with what the pass has seen, and are just those that it knows, under its numbers
-  pub record Ends (pass : PassState R) (x : T) : Type 0 where
+  pub record LockEnds (pass : PassState R) (x : T) : Type 0 where
     pub chronicle : k.chronicle x ≡ pass.chronicle
     pub seen : IsPrefix pass.seen (k.turns x)
     pub told : IsPrefix pass.told (k.turns x)

@@ -5,7 +5,7 @@ use Rattle.atomic_table.specs.Table.{Me}
 use Rattle.stripe_lock.specs.declared.kept.KeptState.{Ghosts}
 use Rattle.stripe_lock.specs.declared.view.StripeTurn.{StripeTurn}
 use Rattle.stripe_lock.specs.declared.view.View.{View}
-use Rattle.stripe_lock.specs.History.{AddsTurn, HasJust, HasNumber, with_places}
+use Rattle.stripe_lock.specs.History.{AddsTurn, HasJust, OwnsNumber, with_places}
 use Rattle.stripe_lock.specs.Rule.{holding}
 use Rattle.stripe_lock.specs.Steps.{whole_sight}
 
@@ -51,7 +51,7 @@ module _ {T R : Type 0} (k : Ghosts T R) where
     pub stage : m.0.stage ≡ holding
     pub told : m.0.sight.told ≡ m.0.sight.seen
     pub added : k.turns x ≡ m.0.sight.seen ++ turn ∷ []
-    pub own : HasNumber m.0.owned turn.worker
+    pub own : OwnsNumber m.0.owned turn.worker
     pub counted : count ≡ length (k.turns x)
     pub higher : m.0.sight.floor ≤ floor
     pub floor_is : floor ≡ k.floor_of m.0.sight.chronicle (k.turns x)

@@ -3,7 +3,7 @@ ghost use Rattle.std.specs.Prelude.{◌≡◌, ◌%◌, ◌<◌, ◌≤◌, ◌�
 ghost use Rattle.stripe_lock.specs.Rule.{outside, waiting, called, weight};
 ghost use Rattle.stripe_lock.specs.Steps.{at_stage, opener};
 ghost use Rattle.stripe_lock.specs.Passes.{pass_of, view_of, dealt, Rests, IsResting};
-ghost use Rattle.stripe_lock.specs.Turns.{Turned, LookedIn, SeesCount, SeesFloor, Joins, Ends};
+ghost use Rattle.stripe_lock.specs.Turns.{Turned, LookedIn, SeesCount, SeesFloor, Joins, LockEnds};
 ghost use Rattle.stripe_lock.specs.Working.{InHand, KeepsTurns, Works, MayPublish, MayLeave, published};
 
 use crate::kept::{Job, KeptState};
@@ -311,7 +311,7 @@ impl<T: KeptState> Gate<T> {
         requires table { badge.table_id ≡ self.table.shared.table_id }
         requires rests { IsResting badge.views }
         requires all { weight (view_of badge.views) % 4294967296 ≡ self.seats }
-        ensures ends { Ends T.KeptState (pass_of badge.table_id (view_of badge.views)) result }
+        ensures ends { LockEnds T.KeptState (pass_of badge.table_id (view_of badge.views)) result }
         ensures weight { weight (view_of badge.views) ≡ self.seats }
     {
         let Gate { table, seats: _ } = self;

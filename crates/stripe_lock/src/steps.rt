@@ -1,5 +1,5 @@
 //! The rule of the table, and the steps of a pass.
-ghost use Rattle.stripe_lock.specs.Steps.{drew, looked, took, gave, ended, stayed, noted, raised, saw, lowered, settled, left_of, right_of, joined, spent};
+ghost use Rattle.stripe_lock.specs.Steps.{drew, looked, took, gave, ended_turn, stayed, noted_turn, raised, saw, lowered, settled, left_view, right_view, joined_view, spent};
 
 use crate::kept::KeptState;
 use crate::view::View;
@@ -43,9 +43,9 @@ impl<T: KeptState> Play<T, View<T::Record>> for Count {
 pub struct Cut;
 
 impl<R> Split<View<R>> for Cut {
-    ghost left = { left_of };
+    ghost left = { left_view };
 
-    ghost right = { right_of };
+    ghost right = { right_view };
 }
 
 /// Adds one to `ticket`: draws a ticket.
@@ -73,7 +73,7 @@ impl<T: KeptState> Play<T, View<T::Record>> for Take {
 pub struct Note;
 
 impl<T: KeptState> Play<T, View<T::Record>> for Note {
-    ghost then = { noted T.KeptState };
+    ghost then = { noted_turn T.KeptState };
 }
 
 /// Raises `floor`.
@@ -94,7 +94,7 @@ impl<T: KeptState> Play<T, View<T::Record>> for Give {
 pub struct End;
 
 impl<T: KeptState> Play<T, View<T::Record>> for End {
-    ghost then = { ended };
+    ghost then = { ended_turn };
 }
 
 /// Loads `count`.
@@ -115,7 +115,7 @@ impl<T: KeptState> Play<T, View<T::Record>> for Low {
 pub struct Both;
 
 impl<R> Join<View<R>> for Both {
-    ghost both = { joined };
+    ghost both = { joined_view };
 
     ghost spent = { spent };
 }

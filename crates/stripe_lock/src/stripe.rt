@@ -2,7 +2,7 @@
 ghost use Rattle.std.specs.Prelude.{◌≡◌, ◌<◌, ◌≤◌, [], length, IfOk, IfErr, IsOk, ◌↔◌, All};
 ghost use Rattle.stripe_lock.specs.History.{first_number};
 ghost use Rattle.stripe_lock.specs.Passes.{dealt};
-ghost use Rattle.stripe_lock.specs.Turns.{Turned, LookedIn, SeesCount, SeesFloor, Joins, Ends};
+ghost use Rattle.stripe_lock.specs.Turns.{Turned, LookedIn, SeesCount, SeesFloor, Joins, LockEnds};
 
 use crate::kept::{Job, KeptState};
 use crate::lock::Gate;
@@ -128,7 +128,7 @@ impl<T: KeptState> SharedStripe<T> {
     /// The state, where no other pass is out; else the lock and the pass.
     pub fn close(self, pass: Pass<T::Record>) -> Result<T, (SharedStripe<T>, Pass<T::Record>)>
         requires lock { pass.lock ≡ self.lock }
-        ensures ends { IfOk result (λ x. Ends T.KeptState pass x) }
+        ensures ends { IfOk result (λ x. LockEnds T.KeptState pass x) }
         ensures back { IfErr result (λ e. (e.0 ≡ self) × (e.1 ≡ pass)) }
         ensures when { IsOk result ↔ (length pass.owned ≡ self.seats) }
     {

@@ -3,16 +3,16 @@ use Rattle.std.proofs.lemmas.List.{length-map}
 use Rattle.stripe_lock.specs.History.{HasJust, AreUnder}
 use Rattle.stripe_lock.proofs.Histories.{prefix_more}
 use Rattle.lock_trials.specs.Rows.{turn_of, turns_of}
-use Rattle.lock_trials.specs.Standing.{StandFrom}
+use Rattle.lock_trials.specs.Standing.{TurnsStandFrom}
 use Rattle.lock_trials.proofs.Standing.{stand_later, counts_both}
 use Rattle.lock_trials.proofs.ticking.tick_both.Goals as goal
 
 pub returns-in-Ok-close-clause-first : goal.returns-in-Ok-close-clause-first
-returns-in-Ok-close-clause-first g c = let stand : StandFrom c.in-Ok-Ok.one.pass.seen 0 0 c.in-Ok-Ok.one.numbers.items = search rules in
+returns-in-Ok-close-clause-first g c = let stand : TurnsStandFrom c.in-Ok-Ok.one.pass.seen 0 0 c.in-Ok-Ok.one.numbers.items = search rules in
     stand_later _ _ 0 0 c.in-Ok-Ok.one.numbers.items (prefix_more _ _ _ c.join.ensures.seen.0 c.in-Ok-close.ensures.ends.seen) stand
 
 pub returns-in-Ok-close-clause-second : goal.returns-in-Ok-close-clause-second
-returns-in-Ok-close-clause-second g c = let stand : StandFrom c.in-Ok-Ok.two.pass.seen 1 0 c.in-Ok-Ok.two.numbers.items = search rules in
+returns-in-Ok-close-clause-second g c = let stand : TurnsStandFrom c.in-Ok-Ok.two.pass.seen 1 0 c.in-Ok-Ok.two.numbers.items = search rules in
     stand_later _ _ 1 0 c.in-Ok-Ok.two.numbers.items (prefix_more _ _ _ c.join.ensures.seen.1 c.in-Ok-close.ensures.ends.seen) stand
 
 pub returns-in-Ok-close-clause-no_others : goal.returns-in-Ok-close-clause-no_others

@@ -1,10 +1,10 @@
 use Rattle.std.proofs.Common.{rules, ◌≡◌, ◌+◌, ◌-◌, ◌≤◌, suc, ℕ, ap, ◌∙◌, ◌∷◌, [], arith}
 use Rattle.stripe_lock.specs.declared.view.View.{View}
-use Rattle.stripe_lock.specs.Steps.{left_of, right_of}
+use Rattle.stripe_lock.specs.Steps.{left_view, right_view}
 use Rattle.stripe_lock.specs.Passes.{dealt}
 use Rattle.stripe_lock.proofs.Looking.{counts}
 use Rattle.stripe_lock.proofs.Passing.{splits}
-use Rattle.stripe_lock.proofs.Dealing.{dealer, dealt_more, is_fresh, left_of-dealer}
+use Rattle.stripe_lock.proofs.Dealing.{dealer, dealt_more, is_fresh, left_view-dealer}
 use Rattle.stripe_lock.proofs.lock.Gate.deal.Goals as goal
 
 pub fetch_add-requires : goal.fetch_add-requires
@@ -22,10 +22,10 @@ loop-number-preserved g c = let first = c.args.seat.me.0 in let lock = c.args.se
     let k = c.loop-number.number in let sum : k + suc n.0 ≡ c.args.self.now.seats = n.1 in let test = c.loop-number-test.true in let low : 1 ≤ n.0 = omega arith in let more : n.0 ≡ suc (n.0 - 1) = omega arith in
     let split = c.split_seat-next.ensures in (
       search rules,
-      (n.0 - 1, omega arith, split.2 ∙ (ap (λ m. (left_of m.0, m.1)) me ∙ (ap (λ (v : View _). (v, [])) (left_of-dealer first.sight.chronicle first.sight.floor k n.0) ∙ ap (λ (m : ℕ). (dealer first.sight.chronicle first.sight.floor (k + 1) m, [])) more))),
+      (n.0 - 1, omega arith, split.2 ∙ (ap (λ m. (left_view m.0, m.1)) me ∙ (ap (λ (v : View _). (v, [])) (left_view-dealer first.sight.chronicle first.sight.floor k n.0) ∙ ap (λ (m : ℕ). (dealer first.sight.chronicle first.sight.floor (k + 1) m, [])) more))),
       dealt_more lock first.sight.chronicle first.sight.floor k _ _ _ c.loop-number.invariant.2 c.push_reserved.ensures.items
           (is_fresh lock c.into_badge.result.table_id first.sight.chronicle first.sight.floor k c.into_badge.result.views (search rules)
-          (c.into_badge.ensures.2 ∙ (ap (λ m. m.0 ∷ []) split.4 ∙ ap (λ m. right_of m.0 ∷ []) me))),
+          (c.into_badge.ensures.2 ∙ (ap (λ m. m.0 ∷ []) split.4 ∙ ap (λ m. right_view m.0 ∷ []) me))),
       search rules,
       search rules,
     )

@@ -18,9 +18,9 @@ join_seat-requires g c = let mine = ap view_of c.into_seat-seat.ensures.2 in let
 )
 
 pub load-requires : goal.load-requires
-load-requires g c = let mine = ap view_of c.into_seat-seat.ensures.2 in let joined = ap (λ m. m.0) c.join_seat.ensures.2 in (
+load-requires g c = let mine = ap view_of c.into_seat-seat.ensures.2 in let joined_view = ap (λ m. m.0) c.join_seat.ensures.2 in (
   search rules,
   search rules,
-  settles g.T.KeptState _ _ _ _ _ (ap (λ (v : View _). v.stage) joined ∙ (ap (λ (v : View _). v.stage) (sym mine) ∙ c.requires.rests.idle))
-      (subst (λ (v : View _). 0 < weight v) (sym joined) (some_more _ _ (subst (λ (v : View _). 0 < weight v) mine c.requires.rests.some_weight))),
+  settles g.T.KeptState _ _ _ _ _ (ap (λ (v : View _). v.stage) joined_view ∙ (ap (λ (v : View _). v.stage) (sym mine) ∙ c.requires.rests.idle))
+      (subst (λ (v : View _). 0 < weight v) (sym joined_view) (some_more _ _ (subst (λ (v : View _). 0 < weight v) mine c.requires.rests.some_weight))),
 )
