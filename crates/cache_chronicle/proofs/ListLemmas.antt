@@ -186,10 +186,10 @@ listed-absent s (Some row) at = let t : None ≡ Some row.place = at in cc
 -- the list of a put
 pub listed-put : (recs : List Rec) (s : State) (opened : Opened) (p : Option PutRow) (before : List Listed) → AreOpened recs (Some opened) p
     → Tells recs before (list_among s (s.displaced ++ s.rows) opened.key)
-    → Tells recs (merged_listed recs (most_payload s.geometry) before (record { at = opened.at; cuts = opened.cuts })) (unwrap_or (option_map (merged_list s) p) [])
+    → Tells recs (merged_listed recs s.geometry.alternates (most_payload s.geometry) before (record { at = opened.at; cuts = opened.cuts })) (unwrap_or (option_map (merged_list s) p) [])
 listed-put recs s opened None before h tells = absurd h
 listed-put recs s opened (Some p) before h tells =
-    merged-told recs (most_payload s.geometry) (record { at = opened.at; cuts = opened.cuts }) _ before (list_among s (s.displaced ++ s.rows) p.key)
+    merged-told recs s.geometry.alternates (most_payload s.geometry) (record { at = opened.at; cuts = opened.cuts }) _ before (list_among s (s.displaced ++ s.rows) p.key)
     (λ i. record { lines = h.lines i; cuts = h.cuts i })
     (rw h.key at tells)
 

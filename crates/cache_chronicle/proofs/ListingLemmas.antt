@@ -5,7 +5,6 @@ use Rattle.std.proofs.lemmas.List.{map-append, length-map}
 use Rattle.std.proofs.lemmas.List.Sums.{sum_by-cons}
 use Rattle.alternate_vector.specs.Alternates.{Stored, alternate_size, is_match, is_within, longest_within, merged, vector_size, with_new}
 use Rattle.cache_model.specs.declared.record.Rec.{Rec}
-use Rattle.cache_model.specs.State.{most_alternates}
 use Rattle.cache_chronicle.specs.declared.listing.Listed.{Listed}
 use Rattle.cache_chronicle.specs.Listing.{Told, Tells, fits_listed, fits_told, longest_listed, merged_listed, replaces, size_of_all, size_of_told, stays_beside, told_by, told_of, with_listed}
 use Rattle.cache_chronicle.proofs.PutLemmas.{lines_at-more}
@@ -17,14 +16,14 @@ sizes_told (a ∷ alternates) =
     ∙ ap (λ n. alternate_size a + n) (sizes_told alternates)
     ∙ sym (sum_by-cons alternate_size a alternates)
 
-fits_stored : (bytes : ℕ) (alternates : List Stored) → fits_told bytes (map told_of alternates) ≡ is_within most_alternates bytes alternates
-fits_stored bytes alternates =
+fits_stored : (most bytes : ℕ) (alternates : List Stored) → fits_told most bytes (map told_of alternates) ≡ is_within most bytes alternates
+fits_stored most bytes alternates =
     let size : size_of_all (map told_of alternates) ≡ vector_size alternates = ap (λ n. 4 + n) (sizes_told alternates) in
-    ap (λ n. nat_le n most_alternates && nat_le (size_of_all (map told_of alternates)) bytes) (length-map alternates told_of)
-    ∙ ap (λ n. nat_le (length alternates) most_alternates && nat_le n bytes) size
+    ap (λ n. nat_le n most && nat_le (size_of_all (map told_of alternates)) bytes) (length-map alternates told_of)
+    ∙ ap (λ n. nat_le (length alternates) most && nat_le n bytes) size
 
-fits_same : (recs : List Rec) (bytes : ℕ) (entries : List Listed) (alternates : List Stored) → Tells recs entries alternates → fits_listed recs bytes entries ≡ is_within most_alternates bytes alternates
-fits_same recs bytes entries alternates h = ap (fits_told bytes) h ∙ fits_stored bytes alternates
+fits_same : (recs : List Rec) (most bytes : ℕ) (entries : List Listed) (alternates : List Stored) → Tells recs entries alternates → fits_listed recs most bytes entries ≡ is_within most bytes alternates
+fits_same recs most bytes entries alternates h = ap (fits_told most bytes) h ∙ fits_stored most bytes alternates
 
 longest_by : (recs : List Rec) (b : Bool) (entries rest : List Listed) (alternates others : List Stored) → Tells recs entries alternates → Tells recs rest others → Tells recs (cond b entries rest) (cond b alternates others)
 longest_by recs true entries rest alternates others h k = h
@@ -36,15 +35,15 @@ tail_told recs e entries a alternates h = cc
 head_told : (recs : List Rec) (e : Listed) (entries : List Listed) (a : Stored) (alternates : List Stored) → Tells recs (e ∷ entries) (a ∷ alternates) → told_by recs e ≡ told_of a
 head_told recs e entries a alternates h = cc
 
-pub longest-told : (recs : List Rec) (bytes : ℕ) (entries : List Listed) (alternates : List Stored) → Tells recs entries alternates
-    → Tells recs (longest_listed recs bytes entries) (longest_within most_alternates bytes alternates)
-longest-told recs bytes [] [] h = refl
-longest-told recs bytes [] (a ∷ alternates) h = let t : [] ≡ told_of a ∷ map told_of alternates = h in cc
-longest-told recs bytes (e ∷ entries) [] h = let t : told_by recs e ∷ map (told_by recs) entries ≡ [] = h in cc
-longest-told recs bytes (e ∷ entries) (a ∷ alternates) h =
-    rw (fits_same recs bytes (e ∷ entries) (a ∷ alternates) h)
-    (longest_by recs (is_within most_alternates bytes (a ∷ alternates)) (e ∷ entries) (longest_listed recs bytes entries) (a ∷ alternates) (longest_within most_alternates bytes alternates)
-    h (longest-told recs bytes entries alternates (tail_told recs e entries a alternates h)))
+pub longest-told : (recs : List Rec) (most bytes : ℕ) (entries : List Listed) (alternates : List Stored) → Tells recs entries alternates
+    → Tells recs (longest_listed recs most bytes entries) (longest_within most bytes alternates)
+longest-told recs most bytes [] [] h = refl
+longest-told recs most bytes [] (a ∷ alternates) h = let t : [] ≡ told_of a ∷ map told_of alternates = h in cc
+longest-told recs most bytes (e ∷ entries) [] h = let t : told_by recs e ∷ map (told_by recs) entries ≡ [] = h in cc
+longest-told recs most bytes (e ∷ entries) (a ∷ alternates) h =
+    rw (fits_same recs most bytes (e ∷ entries) (a ∷ alternates) h)
+    (longest_by recs (is_within most bytes (a ∷ alternates)) (e ∷ entries) (longest_listed recs most bytes entries) (a ∷ alternates) (longest_within most bytes alternates)
+    h (longest-told recs most bytes entries alternates (tail_told recs e entries a alternates h)))
 
 stays_told : (recs : List Rec) (new e : Listed) (put a : Stored) → told_by recs new ≡ told_of put → told_by recs e ≡ told_of a → stays_beside recs new e ≡ not (is_match put.request a)
 stays_told recs new e put a h k = ap (λ t. not (replaces t (told_by recs e))) h ∙ ap (λ t. not (replaces (told_of put) t)) k
@@ -66,10 +65,10 @@ kept_told recs new put (e ∷ entries) (a ∷ alternates) h k =
     here (kept_told recs new put entries alternates h (tail_told recs e entries a alternates k)))
 
 -- lists that tell the same are merged to such lists
-pub merged-told : (recs : List Rec) (bytes : ℕ) (new : Listed) (put : Stored) (entries : List Listed) (alternates : List Stored) → told_by recs new ≡ told_of put → Tells recs entries alternates
-    → Tells recs (merged_listed recs bytes entries new) (merged most_alternates bytes alternates put)
-merged-told recs bytes new put entries alternates h k =
-    longest-told recs bytes (with_listed recs entries new) (with_new alternates put)
+pub merged-told : (recs : List Rec) (most bytes : ℕ) (new : Listed) (put : Stored) (entries : List Listed) (alternates : List Stored) → told_by recs new ≡ told_of put → Tells recs entries alternates
+    → Tells recs (merged_listed recs most bytes entries new) (merged most bytes alternates put)
+merged-told recs most bytes new put entries alternates h k =
+    longest-told recs most bytes (with_listed recs entries new) (with_new alternates put)
     (map-append (told_by recs) (filter (stays_beside recs new) entries) (new ∷ [])
     ∙ ap (λ told. told ++ told_by recs new ∷ []) (kept_told recs new put entries alternates h k)
     ∙ ap (λ t. map told_of (filter (λ a. not (is_match put.request a)) alternates) ++ t ∷ []) h

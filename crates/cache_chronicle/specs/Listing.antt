@@ -6,7 +6,6 @@ use Rattle.alternate_vector.specs.Vary.{request_matches}
 use Rattle.alternate_vector.specs.Alternates.{Stored, fields_size}
 use Rattle.cache_model.specs.declared.record.Rec.{Rec}
 use Rattle.cache_model.specs.declared.record.Rec.TheVariants as rec
-use Rattle.cache_model.specs.State.{most_alternates}
 use Rattle.cache_chronicle.specs.declared.listing.Listed.{Listed}
 
 -- the lines that a put was opened with
@@ -63,19 +62,19 @@ size_of_told t = size_of_lines t.lines t.cuts
 abbrev pub size_of_all : List Told → ℕ
 size_of_all told = 4 + sum_by size_of_told told
 
--- no more than a vector may have
-abbrev pub fits_told : ℕ → List Told → Bool
-fits_told bytes told = nat_le (length told) most_alternates && nat_le (size_of_all told) bytes
+-- no more alternates and bytes than a vector may have
+abbrev pub fits_told : ℕ → ℕ → List Told → Bool
+fits_told most bytes told = nat_le (length told) most && nat_le (size_of_all told) bytes
 
 -- the same of entries, by what the records tell of them
-abbrev pub fits_listed : List Rec → ℕ → List Listed → Bool
-fits_listed recs bytes entries = fits_told bytes (map (told_by recs) entries)
+abbrev pub fits_listed : List Rec → ℕ → ℕ → List Listed → Bool
+fits_listed recs most bytes entries = fits_told most bytes (map (told_by recs) entries)
 
 -- the longest end that fits
-abbrev pub longest_listed : List Rec → ℕ → List Listed → List Listed
-longest_listed recs bytes [] = []
-longest_listed recs bytes (e ∷ entries) =
-    if fits_listed recs bytes (e ∷ entries) then e ∷ entries else longest_listed recs bytes entries
+abbrev pub longest_listed : List Rec → ℕ → ℕ → List Listed → List Listed
+longest_listed recs most bytes [] = []
+longest_listed recs most bytes (e ∷ entries) =
+    if fits_listed recs most bytes (e ∷ entries) then e ∷ entries else longest_listed recs most bytes entries
 
 -- the entry stays where the new one comes
 abbrev pub stays_beside : List Rec → Listed → Listed → Bool
@@ -86,5 +85,5 @@ abbrev pub with_listed : List Rec → List Listed → Listed → List Listed
 with_listed recs before new = filter (stays_beside recs new) before ++ new ∷ []
 
 -- what a new put leaves of the entries
-abbrev pub merged_listed : List Rec → ℕ → List Listed → Listed → List Listed
-merged_listed recs bytes before new = longest_listed recs bytes (with_listed recs before new)
+abbrev pub merged_listed : List Rec → ℕ → ℕ → List Listed → Listed → List Listed
+merged_listed recs most bytes before new = longest_listed recs most bytes (with_listed recs before new)

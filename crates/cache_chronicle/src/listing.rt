@@ -13,29 +13,38 @@ pub(crate) struct Listed {
     pub(crate) cuts: u64,
 }
 
-const MOST: usize = 5;
+// The most alternates that a geometry lets a vector list.
+const MOST: usize = 16;
 
 pub(crate) type Listing = ArrayVec<Listed, MOST>;
 
 /// The alternates before that the new request does not match, and behind them the new one, as many
 /// from the end as fit.
-pub(crate) fn merged(records: &[Rec], before: &[Listed], new: Listed, bytes: u64) -> Listing
-    requires { length before.now ≤ 5 }
-    ensures { result.items ≡ merged_listed records.now bytes before.now new }
+pub(crate) fn merged(
+    records: &[Rec],
+    before: &[Listed],
+    new: Listed,
+    most: u32,
+    bytes: u64,
+) -> Listing
+    requires before { length before.now ≤ 16 }
+    requires most { most ≤ 16 }
+    ensures { result.items ≡ merged_listed records.now most bytes before.now new }
 {
     let all = with_listed(records, before, new);
     let mut listing = ArrayVec::new();
     let put: Result<_, _> = listing.try_extend_from_slice(longest_listed(
         records,
         all.as_slice(),
+        most,
         bytes,
     ));
     put.unwrap();
     listing
 }
 
-fn with_listed(records: &[Rec], before: &[Listed], new: Listed) -> ArrayVec<Listed, 6>
-    requires { length before.now ≤ 5 }
+fn with_listed(records: &[Rec], before: &[Listed], new: Listed) -> ArrayVec<Listed, 17>
+    requires { length before.now ≤ 16 }
     ensures { result.items ≡ with_listed records.now before.now new }
 {
     let mut all = ArrayVec::new();
@@ -66,28 +75,33 @@ fn replaces(records: &[Rec], new: &Listed, old: &Listed) -> bool
     }
 }
 
-fn longest_listed<'a>(records: &[Rec], mut entries: &'a [Listed], bytes: u64) -> &'a [Listed]
-    requires { length entries.now ≤ 6 }
-    ensures longest { result.now ≡ longest_listed records.now bytes entries.now }
-    ensures few { length result.now ≤ 5 }
+fn longest_listed<'a>(
+    records: &[Rec],
+    mut entries: &'a [Listed],
+    most: u32,
+    bytes: u64,
+) -> &'a [Listed]
+    requires { length entries.now ≤ 17 }
+    ensures longest { result.now ≡ longest_listed records.now most bytes entries.now }
+    ensures few { length result.now ≤ most }
 {
     while let [_, rest @ ..] = entries
-        && !fits(records, entries, bytes)
+        && !fits(records, entries, most, bytes)
     {
         entries = rest;
     }
     entries
 }
 
-fn fits(records: &[Rec], entries: &[Listed], bytes: u64) -> bool
-    requires { length entries.now ≤ 6 }
-    ensures { result ≡ fits_listed records.now bytes entries.now }
+fn fits(records: &[Rec], entries: &[Listed], most: u32, bytes: u64) -> bool
+    requires { length entries.now ≤ 17 }
+    ensures { result ≡ fits_listed records.now most bytes entries.now }
 {
-    entries.len() <= MOST && size_of_all(records, entries) <= bytes as u128
+    entries.len() <= most as usize && size_of_all(records, entries) <= bytes as u128
 }
 
 fn size_of_all(records: &[Rec], entries: &[Listed]) -> u128
-    requires { length entries.now ≤ 6 }
+    requires { length entries.now ≤ 17 }
     ensures { result ≡ size_of_all (map (told_by records.now) entries.now) }
 {
     let mut size = 4;

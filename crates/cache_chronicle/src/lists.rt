@@ -102,13 +102,14 @@ impl Lists {
             cuts: opened.cuts,
         };
         let before = self.list_among(tables, opened.key);
-        merged(records, before, new, tables.tape.most_payload())
+        let most = tables.tape.most_alternates();
+        merged(records, before, new, most, tables.tape.most_payload())
     }
 
     // What the key's last vector lists, also where that was just displaced.
     fn list_among(&self, tables: &Tables, key: Key) -> &[Listed]
         ensures list { (recs : List Rec') (s : State) → HasTables tables.now s → HasLists self.now recs s → Tells recs result.now (list_among s (s.displaced ++ s.rows) key) }
-        ensures few { length result.now ≤ 5 }
+        ensures few { length result.now ≤ 16 }
     {
         match last_of(&tables.vectors, key) {
             Some(LastVector::Complete(put)) => self.list_of_row(tables, vector_piece(key, put)),
@@ -119,7 +120,7 @@ impl Lists {
     fn list_of_row(&self, tables: &Tables, id: PieceId) -> &[Listed]
         ensures list { (recs : List Rec') (s : State) → HasTables tables.now s → HasLists self.now recs s → is_vector id ≡ true
             → Tells recs result.now (unwrap_or (option_map (list_of_row s) (row_in (s.displaced ++ s.rows) id)) []) }
-        ensures few { length result.now ≤ 5 }
+        ensures few { length result.now ≤ 16 }
     {
         match self.place_among(tables, id) {
             Some(place) if tables.tape.floor() <= place => self.listing_of(id),
@@ -140,7 +141,7 @@ impl Lists {
     /// The list of the vector that was placed last under this name.
     pub(crate) fn listing_of(&self, id: PieceId) -> &[Listed]
         ensures list { result.now ≡ listing_at self.now.listings id }
-        ensures few { length result.now ≤ 5 }
+        ensures few { length result.now ≤ 16 }
     {
         match self.listings.get(&id) {
             Some(listing) => listing.as_slice(),

@@ -1,4 +1,4 @@
-// Where the buffer begins.
+// Where the buffer begins, and what a vector may hold.
 ghost use Rattle.std.specs.Prelude.{◌≡◌, ◌+◌, ◌-◌, ◌≤◌};
 ghost use Rattle.cache_model.specs.State.{State, most_payload, nothing_yet, state_after};
 
@@ -10,7 +10,9 @@ pub(crate) struct Tape {
     cursor: u64,
     content: u64,
     agg: u32,
+    alternates: u32,
     ghost narrow: { agg ≤ content },
+    ghost few: { alternates ≤ 16 },
 }
 
 impl Tape {
@@ -24,6 +26,7 @@ impl Tape {
             cursor: 32,
             content: 32,
             agg: 8,
+            alternates: 5,
         }
     }
 
@@ -40,6 +43,14 @@ impl Tape {
         (512 * (self.agg as u64 / 2)).saturating_sub(128)
     }
 
+    /// The most alternates that a vector may list.
+    pub(crate) fn most_alternates(&self) -> u32
+        ensures most { (s : State) → HasTape self.now s → result ≡ s.geometry.alternates }
+        ensures few { result ≤ 16 }
+    {
+        self.alternates
+    }
+
     /// The tape behind one more record.
     pub(crate) fn after(self, rec: &Rec) -> Tape
         ensures { (s : State) → HasTape self s → HasTape result (state_after s rec.now) }
@@ -49,11 +60,13 @@ impl Tape {
                 cursor: geometry.content,
                 content: geometry.content,
                 agg: geometry.agg,
+                alternates: geometry.alternates,
             },
             Rec::Began { cursor, .. } => Tape {
                 cursor,
                 content: self.content,
                 agg: self.agg,
+                alternates: self.alternates,
             },
             _ => self,
         }

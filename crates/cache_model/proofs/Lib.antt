@@ -1,5 +1,6 @@
 pub mod Found
 pub mod Lists
+pub mod Pairs
 pub mod Laps
 pub mod Rows
 mod Places
@@ -19,9 +20,9 @@ mod Purged
 mod Possible
 mod Tried
 pub mod Merged
-mod VectorLaws
+pub mod VectorLaws
 pub mod Told
-mod ToldGroups
+pub mod ToldGroups
 pub mod Alike
 mod Chosen
 pub mod Walks

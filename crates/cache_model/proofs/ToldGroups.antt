@@ -195,7 +195,7 @@ shown_later IsPlaced p s w between added recs one v = record {
   pair = subst (λ t. IsPairNext IsPlaced p t v.left.intents) (sym (after_all-append s added v.before)) v.pair;
 }
 
-told_grown : {p : Permit} {s : State} {w after : Work} {recs : List Rec} → MayGrow p s w recs after → IsSound s → AreTold s → AreTold (after_all s recs) ⊎ ShowsFrom IsVectorAs p s w recs
+pub told_grown : {p : Permit} {s : State} {w after : Work} {recs : List Rec} → MayGrow p s w recs after → IsSound s → AreTold s → AreTold (after_all s recs) ⊎ ShowsFrom IsVectorAs p s w recs
 told_grown nothing h told = inl told
 told_grown {p} {s} {w} (more {rest = tail} added between one others) h told =
     let later : IsLater s (after_all s added) = later_advanced p s w.intents w.refused added between one h in

@@ -1,7 +1,9 @@
 -- A live vector's alternates, and what its bytes give back.
-use Rattle.std.proofs.Common.{◌≡◌, ℕ, ◌≤◌, List, [], refl, sym, ◌∙◌, ap, inl, inr, ◌⊎◌, take, Bool, true, false}
+use Rattle.std.proofs.Common.{◌≡◌, ℕ, ◌≤◌, List, [], refl, sym, subst, ◌∙◌, ap, inl, inr, ◌⊎◌, take, Bool, true, false}
 use Rattle.std.specs.Prelude.{Option, Some, None, if◌then◌else◌, option_map, option_and_then, unwrap_or}
 use Rattle.tape_base.specs.declared.keys.Key.{Key}
+use Rattle.tape_base.specs.declared.pieces.PieceId.{PieceId}
+use Rattle.tape_base.specs.Piece.{is_vector}
 use Rattle.tape_base.specs.Blocks.{blocks_of}
 use Rattle.tape_base.specs.Digest.{Collide}
 use Rattle.tape_base.specs.Geometry.{budget_of}
@@ -19,6 +21,7 @@ use Rattle.cache_model.specs.Verdict.{live_vector_of, vector_of_last}
 use Rattle.cache_model.specs.Legal.{FitsAlone}
 use Rattle.cache_model.specs.Vectors.{AreTold, AreVectors, IsVectorRow, vector_doc, vector_document}
 use Rattle.cache_model.proofs.Found.{none_is}
+use Rattle.cache_model.proofs.Lists.{own_piece}
 use Rattle.cache_model.proofs.Merged.{IsMerged, listed_row, put_told}
 
 -- ---- a live vector
@@ -50,6 +53,22 @@ listed_last s key row None each h = none_is h
 pub live_vector_is_listed : (s : State) (key : Key) (row : Row) → AreVectors s → live_vector_of s key ≡ Some row
     → (list : List Stored) × IsVectorRow s row list × (alternates_of s key ≡ list)
 live_vector_is_listed s key row each h = listed_last s key row (last_vector s key) each h
+
+-- a key's live vector is a vector, and is live by its own name
+pub record IsLiveVector (s : State) (row : Row) : Type 0 where
+  pub vector : is_vector row.id ≡ true
+  pub live : live_row_of s row.id ≡ Some row
+
+stands_last : (s : State) (key : Key) (row : Row) (last : Option LastVector) → option_and_then (live_row_of s) (option_and_then (vector_of_last key) last) ≡ Some row → IsLiveVector s row
+stands_last s key row (Some (Complete put)) h =
+    let id : PieceId = vector_piece key put in
+    let own : row.id ≡ id = own_piece id s.rows row (live_found s (row_in s.rows id) row h).found in
+    record { vector = ap is_vector own; live = subst (λ i. live_row_of s i ≡ Some row) (sym own) h }
+stands_last s key row (Some (TakenOut put)) h = none_is h
+stands_last s key row None h = none_is h
+
+pub live_vector_stands : (s : State) (key : Key) (row : Row) → live_vector_of s key ≡ Some row → IsLiveVector s row
+live_vector_stands s key row h = stands_last s key row (last_vector s key) h
 
 -- ---- its bytes
 

@@ -1,6 +1,7 @@
 -- What contracts see of a cyclone: the content area that is written in a circle, the buffer of what
 -- is not written yet, and the directory of what stands on both (Traffic Server guide, "Cache Architecture").
 use Rattle.std.specs.Prelude.{ℕ, ◌≡◌, ◌+◌, ◌*◌, ◌<◌, ◌≤◌, ◌^◌, Bool, List, [], ◌∷◌, length, IsPermutation, All, MatchBool}
+use Rattle.hex.specs.Hex.{IsBytes}
 use Rattle.tape_base.specs.declared.geometries.Geometry.{Geometry}
 use Rattle.tape_base.specs.declared.pieces.PieceId.{PieceId}
 use Rattle.tape_base.specs.Piece.{key_of_piece}
@@ -156,6 +157,7 @@ pub record Reads (old new : Seen) (place blocks : ℕ) (result : Result (Unit {0
   pub keeps : Keeps 0 0 old.device new.device
   pub same : SameSeen old.device new.device
   pub length : length bytes ≡ 512 * blocks
+  pub of_bytes : IsBytes bytes
   pub buffered : old.buffer.cursor ≤ place → bytes ≡ bytes_at old.buffer place blocks
   pub given : OnOk result (place < old.buffer.cursor → IsTold new.device → bytes ≡ span old.device.seen (slot_of old.geometry place) blocks)
   pub cause : HasCause old.device.faults new.device.faults result

@@ -1,9 +1,9 @@
 -- A step's line is read as that step.
-use Rattle.std.proofs.Common.{◌≡◌, ℕ, ◌+◌, ◌<◌, ◌^◌, true, false, List, [], ◌∷◌, ◌++◌, length, Some, Ok, refl, ap, ◌∙◌, arith}
-use Rattle.std.specs.Prelude.{◌==◌, codes}
+use Rattle.std.proofs.Common.{◌≡◌, ℕ, ◌+◌, ◌<◌, ◌^◌, Bool, true, false, sym, List, [], ◌∷◌, ◌++◌, length, Some, Ok, refl, ap, ◌∙◌, arith}
+use Rattle.std.specs.Prelude.{◌==◌, codes, if◌then◌else◌}
 use Rattle.std.specs.List.{AllByRecursion, list_all, join_with_byte}
 use Rattle.std.specs.Fmt.{decimal}
-use Rattle.std.proofs.lemmas.Bool.{and_parts}
+use Rattle.std.proofs.lemmas.Bool.{and_parts, eqb-true}
 use Rattle.std.proofs.lemmas.Bool.Decides.{nat_tests}
 use Rattle.hex.specs.Hex.{IsBytes}
 use Rattle.tape_base.specs.declared.keys.Key.{Key}
@@ -17,8 +17,8 @@ use Rattle.script_lang.specs.declared.verbs.Verb.TheVariants as verb
 use Rattle.script_lang.specs.Words.{WordAt, is_word_byte, located}
 use Rattle.script_lang.specs.Tokens.{is_digit, is_actor_byte, actor_of}
 use Rattle.script_lang.specs.Verbs.{same_word, verb_of}
-use Rattle.script_lang.specs.Grammar.{take_number, numbers_of, format_of, put_of, get_of, take_actor, open_write_of, data_of, open_read_of, only_actor, by_actor, remove_of, now_of, step_by, step_of, is_passed_over, reading_of}
-use Rattle.script_lang.specs.Spelled.{FitsFormat, HoldsFields, IsActor, IsKey, SpelledIsRead, body_word, key_word, request_words, response_words, spelled, step_words}
+use Rattle.script_lang.specs.Grammar.{take_number, alternates_kept, numbers_of, format_of, put_of, get_of, take_actor, open_write_of, data_of, open_read_of, only_actor, by_actor, remove_of, now_of, step_by, step_of, is_passed_over, reading_of}
+use Rattle.script_lang.specs.Spelled.{FitsFormat, HoldsFields, IsActor, IsKey, SpelledIsRead, alternates_words, body_word, key_word, request_words, response_words, spelled, step_words}
 use Rattle.script_lang.proofs.Joined.{IsWord, all_wider, words_joined}
 use Rattle.script_lang.proofs.Numbers.{number_below-decimal, all_digits-decimal}
 use Rattle.script_lang.proofs.WrittenWords.{body_of-body_word, body_word_is_word, decimal_is_word, key_word_is_word, object_of-key_word}
@@ -83,10 +83,26 @@ digit_first n h = by (decimal n) (all_digits-decimal n h)
 
 -- ---- the steps
 
-format_read : (end column : ℕ) (name : List ℕ) (s b n a r f g : ℕ) → FitsFormat name s b n a r f g
-    → format_of end (located column (name ∷ decimal s ∷ decimal b ∷ decimal n ∷ decimal a ∷ decimal r ∷ decimal f ∷ decimal g ∷ [])) ≡ Ok (step.Format name s b n a r f g)
+-- where there is no word, and where there is one
+alternates_read : (end column m : ℕ) → m < 2 ^ 32 → alternates_kept end (located column (alternates_words m)) ≡ Ok m
+unfolding alternates_kept
+alternates_read end column m h = by_test (m == 5) refl
+  where
+    by_test : (b : Bool) → (m == 5) ≡ b → alternates_kept end (located column (if b then [] else decimal m ∷ [])) ≡ Ok m
+    by_test true e = ap Ok (sym (eqb-true m 5 e))
+    by_test false e = rw (short_taken end column m [] h) refl
+
+alternates_words_are : (m : ℕ) → m < 2 ^ 32 → AllByRecursion IsWord (alternates_words m)
+alternates_words_are m h = by_test (m == 5)
+  where
+    by_test : (b : Bool) → AllByRecursion IsWord (if b then [] else decimal m ∷ [])
+    by_test true = tt
+    by_test false = (decimal_is_word m (omega (arith, h)), tt)
+
+format_read : (end column : ℕ) (name : List ℕ) (s b n a r f g m : ℕ) → FitsFormat name s b n a r f g m
+    → format_of end (located column (name ∷ decimal s ∷ decimal b ∷ decimal n ∷ decimal a ∷ decimal r ∷ decimal f ∷ decimal g ∷ alternates_words m)) ≡ Ok (step.Format name s b n a r f g m)
 unfolding format_of numbers_of
-format_read end column name s b n a r f g h =
+format_read end column name s b n a r f g m h =
     let small : s < 2 ^ 64 = omega (arith, h.segments_fit) in
     rw (
       h.word,
@@ -99,13 +115,14 @@ format_read end column name s b n a r f g h =
       long_taken end _ r _ h.reach_fits,
       short_taken end _ f _ h.fragment_fits,
       long_taken end _ g _ h.generation_fits,
+      alternates_read end _ m h.alternates_fit,
     )
     refl
 
-format_words_are : (name : List ℕ) (s b n a r f g : ℕ) → FitsFormat name s b n a r f g
-    → AllByRecursion IsWord (codes "format" ∷ name ∷ decimal s ∷ decimal b ∷ decimal n ∷ decimal a ∷ decimal r ∷ decimal f ∷ decimal g ∷ [])
-format_words_are name s b n a r f g h =
-    (refl, (h.word, (decimal_is_word s (omega (arith, h.segments_fit)), (decimal_is_word b (omega (arith, h.buckets_fit)), (decimal_is_word n h.content_fits, (decimal_is_word a (omega (arith, h.agg_fits)), (decimal_is_word r h.reach_fits, (decimal_is_word f (omega (arith, h.fragment_fits)), (decimal_is_word g h.generation_fits, tt)))))))))
+format_words_are : (name : List ℕ) (s b n a r f g m : ℕ) → FitsFormat name s b n a r f g m
+    → AllByRecursion IsWord (codes "format" ∷ name ∷ decimal s ∷ decimal b ∷ decimal n ∷ decimal a ∷ decimal r ∷ decimal f ∷ decimal g ∷ alternates_words m)
+format_words_are name s b n a r f g m h =
+    (refl, (h.word, (decimal_is_word s (omega (arith, h.segments_fit)), (decimal_is_word b (omega (arith, h.buckets_fit)), (decimal_is_word n h.content_fits, (decimal_is_word a (omega (arith, h.agg_fits)), (decimal_is_word r h.reach_fits, (decimal_is_word f (omega (arith, h.fragment_fits)), (decimal_is_word g h.generation_fits, alternates_words_are m h.alternates_fit)))))))))
 
 put_read : (end column : ℕ) (object : Key) (body : List ℕ) (request response : List Field) → IsKey object → IsBytes body → HoldsFields request → HoldsFields response
     → put_of end (located column (key_word object ∷ body_word body ∷ (request_words request ++ response_words response))) ≡ Ok (step.Put object body request response)
@@ -149,8 +166,8 @@ by_actor_read end column actor make who = rw (only_actor_read end column actor w
 
 pub spelled_is_read : SpelledIsRead
 unfolding verb_of
-spelled_is_read (step.Format name s b n a r f g) h =
-    step_read _ _ _ verb.Format _ refl refl (format_words_are name s b n a r f g h) refl (λ end column. format_read end column name s b n a r f g h)
+spelled_is_read (step.Format name s b n a r f g m) h =
+    step_read _ _ _ verb.Format _ refl refl (format_words_are name s b n a r f g m h) refl (λ end column. format_read end column name s b n a r f g m h)
 spelled_is_read (step.Put object body request response) h =
     step_read _ _ _ verb.Put _ refl refl (refl, (key_word_is_word object, (body_word_is_word body h.1, both_words_are request response h.2 h.3))) refl
     (λ end column. put_read end column object body request response h.0 h.1 h.2 h.3)

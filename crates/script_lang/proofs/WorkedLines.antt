@@ -17,7 +17,7 @@ use Rattle.script_lang.specs.Words.{bad}
 use Rattle.script_lang.specs.Tokens.{number_in, number_below, key_in, object_of, hex_body, repeated_body, body_of, actor_of}
 use Rattle.script_lang.specs.Fields.{with_word}
 use Rattle.script_lang.specs.Verbs.{verb_of}
-use Rattle.script_lang.specs.Grammar.{take_number, usual_of, format_of, put_of, get_of, take_actor, open_write_of, data_of, remove_of, now_of, step_of, reading_of}
+use Rattle.script_lang.specs.Grammar.{take_number, alternates_kept, usual_of, format_of, put_of, get_of, take_actor, open_write_of, data_of, remove_of, now_of, step_of, reading_of}
 use Rattle.script_lang.specs.Texts.{answer_line, cause_line, fault_line, lost_text, number_line, numbered, passed_text, piece_line, refused_line, shown}
 
 abbrev field : List ℕ → List ℕ → Field
@@ -31,9 +31,13 @@ flush : reading_of (codes "flush") ≡ answer.Step step.Flush
 unfolding reading_of step_of verb_of
 flush = refl
 
-usual : reading_of (codes "format mem:a default 1") ≡ answer.Step (step.Format (codes "mem:a") 4 8192 2097152 8192 65536 1048576 1)
-unfolding reading_of step_of verb_of format_of usual_of take_number number_below number_in
+usual : reading_of (codes "format mem:a default 1") ≡ answer.Step (step.Format (codes "mem:a") 4 8192 2097152 8192 65536 1048576 1 5)
+unfolding reading_of step_of verb_of format_of usual_of alternates_kept take_number number_below number_in
 usual = refl
+
+usual_of_two : reading_of (codes "format mem:a default 1 2") ≡ answer.Step (step.Format (codes "mem:a") 4 8192 2097152 8192 65536 1048576 1 2)
+unfolding reading_of step_of verb_of format_of usual_of alternates_kept take_number number_below number_in
+usual_of_two = refl
 
 -- two fields of a request, of which the first stands behind by its name
 get : reading_of (codes "get /a >X:%41: >accept:") ≡ answer.Step (step.Get (key_of_url (codes "/a")) (field (codes "accept") [] ∷ field (codes "x") (codes "A:") ∷ []))

@@ -1,5 +1,5 @@
 -- Which line is which step, and where the first word that does not fit stands.
-use Rattle.std.specs.Prelude.{ℕ, ◌+◌, ◌^◌, ◌==◌, Bool, ◌||◌, if◌then◌else◌, List, length, codes, slice_index, Option, Some, None, Result, Ok, Err}
+use Rattle.std.specs.Prelude.{ℕ, ◌+◌, ◌^◌, ◌==◌, Bool, ◌||◌, if◌then◌else◌, List, [], ◌∷◌, length, codes, slice_index, Option, Some, None, Result, Ok, Err}
 use Rattle.script_lang.specs.declared.line.BadKind.TheVariants as kind
 use Rattle.script_lang.specs.declared.line.BadLine.{BadLine}
 use Rattle.script_lang.specs.declared.line.LineAnswer.{LineAnswer}
@@ -21,14 +21,22 @@ take_number limit end words = do
   n ← number_below limit w.0
   Ok (n, w.1)
 
+-- the number of alternates, and no word behind it; 5 where no word is left
+unfoldable pub alternates_kept : ℕ → List WordAt → Result ℕ BadLine
+alternates_kept end [] = Ok 5
+alternates_kept end (w ∷ words) = do
+  most ← take_number (2 ^ 32) end (w ∷ words)
+  done ← take_end most.1
+  Ok most.0
+
 -- the generation behind `default`, and the numbers of the usual geometry
 unfoldable pub usual_of : ℕ → List ℕ → List WordAt → Result Step BadLine
 usual_of end name words = do
   generation ← take_number (2 ^ 64) end words
-  done ← take_end generation.1
-  Ok (step.Format name 4 8192 2097152 8192 65536 1048576 generation.0)
+  alternates ← alternates_kept end generation.1
+  Ok (step.Format name 4 8192 2097152 8192 65536 1048576 generation.0 alternates)
 
--- seven numbers, of which the first was taken
+-- the numbers of a geometry, of which the first was taken
 unfoldable pub numbers_of : ℕ → List ℕ → ℕ → List WordAt → Result Step BadLine
 numbers_of end name segments words = do
   buckets ← take_number (2 ^ 32) end words
@@ -37,19 +45,19 @@ numbers_of end name segments words = do
   reach ← take_number (2 ^ 64) end agg.1
   fragment ← take_number (2 ^ 32) end reach.1
   generation ← take_number (2 ^ 64) end fragment.1
-  done ← take_end generation.1
-  Ok (step.Format name segments buckets.0 content.0 agg.0 reach.0 fragment.0 generation.0)
+  alternates ← alternates_kept end generation.1
+  Ok (step.Format name segments buckets.0 content.0 agg.0 reach.0 fragment.0 generation.0 alternates)
 
--- the word that stands for the usual numbers, but for the generation
+-- the word that stands for the usual numbers, but for the generation and the alternates
 abbrev pub is_default : WordAt → Bool
 is_default w = same_word w.bytes (codes "default")
 
--- a word behind the name: `default`, or the first of seven numbers
+-- a word behind the name: `default`, or the first of the numbers
 abbrev pub geometry_of : ℕ → List ℕ → WordAt → List WordAt → Result Step BadLine
 geometry_of end name w words =
     if is_default w then usual_of end name words else number_below (2 ^ 32) w >>= (λ segments. numbers_of end name segments words)
 
--- format NAME S B N A R F G, or format NAME default G
+-- format NAME S B N A R F G [M], or format NAME default G [M]
 unfoldable pub format_of : ℕ → List WordAt → Result Step BadLine
 format_of end words = do
   name ← take_word end words

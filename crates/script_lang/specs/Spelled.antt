@@ -47,10 +47,14 @@ response_words fields = map (field_word 60) fields
 
 -- ---- how steps are written
 
--- the verb and the words behind it: a geometry by its seven numbers, request lines before response lines
+-- no word for the five alternates that a line without a number asks for
+abbrev pub alternates_words : ℕ → List (List ℕ)
+alternates_words alternates = if alternates == 5 then [] else decimal alternates ∷ []
+
+-- the verb and the words behind it: a geometry by its numbers, request lines before response lines
 abbrev pub step_words : Step → List (List ℕ)
-step_words (step.Format name segments buckets content agg reach fragment generation) =
-    codes "format" ∷ name ∷ decimal segments ∷ decimal buckets ∷ decimal content ∷ decimal agg ∷ decimal reach ∷ decimal fragment ∷ decimal generation ∷ []
+step_words (step.Format name segments buckets content agg reach fragment generation alternates) =
+    codes "format" ∷ name ∷ decimal segments ∷ decimal buckets ∷ decimal content ∷ decimal agg ∷ decimal reach ∷ decimal fragment ∷ decimal generation ∷ alternates_words alternates
 step_words (step.Put object body request response) = codes "put" ∷ key_word object ∷ body_word body ∷ (request_words request ++ response_words response)
 step_words (step.Get object request) = codes "get" ∷ key_word object ∷ request_words request
 step_words (step.OpenWrite actor object pin request response) =
@@ -85,7 +89,7 @@ pub record HoldsFields (fields : List Field) : Type 0 where
   pub bytes : AllByRecursion HasBytes fields
 
 -- a device's name that is a word, and numbers of the widths that a geometry has
-pub record FitsFormat (name : List ℕ) (segments buckets content agg reach fragment generation : ℕ) : Type 0 where
+pub record FitsFormat (name : List ℕ) (segments buckets content agg reach fragment generation alternates : ℕ) : Type 0 where
   pub word : is_word name ≡ true
   pub segments_fit : segments < 2 ^ 32
   pub buckets_fit : buckets < 2 ^ 32
@@ -94,6 +98,7 @@ pub record FitsFormat (name : List ℕ) (segments buckets content agg reach frag
   pub reach_fits : reach < 2 ^ 64
   pub fragment_fits : fragment < 2 ^ 32
   pub generation_fits : generation < 2 ^ 64
+  pub alternates_fit : alternates < 2 ^ 32
 
 -- a name of 1 to 32 letters, digits and `-`
 abbrev pub IsActor : List ℕ → Type 0
@@ -101,7 +106,8 @@ IsActor actor = is_actor actor ≡ true
 
 -- a step whose names are words and whose values are those of its types
 abbrev pub HasSpelling : Step → Type 0
-HasSpelling (step.Format name segments buckets content agg reach fragment generation) = FitsFormat name segments buckets content agg reach fragment generation
+HasSpelling (step.Format name segments buckets content agg reach fragment generation alternates) =
+    FitsFormat name segments buckets content agg reach fragment generation alternates
 HasSpelling (step.Put object body request response) = IsKey object × IsBytes body × HoldsFields request × HoldsFields response
 HasSpelling (step.Get object request) = IsKey object × HoldsFields request
 HasSpelling (step.OpenWrite actor object pin request response) = IsActor actor × IsKey object × (pin < 2 ^ 64) × HoldsFields request × HoldsFields response

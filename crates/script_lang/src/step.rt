@@ -45,6 +45,7 @@ pub enum Step {
         reach: u64,
         fragment: u32,
         generation: u64,
+        alternates: u32,
     },
     /// Stores a body at once.
     Put {

@@ -1,6 +1,6 @@
 // The step of each verb, from the words behind it.
 ghost use Rattle.std.specs.Prelude.{◌≡◌, ◌^◌};
-ghost use Rattle.script_lang.specs.Grammar.{take_number, usual_of, numbers_of, geometry_of, format_of, put_of, get_of, take_actor, open_write_of, data_of, open_read_of, only_actor, remove_of, flush_of, now_of, step_by};
+ghost use Rattle.script_lang.specs.Grammar.{take_number, alternates_kept, usual_of, numbers_of, geometry_of, format_of, put_of, get_of, take_actor, open_write_of, data_of, open_read_of, only_actor, remove_of, flush_of, now_of, step_by};
 ghost use Rattle.script_lang.specs.Taken.{seen, words_in, TakesNumber};
 ghost use Rattle.script_lang.specs.Refusal.{Reads, Takes};
 
@@ -11,6 +11,9 @@ use crate::verbs::{Verb, is_word};
 use crate::{BadLine, ByteList, Step};
 use std::alloc::Global;
 use tape_base::Geometry;
+
+// The alternates that are kept where a line does not say how many.
+const ALTERNATES: u32 = 5;
 
 /// The next word, as a number below 2^32.
 #[tactic(auto, unfolding(crate::specs::Grammar::take_number))]
@@ -32,13 +35,26 @@ fn take_long(words: &mut Words) -> Result<u64, BadLine>
     long_number(word)
 }
 
-/// The generation behind `default`, and the numbers of the usual geometry.
+/// The number of alternates, if a word is left, and the end of the line.
+#[tactic(auto, unfolding(crate::specs::Grammar::alternates_kept))]
+fn alternates(words: &mut Words) -> Result<u32, BadLine>
+    ensures { result ≡ alternates_kept words.old.end (words_in words.old) }
+{
+    if !words.has_more() {
+        return Ok(ALTERNATES);
+    }
+    let most = take_short(words)?;
+    words.end()?;
+    Ok(most)
+}
+
+/// What stands behind `default`, and the numbers of the usual geometry.
 #[tactic(auto, unfolding(crate::specs::Grammar::usual_of))]
 fn usual(name: ByteList, words: &mut Words) -> Result<Step, Refusal>
     ensures { Reads (usual_of words.old.end name (words_in words.old)) result }
 {
     let usual = Geometry::usual(take_long(words)?);
-    words.end()?;
+    let alternates = alternates(words)?;
     Ok(Step::Format {
         name,
         segments: usual.segments,
@@ -48,6 +64,7 @@ fn usual(name: ByteList, words: &mut Words) -> Result<Step, Refusal>
         reach: usual.reach,
         fragment: usual.fragment,
         generation: usual.generation,
+        alternates,
     })
 }
 
@@ -62,7 +79,7 @@ fn numbers(name: ByteList, segments: u32, words: &mut Words) -> Result<Step, Ref
     let reach = take_long(words)?;
     let fragment = take_short(words)?;
     let generation = take_long(words)?;
-    words.end()?;
+    let alternates = alternates(words)?;
     Ok(Step::Format {
         name,
         segments,
@@ -72,10 +89,11 @@ fn numbers(name: ByteList, segments: u32, words: &mut Words) -> Result<Step, Ref
         reach,
         fragment,
         generation,
+        alternates,
     })
 }
 
-/// `default`, or the first of seven numbers, and the words behind it.
+/// `default`, or the first of the numbers, and the words behind it.
 fn geometry(name: ByteList, word: Word, words: &mut Words) -> Result<Step, Refusal>
     ensures { Reads (geometry_of words.old.end name (seen word.entry) (words_in words.old)) result }
 {
@@ -86,7 +104,7 @@ fn geometry(name: ByteList, word: Word, words: &mut Words) -> Result<Step, Refus
     numbers(name, segments, words)
 }
 
-/// `format NAME S B N A R F G` or `format NAME default G`
+/// `format NAME S B N A R F G [M]` or `format NAME default G [M]`
 #[tactic(auto, unfolding(crate::specs::Grammar::format_of))]
 fn format_line(alloc: Global, words: &mut Words) -> Result<Step, Refusal>
     ensures { Reads (format_of words.old.end (words_in words.old)) result }

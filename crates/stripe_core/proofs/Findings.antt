@@ -63,18 +63,18 @@ module _ (s : State) (c new : Seen) (id : PieceId) (row : Row) (bytes into : Lis
       ∙ (ap (λ g. span new.device.seen (slot_of g row.place) row.blocks) held.geometry ∙ ap (span new.device.seen (slot_of s.geometry row.place)) count))
 
   is_given : (p : Permit) → row.place < s.cursor → IsAmong given p.reads → IsGiven p s row bytes
-  is_given p below among = record { written = below; given = among; whole = whole }
+  is_given p below among = record { written = below; given = among; whole = whole; of_bytes = read.of_bytes }
 
   -- bytes from the device
   told_by : (p : Permit) (answer : Found) → row.place < s.cursor → IsAmong given p.reads → IsJudged row.place row.digest bytes answer into → IsFoundAs p s id (Some row) answer into
-  told_by p (found.Found size) below among j = record { bytes = bytes; whole = whole; digest = j.0; given = λ w. is_given p below among; size_is = j.1; payload = j.2 }
+  told_by p (found.Found size) below among j = record { bytes = bytes; whole = whole; of_bytes = read.of_bytes; digest = j.0; given = λ w. is_given p below among; size_is = j.1; payload = j.2 }
   told_by p (found.Missing why) below among j =
       subst (λ (y : Cause). Trouble p s row (cause_records row y) y) (sym j.0)
       (Trouble.damaged (document_digest bytes) (record { bytes = bytes; given = is_given p below among; digest = refl; differ = j.1 }))
 
   -- bytes from the buffer
   kept_by : (p : Permit) (answer : Found) → s.cursor ≤ row.place → IsJudged row.place row.digest bytes answer into → IsFoundAs p s id (Some row) answer into
-  kept_by p (found.Found size) above j = record { bytes = bytes; whole = whole; digest = j.0; given = λ w. absurd (below_not_above w above); size_is = j.1; payload = j.2 }
+  kept_by p (found.Found size) above j = record { bytes = bytes; whole = whole; of_bytes = read.of_bytes; digest = j.0; given = λ w. absurd (below_not_above w above); size_is = j.1; payload = j.2 }
     where
       below_not_above : row.place < s.cursor → s.cursor ≤ row.place → ⊥
       below_not_above w a = omega (arith, w, a)

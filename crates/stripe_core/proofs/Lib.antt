@@ -7,6 +7,7 @@ mod Beginning
 pub mod Going
 mod Starting
 pub mod Candidates
+pub mod Counting
 mod Flushes
 mod Telling
 mod Told

@@ -3,6 +3,7 @@ use Rattle.std.proofs.Common.{◌≡◌, ℕ, ◌*◌, ◌<◌, ◌≤◌, List,
 use Rattle.std.specs.Prelude.{max}
 use Rattle.std.proofs.lemmas.List.{take_all}
 use Rattle.edge_io.specs.declared.source.Failed.{Failed}
+use Rattle.hex.specs.Hex.{IsBytes}
 use Rattle.doc_header.specs.Reading.{document_digest}
 use Rattle.evacuator.specs.declared.choosing.Candidate.{Candidate}
 use Rattle.cyclone.specs.Cyclone.{IsStored, Reads, Seen}
@@ -31,8 +32,8 @@ module _ (s : State) (c new : Seen) (row : Row) (bytes : List ℕ) (held : IsHel
   abbrev given : DeviceRead
   given = record { place = row.place; bytes = bytes }
 
-  given_then : (p : Permit) (t : State) → length bytes ≡ 512 * row.blocks → t.cursor ≡ s.cursor → IsAmong given p.reads → IsGiven p t row bytes
-  given_then p t whole same among = record { written = let low : row.place < s.cursor = may.written in omega arith; given = among; whole = whole }
+  given_then : (p : Permit) (t : State) → length bytes ≡ 512 * row.blocks → IsBytes bytes → t.cursor ≡ s.cursor → IsAmong given p.reads → IsGiven p t row bytes
+  given_then p t whole small same among = record { written = let low : row.place < s.cursor = may.written in omega arith; given = among; whole = whole; of_bytes = small }
 
   pub comes_of : (f : Fate) → Reads c new row.place row.blocks (Ok tt) bytes → IsJudgedAs row bytes f → Comes s c.device.faults new.device row f bytes
   comes_of (fate.Copied pinned) read j = record {
@@ -43,7 +44,7 @@ module _ (s : State) (c new : Seen) (row : Row) (bytes : List ℕ) (held : IsHel
     taken = refl;
     count = tt;
     unharmed = λ told. tt;
-    is = λ p t left covers same later few. (few, given_then p t read.length same covers.knows.0, j.0);
+    is = λ p t left covers same later few. (few, given_then p t read.length read.of_bytes same covers.knows.0, j.0);
   }
   comes_of (fate.Spoiled kept found) read j = record {
     outcome = Spoiled (document_digest bytes);
@@ -53,7 +54,7 @@ module _ (s : State) (c new : Seen) (row : Row) (bytes : List ℕ) (held : IsHel
     taken = refl;
     count = tt;
     unharmed = λ told. absurd (j.2 (right_by s c new row.id row bytes bytes held may.live read (inr may.written) told));
-    is = λ p t left covers same later few. (few, record { bytes = bytes; given = given_then p t read.length same covers.knows.0; digest = refl; differ = j.2 });
+    is = λ p t left covers same later few. (few, record { bytes = bytes; given = given_then p t read.length read.of_bytes same covers.knows.0; digest = refl; differ = j.2 });
   }
   comes_of fate.NoRoom read j = absurd j
   comes_of (fate.Refused count) read j = absurd j

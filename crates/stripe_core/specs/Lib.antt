@@ -10,6 +10,7 @@ pub mod Looks
 pub mod Flush
 pub mod Place
 pub mod Find
+pub mod Counts
 pub mod Named
 pub mod Units
 pub mod Stripe

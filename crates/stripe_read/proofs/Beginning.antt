@@ -1,5 +1,5 @@
 -- The reader that a lookup opens.
-use Rattle.std.proofs.Common.{◌≡◌, ℕ, ◌/◌, List, length, [], ◌∷◌, ◌++◌, refl, sym, ◌∙◌, ap, subst, arith, inl, inr, Bool, cond}
+use Rattle.std.proofs.Common.{◌≡◌, ℕ, ◌/◌, ◌≤◌, List, length, [], ◌∷◌, ◌++◌, refl, sym, ◌∙◌, ap, subst, arith, inl, inr, Bool, cond}
 use Rattle.std.specs.declared.alloc.AllocError.{AllocError}
 use Rattle.std.specs.Prelude.{Option, Some, None, Result, Ok, Err, IfOk, IsOk, find, ◌==◌}
 use Rattle.std.proofs.lemmas.Bool.{eq-eqb}
@@ -20,11 +20,12 @@ use Rattle.cache_model.specs.Permit.{DeviceRead, Done, Look, Permit}
 use Rattle.cache_model.specs.Legal.{Does, DoesLook, IsQuiet}
 use Rattle.stripe_core.specs.Covers.{AreSeen}
 use Rattle.stripe_core.specs.Stripe.{IsStill}
+use Rattle.stripe_core.proofs.Counting.{cause_later}
 use Rattle.stripe_read.specs.declared.opening.Looked.{Looked}
 use Rattle.stripe_read.specs.declared.opening.Looked.TheVariants as looked
 use Rattle.stripe_read.specs.declared.opening.Opened.{Opened}
 use Rattle.stripe_read.specs.Readers.{IsOpenReader, IsReaderOf}
-use Rattle.stripe_read.specs.Lookups.{IfReader, IsFound, LooksUp, Opens, answer_in, answer_of, lookup_adds, open_adds, opened_as, trouble_with}
+use Rattle.stripe_read.specs.Lookups.{IfReader, IsCountedMiss, IsFound, LooksUp, Opens, answer_in, answer_of, lookup_adds, open_adds, opened_as, trouble_with}
 use Rattle.stripe_read.proofs.Looking.{hit_adds, nothing_recorded}
 use Rattle.stripe_read.proofs.Staying.{LeavesReaders, cause_leaves, state_behind, two_calls}
 
@@ -102,6 +103,11 @@ still_seen g new newer still [] h = tt
 still_seen g new newer still (r ∷ reads) h =
     (λ told. h.0 (omega (arith, told, still.trust)) ∙ span_same new.seen newer.seen (slot_of g r.place) (length r.bytes / 512) (λ j low high. sym (still.seen told j)), still_seen g new newer still reads h.1)
 
+miss_later : (before after : ℕ) (s : State) (key : Key) (answer : ReadAnswer) → before ≤ after → IsCountedMiss before s key answer → IsCountedMiss after s key answer
+miss_later before after s key (read.Miss why) h (inl is) = inl is
+miss_later before after s key (read.Miss why) h (inr counted) = inr (cause_later before after why h counted)
+miss_later before after s key _ h counted = tt
+
 -- ---- the call
 
 module _ (k k0 k1 k2 : Kept) (who : Actor) (key : Key) (request : List Field) (found : Looked) (opened : Opened) (same : k0 ≡ k) (looks : k1 ≡ with_records k0 (lookup_adds (state_of k0) key (answer_of found)))
@@ -151,6 +157,9 @@ module _ (k k0 k1 k2 : Kept) (who : Actor) (key : Key) (request : List Field) (f
               | inl h ↦ inl (begun_does p quiet h, begun_own h.table)
               | inr collide ↦ inr collide
             ];
+        counted =
+            subst (IsCountedMiss newer.faults (state_of k) key) (sym (ap answer_in is ∙ answer_as (state_of k1).next_reader key found))
+            (miss_later new.faults newer.faults (state_of k) key (answer_of found) (omega (arith, still.faults)) m.counted);
       }
 
 -- ---- by what the call came to

@@ -111,6 +111,7 @@ unlike_document s old new id listed size into u f un =
       live = un.live;
       written = un.written;
       whole = h.whole;
+      of_bytes = h.of_bytes;
       digest = h.digest;
       listed_is = un.listed_is;
       differ = λ e. un.differ (e ∙ sym (un.found_is ∙ ap digest_of h.payload));

@@ -7,11 +7,12 @@ use Rattle.tape_base.specs.declared.pieces.PieceId.{PieceId}
 use Rattle.ats_disk.specs.Device.{State as Device}
 use Rattle.fragment_table.specs.Table.{Table, TableRow}
 use Rattle.cache_model.specs.declared.cause.Cause.{Cause}
+use Rattle.cache_model.specs.declared.cause.Cause.TheVariants as cause
 use Rattle.cache_model.specs.declared.answer.NextAnswer.{NextAnswer}
 use Rattle.cache_model.specs.declared.answer.NextAnswer.TheVariants as next
 use Rattle.cache_model.specs.declared.record.Rec.{Rec}
-use Rattle.cache_model.specs.State.{ReaderRow, Row, State, live_row_of}
-use Rattle.cache_model.specs.Verdict.{cause_of_piece, next_piece, next_row, reader_verdict, verdict_at_end, verdict_of_fragment}
+use Rattle.cache_model.specs.State.{Closed, GivenUp, Open, PutRow, ReaderRow, Row, State, Writing, live_row_of, put_of}
+use Rattle.cache_model.specs.Verdict.{cause_of_piece, next_piece, next_row, reader_verdict, verdict_at_end, verdict_of_followed, verdict_of_fragment, verdict_of_writing}
 use Rattle.cache_model.specs.Permit.{Done, Permit, ReadOn}
 use Rattle.cache_model.specs.Given.{IsRead, IsReadWhereLive}
 use Rattle.cache_model.specs.Legal.{Does, DoesReadOn, IsQuiet, IsReading, ReadTrouble, answer_record, digest_in, live_next}
@@ -19,6 +20,7 @@ use Rattle.cache_model.proofs.Answered.{end_gives_none}
 use Rattle.cache_model.proofs.Found.{no_truth}
 use Rattle.stripe_core.specs.declared.refusal.Found.{Found}
 use Rattle.stripe_core.specs.declared.refusal.Found.TheVariants as found
+use Rattle.stripe_core.specs.Counts.{IsCountedCause}
 use Rattle.stripe_core.specs.Covers.{AreSeen, Covers}
 use Rattle.stripe_core.specs.Find.{IsDocumentOf, cause_records}
 use Rattle.stripe_read.specs.declared.reader.Reader.{Reader}
@@ -26,7 +28,9 @@ use Rattle.stripe_read.specs.declared.reading.NextPiece.{NextPiece}
 use Rattle.stripe_read.specs.declared.reading.NextPiece.TheVariants as piece
 use Rattle.stripe_read.specs.Readers.{IsReaderOf, as_row, row_by, rows_in}
 use Rattle.stripe_read.specs.Fetches.{Fetches, IsFetched, IsOther, IsOtherDocument}
-use Rattle.stripe_read.specs.Nexts.{Gives, GoesOn, HasNext, IsFragment, IsOtherNext, ReadsOn, listed_in, listed_length, next_behind, noted, read_adds, trouble_with}
+use Rattle.stripe_read.specs.Nexts.{Gives, GoesOn, HasNext, IsCountedBreak, IsFragment, IsOtherNext, ReadsOn, listed_in, listed_length, next_behind, noted, read_adds, trouble_with}
+use Rattle.stripe_core.proofs.Counting.{trouble_counted}
+use Rattle.stripe_vectors.proofs.Finding.{own_covers, own_permit}
 use Rattle.stripe_read.proofs.Staying.{is_gave}
 
 -- ---- verdicts
@@ -143,6 +147,27 @@ module _ (p : Permit) (s : State) (r : Reader) (entry : TableRow) (why : Cause) 
 
 -- ---- what the device gave
 
+-- why a fragment is missing is no count to which the device has not come
+fetched_counted : (p : Permit) (s : State) (id : PieceId) (o : Option Row) (listed : Option Digest) (why : Cause) (into : List ℕ) → IsFetched p s id o listed (found.Missing why) into
+    → (why ≡ cause_of_piece s id) ⊎ IsCountedCause p.faults why
+fetched_counted p s id None listed why into h = inl cc
+fetched_counted p s id (Some row) listed why into (inl trouble) = inr (trouble_counted p s row (cause_records row why) why trouble)
+fetched_counted p s id (Some row) listed why into (inr other) = inr (subst (IsCountedCause p.faults) (sym other.why_is) tt)
+
+-- how the put stands is no count of the device
+writing_counted : (faults : ℕ) (w : PutRow) (writing : Writing) (why : Cause) → next.Broke why ≡ verdict_of_writing w writing → IsCountedCause faults why
+writing_counted faults w Open why h = cc
+writing_counted faults w Closed why h = cc
+writing_counted faults w GivenUp why h = let is : cause.Aborted w.put ≡ why = cc in subst (IsCountedCause faults) is tt
+
+followed_counted : (faults : ℕ) (o : Option PutRow) (why : Cause) → next.Broke why ≡ verdict_of_followed o → IsCountedCause faults why
+followed_counted faults None why h = cc
+followed_counted faults (Some w) why h = writing_counted faults w w.writing why h
+
+end_counted : (faults : ℕ) (s : State) (r : ReaderRow) (t : Option (List TableRow)) (why : Cause) → next.Broke why ≡ verdict_at_end s r t → IsCountedCause faults why
+end_counted faults s r None why h = followed_counted faults (put_of s r.put) why h
+end_counted faults s r (Some table) why h = cc
+
 is_listed : (s : State) (r : Reader) (listed : Option Digest) (cut : ℕ) (digest : Digest) (has : HasNext s r cut digest) → listed ≡ listed_in r digest → listed ≡ listed_in r (digest_in has.row)
 is_listed s r listed cut digest has is = is ∙ ap (listed_in r) (sym has.digest_is)
 
@@ -169,6 +194,7 @@ module _ (s : State) (old new newer : Device) (r : Reader) (id : PieceId) (liste
     seen = subst (λ (x : Device). AreSeen s.geometry x f.reads) (sym newer_is) f.seen;
     does = λ p covers own. given_does p s r has.row size into has.found (listed_in r (digest_in has.row)) (live_row_of s (next_piece (as_row r))) own quiet refl (fetched (found.Found size) f p covers);
     gives = λ p covers. given_is p s r has.row size into has.found (listed_in r (digest_in has.row)) (live_row_of s (next_piece (as_row r))) refl refl (fetched (found.Found size) f p covers);
+    counted = tt;
   }
 
   pub broken_reads : (why : Cause) → Fetches s old new id listed (found.Missing why) into → ReadsOn s old newer r (piece.Broken why) into
@@ -177,6 +203,10 @@ module _ (s : State) (old new newer : Device) (r : Reader) (id : PieceId) (liste
     seen = subst (λ (x : Device). AreSeen s.geometry x f.reads) (sym newer_is) f.seen;
     does = λ p covers own. broken_does p s r has.row why into has.found own quiet (fetched (found.Missing why) f p covers);
     gives = λ p covers. tt;
+    counted =
+        let own : Permit = own_permit old.faults newer.faults f.reads in
+        fetched_counted own s (next_piece (as_row r)) (live_row_of s (next_piece (as_row r))) (listed_in r (digest_in has.row)) why into
+        (fetched (found.Missing why) f own (own_covers old.faults newer.faults f.reads));
   }
 
 -- ---- behind the last fragment
@@ -215,12 +245,19 @@ module _ (s : State) (r : Reader) (answer : NextPiece) (none : next_row s (as_ro
       subst (λ recs. Does p s (ReadOn r.reader) recs Done) (sym stop_adds)
       (reads_on p s r own [] (noted 0 answer) quiet (subst (IsReading p s mine []) verdict (IsReading.verdict (subst (IsReadWhereLive p s) (sym (next_none s mine none)) tt))))
 
+  stop_counted : (faults : ℕ) (a : NextPiece) → noted 0 a ≡ verdict_at_end s (as_row r) (rows_in r) → IsCountedBreak faults s r a
+  stop_counted faults (piece.Piece index size) h = tt
+  stop_counted faults (piece.End n) h = tt
+  stop_counted faults (piece.NotYet cut) h = tt
+  stop_counted faults (piece.Broken why) h = inr (end_counted faults s (as_row r) (rows_in r) why h)
+
   pub stop_reads : (old new : Device) (into : List ℕ) → IsQuiet s → ReadsOn s old new r answer into
   stop_reads old new into quiet = record {
     reads = [];
     seen = tt;
     does = λ p covers own. stop_does p own quiet;
     gives = λ p covers. gives_none p s r answer into no_piece;
+    counted = stop_counted new.faults answer is;
   }
 
   pub stop_goes : GoesOn r answer r
@@ -234,6 +271,7 @@ reads_prepared s t old older new r answer into same faults h = record {
   seen = subst (λ (x : State). AreSeen x.geometry new h.reads) same h.seen;
   does = λ p covers. subst (λ (x : State). IsReaderOf x r → Does p x (ReadOn r.reader) (read_adds x r answer) Done) same (h.does p (subst (λ n. Covers p n new.faults h.reads) (sym faults) covers));
   gives = λ p covers. subst (λ (x : State). Gives p x r answer into) same (h.gives p (subst (λ n. Covers p n new.faults h.reads) (sym faults) covers));
+  counted = subst (λ (x : State). IsCountedBreak new.faults x r answer) same h.counted;
 }
 
 pub given_prepared : (s t : State) (old older new : Device) (r : Reader) (answer : Result NextPiece AllocError) (into : List ℕ) → t ≡ s → older.faults ≡ old.faults

@@ -8,6 +8,7 @@ use Rattle.alternate_vector.specs.Field.{Field}
 use Rattle.alternate_vector.specs.Alternates.{Stored}
 use Rattle.open_directory.specs.Directory.{followed as followed_put}
 use Rattle.cache_model.specs.declared.cause.Cause.{Cause}
+use Rattle.cache_model.specs.declared.answer.ReadAnswer.{ReadAnswer}
 use Rattle.cache_model.specs.declared.answer.ReadAnswer.TheVariants as read
 use Rattle.cache_model.specs.State.{Complete, LastVector, PutRow, Row, State, TakenOut, alternates_of, is_live, last_match, last_vector, list_of_last, list_of_row, live_row_of, only_live, row_in, vector_piece}
 use Rattle.cache_model.specs.Kept.{Kept, state_of, with_records}
@@ -15,15 +16,20 @@ use Rattle.cache_model.specs.Verdict.{cause_of_last, cause_of_miss, cause_of_pie
 use Rattle.cache_model.specs.Permit.{Permit}
 use Rattle.cache_model.specs.Given.{IsRead, IsReadWhereLive}
 use Rattle.cache_model.specs.Legal.{IsLookup}
+use Rattle.cache_model.specs.Pair.{IsKeyPair}
+use Rattle.cache_model.specs.Vectors.{AreVectors, IsVectorAs}
+use Rattle.stripe_core.specs.Counts.{IsCountedCause}
+use Rattle.stripe_core.proofs.Counting.{trouble_counted}
+use Rattle.stripe_vectors.proofs.Finding.{own_covers, own_permit}
 use Rattle.stripe_actors.specs.Actors.{AreActors, Seen}
 use Rattle.stripe_actors.specs.ActorLaws.{number_in}
 use Rattle.stripe_actors.proofs.Telling.{followed_same}
 use Rattle.stripe_vectors.specs.declared.reading.KeyVector.TheVariants as vector
-use Rattle.stripe_vectors.specs.Reading.{FindsVector, IsCollision, IsReadAs, IsVectorFound, ReadIsListed, trouble_records}
+use Rattle.stripe_vectors.specs.Reading.{FindsVector, IsReadAs, IsVectorFound, ReadIsListed, trouble_records}
 use Rattle.stripe_read.specs.declared.opening.Chosen.{Chosen}
 use Rattle.stripe_read.specs.declared.opening.Looked.{Looked}
 use Rattle.stripe_read.specs.declared.opening.Looked.TheVariants as looked
-use Rattle.stripe_read.specs.Lookups.{HasTable, IsChosen, IsFound, LooksUp, answer_of, lookup_adds, otherwise, trouble_with}
+use Rattle.stripe_read.specs.Lookups.{HasTable, IsChosen, IsCountedMiss, IsFound, LooksUp, answer_of, lookup_adds, otherwise, trouble_with}
 use Rattle.stripe_read.proofs.Giving.{either}
 
 -- ---- the writer to follow, or the cause
@@ -133,10 +139,18 @@ verdict_found p s key request found was is adds table = record {
 
 -- ---- a vector that was read
 
+-- what is answered where no alternate is hit is no count of the device
+otherwise_counted : (faults : ℕ) (s : State) (key : Key) (request : List Field) (answer : ReadAnswer) → answer ≡ otherwise s key request → IsCountedMiss faults s key answer
+otherwise_counted faults s key request answer is = by (followed s key request) is
+  where
+    by : (o : Option PutRow) → answer ≡ unwrap_or (option_map follow_answer o) (read.Miss (cause_of_miss s key)) → IsCountedMiss faults s key answer
+    by (Some w) h = subst (IsCountedMiss faults s key) (sym h) tt
+    by None h = subst (IsCountedMiss faults s key) (sym h) (inl refl)
+
 module _ (s : State) (old new : Device) (key : Key) (request : List Field) where
   -- there is none
   absent_in : (p : Permit) (found : Looked) → answer_of found ≡ otherwise s key request → HasTable s key request found → (o : Option Row) → live_vector_of s key ≡ o → IsVectorFound p s o vector.Absent
-      → IsFound p s key request found ⊎ IsCollision p s key
+      → IsFound p s key request found ⊎ IsKeyPair IsVectorAs p s key
   absent_in p found is table (Some row) live h = absurd h
   absent_in p found is table None live h =
       inl (verdict_found p s key request found (subst (IsReadWhereLive p s) (sym live) tt) (verdict_otherwise s key request (ap (last_match request) (no_alternates s key live)) ∙ sym is)
@@ -147,23 +161,35 @@ module _ (s : State) (old new : Device) (key : Key) (request : List Field) where
     reads = f.reads;
     seen = f.seen;
     answers = λ p covers each. absent_in p found is table (live_vector_of s key) refl (f.answers p covers);
+    counted = otherwise_counted new.faults s key request (answer_of found) is;
   }
 
   -- it cannot be read
-  trouble_in : (p : Permit) (why : Cause) (o : Option Row) → live_vector_of s key ≡ o → IsVectorFound p s o (vector.Trouble why) → IsFound p s key request (looked.Miss why) ⊎ IsCollision p s key
+  trouble_in : (p : Permit) (why : Cause) (o : Option Row) → live_vector_of s key ≡ o → IsVectorFound p s o (vector.Trouble why) → IsFound p s key request (looked.Miss why) ⊎ IsKeyPair IsVectorAs p s key
   trouble_in p why None live h = absurd h
   trouble_in p why (Some row) live h = inl (record {
     right = subst (λ o. IsLookup p s key request (trouble_with o (read.Miss why)) (read.Miss why)) (sym live) (IsLookup.trouble row (Rattle.stripe_core.specs.Find.cause_records row why) why live h);
     table = tt;
   })
 
+  trouble_counts : (p : Permit) (why : Cause) (o : Option Row) → IsVectorFound p s o (vector.Trouble why) → IsCountedCause p.faults why
+  trouble_counts p why None h = absurd h
+  trouble_counts p why (Some row) h = trouble_counted p s row (Rattle.stripe_core.specs.Find.cause_records row why) why h
+
   pub trouble_looks : (why : Cause) → FindsVector s old new key (vector.Trouble why) → LooksUp s old new key request (looked.Miss why)
-  trouble_looks why f = record { reads = f.reads; seen = f.seen; answers = λ p covers each. trouble_in p why (live_vector_of s key) refl (f.answers p covers) }
+  trouble_looks why f = record {
+    reads = f.reads;
+    seen = f.seen;
+    answers = λ p covers each. trouble_in p why (live_vector_of s key) refl (f.answers p covers);
+    counted =
+        let own : Permit = own_permit old.faults new.faults f.reads in
+        inr (trouble_counts own why (live_vector_of s key) (f.answers own (own_covers old.faults new.faults f.reads)));
+  }
 
   -- it was read, and nothing in it answers
   unmatched_in : (p : Permit) (found : Looked) (list : List Stored) → answer_of found ≡ otherwise s key request → HasTable s key request found → last_match request list ≡ None
-      → (o : Option Row) → live_vector_of s key ≡ o → IsVectorFound p s o (vector.Read list) → ((row : Row) → o ≡ Some row → IsReadAs p s row list → (list ≡ alternates_of s key) ⊎ IsCollision p s key)
-      → IsFound p s key request found ⊎ IsCollision p s key
+      → (o : Option Row) → live_vector_of s key ≡ o → IsVectorFound p s o (vector.Read list) → ((row : Row) → o ≡ Some row → IsReadAs p s row list → (list ≡ alternates_of s key) ⊎ IsKeyPair IsVectorAs p s key)
+      → IsFound p s key request found ⊎ IsKeyPair IsVectorAs p s key
   unmatched_in p found list is table none None live h law = absurd h
   unmatched_in p found list is table none (Some row) live h law = elim (law row refl h) [
     | inl same ↦ inl (verdict_found p s key request found (subst (IsReadWhereLive p s) (sym live) (vector_is_read p s row list h)) (verdict_otherwise s key request (ap (last_match request) (sym same) ∙ none) ∙ sym is)
@@ -177,6 +203,7 @@ module _ (s : State) (old new : Device) (key : Key) (request : List Field) where
     reads = f.reads;
     seen = f.seen;
     answers = λ p covers each. unmatched_in p found list is table (no_choice (last_match request list) none) (live_vector_of s key) refl (f.answers p covers) (λ row live. law p s key row list each live);
+    counted = otherwise_counted new.faults s key request (answer_of found) is;
   }
     where
       no_choice : (o : Option Stored) → IsChosen o None → o ≡ None
@@ -193,7 +220,7 @@ module _ (s : State) (old new : Device) (key : Key) (request : List Field) where
       (h.1 ∙ sym (ap (λ o. unwrap_or (option_map (λ (x : Stored). x.table) o) []) there))
 
   matched_in : (p : Permit) (chosen : Chosen) (list : List Stored) → IsChosen (last_match request list) (Some chosen) → (o : Option Row) → live_vector_of s key ≡ o → IsVectorFound p s o (vector.Read list)
-      → ((row : Row) → o ≡ Some row → IsReadAs p s row list → (list ≡ alternates_of s key) ⊎ IsCollision p s key) → IsFound p s key request (looked.Hit chosen) ⊎ IsCollision p s key
+      → ((row : Row) → o ≡ Some row → IsReadAs p s row list → (list ≡ alternates_of s key) ⊎ IsKeyPair IsVectorAs p s key) → IsFound p s key request (looked.Hit chosen) ⊎ IsKeyPair IsVectorAs p s key
   matched_in p chosen list is None live h law = absurd h
   matched_in p chosen list is (Some row) live h law = elim (law row refl h) [
     | inl same ↦ inl (matched_by p chosen list (last_match request list) refl is same (subst (IsReadWhereLive p s) (sym live) (vector_is_read p s row list h)))
@@ -205,4 +232,5 @@ module _ (s : State) (old new : Device) (key : Key) (request : List Field) where
     reads = f.reads;
     seen = f.seen;
     answers = λ p covers each. matched_in p chosen list is (live_vector_of s key) refl (f.answers p covers) (λ row live. law p s key row list each live);
+    counted = tt;
   }

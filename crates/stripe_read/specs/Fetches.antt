@@ -1,5 +1,6 @@
 -- What is read of the fragment that a reader takes next.
 use Rattle.std.specs.Prelude.{ℕ, ◌≡◌, ◌≢◌, ◌*◌, ◌⊎◌, List, length, take, Option, Some, None}
+use Rattle.hex.specs.Hex.{IsBytes}
 use Rattle.tape_base.specs.declared.digests.Digest.{Digest}
 use Rattle.tape_base.specs.declared.pieces.PieceId.{PieceId}
 use Rattle.tape_base.specs.Digest.{digest_of}
@@ -68,6 +69,7 @@ pub record IsOtherDocument (s : State) (id : PieceId) (listed : Option Digest) :
   pub live : live_row_of s id ≡ Some row
   pub written : IsWritten s row
   pub whole : length bytes ≡ 512 * row.blocks
+  pub of_bytes : IsBytes bytes
   pub digest : row.digest ≡ document_digest bytes
   pub listed_is : listed ≡ Some kept
   pub differ : kept ≢ digest_of (payload_of bytes)

@@ -14,10 +14,11 @@ use Rattle.cache_model.specs.State.{Row, State, table_of_hit}
 use Rattle.cache_model.specs.Verdict.{cause_of_miss, follow_answer, followed, live_vector_of}
 use Rattle.cache_model.specs.Permit.{DeviceRead, Done, Look, Permit}
 use Rattle.cache_model.specs.Legal.{Does, IsLookup}
+use Rattle.cache_model.specs.Pair.{IsKeyPair}
 use Rattle.cache_model.specs.Vectors.{AreVectors, IsVectorAs}
 use Rattle.stripe_core.specs.Covers.{AreSeen, Covers}
+use Rattle.stripe_core.specs.Counts.{IsCountedCause}
 use Rattle.stripe_core.specs.Find.{cause_records}
-use Rattle.cache_model.specs.Pair.{IsKeyPair}
 use Rattle.stripe_read.specs.declared.reader.Reader.{Reader}
 use Rattle.stripe_read.specs.declared.opening.Chosen.{Chosen}
 use Rattle.stripe_read.specs.declared.opening.Looked.{Looked}
@@ -67,12 +68,18 @@ pub record IsFound (p : Permit) (s : State) (key : Key) (request : List Field) (
   pub right : IsLookup p s key request (lookup_adds s key (answer_of found)) (answer_of found)
   pub table : HasTable s key request found
 
+-- the cause of a miss is that of the records, or tells no count to which the device has not come
+abbrev pub IsCountedMiss : ℕ → State → Key → ReadAnswer → Type 0
+IsCountedMiss faults s key (read.Miss why) = (why ≡ cause_of_miss s key) ⊎ IsCountedCause faults why
+IsCountedMiss faults s key _ = Unit {0}
+
 -- what the device gave, and what came of it in any step that covers the call; or two documents of one
 -- SHA-256 are shown
 pub record LooksUp (s : State) (old new : Device) (key : Key) (request : List Field) (found : Looked) : Type 0 where
   pub reads : List DeviceRead
   pub seen : AreSeen s.geometry new reads
   pub answers : (p : Permit) → Covers p old.faults new.faults reads → AreVectors s → IsFound p s key request found ⊎ IsKeyPair IsVectorAs p s key
+  pub counted : IsCountedMiss new.faults s key (answer_of found)
 
 -- ---- what opens
 
@@ -117,3 +124,4 @@ pub record Opens (s t : State) (old new : Device) (who : Actor) (key : Key) (req
   pub seen : AreSeen s.geometry new reads
   pub does : (p : Permit) → Covers p old.faults new.faults reads → AreVectors s
       → (Does p s (Look who.0 key request) (open_adds s who key request (answer_in answer)) Done × IfReader (IsReaderOf t) answer) ⊎ IsKeyPair IsVectorAs p s key
+  pub counted : IsCountedMiss new.faults s key (answer_in answer)

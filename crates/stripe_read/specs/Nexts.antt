@@ -1,5 +1,5 @@
 -- What a reader is given, and what is recorded.
-use Rattle.std.specs.Prelude.{ℕ, ◌≡◌, ◌+◌, List, [], ◌∷◌, ◌++◌, take, Option, Some, None, option_map, unwrap_or}
+use Rattle.std.specs.Prelude.{ℕ, ◌≡◌, ◌⊎◌, ◌+◌, List, [], ◌∷◌, ◌++◌, take, Option, Some, None, option_map, unwrap_or}
 use Rattle.tape_base.specs.declared.digests.Digest.{Digest}
 use Rattle.ats_disk.specs.Device.{State as Device}
 use Rattle.fragment_table.specs.Table.{Table, TableRow}
@@ -7,10 +7,11 @@ use Rattle.cache_model.specs.declared.answer.NextAnswer.{NextAnswer}
 use Rattle.cache_model.specs.declared.answer.NextAnswer.TheVariants as next
 use Rattle.cache_model.specs.declared.record.Rec.{Rec}
 use Rattle.cache_model.specs.State.{Row, State, live_row_of}
-use Rattle.cache_model.specs.Verdict.{next_piece, next_row}
+use Rattle.cache_model.specs.Verdict.{cause_of_piece, next_piece, next_row}
 use Rattle.cache_model.specs.Permit.{DeviceRead, Done, Permit, ReadOn}
 use Rattle.cache_model.specs.Legal.{Does, answer_record, digest_in, live_next}
 use Rattle.stripe_core.specs.Covers.{AreSeen, Covers}
+use Rattle.stripe_core.specs.Counts.{IsCountedCause}
 use Rattle.stripe_core.specs.Find.{IsDocumentOf, cause_records}
 use Rattle.stripe_read.specs.declared.reader.Reader.{Reader}
 use Rattle.stripe_read.specs.declared.reading.NextPiece.{NextPiece}
@@ -72,6 +73,11 @@ Gives p s r (piece.End length) into = Unit {0}
 Gives p s r (piece.NotYet cut) into = Unit {0}
 Gives p s r (piece.Broken why) into = Unit {0}
 
+-- the cause for which it breaks is that of the records, or tells no count to which the device has not come
+abbrev pub IsCountedBreak : ℕ → State → Reader → NextPiece → Type 0
+IsCountedBreak faults s r (piece.Broken why) = (why ≡ cause_of_piece s (next_piece (as_row r))) ⊎ IsCountedCause faults why
+IsCountedBreak faults s r _ = Unit {0}
+
 -- what the device gave, and in any step that covers the call: it was read on as asked, where the reader
 -- has the fragments of the records; and what it is given
 pub record ReadsOn (s : State) (old new : Device) (r : Reader) (answer : NextPiece) (into : List ℕ) : Type 0 where
@@ -79,6 +85,7 @@ pub record ReadsOn (s : State) (old new : Device) (r : Reader) (answer : NextPie
   pub seen : AreSeen s.geometry new reads
   pub does : (p : Permit) → Covers p old.faults new.faults reads → IsReaderOf s r → Does p s (ReadOn r.reader) (read_adds s r answer) Done
   pub gives : (p : Permit) → Covers p old.faults new.faults reads → Gives p s r answer into
+  pub counted : IsCountedBreak new.faults s r answer
 
 -- there is a document of the recorded digest of the fragment that it takes next, whose payload is not
 -- the one that the reader's table lists

@@ -10,7 +10,7 @@ use Rattle.cache_model.specs.Kept.{Kept, state_of, with_records}
 use Rattle.cache_model.specs.Verdict.{cuts_of}
 use Rattle.cache_model.specs.Permit.{Commit, Done, End, Exhausted, Fails, Faulted, Finish, Intent, Permit, Reason, Stays, TooLarge, Weigh}
 use Rattle.cache_model.specs.Legal.{MayGrow, is_writing, vector_length}
-use Rattle.cache_model.specs.Vectors.{AreTold}
+use Rattle.cache_model.specs.Vectors.{AreTold, IsVectorAs}
 use Rattle.cache_model.proofs.Steps.{grows_on}
 use Rattle.stripe_core.specs.declared.refusal.Refusal.{Refusal}
 use Rattle.stripe_core.specs.declared.refusal.Refusal.TheVariants as refusal
@@ -21,7 +21,7 @@ use Rattle.stripe_core.specs.Flush.{stop_end}
 use Rattle.stripe_core.specs.Place.{ReachesLimit}
 use Rattle.stripe_core.specs.Stripe.{Answers}
 use Rattle.stripe_core.proofs.OneMore.{covers_first, covers_last}
-use Rattle.stripe_vectors.specs.Reading.{IsCollision}
+use Rattle.cache_model.specs.Pair.{IsKeyPair}
 use Rattle.stripe_write.specs.declared.finishing.Receipt.{Receipt}
 use Rattle.stripe_write.specs.declared.weighing.Vectors.{Vectors}
 use Rattle.stripe_write.specs.declared.writer.Writer.{Writer}
@@ -289,7 +289,7 @@ closes_same now kept old new first before after w used result e f same h = recor
           does = spent_same p (state_of kept) w used result c.added same (subst (λ (k : Kept). Spent p (state_of k) used result c.added) e c.does);
           number = stops_same (state_of new) w used result same c.number;
         })
-        | inr collision ↦ inr (subst (λ k. IsCollision p (state_of kept) k) same.key (subst (λ (k : Kept). IsCollision p (state_of k) used.key) e collision))
+        | inr collision ↦ inr (subst (λ k. IsKeyPair IsVectorAs p (state_of kept) k) same.key (subst (λ (k : Kept). IsKeyPair IsVectorAs p (state_of k) used.key) e collision))
       ];
 }
 

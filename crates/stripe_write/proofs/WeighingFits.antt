@@ -19,14 +19,15 @@ use Rattle.cache_model.specs.Verdict.{live_vector_of}
 use Rattle.cache_model.specs.Permit.{Done, End, Fails, Faulted, Permit, Stays, TooLarge, Weigh, work_after}
 use Rattle.cache_model.specs.Given.{IsReadWhereLive}
 use Rattle.cache_model.specs.Legal.{DoesWeigh, IsQuiet, IsWriting, MayGrow, aborted_record, is_writing, most_fragments, nothing, size_alone}
-use Rattle.cache_model.specs.Vectors.{AreVectors}
+use Rattle.cache_model.specs.Pair.{IsKeyPair}
+use Rattle.cache_model.specs.Vectors.{AreVectors, IsVectorAs}
 use Rattle.cache_model.proofs.Steps.{grows_by, grows_on}
 use Rattle.stripe_core.specs.declared.refusal.Refusal.{Refusal}
 use Rattle.stripe_core.specs.declared.refusal.Refusal.TheVariants as refusal
 use Rattle.stripe_core.specs.Covers.{AreSeen, Covers, Spends}
 use Rattle.stripe_vectors.specs.declared.reading.KeyVector.{KeyVector}
 use Rattle.stripe_vectors.specs.declared.spelling.Spelled.{Spelled}
-use Rattle.stripe_vectors.specs.Reading.{FindsVector, IsCollision, ReadIsListed, vector_adds}
+use Rattle.stripe_vectors.specs.Reading.{FindsVector, ReadIsListed, vector_adds}
 use Rattle.stripe_vectors.specs.Spelled.{IsSpelled}
 use Rattle.stripe_write.specs.declared.weighing.Vectors.{Vectors}
 use Rattle.stripe_write.specs.declared.writer.Writer.{Writer}
@@ -133,8 +134,8 @@ merged_some g list new (Some m) h = (m, refl, h)
 merged_some g list new None h = absurd h
 
 told_by : (p : Permit) (s t : State) (w : Writer) (answer : KeyVector) (result : Result Vectors Refusal) → FitsWhere t (list_in answer) w result
-    → (AreVectors s → ((row : Row) → live_vector_of t w.key ≡ Some row → list_in answer ≡ Some (alternates_of t w.key)) ⊎ IsCollision p s w.key)
-    → IfOk result (λ v. AreVectors s → IsReadFor t w v ⊎ IsCollision p s w.key)
+    → (AreVectors s → ((row : Row) → live_vector_of t w.key ≡ Some row → list_in answer ≡ Some (alternates_of t w.key)) ⊎ IsKeyPair IsVectorAs p s w.key)
+    → IfOk result (λ v. AreVectors s → IsReadFor t w v ⊎ IsKeyPair IsVectorAs p s w.key)
 told_by p s t w answer (Err e) h listed = tt
 told_by p s t w answer (Ok v) h listed = λ vectors. elim (listed vectors) [
   | inl same ↦ inl (λ row live. merged_some t.geometry (alternates_of t w.key) (alternate_at_close w) v.merged (subst (λ o. IsSpelledWith t.geometry o (alternate_at_close w) v.merged) (same row live) h.merged))
@@ -143,9 +144,9 @@ told_by p s t w answer (Ok v) h listed = λ vectors. elim (listed vectors) [
 
 -- where a vector is spelled nothing is added
 no_more : (mid new : Kept) (w : Writer) (s : State) (p : Permit) (result : Result Vectors Refusal) → new ≡ with_records mid (fit_adds w result)
-    → IfOk result (λ v. AreVectors s → IsReadFor (state_of mid) w v ⊎ IsCollision p s w.key) → IfOk result (λ v. AreVectors s → IsReadFor (state_of new) w v ⊎ IsCollision p s w.key)
+    → IfOk result (λ v. AreVectors s → IsReadFor (state_of mid) w v ⊎ IsKeyPair IsVectorAs p s w.key) → IfOk result (λ v. AreVectors s → IsReadFor (state_of new) w v ⊎ IsKeyPair IsVectorAs p s w.key)
 no_more mid new w s p (Err e) is h = tt
-no_more mid new w s p (Ok v) is h = subst (λ t. AreVectors s → IsReadFor t w v ⊎ IsCollision p s w.key) (sym (state_behind mid new [] is)) h
+no_more mid new w s p (Ok v) is h = subst (λ t. AreVectors s → IsReadFor t w v ⊎ IsKeyPair IsVectorAs p s w.key) (sym (state_behind mid new [] is)) h
 
 -- ---- weighing
 
@@ -230,6 +231,6 @@ weighs law kept mid new before during after w answer result h =
             adds = h.adds ∙ (ap (λ k. with_records k (fit_adds w result)) h.reads ∙ ap (λ recs. let k : Kept = record { base = kept.base; since = recs } in k) (append_assoc kept.since first (fit_adds w result)));
             does = spends_on p s w.put (length w.gathered.items) first (fit_adds w result) (weigh_end w result) far.grows (subst (λ t. Spends p t (Weigh w.put (length w.gathered.items)) (fit_adds w result) (weigh_end w result)) there last);
             told = no_more mid new w s p result h.adds (told_by p s (state_of mid) w answer result h.fits
-                (subst (λ t. AreVectors s → ((row : Row) → live_vector_of t w.key ≡ Some row → list_in answer ≡ Some (alternates_of t w.key)) ⊎ IsCollision p s w.key) (sym there) far.listed));
+                (subst (λ t. AreVectors s → ((row : Row) → live_vector_of t w.key ≡ Some row → list_in answer ≡ Some (alternates_of t w.key)) ⊎ IsKeyPair IsVectorAs p s w.key) (sym there) far.listed));
           };
     }

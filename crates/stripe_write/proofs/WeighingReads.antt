@@ -17,13 +17,13 @@ use Rattle.cache_model.specs.Verdict.{is_open, live_vector_of, vector_of}
 use Rattle.cache_model.specs.Permit.{Fails, Faulted, Permit, Stays}
 use Rattle.cache_model.specs.Given.{IsDamaged, IsRead, IsReadWhereLive, IsWritten, MayCount, Trouble, damage_cause, damage_record}
 use Rattle.cache_model.specs.Legal.{DoesWeigh, IsWriting, is_writing}
-use Rattle.cache_model.specs.Vectors.{AreVectors}
+use Rattle.cache_model.specs.Vectors.{AreVectors, IsVectorAs}
 use Rattle.cache_chronicle.proofs.ListLemmas.{row_in-named}
 use Rattle.cache_chronicle.proofs.RowLemmas.{row_in-without}
 use Rattle.stripe_core.specs.Find.{cause_records}
 use Rattle.stripe_vectors.specs.declared.reading.KeyVector.{KeyVector}
 use Rattle.stripe_vectors.specs.declared.reading.KeyVector.TheVariants as found
-use Rattle.stripe_vectors.specs.Reading.{IsCollision, IsReadAs, IsVectorFound, ReadIsListed, trouble_records, vector_adds}
+use Rattle.stripe_vectors.specs.Reading.{IsReadAs, IsVectorFound, ReadIsListed, trouble_records, vector_adds}
 use Rattle.stripe_write.specs.Weighing.{fault_in, list_in}
 use Rattle.stripe_write.proofs.Gathering.{SamePuts}
 use Rattle.stripe_write.proofs.Spending.{state_behind}
@@ -165,7 +165,7 @@ pub record IsReadSoFar (p : Permit) (s : State) (put rest : ℕ) (key : Key) (be
   pub grows : (before ≡ []) ⊎ DoesWeigh p s put rest before Stays
   pub readable : IsReadWhereLive p (after_all s before) (live_vector_of (after_all s before) key)
   pub listed : AreVectors s
-      → ((row : Row) → live_vector_of (after_all s before) key ≡ Some row → list_in answer ≡ Some (alternates_of (after_all s before) key)) ⊎ IsCollision p s key
+      → ((row : Row) → live_vector_of (after_all s before) key ≡ Some row → list_in answer ≡ Some (alternates_of (after_all s before) key)) ⊎ IsKeyPair IsVectorAs p s key
 
 none_live : (p : Permit) (s t : State) (put rest : ℕ) (key : Key) (before : List Rec) (answer : KeyVector) → after_all s before ≡ t → live_vector_of t key ≡ None
     → (before ≡ []) ⊎ DoesWeigh p s put rest before Stays → IsReadSoFar p s put rest key before answer

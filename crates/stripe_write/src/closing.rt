@@ -1,6 +1,7 @@
 // Writers close.
-ghost use Rattle.std.specs.Prelude.{◌≡◌, ◌+◌, ◌≤◌, ◌<◌, true, OnOk};
+ghost use Rattle.std.specs.Prelude.{◌≡◌, ◌+◌, ◌≤◌, ◌<◌, true, OnOk, IfErr};
 ghost use Rattle.cache_model.specs.Legal.{IsQuiet, is_writing};
+ghost use Rattle.stripe_core.specs.Counts.{IsCounted};
 ghost use Rattle.stripe_core.specs.Stripe.{IsStill, IsStripe, kept_in, room_for, seen_in, state_in, units_in};
 ghost use Rattle.stripe_core.specs.Unharmed.{StaysUnharmed};
 ghost use Rattle.stripe_write.specs.Others.{AddsOfPut};
@@ -46,6 +47,7 @@ pub fn close_write<D: Disk, R: Directory + Drop, C: Chronicle>(
     ensures seals { SealsWhere writer.old writer.new result }
     ensures rested { IsRested writer.old writer.new }
     ensures later { (seen_in D.Disk R.Directory stripe.old).device.faults ≤ (seen_in D.Disk R.Directory stripe.new).device.faults }
+    ensures counts { IfErr result (IsCounted (seen_in D.Disk R.Directory stripe.new).device.faults) }
     ensures own { AddsOfPut writer.old.put (kept_in C.Chronicle stripe.old) (kept_in C.Chronicle stripe.new) }
 {
     if !is_open(stripe, writer.put) {
@@ -100,6 +102,7 @@ fn close_open<D: Disk, R: Directory + Drop, C: Chronicle>(
     ensures seals { SealsWhere writer.old writer.new result }
     ensures rested { IsRested writer.old writer.new }
     ensures later { (seen_in D.Disk R.Directory stripe.old).device.faults ≤ (seen_in D.Disk R.Directory stripe.new).device.faults }
+    ensures counts { IfErr result (IsCounted (seen_in D.Disk R.Directory stripe.new).device.faults) }
     ensures own { AddsOfPut writer.old.put (kept_in C.Chronicle stripe.old) (kept_in C.Chronicle stripe.new) }
 {
     match weigh(stripe, writer) {
@@ -146,6 +149,7 @@ fn end<D: Disk, R: Directory + Drop, C: Chronicle>(
     ensures sealed { writer.new.sealed ≡ true }
     ensures rested { IsRested writer.old writer.new }
     ensures later { (seen_in D.Disk R.Directory stripe.old).device.faults ≤ (seen_in D.Disk R.Directory stripe.new).device.faults }
+    ensures counts { IfErr result (IsCounted (seen_in D.Disk R.Directory stripe.new).device.faults) }
     ensures own { AddsOfPut writer.old.put (kept_in C.Chronicle stripe.old) (kept_in C.Chronicle stripe.new) }
 {
     writer.sealed = true;

@@ -10,6 +10,7 @@ ghost use Rattle.stripe_core.specs.declared.refusal.Refusal.TheVariants as refus
 ghost use Rattle.stripe_core.specs.Acts.{CommitsAsAsked, IsCommitting, committed_record};
 ghost use Rattle.stripe_core.specs.Flush.{StopsWith};
 ghost use Rattle.stripe_core.specs.Place.{RoomsAsAsked};
+ghost use Rattle.stripe_core.specs.Counts.{IsCounted};
 ghost use Rattle.stripe_core.specs.Stripe.{Answers, IsStripe, kept_in, seen_in, state_in, units_in};
 ghost use Rattle.stripe_core.specs.Unharmed.{StaysUnharmed};
 ghost use Rattle.stripe_write.specs.Others.{AddsOfPut};
@@ -80,6 +81,7 @@ pub(crate) fn finish<D: Disk, R: Directory + Drop, C: Chronicle>(
     ensures does { FinishesAsRead now (seen_in D.Disk R.Directory stripe.old).device.faults (seen_in D.Disk R.Directory stripe.new).device.faults
         (kept_in C.Chronicle stripe.old) (kept_in C.Chronicle stripe.new) writer.now vectors.now result }
     ensures later { (seen_in D.Disk R.Directory stripe.old).device.faults ≤ (seen_in D.Disk R.Directory stripe.new).device.faults }
+    ensures counts { IfErr result (IsCounted (seen_in D.Disk R.Directory stripe.new).device.faults) }
     ensures writer { IsWriterOf (state_in C.Chronicle stripe.new) writer.now }
     ensures own { AddsOfPut writer.now.put (kept_in C.Chronicle stripe.old) (kept_in C.Chronicle stripe.new) }
 {
@@ -111,6 +113,7 @@ fn end<D: Disk, R: Directory + Drop, C: Chronicle>(
     ensures does { FinishesAsRead now (seen_in D.Disk R.Directory stripe.old).device.faults (seen_in D.Disk R.Directory stripe.new).device.faults
         (kept_in C.Chronicle stripe.old) (kept_in C.Chronicle stripe.new) writer.now vectors.now result }
     ensures later { (seen_in D.Disk R.Directory stripe.old).device.faults ≤ (seen_in D.Disk R.Directory stripe.new).device.faults }
+    ensures counts { IfErr result (IsCounted (seen_in D.Disk R.Directory stripe.new).device.faults) }
     ensures writer { IsWriterOf (state_in C.Chronicle stripe.new) writer.now }
     ensures own { AddsOfPut writer.now.put (kept_in C.Chronicle stripe.old) (kept_in C.Chronicle stripe.new) }
 {
@@ -137,6 +140,7 @@ fn make_room<D: Disk, R: Directory + Drop, C: Chronicle>(
     ensures does { Answers result (RoomsAsAsked now (kept_in C.Chronicle stripe.old) (kept_in C.Chronicle stripe.new) (seen_in D.Disk R.Directory stripe.old).device.faults
         (seen_in D.Disk R.Directory stripe.new).device (bytes_now (state_in C.Chronicle stripe.old) writer.now vectors.now)) ⊥ }
     ensures stops { Answers result (λ r. IfErr r (StopsWith (state_in C.Chronicle stripe.old) (seen_in D.Disk R.Directory stripe.new).device.faults)) ⊥ }
+    ensures counts { IfErr result (IsCounted (seen_in D.Disk R.Directory stripe.new).device.faults) }
     ensures room { OnOk result (has_room (state_in C.Chronicle stripe.new) (bytes_now (state_in C.Chronicle stripe.old) writer.now vectors.now) ≡ true) }
     ensures later { (seen_in D.Disk R.Directory stripe.old).device.faults ≤ (seen_in D.Disk R.Directory stripe.new).device.faults }
     ensures unit { units_in stripe.old ≤ units_in stripe.new + 1 }
@@ -219,6 +223,7 @@ fn complete<D: Disk, R: Directory + Drop, C: Chronicle>(
     ensures does { FinishesAsRead now (seen_in D.Disk R.Directory stripe.old).device.faults (seen_in D.Disk R.Directory stripe.new).device.faults
         (kept_in C.Chronicle stripe.old) (kept_in C.Chronicle stripe.new) writer.now vectors.now result }
     ensures later { (seen_in D.Disk R.Directory stripe.old).device.faults ≤ (seen_in D.Disk R.Directory stripe.new).device.faults }
+    ensures counts { IfErr result (IsCounted (seen_in D.Disk R.Directory stripe.new).device.faults) }
     ensures writer { IsWriterOf (state_in C.Chronicle stripe.new) writer.now }
     ensures own { AddsOfPut writer.now.put (kept_in C.Chronicle stripe.old) (kept_in C.Chronicle stripe.new) }
 {

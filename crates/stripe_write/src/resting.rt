@@ -1,6 +1,7 @@
 // The rest that a writer gathered, which fills no fragment, is cut when the writer closes.
 ghost use Rattle.std.specs.Prelude.{◌≡◌, ◌+◌, ◌≤◌, ◌<◌, [], true, length, IfErr, OnOk, OnErr};
 ghost use Rattle.cache_model.specs.Legal.{IsQuiet, is_writing};
+ghost use Rattle.stripe_core.specs.Counts.{IsCounted};
 ghost use Rattle.stripe_core.specs.Stripe.{Answers, IsStripe, kept_in, room_for, seen_in, state_in, units_in};
 ghost use Rattle.stripe_core.specs.Unharmed.{StaysUnharmed};
 ghost use Rattle.stripe_write.specs.Closing.{rows_at_close};
@@ -34,6 +35,7 @@ pub(crate) fn cut_rest<D: Disk, R: Directory + Drop, C: Chronicle>(
     ensures unharmed { StaysUnharmed D.Disk R.Directory C.Chronicle stripe.old stripe.new }
     ensures quiet { IsQuiet (state_in C.Chronicle stripe.new) }
     ensures later { (seen_in D.Disk R.Directory stripe.old).device.faults ≤ (seen_in D.Disk R.Directory stripe.new).device.faults }
+    ensures counts { IfErr result (IsCounted (seen_in D.Disk R.Directory stripe.new).device.faults) }
     ensures unit { units_in stripe.old ≤ units_in stripe.new + 1 }
     // Memory is not wanting, and no other refusal comes.
     ensures does { Answers result (RestsAsAsked now (kept_in C.Chronicle stripe.old) (kept_in C.Chronicle stripe.new) (seen_in D.Disk R.Directory stripe.old).device.faults

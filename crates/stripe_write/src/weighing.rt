@@ -1,11 +1,12 @@
 // What is weighed before a put closes: the vector that it is to have.
-ghost use Rattle.std.specs.Prelude.{◌≡◌, ◌+◌, ◌<◌, ◌≤◌, [], ◌∷◌, true, IfOk, OnOk, nat_le, length};
+ghost use Rattle.std.specs.Prelude.{◌≡◌, ◌+◌, ◌<◌, ◌≤◌, [], ◌∷◌, true, IfOk, OnOk, nat_le, length, IfErr};
 ghost use Rattle.tape_base.specs.Blocks.{blocks_of};
 ghost use Rattle.tape_base.specs.Geometry.{budget_of};
 ghost use Rattle.fragment_table.specs.Table.{total_length};
 ghost use Rattle.alternate_vector.specs.Alternates.{stored_of, vector_size};
 ghost use Rattle.cache_model.specs.Kept.{with_records};
 ghost use Rattle.cache_model.specs.Legal.{IsQuiet, is_writing, most_fragments};
+ghost use Rattle.stripe_core.specs.Counts.{IsCounted};
 ghost use Rattle.stripe_core.specs.Stripe.{IsStripe, kept_in, room_for, seen_in, state_in, units_in};
 ghost use Rattle.stripe_core.specs.Unharmed.{StaysUnharmed};
 ghost use Rattle.stripe_vectors.specs.Spelled.{IsSpelled};
@@ -55,6 +56,7 @@ pub(crate) fn weigh<D: Disk, R: Directory + Drop, C: Chronicle>(
     ensures does { WeighsAsAsked (seen_in D.Disk R.Directory stripe.old).device (seen_in D.Disk R.Directory stripe.new).device
         (kept_in C.Chronicle stripe.old) (kept_in C.Chronicle stripe.new) writer.now result }
     ensures later { (seen_in D.Disk R.Directory stripe.old).device.faults ≤ (seen_in D.Disk R.Directory stripe.new).device.faults }
+    ensures counts { IfErr result (IsCounted (seen_in D.Disk R.Directory stripe.new).device.faults) }
     ensures writer { IsWriterOf (state_in C.Chronicle stripe.new) writer.now }
     ensures puts { OnOk result ((state_in C.Chronicle stripe.new).puts ≡ (state_in C.Chronicle stripe.old).puts) }
     ensures geometry { OnOk result ((state_in C.Chronicle stripe.new).geometry ≡ (state_in C.Chronicle stripe.old).geometry) }

@@ -7,6 +7,7 @@ ghost use Rattle.cache_model.specs.Legal.{IsQuiet, is_writing, most_fragments};
 ghost use Rattle.stripe_actors.specs.Calls.{HasNumber};
 ghost use Rattle.stripe_core.specs.Acts.{OpensAsAsked, opened_record};
 ghost use Rattle.stripe_core.specs.Place.{CutsAsAsked};
+ghost use Rattle.stripe_core.specs.Counts.{IsCounted};
 ghost use Rattle.stripe_core.specs.Stripe.{Answers, HasMemory, IsStripe, kept_in, room_for, seen_in, state_in, units_in};
 ghost use Rattle.stripe_core.specs.Unharmed.{StaysUnharmed};
 ghost use Rattle.stripe_write.specs.Numbers.{StopsAtLimit};
@@ -263,6 +264,7 @@ pub(crate) fn cut<D: Disk, R: Directory + Drop, C: Chronicle>(
     ensures empty { OnOk result (writer.new.gathered.items ≡ []) }
     ensures same { OnErr result (writer.new ≡ writer.old) }
     ensures later { (seen_in D.Disk R.Directory stripe.old).device.faults ≤ (seen_in D.Disk R.Directory stripe.new).device.faults }
+    ensures counts { IfErr result (IsCounted (seen_in D.Disk R.Directory stripe.new).device.faults) }
     ensures memory { 0 < units_in stripe.old → 0 < room_for writer.old.put stripe.old.actors → HasMemory result }
     ensures unit { units_in stripe.old ≤ units_in stripe.new + 1 }
 {

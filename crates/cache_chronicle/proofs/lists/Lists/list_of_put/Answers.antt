@@ -10,5 +10,5 @@ returns c = λ s tables lists.
     let opened = rw known at (lists.puts c.args.put) in
     let before = c.list_among-before.ensures.list c.args.records.now s tables lists in
     let merged = listed-put c.args.records.now s c.in-Some.opened (found_put c.args.put s.puts) c.list_among-before.result.now opened before in
-    ap (map (told_by c.args.records.now)) (rw (c.most_payload.ensures s tables.tape) at c.merged.ensures)
+    ap (map (told_by c.args.records.now)) (rw (c.most_alternates-most.ensures.most s tables.tape, c.most_payload.ensures s tables.tape) at c.merged.ensures)
     ∙ merged
