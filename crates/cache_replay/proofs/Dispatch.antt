@@ -29,7 +29,7 @@ same run = record { ended = refl; names = refl; now = refl }
 
 -- a line on a session, where there is one, says nothing new of them
 pub same_beside : (run : Run) (turn : Turn) (state : Option State) (step : Step) → NeedsSession step → SameBeside run (behind run turn state step)
-same_beside run turn state (step.Format name segments buckets content agg reach fragment generation) needs = absurd needs
+same_beside run turn state (step.Format name segments buckets content agg reach fragment generation alternates) needs = absurd needs
 same_beside run turn state (step.Now at) needs = absurd needs
 same_beside run turn (Some s) _ needs = record { ended = refl; names = refl; now = refl }
 same_beside run turn None _ needs = same run
@@ -79,8 +79,8 @@ stops run step before now BayFault needs is = absurd is
 stops run step before now Memory needs is = tt
 
 -- what is no format and sets no moment works on a session
-pub needs_session : (s : Step) → ((name : List ℕ) (segments buckets content agg reach fragment generation : ℕ) → s ≡ step.Format name segments buckets content agg reach fragment generation → ⊥) → ((at : ℕ) → s ≡ step.Now at → ⊥) → NeedsSession s
-needs_session (step.Format name segments buckets content agg reach fragment generation) h k = absurd (h name segments buckets content agg reach fragment generation refl)
+pub needs_session : (s : Step) → ((name : List ℕ) (segments buckets content agg reach fragment generation alternates : ℕ) → s ≡ step.Format name segments buckets content agg reach fragment generation alternates → ⊥) → ((at : ℕ) → s ≡ step.Now at → ⊥) → NeedsSession s
+needs_session (step.Format name segments buckets content agg reach fragment generation alternates) h k = absurd (h name segments buckets content agg reach fragment generation alternates refl)
 needs_session (step.Now at) h k = absurd (k at refl)
 needs_session _ h k = tt
 

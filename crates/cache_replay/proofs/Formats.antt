@@ -39,13 +39,13 @@ module _ {D R C : Type 0} (disk : DiskGhosts D) (directory : DirectoryGhosts R) 
   -- ---- formats
 
   -- numbers that are refused change nothing
-  pub format_refused : (run : Run) (name : List ℕ) (segments buckets content agg reach fragment generation number : ℕ) (bad : BadGeometry) (session : Session D R C) (ledger : Ledger)
-      → first_refusal segments buckets content agg reach fragment ≡ Some bad → number ≡ number_of_bad bad → Plays disk directory chronicle run session
-      → DeviceMoves disk directory chronicle run (step.Format name segments buckets content agg reach fragment generation) session (answer.Refused (refused.Geometry number) None) ledger ledger
-  format_refused run name segments buckets content agg reach fragment generation number bad session ledger is numbered plays = record {
+  pub format_refused : (run : Run) (name : List ℕ) (segments buckets content agg reach fragment generation alternates number : ℕ) (bad : BadGeometry) (session : Session D R C) (ledger : Ledger)
+      → first_refusal segments buckets content agg reach fragment alternates ≡ Some bad → number ≡ number_of_bad bad → Plays disk directory chronicle run session
+      → DeviceMoves disk directory chronicle run (step.Format name segments buckets content agg reach fragment generation alternates) session (answer.Refused (refused.Geometry number) None) ledger ledger
+  format_refused run name segments buckets content agg reach fragment generation alternates number bad session ledger is numbered plays = record {
     moves = record {
       turn = no_turn;
-      takes = subst (λ o. FormatTakes [] segments buckets content agg reach fragment generation o) (sym is) refl;
+      takes = subst (λ o. FormatTakes [] segments buckets content agg reach fragment generation alternates o) (sym is) refl;
       plays = subst (λ o. Plays disk directory chronicle (after_format run name [] o) session) (sym is) plays;
       says = ap (format_said []) is ∙ ap (λ n. answer.Refused (refused.Geometry n) None) (sym numbered);
     };
@@ -60,14 +60,14 @@ module _ {D R C : Type 0} (disk : DiskGhosts D) (directory : DirectoryGhosts R) 
   format_turn g = record { added = format_records g; refused = None; device = no_turn.device; given = [] }
 
   -- a session begins with the geometry of its line
-  pub format_done : (run : Run) (name : List ℕ) (segments buckets content agg reach fragment generation : ℕ) (g : Geometry) (floor : ℕ) (new : Session D R C) (before now : Ledger)
-      → first_refusal segments buckets content agg reach fragment ≡ None → floor ≡ floor_of g g.content → HasNumbers g segments buckets content agg reach fragment generation
+  pub format_done : (run : Run) (name : List ℕ) (segments buckets content agg reach fragment generation alternates : ℕ) (g : Geometry) (floor : ℕ) (new : Session D R C) (before now : Ledger)
+      → first_refusal segments buckets content agg reach fragment alternates ≡ None → floor ≡ floor_of g g.content → HasNumbers g segments buckets content agg reach fragment generation alternates
       → Plays disk directory chronicle (formatted run name (format_records g)) new → Deals before now (harm_of run.state) (name ∷ [])
-      → DeviceMoves disk directory chronicle run (step.Format name segments buckets content agg reach fragment generation) new (answer.Formatted 1 g.content floor) before now
-  format_done run name segments buckets content agg reach fragment generation g floor new before now is floored numbers plays deals = record {
+      → DeviceMoves disk directory chronicle run (step.Format name segments buckets content agg reach fragment generation alternates) new (answer.Formatted 1 g.content floor) before now
+  format_done run name segments buckets content agg reach fragment generation alternates g floor new before now is floored numbers plays deals = record {
     moves = record {
       turn = format_turn g;
-      takes = subst (λ o. FormatTakes (format_records g) segments buckets content agg reach fragment generation o) (sym is) (g, numbers, refl);
+      takes = subst (λ o. FormatTakes (format_records g) segments buckets content agg reach fragment generation alternates o) (sym is) (g, numbers, refl);
       plays = subst (λ o. Plays disk directory chronicle (after_format run name (format_records g) o) new) (sym is) plays;
       says = ap (format_said (format_records g)) is ∙ ap (λ n. answer.Formatted 1 g.content n) (sym floored);
     };

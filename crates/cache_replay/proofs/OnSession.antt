@@ -96,7 +96,7 @@ pub record IsOnSession (step : Step) : Type 0 where
   pub behind : (run : Run) (s : State) (turn : Turn) → then.behind run turn (Some s) step ≡ in_session run s (after_all s turn.added) turn step
 
 pub on_session : (step : Step) → NeedsSession step → IsOnSession step
-on_session (step.Format name segments buckets content agg reach fragment generation) needs = absurd needs
+on_session (step.Format name segments buckets content agg reach fragment generation alternates) needs = absurd needs
 on_session (step.Now moment) needs = absurd needs
 on_session _ needs = record { takes = λ run s turn h. h; says = λ run s turn. refl; behind = λ run s turn. refl }
 

@@ -18,9 +18,9 @@ use Rattle.cache_replay.specs.Stop.{NeedsSession}
 
 -- ---- the counts that answers tell
 
--- the count of a cause that is a device fault, which is above 0; 0 of any other
+-- the count of a cause that is a device fault; 0 of any other
 abbrev pub count_of : Cause → ℕ
-count_of (cause.DeviceFault count) = max 1 count
+count_of (cause.DeviceFault count) = count
 count_of _ = 0
 
 -- that of the cause for which a fragment is lost; 0 of any other refusal
@@ -34,12 +34,12 @@ count_in (answer.Miss why) = count_of why
 count_in (answer.Broken why) = count_of why
 count_in (answer.Absent why) = count_of why
 count_in (answer.Refused why took) = count_in_refusal why
-count_in (answer.DeviceFault count took) = max 1 count
+count_in (answer.DeviceFault count took) = count
 count_in _ = 0
 
 -- that of a refusal of a stripe
 abbrev pub count_of_refusal : Refusal → ℕ
-count_of_refusal (refusal.DeviceFault count) = max 1 count
+count_of_refusal (refusal.DeviceFault count) = count
 count_of_refusal (refusal.Lost index why) = count_of why
 count_of_refusal _ = 0
 
@@ -76,8 +76,8 @@ begun o name None = record { session = Some 0; ended = all_told o; names = o.nam
 
 -- no other step ends a session, or begins one
 abbrev pub begun_by : Outline → Step → Outline
-begun_by o (step.Format name segments buckets content agg reach fragment generation) =
-    begun o name (first_refusal segments buckets content agg reach fragment)
+begun_by o (step.Format name segments buckets content agg reach fragment generation alternates) =
+    begun o name (first_refusal segments buckets content agg reach fragment alternates)
 begun_by o _ = o
 
 -- a count that is told of the session's device

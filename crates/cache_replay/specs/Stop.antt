@@ -10,19 +10,19 @@ use Rattle.cache_replay.specs.declared.stop.Stop.TheVariants.{NoCache, BayFault,
 
 -- a line that works on a session
 abbrev pub NeedsSession : Step → Type 0
-NeedsSession (step.Format name segments buckets content agg reach fragment generation) = ⊥
+NeedsSession (step.Format name segments buckets content agg reach fragment generation alternates) = ⊥
 NeedsSession (step.Now moment) = ⊥
 NeedsSession _ = ⊤
 
 -- a format whose numbers are accepted attaches a device
 abbrev pub Attaches : Step → Type 0
-Attaches (step.Format name segments buckets content agg reach fragment generation) = first_refusal segments buckets content agg reach fragment ≡ None
+Attaches (step.Format name segments buckets content agg reach fragment generation alternates) = first_refusal segments buckets content agg reach fragment alternates ≡ None
 Attaches _ = ⊥
 
 -- the device that an accepted format attaches has the name of its line
 abbrev pub AttachesAs : List ℕ → Step → Type 0
-AttachesAs name (step.Format other segments buckets content agg reach fragment generation) =
-    (name ≡ other) × (first_refusal segments buckets content agg reach fragment ≡ None)
+AttachesAs name (step.Format other segments buckets content agg reach fragment generation alternates) =
+    (name ≡ other) × (first_refusal segments buckets content agg reach fragment alternates ≡ None)
 AttachesAs name _ = ⊥
 
 -- a format ends the run where the bay's count rose, or for want of memory

@@ -27,7 +27,7 @@ use script_run::formats_own;
 use std::alloc::{AllocError, Global};
 use std::mem;
 use stripe_core::Stripe;
-use tape_base::{BadGeometry, Geometry, floor_of};
+use tape_base::{BadGeometry, Geometry, alternates_are_last, floor_of};
 
 /// A session in which nothing was formatted yet.
 pub fn begin<D: Disk>(alloc: Global) -> Cache<D>
@@ -100,7 +100,29 @@ fn number_of(bad: BadGeometry) -> u32
         BadGeometry::Content => 4,
         BadGeometry::Reach => 5,
         BadGeometry::Fragment => 6,
+        BadGeometry::Alternates => 7,
     }
+}
+
+// The geometry of these numbers, where none of them is refused.
+fn checked(
+    segments: u32,
+    buckets: u32,
+    content: u64,
+    agg: u32,
+    reach: u64,
+    fragment: u32,
+    generation: u64,
+    alternates: u32,
+) -> Result<Geometry, BadGeometry>
+    ensures numbers { IfOk result (λ g.
+        HasNumbers g segments buckets content agg reach fragment generation alternates) }
+    ensures refused { result_err result
+        ≡ first_refusal segments buckets content agg reach fragment alternates }
+{
+    alternates_are_last();
+    let usual = Geometry::check(segments, buckets, content, agg, reach, fragment, generation)?;
+    usual.with_alternates(alternates)
 }
 
 // As many bytes as any piece has.
@@ -145,7 +167,7 @@ fn end<B: Bay>(session: &mut Cache<B::Dev>, bay: &mut B)
     give_back(bay, part);
 }
 
-/// `format NAME S B N A R F G`: the session before it ends, and one begins on the device of that name.
+/// `format NAME S B N A R F G M`: the session before it ends, and one begins on the device of that name.
 pub(crate) fn format_line<B: Bay>(
     session: &mut Cache<B::Dev>,
     bay: &mut B,
@@ -157,29 +179,32 @@ pub(crate) fn format_line<B: Bay>(
     reach: u64,
     fragment: u32,
     generation: u64,
+    alternates: u32,
 ) -> Result<StepAnswer, Stop>
     requires session { IsSession B.Dev.Disk ⟦<ListDirectory as Directory>⟧ ⟦<FullChronicle as Chronicle>⟧ session.old }
     requires held { devices_of session.old ≤ B.out bay.old }
     ensures session { IsSession B.Dev.Disk ⟦<ListDirectory as Directory>⟧ ⟦<FullChronicle as Chronicle>⟧ session.new }
     ensures ends { IfOk result (λ said. (run : Run) → Plays B.Dev.Disk ⟦<ListDirectory as Directory>⟧ ⟦<FullChronicle as Chronicle>⟧ run session.old
         → DeviceMoves B.Dev.Disk ⟦<ListDirectory as Directory>⟧ ⟦<FullChronicle as Chronicle>⟧ run
-        (step.Format name.now segments buckets content agg reach fragment generation) session.new said
+        (step.Format name.now segments buckets content agg reach fragment generation alternates) session.new said
         (ledger_of B.Bay bay.old) (ledger_of B.Bay bay.new)) }
     ensures outline { IfOk result (λ said. (o : Outline) → IsOutlined B.Dev.Disk ⟦<ListDirectory as Directory>⟧ ⟦<FullChronicle as Chronicle>⟧ o session.old
         → Outlines B.Dev.Disk ⟦<ListDirectory as Directory>⟧ ⟦<FullChronicle as Chronicle>⟧ o
-        (step.Format name.now segments buckets content agg reach fragment generation) session.new said
+        (step.Format name.now segments buckets content agg reach fragment generation alternates) session.new said
         (ledger_of B.Bay bay.old) (ledger_of B.Bay bay.new)) }
     ensures left { IfErr result (λ why. (harms : List Harm)
         → AreReached harms (return_of B.Dev.Disk ⟦<ListDirectory as Directory>⟧ ⟦<FullChronicle as Chronicle>⟧ session.old.part)
         → IsLeft B.Dev.Disk ⟦<ListDirectory as Directory>⟧ ⟦<FullChronicle as Chronicle>⟧ harms
-        (step.Format name.now segments buckets content agg reach fragment generation) session.new
+        (step.Format name.now segments buckets content agg reach fragment generation alternates) session.new
         (ledger_of B.Bay bay.old) (ledger_of B.Bay bay.new) why) }
-    ensures stop { IfErr result (λ stop. (first_refusal segments buckets content agg reach fragment ≡ None) × IsFormatStop (B.faults bay.old) (B.faults bay.new) stop) }
+    ensures stop { IfErr result (λ stop. (first_refusal segments buckets content agg reach fragment alternates ≡ None) × IsFormatStop (B.faults bay.old) (B.faults bay.new) stop) }
     ensures out { B.out bay.new + devices_of session.old ≡ B.out bay.old + devices_of session.new }
     ensures names { names_in session.new ≡ names_in session.old }
     ensures later { B.faults bay.old ≤ B.faults bay.new }
 {
-    match Geometry::check(segments, buckets, content, agg, reach, fragment, generation) {
+    match checked(
+        segments, buckets, content, agg, reach, fragment, generation, alternates,
+    ) {
         Err(bad) => Ok(StepAnswer::Refused {
             why: Refused::Geometry {
                 number: number_of(bad),

@@ -55,6 +55,7 @@ pub fn step<B: Bay>(
             reach,
             fragment,
             generation,
+            alternates,
         } => format_line(
             session,
             bay,
@@ -66,6 +67,7 @@ pub fn step<B: Bay>(
             reach,
             fragment,
             generation,
+            alternates,
         ),
         Step::Now { moment } => Ok(now_line(session, moment)),
         other => in_session(session, other),

@@ -73,7 +73,7 @@ fn in_memory(
 
 #[test]
 fn scripts_are_answered_as_worked_out(rt: HostRuntime) -> Result<(), Fail> {
-    let rows: [(&str, &str, &str, Status); 14] = [
+    let rows: [(&str, &str, &str, Status); 15] = [
         ("nothing", "", "", Status::Done),
         (
             "no newline at the end, comments and empty lines",
@@ -133,6 +133,12 @@ fn scripts_are_answered_as_worked_out(rt: HostRuntime) -> Result<(), Fail> {
             "a refused geometry changes nothing, and a format begins anew",
             "put /a 61\nformat mem:b 1 64 64 7 16 4 7\nget /a\nformat mem:b 1 64 64 8 16 4 7\nget /a\n",
             "put 1 length 1 fragments 1\nrefused geometry 3\ngot 1 length 1 61\nformatted serial 1 cursor 64 floor 8\nmiss never-put\n",
+            Status::Done,
+        ),
+        (
+            "as many alternates as the format says",
+            "format mem:b 1 64 64 8 16 4 7 17\nformat mem:b 1 64 64 8 16 4 7 2\nput /a 31 >X:1 <Vary:X\nput /a 32 >X:2 <Vary:X\nput /a 33 >X:3 <Vary:X\nget /a >X:1\nget /a >X:2\n",
+            "refused geometry 7\nformatted serial 1 cursor 64 floor 8\nput 1 length 1 fragments 1\nput 2 length 1 fragments 1\nput 3 length 1 fragments 1\nmiss no-match 2\ngot 2 length 1 32\n",
             Status::Done,
         ),
         (

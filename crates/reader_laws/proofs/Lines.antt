@@ -159,8 +159,8 @@ module _ (laws : OfSteps) (n : ℕ) (run : Run) (s : State) (turn : Turn) (stand
   asked_line st takes other = beside_line st (asked run s st) takes.legal other
 
   step_line : (st : Step) → run.state ≡ Some s → begins_session st ≡ false → Takes run turn (Some s) st → LineGoes n s run.streams (behind run turn (Some s) st) (given_by n run turn st)
-  step_line (step.Format name segments buckets content agg reach fragment generation) e keeps takes =
-      format_line name (first_refusal segments buckets content agg reach fragment) e keeps
+  step_line (step.Format name segments buckets content agg reach fragment generation alternates) e keeps takes =
+      format_line name (first_refusal segments buckets content agg reach fragment alternates) e keeps
   step_line (step.Put key body request response) e keeps takes = asked_line (step.Put key body request response) takes (put_other (OtherThan n) AnyNumber s key body request response tt)
   step_line (step.Get key request) e keeps takes = asked_line (step.Get key request) takes (get_other (OtherThan n) AnyNumber s key request (λ e. omega (arith, opened, e)))
   step_line (step.OpenWrite actor key pin request response) e keeps takes = asked_line (step.OpenWrite actor key pin request response) takes (free_other (OtherThan n) AnyNumber (held_by run actor) _ tt)

@@ -56,14 +56,14 @@ pub data Goes (run : Run) (turn : Turn) : Option State → Step → Run → Type
   waits : {o : Option State} {st : Step} (at : ℕ) → begins_session st ≡ false → Goes run turn o st (at_moment run at)
   steps : {st : Step} (s : State) → begins_session st ≡ false → SessionTakes run s turn st → Goes run turn (Some s) st (in_session run s (after_all s turn.added) turn st)
 
-format_goes : (run : Run) (turn : Turn) (o : Option State) (st : Step) (name : List ℕ) (segments buckets content agg reach fragment generation : ℕ) (bad : Option BadGeometry)
-    → begins_session st ≡ is_none bad → FormatTakes turn.added segments buckets content agg reach fragment generation bad → Goes run turn o st (after_format run name turn.added bad)
-format_goes run turn o st name segments buckets content agg reach fragment generation (Some bad) same takes = stays same
-format_goes run turn o st name segments buckets content agg reach fragment generation None same takes = begins name takes.0 takes.2
+format_goes : (run : Run) (turn : Turn) (o : Option State) (st : Step) (name : List ℕ) (segments buckets content agg reach fragment generation alternates : ℕ) (bad : Option BadGeometry)
+    → begins_session st ≡ is_none bad → FormatTakes turn.added segments buckets content agg reach fragment generation alternates bad → Goes run turn o st (after_format run name turn.added bad)
+format_goes run turn o st name segments buckets content agg reach fragment generation alternates (Some bad) same takes = stays same
+format_goes run turn o st name segments buckets content agg reach fragment generation alternates None same takes = begins name takes.0 takes.2
 
 pub goes : (run : Run) (turn : Turn) (o : Option State) (st : Step) → Takes.Takes run turn o st → Goes run turn o st (behind run turn o st)
-goes run turn o (step.Format name segments buckets content agg reach fragment generation) takes =
-    format_goes run turn o _ name segments buckets content agg reach fragment generation (first_refusal segments buckets content agg reach fragment) refl takes
+goes run turn o (step.Format name segments buckets content agg reach fragment generation alternates) takes =
+    format_goes run turn o _ name segments buckets content agg reach fragment generation alternates (first_refusal segments buckets content agg reach fragment alternates) refl takes
 goes run turn o (step.Now at) takes = waits at refl
 goes run turn (Some s) _ takes = steps s refl takes
 goes run turn None _ takes = absurd takes

@@ -220,7 +220,7 @@ module _ (numbers : NumbersFollow) (run : Run) (s : State) (turn : Turn) (own : 
   -- ---- each step
 
   pub held_step : (st : Step) → IsStep turn.device s (asked run s st) turn.added turn.refused → AreHeld (in_session run s Behind turn st).held Behind
-  held_step (step.Format name segments buckets content agg reach fragment generation) legal = alone_held [] legal (λ m w. tt)
+  held_step (step.Format name segments buckets content agg reach fragment generation alternates) legal = alone_held [] legal (λ m w. tt)
   held_step (step.Put key body request response) legal = alone_held _ legal (λ m w. put_other AnyNumber (OtherThan m) s key body request response (next_other m w))
   held_step (step.Get key request) legal = alone_held _ legal (λ m w. get_other AnyNumber (OtherThan m) s key request tt)
   held_step (step.OpenWrite actor key pin request response) legal =

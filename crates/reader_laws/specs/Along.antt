@@ -22,7 +22,7 @@ use Rattle.script_run.specs.Takes.{IsRun, LineShownIn, LineTakes, run_after}
 
 -- a format that is not refused begins another session
 abbrev pub begins_session : Step → Bool
-begins_session (step.Format name segments buckets content agg reach fragment generation) = is_none (first_refusal segments buckets content agg reach fragment)
+begins_session (step.Format name segments buckets content agg reach fragment generation alternates) = is_none (first_refusal segments buckets content agg reach fragment alternates)
 begins_session _ = false
 
 -- a line that is read so begins none

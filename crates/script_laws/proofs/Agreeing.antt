@@ -116,9 +116,9 @@ module _ (agree : StepsAgree) where
       → NoneHarmed (behind run a o step) → NoneHarmed (behind run b o step)
       → IsSameLine (answer_line (step_said run a o step)) (answer_line (step_said run b o step)) (behind run a o step) (behind run b o step)
       ⊎ StepShowsOther a b run o step
-  same_step run a b o (step.Format name segments buckets content agg reach fragment generation) takes other_takes clean other_clean =
-      let bad : Option BadGeometry = first_refusal segments buckets content agg reach fragment in
-      let same : a.added ≡ b.added = same_format a.added b.added segments buckets content agg reach fragment generation bad takes other_takes in
+  same_step run a b o (step.Format name segments buckets content agg reach fragment generation alternates) takes other_takes clean other_clean =
+      let bad : Option BadGeometry = first_refusal segments buckets content agg reach fragment alternates in
+      let same : a.added ≡ b.added = same_format a.added b.added segments buckets content agg reach fragment generation alternates bad takes other_takes in
       inl (record { printed = ap (λ (added : List Rec). answer_line (format_said added bad)) same; left = ap (λ (added : List Rec). after_format run name added bad) same })
   same_step run a b o (step.Now at) takes other_takes clean other_clean = inl (record { printed = refl; left = refl })
   same_step run a b (Some s) step takes other_takes clean other_clean = same_session run s a b step takes other_takes clean other_clean

@@ -56,11 +56,11 @@ as_other : (a b : Turn) → DoTheSame a b → with_device a b.device ≡ b
 as_other a b same = λ i. record { added = same.added i; refused = same.refused i; device = b.device; given = same.given i }
 
 said_with : (run : Run) (s t : State) (turn : Turn) (p : Permit) (step : Step) → session_said run s t turn step ≡ session_said run s t (with_device turn p) step
-said_with run s t turn p (step.Format name segments buckets content agg reach fragment generation) = refl
+said_with run s t turn p (step.Format name segments buckets content agg reach fragment generation alternates) = refl
 said_with run s t turn p _ = refl
 
 left_with : (run : Run) (s t : State) (turn : Turn) (p : Permit) (step : Step) → in_session run s t turn step ≡ in_session run s t (with_device turn p) step
-left_with run s t turn p (step.Format name segments buckets content agg reach fragment generation) = refl
+left_with run s t turn p (step.Format name segments buckets content agg reach fragment generation alternates) = refl
 left_with run s t turn p _ = refl
 
 pub same_said : (run : Run) (s : State) (a b : Turn) (step : Step) → DoTheSame a b → session_said run s (after_all s a.added) a step ≡ session_said run s (after_all s b.added) b step

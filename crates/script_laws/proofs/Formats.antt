@@ -5,41 +5,41 @@ use Rattle.std.proofs.Props.{props}
 use Rattle.tape_base.specs.declared.geometries.BadGeometry.{BadGeometry}
 use Rattle.tape_base.specs.declared.geometries.Geometry.{Geometry}
 use Rattle.tape_base.specs.Geometry.{HasNumbers}
-use Rattle.tape_base.specs.Limits.{IsGeometry}
+use Rattle.tape_base.specs.Limits.{IsGeometry, MayKeep}
 use Rattle.cache_model.specs.declared.record.Rec.{Rec}
 use Rattle.cache_model.specs.Legal.{format_records}
 use Rattle.script_run.specs.Takes.{FormatTakes}
 
 -- the numbers of a geometry, in the order of its line
 abbrev Numbers : Type 0
-Numbers = ℕ × ℕ × ℕ × ℕ × ℕ × ℕ × ℕ
+Numbers = ℕ × ℕ × ℕ × ℕ × ℕ × ℕ × ℕ × ℕ
 
 abbrev AreAccepted : Numbers → Type 0
-AreAccepted n = IsGeometry n.0 n.1 n.2 n.3 n.4 n.5
+AreAccepted n = IsGeometry n.0 n.1 n.2 n.3 n.4 n.5 × MayKeep n.7
 
 AreAccepted-prop : (n : Numbers) → IsProp (AreAccepted n)
 AreAccepted-prop n = hlevel props
 
 abbrev numbers_of : Geometry → Numbers
-numbers_of g = (g.segments, g.buckets, g.content, g.agg, g.reach, g.fragment, g.generation)
+numbers_of g = (g.segments, g.buckets, g.content, g.agg, g.reach, g.fragment, g.generation, g.alternates)
 
 abbrev with_numbers : (n : Numbers) → AreAccepted n → Geometry
-with_numbers n accepted = record { segments = n.0; buckets = n.1; content = n.2; agg = n.3; reach = n.4; fragment = n.5; generation = n.6; accepted = accepted }
+with_numbers n accepted = record { segments = n.0; buckets = n.1; content = n.2; agg = n.3; reach = n.4; fragment = n.5; generation = n.6; alternates = n.7; accepted = accepted.0; keeps = accepted.1 }
 
 same_geometry : (g h : Geometry) → numbers_of g ≡ numbers_of h → g ≡ h
 same_geometry g h same =
     subst (λ (n : Numbers). (accepted : AreAccepted n) → g ≡ with_numbers n accepted) same
-    (λ accepted. ap (with_numbers (numbers_of g)) (AreAccepted-prop (numbers_of g) g.accepted accepted)) h.accepted
+    (λ accepted. ap (with_numbers (numbers_of g)) (AreAccepted-prop (numbers_of g) (g.accepted, g.keeps) accepted)) (h.accepted, h.keeps)
 
-numbered : (g : Geometry) (segments buckets content agg reach fragment generation : ℕ) → HasNumbers g segments buckets content agg reach fragment generation
-    → numbers_of g ≡ (segments, buckets, content, agg, reach, fragment, generation)
-numbered g segments buckets content agg reach fragment generation h =
-    λ i. (h.has_segments i, h.has_buckets i, h.has_content i, h.has_agg i, h.has_reach i, h.has_fragment i, h.has_generation i)
+numbered : (g : Geometry) (segments buckets content agg reach fragment generation alternates : ℕ) → HasNumbers g segments buckets content agg reach fragment generation alternates
+    → numbers_of g ≡ (segments, buckets, content, agg, reach, fragment, generation, alternates)
+numbered g segments buckets content agg reach fragment generation alternates h =
+    λ i. (h.has_segments i, h.has_buckets i, h.has_content i, h.has_agg i, h.has_reach i, h.has_fragment i, h.has_generation i, h.has_alternates i)
 
-pub same_format : (one other : List Rec) (segments buckets content agg reach fragment generation : ℕ) (bad : Option BadGeometry)
-    → FormatTakes one segments buckets content agg reach fragment generation bad → FormatTakes other segments buckets content agg reach fragment generation bad → one ≡ other
-same_format one other segments buckets content agg reach fragment generation (Some bad) x y = x ∙ sym y
-same_format one other segments buckets content agg reach fragment generation None x y =
+pub same_format : (one other : List Rec) (segments buckets content agg reach fragment generation alternates : ℕ) (bad : Option BadGeometry)
+    → FormatTakes one segments buckets content agg reach fragment generation alternates bad → FormatTakes other segments buckets content agg reach fragment generation alternates bad → one ≡ other
+same_format one other segments buckets content agg reach fragment generation alternates (Some bad) x y = x ∙ sym y
+same_format one other segments buckets content agg reach fragment generation alternates None x y =
     let same : numbers_of x.0 ≡ numbers_of y.0 =
-    numbered x.0 segments buckets content agg reach fragment generation x.1 ∙ sym (numbered y.0 segments buckets content agg reach fragment generation y.1) in
+    numbered x.0 segments buckets content agg reach fragment generation alternates x.1 ∙ sym (numbered y.0 segments buckets content agg reach fragment generation alternates y.1) in
     x.2 ∙ (ap format_records (same_geometry x.0 y.0 same) ∙ sym y.2)

@@ -85,12 +85,12 @@ module _ (test : StepAnswer → Bool) (Fine : Harm → Type 0) (Sound : State �
             );
       }
 
-  by_format : (run : Run) (turn : Turn) (name : List ℕ) (segments buckets content agg reach fragment generation : ℕ) (bad : Option BadGeometry) → IsSound run.state
-      → FormatTakes turn.added segments buckets content agg reach fragment generation bad
+  by_format : (run : Run) (turn : Turn) (name : List ℕ) (segments buckets content agg reach fragment generation alternates : ℕ) (bad : Option BadGeometry) → IsSound run.state
+      → FormatTakes turn.added segments buckets content agg reach fragment generation alternates bad
       → IsPlayed run run.state (after_format run name turn.added bad) (test (format_said turn.added bad) ≡ false)
-  by_format run turn name segments buckets content agg reach fragment generation (Some bad) sound takes =
+  by_format run turn name segments buckets content agg reach fragment generation alternates (Some bad) sound takes =
       record { sound = sound; back = λ fine. (w.format turn.added (Some bad), fine) }
-  by_format run turn name segments buckets content agg reach fragment generation None sound takes = record {
+  by_format run turn name segments buckets content agg reach fragment generation alternates None sound takes = record {
     sound = subst (λ added. Sound (after_all nothing_yet added)) (sym takes.2) (w.formats takes.0);
     back = λ fine. (w.format turn.added None, all_front Fine (harms_of run) (harm_in (after_all nothing_yet turn.added) ∷ []) fine);
   }
@@ -99,10 +99,10 @@ module _ (test : StepAnswer → Bool) (Fine : Harm → Type 0) (Sound : State �
 
   played : (run : Run) (turn : Turn) (o : Option State) (step : Step) → run.state ≡ o → IsSound o → Takes run turn o step
       → IsPlayed run o (behind run turn o step) (test (step_said run turn o step) ≡ false)
-  played run turn o (step.Format name segments buckets content agg reach fragment generation) e sound takes =
-      let bad : Option BadGeometry = first_refusal segments buckets content agg reach fragment in
+  played run turn o (step.Format name segments buckets content agg reach fragment generation alternates) e sound takes =
+      let bad : Option BadGeometry = first_refusal segments buckets content agg reach fragment alternates in
       subst (λ (x : Option State). IsPlayed run x (after_format run name turn.added bad) (test (format_said turn.added bad) ≡ false)) e
-      (by_format run turn name segments buckets content agg reach fragment generation bad (subst IsSound (sym e) sound) takes)
+      (by_format run turn name segments buckets content agg reach fragment generation alternates bad (subst IsSound (sym e) sound) takes)
   played run turn o (step.Now at) e sound takes = record {
     sound = subst IsSound (sym e) sound;
     back = λ fine. (w.moment at, subst (λ (x : Option State). AreFine (run.ended ++ harm_of x)) e fine);

@@ -203,7 +203,7 @@ module _ (s t : State) (turn : Turn) (told_traced : (why : Cause) → IsToldBy t
   -- ---- what a line answers
 
   line : (run : Run) (step : Step) → Says (session_said run s t turn step)
-  line run (step.Format name segments buckets content agg reach fragment generation) = tt
+  line run (step.Format name segments buckets content agg reach fragment generation alternates) = tt
   line run (step.Put key body request response) = or_refused None turn.refused (put_said t s.next_put) refl tt
   line run (step.Get key request) = get turn.given (lookup_in turn.added) refl
   line run (step.OpenWrite actor key pin request response) = free (held_by run actor) _ (or_refused None turn.refused (answer.Writer s.next_put) refl tt)

@@ -241,7 +241,7 @@ closes_leaves kind run s turn (Some put) sound none quiet stands step = closed_l
 steps_leave : (kind : Kind) (ended : WriterIsEnded) (run : Run) (s : State) (turn : Turn) (step : Step) → IsSound s → s.displaced ≡ [] → IsQuiet s → Stands kind s run.streams → AreWriting run s
     → IsStep turn.device s (asked run s step) turn.added turn.refused
     → Steps kind turn.device (streams_with run s step) (streams_behind run s (after_all s turn.added) turn step) s (asked run s step) turn.added
-steps_leave kind ended run s turn (step.Format name segments buckets content agg reach fragment generation) sound none quiet stands writing step =
+steps_leave kind ended run s turn (step.Format name segments buckets content agg reach fragment generation alternates) sound none quiet stands writing step =
     stepped kind turn.device s run.streams [] turn.added turn.refused sound none quiet stands tt step
 steps_leave kind ended run s turn (step.Put key body request response) sound none quiet stands writing step = put_leaves kind ended run s turn key body request response sound none quiet stands step
 steps_leave kind ended run s turn (step.Get key request) sound none quiet stands writing step = stepped kind turn.device s run.streams _ turn.added turn.refused sound none quiet stands (λ a. (tt, λ b. (tt, λ c. (tt, tt)))) step

@@ -2,7 +2,7 @@
 use Rattle.std.specs.Prelude.{ℕ, ◌-◌, if◌then◌else◌, List, [], ◌∷◌, length, Option, Some, None, option_and_then, option_map, unwrap_or}
 use Rattle.tape_base.specs.declared.keys.Key.{Key}
 use Rattle.tape_base.specs.declared.geometries.BadGeometry.{BadGeometry}
-use Rattle.tape_base.specs.declared.geometries.BadGeometry.TheVariants.{Segments, Buckets, Agg, Content, Reach, Fragment}
+use Rattle.tape_base.specs.declared.geometries.BadGeometry.TheVariants.{Segments, Buckets, Agg, Content, Reach, Fragment, Alternates}
 use Rattle.tape_base.specs.Limits.{first_refusal}
 use Rattle.tape_base.specs.Place.{floor_of}
 use Rattle.fragment_table.specs.Table.{total_length}
@@ -33,6 +33,7 @@ number_of_bad Agg = 3
 number_of_bad Content = 4
 number_of_bad Reach = 5
 number_of_bad Fragment = 6
+number_of_bad Alternates = 7
 
 -- the cursor behind a format: N, the content blocks of the geometry, where the first lap begins
 abbrev pub first_cursor : List Rec → ℕ
@@ -160,7 +161,7 @@ flush_said s t why = said t None why (answer.Flushed s.filled t.cursor (floor_no
 
 -- what a step answers that works on a session, by what its records stood for before and stand for behind it
 abbrev pub session_said : Run → State → State → Turn → Step → StepAnswer
-session_said run s t turn (step.Format name segments buckets content agg reach fragment generation) = answer.Done
+session_said run s t turn (step.Format name segments buckets content agg reach fragment generation alternates) = answer.Done
 session_said run s t turn (step.Put key body request response) = said t None turn.refused (put_said t s.next_put)
 session_said run s t turn (step.Get key request) = get_said turn.given (told_in turn.added) (lookup_in turn.added)
 session_said run s t turn (step.OpenWrite actor key pin request response) = if_free (held_by run actor) (said t None turn.refused (answer.Writer s.next_put))
@@ -176,8 +177,8 @@ session_said run s t turn (step.Now moment) = answer.Now moment
 
 -- the same; without a session only a format and a moment are answered
 abbrev pub step_said : Run → Turn → Option State → Step → StepAnswer
-step_said run turn state (step.Format name segments buckets content agg reach fragment generation) =
-    format_said turn.added (first_refusal segments buckets content agg reach fragment)
+step_said run turn state (step.Format name segments buckets content agg reach fragment generation alternates) =
+    format_said turn.added (first_refusal segments buckets content agg reach fragment alternates)
 step_said run turn state (step.Now moment) = answer.Now moment
 step_said run turn (Some s) step = session_said run s (after_all s turn.added) turn step
 step_said run turn None step = answer.Done

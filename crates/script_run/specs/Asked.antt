@@ -99,7 +99,7 @@ closing run s put = close_intents put (length (cuts_of s put)) (gathered_of run 
 
 -- what a step is asked, where there is a session
 abbrev pub asked : Run → State → Step → List Intent
-asked run s (step.Format name segments buckets content agg reach fragment generation) = []
+asked run s (step.Format name segments buckets content agg reach fragment generation alternates) = []
 asked run s (step.Put key body request response) = put_intents s key body request response
 asked run s (step.Get key request) = get_intents s key request
 asked run s (step.OpenWrite actor key pin request response) = if_free (held_by run actor) (Write (number_of run.actors actor) key request response pin ∷ [])

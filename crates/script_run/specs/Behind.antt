@@ -161,8 +161,8 @@ at_moment run at = record run { now = at }
 
 -- a format and a moment need no session; without one no other step changes anything
 abbrev pub behind : Run → Turn → Option State → Step → Run
-behind run turn state (step.Format name segments buckets content agg reach fragment generation) =
-    after_format run name turn.added (first_refusal segments buckets content agg reach fragment)
+behind run turn state (step.Format name segments buckets content agg reach fragment generation alternates) =
+    after_format run name turn.added (first_refusal segments buckets content agg reach fragment alternates)
 behind run turn state (step.Now moment) = at_moment run moment
 behind run turn (Some s) step = in_session run s (after_all s turn.added) turn step
 behind run turn None step = run

@@ -52,10 +52,10 @@ GivesOwn run s turn _ = turn.given ≡ []
 -- ---- lines
 
 -- the records of a session begin with the geometry of its line
-abbrev pub FormatTakes : List Rec → ℕ → ℕ → ℕ → ℕ → ℕ → ℕ → ℕ → Option BadGeometry → Type 0
-FormatTakes added segments buckets content agg reach fragment generation (Some bad) = added ≡ []
-FormatTakes added segments buckets content agg reach fragment generation None =
-    (g : Geometry) × HasNumbers g segments buckets content agg reach fragment generation × (added ≡ format_records g)
+abbrev pub FormatTakes : List Rec → ℕ → ℕ → ℕ → ℕ → ℕ → ℕ → ℕ → ℕ → Option BadGeometry → Type 0
+FormatTakes added segments buckets content agg reach fragment generation alternates (Some bad) = added ≡ []
+FormatTakes added segments buckets content agg reach fragment generation alternates None =
+    (g : Geometry) × HasNumbers g segments buckets content agg reach fragment generation alternates × (added ≡ format_records g)
 
 -- a line on a session is one step of its records, with a directory that displaces nothing, in which pins are
 -- weighed by the moment of the run; and the bytes that it gives are those that were put
@@ -67,8 +67,8 @@ pub record SessionTakes (run : Run) (s : State) (turn : Turn) (step : Step) : Ty
 
 -- a format and a moment need no session; all other steps work on one
 abbrev pub Takes : Run → Turn → Option State → Step → Type 0
-Takes run turn state (step.Format name segments buckets content agg reach fragment generation) =
-    FormatTakes turn.added segments buckets content agg reach fragment generation (first_refusal segments buckets content agg reach fragment)
+Takes run turn state (step.Format name segments buckets content agg reach fragment generation alternates) =
+    FormatTakes turn.added segments buckets content agg reach fragment generation alternates (first_refusal segments buckets content agg reach fragment alternates)
 Takes run turn state (step.Now moment) = turn ≡ no_turn
 Takes run turn (Some s) step = SessionTakes run s turn step
 Takes run turn None step = ⊥

@@ -5,13 +5,13 @@ use Rattle.tape_base.specs.Blocks.{blocks_of}
 use Rattle.tape_base.specs.Geometry.{budget_of}
 use Rattle.alternate_vector.specs.Alternates.{Stored, merged, vector_size}
 use Rattle.alternate_vector.specs.Spelling.{vector_bytes}
-use Rattle.cache_model.specs.State.{most_alternates, most_payload}
+use Rattle.cache_model.specs.State.{most_payload}
 use Rattle.cache_model.specs.Room.{greatest_pin}
 use Rattle.stripe_vectors.specs.declared.spelling.Spelled.{Spelled}
 
 -- what a vector lists when a new alternate comes to those of a list
 abbrev pub listed_with : Geometry → List Stored → Stored → List Stored
-listed_with g list new = merged most_alternates (most_payload g) list new
+listed_with g list new = merged g.alternates (most_payload g) list new
 
 -- the bytes and the pin of that vector, which is a piece
 pub record IsSpelled (g : Geometry) (list : List Stored) (new : Stored) (spelled : Spelled) : Type 0 where

@@ -11,9 +11,6 @@ use alternate_vector::{Alternate, Vector};
 use std::alloc::{AllocError, Global};
 use tape_base::Geometry;
 
-// How many alternates a vector lists.
-const MAX_ALTERNATES: usize = 5;
-
 const BLOCK: usize = 512;
 
 const HEADER: usize = 128;
@@ -38,7 +35,7 @@ pub fn spell(
     ensures { IfOk result (IsSpelled g.now list.now (stored_of new.now)) }
 {
     let most = g.agg as usize / 2 * BLOCK - HEADER;
-    let merged = list.merge(new, MAX_ALTERNATES, most)?;
+    let merged = list.merge(new, g.alternates as usize, most)?;
     let mut bytes = Vec::with_capacity(alloc, merged.size())?;
     merged.encode(&mut bytes)?;
     Ok(Spelled {

@@ -5,7 +5,7 @@ use Rattle.cache_replay.proofs.stepping.step.Goals as goal
 
 pub returns-in_default : goal.returns-in_default
 returns-in_default g c =
-    let needs = needs_session c.args.step (λ name a b d e f h i is. c.in_default.not-Format name a b d e f h i is) (λ at is. c.in_default.not-Now at is) in
+    let needs = needs_session c.args.step (λ name a b d e f h i j is. c.in_default.not-Format name a b d e f h i j is) (λ at is. c.in_default.not-Now at is) in
     record {
       session = c.in_session.ensures.session;
       ends = all_ends _ _ _ c.in_session.result c.args.step c.args.session.now c.in_session.new.session (ledger_of g.B.Bay c.args.bay.now) needs c.in_session.ensures.ends;
