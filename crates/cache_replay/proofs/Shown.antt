@@ -3,13 +3,14 @@ use Rattle.std.proofs.Common.{◌≡◌, ℕ, List, [], ◌∷◌, ◌++◌, ref
 use Rattle.std.specs.Prelude.{Option, Some, None, option_and_then, option_map}
 use Rattle.tape_base.specs.declared.keys.Key.{Key}
 use Rattle.cache_model.specs.declared.record.Rec.{Rec}
-use Rattle.cache_model.specs.State.{PutRow, Row, State, after_all, put_of}
+use Rattle.cache_model.specs.State.{PutRow, State, after_all, put_of}
 use Rattle.cache_model.specs.Verdict.{live_vector_of}
 use Rattle.cache_model.specs.Permit.{Intent, Permit, Weigh, Work, to_do}
 use Rattle.cache_model.specs.Legal.{MayGrow, nothing}
 use Rattle.cache_model.specs.Choices.{to_read}
-use Rattle.cache_model.specs.Pair.{Documents, IsKeyPair, IsPair, IsPairNext, IsPairOf, IsToRead, ShowsPair}
+use Rattle.cache_model.specs.Pair.{Documents, IsKeyPair, IsPair, IsPairNext, IsToRead, ShowsPair}
 use Rattle.cache_model.specs.Vectors.{IsVectorAs}
+use Rattle.cache_model.proofs.Pairs.{also_pair, also_shows}
 use Rattle.script_lang.specs.declared.step.Step.{Step}
 use Rattle.script_run.specs.Run.{Run, Stream}
 use Rattle.script_run.specs.Asked.{asked}
@@ -19,26 +20,11 @@ use Rattle.cache_replay.specs.Shown.{Shows, ShowsAt, ShowsIn}
 
 -- ---- a vector is a piece
 
-module _ (streams : ℕ → Stream) (p : Permit) where
-  pub piece_pair : (s : State) (row : Row) → IsPairOf IsVectorAs p s row → IsPairOf (IsPlacedAs streams) p s row
-  piece_pair s row h = record { document = h.document; bytes = h.bytes; live = h.live; placed = inl h.placed; given = h.given; collide = h.collide }
+pub as_placed : (streams : ℕ → Stream) (p : Permit) (s : State) (i : Intent) → IsPair IsVectorAs p s i → IsPair (IsPlacedAs streams) p s i
+as_placed streams p s i h = also_pair IsVectorAs (IsPlacedAs streams) (λ s row document is. inl is) p s i h
 
-  pub as_placed : (s : State) (i : Intent) → IsPair IsVectorAs p s i → IsPair (IsPlacedAs streams) p s i
-  as_placed s i h = record { row = h.row; read = h.read; pair = piece_pair s h.row h.pair }
-
-  next_placed : (s : State) (is : List Intent) → IsPairNext IsVectorAs p s is → IsPairNext (IsPlacedAs streams) p s is
-  next_placed s [] h = absurd h
-  next_placed s (i ∷ is) h = as_placed s i h
-
-  pub shows_placed : (s : State) (asks : List Intent) (added : List Rec) → ShowsPair IsVectorAs p s asks added → ShowsPair (IsPlacedAs streams) p s asks added
-  shows_placed s asks added h = record {
-    before = h.before;
-    rest = h.rest;
-    left = h.left;
-    is = h.is;
-    grows = h.grows;
-    pair = next_placed (after_all s h.before) h.left.intents h.pair;
-  }
+pub shows_placed : (streams : ℕ → Stream) (p : Permit) (s : State) (asks : List Intent) (added : List Rec) → ShowsPair IsVectorAs p s asks added → ShowsPair (IsPlacedAs streams) p s asks added
+shows_placed streams p s asks added h = also_shows IsVectorAs (IsPlacedAs streams) (λ s row document is. inl is) p s (to_do asks) added h
 
 -- ---- where it is read
 

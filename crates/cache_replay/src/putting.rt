@@ -115,8 +115,6 @@ fn fill<D: Disk, R: Directory + Drop, C: Chronicle>(
     ensures later { (seen_in D.Disk R.Directory stripe.old).device.faults ≤ (seen_in D.Disk R.Directory stripe.new).device.faults }
     ensures unharmed { StaysUnharmed D.Disk R.Directory C.Chronicle stripe.old stripe.new }
 {
-    // The law tells that vectors and puts may be kept when the writer closes.
-    groups_tell();
     match feed(stripe, writer, body, now).refused {
         None => close_write(stripe, writer, now),
         Some(why) => Err(why),

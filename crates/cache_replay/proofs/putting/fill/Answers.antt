@@ -17,7 +17,7 @@ returns-in-None-clause-fills g c =
     let number = c.feed.ensures.fed.put in
     let writing = subst (λ q. is_writing (state_in g.C.Chronicle now) q ≡ true) (sym number) (subst (IsOpenBehind (state_in g.C.Chronicle now) w.put) c.in-None.is c.feed.ensures.writing) in
     closes_fill c.args.now b m (seen_in g.D.Disk g.R.Directory c.close_write.new.stripe).device.faults (kept_in g.C.Chronicle first) (kept_in g.C.Chronicle now) (kept_in g.C.Chronicle c.close_write.new.stripe)
-    w c.feed.new.writer c.args.body.now c.groups_tell.ensures c.requires.stripe.pieces.sound c.requires.fresh number
+    w c.feed.new.writer c.args.body.now c.requires.stripe.pieces.sound c.requires.fresh number
     (subst (λ o. IsCutWhere (state_in g.C.Chronicle first).geometry.fragment w c.args.body.now o c.feed.new.writer) c.in-None.is c.feed.ensures.cut) c.feed.ensures.writer writing
     (subst (FeedsWhere c.args.now b m (kept_in g.C.Chronicle first) (kept_in g.C.Chronicle now) w c.args.body.now) c.in-None.is c.feed.ensures.feeds)
     c.feed.ensures.later c.close_write.ensures.later c.close_write.result c.close_write.ensures.does c.close_write.ensures.closes
