@@ -5,6 +5,7 @@ use Rattle.std.proofs.Math.Nat.{mul-le-mul_left, mul_comm}
 use Rattle.std.proofs.lemmas.Bool.{cases_lt}
 use Rattle.std.proofs.lemmas.List.{length-drop, length-take, take-append-le, take-take, take_all}
 use Rattle.std.proofs.lemmas.List.Sums.{sum_by-cons, sum_by_push}
+use Rattle.hex.specs.Hex.{IsBytes}
 use Rattle.tape_base.specs.Digest.{digest_of}
 use Rattle.doc_header.proofs.Stands.{part_in_front}
 use Rattle.fragment_table.specs.Table.{TableRow, made_row, total_length}
@@ -74,23 +75,24 @@ rows_more fragment body index (suc n) =
 -- ---- what a put has cut
 
 pub no_cuts : (fragment : ℕ) (body : List ℕ) → AreCuts fragment body []
-no_cuts fragment body = record { rows = refl; within = omega arith; none_empty = λ index some within. absurd (omega (arith, some, within)) }
+no_cuts fragment body = record { rows = refl; within = omega arith; of_bytes = λ index some within. absurd (omega (arith, some, within)); none_empty = λ index some within. absurd (omega (arith, some, within)) }
 
 whole_before : (n fragment size total : ℕ) → total ≡ n * fragment → total ≤ size → total + min fragment (size - n * fragment) ≤ size
 whole_before n fragment size total full within = omega arith
 
-none_empty_more : (fragment : ℕ) (body : List ℕ) (n index : ℕ) → 0 < length (piece_of fragment body (n + 1))
-    → (0 < index → index ≤ n → 0 < length (piece_of fragment body index)) → (index ≤ n) ⊎ (index ≡ n + 1) → 0 < index → 0 < length (piece_of fragment body index)
-none_empty_more fragment body n index some before (inl earlier) positive = before positive earlier
-none_empty_more fragment body n index some before (inr last) positive = subst (λ i. 0 < length (piece_of fragment body i)) (sym last) some
+-- what holds of the last fragment and of those before it holds of each
+each_more : (P : List ℕ → Type 0) (fragment : ℕ) (body : List ℕ) (n index : ℕ) → P (piece_of fragment body (n + 1))
+    → (0 < index → index ≤ n → P (piece_of fragment body index)) → (index ≤ n) ⊎ (index ≡ n + 1) → 0 < index → P (piece_of fragment body index)
+each_more P fragment body n index last before (inl earlier) positive = before positive earlier
+each_more P fragment body n index last before (inr is) positive = subst (λ i. P (piece_of fragment body i)) (sym is) last
 
 earlier_or_last : (index n m : ℕ) → index ≤ m → m ≡ n + 1 → (index ≤ n) ⊎ (index ≡ n + 1)
 earlier_or_last index n m within is = elim (cases_lt index (n + 1)) [ inl below ↦ inl (omega arith) | inr above ↦ inr (omega arith) ]
 
 -- a put that has cut whole fragments alone cuts the next one
 pub cuts_more : (fragment : ℕ) (body : List ℕ) (cuts : List TableRow) (payload : List ℕ) → AreCuts fragment body cuts → total_length cuts ≡ length cuts * fragment
-    → payload ≡ piece_of fragment body (length cuts + 1) → 0 < length payload → AreCuts fragment body (cuts ++ made_row (length payload) (digest_of payload).0 ∷ [])
-cuts_more fragment body cuts payload c full is some =
+    → payload ≡ piece_of fragment body (length cuts + 1) → 0 < length payload → IsBytes payload → AreCuts fragment body (cuts ++ made_row (length payload) (digest_of payload).0 ∷ [])
+cuts_more fragment body cuts payload c full is some small =
     let n : ℕ = length cuts in
     let new : TableRow = made_row (length payload) (digest_of payload).0 in
     let count : length (cuts ++ new ∷ []) ≡ n + 1 = length-append cuts (new ∷ []) in
@@ -107,7 +109,8 @@ cuts_more fragment body cuts payload c full is some =
           ∙ (ap (λ row. rows_from fragment body 1 n ++ row ∷ []) (sym made ∙ ap (row_at fragment body) (sym place))
           ∙ (sym (rows_more fragment body 1 n) ∙ ap (rows_from fragment body 1) (sym (count ∙ next))));
       within = let all = whole_before n fragment (length body) (total_length cuts) full c.within in omega (arith, total, size, all);
-      none_empty = λ i positive within. none_empty_more fragment body n i some_last (c.none_empty i) (earlier_or_last i n (length (cuts ++ new ∷ [])) within count) positive;
+      of_bytes = λ i positive within. each_more IsBytes fragment body n i (subst IsBytes is small) (c.of_bytes i) (earlier_or_last i n (length (cuts ++ new ∷ [])) within count) positive;
+      none_empty = λ i positive within. each_more (λ piece. 0 < length piece) fragment body n i some_last (c.none_empty i) (earlier_or_last i n (length (cuts ++ new ∷ [])) within count) positive;
     }
 
 -- ---- another body
@@ -123,6 +126,7 @@ pub cuts_of_other : (fragment : ℕ) (a b : List ℕ) (cuts : List TableRow) →
 cuts_of_other fragment a b cuts c have within = record {
   rows = c.rows ∙ rows_same fragment a b 1 (length cuts) (λ i low high. have.pieces i (omega arith) (omega arith));
   within = within;
+  of_bytes = λ index some here. subst IsBytes (have.pieces index some here) (c.of_bytes index some here);
   none_empty = λ index some here. subst (λ (piece : List ℕ). 0 < length piece) (have.pieces index some here) (c.none_empty index some here);
 }
 

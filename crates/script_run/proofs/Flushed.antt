@@ -2,21 +2,22 @@
 -- one that stops leaves it so.
 use Rattle.std.proofs.Common.{◌⊎◌, ℕ, List, inl, inr}
 use Rattle.cache_model.specs.State.{State, Row, after_all}
+use Rattle.cache_model.specs.Pair.{IsCopyPair}
 use Rattle.cache_model.specs.Permit.{Permit}
 use Rattle.cache_model.specs.Tape.{IsSound}
 use Rattle.cache_model.specs.Due.{due_pieces}
 use Rattle.cache_model.specs.Outcomes.{AreOutcomes, Outcome, flush_records, stopped_records}
 use Rattle.script_run.specs.Run.{Stream}
-use Rattle.script_run.specs.Own.{AreOwn, IsOtherFragment}
+use Rattle.script_run.specs.Own.{AreOwn, IsPlacedAs}
 use Rattle.script_run.proofs.Saying.{stands_alike}
 use Rattle.script_run.proofs.Fragments.{own_kind, own_stands, stands_own}
 use Rattle.script_run.proofs.Flushing.{loses_alike, stands_flushed, stopped_loses}
 
 pub flush_owns : (p : Permit) (s : State) (streams : ℕ → Stream) (now left : ℕ) (outcomes : List Outcome) → IsSound s → AreOwn s streams → AreOutcomes p s left (due_pieces s now) outcomes
-    → AreOwn (after_all s (flush_records s (due_pieces s now) outcomes)) streams ⊎ IsOtherFragment p s streams
+    → AreOwn (after_all s (flush_records s (due_pieces s now) outcomes)) streams ⊎ IsCopyPair (IsPlacedAs streams) p s now
 flush_owns p s streams now left outcomes sound own o = elim (stands_flushed own_kind p s streams now left outcomes sound (stands_own s streams own) o) [
   | inl stands ↦ inl (own_stands (after_all s (flush_records s (due_pieces s now) outcomes)) streams stands)
-  | inr copy ↦ inr copy.other
+  | inr pair ↦ inr pair
 ]
 
 pub stopped_owns : (s : State) (streams : ℕ → Stream) (rows : List Row) (outcomes : List Outcome) (count : ℕ) → AreOwn s streams → AreOwn (after_all s (stopped_records rows outcomes count)) streams

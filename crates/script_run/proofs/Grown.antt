@@ -15,6 +15,9 @@ use Rattle.cache_model.specs.declared.cause.Cause.{Cause}
 use Rattle.cache_model.specs.declared.record.Rec.{Rec}
 use Rattle.cache_model.specs.declared.record.Rec.TheVariants as rec
 use Rattle.cache_model.specs.State.{State, Row, PutRow, ReaderRow, after_all, state_after}
+use Rattle.cache_model.specs.Choices.{flushes_first}
+use Rattle.cache_model.specs.Pair.{IsCopyPair, IsPair, IsPairNext, ShowsFrom}
+use Rattle.cache_model.specs.Room.{has_room}
 use Rattle.cache_model.specs.Permit.{Permit, Intent, Flush, Write, Fragment, Overflow, Weigh, Finish, Commit, GiveUp, Remove, Look, ReadOn, ReadAll, StopReading, End, Stays, Done, Fails, Work, Reason, is_cleanup, work_after}
 use Rattle.cache_model.specs.Given
 use Rattle.cache_model.specs.Legal
@@ -24,7 +27,8 @@ use Rattle.cache_model.specs.Tape.{IsSound}
 use Rattle.cache_model.proofs.Onward.{later_advanced}
 use Rattle.cache_model.proofs.Sound.{IsLater}
 use Rattle.cache_model.proofs.Steps.{after_all-append, all_append}
-use Rattle.cache_model.proofs.ToldFlush.{go_on}
+use Rattle.cache_model.proofs.ToldFlush.{as_shown, go_on}
+use Rattle.cache_model.proofs.ToldGroups.{pair_of_copy, shown_first, shown_later}
 use Rattle.script_run.specs.Run.{Stream}
 use Rattle.script_run.specs.Own.{rows_from}
 use Rattle.script_run.proofs.Saying.{Kind}
@@ -71,8 +75,11 @@ cleanups_fit fragment streams (i ∷ is) = cleanups_by fragment streams i (filte
 module _ (kind : Kind) (g : Geometry) (streams : ℕ → Stream) where
   -- what a group of records leaves: it is held still, or a copy that it makes shows two documents of one
   -- SHA-256
-  abbrev pub Leaves : Permit → State → List Rec → Type 0
-  Leaves p s added = IsHeld kind g streams (after_all s added) ⊎ kind.shows p s streams
+  abbrev pub Leaves : Permit → State → Intent → List Rec → Type 0
+  Leaves p s i added = IsHeld kind g streams (after_all s added) ⊎ IsPair (kind.documents streams) p s i
+
+  abbrev Flushes : Permit → State → List Rec → Type 0
+  Flushes p s added = IsHeld kind g streams (after_all s added) ⊎ IsCopyPair (kind.documents streams) p s p.now
 
   -- records that change no put
   abbrev AllPlain : List Rec → Type 0
@@ -88,16 +95,17 @@ module _ (kind : Kind) (g : Geometry) (streams : ℕ → Stream) where
   aborts : (s : State) (put : ℕ) (w : PutRow) (added : List Rec) → added ≡ aborted_record w ∷ [] → IsWriting s put w → IsHeld kind g streams s → IsHeld kind g streams (after_all s added)
   aborts s put w added is writing h = subst (λ xs. IsHeld kind g streams (after_all s xs)) (sym is) (held_aborted kind g streams s put w writing h)
 
-  flushes : (p : Permit) (s : State) (added : List Rec) → Legal.MayFlush p s added → IsSound s → IsHeld kind g streams s → Leaves p s added
-  flushes p s added m sound h = subst (Leaves p s) (sym m.is) (held_flushed kind g streams p s p.now (budget_of s.geometry) m.outcomes sound h m.are)
+  flushes : (p : Permit) (s : State) (added : List Rec) → Legal.MayFlush p s added → IsSound s → IsHeld kind g streams s → Flushes p s added
+  flushes p s added m sound h = subst (Flushes p s) (sym m.is) (held_flushed kind g streams p s p.now (budget_of s.geometry) m.outcomes sound h m.are)
 
   stops : (p : Permit) (s : State) (count : ℕ) (added : List Rec) → Legal.MayStop p s count added → IsHeld kind g streams s → IsHeld kind g streams (after_all s added)
   stops p s count added m h = subst (λ xs. IsHeld kind g streams (after_all s xs)) (sym m.is) (held_stopped kind g streams s (due_pieces s p.now) m.outcomes count h)
 
-  roomed : (p : Permit) (s : State) (bytes : ℕ) (added : List Rec) (e : End) → Legal.MakesRoom p s bytes added e → IsSound s → IsHeld kind g streams s → Leaves p s added
-  roomed p s bytes added e (Legal.MakesRoom.flushes x m) sound h = flushes p s added m sound h
-  roomed p s bytes added e (Legal.MakesRoom.stops count x m) sound h = inl (stops p s count added m h)
-  roomed p s bytes added e (Legal.MakesRoom.exhausted x q is) sound h = inl (adds s added [] is tt h)
+  roomed : (p : Permit) (s : State) (i : Intent) (bytes : ℕ) (added : List Rec) (e : End) → (has_room s bytes ≡ false → flushes_first s i ≡ true) → Legal.MakesRoom p s bytes added e → IsSound s → IsHeld kind g streams s
+      → Leaves p s i added
+  roomed p s i bytes added e first (Legal.MakesRoom.flushes x m) sound h = as_shown (pair_of_copy (kind.documents streams) p s i (first x)) (flushes p s added m sound h)
+  roomed p s i bytes added e first (Legal.MakesRoom.stops count x m) sound h = inl (stops p s count added m h)
+  roomed p s i bytes added e first (Legal.MakesRoom.exhausted x q is) sound h = inl (adds s added [] is tt h)
 
   opens : (s : State) (actor : ℕ) (key : Key) (request response : List Field) (pin : ℕ) (added : List Rec) → Legal.MayOpenWrite s actor key request response pin added → IsHeld kind g streams s → IsHeld kind g streams (after_all s added)
   opens s actor key request response pin added m h =
@@ -151,14 +159,14 @@ module _ (kind : Kind) (g : Geometry) (streams : ℕ → Stream) where
   held_write p s actor key request response pin added e h (Legal.DoesWrite.many q m is) = adds s added [] is tt h
   held_write p s actor key request response pin added e h (Legal.DoesWrite.exhausted q m l is) = adds s added [] is tt h
 
-  pub held_group : (p : Permit) (s : State) (i : Intent) (added : List Rec) (e : End) → Fits g.fragment streams i → IsSound s → IsHeld kind g streams s → Does p s i added e → Leaves p s added
+  pub held_group : (p : Permit) (s : State) (i : Intent) (added : List Rec) (e : End) → Fits g.fragment streams i → IsSound s → IsHeld kind g streams s → Does p s i added e → Leaves p s i added
   held_group p s Flush added e fits sound h (Legal.DoesFlush.empty q f is) = inl (adds s added [] is tt h)
-  held_group p s Flush added e fits sound h (Legal.DoesFlush.flushes m) = flushes p s added m sound h
+  held_group p s Flush added e fits sound h (Legal.DoesFlush.flushes m) = as_shown (pair_of_copy (kind.documents streams) p s Flush refl) (flushes p s added m sound h)
   held_group p s Flush added e fits sound h (Legal.DoesFlush.stops count m) = inl (stops p s count added m h)
   held_group p s Flush added e fits sound h (Legal.DoesFlush.exhausted q f b is) = inl (adds s added [] is tt h)
   held_group p s (Write actor key request response pin) added e fits sound h does = inl (held_write p s actor key request response pin added e h does)
   held_group p s (Fragment put index payload) added e fits sound h (Legal.DoesFragment.places d m) = inl (held_fragment kind g streams p s put index payload added fits m h)
-  held_group p s (Fragment put index payload) added e fits sound h (Legal.DoesFragment.rooms w n m) = roomed p s _ added e m sound h
+  held_group p s (Fragment put index payload) added e fits sound h (Legal.DoesFragment.rooms w n m) = roomed p s (Fragment put index payload) _ added e (λ none. rw none refl) m sound h
   held_group p s (Fragment put index payload) added e fits sound h (Legal.DoesFragment.exhausted w x n q) = inl (adds s added [] q.is tt h)
   held_group p s (Overflow put) added e fits sound h (Legal.DoesOverflow.aborts w q l is) = inl (aborts s put w added is q h)
   held_group p s (Weigh put rest) added e fits sound h (Legal.DoesWeigh.weighs w q r f is) = inl (adds s added [] is tt h)
@@ -166,7 +174,7 @@ module _ (kind : Kind) (g : Geometry) (streams : ℕ → Stream) where
   held_group p s (Weigh put rest) added e fits sound h (Legal.DoesWeigh.damaged w row found q live d is) = inl (adds s added _ is (tt, tt) h)
   held_group p s (Weigh put rest) added e fits sound h (Legal.DoesWeigh.faulted w row count q live r m is) = inl (adds s added _ is (tt, tt) h)
   held_group p s (Finish put fragments) added e fits sound h (Legal.DoesFinish.places d m) = inl (held_vector kind g streams p s put fragments added fits m h)
-  held_group p s (Finish put fragments) added e fits sound h (Legal.DoesFinish.rooms w c m) = roomed p s _ added e m sound h
+  held_group p s (Finish put fragments) added e fits sound h (Legal.DoesFinish.rooms w c m) = roomed p s (Finish put fragments) _ added e (λ none. rw none refl) m sound h
   held_group p s (Finish put fragments) added e fits sound h (Legal.DoesFinish.exhausted w x c l q) = inl (adds s added [] q.is tt h)
   held_group p s (Finish put fragments) added e fits sound h (Legal.DoesFinish.loses w index d m is) = inl (aborts s put w added is m.cut.writing h)
   held_group p s (Commit put) added e fits sound h (Legal.DoesCommit.commits w f o q is) =
@@ -206,7 +214,7 @@ module _ (kind : Kind) (g : Geometry) (streams : ℕ → Stream) where
     fits : AllFit g.fragment streams w.intents
 
   advanced : (p : Permit) (s : State) (is : List Intent) (why : Option Reason) (added : List Rec) (between : Work) → AllFit g.fragment streams is → IsSound s → IsHeld kind g streams s
-      → Advances p s is why added between → IsOn (after_all s added) between ⊎ kind.shows p s streams
+      → Advances p s is why added between → IsOn (after_all s added) between ⊎ IsPairNext (kind.documents streams) p s is
   advanced p s [] why added between fits sound h a = absurd a
   advanced p s (i ∷ is) why added between fits sound h a =
       let now = fits (is_small p s i added a.0 h.geometry a.1) in
@@ -215,33 +223,15 @@ module _ (kind : Kind) (g : Geometry) (streams : ℕ → Stream) where
         fits = subst (λ (w : Work). AllFit g.fragment streams w.intents) (sym a.2) (left_fit i is why a.0 fits now.1);
       }))
 
-  -- some way on from some work a copy shows two documents of one SHA-256
-  pub record IsShownFrom (p : Permit) (s : State) (w : Work) : Type 0 where
-    pub added : List Rec
-    pub left : Work
-    pub grows : MayGrow p s w added left
-    pub copy : kind.shows p (after_all s added) streams
-
-  shown_here : (p : Permit) (s : State) (w : Work) → kind.shows p s streams → IsShownFrom p s w
-  shown_here p s w copy = record { added = []; left = w; grows = nothing; copy = copy }
-
-  shown_later : (p : Permit) (s : State) (w between : Work) (added : List Rec) → Advances p s w.intents w.refused added between → IsShownFrom p (after_all s added) between → IsShownFrom p s w
-  shown_later p s w between added one v = record {
-    added = added ++ v.added;
-    left = v.left;
-    grows = more added between one v.grows;
-    copy = subst (λ t. kind.shows p t streams) (sym (after_all-append s added v.added)) v.copy;
-  }
-
   pub held_grown : {p : Permit} {s : State} {w after : Work} {recs : List Rec} → AllFit g.fragment streams w.intents → IsSound s → IsHeld kind g streams s → MayGrow p s w recs after
-      → IsHeld kind g streams (after_all s recs) ⊎ IsShownFrom p s w
+      → IsHeld kind g streams (after_all s recs) ⊎ ShowsFrom (kind.documents streams) p s w recs
   held_grown fits sound h nothing = inl h
   held_grown {p} {s} {w} fits sound h (more {rest = tail} added between one others) =
       let later : IsLater s (after_all s added) = later_advanced p s w.intents w.refused added between one sound in
       elim (advanced p s w.intents w.refused added between fits sound h one) [
-        | inr copy ↦ inr (shown_here p s w copy)
+        | inr copy ↦ inr (shown_first (kind.documents streams) p s w (added ++ tail) copy)
         | inl on ↦ elim (held_grown on.fits later.sound on.held others) [
           | inl last ↦ inl (subst (IsHeld kind g streams) (sym (after_all-append s added tail)) last)
-          | inr v ↦ inr (shown_later p s w between added one v)
+          | inr v ↦ inr (shown_later (kind.documents streams) p s w between added tail one v)
         ]
       ]

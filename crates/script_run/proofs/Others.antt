@@ -7,13 +7,14 @@ use Rattle.doc_header.specs.Reading.{document_digest, payload_of}
 use Rattle.fragment_table.specs.Table.{TableRow}
 use Rattle.cache_model.specs.State.{State, Row, PutRow, ReaderRow, live_row_of, put_of, reader_of}
 use Rattle.cache_model.specs.Verdict.{cuts_of, next_piece, next_row}
+use Rattle.cache_model.specs.Pair.{IsPairOf}
 use Rattle.cache_model.specs.Permit.{Permit}
 use Rattle.cache_model.specs.Given.{IsGiven}
 use Rattle.cache_model.specs.Legal.{digest_in}
 use Rattle.cache_model.proofs.Found.{none_is, number_of, same_some}
 use Rattle.stripe_core.specs.Find.{IsDocumentOf}
 use Rattle.script_run.specs.Run.{Stream}
-use Rattle.script_run.specs.Own.{AreOwn, IsOtherFragment, IsOwnReader, IsTableOfHit, rows_from}
+use Rattle.script_run.specs.Own.{AreOwn, IsOwnReader, IsPlacedAs, IsTableOfHit, rows_from}
 use Rattle.script_run.proofs.Cuts.{row_at}
 use Rattle.script_run.proofs.Finding.{found_in}
 use Rattle.script_run.proofs.Reading.{read_is_own}
@@ -59,7 +60,7 @@ next_listed s streams reader r entry own some found next =
 
 pub given_is_listed : (p : Permit) (s : State) (streams : ℕ → Stream) (reader : ℕ) (r : ReaderRow) (entry : TableRow) (row : Row) (size : ℕ) (into : List ℕ) → AreOwn s streams → 0 < r.next
     → reader_of s reader ≡ Some r → next_row s r ≡ Some entry → live_row_of s (next_piece r) ≡ Some row
-    → IsDocumentOf p s row size into → (digest_of (take size into) ≡ digest_in entry) ⊎ IsOtherFragment p s streams
+    → IsDocumentOf p s row size into → (digest_of (take size into) ≡ digest_in entry) ⊎ IsPairOf (IsPlacedAs streams) p s row
 given_is_listed p s streams reader r entry row size into own some found next live d =
     let listed : entry ≡ row_at s.geometry.fragment (streams r.put).bytes r.next = next_listed s streams reader r entry own some found next in
     elim (read_is_own p s streams r row size into own some live d) [
@@ -70,11 +71,11 @@ given_is_listed p s streams reader r entry row size into own some found next liv
 -- so a payload of another digest is another document's
 pub other_shows : (p : Permit) (s : State) (streams : ℕ → Stream) (reader : ℕ) (r : ReaderRow) (table : List TableRow) (entry : TableRow) (row : Row) (bytes : List ℕ) → AreOwn s streams → 0 < r.next
     → reader_of s reader ≡ Some r → r.table ≡ Some table → next_row s r ≡ Some entry → live_row_of s (next_piece r) ≡ Some row
-    → IsGiven p s row bytes → row.digest ≡ document_digest bytes → digest_in entry ≢ digest_of (payload_of bytes) → IsOtherFragment p s streams
+    → IsGiven p s row bytes → row.digest ≡ document_digest bytes → digest_in entry ≢ digest_of (payload_of bytes) → IsPairOf (IsPlacedAs streams) p s row
 other_shows p s streams reader r table entry row bytes own some found hit next live given digest differ =
     let payload : List ℕ = payload_of bytes in
     let all : take (length payload) payload ≡ payload = take_all (length payload) payload (omega arith) in
-    let d : IsDocumentOf p s row (length payload) payload = record { bytes = bytes; whole = given.whole; digest = digest; given = λ written. given; size_is = refl; payload = all } in
+    let d : IsDocumentOf p s row (length payload) payload = record { bytes = bytes; whole = given.whole; of_bytes = given.of_bytes; digest = digest; given = λ written. given; size_is = refl; payload = all } in
     elim (given_is_listed p s streams reader r entry row (length payload) payload own some found next live d) [
       | inl same ↦ absurd (differ (sym same ∙ ap digest_of all))
       | inr other ↦ other

@@ -84,7 +84,7 @@ cut_stands kind s streams put index payload w n piece own =
     let is : payload ≡ piece_of s.geometry.fragment (streams w.put).bytes (length w.cuts + 1) = piece_next s streams put index payload w n piece in
     let new : IsOwnPut t streams (with_cut row w) = record {
       begun = p.begun;
-      cuts = cuts_more s.geometry.fragment (streams w.put).bytes w.cuts payload p.cuts n.full is n.some;
+      cuts = cuts_more s.geometry.fragment (streams w.put).bytes w.cuts payload p.cuts n.full is n.some n.of_bytes;
       whole = λ closed. absurd (let is_open : w.writing ≡ Open = n.writing.is_open in cc);
       full = λ is_open unsealed.
           let size : length payload ≡ s.geometry.fragment = piece.full (ap (λ m. (streams m).sealed) (sym number) ∙ unsealed) in

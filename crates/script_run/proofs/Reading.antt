@@ -6,21 +6,24 @@ use Rattle.std.proofs.lemmas.List.{take_all}
 use Rattle.std.proofs.lemmas.Option.{cond_some, option_and_then_some, slice_get_cases}
 use Rattle.tape_base.specs.declared.geometries.Geometry.{Geometry}
 use Rattle.tape_base.specs.declared.pieces.PieceId.{PieceId}
+use Rattle.tape_base.proofs.Bytes.{IsBytes-take}
 use Rattle.tape_base.proofs.DigestLaw.{digests_tell_lem}
 use Rattle.doc_header.specs.Reading.{extent_of}
+use Rattle.doc_header.proofs.MovingLaws.{document_small}
 use Rattle.doc_header.proofs.ReadingLaws.{payload_told}
 use Rattle.fragment_table.specs.Table.{TableRow, total_length}
 use Rattle.cache_model.specs.State.{State, Row, PutRow, ReaderRow, Closed, after_all, is_live, live_row_of, only_live, put_of, reader_of, row_of}
 use Rattle.cache_model.specs.Verdict.{cuts_of, next_piece, next_row}
+use Rattle.cache_model.specs.Pair.{IsPairOf}
 use Rattle.cache_model.specs.Permit.{Permit}
 use Rattle.cache_model.specs.Legal.{IsQuiet, format_records}
 use Rattle.cache_model.proofs.Found.{cuts_found, none_is, number_of}
 use Rattle.cache_model.proofs.Lists.{found_row, own_piece}
 use Rattle.stripe_core.specs.Find.{IsDocumentOf}
 use Rattle.script_run.specs.Run.{Stream}
-use Rattle.script_run.specs.Own.{AreKept, AreOwn, IsOtherFragment, IsOwnFragment, IsOwnPut, IsOwnReader, IsOwnRow, IsTableOf, IsTableOfHit, fragment_doc, fragment_document, piece_of}
+use Rattle.script_run.specs.Own.{AreKept, AreOwn, IsOwnFragment, IsOwnPut, IsOwnReader, IsOwnRow, IsTableOf, IsTableOfHit, IsPlacedAs, fragment_doc, fragment_document, piece_of}
 use Rattle.script_run.proofs.Cuts.{total_cuts}
-use Rattle.script_run.proofs.Fragments.{own_is_kept}
+use Rattle.script_run.proofs.Fragments.{own_is_kept, piece_bytes}
 use Rattle.script_run.proofs.Finding.{found_in}
 
 pub formats_own : (s : State) (geometry : Geometry) (streams : ℕ → Stream) → AreOwn (after_all s (format_records geometry)) streams
@@ -42,7 +45,7 @@ live_row s streams id row own live =
 
 pub read_is_own : (p : Permit) (s : State) (streams : ℕ → Stream) (r : ReaderRow) (row : Row) (size : ℕ) (into : List ℕ) → AreOwn s streams → 0 < r.next
     → live_row_of s (next_piece r) ≡ Some row → IsDocumentOf p s row size into
-    → (take size into ≡ piece_of s.geometry.fragment (streams r.put).bytes r.next) ⊎ IsOtherFragment p s streams
+    → (take size into ≡ piece_of s.geometry.fragment (streams r.put).bytes r.next) ⊎ IsPairOf (IsPlacedAs streams) p s row
 read_is_own p s streams r row size into own some live d =
     let l : IsLiveRow s streams (next_piece r) row = live_row s streams (next_piece r) row own live in
     let index : row.id.index ≡ r.next = ap (λ (i : PieceId). i.index) l.piece in
@@ -51,9 +54,17 @@ read_is_own p s streams r row size into own some live d =
     let payload : List ℕ = piece_of s.geometry.fragment (streams row.id.put).bytes row.id.index in
     let same_payload : payload ≡ piece_of s.geometry.fragment (streams r.put).bytes r.next =
     ap (λ (i : PieceId). piece_of s.geometry.fragment (streams i.put).bytes i.index) l.piece in
-    elim (digests_tell_lem (take (extent_of d.bytes) d.bytes) (fragment_document s row payload) (sym d.digest ∙ f.digest)) [
+    elim (digests_tell_lem (take (extent_of d.bytes) d.bytes) (fragment_document s row payload) (IsBytes-take (extent_of d.bytes) d.bytes d.of_bytes)
+      (document_small (fragment_doc s row) payload (piece_bytes s streams row fragment own.puts f)) (sym d.digest ∙ f.digest)) [
       | inl same ↦ inl (d.payload ∙ (payload_told d.bytes (fragment_doc s row) payload same ∙ same_payload))
-      | inr collide ↦ inr (record { row = row; bytes = d.bytes; live = subst (λ i. live_row_of s i ≡ Some row) (sym l.piece) live; fragment = fragment; given = d.given; collide = collide })
+      | inr collide ↦ inr (record {
+        document = fragment_document s row payload;
+        bytes = d.bytes;
+        live = subst (λ i. live_row_of s i ≡ Some row) (sym l.piece) live;
+        placed = inr (record { fragment = fragment; is = refl });
+        given = d.given;
+        collide = collide;
+      })
     ]
 
 -- ---- all that a table lists

@@ -6,10 +6,12 @@ use Rattle.std.specs.List.{AllByRecursion}
 use Rattle.doc_header.specs.Reading.{document_digest}
 use Rattle.fragment_table.specs.Table.{total_length}
 use Rattle.cache_model.specs.State.{State, Row, PutRow, Open, Closed, put_of}
+use Rattle.cache_model.specs.Pair.{Documents, IsPairOf}
 use Rattle.cache_model.specs.Permit.{Permit}
 use Rattle.cache_model.specs.Given.{IsGiven}
 use Rattle.cache_model.specs.Outcomes.{Copy}
 use Rattle.cache_model.proofs.Live.{IsFound}
+use Rattle.cache_model.proofs.Pairs.{AreAlso}
 use Rattle.cache_model.proofs.Steps.{all_as}
 use Rattle.cache_model.proofs.Told.{each_part}
 use Rattle.cache_model.proofs.ToldFlush.{moved}
@@ -47,16 +49,16 @@ pub record IsCopied (p : Permit) (s : State) (c : Copy) : Type 0 where
 pub record Kind : Type 1 where
   -- what is said of a piece
   pub says : State → (ℕ → Stream) → Row → Type 0
-  -- what a copy shows where that cannot be said of the piece at its new place
-  pub shows : Permit → State → (ℕ → Stream) → Type 0
+  -- the document as which a piece was placed, where that cannot be said of a copy at its new place
+  pub documents : (ℕ → Stream) → Documents
   -- it is said of each fragment that is that of what its writer took, and of each vector
   pub own : (s : State) (streams : ℕ → Stream) (row : Row) → (0 < row.id.index → IsOwnFragment s streams row) → says s streams row
   -- it is said still where puts go on, where a writer is told otherwise, and behind a copy
   pub carried : (s t : State) → Carries s t → (streams : ℕ → Stream) (row : Row) → says s streams row → says t streams row
   pub told : (s : State) (a b : ℕ → Stream) (row : Row) → AllTellAlike s a b → says s a row → says s b row
-  pub copied : (p : Permit) (s : State) (streams : ℕ → Stream) (place : ℕ) (c : Copy) → IsCopied p s c → says s streams c.row → says s streams (moved place c) ⊎ shows p s streams
-  -- streams of the same bytes show the same
-  pub alike : (p : Permit) (s : State) (a b : ℕ → Stream) → SameBytes a b → shows p s a → shows p s b
+  pub copied : (p : Permit) (s : State) (streams : ℕ → Stream) (place : ℕ) (c : Copy) → AreOwnPuts s streams → IsCopied p s c → says s streams c.row → says s streams (moved place c) ⊎ IsPairOf (documents streams) p s c.row
+  -- streams of the same bytes tell the same documents
+  pub alike : (a b : ℕ → Stream) → SameBytes a b → AreAlso (documents a) (documents b)
 
 abbrev pub IsRow : Kind → State → (ℕ → Stream) → Row → Type 0
 IsRow kind s streams row = kind.says s streams row × AreAlternates s row
@@ -88,12 +90,12 @@ alternates_of_rows kind s streams rows each = all_as (IsRow kind s streams) (Are
 abbrev pub kept_kind : Kind
 kept_kind = record {
   says = λ s streams row. Unit {0};
-  shows = λ p s streams. ⊥;
+  documents = λ streams s row document. ⊥;
   own = λ s streams row fragment. tt;
   carried = λ s t c streams row is. tt;
   told = λ s a b row told is. tt;
-  copied = λ p s streams place c copied is. inl tt;
-  alike = λ p s a b same shown. shown;
+  copied = λ p s streams place c puts copied is. inl tt;
+  alike = λ a b same s row document none. none;
 }
 
 pub stands_kept : (s : State) (streams : ℕ → Stream) → AreKept s streams → Stands kept_kind s streams

@@ -1,26 +1,25 @@
 -- Two documents of one SHA-256 are shown alike by streams of the same bytes.
-use Rattle.std.proofs.Common.{◌≡◌, ℕ, List, refl, sym, ◌∙◌, ap, Bool, true, false}
+use Rattle.std.proofs.Common.{◌≡◌, ℕ, List, [], ◌∷◌, refl, sym, ◌∙◌, ap, Bool, true, false}
 use Rattle.std.specs.Prelude.{if◌then◌else◌, ◌==◌}
 use Rattle.cache_model.specs.State.{State, after_all}
-use Rattle.cache_model.specs.Permit.{Permit, Intent, Work, to_do}
+use Rattle.cache_model.specs.declared.record.Rec.{Rec}
+use Rattle.cache_model.specs.Pair.{IsPairNext, ShowsFrom}
+use Rattle.cache_model.specs.Permit.{Permit, Intent, Work}
+use Rattle.cache_model.proofs.Pairs.{also_shows}
 use Rattle.script_run.specs.Run.{Stream, with_value}
-use Rattle.script_run.specs.Takes
-use Rattle.script_run.specs.Takes.{ShownIn}
 use Rattle.script_run.proofs.Saying.{Kind, SameBytes}
-use Rattle.script_run.proofs.Fragments.{own_kind}
-use Rattle.script_run.proofs.Grown.{IsShownFrom}
 use Rattle.script_run.proofs.Values.{value_by}
 
-pub shown_as : (kind : Kind) (p : Permit) (a b : ℕ → Stream) (s : State) (w : Work) → SameBytes a b → IsShownFrom kind s.geometry a p s w → IsShownFrom kind s.geometry b p s w
-shown_as kind p a b s w same v = record { added = v.added; left = v.left; grows = v.grows; copy = kind.alike p (after_all s v.added) a b same v.copy }
+pub shown_as : (kind : Kind) (p : Permit) (a b : ℕ → Stream) (s : State) (w : Work) (added : List Rec) → SameBytes a b → ShowsFrom (kind.documents a) p s w added → ShowsFrom (kind.documents b) p s w added
+shown_as kind p a b s w added same v = also_shows (kind.documents a) (kind.documents b) (kind.alike a b same) p s w added v
 
--- a copy shows them in a step
-pub copy_shown : (streams : ℕ → Stream) (p : Permit) (s : State) (asks : List Intent) → IsShownFrom own_kind s.geometry streams p s (to_do asks) → ShownIn p streams s asks
-copy_shown streams p s asks v = record {
-  shows = record { device = p; added = v.added; left = v.left; grows = v.grows; other = Takes.IsOther.fragment v.copy.other };
-  same = refl;
-  given = v.copy.given;
-}
+-- where nothing was placed as a document no pair is shown
+none_next : (p : Permit) (s : State) (intents : List Intent) → IsPairNext (λ t row document. ⊥) p s intents → ⊥
+none_next p s [] pair = pair
+none_next p s (i ∷ intents) pair = pair.pair.placed
+
+pub none_shown : (p : Permit) (s : State) (w : Work) (added : List Rec) → ShowsFrom (λ t row document. ⊥) p s w added → ⊥
+none_shown p s w added v = none_next p (after_all s v.before) v.left.intents v.pair
 
 -- ---- where one writer is told otherwise
 

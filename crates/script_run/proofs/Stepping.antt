@@ -11,6 +11,7 @@ use Rattle.cache_model.specs.Verdict.{cuts_of}
 use Rattle.cache_model.specs.Permit.{Permit, Intent, Write, GiveUp, Look, ReadOn, StopReading, Reason, End, Stays, to_do}
 use Rattle.cache_model.specs.Legal
 use Rattle.cache_model.specs.Legal.{Does, IsQuiet, IsStep, is_writing}
+use Rattle.cache_model.specs.Pair.{ShowsPair}
 use Rattle.cache_model.specs.Tape.{IsSound}
 use Rattle.cache_model.specs.StepLaws.{EndsWith, WriterIsEnded}
 use Rattle.cache_model.specs.Vectors.{AreTold}
@@ -23,13 +24,13 @@ use Rattle.script_run.specs.Run.{Run, Holding, Stream, gathered_of, held_by, no_
 use Rattle.script_run.specs.Asked.{asked, body_intents, closing, feed_intents, feeding, if_free, if_has, put_intents}
 use Rattle.script_run.specs.Turn.{Turn}
 use Rattle.script_run.specs.Behind.{fed, of_put, seals, streams_behind, streams_closed, streams_fed, streams_opened, taken_of, with_bytes}
-use Rattle.script_run.specs.Own.{AreKept, AreOwn, AreWriting, IsOwnPut, rows_from}
-use Rattle.script_run.specs.Takes.{ShownIn, offered, streams_offered, streams_with}
+use Rattle.script_run.specs.Own.{AreKept, AreOwn, AreWriting, IsOwnPut, IsPlacedAs, rows_from}
+use Rattle.script_run.specs.Takes.{offered, streams_offered, streams_with}
 use Rattle.script_run.proofs.Saying.{Kind, Stands, kept_kind, kept_stands, stands_kept}
 use Rattle.script_run.proofs.Fragments.{own_kind, own_stands, stands_own}
 use Rattle.script_run.proofs.Held.{IsHeld, quiet_whole}
-use Rattle.script_run.proofs.Grown.{AllFit, IsShownFrom, held_grown, held_write}
-use Rattle.script_run.proofs.Showing.{copy_shown, same_instead, same_with, shown_as}
+use Rattle.script_run.proofs.Grown.{AllFit, held_grown, held_write}
+use Rattle.script_run.proofs.Showing.{none_shown, same_instead, same_with, shown_as}
 use Rattle.script_run.proofs.Streams.{stands_begins, stands_longer, stands_sealed, stands_shorter, stands_unsealed}
 use Rattle.script_run.proofs.Values.{value_here}
 use Rattle.script_run.proofs.Fitting.{IsRest, all_fit_append, body_fits, closing_fits, cuts_fit}
@@ -42,7 +43,7 @@ record StandsBehind (kind : Kind) (streams : ℕ → Stream) (t : State) : Type 
 
 -- a step leaves what stands, or a copy in it shows two documents of one SHA-256
 abbrev Steps : Kind → Permit → (ℕ → Stream) → (ℕ → Stream) → State → List Intent → List Rec → Type 0
-Steps kind p before behind s asks added = StandsBehind kind behind (after_all s added) ⊎ IsShownFrom kind s.geometry before p s (to_do asks)
+Steps kind p before behind s asks added = StandsBehind kind behind (after_all s added) ⊎ ShowsPair (kind.documents before) p s asks added
 
 -- a step whose asks fit
 stepped : (kind : Kind) (p : Permit) (s : State) (streams : ℕ → Stream) (intents : List Intent) (added : List Rec) (why : Option Reason) → IsSound s → s.displaced ≡ [] → IsQuiet s → Stands kind s streams
@@ -88,7 +89,7 @@ put_leaves kind ended run s turn key body request response sound none quiet stan
     ended turn.device s (put_intents s key body request response) turn.added turn.refused put (ends_behind (GiveUp put) (Write 0 key request response 0 ∷ body_intents s.geometry.fragment put body)) step in
     elim behind [
       | inl leaves ↦ inl (record { stands = stands_unsealed kind (after_all s turn.added) run.streams put body false (not_writing (after_all s turn.added) put over) leaves.stands; displaced = leaves.displaced })
-      | inr shown ↦ inr (shown_as kind turn.device streams (with_bytes run.streams put body) s (to_do (put_intents s key body request response))
+      | inr shown ↦ inr (shown_as kind turn.device streams (with_bytes run.streams put body) s (to_do (put_intents s key body request response)) turn.added
           (same_instead run.streams put sealed (record { bytes = body; sealed = false }) refl) shown)
     ]
 
@@ -228,7 +229,7 @@ closed_leaves kind run s turn put sound none quiet stands step =
         stands = sealed_again kind run (after_all s turn.added) put turn.refused (seals turn.refused) refl (close_ends turn.device s put cut (gathered_of run s put) turn.added turn.refused step) leaves.stands;
         displaced = leaves.displaced;
       })
-      | inr shown ↦ inr (shown_as kind turn.device streams run.streams s (to_do (closing run s put)) (same_with run.streams put sealed refl) shown)
+      | inr shown ↦ inr (shown_as kind turn.device streams run.streams s (to_do (closing run s put)) turn.added (same_with run.streams put sealed refl) shown)
     ]
 
 closes_leaves : (kind : Kind) (run : Run) (s : State) (turn : Turn) (o : Option ℕ) → IsSound s → s.displaced ≡ [] → IsQuiet s → Stands kind s run.streams → IsStep turn.device s (if_has o (closing run s)) turn.added turn.refused
@@ -262,11 +263,12 @@ steps_leave kind ended run s turn (step.Now at) sound none quiet stands writing 
 
 pub steps_own : (ended : WriterIsEnded) (run : Run) (s : State) (turn : Turn) (step : Step) → IsSound s → AreTold s → IsQuiet s → AreOwn s run.streams → AreWriting run s
     → IsStep turn.device s (asked run s step) turn.added turn.refused
-    → AreOwn (after_all s turn.added) (streams_behind run s (after_all s turn.added) turn step) ⊎ ShownIn turn.device (streams_with run s step) s (asked run s step)
+    → AreOwn (after_all s turn.added) (streams_behind run s (after_all s turn.added) turn step)
+    ⊎ ShowsPair (IsPlacedAs (streams_with run s step)) turn.device s (asked run s step) turn.added
 steps_own ended run s turn step sound told quiet own writing legal =
     elim (steps_leave own_kind ended run s turn step sound told.displaced quiet (stands_own s run.streams own) writing legal) [
       | inl leaves ↦ inl (own_stands (after_all s turn.added) (streams_behind run s (after_all s turn.added) turn step) leaves.stands)
-      | inr v ↦ inr (copy_shown (streams_with run s step) turn.device s (asked run s step) v)
+      | inr v ↦ inr v
     ]
 
 pub steps_keep : (ended : WriterIsEnded) (run : Run) (s : State) (turn : Turn) (step : Step) → IsSound s → s.displaced ≡ [] → IsQuiet s → AreKept s run.streams → AreWriting run s
@@ -275,5 +277,5 @@ pub steps_keep : (ended : WriterIsEnded) (run : Run) (s : State) (turn : Turn) (
 steps_keep ended run s turn step sound none quiet kept writing legal =
     elim (steps_leave kept_kind ended run s turn step sound none quiet (stands_kept s run.streams kept) writing legal) [
       | inl leaves ↦ (kept_stands (after_all s turn.added) (streams_behind run s (after_all s turn.added) turn step) leaves.stands, leaves.displaced)
-      | inr v ↦ absurd v.copy
+      | inr v ↦ absurd (none_shown turn.device s (to_do (asked run s step)) turn.added v)
     ]

@@ -1,3 +1,4 @@
+mod Counted
 pub mod Ended
 pub mod Flushed
 pub mod Spending

@@ -1,0 +1,37 @@
+-- What a refusal of the device tells of its count.
+use Rattle.std.proofs.Common.{◌≡◌, ℕ, ◌≤◌, List, sym, ◌∙◌, arith}
+use Rattle.std.specs.Prelude.{MatchBool, Option, Some, None, Result, Ok, Err, IfErr, true}
+use Rattle.tape_base.specs.declared.keys.Key.{Key}
+use Rattle.tape_base.specs.declared.pieces.PieceId.{PieceId}
+use Rattle.ats_disk.specs.Device.{State as Device}
+use Rattle.cache_model.specs.State.{Row, State}
+use Rattle.cache_model.specs.Kept.{Kept}
+use Rattle.cache_model.specs.Verdict.{live_vector_of}
+use Rattle.cache_model.specs.Permit.{Permit}
+use Rattle.stripe_core.specs.declared.refusal.Placed.{Placed}
+use Rattle.stripe_core.specs.declared.refusal.Refusal.{Refusal}
+use Rattle.stripe_core.specs.declared.refusal.Refusal.TheVariants as refusal
+use Rattle.stripe_core.specs.Counts.{IsCounted}
+use Rattle.stripe_core.specs.Flush.{StopsWith}
+use Rattle.stripe_core.specs.Place.{CutsAsAsked, PlacesVector}
+use Rattle.stripe_core.specs.Stripe.{Answers}
+
+-- of a flush for room
+pub stops_counted : (s : State) (faults : ℕ) (r : Result (Unit {0}) Refusal) → Answers r (λ x. IfErr x (StopsWith s faults)) ⊥ → IfErr r (IsCounted faults)
+stops_counted s faults (Ok x) h = tt
+stops_counted s faults (Err (refusal.DeviceFault count)) h = omega (arith, h)
+stops_counted s faults (Err _) h = tt
+
+-- of a fragment
+pub cut_counted : (now : ℕ) (old new : Kept) (before : ℕ) (after : Device) (id : PieceId) (pin start : ℕ) (payload : List ℕ) (wanting : Type 0) (r : Result Placed Refusal)
+    → Answers r (CutsAsAsked now old new before after id pin start payload) wanting → IfErr r (IsCounted after.faults)
+cut_counted now old new before after id pin start payload wanting (Ok x) h = tt
+cut_counted now old new before after id pin start payload wanting (Err (refusal.DeviceFault count)) h = let is : count ≡ after.faults = h.shape.why_is.0 in omega (arith, is)
+cut_counted now old new before after id pin start payload wanting (Err _) h = tt
+
+-- of a vector, for which the device is not asked
+pub vector_counted : (old new : Kept) (before after : ℕ) (id : PieceId) (pin start : ℕ) (payload : List ℕ) (wanting : Type 0) (r : Result Placed Refusal)
+    → Answers r (PlacesVector old new before after id pin start payload) wanting → IfErr r (IsCounted after)
+vector_counted old new before after id pin start payload wanting (Ok x) h = tt
+vector_counted old new before after id pin start payload wanting (Err (refusal.DeviceFault count)) h = absurd h.at
+vector_counted old new before after id pin start payload wanting (Err _) h = tt
