@@ -1,7 +1,7 @@
 mod Shown
 mod Counts
 mod Outlines
-pub mod Answers
+pub mod Saying
 pub mod Unharming
 mod Calls
 mod Frames

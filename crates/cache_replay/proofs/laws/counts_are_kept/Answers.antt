@@ -1,4 +1,4 @@
-use Rattle.cache_replay.proofs.Answers.{counts_are_kept}
+use Rattle.cache_replay.proofs.Saying.{counts_are_kept}
 use Rattle.cache_replay.proofs.laws.counts_are_kept.Goals as goal
 
 pub returns : goal.returns

@@ -1,4 +1,4 @@
-use Rattle.cache_replay.proofs.Answers.{texts_are_output}
+use Rattle.cache_replay.proofs.Saying.{texts_are_output}
 use Rattle.cache_replay.proofs.laws.texts_are_output.Goals as goal
 
 pub returns : goal.returns
