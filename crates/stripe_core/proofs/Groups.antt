@@ -122,6 +122,7 @@ later_fragment s t id pin start payload same f = record {
     full = f.next.full ∙ ap (λ (g : Geometry). length f.w.cuts * g.fragment) (sym same.geometry);
     some = f.next.some;
     small = rw same.geometry f.next.small;
+    of_bytes = f.next.of_bytes;
   };
   id_is = f.id_is;
   pin_is = f.pin_is;

@@ -57,7 +57,7 @@ module _ (s : State) (old new : Device) (id : PieceId) (row : Row) (size : ℕ) 
         seen = finds.seen;
         answers = λ p covers.
             let d = document p covers in
-            let read : IsReadAs p s row list = record { bytes = d.bytes; whole = d.whole; digest = d.digest; given = d.given; spelled = spelled ∙ ap listed_in d.payload } in
+            let read : IsReadAs p s row list = record { bytes = d.bytes; whole = d.whole; of_bytes = d.of_bytes; digest = d.digest; given = d.given; spelled = spelled ∙ ap listed_in d.payload } in
             subst (λ o. IsVectorFound p s o (answer.Read list)) (sym there) read;
       }
 
