@@ -3,11 +3,11 @@ use Rattle.std.proofs.Common.{ℕ, List, [], ◌∷◌, ◌++◌, append_assoc, 
 use Rattle.script_run.specs.Run.{Run}
 use Rattle.script_run.specs.Turn.{Turn}
 use Rattle.script_run.specs.Behind.{after_line}
-use Rattle.script_run.specs.Takes.{IsRun, LineShownIn, LineTakes, run_after}
+use Rattle.script_run.specs.Takes.{IsRun, LineShows, LineTakes, run_after}
 use Rattle.reader_laws.specs.Along.{ShowsAlong}
 
 -- the first of them does
-pub shown_here : (run : Run) (turn : Turn) (bytes : List ℕ) (lines : List (List ℕ)) (turns : List Turn) → LineShownIn turn.device run bytes → ShowsAlong run (bytes ∷ lines) (turn ∷ turns)
+pub shown_here : (run : Run) (turn : Turn) (bytes : List ℕ) (lines : List (List ℕ)) (turns : List Turn) → LineShows run turn bytes → ShowsAlong run (bytes ∷ lines) (turn ∷ turns)
 shown_here run turn bytes lines turns shows =
     record { before = []; earlier = []; bytes = bytes; turn = turn; later = lines; rest = turns; lines_are = refl; turns_are = refl; legal = tt; shows = shows }
 

@@ -10,10 +10,13 @@ use Rattle.cache_model.specs.declared.record.Rec.{Rec}
 use Rattle.cache_model.specs.State.{State, after_all, nothing_yet}
 use Rattle.cache_model.specs.Legal
 use Rattle.cache_model.specs.Legal.{IsQuiet, format_records}
+use Rattle.cache_model.specs.Pair.{ShowsPair}
+use Rattle.cache_model.specs.Permit.{to_do}
 use Rattle.cache_model.specs.StepLaws.{NumbersFollow}
 use Rattle.cache_model.specs.Tape.{IsSound, LegalIsSound, StepsAreSound}
-use Rattle.cache_model.specs.Vectors.{AreTold, FormatsTell, ShowsVector, StepsTell}
+use Rattle.cache_model.specs.Vectors.{AreTold, FormatsTell, IsVectorAs, StepsTell}
 use Rattle.cache_model.proofs.Found.{none_is}
+use Rattle.cache_model.proofs.Pairs.{also_shows}
 use Rattle.script_lang.specs.declared.step.Step.{Step}
 use Rattle.script_lang.specs.declared.step.Step.TheVariants as step
 use Rattle.script_lang.specs.declared.line.LineAnswer.{LineAnswer}
@@ -24,9 +27,8 @@ use Rattle.script_run.specs.Asked.{asked}
 use Rattle.script_run.specs.Turn.{Turn}
 use Rattle.script_run.specs.Behind.{after_format, after_line, after_reading, at_moment, behind, formatted, in_session}
 use Rattle.script_run.specs.Laws.{FormatsKeep, FormatsOwn, OwnIsKept, StepsKeep, StepsOwn}
-use Rattle.script_run.specs.Own.{AreKept, AreOwn}
-use Rattle.script_run.specs.Takes
-use Rattle.script_run.specs.Takes.{FormatTakes, IsRun, ReadingShownIn, ReadingTakes, SessionTakes, StepShownIn, run_after}
+use Rattle.script_run.specs.Own.{AreKept, AreOwn, IsPlacedAs}
+use Rattle.script_run.specs.Takes.{FormatTakes, IsRun, ReadingShows, ReadingTakes, SessionShows, SessionTakes, StepShows, run_after, streams_with}
 use Rattle.reader_laws.specs.Along.{AreOfSession, KeptAlong, OwnAlong, QuietWhere, ShowsAlong, StandsKept, StandsOwn, StandsWhere, begins_session}
 use Rattle.reader_laws.proofs.Shown.{shown_behind, shown_front, shown_here, shown_later}
 use Rattle.reader_laws.proofs.Writing.{AreHeld, are_writing, held_step}
@@ -167,33 +169,33 @@ module _ (laws : OfLines) (run : Run) (turn : Turn) where
   moment_holds at None h = tt
   moment_holds at (Some s) h = record { keeps = moment_keeps laws.kept run turn at (Some s) h.keeps; told = h.told; own = h.own }
 
-  -- a copied vector shows them some way into the step
-  vector_shows : (s : State) (st : Step) → ShowsVector turn.device s (asked run s st) turn.added → StepShownIn turn.device run (Some s) st
-  vector_shows s st v = record {
-    shows = record { device = turn.device; added = v.before; left = v.left; grows = v.grows; other = Takes.IsOther.vector_copied v.other };
-    same = refl;
-    given = v.other.given;
+  -- a copied vector shows them some way into the step, and so does a fragment
+  vector_shows : (s : State) (st : Step) → SessionTakes run s turn st → ShowsPair IsVectorAs turn.device s (asked run s st) turn.added → SessionShows run s turn st
+  vector_shows s st takes v = record {
+    plain = takes.plain;
+    moment = takes.moment;
+    shows = also_shows IsVectorAs (IsPlacedAs (streams_with run s st)) (λ t row document vector. inl vector) turn.device s (to_do (asked run s st)) turn.added v;
   }
 
   holds_step : (s : State) (st : Step) → SessionTakes run s turn st → Holds run s
-      → Holds (in_session run s (after_all s turn.added) turn st) (after_all s turn.added) ⊎ StepShownIn turn.device run (Some s) st
+      → Holds (in_session run s (after_all s turn.added) turn st) (after_all s turn.added) ⊎ StepShows run turn (Some s) st
   holds_step s st takes h =
       let k : Keeps run s = h.keeps in
       elim (laws.steps_tell turn.device s (asked run s st) turn.added turn.refused k.sound h.told takes.legal) [
-        | inr v ↦ inr (vector_shows s st v)
+        | inr v ↦ inr (vector_shows s st takes v)
         | inl told ↦ elim (laws.steps_own run s turn st k.sound h.told k.quiet h.own (are_writing run s k.held) takes.legal) [
           | inl own ↦ inl (record { keeps = keeps_step laws.kept run turn s st takes k; told = told; own = own })
-          | inr shown ↦ inr shown
+          | inr shown ↦ inr (record { plain = takes.plain; moment = takes.moment; shows = shown })
         ]
       ]
 
-  goes_holds : {o : Option State} {st : Step} {after : Run} → Goes run turn o st after → StandsWhere Holds run o → HoldsIn run → HoldsIn after ⊎ StepShownIn turn.device run o st
+  goes_holds : {o : Option State} {st : Step} {after : Run} → Goes run turn o st after → StandsWhere Holds run o → HoldsIn run → HoldsIn after ⊎ StepShows run turn o st
   goes_holds (begins name g is) h now = inl (formatted_holds name turn.added g is)
   goes_holds (stays same) h now = inl now
   goes_holds (waits at same) h now = inl (moment_holds at run.state now)
   goes_holds {st = st} (steps s same takes) h now = holds_step s st takes h
 
-  reading_holds : (l : LineAnswer) → ReadingTakes run turn l → HoldsIn run → HoldsIn (after_reading run turn l) ⊎ ReadingShownIn turn.device run l
+  reading_holds : (l : LineAnswer) → ReadingTakes run turn l → HoldsIn run → HoldsIn (after_reading run turn l) ⊎ ReadingShows run turn l
   reading_holds (line.Step st) takes now = goes_holds (goes run turn run.state st takes) now now
   reading_holds line.Nothing takes now = inl now
   reading_holds (line.Bad fault) takes now = absurd takes

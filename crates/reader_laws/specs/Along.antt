@@ -18,7 +18,7 @@ use Rattle.script_run.specs.Run.{Run, fresh}
 use Rattle.script_run.specs.Turn.{Turn}
 use Rattle.script_run.specs.Behind.{after_line}
 use Rattle.script_run.specs.Own.{AreKept, AreOwn, AreWriting}
-use Rattle.script_run.specs.Takes.{IsRun, LineShownIn, LineTakes, run_after}
+use Rattle.script_run.specs.Takes.{IsRun, LineShows, LineTakes, run_after}
 
 -- a format that is not refused begins another session
 abbrev pub begins_session : Step → Bool
@@ -123,4 +123,4 @@ pub record ShowsAlong (run : Run) (lines : List (List ℕ)) (turns : List Turn) 
   pub lines_are : lines ≡ before ++ bytes ∷ later
   pub turns_are : turns ≡ earlier ++ turn ∷ rest
   pub legal : IsRun run before earlier
-  pub shows : LineShownIn turn.device (run_after run before earlier) bytes
+  pub shows : LineShows (run_after run before earlier) turn bytes
