@@ -37,6 +37,7 @@ use Rattle.stripe_write.specs.declared.removal.Removal.{Removal}
 use Rattle.stripe_write.specs.declared.removal.Removal.TheVariants as removal
 use Rattle.stripe_write.specs.declared.writer.Writer.{Writer}
 use Rattle.stripe_write.specs.Closes.{ClosesWhere}
+use Rattle.stripe_write.specs.Others.{AddsOfPut}
 use Rattle.stripe_write.specs.Removals.{RemovesWhere}
 use Rattle.stripe_write.specs.Writes.{AbortsWhere}
 use Rattle.script_lang.specs.declared.answer.StepAnswer.{StepAnswer}
@@ -51,6 +52,7 @@ use Rattle.cache_replay.specs.ReaderLines.{next_answer, opened_answer}
 use Rattle.cache_replay.specs.WriterLines.{closed_answer, fed_answer, refused_answer}
 use Rattle.cache_replay.proofs.Calls.{call_covered, call_permit}
 use Rattle.cache_replay.proofs.PlainTurns.{removed_as}
+use Rattle.cache_replay.proofs.ReaderFrames.{losses_then}
 
 -- ---- no loss tells a count
 
@@ -326,6 +328,34 @@ pub removed_tells : (s : State) (key : Key) (result : Removal) (n : ℕ) → NoL
 removed_tells s key (removal.Removed put) n none h = omega arith
 removed_tells s key (removal.Absent why) n none h = at_most (count_of why) n (ap count_of h.1 ∙ miss_counts s key none)
 
+-- what holds of a result where something does
+pub err_now : {T E N : Type 0} (P : E → Type 0) (r : Result T E) → N → IfErr r (λ e. N → P e) → IfErr r P
+err_now P (Ok x) n h = tt
+err_now P (Err e) n h = h n
+
+pub err_when : {T E N : Type 0} (P : E → Type 0) (r : Result T E) → (N → IfErr r P) → IfErr r (λ e. N → P e)
+err_when P (Ok x) h = tt
+err_when P (Err e) h = h
+
+pub err_after : {T E N M : Type 0} (P : E → Type 0) (r : Result T E) → (N → M) → IfErr r (λ e. M → P e) → IfErr r (λ e. N → P e)
+err_after P (Ok x) f h = tt
+err_after P (Err e) f h = λ n. h (f n)
+
+pub ok_after : {T E N M : Type 0} (P : T → Type 0) (r : Result T E) → (N → M) → IfOk r (λ x. M → P x) → IfOk r (λ x. N → P x)
+ok_after P (Ok x) f h = λ n. h (f n)
+ok_after P (Err e) f h = tt
+
+pub some_when : {X N : Type 0} (P : X → Type 0) (o : Option X) → (N → IfSome o P) → IfSome o (λ x. N → P x)
+some_when P None h = tt
+some_when P (Some x) h = h
+
+-- records of a put lose no piece by a fault
+pub losses_own : (put : ℕ) (old new : Kept) → AddsOfPut put old new → NoLossIsAFault (state_of old) → NoLossIsAFault (state_of new)
+losses_own put old new adds none = losses_then old new adds.added adds.adds none
+
 -- what holds of an answer that is there
 pub some_at : {X : Type 0} (P : X → Type 0) (o : Option X) (x : X) → o ≡ Some x → IfSome o P → P x
 some_at P o x is h = subst (λ y. IfSome y P) is h
+
+pub answer_counts : {N : Type 0} (n : ℕ) (o : Option StepAnswer) (said : StepAnswer) → o ≡ Some said → N → IfSome o (λ x. N → count_in x ≤ n) → count_in said ≤ n
+answer_counts {N} n o said is none h = some_at (λ x. N → count_in x ≤ n) o said is h none

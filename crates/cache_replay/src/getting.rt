@@ -68,8 +68,8 @@ pub(crate) fn get<D: Disk, R: Directory + Drop, C: Chronicle>(
     ensures gets { IfOk result (GetsAsAsked (seen_in D.Disk R.Directory stripe.old).device.faults (seen_in D.Disk R.Directory stripe.new).device.faults
         (kept_in C.Chronicle stripe.old) (kept_in C.Chronicle stripe.new) key request) }
     ensures leaves { LeavesBut None (Some (state_in C.Chronicle stripe.old).next_reader) (state_in C.Chronicle stripe.old) (state_in C.Chronicle stripe.new) }
-    ensures counts { NoLossIsAFault (state_in C.Chronicle stripe.old)
-        → IfOk result (λ got. count_in (got_answer got) ≤ (seen_in D.Disk R.Directory stripe.new).device.faults) }
+    ensures counts { IfOk result (λ got. NoLossIsAFault (state_in C.Chronicle stripe.old)
+        → count_in (got_answer got) ≤ (seen_in D.Disk R.Directory stripe.new).device.faults) }
     ensures later { (seen_in D.Disk R.Directory stripe.old).device.faults ≤ (seen_in D.Disk R.Directory stripe.new).device.faults }
     ensures unharmed { (run : Run) → AreTold (state_in C.Chronicle stripe.old) → AreOwn (state_in C.Chronicle stripe.old) run.streams
         → StaysUnharmed D.Disk R.Directory C.Chronicle stripe.old stripe.new ⊎ ShowsAt (IsPlacedAs run.streams) run.now (state_in C.Chronicle stripe.old) (get_intents (state_in C.Chronicle stripe.old) key request) }
@@ -105,8 +105,8 @@ fn read_whole<D: Disk, R: Directory + Drop, C: Chronicle>(
     ensures answers { IfOk result (λ got. (b : Began) → IsUnderway b (seen_in D.Disk R.Directory stripe.old).device.faults (kept_in C.Chronicle stripe.old) reader []
         → IsAnswered b (seen_in D.Disk R.Directory stripe.new).device.faults (kept_in C.Chronicle stripe.new) [] (given_in got) (got_answer got)) }
     ensures leaves { LeavesBut None (Some reader.reader) (state_in C.Chronicle stripe.old) (state_in C.Chronicle stripe.new) }
-    ensures counts { NoLossIsAFault (state_in C.Chronicle stripe.old)
-        → IfOk result (λ got. count_in (got_answer got) ≤ (seen_in D.Disk R.Directory stripe.new).device.faults) }
+    ensures counts { IfOk result (λ got. NoLossIsAFault (state_in C.Chronicle stripe.old)
+        → count_in (got_answer got) ≤ (seen_in D.Disk R.Directory stripe.new).device.faults) }
     ensures later { (seen_in D.Disk R.Directory stripe.old).device.faults ≤ (seen_in D.Disk R.Directory stripe.new).device.faults }
     ensures unharmed { (b : Began) (run : Run) → IsUnderway b (seen_in D.Disk R.Directory stripe.old).device.faults (kept_in C.Chronicle stripe.old) reader []
         → AreTold (state_of b.kept) → AreOwn (state_of b.kept) run.streams → StaysUnharmed D.Disk R.Directory C.Chronicle stripe.old stripe.new ⊎ ShowsAt (IsPlacedAs run.streams) run.now (state_of b.kept) b.asks }
@@ -143,8 +143,8 @@ fn read_to_end<D: Disk, R: Directory + Drop, C: Chronicle>(
     ensures answers { IfOk result (λ got. (b : Began) → IsUnderway b (seen_in D.Disk R.Directory stripe.old).device.faults (kept_in C.Chronicle stripe.old) reader.old []
         → IsAnswered b (seen_in D.Disk R.Directory stripe.new).device.faults (kept_in C.Chronicle stripe.new) (StopReading reader.old.reader ∷ []) (given_in got) (got_answer got)) }
     ensures leaves { LeavesBut None (Some reader.old.reader) (state_in C.Chronicle stripe.old) (state_in C.Chronicle stripe.new) }
-    ensures counts { NoLossIsAFault (state_in C.Chronicle stripe.old)
-        → IfOk result (λ got. count_in (got_answer got) ≤ (seen_in D.Disk R.Directory stripe.new).device.faults) }
+    ensures counts { IfOk result (λ got. NoLossIsAFault (state_in C.Chronicle stripe.old)
+        → count_in (got_answer got) ≤ (seen_in D.Disk R.Directory stripe.new).device.faults) }
     ensures later { (seen_in D.Disk R.Directory stripe.old).device.faults ≤ (seen_in D.Disk R.Directory stripe.new).device.faults }
     ensures unharmed { (b : Began) (run : Run) → IsUnderway b (seen_in D.Disk R.Directory stripe.old).device.faults (kept_in C.Chronicle stripe.old) reader.old []
         → AreTold (state_of b.kept) → AreOwn (state_of b.kept) run.streams → StaysUnharmed D.Disk R.Directory C.Chronicle stripe.old stripe.new ⊎ ShowsAt (IsPlacedAs run.streams) run.now (state_of b.kept) b.asks }
@@ -183,8 +183,8 @@ fn read_more<D: Disk, R: Directory + Drop, C: Chronicle>(
         → ComesOf b (seen_in D.Disk R.Directory stripe.new).device.faults (kept_in C.Chronicle stripe.new) reader.old.put reader.new body.new.items next) }
     ensures nearer { IfOk result (λ next. IsNearer reader.old next reader.new) }
     ensures leaves { LeavesBut None (Some reader.old.reader) (state_in C.Chronicle stripe.old) (state_in C.Chronicle stripe.new) }
-    ensures counts { NoLossIsAFault (state_in C.Chronicle stripe.old)
-        → IfOk result (λ next. count_in_piece next ≤ (seen_in D.Disk R.Directory stripe.new).device.faults) }
+    ensures counts { IfOk result (λ next. NoLossIsAFault (state_in C.Chronicle stripe.old)
+        → count_in_piece next ≤ (seen_in D.Disk R.Directory stripe.new).device.faults) }
     ensures later { (seen_in D.Disk R.Directory stripe.old).device.faults ≤ (seen_in D.Disk R.Directory stripe.new).device.faults }
     ensures unharmed { (b : Began) (run : Run) → IsUnderway b (seen_in D.Disk R.Directory stripe.old).device.faults (kept_in C.Chronicle stripe.old) reader.old body.old.items
         → AreTold (state_of b.kept) → AreOwn (state_of b.kept) run.streams → StaysUnharmed D.Disk R.Directory C.Chronicle stripe.old stripe.new ⊎ ShowsAt (IsPlacedAs run.streams) run.now (state_of b.kept) b.asks }

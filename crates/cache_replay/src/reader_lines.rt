@@ -220,8 +220,8 @@ fn read_to<D: Disk, R: Directory + Drop, C: Chronicle>(
         → StaysUnharmed D.Disk R.Directory C.Chronicle stripe.old stripe.new ⊎ ShowsAt (IsPlacedAs run.streams) run.now (state_in C.Chronicle stripe.old) (ReadOn reader.old.reader ∷ []) }
     ensures trust { (seen_in D.Disk R.Directory stripe.new).device.trust ≤ (seen_in D.Disk R.Directory stripe.old).device.trust }
     ensures stop { IfErr result (λ why. why ≡ stop.Memory) }
-    ensures counts { NoLossIsAFault (state_in C.Chronicle stripe.old)
-        → IfOk result (λ said. count_in said ≤ (seen_in D.Disk R.Directory stripe.new).device.faults) }
+    ensures counts { IfOk result (λ said. NoLossIsAFault (state_in C.Chronicle stripe.old)
+        → count_in said ≤ (seen_in D.Disk R.Directory stripe.new).device.faults) }
     ensures later { (seen_in D.Disk R.Directory stripe.old).device.faults ≤ (seen_in D.Disk R.Directory stripe.new).device.faults }
 {
     read_is_own();

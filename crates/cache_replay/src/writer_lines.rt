@@ -219,8 +219,8 @@ fn begin<D: Disk, R: Directory + Drop, C: Chronicle>(
     requires quiet { IsQuiet (state_in C.Chronicle stripe.old) }
     ensures stripe { IsStripe D.Disk R.Directory C.Chronicle stripe.new }
     ensures quiet { IsQuiet (state_in C.Chronicle stripe.new) }
-    ensures counts { NoLossIsAFault (state_in C.Chronicle stripe.old)
-        → IfSome result.answer (λ said. count_in said ≤ (seen_in D.Disk R.Directory stripe.new).device.faults) }
+    ensures counts { IfSome result.answer (λ said. NoLossIsAFault (state_in C.Chronicle stripe.old)
+        → count_in said ≤ (seen_in D.Disk R.Directory stripe.new).device.faults) }
     ensures later { (seen_in D.Disk R.Directory stripe.old).device.faults ≤ (seen_in D.Disk R.Directory stripe.new).device.faults }
     ensures unharmed { StaysUnharmed D.Disk R.Directory C.Chronicle stripe.old stripe.new }
     ensures own { AddsOfPut (state_in C.Chronicle stripe.old).next_put (kept_in C.Chronicle stripe.old) (kept_in C.Chronicle stripe.new) }
@@ -311,8 +311,8 @@ fn give_bytes<D: Disk, R: Directory + Drop, C: Chronicle>(
     requires writing { is_writing (state_in C.Chronicle stripe.old) writer.put ≡ true }
     ensures stripe { IsStripe D.Disk R.Directory C.Chronicle stripe.new }
     ensures quiet { IsQuiet (state_in C.Chronicle stripe.new) }
-    ensures counts { NoLossIsAFault (state_in C.Chronicle stripe.old)
-        → IfSome result.answer (λ said. count_in said ≤ (seen_in D.Disk R.Directory stripe.new).device.faults) }
+    ensures counts { IfSome result.answer (λ said. NoLossIsAFault (state_in C.Chronicle stripe.old)
+        → count_in said ≤ (seen_in D.Disk R.Directory stripe.new).device.faults) }
     ensures later { (seen_in D.Disk R.Directory stripe.old).device.faults ≤ (seen_in D.Disk R.Directory stripe.new).device.faults }
     ensures unharmed { StaysUnharmed D.Disk R.Directory C.Chronicle stripe.old stripe.new }
     ensures own { AddsOfPut writer.put (kept_in C.Chronicle stripe.old) (kept_in C.Chronicle stripe.new) }
@@ -404,8 +404,8 @@ fn finish<D: Disk, R: Directory + Drop, C: Chronicle>(
     requires writing { is_writing (state_in C.Chronicle stripe.old) writer.put ≡ true }
     ensures stripe { IsStripe D.Disk R.Directory C.Chronicle stripe.new }
     ensures quiet { IsQuiet (state_in C.Chronicle stripe.new) }
-    ensures counts { NoLossIsAFault (state_in C.Chronicle stripe.old)
-        → IfSome result.answer (λ said. count_in said ≤ (seen_in D.Disk R.Directory stripe.new).device.faults) }
+    ensures counts { IfSome result.answer (λ said. NoLossIsAFault (state_in C.Chronicle stripe.old)
+        → count_in said ≤ (seen_in D.Disk R.Directory stripe.new).device.faults) }
     ensures later { (seen_in D.Disk R.Directory stripe.old).device.faults ≤ (seen_in D.Disk R.Directory stripe.new).device.faults }
     ensures unharmed { StaysUnharmed D.Disk R.Directory C.Chronicle stripe.old stripe.new }
     ensures own { AddsOfPut writer.put (kept_in C.Chronicle stripe.old) (kept_in C.Chronicle stripe.new) }
@@ -486,8 +486,8 @@ fn give_up<D: Disk, R: Directory + Drop, C: Chronicle>(
     requires writing { is_writing (state_in C.Chronicle stripe.old) writer.put ≡ true }
     ensures stripe { IsStripe D.Disk R.Directory C.Chronicle stripe.new }
     ensures quiet { IsQuiet (state_in C.Chronicle stripe.new) }
-    ensures counts { NoLossIsAFault (state_in C.Chronicle stripe.old)
-        → IfSome result.answer (λ said. count_in said ≤ (seen_in D.Disk R.Directory stripe.new).device.faults) }
+    ensures counts { IfSome result.answer (λ said. NoLossIsAFault (state_in C.Chronicle stripe.old)
+        → count_in said ≤ (seen_in D.Disk R.Directory stripe.new).device.faults) }
     ensures later { (seen_in D.Disk R.Directory stripe.old).device.faults ≤ (seen_in D.Disk R.Directory stripe.new).device.faults }
     ensures unharmed { StaysUnharmed D.Disk R.Directory C.Chronicle stripe.old stripe.new }
     ensures own { AddsOfPut writer.put (kept_in C.Chronicle stripe.old) (kept_in C.Chronicle stripe.new) }

@@ -333,7 +333,7 @@ module _ (source sink bay : Counts) (first old new : Option (List ℕ)) (Devices
 
 -- no device was attached
 pub nothing_back : (ledger : Ledger) (t : Told) → t.ended ≡ [] → t.own ≡ [] → t.names ≡ [] → Deals ledger ledger (all_in t) t.names
-nothing_back ledger t ended own names = rw (ended, own, names) (Deals-nothing ledger)
+nothing_back ledger t none own names = rw (none, own, names) (Deals-nothing ledger)
 
 -- nothing was read for want of memory
 pub nothing_ends : (unread taken : Option (List ℕ)) (Devices : Told → Type 0) (Wanting : Option (List ℕ) → ℕ → Told → Type 0) → ((t : Told) → t.ended ≡ [] → t.own ≡ [] → t.names ≡ [] → Wanting unread 0 t) → (source sink bay : Counts)

@@ -20,7 +20,7 @@ returns-in_default-clause-ends g c =
     let ledger = ledger_of g.B.Bay c.args.bay.now in
     let sure : IsTrue g.B.Bay.faultless → CameBackFaultless ledger.returned = λ t. g.met.B.Bay.came_back c.args.bay.now t in
     nothing_ends (g.S.Source.left c.args.source.now) (g.K.Sink.taken c.args.sink.now) (DevicesBack g.B.Bay.faultless ledger ledger) (DevicesWanting g.B.Bay.faultless ledger ledger)
-    (λ t ended own names. settles_more g.B.Bay.faultless ledger ledger sure t (g.S.Source.left c.args.source.now) 0 (inl (nothing_back ledger t ended own names))) (counts 0 0) (counts 0 0) (counts 0 0)
+    (λ t none own names. settles_more g.B.Bay.faultless ledger ledger sure t (g.S.Source.left c.args.source.now) 0 (inl (nothing_back ledger t none own names))) (counts 0 0) (counts 0 0) (counts 0 0)
 
 pub returns-clause-ends : goal.returns-clause-ends
 returns-clause-ends g c =
