@@ -1,6 +1,6 @@
 -- Two documents of one SHA-256: the one as which a live piece was placed, and other bytes that were
 -- read for it. What a promise loses where SHA-256 fails, it loses by such a pair alone.
-use Rattle.std.specs.Prelude.{ℕ, ◌≡◌, ◌++◌, true, List, [], ◌∷◌, take, Option, Some}
+use Rattle.std.specs.Prelude.{ℕ, ◌≡◌, ◌++◌, true, List, [], ◌∷◌, take, Some}
 use Rattle.hex.specs.Hex.{IsBytes}
 use Rattle.tape_base.specs.declared.keys.Key.{Key}
 use Rattle.tape_base.specs.Digest.{Collide}

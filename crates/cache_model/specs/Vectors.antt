@@ -14,15 +14,15 @@ use Rattle.doc_header.specs.Reading.{document_digest, extent_of, payload_of}
 use Rattle.alternate_vector.specs.Alternates.{Stored, IsStored, vector_size}
 use Rattle.alternate_vector.specs.Spelling.{IsSpelling, vector_bytes}
 use Rattle.cache_model.specs.declared.record.Rec.{Rec}
-use Rattle.cache_model.specs.State.{State, Row, PutRow, after_all, alternate_of, alternates_of, list_of_put, live_row_of, nothing_yet, put_of}
+use Rattle.cache_model.specs.State.{State, Row, PutRow, after_all, alternate_of, alternates_of, list_of_put, nothing_yet, put_of}
 use Rattle.cache_model.specs.Verdict.{live_vector_of}
-use Rattle.cache_model.specs.Permit.{Permit, IsAmong, Intent, Reason, End, Work, to_do}
+use Rattle.cache_model.specs.Permit.{Permit, IsAmong, Intent, Reason, End}
 use Rattle.cache_model.specs.Due.{due_pieces}
 use Rattle.cache_model.specs.Pair.{IsCopyPair, IsPair, ShowsPair}
 use Rattle.cache_model.specs.Outcomes.{AreOutcomes, Outcome, flush_records, stopped_records}
 use Rattle.cache_model.specs.Room.{greatest_pin}
 use Rattle.cache_model.specs.Tape.{IsSound}
-use Rattle.cache_model.specs.Legal.{Course, Does, FitsAlone, IsLegal, IsStep, MayGrow, format_records}
+use Rattle.cache_model.specs.Legal.{Course, Does, FitsAlone, IsLegal, IsStep, format_records}
 
 -- the document as which a vector was placed
 abbrev pub vector_doc : State → Row → Doc

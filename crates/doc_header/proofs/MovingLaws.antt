@@ -116,11 +116,40 @@ magic_small : IsBytes (codes "TSCDOCM1")
 magic_small = bytes_by_test (codes "TSCDOCM1") refl
 
 fields_small : (doc : Doc) (payload : List ℕ) → AllByRecursion (λ f. IsBytes f.1) (fields_of doc payload)
-fields_small doc payload =
-    (magic_small, (le_bytes-small w32 1, (le_bytes-small w32 (length payload), (key_bytes-small doc.id.first,
-    (le_bytes-small w64 doc.id.put, (le_bytes-small w32 doc.id.index, (le_bytes-small w32 (blocks_of (length payload)),
-    (le_bytes-small w64 doc.place, (le_bytes-small w64 doc.generation, (le_bytes-small w64 doc.pin, (le_bytes-small w64 doc.start,
-    (sha256-small payload, tt))))))))))))
+fields_small doc payload = (
+  magic_small,
+  (
+    le_bytes-small w32 1,
+    (
+      le_bytes-small w32 (length payload),
+      (
+        key_bytes-small doc.id.first,
+        (
+          le_bytes-small w64 doc.id.put,
+          (
+            le_bytes-small w32 doc.id.index,
+            (
+              le_bytes-small w32 (blocks_of (length payload)),
+              (
+                le_bytes-small w64 doc.place,
+                (
+                  le_bytes-small w64 doc.generation,
+                  (
+                    le_bytes-small w64 doc.pin,
+                    (
+                      le_bytes-small w64 doc.start,
+                      (sha256-small payload, tt),
+                    ),
+                  ),
+                ),
+              ),
+            ),
+          ),
+        ),
+      ),
+    ),
+  ),
+)
 
 header_small : (doc : Doc) (payload : List ℕ) → IsBytes (header_bytes doc payload)
 header_small doc payload =

@@ -28,6 +28,7 @@ use Rattle.script_run.specs.Turn.{Turn}
 use Rattle.script_run.specs.Behind.{after_format, after_line, after_reading, at_moment, behind, formatted, in_session}
 use Rattle.script_run.specs.Laws.{FormatsKeep, FormatsOwn, OwnIsKept, StepsKeep, StepsOwn}
 use Rattle.script_run.specs.Own.{AreKept, AreOwn, IsPlacedAs}
+use Rattle.script_run.specs.Takes
 use Rattle.script_run.specs.Takes.{FormatTakes, IsRun, ReadingShows, ReadingTakes, SessionShows, SessionTakes, StepShows, run_after, streams_with}
 use Rattle.reader_laws.specs.Along.{AreOfSession, KeptAlong, OwnAlong, QuietWhere, ShowsAlong, StandsKept, StandsOwn, StandsWhere, begins_session}
 use Rattle.reader_laws.proofs.Shown.{shown_behind, shown_front, shown_here, shown_later}

@@ -55,7 +55,7 @@ read_is_own p s streams r row size into own some live d =
     let same_payload : payload ≡ piece_of s.geometry.fragment (streams r.put).bytes r.next =
     ap (λ (i : PieceId). piece_of s.geometry.fragment (streams i.put).bytes i.index) l.piece in
     elim (digests_tell_lem (take (extent_of d.bytes) d.bytes) (fragment_document s row payload) (IsBytes-take (extent_of d.bytes) d.bytes d.of_bytes)
-      (document_small (fragment_doc s row) payload (piece_bytes s streams row fragment own.puts f)) (sym d.digest ∙ f.digest)) [
+    (document_small (fragment_doc s row) payload (piece_bytes s streams row fragment own.puts f)) (sym d.digest ∙ f.digest)) [
       | inl same ↦ inl (d.payload ∙ (payload_told d.bytes (fragment_doc s row) payload same ∙ same_payload))
       | inr collide ↦ inr (record {
         document = fragment_document s row payload;

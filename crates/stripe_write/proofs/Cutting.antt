@@ -7,6 +7,7 @@ use Rattle.std.specs.declared.alloc.AllocError.{AllocError}
 use Rattle.std.proofs.lemmas.Bool.{eq-eqb, eqb-true}
 use Rattle.std.proofs.lemmas.List.{length-append}
 use Rattle.std.proofs.lemmas.List.Sums.{sum_by-append}
+use Rattle.hex.specs.Hex.{IsBytes}
 use Rattle.tape_base.specs.declared.digests.Digest.{Digest}
 use Rattle.tape_base.specs.declared.pieces.PieceId.{PieceId}
 use Rattle.tape_base.specs.Digest.{digest_of}
@@ -46,8 +47,8 @@ next_no_vector w = by (length w.table.rows + 1) (omega arith)
         at false e = refl
         at true e = let z : n ≡ 0 = eqb-true n 0 e in absurd (omega (arith, z, h))
 
-pub ready_fragment : (s : State) (w : Writer) → IsQuiet s → IsReady s w → IsFragmentOf s (next_id w) w.pin (next_start w) w.gathered.items
-ready_fragment s w quiet r =
+pub ready_fragment : (s : State) (w : Writer) → IsQuiet s → IsReady s w → IsBytes w.gathered.items → IsFragmentOf s (next_id w) w.pin (next_start w) w.gathered.items
+ready_fragment s w quiet r small =
     let count : length r.row.cuts ≡ length w.table.rows = ap length r.cuts_are in
     let number : r.row.put ≡ w.put = own_number w.put s.puts r.row r.found in
     record {
@@ -59,6 +60,7 @@ ready_fragment s w quiet r =
         full = r.whole;
         some = r.some;
         small = r.small;
+        of_bytes = small;
       };
       id_is = sym (ap (λ k. fragment_piece k r.row.put (length r.row.cuts + 1)) r.key_is
           ∙ (ap (λ n. fragment_piece w.key n (length r.row.cuts + 1)) number ∙ ap (λ n. fragment_piece w.key w.put (n + 1)) count));

@@ -17,6 +17,7 @@ use Rattle.cache_model.specs.Verdict.{is_open, live_vector_of, vector_of}
 use Rattle.cache_model.specs.Permit.{Fails, Faulted, Permit, Stays}
 use Rattle.cache_model.specs.Given.{IsDamaged, IsRead, IsReadWhereLive, IsWritten, MayCount, Trouble, damage_cause, damage_record}
 use Rattle.cache_model.specs.Legal.{DoesWeigh, IsWriting, is_writing}
+use Rattle.cache_model.specs.Pair.{IsKeyPair}
 use Rattle.cache_model.specs.Vectors.{AreVectors, IsVectorAs}
 use Rattle.cache_chronicle.proofs.ListLemmas.{row_in-named}
 use Rattle.cache_chronicle.proofs.RowLemmas.{row_in-without}

@@ -274,7 +274,8 @@ pub(crate) fn cut<D: Disk, R: Directory + Drop, C: Chronicle>(
         index: writer.table.len() + 1,
     };
     let size = writer.gathered.len() as u32;
-    let placed = stripe.place_piece(id, writer.pin, writer.table.total(), &writer.gathered, now)?;
+    let payload: &[u8] = &writer.gathered;
+    let placed = stripe.place_piece(id, writer.pin, writer.table.total(), payload, now)?;
     let pushed: Result<_, _> = writer.table.push(size, placed.payload.0);
     pushed.unwrap();
     writer.gathered.clear();

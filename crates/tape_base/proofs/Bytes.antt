@@ -1,5 +1,5 @@
 -- Which lists are bytes: parts and joins of bytes, numbers that are written as bytes, and digests.
-use Rattle.std.proofs.Common.{ℕ, zero, suc, ◌+◌, ◌<◌, ◌≤◌, List, [], ◌∷◌, ◌++◌, length, get_or, take, drop, replicate, arith, inl, inr}
+use Rattle.std.proofs.Common.{ℕ, zero, suc, ◌+◌, ◌<◌, List, [], ◌∷◌, ◌++◌, take, drop, replicate, arith, inl, inr}
 use Rattle.std.specs.Int.{Width, byte_at, byte_len, bytes_high_first, bytes_low_first, to_be_bytes, to_le_bytes, w32}
 use Rattle.std.specs.Prelude.{◌≡◌, nat_lt, slice_index, true}
 use Rattle.std.specs.List.{list_all}

@@ -5,7 +5,7 @@ use Rattle.std.specs.Cmp.Lexicographic.{same_text, other_text}
 use Rattle.sha2.specs.Sha256.{sha256}
 use Rattle.tape_base.specs.declared.digests.Digest.{Digest}
 use Rattle.hex.specs.Hex.{IsBytes}
-use Rattle.tape_base.specs.Digest.{Collide, DigestsTell, IsSame, NumbersShowNothing}
+use Rattle.tape_base.specs.Digest.{DigestsTell, IsSame, NumbersShowNothing}
 
 told : (given put : List ℕ) (b : Bool) → IsBytes given → IsBytes put → b ≡ pointwise nat_eq given put → sha256 given ≡ sha256 put → IsSame given put
 told given put true bytes others test same = inl (same_text given put test)

@@ -4,6 +4,7 @@ use Rattle.cache_model.specs.Kept.{state_of}
 use Rattle.stripe_core.specs.Stripe.{kept_in, seen_in, state_in}
 use Rattle.stripe_write.specs.Writers.{IsWriterOf}
 use Rattle.stripe_write.specs.Weighing.{FitsWhere}
+use Rattle.stripe_write.proofs.Counted.{read_counted}
 use Rattle.stripe_write.proofs.Owning.{owns_fit, owns_none, owns_read, then_owns}
 use Rattle.stripe_write.proofs.Gathering.{still_writer}
 use Rattle.stripe_write.proofs.WeighingFits.{faults, wants, weighs, weighs_where}
@@ -109,3 +110,8 @@ returns-in-None-clause-own g c =
     then_owns c.args.writer.now.put (kept_in g.C.Chronicle c.args.stripe.now) (kept_in g.C.Chronicle c.read_vector.new.stripe) (kept_in g.C.Chronicle c.fit.new.stripe)
     (owns_read c.args.writer.now.put (kept_in g.C.Chronicle c.args.stripe.now) (kept_in g.C.Chronicle c.read_vector.new.stripe) c.args.writer.now.key c.in_ok-found.found c.in_ok-found.ensures.adds)
     (owns_fit (kept_in g.C.Chronicle c.read_vector.new.stripe) (kept_in g.C.Chronicle c.fit.new.stripe) c.args.writer.now c.fit.result c.fit.ensures.adds)
+
+pub returns-in-Some-clause-counts : goal.returns-in-Some-clause-counts
+returns-in-Some-clause-counts g c =
+    read_counted (state_in g.C.Chronicle c.args.stripe.now) (seen_in g.D.Disk g.R.Directory c.args.stripe.now).device (seen_in g.D.Disk g.R.Directory c.read_vector.new.stripe).device c.args.writer.now.key
+    c.in_ok-found.found c.in-Some.count (sym c.fault_in.ensures ∙ c.in-Some.is) c.in_ok-found.ensures.finds

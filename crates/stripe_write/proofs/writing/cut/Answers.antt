@@ -1,6 +1,7 @@
-use Rattle.std.proofs.Common.{sym, ◌∙◌, ap, subst, length, refl, Ok, Err}
+use Rattle.std.proofs.Common.{sym, ◌∙◌, ap, subst, length, refl, Ok, Err, arith}
 use Rattle.std.specs.Prelude.{MatchBool}
 use Rattle.std.proofs.lemmas.Result.{err_from_is_err_and}
+use Rattle.hex.specs.Hex.{IsBytes}
 use Rattle.cache_model.specs.Legal.{IsQuiet}
 use Rattle.stripe_core.specs.Place.{CutsAsAsked, IsFragmentOf, IsPlacing, IsVectorFor}
 use Rattle.stripe_core.specs.Stripe.{kept_in, seen_in, state_in}
@@ -15,12 +16,12 @@ place_piece-requires-clause-placing g c =
     let s = state_in g.C.Chronicle c.args.stripe.now in
     let w = c.args.writer.now in
     let here : IsPlacing s (next_id w) w.pin (next_start w) w.gathered.items =
-    subst (λ b. MatchBool b (IsVectorFor s (next_id w) (next_start w) w.gathered.items) (IsFragmentOf s (next_id w) w.pin (next_start w) w.gathered.items)) (sym (next_no_vector w)) (ready_fragment s w c.requires.quiet c.requires.ready) in
-    rw (c.len.ensures.len, c.total.ensures, c.deref.ensures.value) here
+    subst (λ b. MatchBool b (IsVectorFor s (next_id w) (next_start w) w.gathered.items) (IsFragmentOf s (next_id w) w.pin (next_start w) w.gathered.items)) (sym (next_no_vector w)) (ready_fragment s w c.requires.quiet c.requires.ready (subst IsBytes c.deref-payload.ensures.value (λ i. omega (arith, c.type_inv.payload i)))) in
+    rw (c.len.ensures.len, c.total.ensures, c.deref-payload.ensures.value) here
 
 pub returns-clause-does : goal.returns-clause-does
 returns-clause-does g c =
-    cuts_behind c.args.writer.now c.len.result c.total.result c.deref.result.now c.len.ensures.len c.total.ensures c.deref.ensures.value c.args.now
+    cuts_behind c.args.writer.now c.len.result c.total.result c.deref-payload.result.now c.len.ensures.len c.total.ensures c.deref-payload.ensures.value c.args.now
     (kept_in g.C.Chronicle c.args.stripe.now) (kept_in g.C.Chronicle c.place_piece.new.self) (seen_in g.D.Disk g.R.Directory c.args.stripe.now).device.faults (seen_in g.D.Disk g.R.Directory c.place_piece.new.self).device
     (Ok c.in_ok-placed.placed) c.in_ok-placed.ensures.does
 
@@ -42,13 +43,13 @@ returns-clause-writer g c =
     (Ok c.in_ok-placed.placed) = returns-clause-does g c in
     cut_writer (state_in g.C.Chronicle c.args.stripe.now) (state_in g.C.Chronicle c.place_piece.new.self) w _ cuts.added c.in_ok-placed.placed c.requires.ready cuts.shape (state_behind old new cuts.added cuts.adds)
     refl refl refl refl refl refl c.clear.ensures.items
-    (rows_behind c.push-pushed.result c.unwrap.result w.table.rows c.push-pushed.new.self.rows c.len-size.result c.in_ok-placed.placed.payload w.gathered.items c.unwrap.ensures c.push-pushed.ensures.ok (c.len-size.ensures ∙ (sym c.deref.ensures.len ∙ ap length c.deref.ensures.value))
+    (rows_behind c.push-pushed.result c.unwrap.result w.table.rows c.push-pushed.new.self.rows c.len-size.result c.in_ok-placed.placed.payload w.gathered.items c.unwrap.ensures c.push-pushed.ensures.ok (c.len-size.ensures ∙ (sym c.deref-payload.ensures.len ∙ ap length c.deref-payload.ensures.value))
     cuts.shape.payload_is)
 
 pub returns-in_err-placed-clause-does : goal.returns-in_err-placed-clause-does
 returns-in_err-placed-clause-does g c =
     let refused = err_from_is_err_and c.from_residual.result c.from_residual.ensures.1 in
-    rw (refused.1, refused.2) (cuts_behind c.args.writer.now c.len.result c.total.result c.deref.result.now c.len.ensures.len c.total.ensures c.deref.ensures.value c.args.now
+    rw (refused.1, refused.2) (cuts_behind c.args.writer.now c.len.result c.total.result c.deref-payload.result.now c.len.ensures.len c.total.ensures c.deref-payload.ensures.value c.args.now
     (kept_in g.C.Chronicle c.args.stripe.now) (kept_in g.C.Chronicle c.place_piece.new.self) (seen_in g.D.Disk g.R.Directory c.args.stripe.now).device.faults (seen_in g.D.Disk g.R.Directory c.place_piece.new.self).device
     (Err c.in_err-placed.field-0.0) c.in_err-placed.ensures.does)
 
@@ -58,7 +59,7 @@ returns-in_err-placed-clause-number g c =
     let refused = err_from_is_err_and c.from_residual.result c.from_residual.ensures.1 in
     rw (refused.1, refused.2) (cut_stops c.args.now (kept_in g.C.Chronicle c.args.stripe.now) (kept_in g.C.Chronicle c.place_piece.new.self) (seen_in g.D.Disk g.R.Directory c.args.stripe.now).device.faults
     (seen_in g.D.Disk g.R.Directory c.place_piece.new.self).device (next_id w) w.pin (next_start w) w.gathered.items c.in_err-placed.field-0.0
-    (cuts_behind w c.len.result c.total.result c.deref.result.now c.len.ensures.len c.total.ensures c.deref.ensures.value c.args.now
+    (cuts_behind w c.len.result c.total.result c.deref-payload.result.now c.len.ensures.len c.total.ensures c.deref-payload.ensures.value c.args.now
     (kept_in g.C.Chronicle c.args.stripe.now) (kept_in g.C.Chronicle c.place_piece.new.self) (seen_in g.D.Disk g.R.Directory c.args.stripe.now).device.faults (seen_in g.D.Disk g.R.Directory c.place_piece.new.self).device
     (Err c.in_err-placed.field-0.0) c.in_err-placed.ensures.does))
 
@@ -67,6 +68,6 @@ returns-in_err-placed-clause-quiet g c =
     let w = c.args.writer.now in
     (failed_leaves c.args.now (kept_in g.C.Chronicle c.args.stripe.now) (kept_in g.C.Chronicle c.place_piece.new.self) (seen_in g.D.Disk g.R.Directory c.args.stripe.now).device.faults
     (seen_in g.D.Disk g.R.Directory c.place_piece.new.self).device (next_id w) w.pin (next_start w) w.gathered.items c.in_err-placed.field-0.0
-    (cuts_behind w c.len.result c.total.result c.deref.result.now c.len.ensures.len c.total.ensures c.deref.ensures.value c.args.now
+    (cuts_behind w c.len.result c.total.result c.deref-payload.result.now c.len.ensures.len c.total.ensures c.deref-payload.ensures.value c.args.now
     (kept_in g.C.Chronicle c.args.stripe.now) (kept_in g.C.Chronicle c.place_piece.new.self) (seen_in g.D.Disk g.R.Directory c.args.stripe.now).device.faults (seen_in g.D.Disk g.R.Directory c.place_piece.new.self).device
     (Err c.in_err-placed.field-0.0) c.in_err-placed.ensures.does)).pending ∙ c.requires.quiet
