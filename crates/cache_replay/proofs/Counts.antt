@@ -14,7 +14,7 @@ use Rattle.cache_model.specs.declared.cause.Cause.TheVariants as cause
 use Rattle.cache_model.specs.declared.record.Rec.{Rec}
 use Rattle.cache_model.specs.State.{Complete, LastVector, Row, State, TakenOut, last_abort, last_vector, live_row_of, row_of, vector_piece}
 use Rattle.cache_model.specs.Kept.{Kept, state_of}
-use Rattle.cache_model.specs.Verdict.{cause_of_last, cause_of_miss, cause_of_piece, cause_without_vector, no_match, no_record, passed}
+use Rattle.cache_model.specs.Verdict.{cause_of_last, cause_of_miss, cause_of_piece, cause_without_vector, next_piece, no_match, no_record, passed}
 use Rattle.cache_model.specs.Permit.{Commit, Done, End, Exhausted, Fails, Faulted, Finish, Flush, Fragment, GiveUp, Intent, Look, Lost, Overflow, Permit, ReadAll, ReadOn, Reason, Remove, Stays, StopReading, Weigh, Work, Write}
 use Rattle.cache_model.specs.Given.{MayCount}
 use Rattle.cache_model.specs.Legal
@@ -30,8 +30,10 @@ use Rattle.stripe_read.specs.declared.opening.Opened.{Opened}
 use Rattle.stripe_read.specs.declared.opening.Opened.TheVariants as opened
 use Rattle.stripe_read.specs.declared.reading.NextPiece.{NextPiece}
 use Rattle.stripe_read.specs.declared.reading.NextPiece.TheVariants as piece
-use Rattle.stripe_read.specs.Lookups.{IfMissed}
-use Rattle.stripe_read.specs.Nexts.{IfBroken}
+use Rattle.stripe_read.specs.declared.reader.Reader.{Reader}
+use Rattle.stripe_read.specs.Lookups.{IsCountedMiss, answer_in}
+use Rattle.stripe_read.specs.Nexts.{IsCountedBreak}
+use Rattle.stripe_read.specs.Readers.{as_row}
 use Rattle.stripe_write.specs.declared.finishing.Receipt.{Receipt}
 use Rattle.stripe_write.specs.declared.removal.Removal.{Removal}
 use Rattle.stripe_write.specs.declared.removal.Removal.TheVariants as removal
@@ -39,7 +41,6 @@ use Rattle.stripe_write.specs.declared.writer.Writer.{Writer}
 use Rattle.stripe_write.specs.Closes.{ClosesWhere}
 use Rattle.stripe_write.specs.Others.{AddsOfPut}
 use Rattle.stripe_write.specs.Removals.{RemovesWhere}
-use Rattle.stripe_write.specs.Writes.{AbortsWhere}
 use Rattle.script_lang.specs.declared.answer.StepAnswer.{StepAnswer}
 use Rattle.script_run.specs.Answers.{broken_said, miss_said}
 use Rattle.script_run.specs.Losses.{NoLossIsAFault, is_fault}
@@ -211,9 +212,9 @@ cause_counts faults (cause.DeviceFault count) h = h
 cause_counts faults _ h = omega arith
 
 -- a cause that stands, or that is counted
-either_counts : (s : State) (faults : ℕ) (why other : Cause) → count_of other ≡ 0 → (why ≡ other) ⊎ IsCountedCause faults why → count_of why ≤ faults
-either_counts s faults why other none (inl is) = at_most (count_of why) faults (ap count_of is ∙ none)
-either_counts s faults why other none (inr counted) = cause_counts faults why counted
+either_counts : (faults : ℕ) (why other : Cause) → count_of other ≡ 0 → (why ≡ other) ⊎ IsCountedCause faults why → count_of why ≤ faults
+either_counts faults why other none (inl is) = at_most (count_of why) faults (ap count_of is ∙ none)
+either_counts faults why other none (inr counted) = cause_counts faults why counted
 
 pub close_counts : (s t : State) (w : Writer) (faults : ℕ) (result : Result Receipt Refusal) → NoLossIsAFault t → ClosesWhere s t w result → IfErr result (IsCounted faults) → IfErr result (λ why. count_of_refusal why ≤ faults)
 close_counts s t w faults (Ok receipt) none where_ counted = tt
@@ -226,11 +227,6 @@ close_counts s t w faults (Err refusal.Sealed) none where_ counted = omega arith
 close_counts s t w faults (Err (refusal.Exhausted number)) none where_ counted = omega arith
 close_counts s t w faults (Err refusal.NoSuchWriter) none where_ counted = omega arith
 close_counts s t w faults (Err (refusal.Memory e)) none where_ counted = omega arith
-
-pub abort_counts : (s : State) (put n : ℕ) (why : Refusal) → AbortsWhere s put (Err why) → count_of_refusal why ≤ n
-abort_counts s put n (refusal.DeviceFault count) h = absurd h
-abort_counts s put n (refusal.Lost index why) h = absurd h
-abort_counts s put n _ h = omega arith
 
 pub open_counts : (s : State) (who : Actor) (key : Key) (request response : List Field) (pin n : ℕ) (why : Refusal) → OpensAsAsked s who key request response pin (Err why) → count_of_refusal why ≤ n
 open_counts s who key request response pin n (refusal.DeviceFault count) h = absurd h
@@ -307,16 +303,16 @@ miss_tells why n h = subst (λ k. k ≤ n) (sym (miss_said_counts why)) h
 pub broken_tells : (why : Cause) (n : ℕ) → count_of why ≤ n → count_in (broken_said why) ≤ n
 broken_tells why n h = subst (λ k. k ≤ n) (sym (broken_said_counts why)) h
 
-pub missed_tells : (t : State) (key : Key) (faults : ℕ) (given : Opened) → NoLossIsAFault t → IfMissed (λ why. (why ≡ cause_of_miss t key) ⊎ IsCountedCause faults why) given → count_in (opened_answer given) ≤ faults
-missed_tells t key faults (opened.Hit reader put length) none h = omega arith
-missed_tells t key faults (opened.Follow reader put) none h = omega arith
-missed_tells t key faults (opened.Miss why) none h = miss_tells why faults (either_counts t faults why (cause_of_miss t key) (miss_counts t key none) h)
+pub missed_tells : (s : State) (key : Key) (faults : ℕ) (given : Opened) → NoLossIsAFault s → IsCountedMiss faults s key (answer_in given) → count_in (opened_answer given) ≤ faults
+missed_tells s key faults (opened.Hit reader put length) none h = omega arith
+missed_tells s key faults (opened.Follow reader put) none h = omega arith
+missed_tells s key faults (opened.Miss why) none h = miss_tells why faults (either_counts faults why (cause_of_miss s key) (miss_counts s key none) h)
 
-pub piece_counts : (s : State) (id : PieceId) (faults : ℕ) (given : NextPiece) → NoLossIsAFault s → IfBroken (λ why. (why ≡ cause_of_piece s id) ⊎ IsCountedCause faults why) given → count_in_piece given ≤ faults
-piece_counts s id faults (piece.Piece index size) none h = omega arith
-piece_counts s id faults (piece.End size) none h = omega arith
-piece_counts s id faults (piece.NotYet cut) none h = omega arith
-piece_counts s id faults (piece.Broken why) none h = either_counts s faults why (cause_of_piece s id) (loss_counts s id none) h
+pub piece_counts : (s : State) (r : Reader) (faults : ℕ) (given : NextPiece) → NoLossIsAFault s → IsCountedBreak faults s r given → count_in_piece given ≤ faults
+piece_counts s r faults (piece.Piece index size) none h = omega arith
+piece_counts s r faults (piece.End size) none h = omega arith
+piece_counts s r faults (piece.NotYet cut) none h = omega arith
+piece_counts s r faults (piece.Broken why) none h = either_counts faults why (cause_of_piece s (next_piece (as_row r))) (loss_counts s (next_piece (as_row r)) none) h
 
 pub piece_tells : (given : NextPiece) (into : List ℕ) (n : ℕ) → count_in_piece given ≤ n → count_in (next_answer given into) ≤ n
 piece_tells (piece.Piece index size) into n h = h

@@ -1,6 +1,7 @@
 // Sessions begin, formats give them devices, and the devices come back.
 ghost use Rattle.std.specs.Prelude.{◌≡◌, ◌+◌, ◌-◌, ◌*◌, ◌<◌, ◌≤◌, ◌++◌, ◌∷◌, [], ℕ, List, None, Some, length, IfOk, IfErr, OnOk, OnErr};
-ghost use Rattle.tape_base.specs.Geometry.{budget_of};
+ghost use Rattle.std.specs.Result.{result_err};
+ghost use Rattle.tape_base.specs.Geometry.{HasNumbers, budget_of};
 ghost use Rattle.tape_base.specs.Limits.{first_refusal};
 ghost use Rattle.ats_disk.specs.Bay.{IsAttached};
 ghost use Rattle.script_lang.specs.declared.step.Step.TheVariants as step;

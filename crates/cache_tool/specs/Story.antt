@@ -69,7 +69,8 @@ pub record Recorded (lines : List (List ℕ)) (answers : List (Option StepAnswer
   pub known : Known (run_after fresh lines turns)
 
 -- Or so it was up to some line, which shows two documents of one SHA-256: that as which a piece was placed that the
--- line reads, and other bytes, which the device gave in the line's turn.
+-- line reads, and other bytes, which the device gave in the line's turn. Both are bytes, and the piece is live, so that
+-- numbers above 255, a line without a session, and equal strings show nothing.
 pub record ShownAlong (lines : List (List ℕ)) (answers : List (Option StepAnswer)) : Type 0 where
   pub before : List (List ℕ)
   pub bytes : List ℕ

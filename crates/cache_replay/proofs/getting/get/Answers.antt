@@ -71,5 +71,5 @@ returns-in-Hit-clause-counts g c = ok_after _ c.read_whole.result (losses_then _
 
 pub returns-in-Miss-clause-counts : goal.returns-in-Miss-clause-counts
 returns-in-Miss-clause-counts g c = λ none.
-    missed_tells (state_in g.C.Chronicle c.open_read.new.stripe) c.args.key (seen_in g.D.Disk g.R.Directory c.open_read.new.stripe).device.faults (opened.Miss c.in-Miss.why)
-    (losses_then _ _ _ c.in_ok-reader.ensures.adds none) (rw c.in-Miss.is at c.in_ok-reader.ensures.counts)
+    missed_tells (state_in g.C.Chronicle c.args.stripe.now) c.args.key (seen_in g.D.Disk g.R.Directory c.open_read.new.stripe).device.faults (opened.Miss c.in-Miss.why)
+    none (rw c.in-Miss.is at c.in_ok-reader.ensures.opens).counted

@@ -8,8 +8,6 @@ use Rattle.cache_replay.proofs.OtherNext.{more_harms}
 use Rattle.cache_replay.proofs.ReaderFrames.{kept_leaves, read_leaves}
 use Rattle.cache_replay.proofs.WholeReads.{broken_comes, end_comes, nearer, piece_comes, size_within, taken_size, waits_comes}
 use Rattle.cache_replay.proofs.Counts.{piece_counts}
-use Rattle.stripe_read.specs.Readers.{as_row}
-use Rattle.cache_model.specs.Verdict.{next_piece}
 use Rattle.stripe_read.specs.declared.reading.NextPiece.TheVariants as piece
 use Rattle.cache_replay.proofs.getting.read_more.Goals as goal
 
@@ -104,4 +102,4 @@ returns-in-Broken-clause-unharmed g c = λ b.
 
 pub returns-in-Broken-clause-counts : goal.returns-in-Broken-clause-counts
 returns-in-Broken-clause-counts g c = λ none.
-    piece_counts (state_in g.C.Chronicle c.args.stripe.now) (next_piece (as_row c.args.reader.now)) (seen_in g.D.Disk g.R.Directory c.read_next.new.stripe).device.faults (piece.Broken c.in-Broken.why) none (rw c.in-Broken.is at c.in_ok-index.ensures.counts)
+    piece_counts (state_in g.C.Chronicle c.args.stripe.now) c.args.reader.now (seen_in g.D.Disk g.R.Directory c.read_next.new.stripe).device.faults (piece.Broken c.in-Broken.why) none (rw c.in-Broken.is at c.in_ok-index.ensures.reads).counted

@@ -8,7 +8,6 @@ use Rattle.cache_replay.proofs.OpenLine.{changed_from, none_there, open_active, 
 use Rattle.stripe_core.specs.Stripe.{seen_in, state_in}
 use Rattle.cache_replay.specs.Outline.{count_in}
 use Rattle.cache_replay.proofs.Counts.{missed_tells}
-use Rattle.cache_replay.proofs.ReaderFrames.{losses_then}
 use Rattle.cache_replay.proofs.reader_lines.open_reader.Goals as goal
 
 pub returns-then-has_something-clause-ends : goal.returns-then-has_something-clause-ends
@@ -51,4 +50,4 @@ returns-clause-ends g c =
 pub returns-clause-counts : goal.returns-clause-counts
 returns-clause-counts g c =
     subst (λ said. count_in said ≤ (seen_in g.D.Disk g.R.Directory c.open_read-opened.new.stripe).device.faults) (sym c.give_reader.ensures.answer)
-    (missed_tells _ c.args.key _ c.in_ok-opened.opened (losses_then _ _ _ c.in_ok-opened.ensures.adds c.requires.active.part.losses) c.in_ok-opened.ensures.counts)
+    (missed_tells (state_in g.C.Chronicle c.args.part.now.stripe) c.args.key _ c.in_ok-opened.opened c.requires.active.part.losses c.in_ok-opened.ensures.opens.counted)

@@ -7,8 +7,6 @@ use Rattle.cache_replay.proofs.OtherNext.{next_harms}
 use Rattle.cache_replay.proofs.ReaderFrames.{kept_leaves, read_leaves}
 use Rattle.cache_replay.specs.Outline.{count_in}
 use Rattle.cache_replay.proofs.Counts.{piece_counts, piece_tells}
-use Rattle.stripe_read.specs.Readers.{as_row}
-use Rattle.cache_model.specs.Verdict.{next_piece}
 use Rattle.cache_replay.proofs.reader_lines.read_to.Goals as goal
 
 pub piece_said-requires : goal.piece_said-requires
@@ -52,4 +50,4 @@ pub returns-clause-counts : goal.returns-clause-counts
 returns-clause-counts g c = λ none.
     subst (λ said. count_in said ≤ (seen_in g.D.Disk g.R.Directory c.read_next.new.stripe).device.faults) (sym c.in_ok-piece_said.ensures)
     (piece_tells c.in_ok-piece.piece c.read_next.new.into _
-    (piece_counts (state_in g.C.Chronicle c.args.stripe.now) (next_piece (as_row c.args.reader.now)) (seen_in g.D.Disk g.R.Directory c.read_next.new.stripe).device.faults c.in_ok-piece.piece none c.in_ok-piece.ensures.counts))
+    (piece_counts (state_in g.C.Chronicle c.args.stripe.now) c.args.reader.now (seen_in g.D.Disk g.R.Directory c.read_next.new.stripe).device.faults c.in_ok-piece.piece none c.in_ok-piece.ensures.reads.counted))
