@@ -13,6 +13,8 @@ use Rattle.cache_model.specs.Kept.{Kept, state_of, with_records}
 use Rattle.cache_model.specs.Verdict.{cause_of_piece, cuts_of}
 use Rattle.cache_model.specs.Permit.{Commit, Done, End, Exhausted, Fails, Faulted, Finish, Intent, Lost, Permit, Reason, TooLarge, Weigh, to_do}
 use Rattle.cache_model.specs.Legal.{IsQuiet, IsStep, MayGrow, is_writing, nothing}
+use Rattle.cache_model.specs.Pair.{IsKeyPair, IsPair}
+use Rattle.cache_model.specs.Vectors.{IsVectorAs}
 use Rattle.stripe_core.specs.declared.refusal.Refusal.{Refusal}
 use Rattle.stripe_core.specs.declared.refusal.Refusal.TheVariants as refusal
 use Rattle.stripe_write.specs.declared.finishing.Receipt.{Receipt}
@@ -30,11 +32,13 @@ use Rattle.script_run.specs.Asked.{asked}
 use Rattle.script_run.specs.Asked.{close_intents as run_close_intents, rest_intents as run_rest_intents, count_with}
 use Rattle.script_run.specs.Turn.{Turn}
 use Rattle.script_run.specs.Answers.{put_said, said}
-use Rattle.script_run.specs.Takes.{IsOther}
+use Rattle.script_run.specs.Own.{IsPlacedAs}
 use Rattle.script_run.specs.Behind.{of_put, sealed_by, still_open, streams_behind, streams_closed}
 use Rattle.cache_replay.specs.Plays.{IsStreamOf}
 use Rattle.cache_replay.specs.Putting.{receipt_answer, refusal_answer}
 use Rattle.cache_replay.specs.WriterLines.{Closes, IsPlayed, WriterDoes, WriterEnds, closed_answer}
+use Rattle.cache_replay.specs.Shown.{Shows}
+use Rattle.cache_replay.proofs.Shown.{as_placed, key_pair, shows_behind, shows_in, weigh_reads}
 use Rattle.cache_replay.proofs.Calls.{call_covered, call_permit}
 use Rattle.cache_replay.proofs.WriterSteps.{LeftOpen, cuts_at, gathered_at, has_put, held_open, key_at, of_left, reason_of, whole_step}
 use Rattle.cache_replay.proofs.Endings.{AreClosing, EndsInCommit, IsEnded, ended_along, key_of, rows_then}
@@ -170,15 +174,24 @@ module _ (now : ℕ) (old new : Kept) (before after : ℕ) (w last : Writer) (le
         says = ap (λ o. Rattle.script_run.specs.Answers.if_has o (λ put. said t None (reason_of e) (put_said t put))) has ∙ says end_;
       })
 
-  shows : (p : Permit) → Rattle.stripe_vectors.specs.Reading.IsCollision p s w.key → (run : Run) (name : List ℕ) (said_ : StepAnswer) → WriterEnds run name s t Closes left said_
-  shows p collision run name said_ = inr (record { device = p; added = []; left = to_do (asked run s (step.Close name)); grows = nothing; other = IsOther.vector_read w.key collision })
+  shows : (p : Permit) → p.packed ≡ false → p.now ≡ now → IsKeyPair IsVectorAs p s w.key → (run : Run) (name : List ℕ) (said_ : StepAnswer) → run.now ≡ now → IsPlayed run name s w → WriterEnds run name s t Closes left said_
+  shows p plain at pair run name said_ moment played =
+      let weighs : Intent = Weigh w.put (length w.gathered.items) in
+      let first : IsPair (IsPlacedAs run.streams) p s weighs =
+      as_placed run.streams p s weighs (key_pair p s weighs w.key (weigh_reads s w.put (length w.gathered.items) w.key (key_at s w writing own)) pair) in
+      inr (shows_in run s (step.Close name) (record {
+        device = p;
+        plain = plain;
+        moment = at ∙ sym moment;
+        shows = subst (λ is. Shows (IsPlacedAs run.streams) p s is) (sym (asks run name played)) (shows_behind (IsPlacedAs run.streams) p s (close_intents w) [] (to_do (close_intents w)) nothing first);
+      }))
 
   either : (result : Result Receipt Refusal) (said_ : StepAnswer) → ClosesAsAsked now before after old new w result
       → ((reads : List Rattle.cache_model.specs.Permit.DeviceRead) (run : Run) (name : List ℕ) → run.now ≡ now → IsPlayed run name s w → ClosesAs (call_permit now before after reads) old new w result → WriterEnds run name s t Closes left said_)
       → (run : Run) (name : List ℕ) → run.now ≡ now → IsPlayed run name s w → WriterEnds run name s t Closes left said_
   either result said_ asked_ then_ run name moment played = elim (asked_.does (call_permit now before after asked_.reads) refl (call_covered now before after asked_.reads) played.told) [
     | inl closes ↦ then_ asked_.reads run name moment played closes
-    | inr collision ↦ shows (call_permit now before after asked_.reads) collision run name said_
+    | inr pair ↦ shows (call_permit now before after asked_.reads) refl refl pair run name said_ moment played
   ]
 
   -- each answer

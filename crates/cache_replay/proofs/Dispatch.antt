@@ -1,6 +1,6 @@
 -- Lines on a session leave the bay as it is.
 use Rattle.std.proofs.Common.{◌≡◌, ℕ, List, [], refl, sym, ◌∙◌, subst, inl, inr}
-use Rattle.std.specs.Prelude.{IfErr, IfOk, OnErr, Option, Some, None, Result, Ok, Err}
+use Rattle.std.specs.Prelude.{IfErr, IfOk, Option, Some, None, Result, Ok, Err}
 use Rattle.std.proofs.lemmas.List.{append-nil}
 use Rattle.ats_disk.specs.declared.device.Disk.{Ghosts as DiskGhosts}
 use Rattle.dir_table.specs.declared.directory.Directory.{Ghosts as DirectoryGhosts}
@@ -15,7 +15,7 @@ use Rattle.script_run.specs.Behind.{behind}
 use Rattle.cache_replay.specs.declared.session.Session.{Session}
 use Rattle.cache_replay.specs.declared.stop.Stop.{Stop}
 use Rattle.cache_replay.specs.declared.stop.Stop.TheVariants.{NoCache, BayFault, Memory}
-use Rattle.cache_replay.specs.Plays.{Deals, DeviceEnds, DeviceMoves, HasReached, IsLeft, Ledger, Plays, StepEnds, StepMoves, stays}
+use Rattle.cache_replay.specs.Plays.{Deals, DeviceEnds, DeviceMoves, Ledger, Plays, StepEnds, StepMoves}
 use Rattle.cache_replay.specs.Stop.{IsSessionStop, NeedsSession, StopsStep}
 
 -- what a run says of devices and of the moment
@@ -72,12 +72,6 @@ module _ {D R C : Type 0} (disk : DiskGhosts D) (directory : DirectoryGhosts R) 
   ends run step new said before now is needs (inl m) = inl (subst (λ n. DeviceMoves disk directory chronicle run step new said before n) (sym is) (moves run step new said before needs m))
   ends run step new said before now is needs (inr shows) = inr shows
 
--- why a line on a session ends the run
-pub stops : (run : Run) (step : Step) (before now : ℕ) (why : Stop) → NeedsSession step → IsSessionStop run why → StopsStep run step before now why
-stops run step before now NoCache needs is = (needs, is)
-stops run step before now BayFault needs is = absurd is
-stops run step before now Memory needs is = tt
-
 -- what is no format and sets no moment works on a session
 pub needs_session : (s : Step) → ((name : List ℕ) (segments buckets content agg reach fragment generation alternates : ℕ) → s ≡ step.Format name segments buckets content agg reach fragment generation alternates → ⊥) → ((at : ℕ) → s ≡ step.Now at → ⊥) → NeedsSession s
 needs_session (step.Format name segments buckets content agg reach fragment generation alternates) h k = absurd (h name segments buckets content agg reach fragment generation alternates refl)
@@ -93,14 +87,9 @@ module _ {D R C : Type 0} (disk : DiskGhosts D) (directory : DirectoryGhosts R) 
   all_ends (Ok said) s old new ledger needs h = λ run plays. ends disk directory chronicle run s new said ledger ledger refl needs (h run plays)
   all_ends (Err why) s old new ledger needs h = tt
 
-  pub all_left : (result : Result StepAnswer Stop) (old new : Session D R C) (ledger : Ledger)
-      → OnErr result ((run : Run) → Plays disk directory chronicle run old → HasReached disk directory chronicle run new)
-      → IfErr result (λ why. (run : Run) → Plays disk directory chronicle run old → IsLeft disk directory chronicle run new ledger ledger why)
-  all_left (Ok said) old new ledger h = tt
-  all_left (Err why) old new ledger h = λ run plays. stays (h run plays) refl
-
-  pub all_stops : (result : Result StepAnswer Stop) (s : Step) (old : Session D R C) (before now : ℕ) → NeedsSession s
-      → IfErr result (λ why. (run : Run) → Plays disk directory chronicle run old → IsSessionStop run why)
-      → IfErr result (λ why. (run : Run) → Plays disk directory chronicle run old → StopsStep run s before now why)
-  all_stops (Ok said) s old before now needs h = tt
-  all_stops (Err why) s old before now needs h = λ run plays. stops run s before now why needs (h run plays)
+-- why a line on a session ends the run
+pub all_stops : {D R C : Type 0} (result : Result StepAnswer Stop) (s : Step) (old : Session D R C) (before now : ℕ) → NeedsSession s → IfErr result (IsSessionStop old) → IfErr result (StopsStep old s before now)
+all_stops (Ok said) s old before now needs h = tt
+all_stops (Err NoCache) s old before now needs h = (needs, h)
+all_stops (Err BayFault) s old before now needs h = absurd h
+all_stops (Err Memory) s old before now needs h = tt

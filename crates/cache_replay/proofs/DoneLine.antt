@@ -59,7 +59,7 @@ module _ {D R C : Type 0} (disk : DiskGhosts D) (directory : DirectoryGhosts R) 
   done_active old new slots later n r taken page stripe quiet adds active =
       let goes = done_goes old new slots later n r taken adds active.apart in
       goes_active disk directory chronicle old new slots later n r.reader None active
-      (part_behind disk directory chronicle old new active.part stripe quiet (ap (λ p. length p.items) page) goes.leaves.geometry) goes tt
+      (part_behind disk directory chronicle old new active.part stripe quiet (ap (λ p. length p.items) page) None (Some r.reader) goes.leaves) goes tt
 
   pub done_ends : (tell : GroupsTell) (own : StepsOwn) (old new : Part D R C) (before after : Seen Rattle.cache_replay.specs.declared.session.Holding.Holding) (name : List ℕ) (n : ℕ) (r : Reader)
       → n ≡ number_of before.names name → after.names ≡ with_actor before.names name → Took (slots_of before) (slots_of after) n r

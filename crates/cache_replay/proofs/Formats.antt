@@ -21,10 +21,9 @@ use Rattle.script_run.specs.Answers.{format_said, number_of_bad}
 use Rattle.script_run.specs.Behind.{after_format, harm_of, formatted}
 use Rattle.script_run.specs.Takes.{FormatTakes}
 use Rattle.cache_replay.specs.declared.session.Session.{Session}
-use Rattle.cache_replay.specs.Session.{IsSession, return_of}
+use Rattle.cache_replay.specs.Session.{return_of}
 use Rattle.cache_replay.specs.Plays.{AreReached, Deals, DeviceMoves, Ledger, Plays}
 use Rattle.cache_replay.proofs.Dispatch.{no_deals}
-use Rattle.cache_replay.proofs.Unharming.{plays_reached}
 
 -- ---- what was told of devices
 
@@ -79,14 +78,14 @@ module _ {D R C : Type 0} (disk : DiskGhosts D) (directory : DirectoryGhosts R) 
   }
 
   -- a device that was attached in vain came back behind that of the session
-  pub format_left : (run : Run) (session : Session D R C) (name : List ℕ) (r0 r1 r2 r3 : List Return) (n0 n1 n2 n3 : List (List ℕ)) (d : Return)
-      → IsSession disk directory chronicle session → Plays disk directory chronicle run session → r1 ≡ r0 → r2 ≡ r1 ++ return_of disk directory chronicle session.part → r3 ≡ r2 ++ d ∷ []
-      → n1 ≡ n0 ++ name ∷ [] → n2 ≡ n1 → n3 ≡ n2 → Deals (record { names = n0; returned = r0 }) (record { names = n3; returned = r3 }) (harm_of run.state ++ no_harm ∷ []) (name ∷ [])
-  format_left run session name r0 r1 r2 r3 n0 n1 n2 n3 d h plays one two three four five six = record {
+  pub format_left : (harms : List Harm) (session : Session D R C) (name : List ℕ) (r0 r1 r2 r3 : List Return) (n0 n1 n2 n3 : List (List ℕ)) (d : Return)
+      → AreReached harms (return_of disk directory chronicle session.part) → r1 ≡ r0 → r2 ≡ r1 ++ return_of disk directory chronicle session.part → r3 ≡ r2 ++ d ∷ []
+      → n1 ≡ n0 ++ name ∷ [] → n2 ≡ n1 → n3 ≡ n2 → Deals (record { names = n0; returned = r0 }) (record { names = n3; returned = r3 }) (harms ++ no_harm ∷ []) (name ∷ [])
+  format_left harms session name r0 r1 r2 r3 n0 n1 n2 n3 d reached one two three four five six = record {
     back = record {
       devices = return_of disk directory chronicle session.part ++ d ∷ [];
       returned = three ∙ (ap (λ r. r ++ d ∷ []) (two ∙ ap (λ r. r ++ return_of disk directory chronicle session.part) one) ∙ append_assoc r0 (return_of disk directory chronicle session.part) (d ∷ []));
-      reached = reach_more (harm_of run.state) (return_of disk directory chronicle session.part) d (plays_reached disk directory chronicle run session h plays);
+      reached = reach_more harms (return_of disk directory chronicle session.part) d reached;
     };
     attached = six ∙ (five ∙ four);
   }

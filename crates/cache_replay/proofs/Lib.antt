@@ -1,3 +1,7 @@
+mod Shown
+mod Counts
+mod Outlines
+pub mod Saying
 pub mod Unharming
 mod Calls
 mod Frames

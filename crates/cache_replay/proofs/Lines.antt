@@ -3,6 +3,7 @@ use Rattle.std.proofs.Common.{◌≡◌, ℕ, ◌+◌, ◌<◌, ◌≤◌, List,
 use Rattle.std.specs.Prelude.{Option, Some, None, IfSome, ◌==◌, find, if◌then◌else◌, option_and_then, option_map, unwrap_or, is_some, Result, Ok, Err, IfOk}
 use Rattle.std.proofs.lemmas.Bool.{eqb-true, eq-eqb}
 use Rattle.cache_model.specs.State.{PutRow, State, after_all}
+use Rattle.cache_model.specs.Kept.{Kept, state_of}
 use Rattle.cache_model.specs.Verdict.{is_open}
 use Rattle.stripe_actors.specs.Actors.{FallBelow, put_numbers}
 use Rattle.cache_model.specs.Tape.{IsSound}
@@ -32,7 +33,7 @@ use Rattle.script_run.specs.Turn.{Turn}
 use Rattle.script_run.specs.Answers.{busy, idle, session_said}
 use Rattle.script_run.specs.Behind.{behind, holds_behind, in_session, of_put, or_else, still_open, streams_behind, streams_closed, streams_fed, streams_opened, writer_at}
 use Rattle.script_run.specs.Own.{AreOwn}
-use Rattle.script_run.specs.Takes.{StepShows}
+use Rattle.cache_replay.specs.Shown.{ShowsIn}
 use Rattle.script_run.specs.Laws.{StepsOwn}
 use Rattle.cache_replay.specs.declared.session.Holding.{Holding}
 use Rattle.cache_replay.specs.declared.session.Holding.TheVariants as holding
@@ -41,6 +42,7 @@ use Rattle.cache_replay.specs.Plays.{IsHeldAs, IsStreamOf, PartEnds, PlaysIn, Pl
 use Rattle.cache_replay.specs.WriterLines.{Closes, Feeds, GivesUp, Opens, HasNoWriter, IsLeft, IsPlayed, OpenDoes, TakesWriter, WriterDoes, WriterEnds, WriterLine, WriterMoves, held_in, step_of, writes_in}
 use Rattle.cache_replay.proofs.Frames.{Changed, IsElse, IsMine, OthersElse, SameStreams, all_apart, all_held, all_held_as}
 use Rattle.cache_replay.proofs.OnSession.{StandsBehind, stands_behind}
+use Rattle.cache_replay.proofs.ReaderFrames.{losses_then}
 use Rattle.cache_replay.proofs.ReaderLines.{held_is, names_are, part_behind, still_moves, still_turn}
 
 -- ---- what the actors have
@@ -56,12 +58,15 @@ not_same m n nope is = let yea : (m == n) ≡ true = eq-eqb m n (sym is) in cc
 pub others_else : (slots : ℕ → Option Holding) (n : ℕ) (w : Writer) → AreApart slots → slots n ≡ Some (holding.Writer w) → OthersElse slots n (Some w.put) None
 others_else slots n w apart mine = λ m h nope is. else_by w h (apart n m (holding.Writer w) h (not_same m n nope) mine is)
 
-pub leaves_but : (put : ℕ) (s t : State) → LeavesOthers put s t → LeavesBut (Some put) None s t
-leaves_but put s t leaves = record {
-  puts = λ q other. leaves.puts q (λ same. other (ap (λ (n : ℕ). Some n) (sym same)));
-  readers = λ n other. ap (Rattle.std.specs.Prelude.find (λ (r : Rattle.cache_model.specs.State.ReaderRow). r.reader == n)) leaves.readers;
-  geometry = leaves.geometry;
-}
+pub leaves_but : (put : ℕ) (old new : Kept) → OthersStay → AddsOfPut put old new → LeavesBut (Some put) None (state_of old) (state_of new)
+leaves_but put old new stay adds =
+    let leaves : LeavesOthers put (state_of old) (state_of new) = stay put old new adds in
+    record {
+      puts = λ q other. leaves.puts q (λ same. other (ap (λ (n : ℕ). Some n) (sym same)));
+      readers = λ n other. ap (Rattle.std.specs.Prelude.find (λ (r : Rattle.cache_model.specs.State.ReaderRow). r.reader == n)) leaves.readers;
+      geometry = leaves.geometry;
+      losses = λ none. losses_then old new adds.added adds.adds none;
+    }
 
 -- the writer that is left is open
 held_left : (t : State) (put : ℕ) (left : Option Writer) → IsLeft t put left → IfSome (held_in left) (IsHeld t)
@@ -79,10 +84,10 @@ pub record HeldBehind (t : State) (new : ℕ → Option Holding) : Type 0 where
   pub held : AreHeld t new
   pub apart : AreApart new
 
-pub held_behind : (s t : State) (slots new : ℕ → Option Holding) (n put : ℕ) (left : Option Writer) → LeavesOthers put s t → Changed slots new n (held_in left)
+pub held_behind : (s t : State) (slots new : ℕ → Option Holding) (n put : ℕ) (left : Option Writer) → LeavesBut (Some put) None s t → Changed slots new n (held_in left)
     → OthersElse slots n (Some put) None → IsLeft t put left → AreHeld s slots → AreApart slots → HeldBehind t new
 held_behind s t slots new n put left leaves changed others is held apart = record {
-  held = all_held (Some put) None s t slots new n (held_in left) (leaves_but put s t leaves) changed others held (held_left t put left is);
+  held = all_held (Some put) None s t slots new n (held_in left) leaves changed others held (held_left t put left is);
   apart = all_apart (Some put) None slots new n (held_in left) changed others (mine_left t put left is) apart;
 }
 
@@ -191,9 +196,9 @@ is_played run name s slots n w is mine plays =
 
 -- it plays what is left, or two documents of one SHA-256 are shown
 pub plays_on : (own : StepsOwn) (tell : StepsTell) (line : WriterLine) (run : Run) (name : List ℕ) (s t : State) (slots new : ℕ → Option Holding) (n put : ℕ) (left : Option Writer) (said : StepAnswer)
-    → n ≡ number_of run.actors name → IsSound s → IsQuiet s → IsPutOf run s line name put → LeavesOthers put s t → Changed slots new n (held_in left) → OthersElse slots n (Some put) None → AreHeld s slots → PlaysIn run s slots
+    → n ≡ number_of run.actors name → IsSound s → IsQuiet s → IsPutOf run s line name put → LeavesBut (Some put) None s t → Changed slots new n (held_in left) → OthersElse slots n (Some put) None → AreHeld s slots → PlaysIn run s slots
     → (moves : WriterMoves run name s t line left said)
-    → PlaysIn (in_session run s (after_all s moves.turn.added) moves.turn (step_of line name)) t new ⊎ StepShows run (Some s) (step_of line name)
+    → PlaysIn (in_session run s (after_all s moves.turn.added) moves.turn (step_of line name)) t new ⊎ ShowsIn run (Some s) (step_of line name)
 plays_on own tell line run name s t slots new n put left said is sound quiet of leaves changed others held plays moves =
     elim (stands_behind tell own run s (after_all s moves.turn.added) moves.turn (step_of line name) slots moves.takes refl sound quiet held plays) [
       | inl there ↦ inl (plays_then there)
@@ -208,7 +213,7 @@ plays_on own tell line run name s t slots new n put left said is sound quiet of 
           state = refl;
           told = subst AreTold (sym moves.state) there.0;
           own = subst (λ x. AreOwn x (streams_behind run s x turn st)) (sym moves.state) there.1;
-          held = all_held_as (Some put) None run (in_session run s t turn st) s t slots new n (held_in left) (leaves_but put s t leaves) (same_streams line run s t turn name put of)
+          held = all_held_as (Some put) None run (in_session run s t turn st) s t slots new n (held_in left) leaves (same_streams line run s t turn name put of)
               (λ m nope. held_there line run s t turn name n m is nope) changed others plays.held
               (here_left (in_session run s t turn st) t n left (held_here line run s t turn name n is ∙ moves.held) moves.stream);
         })
@@ -278,10 +283,10 @@ module _ {D R C : Type 0} (disk : DiskGhosts D) (directory : DirectoryGhosts R) 
       → IsStripe disk directory chronicle new.stripe → IsQuiet t → new.page ≡ part.page → AddsOfPut put (kept_in chronicle part.stripe) (kept_in chronicle new.stripe) → IsLeft t put left
       → IsActive disk directory chronicle new (slots_of last)
   active_by put left old others changed stripe quiet page adds is =
-      let leaves : LeavesOthers put s t = stay put (kept_in chronicle part.stripe) (kept_in chronicle new.stripe) adds in
+      let leaves : LeavesBut (Some put) None s t = leaves_but put (kept_in chronicle part.stripe) (kept_in chronicle new.stripe) stay adds in
       let behind = held_behind s t (slots_of actors) (slots_of last) n put left leaves changed others is old.held old.apart in
       record {
-        part = part_behind disk directory chronicle part new old.part stripe quiet (ap (λ (p : Vec ℕ). length p.items) page) leaves.geometry;
+        part = part_behind disk directory chronicle part new old.part stripe quiet (ap (λ (p : Vec ℕ). length p.items) page) (Some put) None leaves;
         held = behind.held;
         apart = behind.apart;
       }
@@ -292,7 +297,7 @@ module _ {D R C : Type 0} (disk : DiskGhosts D) (directory : DirectoryGhosts R) 
       → WriterEnds run name s t line left said → PartEnds chronicle run s (step_of line name) new last said
   moves_by own tell line run name put left said is old of others changed adds names plays (inl moves) =
       let at : n ≡ number_of run.actors name = is ∙ ap (λ (all : List (List ℕ)). number_of all name) (sym plays.names) in
-      elim (plays_on own tell line run name s t (slots_of actors) (slots_of last) n put left said at old.part.stripe.pieces.sound old.part.quiet of (stay put (kept_in chronicle part.stripe) (kept_in chronicle new.stripe) adds) changed others
+      elim (plays_on own tell line run name s t (slots_of actors) (slots_of last) n put left said at old.part.stripe.pieces.sound old.part.quiet of (leaves_but put (kept_in chronicle part.stripe) (kept_in chronicle new.stripe) stay adds) changed others
       old.held plays.at moves) [
         | inl on ↦ inl (record {
           turn = moves.turn;

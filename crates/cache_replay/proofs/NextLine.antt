@@ -12,8 +12,10 @@ use Rattle.cache_model.specs.declared.cause.Cause.TheVariants as cause
 use Rattle.cache_model.specs.declared.record.Rec.{Rec}
 use Rattle.cache_model.specs.State.{ReaderRow, Row, State, after_all}
 use Rattle.cache_model.specs.Kept.{Kept, state_of, with_records}
-use Rattle.cache_model.specs.Permit.{Done, Permit, ReadOn, to_do}
-use Rattle.cache_model.specs.Legal.{Does, IsQuiet, answer_record, live_next, nothing}
+use Rattle.cache_model.specs.Permit.{Done, Permit, ReadOn}
+use Rattle.cache_model.specs.Choices.{to_read}
+use Rattle.cache_model.specs.Pair.{IsPairOf, IsToRead}
+use Rattle.cache_model.specs.Legal.{Does, IsQuiet, answer_record, live_next}
 use Rattle.cache_model.specs.Vectors.{GroupsTell}
 use Rattle.stripe_core.specs.Find.{IsDocumentOf, cause_records}
 use Rattle.stripe_core.specs.Stripe.{state_in}
@@ -32,8 +34,8 @@ use Rattle.script_run.specs.Asked as asks
 use Rattle.script_run.specs.Answers as says
 use Rattle.script_run.specs.Behind.{still_open}
 use Rattle.script_run.specs.Laws.{ReadIsOwn, StepsOwn}
-use Rattle.script_run.specs.Own.{AreOwn, IsOtherFragment, piece_of}
-use Rattle.script_run.specs.Takes.{IsNextPiece, IsOther, IsPiece, Shows}
+use Rattle.script_run.specs.Own.{AreOwn, IsPlacedAs, piece_of}
+use Rattle.script_run.specs.Takes.{IsNextPiece, IsPiece}
 use Rattle.cache_replay.specs.declared.session.Holding.{Holding}
 use Rattle.cache_replay.specs.declared.session.Holding.TheVariants as holding
 use Rattle.cache_replay.specs.declared.session.Part.{Part}
@@ -42,7 +44,9 @@ use Rattle.cache_replay.specs.Plays.{PartEnds, PartMoves, PlaysPart}
 use Rattle.cache_replay.specs.ReaderLines.{IsWithin, NextEnds, NextMoves, next_answer, reader_held}
 use Rattle.cache_replay.proofs.Calls.{call_covered, call_permit}
 use Rattle.cache_replay.proofs.ReaderLines.{Goes, Took, apart_else, given_back, held_reader, line_ends, line_turn, reads_none, still_held, still_moves, still_turn}
-use Rattle.cache_replay.proofs.WholeReads.{later_none}
+use Rattle.cache_replay.specs.Shown.{ShowsAt, ShowsIn}
+use Rattle.cache_replay.proofs.Shown.{shows_first, shows_in}
+use Rattle.cache_replay.proofs.WholeReads.{later_none, next_reads}
 
 -- ---- what the reader was told
 
@@ -100,8 +104,13 @@ module _ (own : ReadIsOwn) (run : Run) (k new : Kept) (p : Permit) (r later : Re
     keeps = keeps;
   }
 
-  shows_other : IsOtherFragment p (state_of k) run.streams → Shows run.streams (state_of k) (ReadOn r.reader ∷ [])
-  shows_other other = record { device = p; added = []; left = to_do (ReadOn r.reader ∷ []); grows = nothing; other = IsOther.fragment other }
+  shows_other : (row : Row) → to_read (state_of k) (ReadOn r.reader) ≡ Some row → IsPairOf (IsPlacedAs run.streams) p (state_of k) row → ShowsAt (IsPlacedAs run.streams) run.now (state_of k) (ReadOn r.reader ∷ [])
+  shows_other row reads pair = record {
+    device = p;
+    plain = plain;
+    moment = moment;
+    shows = shows_first (IsPlacedAs run.streams) p (state_of k) (ReadOn r.reader) [] (record { row = row; read = IsToRead.asked_for reads; pair = pair });
+  }
 
   ends_with : (given : NextPiece) (into : List ℕ) → new ≡ with_records k (read_adds (state_of k) r given)
       → Does p (state_of k) (ReadOn r.reader) (read_adds (state_of k) r given) Done
@@ -111,7 +120,7 @@ module _ (own : ReadIsOwn) (run : Run) (k new : Kept) (p : Permit) (r later : Re
         | inl is ↦ inl (moves_with (piece.Piece index size) (take size into) (answer.Piece index size (take size into)) adds does
             (row_by reader.actor r, reader.found, is ∙ ap (piece_of (state_of k).geometry.fragment (run.streams r.put).bytes) (sym h.index_is))
             (ap (λ n. answer.Piece index n (take size into)) (sym (whole_payload p (state_of k) h.row size into h.document))))
-        | inr other ↦ inr (shows_other other)
+        | inr other ↦ inr (shows_other h.row (next_reads (state_of k) r.reader (row_by reader.actor r) h.entry h.row reader.found h.cut h.live) other)
       ]
   ends_with (piece.End size) into adds does h = inl (moves_with (piece.End size) [] (answer.End size) adds does refl refl)
   ends_with (piece.NotYet cut) into adds does h = inl (moves_with (piece.NotYet cut) [] (answer.NotYet cut) adds does refl refl)
@@ -183,16 +192,20 @@ module _ {D R C : Type 0} (disk : DiskGhosts D) (directory : DirectoryGhosts R) 
             })
             (next_has run (after_all s m.added) name r later by.0 same (subst (λ t. IsReaderOf t later) m.behind m.keeps)) m.keeps active plays goes
             (ap (λ (o : Option ℕ). says.if_has o (λ reader. says.next_said m.given (told_in m.added))) reads ∙ m.says)
-        | inr shown ↦ inr (subst (Shows run.streams s) (sym asked_is) shown)
+        | inr shown ↦ inr (shows_in run s (step.Next name) (subst (ShowsAt (IsPlacedAs run.streams) run.now s) (sym asked_is) shown))
       ]
 
   -- more pieces are told as damaged only where two documents of one SHA-256 are shown
   pub next_line_harms : {X : Type 0} (part : Part D R C) (before : Seen Holding) (name : List ℕ) (n : ℕ) (r : Reader) → n ≡ number_of before.names name → slots_of before n ≡ Some (holding.Reader r)
-      → ((run : Run) → AreOwn (state_in chronicle part.stripe) run.streams → IsReaderOf (state_in chronicle part.stripe) r → X ⊎ Shows run.streams (state_in chronicle part.stripe) (ReadOn r.reader ∷ []))
-      → (run : Run) → PlaysPart chronicle run part before → X ⊎ Shows run.streams (state_in chronicle part.stripe) (asks.asked run (state_in chronicle part.stripe) (step.Next name))
+      → ((run : Run) → AreOwn (state_in chronicle part.stripe) run.streams → IsReaderOf (state_in chronicle part.stripe) r → X ⊎ ShowsAt (IsPlacedAs run.streams) run.now (state_in chronicle part.stripe) (ReadOn r.reader ∷ []))
+      → (run : Run) → PlaysPart chronicle run part before → X ⊎ ShowsIn run (Some (state_in chronicle part.stripe)) (step.Next name)
   next_line_harms {X} part before name n r number had harms run plays =
       let by = held_reader disk directory chronicle run part before name n r number had plays in
-      subst (λ is. X ⊎ Shows run.streams (state_in chronicle part.stripe) is) (sym (next_asks run part before name n r number had plays)) (harms run plays.at.own by.1)
+      let s : State = state_in chronicle part.stripe in
+      elim (harms run plays.at.own by.1) [
+        | inl x ↦ inl x
+        | inr shown ↦ inr (shows_in run s (step.Next name) (subst (ShowsAt (IsPlacedAs run.streams) run.now s) (sym (next_asks run part before name n r number had plays)) shown))
+      ]
 
   -- an actor without a reader
   pub next_idle : (part : Part D R C) (before after : Seen Holding) (name : List ℕ) (n : ℕ) (said : StepAnswer) → said ≡ says.idle

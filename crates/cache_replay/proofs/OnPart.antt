@@ -1,6 +1,6 @@
 -- A line on a part and its actors, as a line on a session.
 use Rattle.std.proofs.Common.{◌≡◌, ◌≤◌, ◌⊎◌, inl, inr, sym, ◌∙◌, subst, Result, Ok, Err}
-use Rattle.std.specs.Prelude.{Some, IfErr, IfOk, OnErr}
+use Rattle.std.specs.Prelude.{Some, None, IfErr, IfOk}
 use Rattle.ats_disk.specs.declared.device.Disk.{Ghosts as DiskGhosts}
 use Rattle.dir_table.specs.declared.directory.Directory.{Ghosts as DirectoryGhosts}
 use Rattle.cache_chronicle.specs.declared.chronicle.Chronicle.{Ghosts as ChronicleGhosts}
@@ -13,17 +13,18 @@ use Rattle.script_run.specs.Run.{Run}
 use Rattle.script_run.specs.Turn.{Turn}
 use Rattle.script_run.specs.Answers.{session_said, step_said}
 use Rattle.script_run.specs.Behind as then
-use Rattle.script_run.specs.Behind.{harm_of, in_session}
-use Rattle.script_run.specs.Takes.{SessionTakes, StepShows, Takes}
+use Rattle.script_run.specs.Behind.{in_session}
+use Rattle.script_run.specs.Takes.{SessionTakes, Takes}
+use Rattle.cache_replay.specs.Shown.{ShowsIn}
 use Rattle.cache_replay.specs.declared.session.Session.{Session}
 use Rattle.cache_replay.specs.declared.session.Part.{Part}
 use Rattle.cache_replay.specs.declared.stop.Stop.{Stop}
 use Rattle.cache_replay.specs.declared.stop.Stop.TheVariants.{Memory}
-use Rattle.cache_replay.specs.Session.{return_of, slots_in}
-use Rattle.cache_replay.specs.Plays.{AreReached, PartEnds, Plays, PlaysAt, PlaysPart, StepEnds, StepMoves}
+use Rattle.cache_replay.specs.Session.{AreLater, return_of, slots_in}
+use Rattle.cache_replay.specs.Plays.{PartEnds, Plays, PlaysAt, PlaysPart, StepEnds, StepMoves}
 use Rattle.cache_replay.specs.Stop.{IsSessionStop}
 use Rattle.cache_replay.proofs.OnSession.{IsOnSession}
-use Rattle.cache_replay.proofs.Unharming.{part_reached, session_unharmed, unharmed_in}
+use Rattle.cache_replay.proofs.Unharming.{session_unharmed}
 
 module _ {D R C : Type 0} (disk : DiskGhosts D) (directory : DirectoryGhosts R) (chronicle : ChronicleGhosts C) where
   pub part_plays : (run : Run) (session : Session D R C) (part : Part D R C) → session.part ≡ Some part → Plays disk directory chronicle run session → PlaysPart chronicle run part session.actors
@@ -58,11 +59,11 @@ module _ {D R C : Type 0} (disk : DiskGhosts D) (directory : DirectoryGhosts R) 
 
   -- some way into it two documents of one SHA-256 are shown
   pub line_shows : (run : Run) (old : Session D R C) (before : Part D R C) (step : Step) → old.part ≡ Some before → Plays disk directory chronicle run old
-      → StepShows run (Some (state_in chronicle before.stripe)) step → StepShows run run.state step
-  line_shows run old before step was plays shown = subst (λ o. StepShows run o step) (sym (part_plays run old before was plays).at.state) shown
+      → ShowsIn run (Some (state_in chronicle before.stripe)) step → ShowsIn run run.state step
+  line_shows run old before step was plays shown = subst (λ o. ShowsIn run o step) (sym (part_plays run old before was plays).at.state) shown
 
   line_ends : (run : Run) (old new : Session D R C) (before after : Part D R C) (step : Step) (said : StepAnswer) → IsOnSession step → old.part ≡ Some before → new.part ≡ Some after → new.now ≡ old.now → Plays disk directory chronicle run old
-      → StaysUnharmed disk directory chronicle before.stripe after.stripe ⊎ StepShows run (Some (state_in chronicle before.stripe)) step
+      → StaysUnharmed disk directory chronicle before.stripe after.stripe ⊎ ShowsIn run (Some (state_in chronicle before.stripe)) step
       → PartEnds chronicle run (state_in chronicle before.stripe) step after new.actors said → StepEnds disk directory chronicle run step new said
   line_ends run old new before after step said on was is kept plays (inr shown) ends = inr (line_shows run old before step was plays shown)
   line_ends run old new before after step said on was is kept plays (inl stays) (inr shown) = inr (line_shows run old before step was plays shown)
@@ -71,7 +72,7 @@ module _ {D R C : Type 0} (disk : DiskGhosts D) (directory : DirectoryGhosts R) 
   -- whatever it answers
   pub line_answers : (old new : Session D R C) (before after : Part D R C) (step : Step) (result : Result StepAnswer Stop) → IsOnSession step → old.part ≡ Some before → new.part ≡ Some after → new.now ≡ old.now
       → ((run : Run) → PlaysPart chronicle run before old.actors
-      → StaysUnharmed disk directory chronicle before.stripe after.stripe ⊎ StepShows run (Some (state_in chronicle before.stripe)) step)
+      → StaysUnharmed disk directory chronicle before.stripe after.stripe ⊎ ShowsIn run (Some (state_in chronicle before.stripe)) step)
       → IfOk result (λ said. (run : Run) → PlaysPart chronicle run before old.actors → PartEnds chronicle run (state_in chronicle before.stripe) step after new.actors said)
       → IfOk result (λ said. (run : Run) → Plays disk directory chronicle run old → StepEnds disk directory chronicle run step new said)
   line_answers old new before after step (Ok said) on was is kept harms ends = λ run plays.
@@ -88,18 +89,23 @@ module _ {D R C : Type 0} (disk : DiskGhosts D) (directory : DirectoryGhosts R) 
       line_ends run old new before after step said on was is kept plays (inl stays) (ends run plays.now (part_plays run old before was plays))
   moment_answers old new before after step (Err why) on was is kept stays ends = tt
 
+  -- ---- the device of a session
+
+  -- it goes on behind a call on its part
+  pub line_device : (old : Session D R C) (before after : Part D R C) → old.part ≡ Some before
+      → (seen_in disk directory before.stripe).device.faults ≤ (seen_in disk directory after.stripe).device.faults
+      → (seen_in disk directory after.stripe).device.trust ≤ (seen_in disk directory before.stripe).device.trust
+      → AreLater (return_of disk directory chronicle old.part) (return_of disk directory chronicle (Some after))
+  line_device old before after was more less =
+      subst (λ o. AreLater (return_of disk directory chronicle o) (return_of disk directory chronicle (Some after))) (sym was) (record { faults = more; trust = less }, tt)
+
+  -- and stays where there is none
+  pub no_device : (old : Session D R C) → old.part ≡ None → AreLater (return_of disk directory chronicle old.part) (return_of disk directory chronicle old.part)
+  no_device old none = subst (λ o. AreLater (return_of disk directory chronicle o) (return_of disk directory chronicle o)) (sym none) tt
+
   -- ---- a line that ended the run
 
-  pub line_reached : (old : Session D R C) (before after : Part D R C) (result : Result StepAnswer Stop) → old.part ≡ Some before
-      → (seen_in disk directory after.stripe).device.trust ≤ (seen_in disk directory before.stripe).device.trust
-      → OnErr result ((state_in chronicle before.stripe).fault ≤ (seen_in disk directory after.stripe).device.faults)
-      → OnErr result ((run : Run) → Plays disk directory chronicle run old → AreReached (harm_of run.state) (return_of disk directory chronicle (Some after)))
-  line_reached old before after (Ok said) was less counted = tt
-  line_reached old before after (Err why) was less counted = λ run plays.
-      part_reached disk directory chronicle run before after (part_plays run old before was plays).at.state counted less (unharmed_in disk directory chronicle old before was plays.unharmed)
-
   -- only memory was wanting
-  pub line_stops : (session : Session D R C) (result : Result StepAnswer Stop) → IfErr result (λ why. why ≡ Memory)
-      → IfErr result (λ why. (run : Run) → Plays disk directory chronicle run session → IsSessionStop run why)
+  pub line_stops : (session : Session D R C) (result : Result StepAnswer Stop) → IfErr result (λ why. why ≡ Memory) → IfErr result (IsSessionStop session)
   line_stops session (Ok said) wanting = tt
-  line_stops session (Err why) wanting = λ run plays. subst (IsSessionStop run) (sym wanting) tt
+  line_stops session (Err why) wanting = subst (IsSessionStop session) (sym wanting) tt

@@ -21,7 +21,7 @@ use Rattle.script_run.specs.Answers.{session_said, step_said}
 use Rattle.script_run.specs.Behind as then
 use Rattle.script_run.specs.Behind.{harm_of, in_session, streams_behind}
 use Rattle.script_run.specs.Own.{AreOwn, AreWriting}
-use Rattle.script_run.specs.Takes.{IsOther, SessionTakes, StepShows, Takes}
+use Rattle.script_run.specs.Takes.{SessionTakes, Takes, streams_with}
 use Rattle.script_run.specs.Laws.{StepsOwn}
 use Rattle.cache_replay.specs.declared.session.Session.{Session}
 use Rattle.cache_replay.specs.declared.session.Part.{Part}
@@ -31,6 +31,8 @@ use Rattle.cache_replay.specs.declared.session.Holding.TheVariants as holding
 use Rattle.cache_replay.specs.Session.{AreHeld, IsActive, IsAt, IsHeld, IsPart, IsSession, LeavesBut, names_in, return_of, slots_in}
 use Rattle.cache_replay.specs.Plays.{AreReached, IsHeldAs, Plays, PlaysAt, PlaysIn, StepEnds, StepMoves}
 use Rattle.cache_replay.specs.Plain.{Plainly}
+use Rattle.cache_replay.specs.Shown.{ShowsIn}
+use Rattle.cache_replay.proofs.Shown.{shows_placed}
 use Rattle.cache_replay.specs.Stop.{NeedsSession}
 use Rattle.cache_replay.proofs.Frames.{some_is}
 use Rattle.cache_replay.proofs.Plain.{none_else, still_held, still_plays}
@@ -54,20 +56,20 @@ are_writing run s slots plays held = λ name put is.
 
 -- vectors and puts are told behind a line, or it shows two documents of one SHA-256
 pub told_behind : (tell : StepsTell) (run : Run) (s t : State) (turn : Turn) (step : Step) → SessionTakes run s turn step → after_all s turn.added ≡ t → IsSound s → AreTold s
-    → AreTold t ⊎ StepShows run (Some s) step
+    → AreTold t ⊎ ShowsIn run (Some s) step
 told_behind tell run s t turn step takes is sound told =
     elim (tell turn.device s (asked run s step) turn.added turn.refused sound told takes.legal) [
       | inl kept ↦ inl (subst AreTold is kept)
-      | inr v ↦ inr (record { device = turn.device; added = v.before; left = v.left; grows = v.grows; other = IsOther.vector_copied v.other })
+      | inr v ↦ inr (turn, record { plain = takes.plain; moment = takes.moment; shows = shows_placed (streams_with run s step) turn.device s (asked run s step) turn.added v })
     ]
 
 -- and so does what stands belong to what writers took
 pub own_behind : (own : StepsOwn) (run : Run) (s t : State) (turn : Turn) (step : Step) (slots : ℕ → Option Holding) → SessionTakes run s turn step → after_all s turn.added ≡ t
-    → IsSound s → IsQuiet s → AreHeld s slots → PlaysIn run s slots → AreOwn t (streams_behind run s (after_all s turn.added) turn step) ⊎ StepShows run (Some s) step
+    → IsSound s → IsQuiet s → AreHeld s slots → PlaysIn run s slots → AreOwn t (streams_behind run s (after_all s turn.added) turn step) ⊎ ShowsIn run (Some s) step
 own_behind own run s t turn step slots takes is sound quiet held plays =
     elim (own run s turn step sound plays.told quiet plays.own (are_writing run s slots plays held) takes.legal) [
       | inl kept ↦ inl (subst (λ u. AreOwn u (streams_behind run s (after_all s turn.added) turn step)) is kept)
-      | inr shows ↦ inr shows.shows
+      | inr shows ↦ inr (turn, record { plain = takes.plain; moment = takes.moment; shows = shows })
     ]
 
 -- what stands behind a line
@@ -75,7 +77,7 @@ abbrev pub StandsBehind : Run → (s t : State) → Turn → Step → Type 0
 StandsBehind run s t turn step = AreTold t × AreOwn t (streams_behind run s (after_all s turn.added) turn step)
 
 pub stands_behind : (tell : StepsTell) (own : StepsOwn) (run : Run) (s t : State) (turn : Turn) (step : Step) (slots : ℕ → Option Holding) → SessionTakes run s turn step → after_all s turn.added ≡ t
-    → IsSound s → IsQuiet s → AreHeld s slots → PlaysIn run s slots → StandsBehind run s t turn step ⊎ StepShows run (Some s) step
+    → IsSound s → IsQuiet s → AreHeld s slots → PlaysIn run s slots → StandsBehind run s t turn step ⊎ ShowsIn run (Some s) step
 stands_behind tell own run s t turn step slots takes is sound quiet held plays =
     elim (told_behind tell run s t turn step takes is sound plays.told) [
       | inl told ↦ elim (own_behind own run s t turn step slots takes is sound quiet held plays) [
@@ -210,7 +212,7 @@ module _ {D R C : Type 0} (disk : DiskGhosts D) (directory : DirectoryGhosts R) 
             (line_plays disk directory chronicle run session new old part is now names kept slots leaves stays plays (then.behind run e.turn (Some s) step)
             (plain.actors run s e.turn) (plain.moment run s e.turn) (plain.streams run s e.turn) (plain.held run s e.turn) (plain.state run s e.turn ∙ ap Some e.behind)
             there.0 (subst (AreOwn t) (plain.same run s (after_all s e.turn.added) e.turn) there.1)))
-        | inr shows ↦ inr (subst (λ o. StepShows run o step) (sym p.state) shows)
+        | inr shows ↦ inr (subst (λ o. ShowsIn run o step) (sym p.state) shows)
       ]
 
   pub line_ends : (tell : StepsTell) (owns : StepsOwn) (session new : Session D R C) (old part : Part D R C) (step : Step) (result : Result StepAnswer Stop) → IsPlain step → session.part ≡ Some old → new.part ≡ Some part
@@ -220,11 +222,3 @@ module _ {D R C : Type 0} (disk : DiskGhosts D) (directory : DirectoryGhosts R) 
       → IfOk result (λ said. (run : Run) → Plays disk directory chronicle run session → StepEnds disk directory chronicle run step new said)
   line_ends tell owns session new old part step (Ok said) plain is now names kept slots leaves stays h ends = plain_ends tell owns session new old part step said plain is now names kept slots leaves stays h ends
   line_ends tell owns session new old part step (Err why) plain is now names kept slots leaves stays h ends = tt
-
-  pub line_reached : (session : Session D R C) (old part : Part D R C) (result : Result StepAnswer Stop) → session.part ≡ Some old → IsSession disk directory chronicle session
-      → (seen_in disk directory old.stripe).device.faults ≤ (seen_in disk directory part.stripe).device.faults → StaysUnharmed disk directory chronicle old.stripe part.stripe
-      → OnErr result ((run : Run) → Plays disk directory chronicle run session → AreReached (harm_of run.state) (return_of disk directory chronicle (Some part)))
-  line_reached session old part (Ok said) is h later stays = tt
-  line_reached session old part (Err why) is h later stays = λ run plays.
-      let a = active disk directory chronicle session old is h in
-      part_reached disk directory chronicle run old part (playing disk directory chronicle run session old is plays).state (omega (arith, a.part.stripe.pieces.faults, later)) stays.trust (unharmed_in disk directory chronicle session old is plays.unharmed)

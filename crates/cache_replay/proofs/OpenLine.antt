@@ -14,8 +14,8 @@ use Rattle.cache_model.specs.declared.answer.ReadAnswer.TheVariants as read
 use Rattle.cache_model.specs.declared.record.Rec.{Rec}
 use Rattle.cache_model.specs.State.{ReaderRow, State, after_all, reader_of}
 use Rattle.cache_model.specs.Kept.{with_records}
-use Rattle.cache_model.specs.Permit.{Look, Permit, to_do}
-use Rattle.cache_model.specs.Legal.{IsQuiet, nothing}
+use Rattle.cache_model.specs.Permit.{Look, Permit}
+use Rattle.cache_model.specs.Legal.{IsQuiet}
 use Rattle.cache_model.specs.Vectors.{GroupsTell}
 use Rattle.stripe_actors.specs.Actors.{FallBelow, reader_numbers}
 use Rattle.stripe_actors.proofs.Telling.{was_given}
@@ -36,7 +36,7 @@ use Rattle.script_run.specs.Asked as asks
 use Rattle.script_run.specs.Answers as says
 use Rattle.script_run.specs.Behind.{or_else, reader_at}
 use Rattle.script_run.specs.Laws.{StepsOwn}
-use Rattle.script_run.specs.Takes.{IsOther}
+use Rattle.script_run.specs.Own.{IsPlacedAs}
 use Rattle.cache_replay.specs.declared.session.Holding.{Holding}
 use Rattle.cache_replay.specs.declared.session.Holding.TheVariants as holding
 use Rattle.cache_replay.specs.declared.session.Part.{Part}
@@ -47,6 +47,8 @@ use Rattle.cache_replay.proofs.Frames.{Changed, IsElse, OthersElse, some_is}
 use Rattle.cache_replay.proofs.ReaderFrames.{kept_leaves, miss_leaves, open_leaves}
 use Rattle.cache_replay.proofs.Calls.{call_covered, call_permit}
 use Rattle.cache_replay.proofs.ReaderLines.{Goes, as_run, goes_active, part_behind, holds_none, line_ends, none_some, still_moves}
+use Rattle.cache_replay.specs.Shown.{Shows}
+use Rattle.cache_replay.proofs.Shown.{as_placed, key_pair, shows_first, shows_in}
 use Rattle.cache_replay.proofs.WholeGets.{none_next, opened_finds}
 
 -- ---- the number is a new one
@@ -177,7 +179,13 @@ module _ {D R C : Type 0} (disk : DiskGhosts D) (directory : DirectoryGhosts R) 
             (ap (λ (o : Option running.Holding). says.if_free o (says.lookup_said (after_all s recs) s.next_reader (lookup_in recs))) nobody
             ∙ (ap (says.lookup_said (after_all s recs) s.next_reader) (opened_finds s who key request (answer_in given))
             ∙ opened_says (after_all s recs) s.next_reader given tells (if_behind t (after_all s recs) given behind right.1)))
-        | inr other ↦ inr (record { device = p; added = []; left = to_do (asks.asked run s (step.OpenRead name key request)); grows = nothing; other = IsOther.vector_read key other })
+        | inr other ↦ inr (shows_in run s (step.OpenRead name key request) (record {
+          device = p;
+          plain = refl;
+          moment = refl;
+          shows = subst (λ is. Shows (IsPlacedAs run.streams) p s is) (sym asked_is)
+              (shows_first (IsPlacedAs run.streams) p s (Look who.0 key request) [] (as_placed run.streams p s (Look who.0 key request) (key_pair p s (Look who.0 key request) key refl other)));
+        }))
       ]
 
   pub open_answers : (tell : GroupsTell) (own : StepsOwn) (old new : Part D R C) (before after : Seen Holding) (name : List ℕ) (n : ℕ) (who : Actor) (key : Key) (request : List Field) (given : Opened) (said : StepAnswer)
@@ -202,7 +210,7 @@ module _ {D R C : Type 0} (disk : DiskGhosts D) (directory : DirectoryGhosts R) 
   open_active old new slots later n who key request given active changed adds tells page stripe quiet mine =
       let goes = open_goes old new slots later n who key request given active changed adds tells in
       goes_active disk directory chronicle old new slots later n (state_in chronicle old.stripe).next_reader (reader_opened given) active
-      (part_behind disk directory chronicle old new active.part stripe quiet (ap (λ p. length p.items) page) goes.leaves.geometry) goes
+      (part_behind disk directory chronicle old new active.part stripe quiet (ap (λ p. length p.items) page) None (Some (state_in chronicle old.stripe).next_reader) goes.leaves) goes
       (if_opened (IsOpenReader (state_in chronicle new.stripe)) given mine)
 
   -- an actor that has something

@@ -1,26 +1,29 @@
 -- Where a reader's next fragment is damaged on a device that tells its content, two documents of one
 -- SHA-256 are shown.
-use Rattle.std.proofs.Common.{◌≡◌, ℕ, ◌≤◌, ◌⊎◌, inl, inr, List, [], ◌∷◌, refl, sym, ◌∙◌, ap, subst}
-use Rattle.std.specs.Prelude.{Option, Some, None, option_map}
+use Rattle.std.proofs.Common.{◌≡◌, ℕ, ◌≤◌, ◌⊎◌, inl, inr, true, List, [], ◌∷◌, refl, sym, ◌∙◌, ap, subst}
+use Rattle.std.specs.Prelude.{Option, Some, None, is_some, option_map}
 use Rattle.ats_disk.specs.Device.{State as Device}
 use Rattle.fragment_table.specs.Table.{Table}
 use Rattle.cache_model.specs.State.{State}
 use Rattle.cache_model.specs.Kept.{Kept, state_of}
-use Rattle.cache_model.specs.Permit.{DeviceRead, IsAmong, Permit, ReadAll, ReadOn, StopReading, to_do}
-use Rattle.cache_model.specs.Legal.{digest_in, nothing}
+use Rattle.cache_model.specs.Permit.{DeviceRead, IsAmong, Permit, ReadOn}
+use Rattle.cache_model.specs.Legal.{digest_in}
+use Rattle.cache_model.specs.Choices.{to_read}
+use Rattle.cache_model.specs.Pair.{IsPairOf, IsToRead}
 use Rattle.cache_model.specs.Vectors.{AreTold}
 use Rattle.stripe_core.specs.Covers.{Covers}
 use Rattle.stripe_core.specs.Unharmed.{StayUnharmed}
 use Rattle.stripe_core.proofs.Unharmed.{stays_unharmed-trans}
-use Rattle.stripe_vectors.proofs.Finding.{own_covers, own_permit}
 use Rattle.stripe_read.specs.declared.reader.Reader.{Reader}
 use Rattle.stripe_read.specs.Readers.{IsReaderOf, row_by}
 use Rattle.stripe_read.specs.Nexts.{IsOtherNext}
-use Rattle.stripe_write.proofs.Spending.{state_behind}
 use Rattle.script_run.specs.Run.{Run, Stream}
 use Rattle.script_run.specs.Laws.{OtherShows}
-use Rattle.script_run.specs.Own.{AreOwn, IsOtherFragment}
-use Rattle.script_run.specs.Takes.{IsOther, Shows}
+use Rattle.script_run.specs.Own.{AreOwn, IsPlacedAs}
+use Rattle.cache_replay.specs.Shown.{ShowsAt}
+use Rattle.cache_replay.proofs.Calls.{call_covered, call_permit}
+use Rattle.cache_replay.proofs.Shown.{shows_first}
+use Rattle.cache_replay.proofs.WholeReads.{next_reads, shows_read}
 use Rattle.cache_replay.specs.Getting.{Began, IsUnderway}
 use Rattle.cache_replay.proofs.Frames.{some_is}
 
@@ -39,47 +42,56 @@ abbrev pub other_read : (s : State) (r : Reader) → IsOtherNext s r → DeviceR
 other_read s r other = record { place = other.other.row.place; bytes = other.other.bytes }
 
 -- a step that covers a call still does where it knows of a read more
-pub covers_more : (before after : ℕ) (x : DeviceRead) (reads : List DeviceRead) → Covers (own_permit before after (x ∷ reads)) before after reads
-covers_more before after x reads =
-    let all : Covers (own_permit before after (x ∷ reads)) before after (x ∷ reads) = own_covers before after (x ∷ reads) in
+pub covers_more : (now before after : ℕ) (x : DeviceRead) (reads : List DeviceRead) → Covers (call_permit now before after (x ∷ reads)) before after reads
+covers_more now before after x reads =
+    let all : Covers (call_permit now before after (x ∷ reads)) before after (x ∷ reads) = call_covered now before after (x ∷ reads) in
     record { plain = all.plain; from = all.from; upto = all.upto; knows = all.knows.1 }
 
 pub other_shown : (shows : OtherShows) (p : Permit) (s : State) (streams : ℕ → Stream) (r : Reader) (other : IsOtherNext s r) → IsAmong (other_read s r other) p.reads
-    → AreOwn s streams → IsReaderOf s r → 1 ≤ r.next → IsOtherFragment p s streams
+    → AreOwn s streams → IsReaderOf s r → 1 ≤ r.next → IsPairOf (IsPlacedAs streams) p s other.other.row
 other_shown shows p s streams r other among owned reader first = by_table r.table refl other.other.listed_is
   where
-    by_table : (o : Option Table) → r.table ≡ o → option_map (λ (t : Table). digest_in other.entry) o ≡ Some other.other.kept → IsOtherFragment p s streams
+    by_table : (o : Option Table) → r.table ≡ o → option_map (λ (t : Table). digest_in other.entry) o ≡ Some other.other.kept → IsPairOf (IsPlacedAs streams) p s other.other.row
     by_table None e listed = let no : None ≡ Some other.other.kept = listed in cc
     by_table (Some t) e listed =
         shows p s streams r.reader (row_by reader.actor r) t.rows other.entry other.other.row other.other.bytes owned first reader.found
         (ap (option_map (λ (x : Table). x.rows)) e) other.cut other.other.live
-        (record { written = other.other.written; given = among; whole = other.other.whole }) other.other.digest
+        (record { written = other.other.written; given = among; whole = other.other.whole; of_bytes = other.other.of_bytes }) other.other.digest
         (λ same. other.other.differ (sym (some_is (digest_in other.entry) other.other.kept listed) ∙ same))
+
+-- such a piece is the one that the reader takes next
+other_reads : (s : State) (r : Reader) (other : IsOtherNext s r) (reader : IsReaderOf s r) → to_read s (ReadOn r.reader) ≡ Some other.other.row
+other_reads s r other reader = next_reads s r.reader (row_by reader.actor r) other.entry other.other.row reader.found other.cut other.other.live
 
 -- ---- a call
 
 -- a reader that reads on alone
 pub next_harms : {X : Type 0} (shows : OtherShows) (s : State) (r : Reader) → 1 ≤ r.next → X ⊎ IsOtherNext s r
-    → (run : Run) → AreOwn s run.streams → IsReaderOf s r → X ⊎ Shows run.streams s (ReadOn r.reader ∷ [])
+    → (run : Run) → AreOwn s run.streams → IsReaderOf s r → X ⊎ ShowsAt (IsPlacedAs run.streams) run.now s (ReadOn r.reader ∷ [])
 next_harms shows s r first (inl stays) run owned reader = inl stays
 next_harms shows s r first (inr other) run owned reader =
-    let p : Permit = own_permit 0 0 (other_read s r other ∷ []) in
-    inr (record { device = p; added = []; left = to_do (ReadOn r.reader ∷ []); grows = nothing; other = IsOther.fragment (other_shown shows p s run.streams r other (inl refl) owned reader first) })
+    let p : Permit = call_permit run.now 0 0 (other_read s r other ∷ []) in
+    inr (record {
+      device = p;
+      plain = refl;
+      moment = refl;
+      shows = shows_first (IsPlacedAs run.streams) p s (ReadOn r.reader) []
+          (record { row = other.other.row; read = IsToRead.asked_for (other_reads s r other reader); pair = other_shown shows p s run.streams r other (inl refl) owned reader first });
+    })
 
--- one that reads on some way into a step
-pub more_harms : {X : Type 0} (shows : OtherShows) (b : Began) (now : ℕ) (k : Kept) (r : Reader) (body : List ℕ) → 1 ≤ r.next → X ⊎ IsOtherNext (state_of k) r
-    → (run : Run) → IsUnderway b now k r body → AreTold (state_of b.kept) → AreOwn (state_of b.kept) run.streams → X ⊎ Shows run.streams (state_of b.kept) b.asks
-more_harms shows b now k r body first (inl stays) run under told owned = inl stays
-more_harms shows b now k r body first (inr other) run under told owned =
+-- one that hit something and reads on some way into a step
+pub more_harms : {X : Type 0} (shows : OtherShows) (b : Began) (now : ℕ) (k : Kept) (r : Reader) (body : List ℕ) → is_some r.table ≡ true → 1 ≤ r.next → X ⊎ IsOtherNext (state_of k) r
+    → (run : Run) → IsUnderway b now k r body → AreTold (state_of b.kept) → AreOwn (state_of b.kept) run.streams → X ⊎ ShowsAt (IsPlacedAs run.streams) run.now (state_of b.kept) b.asks
+more_harms shows b now k r body hit first (inl stays) run under told owned = inl stays
+more_harms shows b now k r body hit first (inr other) run under told owned =
     let x : DeviceRead = other_read (state_of k) r other in
-    let p : Permit = own_permit b.faults now (x ∷ under.reads) in
-    elim (under.does p run (covers_more b.faults now x under.reads) told owned) [
+    let p : Permit = call_permit run.now b.faults now (x ∷ under.reads) in
+    elim (under.does p run (covers_more run.now b.faults now x under.reads) told owned) [
       | inl way ↦ inr (record {
         device = p;
-        added = way.added;
-        left = to_do (ReadAll r.reader ∷ StopReading r.reader ∷ []);
-        grows = way.grows;
-        other = IsOther.fragment (subst (λ t. IsOtherFragment p t run.streams) (state_behind b.kept k way.added way.adds) (other_shown shows p (state_of k) run.streams r other (inl refl) way.own way.reader first));
+        plain = refl;
+        moment = refl;
+        shows = shows_read p b run k r body way hit other.other.row (other_reads (state_of k) r other way.reader) (other_shown shows p (state_of k) run.streams r other (inl refl) way.own way.reader first);
       })
-      | inr shown ↦ inr shown
+      | inr shown ↦ inr (record { device = p; plain = refl; moment = refl; shows = shown })
     ]

@@ -31,6 +31,8 @@ use Rattle.script_lang.specs.declared.answer.StepAnswer.TheVariants as answer
 use Rattle.script_run.specs.Run.{Run}
 use Rattle.script_run.specs.Turn.{Turn}
 use Rattle.script_run.specs.Answers.{session_said}
+use Rattle.script_run.specs.Losses.{NoLossIsAFault}
+use Rattle.cache_replay.proofs.ReaderFrames.{losses_then}
 use Rattle.cache_replay.specs.Session.{LeavesBut}
 use Rattle.cache_replay.specs.Plain.{Plainly, flush_refused}
 
@@ -80,11 +82,12 @@ flushed_as flushed = answer.Flushed flushed.blocks flushed.cursor flushed.floor 
 flush_behind : (k new : Kept) (added : List Rec) → new ≡ with_records k added → AreOfFlush added → LeavesActors (state_of k) (state_of new)
 flush_behind k new added adds kinds = subst (LeavesActors (state_of k)) (sym (state_behind k new added adds)) (flush_leaves (state_of k) added kinds)
 
-leaves_but_none : (s t : State) → LeavesActors s t → LeavesBut None None s t
-leaves_but_none s t h = record {
+leaves_but_none : (s t : State) → (NoLossIsAFault s → NoLossIsAFault t) → LeavesActors s t → LeavesBut None None s t
+leaves_but_none s t losses h = record {
   puts = λ q no. ap (find (λ (p : PutRow). p.put == q)) h.puts;
   readers = λ n no. ap (find (λ (r : ReaderRow). r.reader == n)) h.readers;
   geometry = h.geometry;
+  losses = losses;
 }
 
 module _ (run : Run) (now : ℕ) (moment : run.now ≡ now) (k new : Kept) (before : ℕ) (after : Device) (quiet : IsQuiet (state_of k)) where
@@ -144,8 +147,20 @@ module _ (now : ℕ) (k new : Kept) (before : ℕ) (after : Device) where
   flush_leaves_all (Err refusal.Sealed) h = absurd h
   flush_leaves_all (Err refusal.NoSuchWriter) h = absurd h
 
+  flush_losses : (result : Result Flushed Refusal) → Answers result (FlushesAsAsked now k new before after) (new ≡ k) → NoLossIsAFault (state_of k) → NoLossIsAFault (state_of new)
+  flush_losses (Ok flushed) h none = losses_then k new h.added h.adds none
+  flush_losses (Err (refusal.DeviceFault count)) h none = losses_then k new h.added h.adds none
+  flush_losses (Err (refusal.Exhausted number)) h none = losses_then k new h.added h.adds none
+  flush_losses (Err (refusal.Memory e)) h none = subst (λ (x : Kept). NoLossIsAFault (state_of x)) (sym h) none
+  flush_losses (Err refusal.TooManyWriters) h none = absurd h
+  flush_losses (Err refusal.TooManyFragments) h none = absurd h
+  flush_losses (Err (refusal.VectorTooLarge size)) h none = absurd h
+  flush_losses (Err (refusal.Lost index cause)) h none = absurd h
+  flush_losses (Err refusal.Sealed) h none = absurd h
+  flush_losses (Err refusal.NoSuchWriter) h none = absurd h
+
   pub flush_leaves_puts : (result : Result Flushed Refusal) → Answers result (FlushesAsAsked now k new before after) (new ≡ k) → LeavesBut None None (state_of k) (state_of new)
-  flush_leaves_puts result h = leaves_but_none (state_of k) (state_of new) (flush_leaves_all result h)
+  flush_leaves_puts result h = leaves_but_none (state_of k) (state_of new) (flush_losses result h) (flush_leaves_all result h)
 
   pub flush_quiet : (result : Result Flushed Refusal) → Answers result (FlushesAsAsked now k new before after) (new ≡ k) → IsQuiet (state_of k) → IsQuiet (state_of new)
   flush_quiet result h quiet = (flush_leaves_all result h).pending ∙ quiet

@@ -8,16 +8,16 @@ use Rattle.cache_model.specs.declared.record.Rec.{Rec}
 use Rattle.cache_model.specs.State.{State, after_all, fragment_piece, put_of}
 use Rattle.cache_model.specs.Kept.{Kept, state_of, with_records}
 use Rattle.cache_model.specs.Verdict.{cause_of_piece}
-use Rattle.cache_model.specs.Permit.{Exhausted, Fails, Faulted, Intent, Lost, ManyFragments, Permit, Reason, TooLarge, Work, is_cleanup, to_do}
+use Rattle.cache_model.specs.Permit.{Exhausted, Fails, Faulted, Intent, Lost, ManyFragments, Permit, Reason, TooLarge, Weigh, Work, is_cleanup, to_do}
 use Rattle.cache_model.specs.Legal.{Advances, MayGrow, is_writing, more, nothing}
 use Rattle.cache_model.specs.Tape.{IsSound}
-use Rattle.cache_model.specs.Vectors.{AreTold, GroupsTell, IsOtherVector}
-use Rattle.cache_model.proofs.Onward.{later_advanced}
+use Rattle.cache_model.specs.Pair.{IsKeyPair, IsPair}
+use Rattle.cache_model.specs.Vectors.{AreTold, IsVectorAs}
+use Rattle.cache_model.proofs.ToldGroups.{told_grown}
 use Rattle.cache_model.proofs.Steps.{after_all-append, grows_on}
 use Rattle.stripe_core.specs.declared.refusal.Refusal.{Refusal}
 use Rattle.stripe_core.specs.declared.refusal.Refusal.TheVariants as refusal
 use Rattle.stripe_core.proofs.OneMore.{covers_first, covers_last}
-use Rattle.stripe_vectors.specs.Reading.{IsCollision}
 use Rattle.stripe_write.specs.declared.finishing.Receipt.{Receipt}
 use Rattle.stripe_write.specs.declared.writer.Writer.{Writer}
 use Rattle.stripe_write.specs.Writers.{IsWriterOf}
@@ -29,46 +29,12 @@ use Rattle.script_run.specs.Asked.{body_intents, feed_intents, rest_behind, whol
 use Rattle.script_run.specs.Asked.{close_intents as closing_of}
 use Rattle.script_run.specs.Answers.{put_said, said}
 use Rattle.cache_replay.specs.Feeding.{FeedsAsAsked, FeedsWhere, Feeds, IsCutUp, feed_end}
-use Rattle.cache_replay.specs.Putting.{Fills, FillsAsAsked, FillsWhere, IsFresh, IsOver, IsVectorPair, ShowsPair, left_behind, receipt_answer}
+use Rattle.cache_replay.specs.Putting.{Fills, FillsAsAsked, FillsWhere, IsFresh, IsOver, left_behind, receipt_answer}
+use Rattle.cache_replay.specs.Shown.{Shows}
+use Rattle.cache_replay.proofs.Shown.{key_pair, shows_behind, weigh_reads}
 use Rattle.cache_replay.proofs.Endings.{IsEnded}
 use Rattle.cache_replay.proofs.WriterSteps.{key_at}
 use Rattle.cache_replay.proofs.Closings.{cause_at, closing_ended, complete_said, same_asks}
-
--- ---- vectors and puts may be kept along the way
-
--- or some way along it a copied vector shows two documents of one SHA-256
-pub record ShownAlong (p : Permit) (s : State) (w : Work) : Type 0 where
-  pub before : List Rec
-  pub left : Work
-  pub grows : MayGrow p s w before left
-  pub other : IsOtherVector p (after_all s before)
-
-told_first : GroupsTell → (p : Permit) (s : State) (is : List Intent) (why : Option Reason) (added : List Rec) (between : Work) → Advances p s is why added between → IsSound s → AreTold s
-    → AreTold (after_all s added) ⊎ IsOtherVector p s
-told_first tells p s [] why added between h sound told = absurd h
-told_first tells p s (i ∷ is) why added between h sound told = tells p s i added h.0 sound told h.1
-
-shown_later : (p : Permit) (s : State) (w between : Work) (added : List Rec) → Advances p s w.intents w.refused added between → ShownAlong p (after_all s added) between → ShownAlong p s w
-shown_later p s w between added one h = record {
-  before = added ++ h.before;
-  left = h.left;
-  grows = more added between one h.grows;
-  other = subst (IsOtherVector p) (sym (after_all-append s added h.before)) h.other;
-}
-
-pub told_along : GroupsTell → {p : Permit} {s : State} {w after : Work} {recs : List Rec} → MayGrow p s w recs after → IsSound s → AreTold s → AreTold (after_all s recs) ⊎ ShownAlong p s w
-told_along tells nothing sound told = inl told
-told_along tells {p} {s} {w} {after} (more {rest = rest} added between one others) sound told =
-    elim (told_first tells p s w.intents w.refused added between one sound told) [
-      | inl there ↦ elim (told_along tells others (later_advanced p s w.intents w.refused added between one sound).sound there) [
-        | inl all ↦ inl (subst AreTold (sym (after_all-append s added rest)) all)
-        | inr shown ↦ inr (shown_later p s w between added one shown)
-      ]
-      | inr other ↦ inr (record { before = []; left = w; grows = nothing; other = other })
-    ]
-
-pub copied_pair : (p : Permit) (s : State) (asks : List Intent) → ShownAlong p s (to_do asks) → ShowsPair p s asks
-copied_pair p s asks h = record { added = h.before; left = h.left; grows = h.grows; other = IsVectorPair.copied_other h.other }
 
 -- ---- what closing is asked
 
@@ -99,7 +65,7 @@ module _ (p : Permit) (old new : Kept) (w : Writer) (own : IsWriterOf (state_of 
 
 -- ---- the pieces of a whole body
 
-module _ (p : Permit) (old mid new : Kept) (w v : Writer) (body : List ℕ) (tells : GroupsTell) (fresh : IsFresh w) (number : v.put ≡ w.put)
+module _ (p : Permit) (old mid new : Kept) (w v : Writer) (body : List ℕ) (fresh : IsFresh w) (number : v.put ≡ w.put)
     (cut : IsCutUp (state_of old).geometry.fragment w body v) (own_mid : IsWriterOf (state_of mid) v) (writing_mid : is_writing (state_of mid) v.put ≡ true) where
   abbrev before : State
   before = state_of old
@@ -138,20 +104,19 @@ module _ (p : Permit) (old mid new : Kept) (w v : Writer) (body : List ℕ) (tel
     pub fed_grows : (rest : List Intent) → MayGrow p before (to_do (body_intents f w.put body ++ rest)) fed.added (to_do (close_intents v ++ rest))
     fed_grows rest = subst (λ is. MayGrow p before (to_do is) fed.added (to_do (close_intents v ++ rest))) (all_are rest) (fed.does (close_intents v ++ rest) None)
 
-    pub fed_told : IsSound before → AreTold before → (rest : List Intent) → AreTold (state_of mid) ⊎ ShowsPair p before (body_intents f w.put body ++ rest)
+    pub fed_told : IsSound before → AreTold before → (rest : List Intent) → AreTold (state_of mid) ⊎ Shows IsVectorAs p before (body_intents f w.put body ++ rest)
     fed_told sound told rest =
-        elim (told_along tells (fed_grows rest) sound told) [
+        elim (told_grown (fed_grows rest) sound told) [
           | inl there ↦ inl (subst AreTold (sym state_mid) there)
-          | inr shown ↦ inr (copied_pair p before (body_intents f w.put body ++ rest) shown)
+          | inr shown ↦ inr (fed.added, shown)
         ]
 
-    pub shown : IsCollision p (state_of mid) v.key → (rest : List Intent) → ShowsPair p before (body_intents f w.put body ++ rest)
-    shown other rest = record {
-      added = fed.added;
-      left = to_do (close_intents v ++ rest);
-      grows = fed_grows rest;
-      other = IsVectorPair.read_other v.key (subst (λ x. IsCollision p x v.key) state_mid other);
-    }
+    pub shown : IsKeyPair IsVectorAs p (state_of mid) v.key → (rest : List Intent) → Shows IsVectorAs p before (body_intents f w.put body ++ rest)
+    shown other rest =
+        let weighs : Intent = Weigh v.put (length v.gathered.items) in
+        shows_behind IsVectorAs p before (body_intents f w.put body ++ rest) fed.added (to_do (close_intents v ++ rest)) (fed_grows rest)
+        (subst (λ x. IsPair IsVectorAs p x weighs) state_mid
+        (key_pair p (state_of mid) weighs v.key (weigh_reads (state_of mid) v.put (length v.gathered.items) v.key (key_at (state_of mid) v writing_mid own_mid)) other))
 
     both_grow : (b : List Rec) (why : Option Reason) (rest : List Intent) → MayGrow p (state_of mid) (to_do (close_intents v ++ rest)) b (left_behind rest why) → MayGrow p before (to_do (body_intents f w.put body ++ rest)) (fed.added ++ b) (left_behind rest why)
     both_grow b why rest h = grows_on (fed_grows rest) (subst (λ x. MayGrow p x (to_do (close_intents v ++ rest)) b (left_behind rest why)) state_mid h)
@@ -190,7 +155,7 @@ module _ (p : Permit) (old mid new : Kept) (w v : Writer) (body : List ℕ) (tel
 
 -- ---- all is fed, and the writer closed
 
-module _ (moment before mid after : ℕ) (old now new : Kept) (w v : Writer) (body : List ℕ) (tells : GroupsTell) (sound : IsSound (state_of old)) (fresh : IsFresh w) (number : v.put ≡ w.put)
+module _ (moment before mid after : ℕ) (old now new : Kept) (w v : Writer) (body : List ℕ) (sound : IsSound (state_of old)) (fresh : IsFresh w) (number : v.put ≡ w.put)
     (cut : IsCutUp (state_of old).geometry.fragment w body v) (own_mid : IsWriterOf (state_of now) v) (writing_mid : is_writing (state_of now) v.put ≡ true)
     (fed : FeedsAsAsked moment before mid old now w body None) (earlier : before ≤ mid) (later : mid ≤ after) where
   closed_asks : (result : Result Receipt Refusal) → ClosesAsAsked moment mid after now new v result → ClosesWhere (state_of now) (state_of new) v result
@@ -199,10 +164,10 @@ module _ (moment before mid after : ℕ) (old now new : Kept) (w v : Writer) (bo
     reads = fed.reads ++ closes.reads;
     does = λ p at covers told rest.
         let here : Feeds p old now w body None = fed.does p at (covers_first p before mid after fed.reads closes.reads later covers) in
-        elim (fed_told p old now new w v body tells fresh number cut own_mid writing_mid here sound told rest) [
+        elim (fed_told p old now new w v body fresh number cut own_mid writing_mid here sound told rest) [
           | inl there ↦ elim (closes.does p at (covers_last p before mid after fed.reads closes.reads earlier covers) there) [
-            | inl c ↦ inl (closed_fills p old now new w v body tells fresh number cut own_mid writing_mid here result c where_ memory)
-            | inr other ↦ inr (shown p old now new w v body tells fresh number cut own_mid writing_mid here other rest)
+            | inl c ↦ inl (closed_fills p old now new w v body fresh number cut own_mid writing_mid here result c where_ memory)
+            | inr other ↦ inr (shown p old now new w v body fresh number cut own_mid writing_mid here other rest)
           ]
           | inr pair ↦ inr pair
         ];

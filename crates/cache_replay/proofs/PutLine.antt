@@ -23,7 +23,6 @@ use Rattle.script_run.specs.Run.{Run, Stream}
 use Rattle.script_run.specs.Answers.{session_said}
 use Rattle.script_run.specs.Behind.{in_session, with_bytes}
 use Rattle.script_run.specs.Laws.{StepsOwn}
-use Rattle.script_run.specs.Takes.{IsOther, StepShows}
 use Rattle.cache_replay.specs.declared.session.Session.{Session}
 use Rattle.cache_replay.specs.declared.session.Part.{Part}
 use Rattle.cache_replay.specs.declared.session.Holding.{Holding}
@@ -31,7 +30,10 @@ use Rattle.cache_replay.specs.declared.stop.Stop.{Stop}
 use Rattle.cache_replay.specs.Session.{IsActive, IsHeld, IsPart, IsSession, LeavesBut, names_in, slots_in}
 use Rattle.cache_replay.specs.Plays.{Plays, PlaysAt, PlaysIn, StepEnds}
 use Rattle.cache_replay.specs.Plain.{Plainly}
-use Rattle.cache_replay.specs.Putting.{IsVectorPair, PutsAsAsked, PutsWhere, receipt_answer}
+use Rattle.script_run.specs.Asked.{put_intents}
+use Rattle.cache_replay.specs.Putting.{PutsAsAsked, PutsWhere, receipt_answer}
+use Rattle.cache_replay.specs.Shown.{ShowsIn}
+use Rattle.cache_replay.proofs.Shown.{shows_in, shows_placed}
 use Rattle.cache_replay.specs.WriterLines.{closed_answer}
 use Rattle.cache_replay.proofs.Frames.{some_is}
 use Rattle.cache_replay.proofs.Lines.{free_of, next_is_free}
@@ -43,12 +45,7 @@ use Rattle.cache_replay.proofs.Unharming.{session_unharmed}
 -- ---- what a put is for a cache
 
 abbrev Ends : Run → (s t : State) → Key → List ℕ → (request response : List Field) → StepAnswer → Type 0
-Ends run s t key body request response said = Plainly run (step.Put key body request response) s t said ⊎ StepShows run (Some s) (step.Put key body request response)
-
--- the pair is one that the line shows
-shown_in : (p : Permit) (s : State) (streams : ℕ → Stream) → IsVectorPair p s → IsOther p s streams
-shown_in p s streams (IsVectorPair.read_other key other) = IsOther.vector_read key other
-shown_in p s streams (IsVectorPair.copied_other other) = IsOther.vector_copied other
+Ends run s t key body request response said = Plainly run (step.Put key body request response) s t said ⊎ ShowsIn run (Some s) (step.Put key body request response)
 
 module _ (now before after : ℕ) (k new : Kept) (key : Key) (body : List ℕ) (request response : List Field) (run : Run) (moment : run.now ≡ now) (told : AreTold (state_of k)) where
   asked_puts : (result : Result Receipt Refusal) (said : StepAnswer) → receipt_answer result ≡ said → PutsAsAsked now before after k new key body request response result
@@ -62,13 +59,12 @@ module _ (now before after : ℕ) (k new : Kept) (key : Key) (body : List ℕ) (
           behind = sym (state_behind k new x.added x.adds);
           says = x.says ∙ is;
         })
-        | inr pair ↦ inr (record {
+        | inr pair ↦ inr (shows_in run (state_of k) (step.Put key body request response) (record {
           device = p;
-          added = pair.added;
-          left = pair.left;
-          grows = pair.grows;
-          other = shown_in p (after_all (state_of k) pair.added) (with_bytes run.streams (state_of k).next_put body) pair.other;
-        })
+          plain = refl;
+          moment = refl;
+          shows = (pair.0, shows_placed (with_bytes run.streams (state_of k).next_put body) p (state_of k) (put_intents (state_of k) key body request response) pair.0 pair.1);
+        }))
       ]
 
   -- a put that is answered
@@ -143,9 +139,9 @@ module _ {D R C : Type 0} (disk : DiskGhosts D) (directory : DirectoryGhosts R) 
                     (subst (PlaysIn later t) (sym slots) (put_plays run session old part key body request response said is leaves h plays x there));
                 unharmed = session_unharmed disk directory chronicle session new old part is now stays plays.unharmed;
               }))
-          | inr shows ↦ inr (subst (λ o. StepShows run o line) (sym p.state) shows)
+          | inr shows ↦ inr (subst (λ o. ShowsIn run o line) (sym p.state) shows)
         ]
-        | inr shows ↦ inr (subst (λ o. StepShows run o line) (sym p.state) shows)
+        | inr shows ↦ inr (subst (λ o. ShowsIn run o line) (sym p.state) shows)
       ]
 
   pub put_ends : (tell : StepsTell) (owns : StepsOwn) (session new : Session D R C) (old part : Part D R C) (key : Key) (body : List ℕ) (request response : List Field) (result : Result StepAnswer Stop) → session.part ≡ Some old → new.part ≡ Some part

@@ -6,12 +6,14 @@ use Rattle.tape_base.specs.declared.keys.Key.{Key}
 use Rattle.tape_base.specs.declared.actors.Actor.{Actor}
 use Rattle.alternate_vector.specs.Field.{Field}
 use Rattle.cache_model.specs.declared.record.Rec.{Rec}
-use Rattle.cache_model.specs.State.{State, after_all}
+use Rattle.cache_model.specs.State.{Row, State, after_all}
 use Rattle.cache_model.specs.Kept.{Kept, state_of, with_records}
 use Rattle.cache_model.specs.Permit.{Done, Exhausted, Fails, GiveUp, Intent, ManyWriters, Permit, Reason, Write, is_cleanup, to_do}
-use Rattle.cache_model.specs.Legal.{Does, DoesGiveUp, IsQuiet, MayGrow, nothing}
+use Rattle.cache_model.specs.Legal.{Does, DoesGiveUp, IsQuiet, MayGrow}
 use Rattle.cache_model.specs.Tape.{IsSound}
-use Rattle.cache_model.specs.Vectors.{AreTold, GroupsTell, IsOtherVector}
+use Rattle.cache_model.specs.Pair.{IsPairNext, IsToRead}
+use Rattle.cache_model.specs.Vectors.{AreTold, GroupsTell, IsVectorAs}
+use Rattle.cache_model.proofs.Found.{no_truth, none_is}
 use Rattle.cache_model.proofs.Steps.{after_all-append, grows_by, grows_on}
 use Rattle.stripe_actors.specs.Actors.{FallBelow, put_numbers}
 use Rattle.stripe_core.specs.declared.refusal.Refusal.{Refusal}
@@ -27,7 +29,9 @@ use Rattle.script_run.specs.Asked.{feed_intents, put_intents, rest_behind, whole
 use Rattle.script_run.specs.Asked.{close_intents as closing_of}
 use Rattle.script_run.specs.Answers.{put_said, said}
 use Rattle.cache_replay.specs.Session.{LeavesBut}
-use Rattle.cache_replay.specs.Putting.{BodyEnds, BodyEndsAsAsked, BodyEndsWhere, IsFresh, IsVectorPair, Puts, PutsAsAsked, PutsWhere, ShowsPair, ending_intents, receipt_answer}
+use Rattle.cache_replay.specs.Putting.{BodyEnds, BodyEndsAsAsked, BodyEndsWhere, IsFresh, Puts, PutsAsAsked, PutsWhere, ending_intents, receipt_answer}
+use Rattle.cache_replay.specs.Shown.{Shows}
+use Rattle.cache_replay.proofs.Shown.{shows_behind}
 use Rattle.cache_replay.proofs.CutBodies.{no_cleanup}
 use Rattle.cache_replay.proofs.Lines.{leaves_but, next_is_free}
 use Rattle.cache_replay.proofs.Openings.{nothing_cut, owns_opened}
@@ -53,8 +57,8 @@ module _ (old now : Kept) (who : Actor) (key : Key) (request response : List Fie
 
   pub leaves_opened : (new : Kept) → OthersStay → w.put ≡ s.next_put → AddsOfPut w.put now new → LeavesBut (Some s.next_put) None s (state_of new)
   leaves_opened new stay is own =
-      leaves_but s.next_put s (state_of new) (stay s.next_put old new
-      (then_owns s.next_put old now new (owns_opened old now who key request response 0 adds) (subst (λ q. AddsOfPut q now new) is own)))
+      leaves_but s.next_put old new stay
+      (then_owns s.next_put old now new (owns_opened old now who key request response 0 adds) (subst (λ q. AddsOfPut q now new) is own))
 
   module _ (moment before mid after : ℕ) (new : Kept) (body : List ℕ) (tells : GroupsTell) (sound : IsSound (state_of old)) (number : who.0 ≡ 0) (quiet : IsQuiet (state_of new))
       (does : OpensAsAsked s who key request response 0 (Ok w.put)) (earlier : before ≤ mid) where
@@ -67,11 +71,16 @@ module _ (old now : Kept) (who : Actor) (key : Key) (request response : List Fie
     asked_is : Write who.0 key request response 0 ∷ ending ≡ put_intents s key body request response
     asked_is = ap (λ is. Write who.0 key request response 0 ∷ is) same_ending ∙ ap (λ n. Write n key request response 0 ∷ ending_intents s s.next_put body) number
 
-    told : (p : Permit) → AreTold s → AreTold (state_of now) ⊎ IsOtherVector p s
+    -- nothing is read to open a writer
+    none_read : (p : Permit) (row : Row) → IsToRead p s (Write who.0 key request response 0) row → ⊥
+    none_read p row (IsToRead.asked_for e) = none_is e
+    none_read p row (IsToRead.copied flushes written due) = no_truth (sym flushes)
+
+    told : (p : Permit) → AreTold s → AreTold (state_of now)
     told p h =
         elim (tells p s (Write who.0 key request response 0) opened Done sound h (does.1 p)) [
-          | inl all ↦ inl (subst AreTold (sym there) all)
-          | inr other ↦ inr other
+          | inl all ↦ subst AreTold (sym there) all
+          | inr pair ↦ absurd (none_read p pair.row pair.read)
         ]
 
     first : (p : Permit) → MayGrow p s (to_do (Write who.0 key request response 0 ∷ ending)) opened (to_do ending)
@@ -93,27 +102,19 @@ module _ (old now : Kept) (who : Actor) (key : Key) (request response : List Fie
           says = subst (λ n. said (state_of new) None b.why (put_said (state_of new) n) ≡ receipt_answer result) does.0 b.says;
         }
 
-    shows_behind : (p : Permit) → ShowsPair p (state_of now) ending → ShowsPair p s (put_intents s key body request response)
-    shows_behind p v = record {
-      added = opened ++ v.added;
-      left = v.left;
-      grows = goes_on p v.added v.left v.grows;
-      other = subst (IsVectorPair p) (ap (λ x. after_all x v.added) there ∙ sym (after_all-append s opened v.added)) v.other;
-    }
-
-    shows_first : (p : Permit) → IsOtherVector p s → ShowsPair p s (put_intents s key body request response)
-    shows_first p other = record { added = []; left = to_do (put_intents s key body request response); grows = nothing; other = IsVectorPair.copied_other other }
+    shows_then : (p : Permit) → Shows IsVectorAs p (state_of now) ending → Shows IsVectorAs p s (put_intents s key body request response)
+    shows_then p v =
+        let recs : List Rec = v.1.before in
+        shows_behind IsVectorAs p s (put_intents s key body request response) (opened ++ recs) v.1.left (goes_on p recs v.1.left v.1.grows)
+        (subst (λ x. IsPairNext IsVectorAs p x v.1.left.intents) (ap (λ x. after_all x recs) there ∙ sym (after_all-append s opened recs)) v.1.pair)
 
     puts_as : (result : Result Receipt Refusal) → BodyEndsAsAsked moment mid after now new w.put body result → PutsAsAsked moment before after old new key body request response result
     puts_as result b = record {
       reads = b.reads;
       does = λ p at covers h.
-          elim (told p h) [
-            | inl all ↦ elim (b.does p at (record { plain = covers.plain; from = omega (arith, earlier, covers.from); upto = covers.upto; knows = covers.knows }) all) [
-              | inl ends ↦ inl (puts_behind p result ends)
-              | inr pair ↦ inr (shows_behind p pair)
-            ]
-            | inr other ↦ inr (shows_first p other)
+          elim (b.does p at (record { plain = covers.plain; from = omega (arith, earlier, covers.from); upto = covers.upto; knows = covers.knows }) (told p h)) [
+            | inl ends ↦ inl (puts_behind p result ends)
+            | inr pair ↦ inr (shows_then p pair)
           ];
     }
 

@@ -27,19 +27,26 @@ use Rattle.stripe_read.specs.Readers.{as_row}
 use Rattle.stripe_read.specs.Lookups as lookups
 use Rattle.stripe_read.specs.Nexts as nexts
 use Rattle.stripe_write.proofs.Spending.{state_behind}
+use Rattle.script_run.specs.Losses.{NoLossIsAFault}
+use Rattle.script_run.proofs.Losses.{losses_stay}
 use Rattle.cache_replay.specs.Session.{LeavesBut}
 
 -- ---- in general
 
 pub leaves_all : (put reader : Option ℕ) (s t : State) → t ≡ s → LeavesBut put reader s t
-leaves_all put reader s t e = subst (λ u. LeavesBut put reader s u) (sym e) (record { puts = λ q h. refl; readers = λ n h. refl; geometry = refl })
+leaves_all put reader s t e = subst (λ u. LeavesBut put reader s u) (sym e) (record { puts = λ q h. refl; readers = λ n h. refl; geometry = refl; losses = λ none. none })
 
 pub leaves_then : (put reader : Option ℕ) (s t u : State) → LeavesBut put reader s t → LeavesBut put reader t u → LeavesBut put reader s u
 leaves_then put reader s t u a b = record {
   puts = λ q h. b.puts q h ∙ a.puts q h;
   readers = λ n h. b.readers n h ∙ a.readers n h;
   geometry = b.geometry ∙ a.geometry;
+  losses = λ none. b.losses (a.losses none);
 }
+
+-- whatever records follow, no piece is lost by a fault
+pub losses_then : (old new : Kept) (added : List Rec) → new ≡ with_records old added → NoLossIsAFault (state_of old) → NoLossIsAFault (state_of new)
+losses_then old new added adds none = subst NoLossIsAFault (sym (state_behind old new added adds)) (losses_stay (state_of old) added none)
 
 -- another number
 pub other_number : (a b : ℕ) → (Some a ≡ Some b → ⊥) → (a == b) ≡ false
@@ -53,14 +60,14 @@ other_number a b h = by_test (a == b) refl
 
 -- trouble with a piece
 cause_leaves : (reader : Option ℕ) (s : State) (row : Row) (why : Cause) → LeavesBut None reader s (after_all s (cause_records row why))
-cause_leaves reader s row cause.NeverPut = record { puts = λ q h. refl; readers = λ n h. refl; geometry = refl }
-cause_leaves reader s row cause.Removed = record { puts = λ q h. refl; readers = λ n h. refl; geometry = refl }
-cause_leaves reader s row (cause.Passed place floor unsaved) = record { puts = λ q h. refl; readers = λ n h. refl; geometry = refl }
-cause_leaves reader s row (cause.NoMatch count) = record { puts = λ q h. refl; readers = λ n h. refl; geometry = refl }
-cause_leaves reader s row (cause.Displaced segment live) = record { puts = λ q h. refl; readers = λ n h. refl; geometry = refl }
-cause_leaves reader s row (cause.Aborted writer) = record { puts = λ q h. refl; readers = λ n h. refl; geometry = refl }
-cause_leaves reader s row (cause.DeviceFault count) = record { puts = λ q h. refl; readers = λ n h. refl; geometry = refl }
-cause_leaves reader s row (cause.Damaged place kept other) = record { puts = λ q h. refl; readers = λ n h. refl; geometry = refl }
+cause_leaves reader s row cause.NeverPut = record { puts = λ q h. refl; readers = λ n h. refl; geometry = refl; losses = losses_stay s (cause_records row cause.NeverPut) }
+cause_leaves reader s row cause.Removed = record { puts = λ q h. refl; readers = λ n h. refl; geometry = refl; losses = losses_stay s (cause_records row cause.Removed) }
+cause_leaves reader s row (cause.Passed place floor unsaved) = record { puts = λ q h. refl; readers = λ n h. refl; geometry = refl; losses = losses_stay s (cause_records row (cause.Passed place floor unsaved)) }
+cause_leaves reader s row (cause.NoMatch count) = record { puts = λ q h. refl; readers = λ n h. refl; geometry = refl; losses = losses_stay s (cause_records row (cause.NoMatch count)) }
+cause_leaves reader s row (cause.Displaced segment live) = record { puts = λ q h. refl; readers = λ n h. refl; geometry = refl; losses = losses_stay s (cause_records row (cause.Displaced segment live)) }
+cause_leaves reader s row (cause.Aborted writer) = record { puts = λ q h. refl; readers = λ n h. refl; geometry = refl; losses = losses_stay s (cause_records row (cause.Aborted writer)) }
+cause_leaves reader s row (cause.DeviceFault count) = record { puts = λ q h. refl; readers = λ n h. refl; geometry = refl; losses = losses_stay s (cause_records row (cause.DeviceFault count)) }
+cause_leaves reader s row (cause.Damaged place kept other) = record { puts = λ q h. refl; readers = λ n h. refl; geometry = refl; losses = losses_stay s (cause_records row (cause.Damaged place kept other)) }
 
 abbrev further : ℕ → ReaderRow → ReaderRow
 further n row = record row { next = n }
@@ -71,19 +78,21 @@ gave_leaves s reader index size = record {
   readers = λ n h. find-changed (λ (x : ReaderRow). x.reader) (further (index + 1)) (λ x. refl) reader n s.readers
       ∙ ap (λ (b : Bool). cond b (option_map (further (index + 1)) (reader_of s n)) (reader_of s n)) (other_number reader n h);
   geometry = refl;
+  losses = λ none. none;
 }
 
 told_leaves : (s : State) (reader : ℕ) (answer : NextAnswer) → LeavesBut None (Some reader) s (state_after s (answer_record reader answer))
 told_leaves s reader (next.Gave index size) = gave_leaves s reader index size
-told_leaves s reader (next.Ended size) = record { puts = λ q h. refl; readers = λ n h. refl; geometry = refl }
-told_leaves s reader (next.Waited cut) = record { puts = λ q h. refl; readers = λ n h. refl; geometry = refl }
-told_leaves s reader (next.Broke why) = record { puts = λ q h. refl; readers = λ n h. refl; geometry = refl }
+told_leaves s reader (next.Ended size) = record { puts = λ q h. refl; readers = λ n h. refl; geometry = refl; losses = λ none. none }
+told_leaves s reader (next.Waited cut) = record { puts = λ q h. refl; readers = λ n h. refl; geometry = refl; losses = λ none. none }
+told_leaves s reader (next.Broke why) = record { puts = λ q h. refl; readers = λ n h. refl; geometry = refl; losses = λ none. none }
 
 pub closed_leaves : (s : State) (reader : ℕ) → LeavesBut None (Some reader) s (state_after s (rec.ReadClosed reader))
 closed_leaves s reader = record {
   puts = λ q h. refl;
   readers = λ n h. find-without (λ (x : ReaderRow). x.reader) reader n s.readers ∙ ap (λ (b : Bool). cond b None (reader_of s n)) (other_number reader n h);
   geometry = refl;
+  losses = λ none. none;
 }
 
 opened_finds : (s : State) (number n : ℕ) (who : Actor) (key : Key) (request : List Field) (answer : ReadAnswer) → (number == n) ≡ false
@@ -98,6 +107,7 @@ opened_leaves s number who key request answer = record {
   puts = λ q h. refl;
   readers = λ n h. opened_finds s number n who key request answer (other_number number n h);
   geometry = refl;
+  losses = λ none. none;
 }
 
 -- ---- calls
@@ -140,7 +150,7 @@ pub miss_leaves : (s : State) (who : Actor) (key : Key) (request : List Field) (
 miss_leaves s who key request why =
     behind_both None s (lookups.lookup_adds s key (read.Miss why)) (rec.ReadOpened s.next_reader who key request (read.Miss why))
     (look_trouble_leaves None s (live_vector_of s key) (read.Miss why))
-    (record { puts = λ q h. refl; readers = λ n h. refl; geometry = refl })
+    (record { puts = λ q h. refl; readers = λ n h. refl; geometry = refl; losses = λ none. none })
 
 -- the same of the records that are kept
 pub kept_leaves : (reader : Option ℕ) (k new : Kept) (recs : List Rec) → new ≡ with_records k recs → LeavesBut None reader (state_of k) (after_all (state_of k) recs) → LeavesBut None reader (state_of k) (state_of new)

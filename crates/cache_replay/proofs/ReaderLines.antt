@@ -27,8 +27,8 @@ use Rattle.script_run.specs.Asked.{asked}
 use Rattle.script_run.specs.Answers.{session_said}
 use Rattle.script_run.specs.Behind.{actors_behind, held_behind, holds_behind, in_session, still_open, streams_behind}
 use Rattle.script_run.specs.Laws.{StepsOwn}
-use Rattle.script_run.specs.Own.{AreOwn}
-use Rattle.script_run.specs.Takes.{GivesOwn, IsOther}
+use Rattle.script_run.specs.Own.{AreOwn, IsPlacedAs}
+use Rattle.script_run.specs.Takes.{GivesOwn, streams_with}
 use Rattle.cache_replay.specs.declared.session.Part.{Part}
 use Rattle.cache_replay.specs.declared.session.Holding.{Holding}
 use Rattle.cache_replay.specs.declared.session.Holding.TheVariants as holding
@@ -37,7 +37,10 @@ use Rattle.cache_replay.specs.Plays.{IsHeldAs, IsStreamOf, PartEnds, PartMoves, 
 use Rattle.cache_replay.specs.ReaderLines.{as_held, reader_held, without_reader}
 use Rattle.cache_replay.proofs.Frames.{Changed, IsElse, IsMine, OthersElse, all_apart, all_held, all_held_as, some_is}
 use Rattle.cache_replay.proofs.Calls.{call_permit}
+use Rattle.cache_replay.specs.Shown.{Shows}
 use Rattle.cache_replay.proofs.OnSession.{are_writing}
+use Rattle.cache_replay.proofs.ReaderFrames.{leaves_all}
+use Rattle.cache_replay.proofs.Shown.{as_placed, shows_first, shows_in}
 
 -- ---- the actors behind a line
 
@@ -191,9 +194,14 @@ module _ {D R C : Type 0} (disk : DiskGhosts D) (directory : DirectoryGhosts R) 
         quiet = subst IsQuiet line.behind line.quiet;
       } in
       elim (tell device s i added Done sound plays.at.told line.does) [
-        | inr other ↦ inr (record { device = device; added = []; left = to_do (asked run s step); grows = nothing; other = IsOther.vector_copied other })
+        | inr pair ↦ inr (shows_in run s step (record {
+          device = device;
+          plain = line.plain;
+          moment = line.moment;
+          shows = subst (λ is. Shows (IsPlacedAs (streams_with run s step)) device s is) (sym line.asks) (shows_first (IsPlacedAs (streams_with run s step)) device s i [] (as_placed (streams_with run s step) device s i pair));
+        }))
         | inl told ↦ elim (own run s turn step sound plays.at.told active.part.quiet plays.at.own (are_writing run s (slots_of before) plays.at active.held) legal) [
-          | inr shown ↦ inr shown.shows
+          | inr shown ↦ inr (turn, record { plain = line.plain; moment = line.moment; shows = shown })
           | inl owned ↦ inl (record {
             turn = turn;
             takes = record { plain = line.plain; moment = line.moment; legal = legal; own = line.gives };
@@ -210,11 +218,12 @@ module _ {D R C : Type 0} (disk : DiskGhosts D) (directory : DirectoryGhosts R) 
   -- ---- the session behind a line
 
   pub part_behind : (old new : Part D R C) → IsPart disk directory chronicle old → IsStripe disk directory chronicle new.stripe → IsQuiet (state_in chronicle new.stripe)
-      → length new.page.items ≡ length old.page.items → (state_in chronicle new.stripe).geometry ≡ (state_in chronicle old.stripe).geometry → IsPart disk directory chronicle new
-  part_behind old new part stripe quiet page geometry = record {
+      → length new.page.items ≡ length old.page.items → (put reader : Option ℕ) → LeavesBut put reader (state_in chronicle old.stripe) (state_in chronicle new.stripe) → IsPart disk directory chronicle new
+  part_behind old new part stripe quiet page put reader leaves = record {
     stripe = stripe;
     quiet = quiet;
-    page = page ∙ (part.page ∙ ap (λ g. 512 * budget_of g) (sym geometry));
+    losses = leaves.losses part.losses;
+    page = page ∙ (part.page ∙ ap (λ g. 512 * budget_of g) (sym leaves.geometry));
   }
 
   pub goes_active : (old new : Part D R C) (slots later : ℕ → Option Holding) (n reader : ℕ) (has : Option Reader) → IsActive disk directory chronicle old slots → IsPart disk directory chronicle new
@@ -241,7 +250,7 @@ module _ {D R C : Type 0} (disk : DiskGhosts D) (directory : DirectoryGhosts R) 
       let there : state_in chronicle new.stripe ≡ state_in chronicle old.stripe = ap state_of kept in
       let still = same_active old slots later same active in
       record {
-        part = part_behind old new active.part stripe quiet (ap (λ (p : Vec ℕ). length p.items) page) (ap (λ (t : State). t.geometry) there);
+        part = part_behind old new active.part stripe quiet (ap (λ (p : Vec ℕ). length p.items) page) None None (leaves_all None None (state_in chronicle old.stripe) (state_in chronicle new.stripe) there);
         held = subst (λ t. AreHeld t later) (sym there) still.held;
         apart = still.apart;
       }

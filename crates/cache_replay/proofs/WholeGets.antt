@@ -15,9 +15,11 @@ use Rattle.cache_model.specs.declared.record.Rec.TheVariants as rec
 use Rattle.cache_model.specs.State.{ReaderRow, Row, State, after_all, reader_of, state_after, table_of_hit}
 use Rattle.cache_model.specs.Kept.{Kept, state_of, with_records}
 use Rattle.cache_model.specs.Verdict.{live_vector_of}
-use Rattle.cache_model.specs.Permit.{Done, Look, Permit, ReadAll, StopReading, to_do}
+use Rattle.cache_model.specs.Permit.{Done, Intent, Look, Permit, ReadAll, StopReading, to_do}
+use Rattle.cache_model.specs.Pair.{IsKeyPair}
+use Rattle.cache_model.specs.Vectors.{IsVectorAs}
 use Rattle.cache_model.specs.Legal
-use Rattle.cache_model.specs.Legal.{Does, IsQuiet, MayGrow, has_hit, nothing}
+use Rattle.cache_model.specs.Legal.{Does, IsQuiet, MayGrow, has_hit}
 use Rattle.cache_model.proofs.Steps.{after_all-append, grows_by}
 use Rattle.stripe_actors.specs.Actors.{FallBelow, reader_numbers}
 use Rattle.stripe_actors.proofs.Telling.{was_given}
@@ -31,12 +33,14 @@ use Rattle.script_run.specs.Asked.{get_intents}
 use Rattle.script_run.specs.Turn.{later, lookup_in, told_in}
 use Rattle.script_run.specs.Answers.{miss_said}
 use Rattle.script_run.specs.Laws.{ReadsOwn}
-use Rattle.script_run.specs.Own.{AreOwn}
-use Rattle.script_run.specs.Takes.{IsOther}
+use Rattle.script_run.specs.Own.{AreOwn, IsPlacedAs}
+use Rattle.script_run.specs.Run.{Run}
 use Rattle.script_lang.specs.declared.answer.StepAnswer.TheVariants as answer
 use Rattle.cache_replay.specs.declared.getting.Got.{Got}
 use Rattle.cache_replay.specs.Session.{LeavesBut}
 use Rattle.cache_replay.specs.Getting.{Began, GetsAsAsked, IsAnswered, IsUnderway, given_in, got_answer}
+use Rattle.cache_replay.specs.Shown.{Shows}
+use Rattle.cache_replay.proofs.Shown.{as_placed, key_pair, shows_first}
 use Rattle.cache_replay.proofs.ReaderFrames.{leaves_then, miss_leaves}
 use Rattle.cache_replay.proofs.WholeReads.{grown, lookup_append, first_of, told_append}
 
@@ -127,6 +131,13 @@ module _ (owns : ReadsOwn) (k k1 : Kept) (old new : Device) (key : Key) (request
   abbrev adds_of : ReadAnswer → List Rec
   adds_of a = open_adds (state_of k) nobody key request a
 
+  -- a pair of the key's vector is shown at once
+  shows_key : (p : Permit) (run : Run) → IsKeyPair IsVectorAs p (state_of k) key → Shows (IsPlacedAs run.streams) p (state_of k) (get_intents (state_of k) key request)
+  shows_key p run pair =
+      let look : Intent = Look 0 key request in
+      shows_first (IsPlacedAs run.streams) p (state_of k) look (ReadAll (state_of k).next_reader ∷ StopReading (state_of k).next_reader ∷ [])
+      (as_placed run.streams p (state_of k) look (key_pair p (state_of k) look key refl pair))
+
   looked : (p : Permit) (a : ReadAnswer) → Does p (state_of k) (Look 0 key request) (adds_of a) Done
       → MayGrow p (state_of k) (to_do (get_intents (state_of k) key request)) (adds_of a) (to_do (ReadAll (state_of k).next_reader ∷ StopReading (state_of k).next_reader ∷ []))
   looked p a d = grows_by p (state_of k) (to_do (get_intents (state_of k) key request)) _ (adds_of a) (Done, d, refl)
@@ -154,7 +165,7 @@ module _ (owns : ReadsOwn) (k k1 : Kept) (old new : Device) (key : Key) (request
             hit = opened_finds (state_of k) nobody key request (read.Hit put) ∙ ap (λ n. Some (read.Hit n)) tells.1;
             front = none_yet (state_of k1).geometry.fragment r.next (run.streams r.put).bytes (first_next k k1 key request put r is tells.0 d.1);
           })
-          | inr collision ↦ inr (record { device = p; added = []; left = to_do (get_intents (state_of k) key request); grows = nothing; other = IsOther.vector_read key collision })
+          | inr pair ↦ inr (shows_key p run pair)
         ];
   }
 
@@ -175,7 +186,7 @@ module _ (owns : ReadsOwn) (k k1 : Kept) (old new : Device) (key : Key) (request
             body = rw (opened_tells (state_of k) nobody key request (read.Follow put)) refl;
             says = rw (opened_finds (state_of k) nobody key request (read.Follow put)) refl;
           })
-          | inr collision ↦ inr (record { device = p; added = []; left = to_do (get_intents (state_of k) key request); grows = nothing; other = IsOther.vector_read key collision })
+          | inr pair ↦ inr (shows_key p run pair)
         ];
   }
 
@@ -198,7 +209,7 @@ module _ (owns : ReadsOwn) (k k1 : Kept) (old new : Device) (key : Key) (request
                 body = rw (opened_tells (state_of k) nobody key request (read.Miss why)) refl;
                 says = rw (opened_finds (state_of k) nobody key request (read.Miss why)) refl;
               })
-              | inr collision ↦ inr (record { device = p; added = []; left = to_do (get_intents (state_of k) key request); grows = nothing; other = IsOther.vector_read key collision })
+              | inr pair ↦ inr (shows_key p run pair)
             ];
       }
 

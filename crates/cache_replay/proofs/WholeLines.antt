@@ -22,15 +22,16 @@ use Rattle.stripe_core.specs.Stripe.{IsStripe, state_in}
 use Rattle.stripe_core.specs.Unharmed.{StaysUnharmed}
 use Rattle.stripe_read.specs.Readers.{IsOpenReader}
 use Rattle.stripe_write.proofs.Spending.{state_behind}
+use Rattle.script_lang.specs.declared.step.Step.{Step}
 use Rattle.script_lang.specs.declared.step.Step.TheVariants as step
 use Rattle.script_lang.specs.declared.answer.StepAnswer.{StepAnswer}
 use Rattle.script_run.specs.Run.{Run, Stream}
-use Rattle.script_run.specs.Asked.{get_intents}
+use Rattle.script_run.specs.Asked.{asked, get_intents}
 use Rattle.script_run.specs.Turn.{Turn}
 use Rattle.script_run.specs.Behind.{in_session}
 use Rattle.script_run.specs.Laws.{ReadsOwn, is_reading}
-use Rattle.script_run.specs.Own.{AreOwn}
-use Rattle.script_run.specs.Takes.{SessionTakes, Shows, StepShows}
+use Rattle.script_run.specs.Own.{AreOwn, IsPlacedAs}
+use Rattle.script_run.specs.Takes.{SessionTakes, streams_with}
 use Rattle.cache_replay.specs.declared.session.Session.{Session}
 use Rattle.cache_replay.specs.declared.session.Part.{Part}
 use Rattle.cache_replay.specs.declared.session.Holding.{Holding}
@@ -39,6 +40,8 @@ use Rattle.cache_replay.specs.declared.getting.Got.{Got}
 use Rattle.cache_replay.specs.Session.{AreHeld, IsActive, IsHeld, IsPart, LeavesBut, names_in, slots_in}
 use Rattle.cache_replay.specs.Plays.{IsHeldAs, Plays, PlaysIn, StepEnds}
 use Rattle.cache_replay.specs.Getting.{Gets, GetsAsAsked, LineEnds, given_in, got_answer}
+use Rattle.cache_replay.specs.Shown.{ShowsAt, ShowsIn}
+use Rattle.cache_replay.proofs.Shown.{shows_in}
 use Rattle.cache_replay.proofs.Frames.{IsElse, held_as_stays, held_stays}
 use Rattle.cache_replay.proofs.OnSession.{on_session, told_behind}
 use Rattle.cache_replay.proofs.Calls.{call_covered, call_permit}
@@ -113,11 +116,14 @@ line_ends owns tell run before after n k k2 key request slots got said gets is s
           let takes = takes_by p refl refl x in
           elim (told_behind tell run (state_of k) (after_all (state_of k) x.added) (turn_by p x) (step.Get key request) takes refl sound plays.told) [
             | inl told ↦ inl (moves p x takes told)
-            | inr shows ↦ inr shows
+            | inr shows ↦ inr (shown_at (step.Get key request) shows)
           ]
-      | inr shows ↦ inr shows
+      | inr shows ↦ inr (record { device = p; plain = refl; moment = refl; shows = shows })
     ]
   where
+    shown_at : (line : Step) → ShowsIn run (Some (state_of k)) line → ShowsAt (IsPlacedAs (streams_with run (state_of k) line)) run.now (state_of k) (asked run (state_of k) line)
+    shown_at line h = record { device = h.0.device; plain = h.1.plain; moment = h.1.moment; shows = (h.0.added, h.1.shows) }
+
     turn_by : (p : Permit) → Gets p k k2 run key request got → Turn
     turn_by p x = record { added = x.added; refused = None; device = p; given = given_in got }
 
@@ -166,18 +172,19 @@ module _ {D R C : Type 0} (disk : DiskGhosts D) (directory : DirectoryGhosts R) 
       → IsActive disk directory chronicle old slots → IsActive disk directory chronicle (record { stripe = stripe; page = with_items old.page page }) slots
   read_active old stripe page n slots part whole quiet leaves none active =
       let new : Part D R C = record { stripe = stripe; page = with_items old.page page } in
-      part_active old new n slots (part_behind disk directory chronicle old new part whole quiet (refilled old.page.len old.page.items page (sym old.page.ok.0)) leaves.geometry) leaves none active
+      part_active old new n slots (part_behind disk directory chronicle old new part whole quiet (refilled old.page.len old.page.items page (sym old.page.ok.0)) None (Some n) leaves) leaves none active
 
   pub session_ends : (run : Run) (old new : Session D R C) (part part2 : Part D R C) (key : Key) (request : List Field) (said : StepAnswer) → old.part ≡ Some part → new.part ≡ Some part2 → names_in new ≡ names_in old → new.now ≡ old.now
       → ((m : ℕ) → slots_in new m ≡ slots_in old m) → Plays disk directory chronicle run old → IsActive disk directory chronicle part (slots_in old)
       → ((run : Run) → AreTold (state_in chronicle part.stripe) → AreOwn (state_in chronicle part.stripe) run.streams
-      → StaysUnharmed disk directory chronicle part.stripe part2.stripe ⊎ Shows run.streams (state_in chronicle part.stripe) (get_intents (state_in chronicle part.stripe) key request))
+      → StaysUnharmed disk directory chronicle part.stripe part2.stripe ⊎ ShowsAt (IsPlacedAs run.streams) run.now (state_in chronicle part.stripe) (get_intents (state_in chronicle part.stripe) key request))
       → ((slots : ℕ → Option Holding) → AreHeld (state_in chronicle part.stripe) slots → PlaysIn run (state_in chronicle part.stripe) slots → LineEnds run (state_in chronicle part.stripe) (state_in chronicle part2.stripe) key request slots said)
       → StepEnds disk directory chronicle run (step.Get key request) new said
   session_ends run old new part part2 key request said was is names kept slots plays active harms ends =
       let s : State = state_in chronicle part.stripe in
       let there = part_plays disk directory chronicle run old part was plays in
-      let shows : Shows run.streams s (get_intents s key request) → StepShows run run.state (step.Get key request) = λ shown. line_shows disk directory chronicle run old part (step.Get key request) was plays shown in
+      let shows : ShowsAt (IsPlacedAs run.streams) run.now s (get_intents s key request) → ShowsIn run run.state (step.Get key request) =
+      λ shown. line_shows disk directory chronicle run old part (step.Get key request) was plays (shows_in run s (step.Get key request) shown) in
       elim (harms run there.at.told there.at.own) [
         | inr shown ↦ inr (shows shown)
         | inl stays ↦ elim (ends (slots_in old) active.held there.at) [

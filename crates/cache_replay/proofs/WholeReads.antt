@@ -1,6 +1,6 @@
 -- One fragment after the other, up to the end.
-use Rattle.std.proofs.Common.{◌≡◌, ℕ, zero, suc, min, ◌+◌, ◌-◌, ◌*◌, ◌<◌, ◌≤◌, List, [], ◌∷◌, ◌++◌, length, take, refl, sym, ◌∙◌, ap, subst, true, false, cond, ◌⊎◌, inl, inr, arith}
-use Rattle.std.specs.Prelude.{Option, Some, None, is_some, option_map, option_and_then, unwrap_or, slice_get}
+use Rattle.std.proofs.Common.{◌≡◌, ℕ, zero, suc, min, ◌+◌, ◌-◌, ◌*◌, ◌<◌, ◌≤◌, List, [], ◌∷◌, ◌++◌, length, take, refl, sym, ◌∙◌, ap, subst, Bool, true, false, cond, ◌⊎◌, inl, inr, arith}
+use Rattle.std.specs.Prelude.{Option, Some, None, if◌then◌else◌, is_some, option_map, option_and_then, unwrap_or, slice_get}
 use Rattle.std.proofs.Math.Nat.{add-mul}
 use Rattle.std.proofs.Math.Seq.{take-add}
 use Rattle.ats_disk.specs.Device.{State as Device}
@@ -13,7 +13,7 @@ use Rattle.cache_model.specs.declared.answer.NextAnswer.{NextAnswer}
 use Rattle.cache_model.specs.declared.answer.NextAnswer.TheVariants as next
 use Rattle.cache_model.specs.declared.record.Rec.{Rec}
 use Rattle.cache_model.specs.declared.record.Rec.TheVariants as rec
-use Rattle.cache_model.specs.State.{ReaderRow, Row, State, live_row_of}
+use Rattle.cache_model.specs.State.{ReaderRow, Row, State, live_row_of, reader_of}
 use Rattle.cache_model.specs.Kept.{Kept, state_of, with_records}
 use Rattle.cache_model.specs.Verdict
 use Rattle.cache_model.specs.Verdict.{next_piece, next_row}
@@ -35,12 +35,15 @@ use Rattle.script_run.specs.Run.{Run}
 use Rattle.script_run.specs.Turn.{is_told, later, lookup_in, told_in}
 use Rattle.script_run.specs.Answers.{broken_said}
 use Rattle.script_run.specs.Laws.{AllIsGiven, ReadIsOwn, ReadsOwn}
-use Rattle.script_run.specs.Own.{AreOwn, IsOtherFragment, piece_of}
-use Rattle.script_run.specs.Takes.{IsOther, Shows}
+use Rattle.script_run.specs.Own.{AreOwn, IsPlacedAs, piece_of}
 use Rattle.script_lang.specs.declared.answer.StepAnswer.{StepAnswer}
 use Rattle.script_lang.specs.declared.answer.StepAnswer.TheVariants as answer
 use Rattle.cache_replay.proofs.Calls.{call_covered, call_permit}
+use Rattle.cache_model.specs.Choices.{to_read}
+use Rattle.cache_model.specs.Pair.{IsPair, IsPairOf, IsToRead}
 use Rattle.cache_replay.specs.Getting.{Answered, Began, IsAnswered, IsUnderway, Underway, rows_left}
+use Rattle.cache_replay.specs.Shown.{Shows}
+use Rattle.cache_replay.proofs.Shown.{shows_behind}
 use Rattle.cache_replay.proofs.Frames.{some_is}
 use Rattle.cache_replay.proofs.ReaderFrames.{read_leaves}
 
@@ -182,6 +185,26 @@ more_front fragment index bytes body part some front here =
     let size : (index + 1 - 1) * fragment ≡ (index - 1) * fragment + fragment = ap (λ n. n * fragment) e ∙ (add-mul (index - 1) 1 fragment ∙ ap (λ n. (index - 1) * fragment + n) one) in
     ap (λ xs. xs ++ part) front ∙ (ap (λ xs. take ((index - 1) * fragment) bytes ++ xs) here ∙ (sym (take-add ((index - 1) * fragment) fragment bytes) ∙ ap (λ n. take n bytes) (sym size)))
 
+-- ---- what is read next
+
+-- the fragment that a reader takes next, where it is live
+pub next_reads : (s : State) (n : ℕ) (r : ReaderRow) (entry : TableRow) (row : Row) → reader_of s n ≡ Some r → next_row s r ≡ Some entry → live_row_of s (next_piece r) ≡ Some row → to_read s (ReadOn n) ≡ Some row
+next_reads s n r entry row found cut live =
+    ap (option_and_then (live_next s)) found ∙ (ap (option_and_then (λ (e : TableRow). live_row_of s (next_piece r))) cut ∙ live)
+
+-- the same of one that hit something and reads to the end
+all_reads : (s : State) (n : ℕ) → has_hit s n ≡ true → to_read s (ReadAll n) ≡ to_read s (ReadOn n)
+all_reads s n hit = ap (λ (b : Bool). if b then to_read s (ReadOn n) else None) hit
+
+-- some way into a whole read, a pair of what is read next
+pub shows_read : (p : Permit) (b : Began) (run : Run) (k : Kept) (r : Reader) (body : List ℕ) (way : Underway p b k run r body) → is_some r.table ≡ true
+    → (row : Row) → to_read (state_of k) (ReadOn r.reader) ≡ Some row → IsPairOf (IsPlacedAs run.streams) p (state_of k) row → Shows (IsPlacedAs run.streams) p (state_of b.kept) b.asks
+shows_read p b run k r body way hit row reads pair =
+    let first : IsPair (IsPlacedAs run.streams) p (state_of k) (ReadAll r.reader) =
+    record { row = row; read = IsToRead.asked_for (all_reads (state_of k) r.reader (hit_is (state_of k) r way.reader hit) ∙ reads); pair = pair } in
+    shows_behind (IsPlacedAs run.streams) p (state_of b.kept) b.asks way.added (to_do (ReadAll r.reader ∷ StopReading r.reader ∷ [])) way.grows
+    (subst (λ t. IsPair (IsPlacedAs run.streams) p t (ReadAll r.reader)) (state_behind b.kept k way.added way.adds) first)
+
 -- ---- the step
 
 -- one group behind the others
@@ -214,7 +237,7 @@ module _ (owns : ReadsOwn) (reads_own_bytes : ReadIsOwn) (given_all : AllIsGiven
 
   pub piece_way : (index size : ℕ) (into : List ℕ) (r2 : Reader) → k2 ≡ with_records k (adds_of (piece.Piece index size)) → Does p (state_of k) (ReadOn r.reader) (adds_of (piece.Piece index size)) Done
       → GoesOn r (piece.Piece index size) r2 → IsReaderOf (state_of k2) r2 → IsFragment p (state_of k) r index size into
-      → Underway p b k2 run r2 (body ++ take size into) ⊎ Shows run.streams (state_of b.kept) b.asks
+      → Underway p b k2 run r2 (body ++ take size into) ⊎ Shows (IsPlacedAs run.streams) p (state_of b.kept) b.asks
   piece_way index size into r2 is d goes own f =
       elim (reads_own_bytes p (state_of k) run.streams (as_row r) f.row size into way.own some f.live f.document) [
         | inl same ↦ inl (record {
@@ -226,7 +249,7 @@ module _ (owns : ReadsOwn) (reads_own_bytes : ReadIsOwn) (given_all : AllIsGiven
           hit = lookup_first way.added (adds_of (piece.Piece index size)) (read.Hit r2.put) (way.hit ∙ ap (λ n. Some (read.Hit n)) (sym goes.put));
           front = front_behind index size into r2 is goes same;
         })
-        | inr other ↦ inr (record { device = p; added = way.added; left = _; grows = way.grows; other = IsOther.fragment (subst (λ t. IsOtherFragment p t run.streams) (state_behind b.kept k way.added way.adds) other) })
+        | inr other ↦ inr (shows_read p b run k r body way hit f.row (next_reads (state_of k) r.reader (row_by way.reader.actor r) f.entry f.row way.reader.found f.cut f.live) other)
       ]
     where
       front_behind : (index size : ℕ) (into : List ℕ) (r2 : Reader) → k2 ≡ with_records k (adds_of (piece.Piece index size)) → GoesOn r (piece.Piece index size) r2

@@ -20,13 +20,15 @@ use Rattle.script_run.specs.Run.{Run}
 use Rattle.script_run.specs.Turn.{Turn, lookup_in, told_in}
 use Rattle.script_run.specs.Asked.{get_intents}
 use Rattle.script_run.specs.Answers.{broken_said, get_said, miss_said}
-use Rattle.script_run.specs.Own.{AreOwn}
+use Rattle.script_run.specs.Own.{AreOwn, IsPlacedAs}
 use Rattle.script_lang.specs.declared.step.Step.TheVariants as step
 use Rattle.script_run.specs.Answers.{session_said}
 use Rattle.script_run.specs.Behind.{in_session}
-use Rattle.script_run.specs.Takes.{IsBody, SessionTakes, Shows}
+use Rattle.script_run.specs.Takes.{IsBody, SessionTakes}
 use Rattle.cache_replay.specs.declared.session.Holding.{Holding}
 use Rattle.cache_replay.specs.Plays.{PlaysIn}
+use Rattle.cache_replay.specs.Outline.{count_of}
+use Rattle.cache_replay.specs.Shown.{Shows, ShowsAt}
 use Rattle.cache_replay.specs.declared.getting.Got.{Got}
 use Rattle.cache_replay.specs.declared.getting.Got.TheVariants as got
 
@@ -44,6 +46,11 @@ got_answer (got.Broken why) = broken_said why
 got_answer (got.Follow put) = answer.Follow put
 got_answer (got.Miss why) = miss_said why
 
+-- the count of the device fault for which a reader breaks; 0 where it does not break so
+abbrev pub count_in_piece : NextPiece → ℕ
+count_in_piece (piece.Broken why) = count_of why
+count_in_piece _ = 0
+
 -- ---- a whole read
 
 -- a step of a legal history with this answer, and the body is what the put's writer took
@@ -59,7 +66,7 @@ pub record Gets (p : Permit) (old new : Kept) (run : Run) (key : Key) (request :
 pub record GetsAsAsked (before after : ℕ) (old new : Kept) (key : Key) (request : List Field) (got : Got) : Type 0 where
   pub reads : List DeviceRead
   pub does : (p : Permit) (run : Run) → Covers p before after reads → AreTold (state_of old) → AreOwn (state_of old) run.streams
-      → Gets p old new run key request got ⊎ Shows run.streams (state_of old) (get_intents (state_of old) key request)
+      → Gets p old new run key request got ⊎ Shows (IsPlacedAs run.streams) p (state_of old) (get_intents (state_of old) key request)
 
 -- ---- on the way through it
 
@@ -84,7 +91,7 @@ pub record IsUnderway (b : Began) (now : ℕ) (new : Kept) (r : Reader) (body : 
   pub reads : List DeviceRead
   pub since : b.faults ≤ now
   pub does : (p : Permit) (run : Run) → Covers p b.faults now reads → AreTold (state_of b.kept) → AreOwn (state_of b.kept) run.streams
-      → Underway p b new run r body ⊎ Shows run.streams (state_of b.kept) b.asks
+      → Underway p b new run r body ⊎ Shows (IsPlacedAs run.streams) p (state_of b.kept) b.asks
 
 -- this is answered, with these bytes, and so much is left to be done
 pub record Answered (p : Permit) (b : Began) (new : Kept) (run : Run) (left : List Intent) (given : List ℕ) (said : StepAnswer) : Type 0 where
@@ -98,7 +105,7 @@ pub record Answered (p : Permit) (b : Began) (new : Kept) (run : Run) (left : Li
 pub record IsAnswered (b : Began) (now : ℕ) (new : Kept) (left : List Intent) (given : List ℕ) (said : StepAnswer) : Type 0 where
   pub reads : List DeviceRead
   pub does : (p : Permit) (run : Run) → Covers p b.faults now reads → AreTold (state_of b.kept) → AreOwn (state_of b.kept) run.streams
-      → Answered p b new run left given said ⊎ Shows run.streams (state_of b.kept) b.asks
+      → Answered p b new run left given said ⊎ Shows (IsPlacedAs run.streams) p (state_of b.kept) b.asks
 
 -- ---- one fragment after the other
 
@@ -129,4 +136,4 @@ pub record LineGets (run : Run) (s t : State) (key : Key) (request : List Field)
 
 -- so it is, or two documents of one SHA-256 are shown
 abbrev pub LineEnds : Run → (s t : State) → Key → List Field → (ℕ → Option Holding) → StepAnswer → Type 0
-LineEnds run s t key request slots said = LineGets run s t key request slots said ⊎ Shows run.streams s (get_intents s key request)
+LineEnds run s t key request slots said = LineGets run s t key request slots said ⊎ ShowsAt (IsPlacedAs run.streams) run.now s (get_intents s key request)

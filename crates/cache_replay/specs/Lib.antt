@@ -1,6 +1,9 @@
+pub mod Stop
+pub mod Outline
+pub mod Lines
+pub mod Shown
 pub mod Session
 pub mod Plays
-pub mod Stop
 pub mod Feeding
 pub mod Putting
 pub mod Getting

@@ -20,13 +20,16 @@ use Rattle.script_run.specs.Turn.{Turn}
 use Rattle.script_run.specs.Answers.{session_said, step_answer}
 use Rattle.script_run.specs.Behind.{after_step, harm_of, in_session}
 use Rattle.script_run.specs.Own.{AreOwn}
-use Rattle.script_run.specs.Takes.{SessionTakes, StepShows, StepTakes}
+use Rattle.script_run.specs.Takes.{SessionTakes, StepTakes}
 use Rattle.cache_replay.specs.declared.session.Session.{Session}
 use Rattle.cache_replay.specs.declared.session.Part.{Part}
 use Rattle.cache_replay.specs.declared.session.Holding.{Holding}
 use Rattle.cache_replay.specs.declared.session.Holding.TheVariants as holding
 use Rattle.cache_replay.specs.declared.stop.Stop.{Stop}
 use Rattle.cache_replay.specs.declared.stop.Stop.TheVariants.{Memory}
+use Rattle.cache_replay.specs.Stop.{AttachesAs}
+use Rattle.cache_replay.specs.Outline.{IsAnswered, Outline, outline_after, told_of}
+use Rattle.cache_replay.specs.Shown.{ShowsIn}
 use Rattle.cache_replay.specs.Session.{IsSession, names_in, return_of, slots_in, slots_of}
 
 -- ---- a session beside a run
@@ -106,7 +109,7 @@ module _ {D R C : Type 0} (disk : DiskGhosts D) (directory : DirectoryGhosts R) 
 
   -- so it is, or two documents of one SHA-256 are shown
   abbrev pub StepEnds : Run → Step → Session D R C → StepAnswer → Type 0
-  StepEnds run step new said = StepMoves run step new said ⊎ StepShows run run.state step
+  StepEnds run step new said = StepMoves run step new said ⊎ ShowsIn run run.state step
 
 -- ---- a line on a part
 
@@ -125,7 +128,7 @@ module _ {D R C : Type 0} (chronicle : ChronicleGhosts C) where
 
   -- so it is, or two documents of one SHA-256 are shown
   abbrev pub PartEnds : Run → State → Step → Part D R C → Seen Holding → StepAnswer → Type 0
-  PartEnds run s step part actors said = PartMoves run s step part actors said ⊎ StepShows run (Some s) step
+  PartEnds run s step part actors said = PartMoves run s step part actors said ⊎ ShowsIn run (Some s) step
 
 -- ---- devices
 
@@ -158,14 +161,32 @@ pub record DeviceMoves {D R C : Type 0} (disk : DiskGhosts D) (directory : Direc
   pub named : (after_step run moves.turn step).names ≡ run.names ++ names
   pub deals : Deals before now harms names
 
--- What a line leaves that ended the run for this reason: the session's device and the bay as they were; or, of a format
--- that wanted memory once its device was attached, both devices came back, that of the session first, and there is no
--- session.
-pub data IsLeft {D R C : Type 0} (disk : DiskGhosts D) (directory : DirectoryGhosts R) (chronicle : ChronicleGhosts C) (run : Run) (new : Session D R C) (before now : Ledger) (why : Stop) : Type 0 where
-  stays : HasReached disk directory chronicle run new → now ≡ before → IsLeft disk directory chronicle run new before now why
-  ended : (name : List ℕ) → new.part ≡ None → Deals before now (harm_of run.state ++ no_harm ∷ []) (name ∷ []) → why ≡ Memory → IsLeft disk directory chronicle run new before now why
-
 -- so it is, or two documents of one SHA-256 are shown
 abbrev pub DeviceEnds : {D R C : Type 0} → DiskGhosts D → DirectoryGhosts R → ChronicleGhosts C → Run → Step → Session D R C → StepAnswer → (before now : Ledger) → Type 0
 DeviceEnds disk directory chronicle run step new said before now =
-    DeviceMoves disk directory chronicle run step new said before now ⊎ StepShows run run.state step
+    DeviceMoves disk directory chronicle run step new said before now ⊎ ShowsIn run run.state step
+
+-- ---- whatever the records are worth
+
+module _ {D R C : Type 0} (disk : DiskGhosts D) (directory : DirectoryGhosts R) (chronicle : ChronicleGhosts C) where
+  -- an outline has a session where there is one, of whose device no count above its own was told
+  abbrev pub IsOutlined : Outline → Session D R C → Type 0
+  IsOutlined o session = AreReached (told_of o.session) (return_of disk directory chronicle session.part)
+
+  -- A step was answered, the devices of what it ended came back, and its own was attached.
+  pub record Outlines (o : Outline) (step : Step) (new : Session D R C) (said : StepAnswer) (before now : Ledger) : Type 0 where
+    pub answered : IsAnswered o step said
+    pub outlined : IsOutlined (outline_after o step said) new
+    pub harms : List Harm
+    pub ended : (outline_after o step said).ended ≡ o.ended ++ harms
+    pub names : List (List ℕ)
+    pub named : (outline_after o step said).names ≡ o.names ++ names
+    pub deals : Deals before now harms names
+
+  -- What a line leaves that ended the run for this reason, where so much was told of the session's device: the device
+  -- and the bay as they were; or, of a format that wanted memory once its device was attached, both devices came back,
+  -- that of the session first, and there is no session.
+  pub data IsLeft (harms : List Harm) (step : Step) (new : Session D R C) (before now : Ledger) (why : Stop) : Type 0 where
+    stays : AreReached harms (return_of disk directory chronicle new.part) → now ≡ before → IsLeft harms step new before now why
+    ended : (name : List ℕ) → AttachesAs name step → new.part ≡ None → Deals before now (harms ++ no_harm ∷ []) (name ∷ []) → why ≡ Memory
+        → IsLeft harms step new before now why

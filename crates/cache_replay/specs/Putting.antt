@@ -3,15 +3,14 @@ use Rattle.std.specs.Prelude.{ℕ, ◌≡◌, ◌⊎◌, ◌++◌, false, List, 
 use Rattle.tape_base.specs.declared.keys.Key.{Key}
 use Rattle.alternate_vector.specs.Field.{Field}
 use Rattle.cache_model.specs.declared.record.Rec.{Rec}
-use Rattle.cache_model.specs.State.{State, after_all}
+use Rattle.cache_model.specs.State.{State}
 use Rattle.cache_model.specs.Kept.{Kept, state_of, with_records}
 use Rattle.cache_model.specs.Permit.{DeviceRead, GiveUp, Intent, Lost, Permit, Reason, Work, is_cleanup, to_do}
 use Rattle.cache_model.specs.Legal.{IsStep, MayGrow, is_writing}
-use Rattle.cache_model.specs.Vectors.{AreTold, IsOtherVector}
+use Rattle.cache_model.specs.Vectors.{AreTold, IsVectorAs}
 use Rattle.stripe_core.specs.declared.refusal.Refusal.{Refusal}
 use Rattle.stripe_core.specs.declared.refusal.Refusal.TheVariants as refusal
 use Rattle.stripe_core.specs.Covers.{Covers}
-use Rattle.stripe_vectors.specs.Reading.{IsCollision}
 use Rattle.stripe_write.specs.declared.finishing.Receipt.{Receipt}
 use Rattle.stripe_write.specs.declared.writer.Writer.{Writer}
 use Rattle.script_lang.specs.declared.answer.Refused.TheVariants as refused
@@ -19,22 +18,7 @@ use Rattle.script_lang.specs.declared.answer.StepAnswer.{StepAnswer}
 use Rattle.script_lang.specs.declared.answer.StepAnswer.TheVariants as answer
 use Rattle.script_run.specs.Asked.{body_intents, put_intents}
 use Rattle.script_run.specs.Answers.{put_said, said}
-
--- ---- two documents of one SHA-256
-
--- the document of a vector, and other bytes that the device gave for it
-pub data IsVectorPair (p : Permit) (s : State) : Type 0 where
-  -- as a key's vector was read
-  read_other : (key : Key) → IsCollision p s key → IsVectorPair p s
-  -- as a vector was copied
-  copied_other : IsOtherVector p s → IsVectorPair p s
-
--- so it is some way into what is asked
-pub record ShowsPair (p : Permit) (s : State) (asks : List Intent) : Type 0 where
-  pub added : List Rec
-  pub left : Work
-  pub grows : MayGrow p s (to_do asks) added left
-  pub other : IsVectorPair p (after_all s added)
+use Rattle.cache_replay.specs.Shown.{Shows}
 
 -- ---- answers
 
@@ -88,7 +72,7 @@ pub record Fills (p : Permit) (old new : Kept) (w : Writer) (body : List ℕ) (r
 pub record FillsAsAsked (now before after : ℕ) (old new : Kept) (w : Writer) (body : List ℕ) (result : Result Receipt Refusal) : Type 0 where
   pub reads : List DeviceRead
   pub does : (p : Permit) → p.now ≡ now → Covers p before after reads → AreTold (state_of old) → (rest : List Intent)
-      → Fills p old new w body result ⊎ ShowsPair p (state_of old) (body_intents (state_of old).geometry.fragment w.put body ++ rest)
+      → Fills p old new w body result ⊎ Shows IsVectorAs p (state_of old) (body_intents (state_of old).geometry.fragment w.put body ++ rest)
 
 -- where memory is wanting nothing is said
 abbrev pub FillsWhere : (now before after : ℕ) → (old new : Kept) → Writer → List ℕ → Result Receipt Refusal → Type 0
@@ -113,7 +97,7 @@ pub record BodyEnds (p : Permit) (old new : Kept) (put : ℕ) (body : List ℕ) 
 pub record BodyEndsAsAsked (now before after : ℕ) (old new : Kept) (put : ℕ) (body : List ℕ) (result : Result Receipt Refusal) : Type 0 where
   pub reads : List DeviceRead
   pub does : (p : Permit) → p.now ≡ now → Covers p before after reads → AreTold (state_of old)
-      → BodyEnds p old new put body result ⊎ ShowsPair p (state_of old) (ending_intents (state_of old) put body)
+      → BodyEnds p old new put body result ⊎ Shows IsVectorAs p (state_of old) (ending_intents (state_of old) put body)
 
 -- where memory is wanting nothing is said
 abbrev pub BodyEndsWhere : (now before after : ℕ) → (old new : Kept) → ℕ → List ℕ → Result Receipt Refusal → Type 0
@@ -140,7 +124,7 @@ pub record Puts (p : Permit) (old new : Kept) (key : Key) (body : List ℕ) (req
 pub record PutsAsAsked (now before after : ℕ) (old new : Kept) (key : Key) (body : List ℕ) (request response : List Field) (result : Result Receipt Refusal) : Type 0 where
   pub reads : List DeviceRead
   pub does : (p : Permit) → p.now ≡ now → Covers p before after reads → AreTold (state_of old)
-      → Puts p old new key body request response result ⊎ ShowsPair p (state_of old) (put_intents (state_of old) key body request response)
+      → Puts p old new key body request response result ⊎ Shows IsVectorAs p (state_of old) (put_intents (state_of old) key body request response)
 
 -- where memory is wanting nothing is said
 abbrev pub PutsWhere : (now before after : ℕ) → (old new : Kept) → Key → List ℕ → (request response : List Field) → Result Receipt Refusal → Type 0

@@ -15,7 +15,9 @@ use Rattle.script_lang.specs.declared.answer.StepAnswer.TheVariants as answer
 use Rattle.script_run.specs.Run.{Run}
 use Rattle.script_run.specs.Turn.{told_in}
 use Rattle.script_run.specs.Answers.{broken_said, miss_said, next_said}
-use Rattle.script_run.specs.Takes.{IsPiece, Shows}
+use Rattle.script_run.specs.Own.{IsPlacedAs}
+use Rattle.script_run.specs.Takes.{IsPiece}
+use Rattle.cache_replay.specs.Shown.{ShowsAt}
 use Rattle.cache_replay.specs.declared.session.Holding.{Holding}
 use Rattle.cache_replay.specs.declared.session.Holding.TheVariants as holding
 
@@ -80,4 +82,4 @@ pub record NextMoves (run : Run) (s t : State) (r new : Reader) (said : StepAnsw
 
 -- or two documents of one SHA-256 are shown
 abbrev pub NextEnds : Run → (s t : State) → (r new : Reader) → StepAnswer → Type 0
-NextEnds run s t r new said = NextMoves run s t r new said ⊎ Shows run.streams s (ReadOn r.reader ∷ [])
+NextEnds run s t r new said = NextMoves run s t r new said ⊎ ShowsAt (IsPlacedAs run.streams) run.now s (ReadOn r.reader ∷ [])

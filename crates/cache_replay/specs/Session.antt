@@ -1,5 +1,5 @@
 -- What holds of a session between lines, whatever its device gave.
-use Rattle.std.specs.Prelude.{ℕ, ◌≡◌, ◌*◌, ⊤, true, List, [], ◌∷◌, length, Option, Some, None, IfSome}
+use Rattle.std.specs.Prelude.{ℕ, ◌≡◌, ◌*◌, ◌≤◌, ⊤, true, List, [], ◌∷◌, length, Option, Some, None, IfSome}
 use Rattle.tape_base.specs.Geometry.{budget_of}
 use Rattle.ats_disk.specs.Bay.{Return, return_of_device}
 use Rattle.ats_disk.specs.declared.device.Disk.{Ghosts as DiskGhosts}
@@ -11,6 +11,9 @@ use Rattle.stripe_core.specs.Stripe.{IsStripe, seen_in, state_in}
 use Rattle.stripe_write.specs.Writers.{IsWriterOf}
 use Rattle.stripe_read.specs.Readers.{IsOpenReader}
 use Rattle.actor_table.specs.Table.{Seen, slot_of}
+use Rattle.script_lang.specs.declared.answer.StepAnswer.{StepAnswer}
+use Rattle.script_run.specs.Losses.{NoLossIsAFault}
+use Rattle.cache_replay.specs.Outline.{count_in}
 use Rattle.cache_replay.specs.declared.session.Session.{Session}
 use Rattle.cache_replay.specs.declared.session.Part.{Part}
 use Rattle.cache_replay.specs.declared.session.Holding.{Holding}
@@ -61,10 +64,11 @@ abbrev pub devices_of : {D R C : Type 0} → Session D R C → ℕ
 devices_of session = parts_of session.part
 
 module _ {D R C : Type 0} (disk : DiskGhosts D) (directory : DirectoryGhosts R) (chronicle : ChronicleGhosts C) where
-  -- its stripe, and a page that takes any piece
+  -- its stripe, none of whose pieces was lost by a fault of the device, and a page that takes any piece
   pub record IsPart (part : Part D R C) : Type 0 where
     pub stripe : IsStripe disk directory chronicle part.stripe
     pub quiet : IsQuiet (state_in chronicle part.stripe)
+    pub losses : NoLossIsAFault (state_in chronicle part.stripe)
     pub page : length part.page.items ≡ 512 * budget_of (state_in chronicle part.stripe).geometry
 
   -- a part beside what the actors have, which is open in it, and no two have the same
@@ -87,10 +91,30 @@ module _ {D R C : Type 0} (disk : DiskGhosts D) (directory : DirectoryGhosts R) 
   return_of None = []
   return_of (Some part) = return_of_device (seen_in disk directory part.stripe).device ∷ []
 
+  -- the count of a fault that an answer tells is no higher than that of the session's device
+  abbrev pub TellsCount : Option (Part D R C) → StepAnswer → Type 0
+  TellsCount None said = ⊥
+  TellsCount (Some part) said = count_in said ≤ (seen_in disk directory part.stripe).device.faults
+
+-- ---- a device that goes on
+
+-- it counts no less than before, and is trusted no more
+pub record IsLater (old new : Return) : Type 0 where
+  pub faults : old.faults ≤ new.faults
+  pub trust : new.trust ≤ old.trust
+
+-- so it is of the device of a session, where there is one
+abbrev pub AreLater : List Return → List Return → Type 0
+AreLater [] [] = ⊤
+AreLater [] (new ∷ others) = ⊥
+AreLater (old ∷ devices) [] = ⊥
+AreLater (old ∷ devices) (new ∷ others) = IsLater old new × AreLater devices others
+
 -- ---- what a call leaves
 
--- all puts but one and all readers but one are as they were
+-- all puts but one and all readers but one are as they were, and no piece was lost by a fault of the device
 pub record LeavesBut (put reader : Option ℕ) (s t : State) : Type 0 where
   pub puts : (q : ℕ) → (put ≡ Some q → ⊥) → put_of t q ≡ put_of s q
   pub readers : (n : ℕ) → (reader ≡ Some n → ⊥) → reader_of t n ≡ reader_of s n
   pub geometry : t.geometry ≡ s.geometry
+  pub losses : NoLossIsAFault s → NoLossIsAFault t

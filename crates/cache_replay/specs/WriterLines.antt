@@ -19,9 +19,10 @@ use Rattle.script_run.specs.Run.{Run, Writes, held_by}
 use Rattle.script_run.specs.Turn.{Turn}
 use Rattle.script_run.specs.Answers.{session_said}
 use Rattle.script_run.specs.Behind.{holds_behind, streams_behind}
-use Rattle.script_run.specs.Takes.{SessionTakes, StepShows}
+use Rattle.script_run.specs.Takes.{SessionTakes}
 use Rattle.cache_replay.specs.declared.session.Holding.{Holding}
 use Rattle.cache_replay.specs.declared.session.Holding.TheVariants as holding
+use Rattle.cache_replay.specs.Shown.{ShowsIn}
 use Rattle.cache_replay.specs.Session.{slots_of}
 use Rattle.cache_replay.specs.Plays.{IsStreamOf}
 use Rattle.cache_replay.specs.Putting.{refusal_answer}
@@ -95,7 +96,7 @@ pub record WriterMoves (run : Run) (name : List ℕ) (s t : State) (line : Write
 
 -- so it is, or two documents of one SHA-256 are shown
 abbrev pub WriterEnds : Run → List ℕ → State → State → WriterLine → Option Writer → StepAnswer → Type 0
-WriterEnds run name s t line left said = WriterMoves run name s t line left said ⊎ StepShows run (Some s) (step_of line name)
+WriterEnds run name s t line left said = WriterMoves run name s t line left said ⊎ ShowsIn run (Some s) (step_of line name)
 
 -- at a moment; where memory is wanting nothing is answered
 abbrev pub WriterDoes : ℕ → State → State → WriterLine → Writer → Option Writer → Option StepAnswer → Type 0

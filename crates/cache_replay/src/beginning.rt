@@ -1,5 +1,5 @@
 // Sessions begin, formats give them devices, and the devices come back.
-ghost use Rattle.std.specs.Prelude.{◌≡◌, ◌+◌, ◌-◌, ◌*◌, ◌<◌, ◌≤◌, ◌++◌, ◌∷◌, [], ℕ, None, Some, length, IfOk, IfErr, OnOk, OnErr};
+ghost use Rattle.std.specs.Prelude.{◌≡◌, ◌+◌, ◌-◌, ◌*◌, ◌<◌, ◌≤◌, ◌++◌, ◌∷◌, [], ℕ, List, None, Some, length, IfOk, IfErr, OnOk, OnErr};
 ghost use Rattle.std.specs.Result.{result_err};
 ghost use Rattle.tape_base.specs.Geometry.{HasNumbers, budget_of};
 ghost use Rattle.tape_base.specs.Limits.{first_refusal};
@@ -7,12 +7,14 @@ ghost use Rattle.ats_disk.specs.Bay.{IsAttached};
 ghost use Rattle.script_lang.specs.declared.step.Step.TheVariants as step;
 ghost use Rattle.cache_model.specs.Legal.{format_records};
 ghost use Rattle.stripe_core.specs.Stripe.{seen_in};
-ghost use Rattle.script_run.specs.Run.{Run, fresh};
+ghost use Rattle.script_lang.specs.declared.step.Step.{Step};
+ghost use Rattle.script_run.specs.Run.{Harm, Run, fresh, no_harm};
 ghost use Rattle.script_run.specs.Answers.{number_of_bad};
-ghost use Rattle.script_run.specs.Behind.{harm_of, formatted};
+ghost use Rattle.script_run.specs.Behind.{formatted};
 ghost use Rattle.cache_replay.specs.Session.{IsSession, devices_of, names_in, parts_of, return_of, slots_in};
-ghost use Rattle.cache_replay.specs.Plays.{ComeBack, Deals, DeviceMoves, HasReached, IsLeft, Plays, PlaysReach, ledger_of};
-ghost use Rattle.cache_replay.specs.Stop.{IsFormatStop};
+ghost use Rattle.cache_replay.specs.Outline.{Outline, blank};
+ghost use Rattle.cache_replay.specs.Plays.{AreReached, ComeBack, Deals, DeviceMoves, IsLeft, IsOutlined, Outlines, Plays, PlaysReach, ledger_of};
+ghost use Rattle.cache_replay.specs.Stop.{AttachesAs, IsFormatStop};
 
 use crate::session::{Cache, Part, Session};
 use crate::stop::Stop;
@@ -32,6 +34,7 @@ use tape_base::{BadGeometry, Geometry, alternates_are_last, floor_of};
 pub fn begin<D: Disk>(alloc: Global) -> Cache<D>
     ensures session { IsSession D.Disk ⟦<ListDirectory as Directory>⟧ ⟦<FullChronicle as Chronicle>⟧ result }
     ensures plays { Plays D.Disk ⟦<ListDirectory as Directory>⟧ ⟦<FullChronicle as Chronicle>⟧ fresh result }
+    ensures outline { IsOutlined D.Disk ⟦<ListDirectory as Directory>⟧ ⟦<FullChronicle as Chronicle>⟧ blank result }
     ensures devices { devices_of result ≡ 0 }
     ensures names { names_in result ≡ [] }
 {
@@ -52,8 +55,9 @@ pub fn plays_reach<D: Disk, R: Directory + Drop, C: Chronicle>()
 /// Gives the session's device back.
 pub fn close<B: Bay>(session: Cache<B::Dev>, bay: &mut B)
     requires held { devices_of session ≤ B.out bay.old }
-    ensures back { (run : Run) → HasReached B.Dev.Disk ⟦<ListDirectory as Directory>⟧ ⟦<FullChronicle as Chronicle>⟧ run session
-        → ComeBack (B.returned bay.old) (B.returned bay.new) (harm_of run.state) }
+    ensures back { (harms : List Harm)
+        → AreReached harms (return_of B.Dev.Disk ⟦<ListDirectory as Directory>⟧ ⟦<FullChronicle as Chronicle>⟧ session.part)
+        → ComeBack (B.returned bay.old) (B.returned bay.new) harms }
     ensures out { B.out bay.new + devices_of session ≡ B.out bay.old }
     ensures names { B.names bay.new ≡ B.names bay.old }
     ensures faults { B.faults bay.new ≡ B.faults bay.old }
@@ -185,8 +189,15 @@ pub(crate) fn format_line<B: Bay>(
         → DeviceMoves B.Dev.Disk ⟦<ListDirectory as Directory>⟧ ⟦<FullChronicle as Chronicle>⟧ run
         (step.Format name.now segments buckets content agg reach fragment generation alternates) session.new said
         (ledger_of B.Bay bay.old) (ledger_of B.Bay bay.new)) }
-    ensures left { IfErr result (λ why. (run : Run) → Plays B.Dev.Disk ⟦<ListDirectory as Directory>⟧ ⟦<FullChronicle as Chronicle>⟧ run session.old
-        → IsLeft B.Dev.Disk ⟦<ListDirectory as Directory>⟧ ⟦<FullChronicle as Chronicle>⟧ run session.new (ledger_of B.Bay bay.old) (ledger_of B.Bay bay.new) why) }
+    ensures outline { IfOk result (λ said. (o : Outline) → IsOutlined B.Dev.Disk ⟦<ListDirectory as Directory>⟧ ⟦<FullChronicle as Chronicle>⟧ o session.old
+        → Outlines B.Dev.Disk ⟦<ListDirectory as Directory>⟧ ⟦<FullChronicle as Chronicle>⟧ o
+        (step.Format name.now segments buckets content agg reach fragment generation alternates) session.new said
+        (ledger_of B.Bay bay.old) (ledger_of B.Bay bay.new)) }
+    ensures left { IfErr result (λ why. (harms : List Harm)
+        → AreReached harms (return_of B.Dev.Disk ⟦<ListDirectory as Directory>⟧ ⟦<FullChronicle as Chronicle>⟧ session.old.part)
+        → IsLeft B.Dev.Disk ⟦<ListDirectory as Directory>⟧ ⟦<FullChronicle as Chronicle>⟧ harms
+        (step.Format name.now segments buckets content agg reach fragment generation alternates) session.new
+        (ledger_of B.Bay bay.old) (ledger_of B.Bay bay.new) why) }
     ensures stop { IfErr result (λ stop. (first_refusal segments buckets content agg reach fragment alternates ≡ None) × IsFormatStop (B.faults bay.old) (B.faults bay.new) stop) }
     ensures out { B.out bay.new + devices_of session.old ≡ B.out bay.old + devices_of session.new }
     ensures names { names_in session.new ≡ names_in session.old }
@@ -224,10 +235,13 @@ fn format<B: Bay>(
     ensures session { IsSession B.Dev.Disk ⟦<ListDirectory as Directory>⟧ ⟦<FullChronicle as Chronicle>⟧ session.new }
     ensures plays { OnOk result ((run : Run) → Plays B.Dev.Disk ⟦<ListDirectory as Directory>⟧ ⟦<FullChronicle as Chronicle>⟧ run session.old
         → Plays B.Dev.Disk ⟦<ListDirectory as Directory>⟧ ⟦<FullChronicle as Chronicle>⟧ (formatted run name.now (format_records geometry)) session.new) }
-    ensures deals { OnOk result ((run : Run) → Plays B.Dev.Disk ⟦<ListDirectory as Directory>⟧ ⟦<FullChronicle as Chronicle>⟧ run session.old
-        → Deals (ledger_of B.Bay bay.old) (ledger_of B.Bay bay.new) (harm_of run.state) (name.now ∷ [])) }
-    ensures left { IfErr result (λ why. (run : Run) → Plays B.Dev.Disk ⟦<ListDirectory as Directory>⟧ ⟦<FullChronicle as Chronicle>⟧ run session.old
-        → IsLeft B.Dev.Disk ⟦<ListDirectory as Directory>⟧ ⟦<FullChronicle as Chronicle>⟧ run session.new (ledger_of B.Bay bay.old) (ledger_of B.Bay bay.new) why) }
+    ensures begun { OnOk result (AreReached (no_harm ∷ []) (return_of B.Dev.Disk ⟦<ListDirectory as Directory>⟧ ⟦<FullChronicle as Chronicle>⟧ session.new.part)) }
+    ensures deals { OnOk result ((harms : List Harm)
+        → AreReached harms (return_of B.Dev.Disk ⟦<ListDirectory as Directory>⟧ ⟦<FullChronicle as Chronicle>⟧ session.old.part)
+        → Deals (ledger_of B.Bay bay.old) (ledger_of B.Bay bay.new) harms (name.now ∷ [])) }
+    ensures left { IfErr result (λ why. (harms : List Harm) (step : Step) → AttachesAs name.now step
+        → AreReached harms (return_of B.Dev.Disk ⟦<ListDirectory as Directory>⟧ ⟦<FullChronicle as Chronicle>⟧ session.old.part)
+        → IsLeft B.Dev.Disk ⟦<ListDirectory as Directory>⟧ ⟦<FullChronicle as Chronicle>⟧ harms step session.new (ledger_of B.Bay bay.old) (ledger_of B.Bay bay.new) why) }
     ensures stop { IfErr result (IsFormatStop (B.faults bay.old) (B.faults bay.new)) }
     ensures out { B.out bay.new + devices_of session.old ≡ B.out bay.old + devices_of session.new }
     ensures names { names_in session.new ≡ names_in session.old }

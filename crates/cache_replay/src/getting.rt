@@ -1,5 +1,5 @@
 // Whole bodies are read.
-ghost use Rattle.std.specs.Prelude.{ℕ, List, Option, ◌≡◌, ◌⊎◌, ◌*◌, ◌+◌, ◌<◌, ◌≤◌, [], ◌∷◌, true, length, is_some, Some, None, IfOk, IfErr, OnErr, OnOk};
+ghost use Rattle.std.specs.Prelude.{ℕ, List, Option, ◌≡◌, ◌⊎◌, ◌*◌, ◌+◌, ◌<◌, ◌≤◌, [], ◌∷◌, true, length, is_some, Some, None, IfOk, IfErr, OnOk};
 ghost use Rattle.tape_base.specs.Geometry.{budget_of};
 ghost use Rattle.cache_model.specs.Legal.{IsQuiet};
 ghost use Rattle.cache_model.specs.Kept.{state_of};
@@ -12,13 +12,15 @@ ghost use Rattle.script_lang.specs.declared.answer.StepAnswer.{StepAnswer};
 ghost use Rattle.script_lang.specs.declared.step.Step.TheVariants as step;
 ghost use Rattle.script_run.specs.Run.{Run};
 ghost use Rattle.script_run.specs.Asked.{get_intents};
-ghost use Rattle.script_run.specs.Own.{AreOwn};
-ghost use Rattle.script_run.specs.Takes.{Shows};
+ghost use Rattle.script_run.specs.Losses.{NoLossIsAFault};
+ghost use Rattle.script_run.specs.Own.{AreOwn, IsPlacedAs};
 ghost use Rattle.cache_replay.specs.declared.session.Holding.{Holding};
-ghost use Rattle.cache_replay.specs.Session.{AreHeld, IsActive, IsPart, IsSession, LeavesBut, devices_of, names_in};
-ghost use Rattle.cache_replay.specs.Plays.{HasReached, Plays, PlaysIn, StepEnds};
+ghost use Rattle.cache_replay.specs.Outline.{count_in};
+ghost use Rattle.cache_replay.specs.Shown.{ShowsAt};
+ghost use Rattle.cache_replay.specs.Session.{AreHeld, AreLater, IsActive, IsPart, IsSession, LeavesBut, TellsCount, devices_of, names_in, return_of};
+ghost use Rattle.cache_replay.specs.Plays.{Plays, PlaysIn, StepEnds};
 ghost use Rattle.cache_replay.specs.Stop.{IsSessionStop};
-ghost use Rattle.cache_replay.specs.Getting.{Began, ComesOf, GetsAsAsked, IsAnswered, IsNearer, IsUnderway, LineEnds, given_in, got_answer};
+ghost use Rattle.cache_replay.specs.Getting.{Began, ComesOf, GetsAsAsked, IsAnswered, IsNearer, IsUnderway, LineEnds, count_in_piece, given_in, got_answer};
 
 use crate::answers::{broken_said, miss_said};
 use crate::session::{Part, Session};
@@ -66,9 +68,11 @@ pub(crate) fn get<D: Disk, R: Directory + Drop, C: Chronicle>(
     ensures gets { IfOk result (GetsAsAsked (seen_in D.Disk R.Directory stripe.old).device.faults (seen_in D.Disk R.Directory stripe.new).device.faults
         (kept_in C.Chronicle stripe.old) (kept_in C.Chronicle stripe.new) key request) }
     ensures leaves { LeavesBut None (Some (state_in C.Chronicle stripe.old).next_reader) (state_in C.Chronicle stripe.old) (state_in C.Chronicle stripe.new) }
+    ensures counts { IfOk result (λ got. NoLossIsAFault (state_in C.Chronicle stripe.old)
+        → count_in (got_answer got) ≤ (seen_in D.Disk R.Directory stripe.new).device.faults) }
     ensures later { (seen_in D.Disk R.Directory stripe.old).device.faults ≤ (seen_in D.Disk R.Directory stripe.new).device.faults }
     ensures unharmed { (run : Run) → AreTold (state_in C.Chronicle stripe.old) → AreOwn (state_in C.Chronicle stripe.old) run.streams
-        → StaysUnharmed D.Disk R.Directory C.Chronicle stripe.old stripe.new ⊎ Shows run.streams (state_in C.Chronicle stripe.old) (get_intents (state_in C.Chronicle stripe.old) key request) }
+        → StaysUnharmed D.Disk R.Directory C.Chronicle stripe.old stripe.new ⊎ ShowsAt (IsPlacedAs run.streams) run.now (state_in C.Chronicle stripe.old) (get_intents (state_in C.Chronicle stripe.old) key request) }
     ensures trust { (seen_in D.Disk R.Directory stripe.new).device.trust ≤ (seen_in D.Disk R.Directory stripe.old).device.trust }
 {
     reads_own();
@@ -101,9 +105,11 @@ fn read_whole<D: Disk, R: Directory + Drop, C: Chronicle>(
     ensures answers { IfOk result (λ got. (b : Began) → IsUnderway b (seen_in D.Disk R.Directory stripe.old).device.faults (kept_in C.Chronicle stripe.old) reader []
         → IsAnswered b (seen_in D.Disk R.Directory stripe.new).device.faults (kept_in C.Chronicle stripe.new) [] (given_in got) (got_answer got)) }
     ensures leaves { LeavesBut None (Some reader.reader) (state_in C.Chronicle stripe.old) (state_in C.Chronicle stripe.new) }
+    ensures counts { IfOk result (λ got. NoLossIsAFault (state_in C.Chronicle stripe.old)
+        → count_in (got_answer got) ≤ (seen_in D.Disk R.Directory stripe.new).device.faults) }
     ensures later { (seen_in D.Disk R.Directory stripe.old).device.faults ≤ (seen_in D.Disk R.Directory stripe.new).device.faults }
     ensures unharmed { (b : Began) (run : Run) → IsUnderway b (seen_in D.Disk R.Directory stripe.old).device.faults (kept_in C.Chronicle stripe.old) reader []
-        → AreTold (state_of b.kept) → AreOwn (state_of b.kept) run.streams → StaysUnharmed D.Disk R.Directory C.Chronicle stripe.old stripe.new ⊎ Shows run.streams (state_of b.kept) b.asks }
+        → AreTold (state_of b.kept) → AreOwn (state_of b.kept) run.streams → StaysUnharmed D.Disk R.Directory C.Chronicle stripe.old stripe.new ⊎ ShowsAt (IsPlacedAs run.streams) run.now (state_of b.kept) b.asks }
     ensures trust { (seen_in D.Disk R.Directory stripe.new).device.trust ≤ (seen_in D.Disk R.Directory stripe.old).device.trust }
 {
     let mut reader = reader;
@@ -137,9 +143,11 @@ fn read_to_end<D: Disk, R: Directory + Drop, C: Chronicle>(
     ensures answers { IfOk result (λ got. (b : Began) → IsUnderway b (seen_in D.Disk R.Directory stripe.old).device.faults (kept_in C.Chronicle stripe.old) reader.old []
         → IsAnswered b (seen_in D.Disk R.Directory stripe.new).device.faults (kept_in C.Chronicle stripe.new) (StopReading reader.old.reader ∷ []) (given_in got) (got_answer got)) }
     ensures leaves { LeavesBut None (Some reader.old.reader) (state_in C.Chronicle stripe.old) (state_in C.Chronicle stripe.new) }
+    ensures counts { IfOk result (λ got. NoLossIsAFault (state_in C.Chronicle stripe.old)
+        → count_in (got_answer got) ≤ (seen_in D.Disk R.Directory stripe.new).device.faults) }
     ensures later { (seen_in D.Disk R.Directory stripe.old).device.faults ≤ (seen_in D.Disk R.Directory stripe.new).device.faults }
     ensures unharmed { (b : Began) (run : Run) → IsUnderway b (seen_in D.Disk R.Directory stripe.old).device.faults (kept_in C.Chronicle stripe.old) reader.old []
-        → AreTold (state_of b.kept) → AreOwn (state_of b.kept) run.streams → StaysUnharmed D.Disk R.Directory C.Chronicle stripe.old stripe.new ⊎ Shows run.streams (state_of b.kept) b.asks }
+        → AreTold (state_of b.kept) → AreOwn (state_of b.kept) run.streams → StaysUnharmed D.Disk R.Directory C.Chronicle stripe.old stripe.new ⊎ ShowsAt (IsPlacedAs run.streams) run.now (state_of b.kept) b.asks }
     ensures trust { (seen_in D.Disk R.Directory stripe.new).device.trust ≤ (seen_in D.Disk R.Directory stripe.old).device.trust }
 {
     let mut body = Vec::new(alloc);
@@ -175,9 +183,11 @@ fn read_more<D: Disk, R: Directory + Drop, C: Chronicle>(
         → ComesOf b (seen_in D.Disk R.Directory stripe.new).device.faults (kept_in C.Chronicle stripe.new) reader.old.put reader.new body.new.items next) }
     ensures nearer { IfOk result (λ next. IsNearer reader.old next reader.new) }
     ensures leaves { LeavesBut None (Some reader.old.reader) (state_in C.Chronicle stripe.old) (state_in C.Chronicle stripe.new) }
+    ensures counts { IfOk result (λ next. NoLossIsAFault (state_in C.Chronicle stripe.old)
+        → count_in_piece next ≤ (seen_in D.Disk R.Directory stripe.new).device.faults) }
     ensures later { (seen_in D.Disk R.Directory stripe.old).device.faults ≤ (seen_in D.Disk R.Directory stripe.new).device.faults }
     ensures unharmed { (b : Began) (run : Run) → IsUnderway b (seen_in D.Disk R.Directory stripe.old).device.faults (kept_in C.Chronicle stripe.old) reader.old body.old.items
-        → AreTold (state_of b.kept) → AreOwn (state_of b.kept) run.streams → StaysUnharmed D.Disk R.Directory C.Chronicle stripe.old stripe.new ⊎ Shows run.streams (state_of b.kept) b.asks }
+        → AreTold (state_of b.kept) → AreOwn (state_of b.kept) run.streams → StaysUnharmed D.Disk R.Directory C.Chronicle stripe.old stripe.new ⊎ ShowsAt (IsPlacedAs run.streams) run.now (state_of b.kept) b.asks }
     ensures trust { (seen_in D.Disk R.Directory stripe.new).device.trust ≤ (seen_in D.Disk R.Directory stripe.old).device.trust }
 {
     read_is_own();
@@ -228,8 +238,9 @@ pub(crate) fn get_line<D: Disk, R: Directory + Drop, C: Chronicle>(
     ensures session { IsSession D.Disk R.Directory C.Chronicle session.new }
     ensures ends { IfOk result (λ said. (run : Run) → Plays D.Disk R.Directory C.Chronicle run session.old
         → StepEnds D.Disk R.Directory C.Chronicle run (step.Get key request) session.new said) }
-    ensures reached { OnErr result ((run : Run) → Plays D.Disk R.Directory C.Chronicle run session.old → HasReached D.Disk R.Directory C.Chronicle run session.new) }
-    ensures stop { IfErr result (λ stop. (run : Run) → Plays D.Disk R.Directory C.Chronicle run session.old → IsSessionStop run stop) }
+    ensures counts { IfOk result (TellsCount D.Disk R.Directory C.Chronicle session.new.part) }
+    ensures device { AreLater (return_of D.Disk R.Directory C.Chronicle session.old.part) (return_of D.Disk R.Directory C.Chronicle session.new.part) }
+    ensures stop { IfErr result (IsSessionStop session.old) }
     ensures devices { devices_of session.new ≡ devices_of session.old }
     ensures names { length (names_in session.new) ≤ length (names_in session.old) + 1 }
 {
@@ -254,9 +265,10 @@ fn get_in_part<D: Disk, R: Directory + Drop, C: Chronicle>(
     ensures ends { IfOk result (λ said. (run : Run) (slots : ℕ → Option Holding) → AreHeld (state_in C.Chronicle part.old.stripe) slots
         → PlaysIn run (state_in C.Chronicle part.old.stripe) slots
         → LineEnds run (state_in C.Chronicle part.old.stripe) (state_in C.Chronicle part.new.stripe) key request slots said) }
+    ensures counts { IfOk result (TellsCount D.Disk R.Directory C.Chronicle (Some part.new)) }
     ensures later { (seen_in D.Disk R.Directory part.old.stripe).device.faults ≤ (seen_in D.Disk R.Directory part.new.stripe).device.faults }
     ensures unharmed { (run : Run) → AreTold (state_in C.Chronicle part.old.stripe) → AreOwn (state_in C.Chronicle part.old.stripe) run.streams
-        → StaysUnharmed D.Disk R.Directory C.Chronicle part.old.stripe part.new.stripe ⊎ Shows run.streams (state_in C.Chronicle part.old.stripe) (get_intents (state_in C.Chronicle part.old.stripe) key request) }
+        → StaysUnharmed D.Disk R.Directory C.Chronicle part.old.stripe part.new.stripe ⊎ ShowsAt (IsPlacedAs run.streams) run.now (state_in C.Chronicle part.old.stripe) (get_intents (state_in C.Chronicle part.old.stripe) key request) }
     ensures trust { (seen_in D.Disk R.Directory part.new.stripe).device.trust ≤ (seen_in D.Disk R.Directory part.old.stripe).device.trust }
 {
     reads_own();

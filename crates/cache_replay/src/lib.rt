@@ -5,6 +5,7 @@ mod answers;
 mod beginning;
 mod feeding;
 mod getting;
+mod laws;
 mod plain_lines;
 mod put_line;
 mod putting;
@@ -15,6 +16,7 @@ mod stop;
 mod writer_lines;
 
 pub use beginning::{begin, close, plays_reach};
+pub use laws::{counts_are_kept, texts_are_output};
 pub use session::{Cache, Session};
 pub use stepping::step;
 pub use stop::Stop;

@@ -1,13 +1,13 @@
 // The line of a whole put.
-ghost use Rattle.std.specs.Prelude.{◌≡◌, ◌≤◌, ◌⊎◌, Some, None, IfOk, IfErr, OnErr};
+ghost use Rattle.std.specs.Prelude.{◌≡◌, ◌≤◌, ◌⊎◌, Some, None, IfOk, IfErr};
 ghost use Rattle.cache_model.specs.Vectors.{AreTold};
 ghost use Rattle.stripe_core.specs.Stripe.{seen_in, state_in};
 ghost use Rattle.stripe_core.specs.Unharmed.{StaysUnharmed};
 ghost use Rattle.script_lang.specs.declared.step.Step.TheVariants as step;
 ghost use Rattle.script_run.specs.Run.{Run};
-ghost use Rattle.script_run.specs.Takes.{StepShows};
-ghost use Rattle.cache_replay.specs.Session.{IsPart, IsSession, LeavesBut, devices_of, names_in};
-ghost use Rattle.cache_replay.specs.Plays.{HasReached, Plays, StepEnds};
+ghost use Rattle.cache_replay.specs.Shown.{ShowsIn};
+ghost use Rattle.cache_replay.specs.Session.{AreLater, IsPart, IsSession, LeavesBut, TellsCount, devices_of, names_in, return_of};
+ghost use Rattle.cache_replay.specs.Plays.{Plays, StepEnds};
 ghost use Rattle.cache_replay.specs.Plain.{Plainly};
 ghost use Rattle.cache_replay.specs.Stop.{IsSessionStop};
 
@@ -36,8 +36,9 @@ pub(crate) fn put_line<D: Disk, R: Directory + Drop, C: Chronicle>(
     ensures session { IsSession D.Disk R.Directory C.Chronicle session.new }
     ensures ends { IfOk result (λ said. (run : Run) → Plays D.Disk R.Directory C.Chronicle run session.old
         → StepEnds D.Disk R.Directory C.Chronicle run (step.Put key body.now request response) session.new said) }
-    ensures reached { OnErr result ((run : Run) → Plays D.Disk R.Directory C.Chronicle run session.old → HasReached D.Disk R.Directory C.Chronicle run session.new) }
-    ensures stop { IfErr result (λ stop. (run : Run) → Plays D.Disk R.Directory C.Chronicle run session.old → IsSessionStop run stop) }
+    ensures counts { IfOk result (TellsCount D.Disk R.Directory C.Chronicle session.new.part) }
+    ensures device { AreLater (return_of D.Disk R.Directory C.Chronicle session.old.part) (return_of D.Disk R.Directory C.Chronicle session.new.part) }
+    ensures stop { IfErr result (IsSessionStop session.old) }
     ensures devices { devices_of session.new ≡ devices_of session.old }
     ensures names { names_in session.new ≡ names_in session.old }
 {
@@ -64,8 +65,9 @@ fn put_in<D: Disk, R: Directory + Drop, C: Chronicle>(
     ensures leaves { LeavesBut (Some (state_in C.Chronicle part.old.stripe).next_put) None (state_in C.Chronicle part.old.stripe) (state_in C.Chronicle part.new.stripe) }
     ensures ends { IfOk result (λ said. (run : Run) → run.now ≡ now → AreTold (state_in C.Chronicle part.old.stripe)
         → Plainly run (step.Put key body.now request response) (state_in C.Chronicle part.old.stripe) (state_in C.Chronicle part.new.stripe) said
-        ⊎ StepShows run (Some (state_in C.Chronicle part.old.stripe)) (step.Put key body.now request response)) }
+        ⊎ ShowsIn run (Some (state_in C.Chronicle part.old.stripe)) (step.Put key body.now request response)) }
     ensures stop { IfErr result (λ stop. stop ≡ Stop.Memory) }
+    ensures counts { IfOk result (TellsCount D.Disk R.Directory C.Chronicle (Some part.new)) }
     ensures later { (seen_in D.Disk R.Directory part.old.stripe).device.faults ≤ (seen_in D.Disk R.Directory part.new.stripe).device.faults }
     ensures unharmed { StaysUnharmed D.Disk R.Directory C.Chronicle part.old.stripe part.new.stripe }
 {

@@ -1,10 +1,12 @@
 // Whole bodies are put.
-ghost use Rattle.std.specs.Prelude.{◌≡◌, ◌≤◌, Some, None, true};
+ghost use Rattle.std.specs.Prelude.{◌≡◌, ◌≤◌, Some, None, true, IfErr};
 ghost use Rattle.cache_model.specs.Legal.{IsQuiet, is_writing};
 ghost use Rattle.stripe_core.specs.Stripe.{IsStripe, kept_in, seen_in, state_in};
 ghost use Rattle.stripe_core.specs.Unharmed.{StaysUnharmed};
 ghost use Rattle.stripe_write.specs.Others.{AddsOfPut};
 ghost use Rattle.stripe_write.specs.Writers.{IsWriterOf};
+ghost use Rattle.script_run.specs.Losses.{NoLossIsAFault};
+ghost use Rattle.cache_replay.specs.Outline.{count_of_refusal};
 ghost use Rattle.cache_replay.specs.Session.{LeavesBut};
 ghost use Rattle.cache_replay.specs.Putting.{BodyEndsWhere, FillsWhere, IsFresh, PutsWhere, unless_memory};
 
@@ -34,6 +36,8 @@ pub(crate) fn put<D: Disk, R: Directory + Drop, C: Chronicle>(
     ensures puts { PutsWhere now (seen_in D.Disk R.Directory stripe.old).device.faults (seen_in D.Disk R.Directory stripe.new).device.faults
         (kept_in C.Chronicle stripe.old) (kept_in C.Chronicle stripe.new) key body.now request response result }
     ensures leaves { LeavesBut (Some (state_in C.Chronicle stripe.old).next_put) None (state_in C.Chronicle stripe.old) (state_in C.Chronicle stripe.new) }
+    ensures counts { IfErr result (λ why. NoLossIsAFault (state_in C.Chronicle stripe.old)
+        → count_of_refusal why ≤ (seen_in D.Disk R.Directory stripe.new).device.faults) }
     ensures later { (seen_in D.Disk R.Directory stripe.old).device.faults ≤ (seen_in D.Disk R.Directory stripe.new).device.faults }
     ensures unharmed { StaysUnharmed D.Disk R.Directory C.Chronicle stripe.old stripe.new }
 {
@@ -64,6 +68,8 @@ fn put_open<D: Disk, R: Directory + Drop, C: Chronicle>(
     ensures ends { BodyEndsWhere now (seen_in D.Disk R.Directory stripe.old).device.faults (seen_in D.Disk R.Directory stripe.new).device.faults
         (kept_in C.Chronicle stripe.old) (kept_in C.Chronicle stripe.new) writer.old.put body.now result }
     ensures own { AddsOfPut writer.old.put (kept_in C.Chronicle stripe.old) (kept_in C.Chronicle stripe.new) }
+    ensures counts { IfErr result (λ why. NoLossIsAFault (state_in C.Chronicle stripe.old)
+        → count_of_refusal why ≤ (seen_in D.Disk R.Directory stripe.new).device.faults) }
     ensures later { (seen_in D.Disk R.Directory stripe.old).device.faults ≤ (seen_in D.Disk R.Directory stripe.new).device.faults }
     ensures unharmed { StaysUnharmed D.Disk R.Directory C.Chronicle stripe.old stripe.new }
 {
@@ -104,11 +110,11 @@ fn fill<D: Disk, R: Directory + Drop, C: Chronicle>(
     ensures fills { FillsWhere now (seen_in D.Disk R.Directory stripe.old).device.faults (seen_in D.Disk R.Directory stripe.new).device.faults
         (kept_in C.Chronicle stripe.old) (kept_in C.Chronicle stripe.new) writer.old body.now result }
     ensures own { AddsOfPut writer.old.put (kept_in C.Chronicle stripe.old) (kept_in C.Chronicle stripe.new) }
+    ensures counts { IfErr result (λ why. NoLossIsAFault (state_in C.Chronicle stripe.old)
+        → count_of_refusal why ≤ (seen_in D.Disk R.Directory stripe.new).device.faults) }
     ensures later { (seen_in D.Disk R.Directory stripe.old).device.faults ≤ (seen_in D.Disk R.Directory stripe.new).device.faults }
     ensures unharmed { StaysUnharmed D.Disk R.Directory C.Chronicle stripe.old stripe.new }
 {
-    // The law tells that vectors and puts may be kept when the writer closes.
-    groups_tell();
     match feed(stripe, writer, body, now).refused {
         None => close_write(stripe, writer, now),
         Some(why) => Err(why),

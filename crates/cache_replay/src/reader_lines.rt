@@ -1,5 +1,5 @@
 // The lines of readers: they open, read on and are closed.
-ghost use Rattle.std.specs.Prelude.{◌≡◌, ◌==◌, ◌⊎◌, ◌∷◌, [], ◌+◌, ◌-◌, ◌*◌, ◌^◌, ◌<◌, ◌≤◌, ℕ, length, Some, None, IfOk, IfErr, OnErr, if◌then◌else◌, is_some};
+ghost use Rattle.std.specs.Prelude.{◌≡◌, ◌==◌, ◌⊎◌, ◌∷◌, [], ◌+◌, ◌-◌, ◌*◌, ◌^◌, ◌<◌, ◌≤◌, ℕ, length, Some, None, IfOk, IfErr, if◌then◌else◌, is_some};
 ghost use Rattle.tape_base.specs.Geometry.{budget_of};
 ghost use Rattle.cache_model.specs.Legal.{IsQuiet};
 ghost use Rattle.cache_model.specs.Permit.{ReadOn};
@@ -9,11 +9,13 @@ ghost use Rattle.stripe_read.specs.Readers.{IsOpenReader, IsReaderOf};
 ghost use Rattle.script_lang.specs.declared.step.Step.TheVariants as step;
 ghost use Rattle.script_lang.specs.declared.answer.StepAnswer.TheVariants as answer;
 ghost use Rattle.script_run.specs.Run.{Run};
-ghost use Rattle.script_run.specs.Own.{AreOwn};
-ghost use Rattle.script_run.specs.Takes.{Shows, StepShows};
+ghost use Rattle.script_run.specs.Losses.{NoLossIsAFault};
+ghost use Rattle.script_run.specs.Own.{AreOwn, IsPlacedAs};
 ghost use Rattle.cache_replay.specs.declared.stop.Stop.TheVariants as stop;
-ghost use Rattle.cache_replay.specs.Session.{IsActive, IsPart, IsSession, LeavesBut, devices_of, names_in, slots_of};
-ghost use Rattle.cache_replay.specs.Plays.{HasReached, PartEnds, Plays, PlaysPart, StepEnds};
+ghost use Rattle.cache_replay.specs.Outline.{count_in};
+ghost use Rattle.cache_replay.specs.Shown.{ShowsAt, ShowsIn};
+ghost use Rattle.cache_replay.specs.Session.{AreLater, IsActive, IsPart, IsSession, LeavesBut, TellsCount, devices_of, names_in, return_of, slots_of};
+ghost use Rattle.cache_replay.specs.Plays.{PartEnds, Plays, PlaysPart, StepEnds};
 ghost use Rattle.cache_replay.specs.Stop.{IsSessionStop};
 ghost use Rattle.cache_replay.specs.ReaderLines.{IsWithin, NextEnds, as_held, next_answer, opened_answer, reader_held, reader_opened, without_reader};
 
@@ -45,8 +47,9 @@ pub(crate) fn open_read_line<D: Disk, R: Directory + Drop, C: Chronicle>(
     ensures session { IsSession D.Disk R.Directory C.Chronicle session.new }
     ensures ends { IfOk result (λ said. (run : Run) → Plays D.Disk R.Directory C.Chronicle run session.old
         → StepEnds D.Disk R.Directory C.Chronicle run (step.OpenRead actor.now key request) session.new said) }
-    ensures reached { OnErr result ((run : Run) → Plays D.Disk R.Directory C.Chronicle run session.old → HasReached D.Disk R.Directory C.Chronicle run session.new) }
-    ensures stop { IfErr result (λ stop. (run : Run) → Plays D.Disk R.Directory C.Chronicle run session.old → IsSessionStop run stop) }
+    ensures counts { IfOk result (TellsCount D.Disk R.Directory C.Chronicle session.new.part) }
+    ensures device { AreLater (return_of D.Disk R.Directory C.Chronicle session.old.part) (return_of D.Disk R.Directory C.Chronicle session.new.part) }
+    ensures stop { IfErr result (IsSessionStop session.old) }
     ensures devices { devices_of session.new ≡ devices_of session.old }
     ensures names { length (names_in session.new) ≤ length (names_in session.old) + 1 }
 {
@@ -72,7 +75,8 @@ fn open_reader<D: Disk, R: Directory + Drop, C: Chronicle>(
     ensures unharmed { StaysUnharmed D.Disk R.Directory C.Chronicle part.old.stripe part.new.stripe }
     ensures stop { IfErr result (λ why. why ≡ stop.Memory) }
     ensures names { length actors.new.names ≤ length actors.old.names + 1 }
-    ensures told { OnErr result ((state_in C.Chronicle part.old.stripe).fault ≤ (seen_in D.Disk R.Directory part.new.stripe).device.faults) }
+    ensures counts { IfOk result (TellsCount D.Disk R.Directory C.Chronicle (Some part.new)) }
+    ensures later { (seen_in D.Disk R.Directory part.old.stripe).device.faults ≤ (seen_in D.Disk R.Directory part.new.stripe).device.faults }
 {
     groups_tell();
     steps_own();
@@ -126,8 +130,9 @@ pub(crate) fn next_line<D: Disk, R: Directory + Drop, C: Chronicle>(
     ensures session { IsSession D.Disk R.Directory C.Chronicle session.new }
     ensures ends { IfOk result (λ said. (run : Run) → Plays D.Disk R.Directory C.Chronicle run session.old
         → StepEnds D.Disk R.Directory C.Chronicle run (step.Next actor.now) session.new said) }
-    ensures reached { OnErr result ((run : Run) → Plays D.Disk R.Directory C.Chronicle run session.old → HasReached D.Disk R.Directory C.Chronicle run session.new) }
-    ensures stop { IfErr result (λ stop. (run : Run) → Plays D.Disk R.Directory C.Chronicle run session.old → IsSessionStop run stop) }
+    ensures counts { IfOk result (TellsCount D.Disk R.Directory C.Chronicle session.new.part) }
+    ensures device { AreLater (return_of D.Disk R.Directory C.Chronicle session.old.part) (return_of D.Disk R.Directory C.Chronicle session.new.part) }
+    ensures stop { IfErr result (IsSessionStop session.old) }
     ensures devices { devices_of session.new ≡ devices_of session.old }
     ensures names { length (names_in session.new) ≤ length (names_in session.old) + 1 }
 {
@@ -150,11 +155,12 @@ fn next<D: Disk, R: Directory + Drop, C: Chronicle>(
     ensures ends { IfOk result (λ said. (run : Run) → PlaysPart C.Chronicle run part.old actors.old
         → PartEnds C.Chronicle run (state_in C.Chronicle part.old.stripe) (step.Next actor.now) part.new actors.new said) }
     ensures unharmed { (run : Run) → PlaysPart C.Chronicle run part.old actors.old
-        → StaysUnharmed D.Disk R.Directory C.Chronicle part.old.stripe part.new.stripe ⊎ StepShows run (Some (state_in C.Chronicle part.old.stripe)) (step.Next actor.now) }
+        → StaysUnharmed D.Disk R.Directory C.Chronicle part.old.stripe part.new.stripe ⊎ ShowsIn run (Some (state_in C.Chronicle part.old.stripe)) (step.Next actor.now) }
     ensures trust { (seen_in D.Disk R.Directory part.new.stripe).device.trust ≤ (seen_in D.Disk R.Directory part.old.stripe).device.trust }
     ensures stop { IfErr result (λ why. why ≡ stop.Memory) }
     ensures names { length actors.new.names ≤ length actors.old.names + 1 }
-    ensures told { OnErr result ((state_in C.Chronicle part.old.stripe).fault ≤ (seen_in D.Disk R.Directory part.new.stripe).device.faults) }
+    ensures counts { IfOk result (TellsCount D.Disk R.Directory C.Chronicle (Some part.new)) }
+    ensures later { (seen_in D.Disk R.Directory part.old.stripe).device.faults ≤ (seen_in D.Disk R.Directory part.new.stripe).device.faults }
 {
     groups_tell();
     steps_own();
@@ -184,10 +190,11 @@ fn read_on<D: Disk, R: Directory + Drop, C: Chronicle>(
     ensures ends { IfOk result (λ said. (run : Run) → AreOwn (state_in C.Chronicle part.old.stripe) run.streams → IsReaderOf (state_in C.Chronicle part.old.stripe) reader.old
         → NextEnds run (state_in C.Chronicle part.old.stripe) (state_in C.Chronicle part.new.stripe) reader.old reader.new said) }
     ensures unharmed { (run : Run) → AreOwn (state_in C.Chronicle part.old.stripe) run.streams → IsReaderOf (state_in C.Chronicle part.old.stripe) reader.old
-        → StaysUnharmed D.Disk R.Directory C.Chronicle part.old.stripe part.new.stripe ⊎ Shows run.streams (state_in C.Chronicle part.old.stripe) (ReadOn reader.old.reader ∷ []) }
+        → StaysUnharmed D.Disk R.Directory C.Chronicle part.old.stripe part.new.stripe ⊎ ShowsAt (IsPlacedAs run.streams) run.now (state_in C.Chronicle part.old.stripe) (ReadOn reader.old.reader ∷ []) }
     ensures trust { (seen_in D.Disk R.Directory part.new.stripe).device.trust ≤ (seen_in D.Disk R.Directory part.old.stripe).device.trust }
     ensures stop { IfErr result (λ why. why ≡ stop.Memory) }
-    ensures told { OnErr result ((state_in C.Chronicle part.old.stripe).fault ≤ (seen_in D.Disk R.Directory part.new.stripe).device.faults) }
+    ensures counts { IfOk result (TellsCount D.Disk R.Directory C.Chronicle (Some part.new)) }
+    ensures later { (seen_in D.Disk R.Directory part.old.stripe).device.faults ≤ (seen_in D.Disk R.Directory part.new.stripe).device.faults }
 {
     read_to(&mut part.stripe, reader, &mut part.page, alloc)
 }
@@ -210,9 +217,11 @@ fn read_to<D: Disk, R: Directory + Drop, C: Chronicle>(
     ensures ends { IfOk result (λ said. (run : Run) → AreOwn (state_in C.Chronicle stripe.old) run.streams → IsReaderOf (state_in C.Chronicle stripe.old) reader.old
         → NextEnds run (state_in C.Chronicle stripe.old) (state_in C.Chronicle stripe.new) reader.old reader.new said) }
     ensures unharmed { (run : Run) → AreOwn (state_in C.Chronicle stripe.old) run.streams → IsReaderOf (state_in C.Chronicle stripe.old) reader.old
-        → StaysUnharmed D.Disk R.Directory C.Chronicle stripe.old stripe.new ⊎ Shows run.streams (state_in C.Chronicle stripe.old) (ReadOn reader.old.reader ∷ []) }
+        → StaysUnharmed D.Disk R.Directory C.Chronicle stripe.old stripe.new ⊎ ShowsAt (IsPlacedAs run.streams) run.now (state_in C.Chronicle stripe.old) (ReadOn reader.old.reader ∷ []) }
     ensures trust { (seen_in D.Disk R.Directory stripe.new).device.trust ≤ (seen_in D.Disk R.Directory stripe.old).device.trust }
     ensures stop { IfErr result (λ why. why ≡ stop.Memory) }
+    ensures counts { IfOk result (λ said. NoLossIsAFault (state_in C.Chronicle stripe.old)
+        → count_in said ≤ (seen_in D.Disk R.Directory stripe.new).device.faults) }
     ensures later { (seen_in D.Disk R.Directory stripe.old).device.faults ≤ (seen_in D.Disk R.Directory stripe.new).device.faults }
 {
     read_is_own();
@@ -251,8 +260,9 @@ pub(crate) fn done_line<D: Disk, R: Directory + Drop, C: Chronicle>(
     ensures session { IsSession D.Disk R.Directory C.Chronicle session.new }
     ensures ends { IfOk result (λ said. (run : Run) → Plays D.Disk R.Directory C.Chronicle run session.old
         → StepEnds D.Disk R.Directory C.Chronicle run (step.Done actor.now) session.new said) }
-    ensures reached { OnErr result ((run : Run) → Plays D.Disk R.Directory C.Chronicle run session.old → HasReached D.Disk R.Directory C.Chronicle run session.new) }
-    ensures stop { IfErr result (λ stop. (run : Run) → Plays D.Disk R.Directory C.Chronicle run session.old → IsSessionStop run stop) }
+    ensures counts { IfOk result (TellsCount D.Disk R.Directory C.Chronicle session.new.part) }
+    ensures device { AreLater (return_of D.Disk R.Directory C.Chronicle session.old.part) (return_of D.Disk R.Directory C.Chronicle session.new.part) }
+    ensures stop { IfErr result (IsSessionStop session.old) }
     ensures devices { devices_of session.new ≡ devices_of session.old }
     ensures names { length (names_in session.new) ≤ length (names_in session.old) + 1 }
 {
@@ -276,7 +286,8 @@ fn done<D: Disk, R: Directory + Drop, C: Chronicle>(
     ensures unharmed { StaysUnharmed D.Disk R.Directory C.Chronicle part.old.stripe part.new.stripe }
     ensures stop { IfErr result (λ why. why ≡ stop.Memory) }
     ensures names { length actors.new.names ≤ length actors.old.names + 1 }
-    ensures told { OnErr result ((state_in C.Chronicle part.old.stripe).fault ≤ (seen_in D.Disk R.Directory part.new.stripe).device.faults) }
+    ensures counts { IfOk result (TellsCount D.Disk R.Directory C.Chronicle (Some part.new)) }
+    ensures later { (seen_in D.Disk R.Directory part.old.stripe).device.faults ≤ (seen_in D.Disk R.Directory part.new.stripe).device.faults }
 {
     groups_tell();
     steps_own();

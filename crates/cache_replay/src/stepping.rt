@@ -1,9 +1,11 @@
 // The steps of a script, whatever they are.
-ghost use Rattle.std.specs.Prelude.{◌≡◌, ◌+◌, ◌-◌, ◌^◌, ◌<◌, ◌≤◌, length, IfOk, IfErr, OnErr};
+ghost use Rattle.std.specs.Prelude.{◌≡◌, ◌+◌, ◌-◌, ◌^◌, ◌<◌, ◌≤◌, List, length, IfOk, IfErr};
+ghost use Rattle.script_lang.specs.declared.answer.StepAnswer.TheVariants as answer;
 ghost use Rattle.script_lang.specs.declared.step.Step.TheVariants as step;
-ghost use Rattle.script_run.specs.Run.{Run};
-ghost use Rattle.cache_replay.specs.Session.{IsSession, devices_of, names_in};
-ghost use Rattle.cache_replay.specs.Plays.{DeviceEnds, HasReached, IsLeft, Plays, StepEnds, StepMoves, ledger_of};
+ghost use Rattle.script_run.specs.Run.{Harm, Run};
+ghost use Rattle.cache_replay.specs.Outline.{Outline};
+ghost use Rattle.cache_replay.specs.Session.{AreLater, IsSession, TellsCount, devices_of, names_in, return_of};
+ghost use Rattle.cache_replay.specs.Plays.{AreReached, DeviceEnds, IsLeft, IsOutlined, Outlines, Plays, StepEnds, StepMoves, ledger_of};
 ghost use Rattle.cache_replay.specs.Stop.{IsSessionStop, NeedsSession, StopsStep};
 
 use crate::beginning::format_line;
@@ -32,10 +34,13 @@ pub fn step<B: Bay>(
     ensures ends { IfOk result (λ said. (run : Run) → Plays B.Dev.Disk ⟦<ListDirectory as Directory>⟧ ⟦<FullChronicle as Chronicle>⟧ run session.old
         → DeviceEnds B.Dev.Disk ⟦<ListDirectory as Directory>⟧ ⟦<FullChronicle as Chronicle>⟧ run step session.new said
         (ledger_of B.Bay bay.old) (ledger_of B.Bay bay.new)) }
-    ensures left { IfErr result (λ why. (run : Run) → Plays B.Dev.Disk ⟦<ListDirectory as Directory>⟧ ⟦<FullChronicle as Chronicle>⟧ run session.old
-        → IsLeft B.Dev.Disk ⟦<ListDirectory as Directory>⟧ ⟦<FullChronicle as Chronicle>⟧ run session.new (ledger_of B.Bay bay.old) (ledger_of B.Bay bay.new) why) }
-    ensures stop { IfErr result (λ stop. (run : Run) → Plays B.Dev.Disk ⟦<ListDirectory as Directory>⟧ ⟦<FullChronicle as Chronicle>⟧ run session.old
-        → StopsStep run step (B.faults bay.old) (B.faults bay.new) stop) }
+    ensures outline { IfOk result (λ said. (o : Outline) → IsOutlined B.Dev.Disk ⟦<ListDirectory as Directory>⟧ ⟦<FullChronicle as Chronicle>⟧ o session.old
+        → Outlines B.Dev.Disk ⟦<ListDirectory as Directory>⟧ ⟦<FullChronicle as Chronicle>⟧ o step session.new said
+        (ledger_of B.Bay bay.old) (ledger_of B.Bay bay.new)) }
+    ensures left { IfErr result (λ why. (harms : List Harm)
+        → AreReached harms (return_of B.Dev.Disk ⟦<ListDirectory as Directory>⟧ ⟦<FullChronicle as Chronicle>⟧ session.old.part)
+        → IsLeft B.Dev.Disk ⟦<ListDirectory as Directory>⟧ ⟦<FullChronicle as Chronicle>⟧ harms step session.new (ledger_of B.Bay bay.old) (ledger_of B.Bay bay.new) why) }
+    ensures stop { IfErr result (StopsStep session.old step (B.faults bay.old) (B.faults bay.new)) }
     ensures out { B.out bay.new + devices_of session.old ≡ B.out bay.old + devices_of session.new }
     ensures names { length (names_in session.new) ≤ length (names_in session.old) + 1 }
     ensures later { B.faults bay.old ≤ B.faults bay.new }
@@ -78,6 +83,8 @@ fn now_line<D: Disk, R: Directory + Drop, C: Chronicle>(
     ensures session { IsSession D.Disk R.Directory C.Chronicle session.new }
     ensures moves { (run : Run) → Plays D.Disk R.Directory C.Chronicle run session.old
         → StepMoves D.Disk R.Directory C.Chronicle run (step.Now moment) session.new result }
+    ensures answer { result ≡ answer.Now moment }
+    ensures part { session.new.part ≡ session.old.part }
     ensures devices { devices_of session.new ≡ devices_of session.old }
     ensures names { names_in session.new ≡ names_in session.old }
 {
@@ -96,8 +103,9 @@ fn in_session<D: Disk, R: Directory + Drop, C: Chronicle>(
     ensures session { IsSession D.Disk R.Directory C.Chronicle session.new }
     ensures ends { IfOk result (λ said. (run : Run) → Plays D.Disk R.Directory C.Chronicle run session.old
         → StepEnds D.Disk R.Directory C.Chronicle run step session.new said) }
-    ensures reached { OnErr result ((run : Run) → Plays D.Disk R.Directory C.Chronicle run session.old → HasReached D.Disk R.Directory C.Chronicle run session.new) }
-    ensures stop { IfErr result (λ stop. (run : Run) → Plays D.Disk R.Directory C.Chronicle run session.old → IsSessionStop run stop) }
+    ensures counts { IfOk result (TellsCount D.Disk R.Directory C.Chronicle session.new.part) }
+    ensures device { AreLater (return_of D.Disk R.Directory C.Chronicle session.old.part) (return_of D.Disk R.Directory C.Chronicle session.new.part) }
+    ensures stop { IfErr result (IsSessionStop session.old) }
     ensures devices { devices_of session.new ≡ devices_of session.old }
     ensures names { length (names_in session.new) ≤ length (names_in session.old) + 1 }
 {

@@ -1,5 +1,5 @@
 // Lines on the writers of actors: they open, take bytes, close and are given up.
-ghost use Rattle.std.specs.Prelude.{ℕ, ◌≡◌, ◌==◌, ◌+◌, ◌-◌, ◌^◌, ◌<◌, ◌≤◌, true, Some, None, length, if◌then◌else◌, IfOk, IfErr, OnErr};
+ghost use Rattle.std.specs.Prelude.{ℕ, ◌≡◌, ◌==◌, ◌+◌, ◌-◌, ◌^◌, ◌<◌, ◌≤◌, true, Some, None, length, if◌then◌else◌, IfOk, IfErr, IfSome};
 ghost use Rattle.cache_model.specs.Legal.{IsQuiet, is_writing};
 ghost use Rattle.stripe_core.specs.Stripe.{IsStripe, kept_in, seen_in, state_in};
 ghost use Rattle.stripe_core.specs.Unharmed.{StaysUnharmed};
@@ -8,8 +8,10 @@ ghost use Rattle.stripe_write.specs.Writers.{IsWriterOf};
 ghost use Rattle.script_lang.specs.declared.step.Step.TheVariants as step;
 ghost use Rattle.script_run.specs.Run.{Run};
 ghost use Rattle.script_run.specs.Answers.{busy, idle};
-ghost use Rattle.cache_replay.specs.Session.{IsActive, IsSession, devices_of, names_in, slots_of};
-ghost use Rattle.cache_replay.specs.Plays.{HasReached, PartEnds, Plays, PlaysPart, StepEnds};
+ghost use Rattle.script_run.specs.Losses.{NoLossIsAFault};
+ghost use Rattle.cache_replay.specs.Outline.{count_in};
+ghost use Rattle.cache_replay.specs.Session.{AreLater, IsActive, IsSession, TellsCount, devices_of, names_in, return_of, slots_of};
+ghost use Rattle.cache_replay.specs.Plays.{PartEnds, Plays, PlaysPart, StepEnds};
 ghost use Rattle.cache_replay.specs.Stop.{IsSessionStop};
 ghost use Rattle.cache_replay.specs.declared.stop.Stop.TheVariants as stop;
 ghost use Rattle.cache_replay.specs.WriterLines.{Closes, Feeds, GivesUp, IsLeft, OpenDoes, Opens, TakesWriter, WriterDoes, closed_answer, fed_answer, held_in};
@@ -148,8 +150,9 @@ pub(crate) fn open_write_line<D: Disk, R: Directory + Drop, C: Chronicle>(
     ensures session { IsSession D.Disk R.Directory C.Chronicle session.new }
     ensures ends { IfOk result (λ said. (run : Run) → Plays D.Disk R.Directory C.Chronicle run session.old
         → StepEnds D.Disk R.Directory C.Chronicle run (step.OpenWrite actor.now key pin request response) session.new said) }
-    ensures reached { OnErr result ((run : Run) → Plays D.Disk R.Directory C.Chronicle run session.old → HasReached D.Disk R.Directory C.Chronicle run session.new) }
-    ensures stop { IfErr result (λ stop. (run : Run) → Plays D.Disk R.Directory C.Chronicle run session.old → IsSessionStop run stop) }
+    ensures counts { IfOk result (TellsCount D.Disk R.Directory C.Chronicle session.new.part) }
+    ensures device { AreLater (return_of D.Disk R.Directory C.Chronicle session.old.part) (return_of D.Disk R.Directory C.Chronicle session.new.part) }
+    ensures stop { IfErr result (IsSessionStop session.old) }
     ensures devices { devices_of session.new ≡ devices_of session.old }
     ensures names { length (names_in session.new) ≤ length (names_in session.old) + 1 }
 {
@@ -182,6 +185,7 @@ fn open_write_in<D: Disk, R: Directory + Drop, C: Chronicle>(
     ensures ends { IfOk result (λ said. (run : Run) → PlaysPart C.Chronicle run part.old actors.old
         → PartEnds C.Chronicle run (state_in C.Chronicle part.old.stripe) (step.OpenWrite actor.now key pin request response) part.new actors.new said) }
     ensures stop { IfErr result (λ why. why ≡ stop.Memory) }
+    ensures counts { IfOk result (TellsCount D.Disk R.Directory C.Chronicle (Some part.new)) }
     ensures later { (seen_in D.Disk R.Directory part.old.stripe).device.faults ≤ (seen_in D.Disk R.Directory part.new.stripe).device.faults }
     ensures unharmed { StaysUnharmed D.Disk R.Directory C.Chronicle part.old.stripe part.new.stripe }
     ensures names { length actors.new.names ≤ length actors.old.names + 1 }
@@ -215,6 +219,8 @@ fn begin<D: Disk, R: Directory + Drop, C: Chronicle>(
     requires quiet { IsQuiet (state_in C.Chronicle stripe.old) }
     ensures stripe { IsStripe D.Disk R.Directory C.Chronicle stripe.new }
     ensures quiet { IsQuiet (state_in C.Chronicle stripe.new) }
+    ensures counts { IfSome result.answer (λ said. NoLossIsAFault (state_in C.Chronicle stripe.old)
+        → count_in said ≤ (seen_in D.Disk R.Directory stripe.new).device.faults) }
     ensures later { (seen_in D.Disk R.Directory stripe.old).device.faults ≤ (seen_in D.Disk R.Directory stripe.new).device.faults }
     ensures unharmed { StaysUnharmed D.Disk R.Directory C.Chronicle stripe.old stripe.new }
     ensures own { AddsOfPut (state_in C.Chronicle stripe.old).next_put (kept_in C.Chronicle stripe.old) (kept_in C.Chronicle stripe.new) }
@@ -246,8 +252,9 @@ pub(crate) fn data_line<D: Disk, R: Directory + Drop, C: Chronicle>(
     ensures session { IsSession D.Disk R.Directory C.Chronicle session.new }
     ensures ends { IfOk result (λ said. (run : Run) → Plays D.Disk R.Directory C.Chronicle run session.old
         → StepEnds D.Disk R.Directory C.Chronicle run (step.Feed actor.now body.now) session.new said) }
-    ensures reached { OnErr result ((run : Run) → Plays D.Disk R.Directory C.Chronicle run session.old → HasReached D.Disk R.Directory C.Chronicle run session.new) }
-    ensures stop { IfErr result (λ stop. (run : Run) → Plays D.Disk R.Directory C.Chronicle run session.old → IsSessionStop run stop) }
+    ensures counts { IfOk result (TellsCount D.Disk R.Directory C.Chronicle session.new.part) }
+    ensures device { AreLater (return_of D.Disk R.Directory C.Chronicle session.old.part) (return_of D.Disk R.Directory C.Chronicle session.new.part) }
+    ensures stop { IfErr result (IsSessionStop session.old) }
     ensures devices { devices_of session.new ≡ devices_of session.old }
     ensures names { length (names_in session.new) ≤ length (names_in session.old) + 1 }
 {
@@ -270,6 +277,7 @@ fn data_in<D: Disk, R: Directory + Drop, C: Chronicle>(
     ensures ends { IfOk result (λ said. (run : Run) → run.now ≡ now → PlaysPart C.Chronicle run part.old actors.old
         → PartEnds C.Chronicle run (state_in C.Chronicle part.old.stripe) (step.Feed actor.now body.now) part.new actors.new said) }
     ensures stop { IfErr result (λ why. why ≡ stop.Memory) }
+    ensures counts { IfOk result (TellsCount D.Disk R.Directory C.Chronicle (Some part.new)) }
     ensures later { (seen_in D.Disk R.Directory part.old.stripe).device.faults ≤ (seen_in D.Disk R.Directory part.new.stripe).device.faults }
     ensures unharmed { StaysUnharmed D.Disk R.Directory C.Chronicle part.old.stripe part.new.stripe }
     ensures names { length actors.new.names ≤ length actors.old.names + 1 }
@@ -303,6 +311,8 @@ fn give_bytes<D: Disk, R: Directory + Drop, C: Chronicle>(
     requires writing { is_writing (state_in C.Chronicle stripe.old) writer.put ≡ true }
     ensures stripe { IsStripe D.Disk R.Directory C.Chronicle stripe.new }
     ensures quiet { IsQuiet (state_in C.Chronicle stripe.new) }
+    ensures counts { IfSome result.answer (λ said. NoLossIsAFault (state_in C.Chronicle stripe.old)
+        → count_in said ≤ (seen_in D.Disk R.Directory stripe.new).device.faults) }
     ensures later { (seen_in D.Disk R.Directory stripe.old).device.faults ≤ (seen_in D.Disk R.Directory stripe.new).device.faults }
     ensures unharmed { StaysUnharmed D.Disk R.Directory C.Chronicle stripe.old stripe.new }
     ensures own { AddsOfPut writer.put (kept_in C.Chronicle stripe.old) (kept_in C.Chronicle stripe.new) }
@@ -337,8 +347,9 @@ pub(crate) fn close_line<D: Disk, R: Directory + Drop, C: Chronicle>(
     ensures session { IsSession D.Disk R.Directory C.Chronicle session.new }
     ensures ends { IfOk result (λ said. (run : Run) → Plays D.Disk R.Directory C.Chronicle run session.old
         → StepEnds D.Disk R.Directory C.Chronicle run (step.Close actor.now) session.new said) }
-    ensures reached { OnErr result ((run : Run) → Plays D.Disk R.Directory C.Chronicle run session.old → HasReached D.Disk R.Directory C.Chronicle run session.new) }
-    ensures stop { IfErr result (λ stop. (run : Run) → Plays D.Disk R.Directory C.Chronicle run session.old → IsSessionStop run stop) }
+    ensures counts { IfOk result (TellsCount D.Disk R.Directory C.Chronicle session.new.part) }
+    ensures device { AreLater (return_of D.Disk R.Directory C.Chronicle session.old.part) (return_of D.Disk R.Directory C.Chronicle session.new.part) }
+    ensures stop { IfErr result (IsSessionStop session.old) }
     ensures devices { devices_of session.new ≡ devices_of session.old }
     ensures names { length (names_in session.new) ≤ length (names_in session.old) + 1 }
 {
@@ -360,6 +371,7 @@ fn close_in<D: Disk, R: Directory + Drop, C: Chronicle>(
     ensures ends { IfOk result (λ said. (run : Run) → run.now ≡ now → PlaysPart C.Chronicle run part.old actors.old
         → PartEnds C.Chronicle run (state_in C.Chronicle part.old.stripe) (step.Close actor.now) part.new actors.new said) }
     ensures stop { IfErr result (λ why. why ≡ stop.Memory) }
+    ensures counts { IfOk result (TellsCount D.Disk R.Directory C.Chronicle (Some part.new)) }
     ensures later { (seen_in D.Disk R.Directory part.old.stripe).device.faults ≤ (seen_in D.Disk R.Directory part.new.stripe).device.faults }
     ensures unharmed { StaysUnharmed D.Disk R.Directory C.Chronicle part.old.stripe part.new.stripe }
     ensures names { length actors.new.names ≤ length actors.old.names + 1 }
@@ -392,6 +404,8 @@ fn finish<D: Disk, R: Directory + Drop, C: Chronicle>(
     requires writing { is_writing (state_in C.Chronicle stripe.old) writer.put ≡ true }
     ensures stripe { IsStripe D.Disk R.Directory C.Chronicle stripe.new }
     ensures quiet { IsQuiet (state_in C.Chronicle stripe.new) }
+    ensures counts { IfSome result.answer (λ said. NoLossIsAFault (state_in C.Chronicle stripe.old)
+        → count_in said ≤ (seen_in D.Disk R.Directory stripe.new).device.faults) }
     ensures later { (seen_in D.Disk R.Directory stripe.old).device.faults ≤ (seen_in D.Disk R.Directory stripe.new).device.faults }
     ensures unharmed { StaysUnharmed D.Disk R.Directory C.Chronicle stripe.old stripe.new }
     ensures own { AddsOfPut writer.put (kept_in C.Chronicle stripe.old) (kept_in C.Chronicle stripe.new) }
@@ -417,8 +431,9 @@ pub(crate) fn abort_line<D: Disk, R: Directory + Drop, C: Chronicle>(
     ensures session { IsSession D.Disk R.Directory C.Chronicle session.new }
     ensures ends { IfOk result (λ said. (run : Run) → Plays D.Disk R.Directory C.Chronicle run session.old
         → StepEnds D.Disk R.Directory C.Chronicle run (step.Abort actor.now) session.new said) }
-    ensures reached { OnErr result ((run : Run) → Plays D.Disk R.Directory C.Chronicle run session.old → HasReached D.Disk R.Directory C.Chronicle run session.new) }
-    ensures stop { IfErr result (λ stop. (run : Run) → Plays D.Disk R.Directory C.Chronicle run session.old → IsSessionStop run stop) }
+    ensures counts { IfOk result (TellsCount D.Disk R.Directory C.Chronicle session.new.part) }
+    ensures device { AreLater (return_of D.Disk R.Directory C.Chronicle session.old.part) (return_of D.Disk R.Directory C.Chronicle session.new.part) }
+    ensures stop { IfErr result (IsSessionStop session.old) }
     ensures devices { devices_of session.new ≡ devices_of session.old }
     ensures names { length (names_in session.new) ≤ length (names_in session.old) + 1 }
 {
@@ -439,6 +454,7 @@ fn abort_in<D: Disk, R: Directory + Drop, C: Chronicle>(
     ensures ends { IfOk result (λ said. (run : Run) → PlaysPart C.Chronicle run part.old actors.old
         → PartEnds C.Chronicle run (state_in C.Chronicle part.old.stripe) (step.Abort actor.now) part.new actors.new said) }
     ensures stop { IfErr result (λ why. why ≡ stop.Memory) }
+    ensures counts { IfOk result (TellsCount D.Disk R.Directory C.Chronicle (Some part.new)) }
     ensures later { (seen_in D.Disk R.Directory part.old.stripe).device.faults ≤ (seen_in D.Disk R.Directory part.new.stripe).device.faults }
     ensures unharmed { StaysUnharmed D.Disk R.Directory C.Chronicle part.old.stripe part.new.stripe }
     ensures names { length actors.new.names ≤ length actors.old.names + 1 }
@@ -470,6 +486,8 @@ fn give_up<D: Disk, R: Directory + Drop, C: Chronicle>(
     requires writing { is_writing (state_in C.Chronicle stripe.old) writer.put ≡ true }
     ensures stripe { IsStripe D.Disk R.Directory C.Chronicle stripe.new }
     ensures quiet { IsQuiet (state_in C.Chronicle stripe.new) }
+    ensures counts { IfSome result.answer (λ said. NoLossIsAFault (state_in C.Chronicle stripe.old)
+        → count_in said ≤ (seen_in D.Disk R.Directory stripe.new).device.faults) }
     ensures later { (seen_in D.Disk R.Directory stripe.old).device.faults ≤ (seen_in D.Disk R.Directory stripe.new).device.faults }
     ensures unharmed { StaysUnharmed D.Disk R.Directory C.Chronicle stripe.old stripe.new }
     ensures own { AddsOfPut writer.put (kept_in C.Chronicle stripe.old) (kept_in C.Chronicle stripe.new) }

@@ -16,23 +16,26 @@ use Rattle.script_lang.specs.declared.last.LastLine.{LastLine}
 use Rattle.script_lang.specs.declared.last.LastLine.TheVariants as last
 use Rattle.script_lang.specs.Texts.{answer_line}
 use Rattle.script_lang.specs.Grammar.{reading_of}
-use Rattle.script_run.specs.Run.{Run, fresh, no_harm}
-use Rattle.script_run.specs.Behind.{harm_of, harms_of}
-use Rattle.script_run.specs.Takes.{StepShows, run_after, output_of}
+use Rattle.script_lang.specs.declared.answer.StepAnswer.{StepAnswer}
+use Rattle.script_run.specs.Run.{Harm, Run, fresh, no_harm}
+use Rattle.script_run.specs.Behind.{harm_of}
+use Rattle.script_run.specs.Takes.{run_after}
+use Rattle.cache_replay.specs.Outline.{Outline, blank, told_of}
+use Rattle.cache_replay.specs.Lines.{outline_of, texts_before, texts_of}
 use Rattle.cache_replay.specs.declared.session.Session.{Session}
 use Rattle.cache_replay.specs.declared.stop.Stop.TheVariants as stop
 use Rattle.cache_replay.specs.declared.session.Part.{Part}
 use Rattle.cache_replay.specs.declared.stop.Stop.{Stop as Stopped}
 use Rattle.cache_replay.specs.Session.{IsSession, devices_of, parts_of, return_of}
-use Rattle.cache_replay.specs.Plays.{AreReached, ComeBack, HasReached, IsLeft, stays, ended, Plays, Ledger}
+use Rattle.cache_replay.specs.Plays.{AreReached, ComeBack, Deals, IsLeft, IsOutlined, stays, ended, Plays, Ledger}
 use Rattle.cache_tool.specs.declared.run.Ending.{Ending}
 use Rattle.cache_tool.specs.declared.run.Ending.TheVariants as ending
 use Rattle.cache_tool.specs.declared.run.Halt.{Halt}
 use Rattle.cache_tool.specs.declared.run.Halt.TheVariants.{Stop, WriteFault, Memory}
-use Rattle.cache_tool.specs.Story.{Story, output_before, IsBehind, GoesOn, GaveBack, Grows, Owes, OwesOrGave, SendsAll, SendsWhole, SendsFront, CutsLast, Shown, Counts, Because, IsTooLongAt, IsTooManyAt}
+use Rattle.cache_tool.specs.Story.{Story, Told, Recorded, ShownAlong, IsBehind, GoesOn, GaveBack, Owes, OwesOrGave, SendsAll, SendsWhole, SendsFront, CutsLast, Counts, Because, IsTooLongAt, IsTooManyAt, all_in, told_by, told_in}
 use Rattle.cache_tool.specs.Ending.{Ends, IsOfRun}
-use Rattle.cache_tool.specs.Halt.{Written, Halts, ending_of, last_of}
-use Rattle.cache_tool.proofs.Stories.{step_more, step_owes, step_shows, IsNext-known, Deals-nothing, Deals-trans, Deals-settled}
+use Rattle.cache_tool.specs.Halt.{Written, Halts, Leaves, ending_of, last_of}
+use Rattle.cache_tool.proofs.Stories.{step_more, IsNext-known, Deals-nothing, Deals-trans, Deals-settled}
 use Rattle.cache_tool.proofs.Halts.{Appends-kept, cuts_last, plays_reach}
 
 at_end : (given : ℕ) (unread unread' : Option (List ℕ)) → AnswersKnown given unread unread' (Ok None) → IsAtEnd unread
@@ -50,40 +53,52 @@ too_many given None unread' known = tt
 too_many given (Some u) None known = absurd known
 too_many given (Some u) (Some u') known = known.0
 
-module _ (first taken_first taken : Option (List ℕ)) (ledger_first ledger : Ledger) (unread : Option (List ℕ)) (given : ℕ) (Plays' : Run → Type 0)
-    (Reached : Run → Type 0) (devices : ℕ) (reach : (run : Run) → Plays' run → Reached run) (story : GoesOn first taken_first ledger_first unread given taken ledger Plays') where
-  abbrev here : Run
-  here = run_after fresh story.lines story.turns
+module _ (first taken_first taken : Option (List ℕ)) (ledger_first ledger : Ledger) (unread : Option (List ℕ)) (given : ℕ) (Outlined : Outline → Type 0) (Plays' : Run → Type 0)
+    (Reached : List Harm → Type 0) (devices : ℕ) (reach : (o : Outline) → Outlined o → Reached (told_of o.session)) (reach_run : (run : Run) → Plays' run → Reached (harm_of run.state))
+    (story : GoesOn first taken_first ledger_first unread given taken ledger Outlined Plays') where
+  abbrev here : Outline
+  here = outline_of blank story.lines story.answers
+
+  -- what the records are worth as they stand
+  still_recorded : (Devices : Told → Type 0) → ((t : Told) → Deals ledger_first ledger t.ended t.names → Reached t.own → Devices t)
+      → Recorded story.lines story.answers (λ t. Deals ledger_first ledger t.ended t.names) Plays' ⊎ ShownAlong story.lines story.answers → Recorded story.lines story.answers Devices (λ run. Unit {0}) ⊎ ShownAlong story.lines story.answers
+  still_recorded Devices settle (inl r) = inl (record { turns = r.turns; legal = r.legal; says = r.says; devices = settle _ r.devices (reach_run _ r.known); known = tt })
+  still_recorded Devices settle (inr along) = inr along
 
   -- the story as it stands
-  still : (Text : (before all : List ℕ) → Type 0) (Devices Behind : Run → Type 0) → Text (output_before story.lines story.turns) (output_of fresh story.lines story.turns) → Devices here → Behind here → Story first unread given Text Devices Behind
-  still Text Devices Behind text devices behind = record {
+  still : (Text : (before all : List ℕ) → Type 0) (Devices : Told → Type 0) (Behind : Outline → Type 0) → Text (texts_before story.answers) (texts_of story.answers)
+      → ((t : Told) → Deals ledger_first ledger t.ended t.names → Reached t.own → Devices t) → Behind here → Story first unread given Text Devices Behind (λ run. Unit {0})
+  still Text Devices Behind text settle behind = record {
     lines = story.lines;
-    turns = story.turns;
+    answers = story.answers;
     taken = story.taken;
     counted = story.counted;
-    legal = story.legal;
+    answered = story.answered;
     text = text;
-    devices = devices;
+    devices = settle (told_by here) story.devices (reach here story.behind);
     behind = behind;
+    records = still_recorded Devices settle story.records;
   }
 
-  owes : Owes ledger_first ledger Reached here
-  owes = record { deals = story.devices; reached = reach here story.behind }
+  owes : (t : Told) → Deals ledger_first ledger t.ended t.names → Reached t.own → Owes ledger_first ledger Reached t
+  owes t deals reached = record { deals = deals; reached = reached }
+
+  abbrev Wants : Option (List ℕ) → ℕ → Told → Type 0
+  Wants = OwesOrGave ledger_first ledger devices Reached
 
   -- the script was read to its end
-  pub done_ends : (unread' : Option (List ℕ)) (source sink bay : Counts) → AnswersKnown given unread unread' (Ok None) → Ends first taken_first taken source sink bay (Owes ledger_first ledger Reached) (OwesOrGave ledger_first ledger devices Reached) ending.Done
+  pub done_ends : (unread' : Option (List ℕ)) (source sink bay : Counts) → AnswersKnown given unread unread' (Ok None) → Ends first taken_first taken source sink bay (Owes ledger_first ledger Reached) Wants ending.Done
   done_ends unread' source sink bay known = record { unread = unread; given = given; story = still (SendsAll taken_first taken) _ _ story.text owes (at_end given unread unread' known) }
 
-  pub memory_ends : (source sink bay : Counts) → Ends first taken_first taken source sink bay (Owes ledger_first ledger Reached) (OwesOrGave ledger_first ledger devices Reached) ending.OutOfMemory
-  memory_ends source sink bay = record { unread = unread; given = given; story = still (SendsWhole taken_first taken) _ _ (inl story.text) (inl owes) tt }
+  pub memory_ends : (source sink bay : Counts) → Ends first taken_first taken source sink bay (Owes ledger_first ledger Reached) Wants ending.OutOfMemory
+  memory_ends source sink bay = record { unread = unread; given = given; story = still (SendsWhole taken_first taken) _ _ (inl story.text) (λ t deals reached. inl (owes t deals reached)) tt }
 
-  stopped : (source sink bay : Counts) (why : LastLine) → Because source bay unread given here why → Ends first taken_first taken source sink bay (Owes ledger_first ledger Reached) (OwesOrGave ledger_first ledger devices Reached) (ending.Stopped why)
+  stopped : (source sink bay : Counts) (why : LastLine) → Because source bay unread given here why → Ends first taken_first taken source sink bay (Owes ledger_first ledger Reached) Wants (ending.Stopped why)
   stopped source sink bay why because = record { unread = unread; given = given; story = still (SendsAll taken_first taken) _ _ story.text owes because }
 
   -- the reader met a fault
   pub fault_ends : (unread' : Option (List ℕ)) (held : List ℕ) (source sink bay : Counts) (f : LineFault) → AnswersKnown given unread unread' (Err f) → FaultIs given held source.before source.now f
-      → Ends first taken_first taken source sink bay (Owes ledger_first ledger Reached) (OwesOrGave ledger_first ledger devices Reached) (ending.Stopped (last_of f))
+      → Ends first taken_first taken source sink bay (Owes ledger_first ledger Reached) Wants (ending.Stopped (last_of f))
   fault_ends unread' held source sink bay (fault.LineTooLong number) known is = stopped source sink bay (last.LineTooLong number) (is.0, too_long given number unread unread' known)
   fault_ends unread' held source sink bay fault.TooManyLines known is = stopped source sink bay last.TooManyLines (too_many given unread unread' known)
   fault_ends unread' held source sink bay (fault.ReadFault count) known is = stopped source sink bay last.ReadFault is.1
@@ -91,93 +106,130 @@ module _ (first taken_first taken : Option (List ℕ)) (ledger_first ledger : Le
   -- the next line
   module _ (bytes : List ℕ) (unread' : Option (List ℕ)) (given' : ℕ) (known : AnswersKnown given unread unread' (Ok (Some bytes))) (counted : given' ≡ given + 1) where
     pub bad_ends : (source sink bay : Counts) (bad : BadLine) → reading_of bytes ≡ line.Bad bad
-        → Ends first taken_first taken source sink bay (Owes ledger_first ledger Reached) (OwesOrGave ledger_first ledger devices Reached) (ending.Stopped (last.BadScript given' bad))
+        → Ends first taken_first taken source sink bay (Owes ledger_first ledger Reached) Wants (ending.Stopped (last.BadScript given' bad))
     bad_ends source sink bay bad e =
         stopped source sink bay (last.BadScript given' bad) (counted, record { bytes = bytes; next = IsNext-known given unread unread' bytes known; bad = e })
 
-    -- a step
-    module _ {D R C : Type 0} (disk : DiskGhosts D) (directory : DirectoryGhosts R) (chronicle : ChronicleGhosts C) (step : Step) (asks : reading_of bytes ≡ line.Step step) (session : Session D R C)
-        (ledger' : Ledger) (taken' : Option (List ℕ)) (grows : Grows taken taken') where
-      abbrev Now : Run → Type 0
-      Now = λ run. Plays disk directory chronicle run session
+-- the next line is a step
+module _ {D R C : Type 0} (disk : DiskGhosts D) (directory : DirectoryGhosts R) (chronicle : ChronicleGhosts C) (old : Session D R C) (first taken_first taken : Option (List ℕ)) (ledger_first ledger : Ledger)
+    (unread unread' : Option (List ℕ)) (given given' : ℕ)
+    (story : GoesOn first taken_first ledger_first unread given taken ledger (λ o. IsOutlined disk directory chronicle o old) (λ run. Plays disk directory chronicle run old))
+    (bytes : List ℕ) (known : AnswersKnown given unread unread' (Ok (Some bytes))) (counted : given' ≡ given + 1)
+    (step : Step) (asks : reading_of bytes ≡ line.Step step) (session : Session D R C) (ledger' : Ledger) (taken' : Option (List ℕ)) where
+  -- the outline that it finds
+  abbrev found : Outline
+  found = outline_of blank story.lines story.answers
 
-      abbrev Reaches : Run → Type 0
-      Reaches = λ run. HasReached disk directory chronicle run session
+  abbrev Reaches : List Harm → Type 0
+  Reaches = λ harms. AreReached harms (return_of disk directory chronicle session.part)
 
-      abbrev Wanting : Run → Type 0
-      Wanting = OwesOrGave ledger_first ledger' (devices_of session) Reaches
+  abbrev Wanting : Option (List ℕ) → ℕ → Told → Type 0
+  Wanting = OwesOrGave ledger_first ledger' (devices_of session) Reaches
 
-      shown : StepShows here here.state step → Shown first taken_first taken'
-      shown = step_shows first taken_first taken ledger_first ledger unread unread' given given' Plays' story bytes known counted taken' grows step asks
+  -- the run goes on behind it
+  pub step_goes : Written disk directory chronicle old step session ledger ledger' (Appends taken taken')
+      → GoesOn first taken_first ledger_first unread' given' taken' ledger' (λ o. IsOutlined disk directory chronicle o session) (λ run. Plays disk directory chronicle run session)
+  step_goes w =
+      step_more first taken_first taken ledger_first ledger unread unread' given given' _ _ story bytes known counted step asks w.said ledger' disk directory chronicle session
+      (SendsAll taken_first taken') (λ t. Deals ledger_first ledger' t.ended t.names) _ _ (w.outlines found story.behind) w.ends
+      (λ out appends. Appends-trans taken_first taken taken' out _ appends w.text) (λ o is deals. deals) (λ run plays deals. deals) (λ o is. is) (λ run plays. plays)
 
-      done_goes : Written disk directory chronicle here step session ledger ledger' (Appends taken taken') → GoesOn first taken_first ledger_first unread' given' taken' ledger' Now
-      done_goes w =
-          step_more first taken_first taken ledger_first ledger unread unread' given given' Plays' story bytes known counted step asks w.done.moves.turn w.said w.done.moves.takes w.done.moves.says
-          w.done.harms w.done.ended w.done.names w.done.named ledger' w.done.deals (SendsAll taken_first taken') Now (λ out appends. Appends-trans taken_first taken taken' out _ appends w.text) w.done.moves.plays
+  -- or ends with it
+  module _ (was : IsSession disk directory chronicle old) (is : IsSession disk directory chronicle session) (source sink bay : Counts) where
+    written_ends : (Text : List ℕ → Type 0) (Sent : (before all : List ℕ) → Type 0) (Devices : Told → Type 0) (Behind : Outline → Type 0) (w : Written disk directory chronicle old step session ledger ledger' Text)
+        → ((out : List ℕ) → Appends taken_first taken out → Sent out (out ++ answer_line w.said)) → ((t : Told) → Owes ledger_first ledger' Reaches t → Devices t) → ((o : Outline) → Behind o)
+        → Story first unread' given' Sent Devices Behind (λ run. Unit {0})
+    written_ends Text Sent Devices Behind w sent owed behind =
+        step_more first taken_first taken ledger_first ledger unread unread' given given' _ _ story bytes known counted step asks w.said ledger' disk directory chronicle session
+        Sent Devices Behind (λ run. Unit {0}) (w.outlines found story.behind) w.ends sent (λ o reached deals. owed (told_by o) (record { deals = deals; reached = reached }))
+        (λ run plays deals. owed (told_in run) (record { deals = deals; reached = plays_reach disk directory chronicle session is run plays })) (λ o reached. behind o) (λ run plays. tt)
 
-      -- the run goes on behind it
-      pub step_goes : Written disk directory chronicle here step session ledger ledger' (Appends taken taken') ⊎ StepShows here here.state step
-          → GoesOn first taken_first ledger_first unread' given' taken' ledger' Now ⊎ Shown first taken_first taken'
-      step_goes (inl w) = inl (done_goes w)
-      step_goes (inr shows) = inr (shown shows)
+    -- what a line leaves that was not done
+    left_ends : (why : Stopped) (Devices : Told → Type 0) → ((t : Told) → Deals ledger_first ledger t.ended t.names → IsLeft disk directory chronicle t.own step session ledger ledger' why → Devices t)
+        → Leaves disk directory chronicle old step session ledger ledger' why → (Text : (before all : List ℕ) → Type 0) (Behind : Outline → Type 0) → Text (texts_before story.answers) (texts_of story.answers) → Behind found
+        → Story first unread given Text Devices Behind (λ run. Unit {0})
+    left_ends why Devices settle leaves Text Behind text behind = record {
+      lines = story.lines;
+      answers = story.answers;
+      taken = story.taken;
+      counted = story.counted;
+      answered = story.answered;
+      text = text;
+      devices = settle (told_by found) story.devices (leaves (told_of found.session) story.behind);
+      behind = behind;
+      records = elim story.records [
+        | inl r ↦
+            let run : Run = run_after fresh story.lines r.turns in
+            inl (record { turns = r.turns; legal = r.legal; says = r.says; devices = settle (told_in run) r.devices (leaves (harm_of run.state) (plays_reach disk directory chronicle old was run r.known)); known = tt })
+        | inr along ↦ inr along
+      ];
+    }
 
-      -- or ends with it
-      module _ (is : IsSession disk directory chronicle session) (source sink bay : Counts) where
-        written_ends : (Text : List ℕ → Type 0) (Sent : (before all : List ℕ) → Type 0) (Devices Behind : Run → Type 0) (w : Written disk directory chronicle here step session ledger ledger' Text)
-            → ((out : List ℕ) → Appends taken_first taken out → Sent out (out ++ answer_line w.said)) → ((run : Run) → Owes ledger_first ledger' Reaches run → Devices run) → ((run : Run) → Behind run)
-            → Story first unread' given' Sent Devices Behind
-        written_ends Text Sent Devices Behind w sent owed behind =
-            step_owes first taken_first taken ledger_first ledger unread unread' given given' Plays' story bytes known counted step asks w.done.moves.turn w.said w.done.moves.takes w.done.moves.says
-            w.done.harms w.done.ended w.done.names w.done.named ledger' w.done.deals Sent Reaches Devices Behind sent (plays_reach disk directory chronicle session is _ w.done.moves.plays) owed (behind _)
+    stays_owes : (t : Told) → Deals ledger_first ledger t.ended t.names → AreReached t.own (return_of disk directory chronicle session.part) → ledger' ≡ ledger → Owes ledger_first ledger' Reaches t
+    stays_owes t deals reached same = record { deals = rw same deals; reached = reached }
 
-        halted : (why : LastLine) (by : Stopped) → (by ≡ stop.Memory → ⊥) → IsLeft disk directory chronicle here session ledger ledger' by → Keeps taken taken' → Because source bay unread given here why
-            → Ends first taken_first taken' source sink bay (Owes ledger_first ledger' Reaches) Wanting (ending.Stopped why)
-        halted why by other (stays reached same) keeps because = record {
-          unread = unread;
-          given = given;
-          story = still (SendsAll taken_first taken') _ _ (Appends-kept taken_first taken taken' _ story.text keeps) (record { deals = rw same story.devices; reached = reached }) because;
-        }
-        halted why by other (ended name none deals wanting) keeps because = absurd (other wanting)
+    not_ended : (by : Stopped) → (by ≡ stop.Memory → ⊥) → (t : Told) → Deals ledger_first ledger t.ended t.names → IsLeft disk directory chronicle t.own step session ledger ledger' by → Owes ledger_first ledger' Reaches t
+    not_ended by other t deals (stays reached same) = stays_owes t deals reached same
+    not_ended by other t deals (ended name attaches none more wanting) = absurd (other wanting)
 
-        -- what is owed where memory was wanting
-        wants : IsLeft disk directory chronicle here session ledger ledger' stop.Memory → Wanting here
-        wants (stays reached same) = inl (record { deals = rw same story.devices; reached = reached })
-        wants (ended name none deals wanting) = inr (
-          rw none refl,
-          record {
-            name = name;
-            deals = rw append_assoc (Deals-trans ledger_first ledger ledger' here.ended (harm_of here.state ++ no_harm ∷ []) here.names (name ∷ []) story.devices deals);
-          },
-        )
+    halted : (why : LastLine) (by : Stopped) → (by ≡ stop.Memory → ⊥) → Leaves disk directory chronicle old step session ledger ledger' by → Keeps taken taken' → Because source bay unread given found why
+        → Ends first taken_first taken' source sink bay (Owes ledger_first ledger' Reaches) Wanting (ending.Stopped why)
+    halted why by other leaves keeps because = record {
+      unread = unread;
+      given = given;
+      story = left_ends by (Owes ledger_first ledger' Reaches) (not_ended by other) leaves (SendsAll taken_first taken') _ (Appends-kept taken_first taken taken' _ story.text keeps) because;
+    }
 
-        halt_ends : (halt : Halt) → Halts disk directory chronicle here step session ledger ledger' taken taken' sink bay halt
-            → Ends first taken_first taken' source sink bay (Owes ledger_first ledger' Reaches) Wanting (ending_of given' halt)
-        halt_ends (Stop stop.NoCache) h =
-            halted (last.NoCache given') stop.NoCache (λ e. absurd cc) h.0 h.1 (counted, record { bytes = bytes; next = IsNext-known given unread unread' bytes known; step = step; asks = asks; needs = h.2.0; none = h.2.1 })
-        halt_ends (Stop stop.BayFault) h =
-            halted last.BayFault stop.BayFault (λ e. absurd cc) h.0 h.1 (record { bytes = bytes; next = IsNext-known given unread unread' bytes known; step = step; asks = asks; attaches = h.2.0; rose = h.2.1 })
-        halt_ends (Stop stop.Memory) h = record {
-          unread = unread;
-          given = given;
-          story = still (SendsWhole taken_first taken') _ _ (inl (Appends-kept taken_first taken taken' _ story.text h.1)) (wants h.0) tt;
-        }
-        halt_ends WriteFault h = record {
-          unread = unread';
-          given = given';
-          story = written_ends (SendsFront taken taken' []) (CutsLast taken_first taken') (Owes ledger_first ledger' Reaches) (λ run. Rose sink.before sink.now) h.0
-              (λ out appends. cuts_last taken_first taken taken' out h.0.said appends h.0.text) (λ run owes. owes) (λ run. h.1);
-        }
-        halt_ends Memory h = record {
-          unread = unread';
-          given = given';
-          story = written_ends (λ text. Keeps taken taken') (SendsWhole taken_first taken') Wanting (λ run. Unit) h
-              (λ out appends. inr (Appends-kept taken_first taken taken' out appends h.text)) (λ run owes. inl owes) (λ run. tt);
-        }
+    -- what is owed where memory was wanting
+    wants : (t : Told) → Deals ledger_first ledger t.ended t.names → IsLeft disk directory chronicle t.own step session ledger ledger' stop.Memory → Wanting unread given t
+    wants t deals (stays reached same) = inl (stays_owes t deals reached same)
+    wants t deals (ended name attaches none more wanting) = inr (
+      rw none refl,
+      record {
+        bytes = bytes;
+        next = IsNext-known given unread unread' bytes known;
+        step = step;
+        asks = asks;
+        name = name;
+        attaches = attaches;
+        deals = rw append_assoc (Deals-trans ledger_first ledger ledger' t.ended (t.own ++ no_harm ∷ []) t.names (name ∷ []) deals more);
+      },
+    )
 
-        pub step_ends : (halt : Halt) → Halts disk directory chronicle here step session ledger ledger' taken taken' sink bay halt ⊎ StepShows here here.state step
-            → Ends first taken_first taken' source sink bay (Owes ledger_first ledger' Reaches) Wanting (ending_of given' halt) ⊎ Shown first taken_first taken'
-        step_ends halt (inl h) = inl (halt_ends halt h)
-        step_ends halt (inr shows) = inr (shown shows)
+    -- without a session there is none in the outline
+    none_found : (count : Option ℕ) (part : Option (Part D R C)) → part ≡ None → AreReached (told_of count) (return_of disk directory chronicle part) → count ≡ None
+    none_found None part e h = refl
+    none_found (Some n) None e h = absurd h
+    none_found (Some n) (Some part) e h = cc
+
+    halt_ends : (halt : Halt) → Halts disk directory chronicle old step session ledger ledger' taken taken' sink bay halt
+        → Ends first taken_first taken' source sink bay (Owes ledger_first ledger' Reaches) Wanting (ending_of given' halt)
+    halt_ends (Stop stop.NoCache) h =
+        halted (last.NoCache given') stop.NoCache (λ e. absurd cc) h.0 h.1
+        (counted, record { bytes = bytes; next = IsNext-known given unread unread' bytes known; step = step; asks = asks; needs = h.2.0; none = none_found found.session old.part h.2.1 story.behind })
+    halt_ends (Stop stop.BayFault) h =
+        halted last.BayFault stop.BayFault (λ e. absurd cc) h.0 h.1 (record { bytes = bytes; next = IsNext-known given unread unread' bytes known; step = step; asks = asks; attaches = h.2.0; rose = h.2.1 })
+    halt_ends (Stop stop.Memory) h = record {
+      unread = unread;
+      given = given;
+      story = left_ends stop.Memory (Wanting unread given) wants h.0 (SendsWhole taken_first taken') _ (inl (Appends-kept taken_first taken taken' _ story.text h.1)) tt;
+    }
+    halt_ends WriteFault h = record {
+      unread = unread';
+      given = given';
+      story = written_ends (SendsFront taken taken' []) (CutsLast taken_first taken') (Owes ledger_first ledger' Reaches) (λ o. Rose sink.before sink.now) h.0
+          (λ out appends. cuts_last taken_first taken taken' out h.0.said appends h.0.text) (λ t owes. owes) (λ o. h.1);
+    }
+    halt_ends Memory h = record {
+      unread = unread';
+      given = given';
+      story = written_ends (λ text. Keeps taken taken') (SendsWhole taken_first taken') (Wanting unread' given') (λ o. Unit {0}) h
+          (λ out appends. inr (Appends-kept taken_first taken taken' out appends h.text)) (λ t owes. inl owes) (λ o. tt);
+    }
+
+    pub step_ends : (halt : Halt) → Halts disk directory chronicle old step session ledger ledger' taken taken' sink bay halt
+        → Ends first taken_first taken' source sink bay (Owes ledger_first ledger' Reaches) Wanting (ending_of given' halt)
+    step_ends halt h = halt_ends halt h
 
 -- no step ends the run with the last line for words that are no command
 pub ending_of-begun : (number : ℕ) (halt : Halt) → IsOfRun (ending_of number halt)
@@ -202,31 +254,33 @@ module _ (source source' sink sink' bay bay' : Counts) (source_from : source'.be
   rose_in : (a b : Counts) → b.before ≤ a.before → a.now ≡ b.now → Rose a.before a.now → Rose b.before b.now
   rose_in a b from to rose = Rose-earlier b.before a.before b.now from (rw to at rose)
 
-  because_earlier : (unread : Option (List ℕ)) (given : ℕ) (run : Run) (why : LastLine) → Because source bay unread given run why → Because source' bay' unread given run why
-  because_earlier unread given run last.Usage b = b
-  because_earlier unread given run (last.BadScript number bad) b = b
-  because_earlier unread given run last.ReadFault b = rose_in source source' source_from source_to b
-  because_earlier unread given run last.BayFault b = record { bytes = b.bytes; next = b.next; step = b.step; asks = b.asks; attaches = b.attaches; rose = rose_in bay bay' bay_from bay_to b.rose }
-  because_earlier unread given run (last.LineTooLong number) b = b
-  because_earlier unread given run last.TooManyLines b = b
-  because_earlier unread given run (last.NoCache number) b = b
+  because_earlier : (unread : Option (List ℕ)) (given : ℕ) (o : Outline) (why : LastLine) → Because source bay unread given o why → Because source' bay' unread given o why
+  because_earlier unread given o last.Usage b = b
+  because_earlier unread given o (last.BadScript number bad) b = b
+  because_earlier unread given o last.ReadFault b = rose_in source source' source_from source_to b
+  because_earlier unread given o last.BayFault b = record { bytes = b.bytes; next = b.next; step = b.step; asks = b.asks; attaches = b.attaches; rose = rose_in bay bay' bay_from bay_to b.rose }
+  because_earlier unread given o (last.LineTooLong number) b = b
+  because_earlier unread given o last.TooManyLines b = b
+  because_earlier unread given o (last.NoCache number) b = b
 
-  story_with : (first unread : Option (List ℕ)) (given : ℕ) (Text : (before all : List ℕ) → Type 0) (Devices Behind Behind' : Run → Type 0) → ((run : Run) → Behind run → Behind' run) → Story first unread given Text Devices Behind → Story first unread given Text Devices Behind'
-  story_with first unread given Text Devices Behind Behind' f s = record {
+  story_with : (first unread : Option (List ℕ)) (given : ℕ) (Text : (before all : List ℕ) → Type 0) (Devices : Told → Type 0) (Behind Behind' : Outline → Type 0) (Known : Run → Type 0) → ((o : Outline) → Behind o → Behind' o)
+      → Story first unread given Text Devices Behind Known → Story first unread given Text Devices Behind' Known
+  story_with first unread given Text Devices Behind Behind' Known f s = record {
     lines = s.lines;
-    turns = s.turns;
+    answers = s.answers;
     taken = s.taken;
     counted = s.counted;
-    legal = s.legal;
+    answered = s.answered;
     text = s.text;
     devices = s.devices;
     behind = f _ s.behind;
+    records = s.records;
   }
 
-  pub Ends-earlier : (first old new : Option (List ℕ)) (Devices Wanting : Run → Type 0) (e : Ending) → Ends first old new source sink bay Devices Wanting e → Ends first old new source' sink' bay' Devices Wanting e
+  pub Ends-earlier : (first old new : Option (List ℕ)) (Devices : Told → Type 0) (Wanting : Option (List ℕ) → ℕ → Told → Type 0) (e : Ending) → Ends first old new source sink bay Devices Wanting e → Ends first old new source' sink' bay' Devices Wanting e
   Ends-earlier first old new Devices Wanting ending.Done h = h
-  Ends-earlier first old new Devices Wanting (ending.Stopped why) h = record { unread = h.unread; given = h.given; story = story_with first h.unread h.given (SendsAll old new) Devices _ _ (λ run b. because_earlier h.unread h.given run why b) h.story }
-  Ends-earlier first old new Devices Wanting ending.WriteFault h = record { unread = h.unread; given = h.given; story = story_with first h.unread h.given (CutsLast old new) Devices _ _ (λ run b. rose_in sink sink' sink_from sink_to b) h.story }
+  Ends-earlier first old new Devices Wanting (ending.Stopped why) h = record { unread = h.unread; given = h.given; story = story_with first h.unread h.given (SendsAll old new) Devices _ _ _ (λ o b. because_earlier h.unread h.given o why b) h.story }
+  Ends-earlier first old new Devices Wanting ending.WriteFault h = record { unread = h.unread; given = h.given; story = story_with first h.unread h.given (CutsLast old new) Devices _ _ _ (λ o b. rose_in sink sink' sink_from sink_to b) h.story }
   Ends-earlier first old new Devices Wanting ending.OutOfMemory h = h
 
 -- ---- before the first line
@@ -235,54 +289,68 @@ nothing_behind : (unread : Option (List ℕ)) → IsBehind unread [] unread
 nothing_behind None = tt
 nothing_behind (Some u) = record { all = refl; short = tt; within = lit≤ tt }
 
-pub begins : (unread taken : Option (List ℕ)) (ledger : Ledger) (given : ℕ) (Plays' : Run → Type 0) → given ≡ 0 → Plays' fresh → GoesOn unread taken ledger unread given taken ledger Plays'
-begins unread taken ledger given Plays' none plays = record {
+pub begins : (unread taken : Option (List ℕ)) (ledger : Ledger) (given : ℕ) (Outlined : Outline → Type 0) (Plays' : Run → Type 0) → given ≡ 0 → Outlined blank → Plays' fresh → GoesOn unread taken ledger unread given taken ledger Outlined Plays'
+begins unread taken ledger given Outlined Plays' none outlined plays = record {
   lines = [];
-  turns = [];
+  answers = [];
   taken = nothing_behind unread;
   counted = none;
-  legal = tt;
+  answered = tt;
   text = Appends-nil taken;
   devices = Deals-nothing ledger;
-  behind = plays;
+  behind = outlined;
+  records = inl (record { turns = []; legal = tt; says = refl; devices = Deals-nothing ledger; known = plays });
 }
 
 -- ---- once the run has ended
 
-module _ (source sink bay : Counts) (first old new : Option (List ℕ)) (Devices Devices' Wanting Wanting' : Run → Type 0) (settle : (run : Run) → Devices run → Devices' run) (settle_wanting : (run : Run) → Wanting run → Wanting' run) where
-  settled : (unread : Option (List ℕ)) (given : ℕ) (Text : (before all : List ℕ) → Type 0) (From To Behind : Run → Type 0) → ((run : Run) → From run → To run) → Story first unread given Text From Behind → Story first unread given Text To Behind
-  settled unread given Text From To Behind f s = record {
+module _ (source sink bay : Counts) (first old new : Option (List ℕ)) (Devices Devices' : Told → Type 0) (Wanting Wanting' : Option (List ℕ) → ℕ → Told → Type 0)
+    (settle : (t : Told) → Devices t → Devices' t) (settle_wanting : (unread : Option (List ℕ)) (given : ℕ) (t : Told) → Wanting unread given t → Wanting' unread given t) where
+  records_settled : (lines : List (List ℕ)) (answers : List (Option StepAnswer)) (From To : Told → Type 0) (Known : Run → Type 0) → ((t : Told) → From t → To t)
+      → Recorded lines answers From Known ⊎ ShownAlong lines answers → Recorded lines answers To Known ⊎ ShownAlong lines answers
+  records_settled lines answers From To Known f (inl r) = inl (record { turns = r.turns; legal = r.legal; says = r.says; devices = f _ r.devices; known = r.known })
+  records_settled lines answers From To Known f (inr along) = inr along
+
+  settled : (unread : Option (List ℕ)) (given : ℕ) (Text : (before all : List ℕ) → Type 0) (From To : Told → Type 0) (Behind : Outline → Type 0) (Known : Run → Type 0) → ((t : Told) → From t → To t)
+      → Story first unread given Text From Behind Known → Story first unread given Text To Behind Known
+  settled unread given Text From To Behind Known f s = record {
     lines = s.lines;
-    turns = s.turns;
+    answers = s.answers;
     taken = s.taken;
     counted = s.counted;
-    legal = s.legal;
+    answered = s.answered;
     text = s.text;
     devices = f _ s.devices;
     behind = s.behind;
+    records = records_settled s.lines s.answers From To Known f s.records;
   }
 
   pub Ends-settled : (e : Ending) → Ends first old new source sink bay Devices Wanting e → Ends first old new source sink bay Devices' Wanting' e
-  Ends-settled ending.Done h = record { unread = h.unread; given = h.given; story = settled h.unread h.given (SendsAll old new) Devices Devices' _ settle h.story }
-  Ends-settled (ending.Stopped why) h = record { unread = h.unread; given = h.given; story = settled h.unread h.given (SendsAll old new) Devices Devices' _ settle h.story }
-  Ends-settled ending.WriteFault h = record { unread = h.unread; given = h.given; story = settled h.unread h.given (CutsLast old new) Devices Devices' _ settle h.story }
-  Ends-settled ending.OutOfMemory h = record { unread = h.unread; given = h.given; story = settled h.unread h.given (SendsWhole old new) Wanting Wanting' _ settle_wanting h.story }
+  Ends-settled ending.Done h = record { unread = h.unread; given = h.given; story = settled h.unread h.given (SendsAll old new) Devices Devices' _ _ settle h.story }
+  Ends-settled (ending.Stopped why) h = record { unread = h.unread; given = h.given; story = settled h.unread h.given (SendsAll old new) Devices Devices' _ _ settle h.story }
+  Ends-settled ending.WriteFault h = record { unread = h.unread; given = h.given; story = settled h.unread h.given (CutsLast old new) Devices Devices' _ _ settle h.story }
+  Ends-settled ending.OutOfMemory h = record { unread = h.unread; given = h.given; story = settled h.unread h.given (SendsWhole old new) (Wanting h.unread h.given) (Wanting' h.unread h.given) _ _ (settle_wanting h.unread h.given) h.story }
+
+-- no device was attached
+pub nothing_back : (ledger : Ledger) (t : Told) → t.ended ≡ [] → t.own ≡ [] → t.names ≡ [] → Deals ledger ledger (all_in t) t.names
+nothing_back ledger t none own names = rw (none, own, names) (Deals-nothing ledger)
 
 -- nothing was read for want of memory
-pub nothing_ends : (unread taken : Option (List ℕ)) (Devices Wanting : Run → Type 0) → Wanting fresh → (source sink bay : Counts)
+pub nothing_ends : (unread taken : Option (List ℕ)) (Devices : Told → Type 0) (Wanting : Option (List ℕ) → ℕ → Told → Type 0) → ((t : Told) → t.ended ≡ [] → t.own ≡ [] → t.names ≡ [] → Wanting unread 0 t) → (source sink bay : Counts)
     → Ends unread taken taken source sink bay Devices Wanting ending.OutOfMemory
 nothing_ends unread taken Devices Wanting back source sink bay = record {
   unread = unread;
   given = 0;
   story = record {
     lines = [];
-    turns = [];
+    answers = [];
     taken = nothing_behind unread;
     counted = refl;
-    legal = tt;
+    answered = tt;
     text = inl (Appends-nil taken);
-    devices = back;
+    devices = back (told_by blank) refl refl refl;
     behind = tt;
+    records = inl (record { turns = []; legal = tt; says = refl; devices = back (told_in fresh) refl refl refl; known = tt });
   };
 }
 
@@ -298,9 +366,14 @@ module _ {D R C : Type 0} (disk : DiskGhosts D) (directory : DirectoryGhosts R) 
   returns_none (Some part) e = absurd cc
 
   -- with no session nothing more comes back
-  pub gave_settled : (session : Session D R C) (a b c : Ledger) (run : Run) → ((r : Run) → HasReached disk directory chronicle r session → ComeBack b.returned c.returned (harm_of r.state)) → c.names ≡ b.names
-      → devices_of session ≡ 0 → GaveBack a b run → GaveBack a c run
-  gave_settled session a b c run back same none gave = record {
+  pub gave_settled : (session : Session D R C) (a b c : Ledger) (unread : Option (List ℕ)) (given : ℕ) (t : Told) → ((harms : List Harm) → AreReached harms (return_of disk directory chronicle session.part) → ComeBack b.returned c.returned harms)
+      → c.names ≡ b.names → devices_of session ≡ 0 → GaveBack a b unread given t → GaveBack a c unread given t
+  gave_settled session a b c unread given t back same none gave = record {
+    bytes = gave.bytes;
+    next = gave.next;
+    step = gave.step;
+    asks = gave.asks;
     name = gave.name;
-    deals = rw append-nil at (Deals-settled a b c (harms_of run ++ no_harm ∷ []) [] (run.names ++ gave.name ∷ []) gave.deals (back fresh (returns_none session.part none)) same);
+    attaches = gave.attaches;
+    deals = rw append-nil at (Deals-settled a b c (all_in t ++ no_harm ∷ []) [] (t.names ++ gave.name ∷ []) gave.deals (back [] (returns_none session.part none)) same);
   }

@@ -12,11 +12,12 @@ use Rattle.script_lang.specs.Texts.{answer_line}
 use Rattle.script_run.specs.Run.{Run}
 use Rattle.cache_replay.specs.declared.session.Session.{Session}
 use Rattle.cache_replay.specs.Session.{IsSession}
-use Rattle.cache_replay.specs.Plays.{DeviceMoves, HasReached, Ledger, Plays}
+use Rattle.cache_replay.specs.Outline.{Outline}
+use Rattle.cache_replay.specs.Plays.{DeviceEnds, HasReached, IsOutlined, Ledger, Outlines, Plays}
 use Rattle.cache_replay.proofs.Unharming.{plays_reached}
 use Rattle.cache_tool.specs.declared.run.Halt.{Halt}
 use Rattle.cache_tool.specs.declared.run.Halt.TheVariants.{Stop, WriteFault, Memory}
-use Rattle.cache_tool.specs.Story.{SendsFront, CutsLast, Grows, Counts}
+use Rattle.cache_tool.specs.Story.{SendsFront, CutsLast, Counts}
 use Rattle.cache_tool.specs.Halt.{Halts, IsUnwritten}
 
 pub OnOk-map : {T E : Type 0} (r : Result T E) (P Q : Type 0) → (P → Q) → OnOk r P → OnOk r Q
@@ -35,17 +36,14 @@ pub either-both : {A B S T : Type 0} → (A → B) → (S → T) → A ⊎ S →
 either-both f g (inl a) = inl (f a)
 either-both f g (inr s) = inr (g s)
 
-pub either-then : {A B S T : Type 0} → (A → B ⊎ T) → (S → T) → A ⊎ S → B ⊎ T
-either-then f g (inl a) = f a
-either-then f g (inr s) = inr (g s)
-
 module _ {D R C : Type 0} (disk : DiskGhosts D) (directory : DirectoryGhosts R) (chronicle : ChronicleGhosts C) where
-  pub unwritten_halts : (run : Run) (step : Step) (session : Session D R C) (said : StepAnswer) (before now : Ledger) (old new : Option (List ℕ)) (sink bay : Counts)
-      → DeviceMoves disk directory chronicle run step session said before now → (halt : Halt) → IsUnwritten old new sink.before sink.now (answer_line said) halt
-      → Halts disk directory chronicle run step session before now old new sink bay halt
-  unwritten_halts run step session said before now old new sink bay moves WriteFault h = (record { said = said; done = moves; text = h.0 }, h.1)
-  unwritten_halts run step session said before now old new sink bay moves Memory h = record { said = said; done = moves; text = h }
-  unwritten_halts run step session said before now old new sink bay moves (Stop why) h = absurd h
+  pub unwritten_halts : (session : Session D R C) (step : Step) (new : Session D R C) (said : StepAnswer) (before now : Ledger) (taken_old taken_new : Option (List ℕ)) (sink bay : Counts)
+      → ((o : Outline) → IsOutlined disk directory chronicle o session → Outlines disk directory chronicle o step new said before now)
+      → ((run : Run) → Plays disk directory chronicle run session → DeviceEnds disk directory chronicle run step new said before now)
+      → (halt : Halt) → IsUnwritten taken_old taken_new sink.before sink.now (answer_line said) halt → Halts disk directory chronicle session step new before now taken_old taken_new sink bay halt
+  unwritten_halts session step new said before now taken_old taken_new sink bay outlines ends WriteFault h = (record { said = said; outlines = outlines; ends = ends; text = h.0 }, h.1)
+  unwritten_halts session step new said before now taken_old taken_new sink bay outlines ends Memory h = record { said = said; outlines = outlines; ends = ends; text = h }
+  unwritten_halts session step new said before now taken_old taken_new sink bay outlines ends (Stop why) h = absurd h
 
   -- the device of a session is as it was told
   pub plays_reach : (session : Session D R C) → IsSession disk directory chronicle session → (run : Run) → Plays disk directory chronicle run session → HasReached disk directory chronicle run session
@@ -64,20 +62,3 @@ front_more a b c bs text p q = record { front = q.front; rest = q.rest; split = 
 
 pub cuts_last : (a b c : Option (List ℕ)) (bs : List ℕ) (said : StepAnswer) → Appends a b bs → SendsFront b c [] (answer_line said) → CutsLast a c bs (bs ++ answer_line said)
 cuts_last a b c bs said p q = record { said = said; split = refl; cut = front_more a b c bs (answer_line said) p q }
-
--- ---- a sink only grows
-
-pub grows_nothing : (a : Option (List ℕ)) → Grows a a
-grows_nothing a = ([], Appends-nil a)
-
-pub Keeps-grows : (a b : Option (List ℕ)) → Keeps a b → Grows a b
-Keeps-grows a b h = ([], Appends-kept a a b [] (Appends-nil a) h)
-
-unwritten_grows : (a b : Option (List ℕ)) (before now : ℕ) (text : List ℕ) (halt : Halt) → IsUnwritten a b before now text halt → Grows a b
-unwritten_grows a b before now text WriteFault h = (h.0.front, h.0.appends)
-unwritten_grows a b before now text Memory h = Keeps-grows a b h
-unwritten_grows a b before now text (Stop why) h = absurd h
-
-pub answer_grows : {T : Type 0} (a b : Option (List ℕ)) (before now : ℕ) (text : List ℕ) (r : Result T Halt) → OnOk r (Appends a b text) → IfErr r (IsUnwritten a b before now text) → Grows a b
-answer_grows a b before now text (Ok x) written failed = (text, written)
-answer_grows a b before now text (Err halt) written failed = unwritten_grows a b before now text halt failed

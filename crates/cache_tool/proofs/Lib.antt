@@ -4,3 +4,4 @@ pub mod Stories
 pub mod Halts
 pub mod Ends
 pub mod Tops
+mod Witnesses

@@ -10,11 +10,12 @@ use Rattle.cache_replay.specs.Plays.{Ledger}
 use Rattle.cache_tool.specs.declared.top.Status.{Status}
 use Rattle.cache_tool.specs.declared.top.Status.TheVariants as status
 use Rattle.cache_tool.specs.declared.run.Ending.TheVariants as ending
-use Rattle.cache_tool.specs.Story.{Story, Because, Counts, Grows, SendsAll, Shown}
+use Rattle.script_lang.specs.declared.answer.StepAnswer.{StepAnswer}
+use Rattle.cache_replay.specs.Outline.{Outline}
+use Rattle.cache_tool.specs.Story.{Story, Told, Recorded, ShownAlong, Because, Counts, SendsAll}
 use Rattle.cache_tool.specs.Ending.{IsOfRun, StoryUpTo}
-use Rattle.cache_tool.specs.Top.{WentOut, DevicesBack, status_of, EndsEarly, Concludes, ConcludesOrShows}
-use Rattle.cache_tool.proofs.Halts.{Appends-kept, Keeps-grows, front_more, either-both}
-use Rattle.cache_tool.proofs.Stories.{shown_later}
+use Rattle.cache_tool.specs.Top.{WentOut, DevicesBack, status_of, EndsEarly, Concludes}
+use Rattle.cache_tool.proofs.Halts.{Appends-kept, front_more}
 use Rattle.cache_tool.proofs.Ends.{Rose-earlier}
 
 module _ (first old mid new : Option (List ℕ)) (source sink sink_last bay : Counts) (faultless : Bool) (before now : Ledger) (earlier : sink.before ≤ sink_last.before) (same : sink_last.now ≡ sink.now) where
@@ -22,53 +23,55 @@ module _ (first old mid new : Option (List ℕ)) (source sink sink_last bay : Co
   went_out out text appends (inl all) = inl (Appends-trans old mid new out text appends all)
   went_out out text appends (inr cut) = inr (Rose-earlier sink.before sink_last.before sink.now earlier (rw same at cut.0), front_more old mid new out text appends cut.1)
 
-  went_grows : (text : List ℕ) → WentOut mid new sink_last [] text → Grows mid new
-  went_grows text (inl all) = (text, all)
-  went_grows text (inr cut) = (cut.1.front, cut.1.appends)
+  records_with : (lines : List (List ℕ)) (answers : List (Option StepAnswer)) (Devices Devices' : Told → Type 0) (Known : Run → Type 0) → ((t : Told) → Devices t → Devices' t)
+      → Recorded lines answers Devices Known ⊎ ShownAlong lines answers → Recorded lines answers Devices' Known ⊎ ShownAlong lines answers
+  records_with lines answers Devices Devices' Known d (inl r) = inl (record { turns = r.turns; legal = r.legal; says = r.says; devices = d _ r.devices; known = r.known })
+  records_with lines answers Devices Devices' Known d (inr along) = inr along
 
-  text_with : (unread : Option (List ℕ)) (given : ℕ) (Text Text' : (before all : List ℕ) → Type 0) (Devices Devices' Behind Behind' : Run → Type 0) → ((out all : List ℕ) → Text out all → Text' out all) → ((run : Run) → Devices run → Devices' run)
-      → ((run : Run) → Behind run → Behind' run) → Story first unread given Text Devices Behind → Story first unread given Text' Devices' Behind'
-  text_with unread given Text Text' Devices Devices' Behind Behind' f d b s = record {
+  text_with : (unread : Option (List ℕ)) (given : ℕ) (Text Text' : (before all : List ℕ) → Type 0) (Devices Devices' : Told → Type 0) (Behind Behind' : Outline → Type 0) (Known : Run → Type 0)
+      → ((out all : List ℕ) → Text out all → Text' out all) → ((t : Told) → Devices t → Devices' t) → ((o : Outline) → Behind o → Behind' o)
+      → Story first unread given Text Devices Behind Known → Story first unread given Text' Devices' Behind' Known
+  text_with unread given Text Text' Devices Devices' Behind Behind' Known f d b s = record {
     lines = s.lines;
-    turns = s.turns;
+    answers = s.answers;
     taken = s.taken;
     counted = s.counted;
-    legal = s.legal;
+    answered = s.answered;
     text = f _ _ s.text;
     devices = d _ s.devices;
     behind = b _ s.behind;
+    records = records_with s.lines s.answers Devices Devices' Known d s.records;
   }
 
-  module _ (why : LastLine) (upto : StoryUpTo first (SendsAll old mid) (DevicesBack faultless before now) (λ unread given run. Because source bay unread given run why)) where
+  abbrev Upto : LastLine → Type 0
+  Upto why = StoryUpTo first (SendsAll old mid) (λ unread given. DevicesBack faultless before now) (λ unread given o. Because source bay unread given o why)
+
+  module _ (why : LastLine) (upto : Upto why) where
     early : (s : Status) → s ≡ status_of why → WentOut mid new sink_last [] (last_line why) → EndsEarly first old new source sink bay faultless before now s
     early s said out = record {
       why = why;
       said = said;
-      upto = record { unread = upto.unread; given = upto.given; story = text_with upto.unread upto.given (SendsAll old mid) _ _ _ _ _ (λ before all appends. went_out all (last_line why) appends out) (λ run back. back) (λ run because. because) upto.story };
+      upto = record { unread = upto.unread; given = upto.given; story = text_with upto.unread upto.given (SendsAll old mid) _ _ _ _ _ _ (λ before all appends. went_out all (last_line why) appends out) (λ t back. back) (λ o because. because) upto.story };
     }
 
     forgotten : Keeps mid new → Concludes first old new source sink bay faultless before now status.OutOfMemory
     forgotten keeps = record {
       unread = upto.unread;
       given = upto.given;
-      story = text_with upto.unread upto.given (SendsAll old mid) _ _ _ _ _ (λ before all appends. inl (Appends-kept old mid new all appends keeps)) (λ run back. record { back = inl back.back; unfaulted = back.unfaulted }) (λ run because. tt) upto.story;
+      story = text_with upto.unread upto.given (SendsAll old mid) _ _ _ _ _ _ (λ before all appends. inl (Appends-kept old mid new all appends keeps)) (λ t back. record { back = inl back.back; unfaulted = back.unfaulted }) (λ o because. tt) upto.story;
     }
 
-  abbrev Upto : LastLine → Type 0
-  Upto why = StoryUpTo first (SendsAll old mid) (DevicesBack faultless before now) (λ unread given run. Because source bay unread given run why)
-
   -- the last line went out
-  told : (why : LastLine) → IsOfRun (ending.Stopped why) → Upto why ⊎ Shown first old mid → WentOut mid new sink_last [] (last_line why)
-      → ConcludesOrShows first old new source sink bay faultless before now (status_of why)
+  told : (why : LastLine) → IsOfRun (ending.Stopped why) → Upto why → WentOut mid new sink_last [] (last_line why) → Concludes first old new source sink bay faultless before now (status_of why)
   told last.Usage begun upto out = absurd begun
-  told (last.BadScript line fault) begun upto out = either-both (λ u. early (last.BadScript line fault) u status.BadScript refl out) (shown_later first old mid new (went_grows _ out)) upto
-  told last.ReadFault begun upto out = either-both (λ u. early last.ReadFault u status.ReadFault refl out) (shown_later first old mid new (went_grows _ out)) upto
-  told last.BayFault begun upto out = either-both (λ u. early last.BayFault u status.BayFault refl out) (shown_later first old mid new (went_grows _ out)) upto
-  told (last.LineTooLong line) begun upto out = either-both (λ u. early (last.LineTooLong line) u status.LineTooLong refl out) (shown_later first old mid new (went_grows _ out)) upto
-  told last.TooManyLines begun upto out = either-both (λ u. early last.TooManyLines u status.TooManyLines refl out) (shown_later first old mid new (went_grows _ out)) upto
-  told (last.NoCache line) begun upto out = either-both (λ u. early (last.NoCache line) u status.NoCache refl out) (shown_later first old mid new (went_grows _ out)) upto
+  told (last.BadScript line fault) begun upto out = early (last.BadScript line fault) upto status.BadScript refl out
+  told last.ReadFault begun upto out = early last.ReadFault upto status.ReadFault refl out
+  told last.BayFault begun upto out = early last.BayFault upto status.BayFault refl out
+  told (last.LineTooLong line) begun upto out = early (last.LineTooLong line) upto status.LineTooLong refl out
+  told last.TooManyLines begun upto out = early last.TooManyLines upto status.TooManyLines refl out
+  told (last.NoCache line) begun upto out = early (last.NoCache line) upto status.NoCache refl out
 
-  pub concludes_stopped : (why : LastLine) → IsOfRun (ending.Stopped why) → Upto why ⊎ Shown first old mid → (s : Status)
-      → ((s ≡ status.OutOfMemory) × Keeps mid new) ⊎ ((s ≡ status_of why) × WentOut mid new sink_last [] (last_line why)) → ConcludesOrShows first old new source sink bay faultless before now s
-  concludes_stopped why begun upto s (inl lost) = subst (λ (t : Status). ConcludesOrShows first old new source sink bay faultless before now t) (sym lost.0) (either-both (λ u. forgotten why u lost.1) (shown_later first old mid new (Keeps-grows mid new lost.1)) upto)
-  concludes_stopped why begun upto s (inr said) = subst (λ (t : Status). ConcludesOrShows first old new source sink bay faultless before now t) (sym said.0) (told why begun upto said.1)
+  pub concludes_stopped : (why : LastLine) → IsOfRun (ending.Stopped why) → Upto why → (s : Status)
+      → ((s ≡ status.OutOfMemory) × Keeps mid new) ⊎ ((s ≡ status_of why) × WentOut mid new sink_last [] (last_line why)) → Concludes first old new source sink bay faultless before now s
+  concludes_stopped why begun upto s (inl lost) = subst (λ (t : Status). Concludes first old new source sink bay faultless before now t) (sym lost.0) (forgotten why upto lost.1)
+  concludes_stopped why begun upto s (inr said) = subst (λ (t : Status). Concludes first old new source sink bay faultless before now t) (sym said.0) (told why begun upto said.1)

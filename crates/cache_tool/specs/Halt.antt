@@ -12,10 +12,13 @@ use Rattle.script_lang.specs.declared.answer.StepAnswer.{StepAnswer}
 use Rattle.script_lang.specs.declared.last.LastLine.{LastLine}
 use Rattle.script_lang.specs.declared.last.LastLine.TheVariants as last
 use Rattle.script_lang.specs.Texts.{answer_line}
-use Rattle.script_run.specs.Run.{Run}
+use Rattle.script_run.specs.Run.{Harm, Run}
 use Rattle.cache_replay.specs.declared.session.Session.{Session}
 use Rattle.cache_replay.specs.declared.stop.Stop.TheVariants as stop
-use Rattle.cache_replay.specs.Plays.{DeviceMoves, IsLeft, Ledger}
+use Rattle.cache_replay.specs.declared.stop.Stop.{Stop as Reason}
+use Rattle.cache_replay.specs.Outline.{Outline}
+use Rattle.cache_replay.specs.Session.{return_of}
+use Rattle.cache_replay.specs.Plays.{AreReached, DeviceEnds, IsLeft, IsOutlined, Ledger, Outlines, Plays}
 use Rattle.cache_replay.specs.Stop.{StopsStep}
 use Rattle.cache_tool.specs.declared.run.Ending.{Ending}
 use Rattle.cache_tool.specs.declared.run.Ending.TheVariants as ending
@@ -24,18 +27,24 @@ use Rattle.cache_tool.specs.declared.run.Halt.TheVariants.{Stop, WriteFault, Mem
 use Rattle.cache_tool.specs.Story.{Counts, SendsFront}
 
 module _ {D R C : Type 0} (disk : DiskGhosts D) (directory : DirectoryGhosts R) (chronicle : ChronicleGhosts C) where
-  -- A step was done, and this became of the text of its answer.
-  pub record Written (run : Run) (step : Step) (session : Session D R C) (before now : Ledger) (Text : List ℕ → Type 0) : Type 0 where
+  -- A step was answered so: each outline goes on by the answer, and each run that the session plays, or two documents of one
+  -- SHA-256 are shown; and this became of the text.
+  pub record Written (old : Session D R C) (step : Step) (new : Session D R C) (before now : Ledger) (Text : List ℕ → Type 0) : Type 0 where
     pub said : StepAnswer
-    pub done : DeviceMoves disk directory chronicle run step session said before now
+    pub outlines : (o : Outline) → IsOutlined disk directory chronicle o old → Outlines disk directory chronicle o step new said before now
+    pub ends : (run : Run) → Plays disk directory chronicle run old → DeviceEnds disk directory chronicle run step new said before now
     pub text : Text (answer_line said)
 
+  -- what a step leaves that was not done, whatever was told of the session's device
+  abbrev pub Leaves : (old : Session D R C) → Step → (new : Session D R C) → (before now : Ledger) → Reason → Type 0
+  Leaves old step new before now why =
+      (harms : List Harm) → AreReached harms (return_of disk directory chronicle old.part) → IsLeft disk directory chronicle harms step new before now why
+
   -- what a step that ends the run leaves
-  abbrev pub Halts : Run → Step → Session D R C → (before now : Ledger) → (old new : Option (List ℕ)) → (sink bay : Counts) → Halt → Type 0
-  Halts run step session before now old new sink bay (Stop why) =
-      IsLeft disk directory chronicle run session before now why × Keeps old new × StopsStep run step bay.before bay.now why
-  Halts run step session before now old new sink bay WriteFault = Written run step session before now (SendsFront old new []) × Rose sink.before sink.now
-  Halts run step session before now old new sink bay Memory = Written run step session before now (λ text. Keeps old new)
+  abbrev pub Halts : (old : Session D R C) → Step → (new : Session D R C) → (before now : Ledger) → (taken_old taken_new : Option (List ℕ)) → (sink bay : Counts) → Halt → Type 0
+  Halts old step new before now taken_old taken_new sink bay (Stop why) = Leaves old step new before now why × Keeps taken_old taken_new × StopsStep old step bay.before bay.now why
+  Halts old step new before now taken_old taken_new sink bay WriteFault = Written old step new before now (SendsFront taken_old taken_new []) × Rose sink.before sink.now
+  Halts old step new before now taken_old taken_new sink bay Memory = Written old step new before now (λ text. Keeps taken_old taken_new)
 
 -- how the run then ends, at this line
 abbrev pub ending_of : ℕ → Halt → Ending

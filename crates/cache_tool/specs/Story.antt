@@ -1,5 +1,5 @@
 -- How far a run has come, and how it may end.
-use Rattle.std.specs.Prelude.{◌≡◌, ℕ, ◌+◌, ◌-◌, ◌≤◌, ◌⊎◌, List, [], ◌∷◌, ◌++◌, length, take, Option, Some, None, ⊤}
+use Rattle.std.specs.Prelude.{◌≡◌, ℕ, ◌+◌, ◌≤◌, ◌⊎◌, List, [], ◌∷◌, ◌++◌, length, Option, Some, None, ⊤}
 use Rattle.std.specs.Io.KnownBytes.{Appends}
 use Rattle.edge_io.specs.Causes.{Rose}
 use Rattle.edge_io.specs.declared.reader.TheConstants.{MAX_LINE_BYTES, MAX_LINES}
@@ -12,12 +12,14 @@ use Rattle.script_lang.specs.declared.last.LastLine.TheVariants as last
 use Rattle.script_lang.specs.declared.answer.StepAnswer.{StepAnswer}
 use Rattle.script_lang.specs.Texts.{answer_line}
 use Rattle.script_lang.specs.Grammar.{reading_of}
-use Rattle.script_run.specs.Run.{Run, fresh, no_harm}
+use Rattle.script_run.specs.Run.{Harm, Run, fresh, no_harm}
 use Rattle.script_run.specs.Turn.{Turn}
-use Rattle.script_run.specs.Behind.{harms_of}
-use Rattle.script_run.specs.Takes.{IsRun, run_after, output_of, LineShows}
+use Rattle.script_run.specs.Behind.{harm_of}
+use Rattle.script_run.specs.Takes.{IsRun, run_after, LineShows}
+use Rattle.cache_replay.specs.Outline.{Outline, blank, told_of}
+use Rattle.cache_replay.specs.Lines.{AreAnswered, answers_of, outline_of, texts_before, texts_of}
 use Rattle.cache_replay.specs.Plays.{Ledger, Deals}
-use Rattle.cache_replay.specs.Stop.{NeedsSession, Attaches}
+use Rattle.cache_replay.specs.Stop.{NeedsSession, Attaches, AttachesAs}
 
 -- no line is longer than a line may be
 abbrev pub AreShort : List (List ℕ) → Type 0
@@ -36,21 +38,64 @@ IsBehind None lines now = ⊤
 IsBehind (Some first) lines None = ⊥
 IsBehind (Some first) lines (Some now) = Taken first lines now
 
--- the answers of these lines but the last
-abbrev pub output_before : List (List ℕ) → List Turn → List ℕ
-output_before lines turns = output_of fresh (take (length lines - 1) lines) turns
+-- ---- what was told of devices
 
--- Lines were taken, each did what it must, and what their answers (those of all but the last, and of all), their devices
--- and the run behind them keep.
-pub record Story (first now : Option (List ℕ)) (given : ℕ) (Text : (before all : List ℕ) → Type 0) (Devices Behind : Run → Type 0) : Type 0 where
-  pub lines : List (List ℕ)
+-- of those that were given back, of the session's own, where there is one, and the names of all that were attached
+pub record Told : Type 0 where
+  pub ended : List Harm
+  pub own : List Harm
+  pub names : List (List ℕ)
+
+-- by the answers alone: counts of faults
+abbrev pub told_by : Outline → Told
+told_by o = record { ended = o.ended; own = told_of o.session; names = o.names }
+
+-- by the records: counts of faults, and damage
+abbrev pub told_in : Run → Told
+told_in run = record { ended = run.ended; own = harm_of run.state; names = run.names }
+
+-- of all devices, once the last one is given back
+abbrev pub all_in : Told → List Harm
+all_in t = t.ended ++ t.own
+
+-- ---- lines and answers
+
+-- each line did what it must, these are its answers, and what was told of the devices, and the run behind them, keep this
+pub record Recorded (lines : List (List ℕ)) (answers : List (Option StepAnswer)) (Devices : Told → Type 0) (Known : Run → Type 0) : Type 0 where
   pub turns : List Turn
+  pub legal : IsRun fresh lines turns
+  pub says : answers ≡ answers_of fresh lines turns
+  pub devices : Devices (told_in (run_after fresh lines turns))
+  pub known : Known (run_after fresh lines turns)
+
+-- Or so it was up to some line, which shows two documents of one SHA-256: that as which a piece was placed that the
+-- line reads, and other bytes, which the device gave in the line's turn. Both are bytes, and the piece is live, so that
+-- numbers above 255, a line without a session, and equal strings show nothing.
+pub record ShownAlong (lines : List (List ℕ)) (answers : List (Option StepAnswer)) : Type 0 where
+  pub before : List (List ℕ)
+  pub bytes : List ℕ
+  pub after : List (List ℕ)
+  pub is : lines ≡ before ++ bytes ∷ after
+  pub earlier : List Turn
+  pub legal : IsRun fresh before earlier
+  pub rest : List (Option StepAnswer)
+  pub says : answers ≡ answers_of fresh before earlier ++ rest
+  pub turn : Turn
+  pub shows : LineShows (run_after fresh before earlier) turn bytes
+
+-- Lines were taken, each step among them was answered, and this is what the text of their answers (of all but the last,
+-- and of all), what was told of their devices, and the outline behind them keep. Where SHA-256 fails, only the records
+-- are lost, and with them which answers follow.
+pub record Story (first now : Option (List ℕ)) (given : ℕ) (Text : (before all : List ℕ) → Type 0) (Devices : Told → Type 0) (Behind : Outline → Type 0) (Known : Run → Type 0) : Type 0 where
+  pub lines : List (List ℕ)
+  pub answers : List (Option StepAnswer)
   pub taken : IsBehind first lines now
   pub counted : given ≡ length lines
-  pub legal : IsRun fresh lines turns
-  pub text : Text (output_before lines turns) (output_of fresh lines turns)
-  pub devices : Devices (run_after fresh lines turns)
-  pub behind : Behind (run_after fresh lines turns)
+  pub answered : AreAnswered blank lines answers
+  pub text : Text (texts_before answers) (texts_of answers)
+  pub devices : Devices (told_by (outline_of blank lines answers))
+  pub behind : Behind (outline_of blank lines answers)
+  pub records : Recorded lines answers Devices Known ⊎ ShownAlong lines answers
 
 -- ---- how a run ends
 
@@ -76,13 +121,13 @@ pub record IsBadLine (given : ℕ) (unread : Option (List ℕ)) (fault : BadLine
   pub bad : reading_of bytes ≡ line.Bad fault
 
 -- a line needs a session, and there is none
-pub record LacksCache (run : Run) (given : ℕ) (unread : Option (List ℕ)) : Type 0 where
+pub record LacksCache (o : Outline) (given : ℕ) (unread : Option (List ℕ)) : Type 0 where
   pub bytes : List ℕ
   pub next : IsNext given unread bytes
   pub step : Step
   pub asks : reading_of bytes ≡ line.Step step
   pub needs : NeedsSession step
-  pub none : run.state ≡ None
+  pub none : o.session ≡ None
 
 -- the next line is a format that attaches a device, and the bay's count rose
 pub record MeetsBayFault (given : ℕ) (unread : Option (List ℕ)) (before now : ℕ) : Type 0 where
@@ -103,14 +148,14 @@ abbrev pub counts : ℕ → ℕ → Counts
 counts before now = record { before = before; now = now }
 
 -- why a run ends with this last line, behind so many lines
-abbrev pub Because : (source bay : Counts) → Option (List ℕ) → ℕ → Run → LastLine → Type 0
-Because source bay unread given run last.Usage = ⊥
-Because source bay unread given run (last.BadScript number fault) = (number ≡ given + 1) × IsBadLine given unread fault
-Because source bay unread given run last.ReadFault = Rose source.before source.now
-Because source bay unread given run last.BayFault = MeetsBayFault given unread bay.before bay.now
-Because source bay unread given run (last.LineTooLong number) = (number ≡ given + 1) × IsTooLongAt given unread
-Because source bay unread given run last.TooManyLines = IsTooManyAt given unread
-Because source bay unread given run (last.NoCache number) = (number ≡ given + 1) × LacksCache run given unread
+abbrev pub Because : (source bay : Counts) → Option (List ℕ) → ℕ → Outline → LastLine → Type 0
+Because source bay unread given o last.Usage = ⊥
+Because source bay unread given o (last.BadScript number fault) = (number ≡ given + 1) × IsBadLine given unread fault
+Because source bay unread given o last.ReadFault = Rose source.before source.now
+Because source bay unread given o last.BayFault = MeetsBayFault given unread bay.before bay.now
+Because source bay unread given o (last.LineTooLong number) = (number ≡ given + 1) × IsTooLongAt given unread
+Because source bay unread given o last.TooManyLines = IsTooManyAt given unread
+Because source bay unread given o (last.NoCache number) = (number ≡ given + 1) × LacksCache o given unread
 
 -- the answers of all lines went out
 abbrev pub SendsAll : (old new : Option (List ℕ)) → (before all : List ℕ) → Type 0
@@ -133,42 +178,30 @@ pub record CutsLast (old new : Option (List ℕ)) (before all : List ℕ) : Type
   pub split : all ≡ before ++ answer_line said
   pub cut : SendsFront old new before (answer_line said)
 
--- what went out before stays in front, where the sink tells it
-abbrev pub Grows : Option (List ℕ) → Option (List ℕ) → Type 0
-Grows old new = (more : List ℕ) × Appends old new more
-
 -- ---- between two lines
 
--- the run goes on: it attached the devices of its lines, those that it ended came back, and the session plays the run
-abbrev pub GoesOn : (first taken_first : Option (List ℕ)) → Ledger → (unread : Option (List ℕ)) → ℕ → (taken : Option (List ℕ)) → Ledger → (Run → Type 0) → Type 0
-GoesOn first taken_first ledger_first unread given taken ledger Plays =
-    Story first unread given (SendsAll taken_first taken) (λ run. Deals ledger_first ledger run.ended run.names) Plays
-
--- behind lines that did what they must, and whose answers went out first, the next one shows two documents of one SHA-256
-pub record Shown (first old new : Option (List ℕ)) : Type 0 where
-  pub unread : Option (List ℕ)
-  pub given : ℕ
-  pub lines : List (List ℕ)
-  pub turns : List Turn
-  pub taken : IsBehind first lines unread
-  pub counted : given ≡ length lines
-  pub legal : IsRun fresh lines turns
-  pub sent : (more : List ℕ) × Appends old new (output_of fresh lines turns ++ more)
-  pub bytes : List ℕ
-  pub next : IsNext given unread bytes
-  pub shows : LineShows (run_after fresh lines turns) bytes
+-- The run goes on: it attached the devices of its lines, those that it ended came back, and the session is as its outline
+-- has it, and as the run.
+abbrev pub GoesOn : (first taken_first : Option (List ℕ)) → Ledger → (unread : Option (List ℕ)) → ℕ → (taken : Option (List ℕ)) → Ledger → (Outline → Type 0) → (Run → Type 0) → Type 0
+GoesOn first taken_first ledger_first unread given taken ledger Outlined Plays =
+    Story first unread given (SendsAll taken_first taken) (λ t. Deals ledger_first ledger t.ended t.names) Outlined Plays
 
 -- what a session owes once the run has ended: its devices were attached, those that it ended came back, and its own has
 -- counted as far as was told
-pub record Owes (ledger_first ledger : Ledger) (Reached : Run → Type 0) (run : Run) : Type 0 where
-  pub deals : Deals ledger_first ledger run.ended run.names
-  pub reached : Reached run
+pub record Owes (ledger_first ledger : Ledger) (Reached : List Harm → Type 0) (t : Told) : Type 0 where
+  pub deals : Deals ledger_first ledger t.ended t.names
+  pub reached : Reached t.own
 
--- a format that wanted memory attached a device of some name, and gave it back behind that of the session
-pub record GaveBack (ledger_first ledger : Ledger) (run : Run) : Type 0 where
+-- the format of the next line wanted memory: it attached a device of its name, and gave it back behind that of the session
+pub record GaveBack (ledger_first ledger : Ledger) (unread : Option (List ℕ)) (given : ℕ) (t : Told) : Type 0 where
+  pub bytes : List ℕ
+  pub next : IsNext given unread bytes
+  pub step : Step
+  pub asks : reading_of bytes ≡ line.Step step
   pub name : List ℕ
-  pub deals : Deals ledger_first ledger (harms_of run ++ no_harm ∷ []) (run.names ++ name ∷ [])
+  pub attaches : AttachesAs name step
+  pub deals : Deals ledger_first ledger (all_in t ++ no_harm ∷ []) (t.names ++ name ∷ [])
 
 -- what is owed where memory was wanting, by a session that has so many devices
-abbrev pub OwesOrGave : (ledger_first ledger : Ledger) → ℕ → (Run → Type 0) → Run → Type 0
-OwesOrGave ledger_first ledger devices Reached run = Owes ledger_first ledger Reached run ⊎ ((devices ≡ 0) × GaveBack ledger_first ledger run)
+abbrev pub OwesOrGave : (ledger_first ledger : Ledger) → ℕ → (List Harm → Type 0) → Option (List ℕ) → ℕ → Told → Type 0
+OwesOrGave ledger_first ledger devices Reached unread given t = Owes ledger_first ledger Reached t ⊎ ((devices ≡ 0) × GaveBack ledger_first ledger unread given t)

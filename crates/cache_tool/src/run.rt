@@ -1,13 +1,13 @@
 // The lines of a script, one after the other.
-ghost use Rattle.std.specs.Prelude.{◌≡◌, ◌+◌, ◌<◌, ◌≤◌, ◌⊎◌, ℕ, List, [], length, Option, OnOk, IfErr};
+ghost use Rattle.std.specs.Prelude.{◌≡◌, ◌+◌, ◌<◌, ◌≤◌, ℕ, List, [], length, Option, OnOk, IfErr};
 ghost use Rattle.std.specs.Io.KnownBytes.{Appends};
 ghost use Rattle.edge_io.specs.LineReader.{unread, lines_given, source_of};
 ghost use Rattle.script_lang.specs.Texts.{answer_line};
-ghost use Rattle.script_run.specs.Run.{Run, fresh};
-ghost use Rattle.script_run.specs.Takes.{StepShows};
-ghost use Rattle.cache_replay.specs.Session.{IsSession, devices_of, names_in};
-ghost use Rattle.cache_replay.specs.Plays.{HasReached, Ledger, Plays, ledger_of};
-ghost use Rattle.cache_tool.specs.Story.{GoesOn, Grows, Owes, OwesOrGave, Shown, counts};
+ghost use Rattle.script_run.specs.Run.{fresh};
+ghost use Rattle.cache_replay.specs.Outline.{blank};
+ghost use Rattle.cache_replay.specs.Session.{IsSession, devices_of, names_in, return_of};
+ghost use Rattle.cache_replay.specs.Plays.{AreReached, IsOutlined, Ledger, Plays, ledger_of};
+ghost use Rattle.cache_tool.specs.Story.{GoesOn, Owes, OwesOrGave, counts};
 ghost use Rattle.cache_tool.specs.Halt.{IsUnwritten, Written, Halts, last_of, ending_of};
 ghost use Rattle.cache_tool.specs.Ending.{Ends, IsOfRun};
 
@@ -66,17 +66,14 @@ fn take_step<K: Sink, B: Bay>(
     requires session { IsSession B.Dev.Disk ⟦<ListDirectory as Directory>⟧ ⟦<FullChronicle as Chronicle>⟧ session.old }
     requires held { devices_of session.old ≤ B.out bay.old }
     requires few { length (names_in session.old) ≤ MAX_LINES }
-    ensures done { OnOk result ((run : Run) → Plays B.Dev.Disk ⟦<ListDirectory as Directory>⟧ ⟦<FullChronicle as Chronicle>⟧ run session.old
-        → Written B.Dev.Disk ⟦<ListDirectory as Directory>⟧ ⟦<FullChronicle as Chronicle>⟧ run asked session.new (ledger_of B.Bay bay.old) (ledger_of B.Bay bay.new)
-        (Appends (K.taken sink.old) (K.taken sink.new)) ⊎ StepShows run run.state asked) }
-    ensures halted { IfErr result (λ halt. (run : Run) → Plays B.Dev.Disk ⟦<ListDirectory as Directory>⟧ ⟦<FullChronicle as Chronicle>⟧ run session.old
-        → Halts B.Dev.Disk ⟦<ListDirectory as Directory>⟧ ⟦<FullChronicle as Chronicle>⟧ run asked session.new (ledger_of B.Bay bay.old) (ledger_of B.Bay bay.new)
-        (K.taken sink.old) (K.taken sink.new) (counts (K.faults sink.old) (K.faults sink.new))
-        (counts (B.faults bay.old) (B.faults bay.new)) halt ⊎ StepShows run run.state asked) }
+    ensures done { OnOk result (Written B.Dev.Disk ⟦<ListDirectory as Directory>⟧ ⟦<FullChronicle as Chronicle>⟧ session.old asked session.new
+        (ledger_of B.Bay bay.old) (ledger_of B.Bay bay.new) (Appends (K.taken sink.old) (K.taken sink.new))) }
+    ensures halted { IfErr result (Halts B.Dev.Disk ⟦<ListDirectory as Directory>⟧ ⟦<FullChronicle as Chronicle>⟧ session.old asked session.new
+        (ledger_of B.Bay bay.old) (ledger_of B.Bay bay.new) (K.taken sink.old) (K.taken sink.new)
+        (counts (K.faults sink.old) (K.faults sink.new)) (counts (B.faults bay.old) (B.faults bay.new))) }
     ensures session { IsSession B.Dev.Disk ⟦<ListDirectory as Directory>⟧ ⟦<FullChronicle as Chronicle>⟧ session.new }
     ensures names { length (names_in session.new) ≤ length (names_in session.old) + 1 }
     ensures out { B.out bay.new + devices_of session.old ≡ B.out bay.old + devices_of session.new }
-    ensures grows { Grows (K.taken sink.old) (K.taken sink.new) }
     ensures sink_later { K.faults sink.old ≤ K.faults sink.new }
     ensures bay_later { B.faults bay.old ≤ B.faults bay.new }
 {
@@ -110,7 +107,6 @@ fn ending_of(line: u64, halt: Halt) -> Ending
 }
 
 /// Does what the next line asks for, or ends the run.
-#[tactic(auto, using(crate::proofs::Halts::grows_nothing))]
 fn line<S: Source, K: Sink, B: Bay>(
     alloc: Global,
     reader: &mut LineReader<'_, S>,
@@ -123,17 +119,20 @@ fn line<S: Source, K: Sink, B: Bay>(
     requires few { length (names_in session.old) ≤ lines_given reader.old }
     ensures goes { OnOk result ((first told : Option (List ℕ)) (back : Ledger)
         → GoesOn first told back (unread S.left reader.old) (lines_given reader.old) (K.taken sink.old) (ledger_of B.Bay bay.old)
+        (λ o. IsOutlined B.Dev.Disk ⟦<ListDirectory as Directory>⟧ ⟦<FullChronicle as Chronicle>⟧ o session.old)
         (λ run. Plays B.Dev.Disk ⟦<ListDirectory as Directory>⟧ ⟦<FullChronicle as Chronicle>⟧ run session.old)
         → GoesOn first told back (unread S.left reader.new) (lines_given reader.new) (K.taken sink.new) (ledger_of B.Bay bay.new)
-        (λ run. Plays B.Dev.Disk ⟦<ListDirectory as Directory>⟧ ⟦<FullChronicle as Chronicle>⟧ run session.new) ⊎ Shown first told (K.taken sink.new)) }
+        (λ o. IsOutlined B.Dev.Disk ⟦<ListDirectory as Directory>⟧ ⟦<FullChronicle as Chronicle>⟧ o session.new)
+        (λ run. Plays B.Dev.Disk ⟦<ListDirectory as Directory>⟧ ⟦<FullChronicle as Chronicle>⟧ run session.new)) }
     ensures ends { IfErr result (λ ending. (first told : Option (List ℕ)) (back : Ledger)
         → GoesOn first told back (unread S.left reader.old) (lines_given reader.old) (K.taken sink.old) (ledger_of B.Bay bay.old)
+        (λ o. IsOutlined B.Dev.Disk ⟦<ListDirectory as Directory>⟧ ⟦<FullChronicle as Chronicle>⟧ o session.old)
         (λ run. Plays B.Dev.Disk ⟦<ListDirectory as Directory>⟧ ⟦<FullChronicle as Chronicle>⟧ run session.old)
         → Ends first told (K.taken sink.new) (counts (S.faults (source_of reader.old).now) (S.faults (source_of reader.new).now))
         (counts (K.faults sink.old) (K.faults sink.new)) (counts (B.faults bay.old) (B.faults bay.new))
-        (Owes back (ledger_of B.Bay bay.new) (λ run. HasReached B.Dev.Disk ⟦<ListDirectory as Directory>⟧ ⟦<FullChronicle as Chronicle>⟧ run session.new))
-        (OwesOrGave back (ledger_of B.Bay bay.new) (devices_of session.new) (λ run. HasReached B.Dev.Disk ⟦<ListDirectory as Directory>⟧ ⟦<FullChronicle as Chronicle>⟧ run session.new))
-        ending ⊎ Shown first told (K.taken sink.new)) }
+        (Owes back (ledger_of B.Bay bay.new) (λ harms. AreReached harms (return_of B.Dev.Disk ⟦<ListDirectory as Directory>⟧ ⟦<FullChronicle as Chronicle>⟧ session.new.part)))
+        (OwesOrGave back (ledger_of B.Bay bay.new) (devices_of session.new) (λ harms. AreReached harms (return_of B.Dev.Disk ⟦<ListDirectory as Directory>⟧ ⟦<FullChronicle as Chronicle>⟧ session.new.part)))
+        ending) }
     ensures begun { IfErr result IsOfRun }
     ensures nearer { OnOk result ((lines_given reader.old < MAX_LINES) × (lines_given reader.new ≡ lines_given reader.old + 1)) }
     ensures session { IsSession B.Dev.Disk ⟦<ListDirectory as Directory>⟧ ⟦<FullChronicle as Chronicle>⟧ session.new }
@@ -141,7 +140,6 @@ fn line<S: Source, K: Sink, B: Bay>(
     ensures source { (source_of reader.new).ghost_name ≡ (source_of reader.old).ghost_name }
     ensures out { B.out bay.new + devices_of session.old ≡ B.out bay.old + devices_of session.new }
     ensures source_later { S.faults (source_of reader.old).now ≤ S.faults (source_of reader.new).now }
-    ensures grows { Grows (K.taken sink.old) (K.taken sink.new) }
     ensures sink_later { K.faults sink.old ≤ K.faults sink.new }
     ensures bay_later { B.faults bay.old ≤ B.faults bay.new }
 {
@@ -174,14 +172,15 @@ pub(crate) fn run_lines<S: Source, K: Sink, B: Bay>(
     requires given { lines_given reader.old ≡ 0 }
     requires session { IsSession B.Dev.Disk ⟦<ListDirectory as Directory>⟧ ⟦<FullChronicle as Chronicle>⟧ session.old }
     requires fresh { Plays B.Dev.Disk ⟦<ListDirectory as Directory>⟧ ⟦<FullChronicle as Chronicle>⟧ fresh session.old }
+    requires blank { IsOutlined B.Dev.Disk ⟦<ListDirectory as Directory>⟧ ⟦<FullChronicle as Chronicle>⟧ blank session.old }
     requires none { devices_of session.old ≡ 0 }
     requires names { names_in session.old ≡ [] }
     ensures ends { Ends (unread S.left reader.old) (K.taken sink.old) (K.taken sink.new)
         (counts (S.faults (source_of reader.old).now) (S.faults (source_of reader.new).now))
         (counts (K.faults sink.old) (K.faults sink.new)) (counts (B.faults bay.old) (B.faults bay.new))
-        (Owes (ledger_of B.Bay bay.old) (ledger_of B.Bay bay.new) (λ run. HasReached B.Dev.Disk ⟦<ListDirectory as Directory>⟧ ⟦<FullChronicle as Chronicle>⟧ run session.new))
-        (OwesOrGave (ledger_of B.Bay bay.old) (ledger_of B.Bay bay.new) (devices_of session.new) (λ run. HasReached B.Dev.Disk ⟦<ListDirectory as Directory>⟧ ⟦<FullChronicle as Chronicle>⟧ run session.new))
-        result ⊎ Shown (unread S.left reader.old) (K.taken sink.old) (K.taken sink.new) }
+        (Owes (ledger_of B.Bay bay.old) (ledger_of B.Bay bay.new) (λ harms. AreReached harms (return_of B.Dev.Disk ⟦<ListDirectory as Directory>⟧ ⟦<FullChronicle as Chronicle>⟧ session.new.part)))
+        (OwesOrGave (ledger_of B.Bay bay.old) (ledger_of B.Bay bay.new) (devices_of session.new) (λ harms. AreReached harms (return_of B.Dev.Disk ⟦<ListDirectory as Directory>⟧ ⟦<FullChronicle as Chronicle>⟧ session.new.part)))
+        result }
     ensures begun { IsOfRun result }
     ensures source { (source_of reader.new).ghost_name ≡ (source_of reader.old).ghost_name }
     ensures out { B.out bay.new ≡ B.out bay.old + devices_of session.new }

@@ -3,9 +3,9 @@ ghost use Rattle.std.specs.Prelude.{◌≡◌, ◌≤◌, ◌↔◌, ◌⊎◌, 
 ghost use Rattle.std.specs.Io.KnownBytes.{Keeps};
 ghost use Rattle.script_lang.specs.Texts.{last_line};
 ghost use Rattle.cache_replay.specs.Plays.{ledger_of};
-ghost use Rattle.cache_tool.specs.Story.{Shown, counts};
+ghost use Rattle.cache_tool.specs.Story.{counts};
 ghost use Rattle.cache_tool.specs.Ending.{Ends, IsOfRun};
-ghost use Rattle.cache_tool.specs.Top.{IsReplay, WentOut, DevicesBack, DevicesWanting, status_of, exit_code, ConcludesOrShows};
+ghost use Rattle.cache_tool.specs.Top.{IsReplay, WentOut, DevicesBack, DevicesWanting, status_of, exit_code, Concludes};
 
 use crate::run::{Ending, run_lines};
 use ats_disk::Bay;
@@ -104,7 +104,7 @@ fn replay<S: Source, K: Sink, B: Bay>(
 ) -> Ending
     ensures ends { Ends (S.left source.old) (K.taken sink.old) (K.taken sink.new) (counts (S.faults source.old) (S.faults source.new))
         (counts (K.faults sink.old) (K.faults sink.new)) (counts (B.faults bay.old) (B.faults bay.new))
-        (DevicesBack B.faultless (ledger_of B.Bay bay.old) (ledger_of B.Bay bay.new)) (DevicesWanting B.faultless (ledger_of B.Bay bay.old) (ledger_of B.Bay bay.new)) result ⊎ Shown (S.left source.old) (K.taken sink.old) (K.taken sink.new) }
+        (DevicesBack B.faultless (ledger_of B.Bay bay.old) (ledger_of B.Bay bay.new)) (DevicesWanting B.faultless (ledger_of B.Bay bay.old) (ledger_of B.Bay bay.new)) result }
     ensures begun { IsOfRun result }
     ensures out { B.out bay.new ≡ B.out bay.old }
     ensures source_later { S.faults source.old ≤ S.faults source.new }
@@ -130,7 +130,7 @@ pub fn cache_main<S: Source, K: Sink, B: Bay>(
     sink: &mut K,
     bay: &mut B,
 ) -> Status
-    ensures concludes { ConcludesOrShows (S.left source.old) (K.taken sink.old) (K.taken sink.new) (counts (S.faults source.old) (S.faults source.new))
+    ensures concludes { Concludes (S.left source.old) (K.taken sink.old) (K.taken sink.new) (counts (S.faults source.old) (S.faults source.new))
         (counts (K.faults sink.old) (K.faults sink.new)) (counts (B.faults bay.old) (B.faults bay.new))
         B.faultless (ledger_of B.Bay bay.old) (ledger_of B.Bay bay.new) result }
     ensures usage { (result ≡ Status.Usage) ↔ (IsReplay words.now → ⊥) }

@@ -20,7 +20,8 @@ use Rattle.script_run.specs.Takes.{SessionTakes}
 use Rattle.script_run.proofs.Listed.{is_among}
 use Rattle.script_laws.specs.Causes
 use Rattle.script_laws.specs.Causes.{IsTraced, cause_answered, cause_given}
-use Rattle.script_laws.specs.Troubles.{IsFaultRecorded, NoLossIsAFault, is_fault}
+use Rattle.script_run.specs.Losses.{NoLossIsAFault, is_fault}
+use Rattle.script_laws.specs.Troubles.{IsFaultRecorded}
 use Rattle.script_laws.proofs.Walking.{fault_is_told, refusal_recorded}
 use Rattle.script_laws.proofs.Said.{IsSaid, answers_are_traced, line_said}
 

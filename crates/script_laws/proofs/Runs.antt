@@ -26,10 +26,10 @@ use Rattle.script_run.specs.Answers.{format_said, session_said, step_said}
 use Rattle.script_run.specs.Behind.{after_format, after_line, after_reading, behind, harm_in, harm_of, harms_of}
 use Rattle.script_run.specs.Takes.{FormatTakes, IsRun, ReadingTakes, SessionTakes, Takes, run_after}
 use Rattle.script_laws.specs.Causes.{cause_answered}
-use Rattle.script_laws.specs.Troubles.{NoLossIsAFault, is_fault}
+use Rattle.script_run.specs.Losses.{NoLossIsAFault, is_fault}
 use Rattle.script_laws.specs.Agreeing.{NoneHarmed}
 use Rattle.script_laws.specs.Runs.{NoneAnswers, ReadsWithout, answers_damage, answers_fault}
-use Rattle.script_laws.proofs.Losses.{formats_lose_none, losses_stay}
+use Rattle.script_run.proofs.Losses.{formats_lose_none, losses_stay}
 use Rattle.script_laws.proofs.Walking.{fault_stays}
 use Rattle.script_laws.proofs.Faults.{fault_is_recorded, named_is_recorded}
 use Rattle.script_laws.proofs.Damages.{damage_is_recorded, damage_stays}

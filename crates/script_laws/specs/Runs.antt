@@ -13,7 +13,7 @@ use Rattle.script_run.specs.Answers.{step_answer}
 use Rattle.script_run.specs.Behind.{after_line, harms_of}
 use Rattle.script_run.specs.Takes.{IsRun, run_after}
 use Rattle.script_laws.specs.Causes.{cause_answered}
-use Rattle.script_laws.specs.Troubles.{is_fault}
+use Rattle.script_run.specs.Losses.{is_fault}
 
 -- the answer names such a cause
 abbrev pub names_cause : (Cause → Bool) → StepAnswer → Bool

@@ -1,39 +1,18 @@
 -- Device faults that lines answer.
-use Rattle.std.specs.Prelude.{ℕ, ◌≡◌, ◌<◌, ◌≤◌, Bool, true, false, List, Option, Some}
-use Rattle.std.specs.List.{AllByRecursion}
+use Rattle.std.specs.Prelude.{ℕ, ◌≡◌, ◌<◌, ◌≤◌, List, Option, Some}
 use Rattle.edge_io.specs.Causes.{Rose}
-use Rattle.tape_base.specs.declared.pieces.PieceId.{PieceId}
-use Rattle.tape_base.specs.declared.geometries.Geometry.{Geometry}
-use Rattle.cache_model.specs.declared.cause.Cause.{Cause}
-use Rattle.cache_model.specs.declared.cause.Cause.TheVariants as cause
 use Rattle.cache_model.specs.declared.record.Rec.{Rec}
 use Rattle.cache_model.specs.declared.record.Rec.TheVariants as rec
 use Rattle.cache_model.specs.State.{State, after_all}
 use Rattle.cache_model.specs.Permit.{Intent, IsAmong, Permit, Reason, Faulted}
-use Rattle.cache_model.specs.Legal.{IsStep, format_records}
+use Rattle.cache_model.specs.Legal.{IsStep}
 use Rattle.script_lang.specs.declared.step.Step.{Step}
 use Rattle.script_lang.specs.declared.answer.StepAnswer.TheVariants as answer
+use Rattle.script_run.specs.Losses.{NoLossIsAFault}
 use Rattle.script_run.specs.Run.{Run}
 use Rattle.script_run.specs.Turn.{Turn}
 use Rattle.script_run.specs.Answers.{session_said}
 use Rattle.script_run.specs.Takes.{SessionTakes}
-
--- the cause is a fault of the device
-abbrev pub is_fault : Cause → Bool
-is_fault (cause.DeviceFault count) = true
-is_fault _ = false
-
--- no piece was lost by a fault: pieces are displaced or damaged
-abbrev pub NoLossIsAFault : State → Type 0
-NoLossIsAFault s = AllByRecursion (λ (lost : PieceId × Cause). is_fault lost.1 ≡ false) s.lost
-
--- behind a format no piece was lost
-abbrev pub FormatsLoseNone : Type 0
-FormatsLoseNone = (s : State) (geometry : Geometry) → NoLossIsAFault (after_all s (format_records geometry))
-
--- and whatever records follow, none is lost by a fault
-abbrev pub LossesStay : Type 0
-LossesStay = (s : State) (added : List Rec) → NoLossIsAFault s → NoLossIsAFault (after_all s added)
 
 -- once a fault was told, the count of the last one is above 0 behind each step
 abbrev pub FaultStays : Type 0

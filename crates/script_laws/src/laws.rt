@@ -3,7 +3,8 @@ ghost use Rattle.script_laws.specs.Agreeing.{OutputIsFixed};
 ghost use Rattle.script_laws.specs.Causes.{AnswersAreTraced, CausesAreTraced};
 ghost use Rattle.script_laws.specs.Damages.{DamageIsRecorded, DamageStays};
 ghost use Rattle.script_laws.specs.Runs.{FaultlessRuns, UndamagedRuns};
-ghost use Rattle.script_laws.specs.Troubles.{FaultIsRecorded, FaultStays, FormatsLoseNone, LossesStay, RefusalIsRecorded};
+ghost use Rattle.script_run.specs.Losses.{FormatsLoseNone, LossesStay};
+ghost use Rattle.script_laws.specs.Troubles.{FaultIsRecorded, FaultStays, RefusalIsRecorded};
 
 use cache_model::steps_agree;
 

@@ -21,3 +21,4 @@ pub mod Showing
 pub mod Stepping
 pub mod Hitting
 pub mod OnlyReading
+pub mod Losses

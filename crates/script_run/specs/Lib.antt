@@ -6,3 +6,4 @@ pub mod Behind
 pub mod Own
 pub mod Takes
 pub mod Laws
+pub mod Losses

@@ -4,8 +4,8 @@ use Rattle.cache_replay.proofs.Formats.{format_left}
 use Rattle.cache_replay.proofs.beginning.format.Goals as goal
 
 pub returns-in-Err-clause-left : goal.returns-in-Err-clause-left
-returns-in-Err-clause-left g c = λ run plays.
-    ended c.args.name.now c.end.ensures.part
-    (format_left _ _ _ run c.args.session.now c.args.name.now _ _ _ _ _ _ _ _ _ c.requires.session plays c.attach.ensures.returned c.end.ensures.back c.give_back.ensures.returned
+returns-in-Err-clause-left g c = λ harms step attaches reached.
+    ended c.args.name.now attaches c.end.ensures.part
+    (format_left _ _ _ harms c.args.session.now c.args.name.now _ _ _ _ _ _ _ _ _ reached c.attach.ensures.returned c.end.ensures.back c.give_back.ensures.returned
     c.in_ok-disk.ensures.names c.end.ensures.attached c.give_back.ensures.names)
     refl

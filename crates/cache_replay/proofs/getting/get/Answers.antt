@@ -4,6 +4,9 @@ use Rattle.cache_replay.specs.declared.getting.Got.TheVariants as got
 use Rattle.cache_replay.proofs.OtherNext.{stays_then}
 use Rattle.cache_replay.proofs.ReaderFrames.{kept_leaves, open_leaves}
 use Rattle.cache_replay.proofs.WholeGets.{began, follow_answered, gets_as_asked, hit_gets, hit_under, leaves_closed, miss_answered, nobody}
+use Rattle.stripe_read.specs.declared.opening.Opened.TheVariants as opened
+use Rattle.cache_replay.proofs.Counts.{missed_tells, ok_after}
+use Rattle.cache_replay.proofs.ReaderFrames.{losses_then}
 use Rattle.cache_replay.proofs.getting.get.Goals as goal
 
 pub returns-in-Hit-clause-gets : goal.returns-in-Hit-clause-gets
@@ -62,3 +65,11 @@ returns-in_err-close-in-Follow-clause-unharmed g c = λ run told owned. stays_th
 
 pub returns-in_ok-close-in-Follow-clause-unharmed : goal.returns-in_ok-close-in-Follow-clause-unharmed
 returns-in_ok-close-in-Follow-clause-unharmed g c = λ run told owned. stays_then (inl c.open_read.ensures.unharmed) (inl c.close.ensures.unharmed)
+
+pub returns-in-Hit-clause-counts : goal.returns-in-Hit-clause-counts
+returns-in-Hit-clause-counts g c = ok_after _ c.read_whole.result (losses_then _ _ _ c.in_ok-reader.ensures.adds) c.read_whole.ensures.counts
+
+pub returns-in-Miss-clause-counts : goal.returns-in-Miss-clause-counts
+returns-in-Miss-clause-counts g c = λ none.
+    missed_tells (state_in g.C.Chronicle c.args.stripe.now) c.args.key (seen_in g.D.Disk g.R.Directory c.open_read.new.stripe).device.faults (opened.Miss c.in-Miss.why)
+    none (rw c.in-Miss.is at c.in_ok-reader.ensures.opens).counted

@@ -1,6 +1,8 @@
 use Rattle.stripe_core.specs.Stripe.{kept_in, seen_in, state_in}
 use Rattle.cache_replay.proofs.WholeGets.{none_next}
 use Rattle.cache_replay.proofs.WholeLines.{line_ends, read_active}
+use Rattle.std.proofs.Common.{ap, subst, sym, ◌≤◌}
+use Rattle.cache_replay.specs.Outline.{count_in}
 use Rattle.cache_replay.proofs.getting.get_in_part.Goals as goal
 
 pub returns-in-Ok-clause-active : goal.returns-in-Ok-clause-active
@@ -21,3 +23,6 @@ returns-in-Ok-clause-ends g c = λ run slots held plays.
     line_ends c.reads_own.ensures c.steps_tell.ensures run (seen_in g.D.Disk g.R.Directory c.args.part.now.stripe).device.faults (seen_in g.D.Disk g.R.Directory c.get.new.stripe).device.faults s.next_reader
     (kept_in g.C.Chronicle c.args.part.now.stripe) (kept_in g.C.Chronicle c.get.new.stripe) c.args.key c.args.request slots c.in-Ok.got c.said_of.result c.in-Ok.ensures.gets c.said_of.ensures c.requires.part.stripe.pieces.sound c.get.ensures.leaves
     (none_next s c.requires.part.stripe.actors.readers_fall) held plays
+
+pub returns-in-Ok-clause-counts : goal.returns-in-Ok-clause-counts
+returns-in-Ok-clause-counts g c = subst (λ said. count_in said ≤ (seen_in g.D.Disk g.R.Directory c.get.new.stripe).device.faults) (sym c.said_of.ensures) (c.in-Ok.ensures.counts c.requires.part.losses)

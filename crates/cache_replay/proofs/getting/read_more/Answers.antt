@@ -7,6 +7,8 @@ use Rattle.cache_replay.specs.Getting.{IsAnswered, IsUnderway}
 use Rattle.cache_replay.proofs.OtherNext.{more_harms}
 use Rattle.cache_replay.proofs.ReaderFrames.{kept_leaves, read_leaves}
 use Rattle.cache_replay.proofs.WholeReads.{broken_comes, end_comes, nearer, piece_comes, size_within, taken_size, waits_comes}
+use Rattle.cache_replay.proofs.Counts.{piece_counts}
+use Rattle.stripe_read.specs.declared.reading.NextPiece.TheVariants as piece
 use Rattle.cache_replay.proofs.getting.read_more.Goals as goal
 
 pub slice_bounds-extend_from_slice-end : goal.slice_bounds-extend_from_slice-end
@@ -76,24 +78,28 @@ returns-in-NotYet-clause-comes g c = λ b under.
 
 pub returns-in_err-index-clause-unharmed : goal.returns-in_err-index-clause-unharmed
 returns-in_err-index-clause-unharmed g c = λ b.
-    more_harms c.other_shows.ensures b (seen_in g.D.Disk g.R.Directory c.args.stripe.now).device.faults (kept_in g.C.Chronicle c.args.stripe.now) c.args.reader.now c.args.body.now.items c.requires.reader.first c.read_next.ensures.unharmed
+    more_harms c.other_shows.ensures b (seen_in g.D.Disk g.R.Directory c.args.stripe.now).device.faults (kept_in g.C.Chronicle c.args.stripe.now) c.args.reader.now c.args.body.now.items c.requires.hit c.requires.reader.first c.read_next.ensures.unharmed
 
 pub returns-in_err-extend_from_slice-in-Piece-clause-unharmed : goal.returns-in_err-extend_from_slice-in-Piece-clause-unharmed
 returns-in_err-extend_from_slice-in-Piece-clause-unharmed g c = λ b.
-    more_harms c.other_shows.ensures b (seen_in g.D.Disk g.R.Directory c.args.stripe.now).device.faults (kept_in g.C.Chronicle c.args.stripe.now) c.args.reader.now c.args.body.now.items c.requires.reader.first c.read_next.ensures.unharmed
+    more_harms c.other_shows.ensures b (seen_in g.D.Disk g.R.Directory c.args.stripe.now).device.faults (kept_in g.C.Chronicle c.args.stripe.now) c.args.reader.now c.args.body.now.items c.requires.hit c.requires.reader.first c.read_next.ensures.unharmed
 
 pub returns-in_ok-extend_from_slice-in-Piece-clause-unharmed : goal.returns-in_ok-extend_from_slice-in-Piece-clause-unharmed
 returns-in_ok-extend_from_slice-in-Piece-clause-unharmed g c = λ b.
-    more_harms c.other_shows.ensures b (seen_in g.D.Disk g.R.Directory c.args.stripe.now).device.faults (kept_in g.C.Chronicle c.args.stripe.now) c.args.reader.now c.args.body.now.items c.requires.reader.first c.read_next.ensures.unharmed
+    more_harms c.other_shows.ensures b (seen_in g.D.Disk g.R.Directory c.args.stripe.now).device.faults (kept_in g.C.Chronicle c.args.stripe.now) c.args.reader.now c.args.body.now.items c.requires.hit c.requires.reader.first c.read_next.ensures.unharmed
 
 pub returns-in-End-clause-unharmed : goal.returns-in-End-clause-unharmed
 returns-in-End-clause-unharmed g c = λ b.
-    more_harms c.other_shows.ensures b (seen_in g.D.Disk g.R.Directory c.args.stripe.now).device.faults (kept_in g.C.Chronicle c.args.stripe.now) c.args.reader.now c.args.body.now.items c.requires.reader.first c.read_next.ensures.unharmed
+    more_harms c.other_shows.ensures b (seen_in g.D.Disk g.R.Directory c.args.stripe.now).device.faults (kept_in g.C.Chronicle c.args.stripe.now) c.args.reader.now c.args.body.now.items c.requires.hit c.requires.reader.first c.read_next.ensures.unharmed
 
 pub returns-in-NotYet-clause-unharmed : goal.returns-in-NotYet-clause-unharmed
 returns-in-NotYet-clause-unharmed g c = λ b.
-    more_harms c.other_shows.ensures b (seen_in g.D.Disk g.R.Directory c.args.stripe.now).device.faults (kept_in g.C.Chronicle c.args.stripe.now) c.args.reader.now c.args.body.now.items c.requires.reader.first c.read_next.ensures.unharmed
+    more_harms c.other_shows.ensures b (seen_in g.D.Disk g.R.Directory c.args.stripe.now).device.faults (kept_in g.C.Chronicle c.args.stripe.now) c.args.reader.now c.args.body.now.items c.requires.hit c.requires.reader.first c.read_next.ensures.unharmed
 
 pub returns-in-Broken-clause-unharmed : goal.returns-in-Broken-clause-unharmed
 returns-in-Broken-clause-unharmed g c = λ b.
-    more_harms c.other_shows.ensures b (seen_in g.D.Disk g.R.Directory c.args.stripe.now).device.faults (kept_in g.C.Chronicle c.args.stripe.now) c.args.reader.now c.args.body.now.items c.requires.reader.first c.read_next.ensures.unharmed
+    more_harms c.other_shows.ensures b (seen_in g.D.Disk g.R.Directory c.args.stripe.now).device.faults (kept_in g.C.Chronicle c.args.stripe.now) c.args.reader.now c.args.body.now.items c.requires.hit c.requires.reader.first c.read_next.ensures.unharmed
+
+pub returns-in-Broken-clause-counts : goal.returns-in-Broken-clause-counts
+returns-in-Broken-clause-counts g c = λ none.
+    piece_counts (state_in g.C.Chronicle c.args.stripe.now) c.args.reader.now (seen_in g.D.Disk g.R.Directory c.read_next.new.stripe).device.faults (piece.Broken c.in-Broken.why) none (rw c.in-Broken.is at c.in_ok-index.ensures.reads).counted

@@ -8,6 +8,7 @@ use Rattle.script_lang.specs.declared.answer.StepAnswer.TheVariants as answer
 use Rattle.cache_replay.specs.Getting.{IsAnswered}
 use Rattle.cache_replay.proofs.OtherNext.{stays_then}
 use Rattle.cache_replay.proofs.WholeReads.{answered_as}
+use Rattle.cache_replay.proofs.Counts.{broken_tells}
 use Rattle.cache_replay.proofs.getting.read_to_end.Goals as goal
 
 pub returns-in-End-clause-answers : goal.returns-in-End-clause-answers
@@ -61,3 +62,7 @@ returns-in-NotYet-clause-unharmed g c = λ b run under told owned.
 pub returns-in-Broken-clause-unharmed : goal.returns-in-Broken-clause-unharmed
 returns-in-Broken-clause-unharmed g c = λ b run under told owned.
     stays_then (c.loop-body.invariant.harms b run under told owned) (c.read_more.ensures.unharmed b run (c.loop-body.invariant.under b under) told owned)
+
+pub returns-in-Broken-clause-counts : goal.returns-in-Broken-clause-counts
+returns-in-Broken-clause-counts g c = λ none.
+    broken_tells c.in-Broken.why (seen_in g.D.Disk g.R.Directory c.read_more.new.stripe).device.faults ((rw c.in-Broken.is at c.in_ok-read_more.ensures.counts) (c.loop-body.invariant.leaves.losses none))

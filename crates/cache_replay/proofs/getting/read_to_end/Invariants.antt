@@ -7,8 +7,8 @@ use Rattle.stripe_core.specs.Stripe.{IsStripe, kept_in, seen_in, state_in}
 use Rattle.stripe_core.specs.Unharmed.{StaysUnharmed}
 use Rattle.stripe_read.specs.Readers.{IsOpenReader}
 use Rattle.script_run.specs.Run.{Run}
-use Rattle.script_run.specs.Own.{AreOwn}
-use Rattle.script_run.specs.Takes.{Shows}
+use Rattle.script_run.specs.Own.{AreOwn, IsPlacedAs}
+use Rattle.cache_replay.specs.Shown.{ShowsAt}
 use Rattle.cache_replay.specs.Session.{LeavesBut}
 use Rattle.cache_replay.specs.Getting.{Began, IsUnderway, rows_left}
 use Rattle.cache_replay.proofs.getting.read_to_end.Given as goal
@@ -26,7 +26,7 @@ invariant-loop-body g l = record {
       → IsUnderway b (seen_in g.D.Disk g.R.Directory l.stripe).device.faults (kept_in g.C.Chronicle l.stripe) l.reader l.body.items;
   leaves : LeavesBut None (Some l.fn.reader.reader) (state_in g.C.Chronicle l.fn.stripe) (state_in g.C.Chronicle l.stripe);
   harms : (b : Began) (run : Run) → IsUnderway b (seen_in g.D.Disk g.R.Directory l.fn.stripe).device.faults (kept_in g.C.Chronicle l.fn.stripe) l.fn.reader [] → AreTold (state_of b.kept) → AreOwn (state_of b.kept) run.streams
-      → StaysUnharmed g.D.Disk g.R.Directory g.C.Chronicle l.fn.stripe l.stripe ⊎ Shows run.streams (state_of b.kept) b.asks;
+      → StaysUnharmed g.D.Disk g.R.Directory g.C.Chronicle l.fn.stripe l.stripe ⊎ ShowsAt (IsPlacedAs run.streams) run.now (state_of b.kept) b.asks;
   trust : (seen_in g.D.Disk g.R.Directory l.stripe).device.trust ≤ (seen_in g.D.Disk g.R.Directory l.fn.stripe).device.trust;
   later : (seen_in g.D.Disk g.R.Directory l.fn.stripe).device.faults ≤ (seen_in g.D.Disk g.R.Directory l.stripe).device.faults;
 }

@@ -1,4 +1,4 @@
-use Rattle.std.proofs.Common.{refl, sym, inl}
+use Rattle.std.proofs.Common.{refl, sym, inl, arith}
 use Rattle.stripe_core.specs.Stripe.{kept_in, seen_in}
 use Rattle.cache_replay.specs.Getting.{given_in, got_answer}
 use Rattle.cache_replay.proofs.OtherNext.{stays_then}
@@ -16,3 +16,6 @@ returns-in_err-close-in-Ok-clause-unharmed g c = λ b run under told owned. stay
 
 pub returns-in_ok-close-in-Ok-clause-unharmed : goal.returns-in_ok-close-in-Ok-clause-unharmed
 returns-in_ok-close-in-Ok-clause-unharmed g c = λ b run under told owned. stays_then (c.read_to_end.ensures.unharmed b run under told owned) (inl c.close.ensures.unharmed)
+
+pub returns-in_ok-close-in-Ok-clause-counts : goal.returns-in_ok-close-in-Ok-clause-counts
+returns-in_ok-close-in-Ok-clause-counts g c = λ none. let told = c.in-Ok.ensures.counts none in omega (arith, told, c.close.ensures.later)

@@ -1,10 +1,12 @@
 use Rattle.std.proofs.Common.{Ok, Err, sym, subst}
-use Rattle.std.specs.Prelude.{IfOk, ◌≡◌, length}
+use Rattle.std.specs.Prelude.{IfOk, ◌≡◌, ◌≤◌, length}
+use Rattle.cache_replay.specs.Outline.{count_in}
 use Rattle.stripe_core.specs.Stripe.{kept_in, seen_in, state_in}
 use Rattle.script_lang.specs.declared.step.Step.TheVariants as step
 use Rattle.script_run.specs.Run.{Run}
 use Rattle.cache_replay.specs.Plain.{Plainly}
 use Rattle.cache_replay.proofs.PlainTurns.{flush_leaves_puts, flush_page, flush_quiet, flush_refuses, flushes}
+use Rattle.cache_replay.proofs.Counts.{flush_counts}
 use Rattle.cache_replay.proofs.plain_lines.flush.Goals as goal
 
 pub returns-in-Ok-clause-ends : goal.returns-in-Ok-clause-ends
@@ -26,6 +28,8 @@ returns-in-Ok-clause-part g c = record {
       (seen_in g.D.Disk g.R.Directory c.args.part.now.stripe).device.faults (seen_in g.D.Disk g.R.Directory c.flush.new.self).device (Ok c.in-Ok.flushed) c.in-Ok.ensures.does c.requires.part.quiet;
   page = flush_page c.args.now (kept_in g.C.Chronicle c.args.part.now.stripe) (kept_in g.C.Chronicle c.flush.new.self)
       (seen_in g.D.Disk g.R.Directory c.args.part.now.stripe).device.faults (seen_in g.D.Disk g.R.Directory c.flush.new.self).device (length c.args.part.now.page.items) (Ok c.in-Ok.flushed) c.in-Ok.ensures.does c.requires.part.page;
+  losses = (flush_leaves_puts c.args.now (kept_in g.C.Chronicle c.args.part.now.stripe) (kept_in g.C.Chronicle c.flush.new.self)
+      (seen_in g.D.Disk g.R.Directory c.args.part.now.stripe).device.faults (seen_in g.D.Disk g.R.Directory c.flush.new.self).device (Ok c.in-Ok.flushed) c.in-Ok.ensures.does).losses c.requires.part.losses;
 }
 
 pub returns-in-Ok-clause-leaves : goal.returns-in-Ok-clause-leaves
@@ -40,9 +44,17 @@ returns-in-Err-clause-part g c = record {
       (seen_in g.D.Disk g.R.Directory c.args.part.now.stripe).device.faults (seen_in g.D.Disk g.R.Directory c.flush.new.self).device (Err c.in-Err.why) c.in-Err.ensures.does c.requires.part.quiet;
   page = flush_page c.args.now (kept_in g.C.Chronicle c.args.part.now.stripe) (kept_in g.C.Chronicle c.flush.new.self)
       (seen_in g.D.Disk g.R.Directory c.args.part.now.stripe).device.faults (seen_in g.D.Disk g.R.Directory c.flush.new.self).device (length c.args.part.now.page.items) (Err c.in-Err.why) c.in-Err.ensures.does c.requires.part.page;
+  losses = (flush_leaves_puts c.args.now (kept_in g.C.Chronicle c.args.part.now.stripe) (kept_in g.C.Chronicle c.flush.new.self)
+      (seen_in g.D.Disk g.R.Directory c.args.part.now.stripe).device.faults (seen_in g.D.Disk g.R.Directory c.flush.new.self).device (Err c.in-Err.why) c.in-Err.ensures.does).losses c.requires.part.losses;
 }
 
 pub returns-in-Err-clause-leaves : goal.returns-in-Err-clause-leaves
 returns-in-Err-clause-leaves g c =
     flush_leaves_puts c.args.now (kept_in g.C.Chronicle c.args.part.now.stripe) (kept_in g.C.Chronicle c.flush.new.self)
     (seen_in g.D.Disk g.R.Directory c.args.part.now.stripe).device.faults (seen_in g.D.Disk g.R.Directory c.flush.new.self).device (Err c.in-Err.why) c.in-Err.ensures.does
+
+pub returns-in-Err-clause-counts : goal.returns-in-Err-clause-counts
+returns-in-Err-clause-counts g c =
+    subst (λ r. IfOk r (λ said. count_in said ≤ (seen_in g.D.Disk g.R.Directory c.flush.new.self).device.faults)) (sym c.flush_refused.ensures)
+    (flush_counts c.args.now (kept_in g.C.Chronicle c.args.part.now.stripe) (kept_in g.C.Chronicle c.flush.new.self)
+    (seen_in g.D.Disk g.R.Directory c.args.part.now.stripe).device.faults (seen_in g.D.Disk g.R.Directory c.flush.new.self).device c.in-Err.why c.in-Err.ensures.does)

@@ -1,5 +1,6 @@
 use Rattle.std.proofs.Common.{refl}
-use Rattle.cache_replay.proofs.OnSession.{line_ends, line_reached, line_session, flush_plain}
+use Rattle.cache_replay.proofs.OnPart.{line_device, no_device}
+use Rattle.cache_replay.proofs.OnSession.{line_ends, line_session, flush_plain}
 use Rattle.cache_replay.proofs.plain_lines.flush_line.Goals as goal
 
 pub returns-in-Some-clause-session : goal.returns-in-Some-clause-session
@@ -11,6 +12,9 @@ returns-in-Some-clause-ends g c =
     line_ends g.D.Disk g.R.Directory g.C.Chronicle c.steps_tell.ensures c.steps_own.ensures c.args.session.now _ c.in-Some.part c.flush.new.part _ c.flush.result flush_plain
     c.in-Some.is refl refl refl (λ n. refl) c.flush.ensures.leaves c.flush.ensures.unharmed c.requires.session c.flush.ensures.ends
 
-pub returns-in-Some-clause-reached : goal.returns-in-Some-clause-reached
-returns-in-Some-clause-reached g c =
-    line_reached g.D.Disk g.R.Directory g.C.Chronicle c.args.session.now c.in-Some.part c.flush.new.part c.flush.result c.in-Some.is c.requires.session c.flush.ensures.later c.flush.ensures.unharmed
+pub returns-in-Some-clause-device : goal.returns-in-Some-clause-device
+returns-in-Some-clause-device g c =
+    line_device g.D.Disk g.R.Directory g.C.Chronicle c.args.session.now c.in-Some.part c.flush.new.part c.in-Some.is c.flush.ensures.later c.flush.ensures.unharmed.trust
+
+pub returns-in-None-clause-device : goal.returns-in-None-clause-device
+returns-in-None-clause-device g c = no_device g.D.Disk g.R.Directory g.C.Chronicle c.args.session.now c.in-None.is

@@ -5,6 +5,11 @@ use Rattle.stripe_write.proofs.Spending.{state_behind}
 use Rattle.script_lang.specs.declared.step.Step.TheVariants as step
 use Rattle.cache_replay.specs.Plain.{Plainly}
 use Rattle.cache_replay.proofs.PlainTurns.{removed_as, removes}
+use Rattle.std.proofs.Common.{refl}
+use Rattle.cache_replay.proofs.Counts.{removed_tells}
+use Rattle.cache_replay.proofs.ReaderFrames.{losses_then}
+use Rattle.stripe_write.specs.declared.removal.Removal.TheVariants as removal
+use Rattle.stripe_core.specs.Stripe.{seen_in}
 use Rattle.cache_replay.proofs.plain_lines.remove_from.Goals as goal
 
 pub returns-in-Ok-Removed-clause-ends : goal.returns-in-Ok-Removed-clause-ends
@@ -26,3 +31,7 @@ returns-in-Ok-Absent-clause-ends g c = λ run.
     (removes run s t c.args.key a
     (state_behind (kept_in g.C.Chronicle c.args.part.now.stripe) (kept_in g.C.Chronicle c.remove.new.stripe) (removal_adds c.args.key a) c.in-Ok-Absent.ensures.adds)
     c.in-Ok-Absent.ensures.quiet c.in-Ok-Absent.ensures.removes c.in-Ok-Absent.ensures.does)
+
+pub returns-in-Ok-Absent-clause-counts : goal.returns-in-Ok-Absent-clause-counts
+returns-in-Ok-Absent-clause-counts g c =
+    removed_tells (state_in g.C.Chronicle c.args.part.now.stripe) c.args.key (removal.Absent c.in-Ok-Absent.why) (seen_in g.D.Disk g.R.Directory c.remove.new.stripe).device.faults c.requires.part.losses (rw c.in-Ok-Absent.field-0-is at c.in-Ok-Absent.ensures.removes)

@@ -1,7 +1,8 @@
 use Rattle.std.proofs.Common.{refl}
 use Rattle.stripe_core.specs.Stripe.{state_in}
 use Rattle.script_lang.specs.declared.step.Step.TheVariants as step
-use Rattle.cache_replay.proofs.OnSession.{at_moment, line_ends, line_reached, line_session, remove_plain}
+use Rattle.cache_replay.proofs.OnPart.{line_device, no_device}
+use Rattle.cache_replay.proofs.OnSession.{at_moment, line_ends, line_session, remove_plain}
 use Rattle.cache_replay.proofs.plain_lines.remove_line.Goals as goal
 
 pub returns-in-Some-clause-session : goal.returns-in-Some-clause-session
@@ -14,6 +15,9 @@ returns-in-Some-clause-ends g c =
     c.in-Some.is refl refl refl (λ n. refl) c.remove_from.ensures.leaves c.remove_from.ensures.unharmed c.requires.session
     (at_moment (step.Remove c.args.key) (state_in g.C.Chronicle c.in-Some.part.stripe) (state_in g.C.Chronicle c.remove_from.new.part.stripe) _ c.remove_from.result c.remove_from.ensures.ends)
 
-pub returns-in-Some-clause-reached : goal.returns-in-Some-clause-reached
-returns-in-Some-clause-reached g c =
-    line_reached g.D.Disk g.R.Directory g.C.Chronicle c.args.session.now c.in-Some.part c.remove_from.new.part c.remove_from.result c.in-Some.is c.requires.session c.remove_from.ensures.later c.remove_from.ensures.unharmed
+pub returns-in-Some-clause-device : goal.returns-in-Some-clause-device
+returns-in-Some-clause-device g c =
+    line_device g.D.Disk g.R.Directory g.C.Chronicle c.args.session.now c.in-Some.part c.remove_from.new.part c.in-Some.is c.remove_from.ensures.later c.remove_from.ensures.unharmed.trust
+
+pub returns-in-None-clause-device : goal.returns-in-None-clause-device
+returns-in-None-clause-device g c = no_device g.D.Disk g.R.Directory g.C.Chronicle c.args.session.now c.in-None.is

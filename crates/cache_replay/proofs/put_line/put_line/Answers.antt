@@ -1,7 +1,6 @@
 use Rattle.std.proofs.Common.{refl}
-use Rattle.cache_replay.proofs.OnSession.{line_reached}
 use Rattle.cache_replay.proofs.PutLine.{put_ends, put_session}
-use Rattle.cache_replay.proofs.OnPart.{line_stops}
+use Rattle.cache_replay.proofs.OnPart.{line_device, line_stops, no_device}
 use Rattle.cache_replay.proofs.put_line.put_line.Goals as goal
 
 pub returns-in-Some-clause-session : goal.returns-in-Some-clause-session
@@ -13,9 +12,12 @@ returns-in-Some-clause-ends g c =
     put_ends g.D.Disk g.R.Directory g.C.Chronicle c.steps_tell.ensures c.steps_own.ensures c.args.session.now _ c.in-Some.part c.put_in.new.part c.args.key c.args.body.now c.args.request c.args.response c.put_in.result
     c.in-Some.is refl refl refl refl c.put_in.ensures.leaves c.put_in.ensures.unharmed c.requires.session c.put_in.ensures.ends
 
-pub returns-in-Some-clause-reached : goal.returns-in-Some-clause-reached
-returns-in-Some-clause-reached g c =
-    line_reached g.D.Disk g.R.Directory g.C.Chronicle c.args.session.now c.in-Some.part c.put_in.new.part c.put_in.result c.in-Some.is c.requires.session c.put_in.ensures.later c.put_in.ensures.unharmed
+pub returns-in-Some-clause-device : goal.returns-in-Some-clause-device
+returns-in-Some-clause-device g c =
+    line_device g.D.Disk g.R.Directory g.C.Chronicle c.args.session.now c.in-Some.part c.put_in.new.part c.in-Some.is c.put_in.ensures.later c.put_in.ensures.unharmed.trust
+
+pub returns-in-None-clause-device : goal.returns-in-None-clause-device
+returns-in-None-clause-device g c = no_device g.D.Disk g.R.Directory g.C.Chronicle c.args.session.now c.in-None.is
 
 pub returns-in-Some-clause-stop : goal.returns-in-Some-clause-stop
 returns-in-Some-clause-stop g c = line_stops g.D.Disk g.R.Directory g.C.Chronicle c.args.session.now c.put_in.result c.put_in.ensures.stop

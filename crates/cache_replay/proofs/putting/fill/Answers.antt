@@ -5,6 +5,9 @@ use Rattle.stripe_write.specs.Others.{AddsOfPut}
 use Rattle.stripe_write.proofs.Owning.{then_owns}
 use Rattle.cache_replay.specs.Feeding.{FeedsWhere, IsCutWhere, IsOpenBehind}
 use Rattle.cache_replay.proofs.PutEnds.{closes_fill, refused_fill}
+use Rattle.std.proofs.Common.{◌≤◌}
+use Rattle.cache_replay.specs.Outline.{count_of_refusal}
+use Rattle.cache_replay.proofs.Counts.{close_counts, err_when, feed_counts, losses_own}
 use Rattle.cache_replay.proofs.putting.fill.Goals as goal
 
 pub returns-in-None-clause-fills : goal.returns-in-None-clause-fills
@@ -17,7 +20,7 @@ returns-in-None-clause-fills g c =
     let number = c.feed.ensures.fed.put in
     let writing = subst (λ q. is_writing (state_in g.C.Chronicle now) q ≡ true) (sym number) (subst (IsOpenBehind (state_in g.C.Chronicle now) w.put) c.in-None.is c.feed.ensures.writing) in
     closes_fill c.args.now b m (seen_in g.D.Disk g.R.Directory c.close_write.new.stripe).device.faults (kept_in g.C.Chronicle first) (kept_in g.C.Chronicle now) (kept_in g.C.Chronicle c.close_write.new.stripe)
-    w c.feed.new.writer c.args.body.now c.groups_tell.ensures c.requires.stripe.pieces.sound c.requires.fresh number
+    w c.feed.new.writer c.args.body.now c.requires.stripe.pieces.sound c.requires.fresh number
     (subst (λ o. IsCutWhere (state_in g.C.Chronicle first).geometry.fragment w c.args.body.now o c.feed.new.writer) c.in-None.is c.feed.ensures.cut) c.feed.ensures.writer writing
     (subst (FeedsWhere c.args.now b m (kept_in g.C.Chronicle first) (kept_in g.C.Chronicle now) w c.args.body.now) c.in-None.is c.feed.ensures.feeds)
     c.feed.ensures.later c.close_write.ensures.later c.close_write.result c.close_write.ensures.does c.close_write.ensures.closes
@@ -32,4 +35,18 @@ returns-in-Some-clause-fills g c =
     let b = (seen_in g.D.Disk g.R.Directory c.args.stripe.now).device.faults in
     let m = (seen_in g.D.Disk g.R.Directory c.feed.new.stripe).device.faults in
     refused_fill c.args.now b m (kept_in g.C.Chronicle c.args.stripe.now) (kept_in g.C.Chronicle c.feed.new.stripe) c.args.writer.now c.args.body.now c.requires.fresh c.in-Some.why
+    (subst (FeedsWhere c.args.now b m (kept_in g.C.Chronicle c.args.stripe.now) (kept_in g.C.Chronicle c.feed.new.stripe) c.args.writer.now c.args.body.now) c.in-Some.is c.feed.ensures.feeds)
+
+pub returns-in-None-clause-counts : goal.returns-in-None-clause-counts
+returns-in-None-clause-counts g c =
+    let faults = (seen_in g.D.Disk g.R.Directory c.close_write.new.stripe).device.faults in
+    err_when (λ why. count_of_refusal why ≤ faults) c.close_write.result (λ none.
+    close_counts (state_in g.C.Chronicle c.feed.new.stripe) (state_in g.C.Chronicle c.close_write.new.stripe) c.feed.new.writer faults c.close_write.result
+    (losses_own _ _ _ c.close_write.ensures.own (losses_own _ _ _ c.feed.ensures.own none)) c.close_write.ensures.closes c.close_write.ensures.counts)
+
+pub returns-in-Some-clause-counts : goal.returns-in-Some-clause-counts
+returns-in-Some-clause-counts g c = λ none.
+    let b = (seen_in g.D.Disk g.R.Directory c.args.stripe.now).device.faults in
+    let m = (seen_in g.D.Disk g.R.Directory c.feed.new.stripe).device.faults in
+    feed_counts c.args.now b m (kept_in g.C.Chronicle c.args.stripe.now) (kept_in g.C.Chronicle c.feed.new.stripe) c.args.writer.now c.args.body.now c.in-Some.why
     (subst (FeedsWhere c.args.now b m (kept_in g.C.Chronicle c.args.stripe.now) (kept_in g.C.Chronicle c.feed.new.stripe) c.args.writer.now c.args.body.now) c.in-Some.is c.feed.ensures.feeds)

@@ -2,6 +2,9 @@ use Rattle.std.proofs.Common.{refl}
 use Rattle.tape_base.specs.declared.actors.Actor.{Actor}
 use Rattle.stripe_core.specs.Stripe.{kept_in, seen_in}
 use Rattle.cache_replay.proofs.PutOpens.{is_fresh, leaves_opened, puts_opened, puts_refused}
+use Rattle.stripe_core.specs.Stripe.{state_in}
+use Rattle.cache_replay.proofs.Counts.{err_after, open_counts}
+use Rattle.cache_replay.proofs.ReaderFrames.{losses_then}
 use Rattle.cache_replay.proofs.putting.put.Goals as goal
 
 abbrev nobody : Actor
@@ -32,3 +35,9 @@ returns-in-Err-clause-puts g c =
     puts_refused c.args.now (seen_in g.D.Disk g.R.Directory c.args.stripe.now).device.faults (seen_in g.D.Disk g.R.Directory c.open_write.new.stripe).device.faults
     (kept_in g.C.Chronicle c.args.stripe.now) (kept_in g.C.Chronicle c.open_write.new.stripe) nobody c.args.key c.args.body.now c.args.request c.args.response refl
     refused.err c.open_write.ensures.quiet c.requires.stripe.actors.puts_fall c.in-Err.why refused.does
+
+pub returns-in-Ok-clause-counts : goal.returns-in-Ok-clause-counts
+returns-in-Ok-clause-counts g c = err_after _ c.put_open.result (losses_then _ _ _ c.in-Ok.ensures.adds) c.put_open.ensures.counts
+
+pub returns-in-Err-clause-counts : goal.returns-in-Err-clause-counts
+returns-in-Err-clause-counts g c = λ none. open_counts (state_in g.C.Chronicle c.args.stripe.now) nobody c.args.key c.args.request c.args.response 0 _ c.in-Err.why c.in-Err.ensures.does

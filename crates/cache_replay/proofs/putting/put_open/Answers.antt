@@ -1,5 +1,9 @@
 use Rattle.stripe_core.specs.Stripe.{kept_in, seen_in}
 use Rattle.cache_replay.proofs.PutWhole.{body_ends_at}
+use Rattle.std.proofs.Common.{◌≤◌, sym, subst}
+use Rattle.std.specs.Prelude.{IfErr}
+use Rattle.cache_replay.specs.Outline.{count_of_refusal}
+use Rattle.cache_replay.proofs.Counts.{err_now, err_when, unless_counts}
 use Rattle.cache_replay.proofs.putting.put_open.Goals as goal
 
 pub returns-clause-ends : goal.returns-clause-ends
@@ -9,3 +13,11 @@ returns-clause-ends g c =
     body_ends_at c.args.now (seen_in g.D.Disk g.R.Directory c.args.stripe.now).device.faults (seen_in g.D.Disk g.R.Directory fed.new.stripe).device.faults (seen_in g.D.Disk g.R.Directory given.new.stripe).device.faults
     (kept_in g.C.Chronicle c.args.stripe.now) (kept_in g.C.Chronicle fed.new.stripe) (kept_in g.C.Chronicle given.new.stripe) c.args.writer.now fed.new.writer c.args.body.now given.result fed.result c.unless_memory.result
     given.ensures.later fed.ensures.put fed.ensures.fills given.ensures.adds given.ensures.aborts given.ensures.does c.unless_memory.ensures
+
+pub returns-clause-counts : goal.returns-clause-counts
+returns-clause-counts g c =
+    let mid = (seen_in g.D.Disk g.R.Directory c.fill-result.new.stripe).device.faults in
+    let faults = (seen_in g.D.Disk g.R.Directory c.abort_write-end.new.stripe).device.faults in
+    err_when (λ why. count_of_refusal why ≤ faults) c.unless_memory.result (λ none.
+    subst (λ r. IfErr r (λ why. count_of_refusal why ≤ faults)) (sym c.unless_memory.ensures)
+    (unless_counts mid faults c.abort_write-end.result c.fill-result.result c.abort_write-end.ensures.later (err_now (λ why. count_of_refusal why ≤ mid) c.fill-result.result none c.fill-result.ensures.counts)))

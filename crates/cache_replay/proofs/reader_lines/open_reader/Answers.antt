@@ -5,6 +5,9 @@ use Rattle.cache_replay.specs.ReaderLines.{as_held, reader_opened}
 use Rattle.cache_replay.proofs.Lines.{one_more}
 use Rattle.cache_replay.proofs.ReaderLines.{kept_active}
 use Rattle.cache_replay.proofs.OpenLine.{changed_from, none_there, open_active, open_answers, open_busy}
+use Rattle.stripe_core.specs.Stripe.{seen_in, state_in}
+use Rattle.cache_replay.specs.Outline.{count_in}
+use Rattle.cache_replay.proofs.Counts.{missed_tells}
 use Rattle.cache_replay.proofs.reader_lines.open_reader.Goals as goal
 
 pub returns-then-has_something-clause-ends : goal.returns-then-has_something-clause-ends
@@ -43,3 +46,8 @@ returns-clause-ends g c =
     (sym (c.in_ok-number.ensures.slots c.in_ok-number.number) ∙ none_there (slots_of c.number.new.self c.in_ok-number.number) (sym c.has_something.ensures ∙ c.if-has_something.false))
     (changed_from (slots_of c.args.actors.now) (slots_of c.number.new.self) (slots_of c.give_reader.new.actors) c.in_ok-number.number (as_held (reader_opened c.in_ok-opened.opened)) c.in_ok-number.ensures.slots c.give_reader.ensures.slots)
     c.in_ok-opened.ensures.adds c.in_ok-opened.ensures.tells c.in_ok-opened.ensures.opens c.requires.active c.in_ok-opened.ensures.quiet
+
+pub returns-clause-counts : goal.returns-clause-counts
+returns-clause-counts g c =
+    subst (λ said. count_in said ≤ (seen_in g.D.Disk g.R.Directory c.open_read-opened.new.stripe).device.faults) (sym c.give_reader.ensures.answer)
+    (missed_tells (state_in g.C.Chronicle c.args.part.now.stripe) c.args.key _ c.in_ok-opened.opened c.requires.active.part.losses c.in_ok-opened.ensures.opens.counted)

@@ -1,10 +1,12 @@
-use Rattle.std.proofs.Common.{Some, sym, subst}
+use Rattle.std.proofs.Common.{Some, sym, subst, ◌≤◌}
 use Rattle.stripe_core.specs.Stripe.{kept_in, seen_in, state_in}
 use Rattle.stripe_read.specs.Nexts.{read_adds}
 use Rattle.cache_replay.specs.ReaderLines.{NextEnds}
 use Rattle.cache_replay.proofs.NextLine.{next_ends, reads_within}
 use Rattle.cache_replay.proofs.OtherNext.{next_harms}
 use Rattle.cache_replay.proofs.ReaderFrames.{kept_leaves, read_leaves}
+use Rattle.cache_replay.specs.Outline.{count_in}
+use Rattle.cache_replay.proofs.Counts.{piece_counts, piece_tells}
 use Rattle.cache_replay.proofs.reader_lines.read_to.Goals as goal
 
 pub piece_said-requires : goal.piece_said-requires
@@ -43,3 +45,9 @@ returns-in_err-piece_said-clause-unharmed g c =
 pub returns-clause-unharmed : goal.returns-clause-unharmed
 returns-clause-unharmed g c =
     next_harms c.other_shows.ensures (state_in g.C.Chronicle c.args.stripe.now) c.args.reader.now c.requires.reader.first c.read_next.ensures.unharmed
+
+pub returns-clause-counts : goal.returns-clause-counts
+returns-clause-counts g c = λ none.
+    subst (λ said. count_in said ≤ (seen_in g.D.Disk g.R.Directory c.read_next.new.stripe).device.faults) (sym c.in_ok-piece_said.ensures)
+    (piece_tells c.in_ok-piece.piece c.read_next.new.into _
+    (piece_counts (state_in g.C.Chronicle c.args.stripe.now) c.args.reader.now (seen_in g.D.Disk g.R.Directory c.read_next.new.stripe).device.faults c.in_ok-piece.piece none c.in_ok-piece.ensures.reads.counted))

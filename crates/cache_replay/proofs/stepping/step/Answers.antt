@@ -1,6 +1,7 @@
 use Rattle.std.proofs.Common.{ap, arith, sym, inl, ◌+◌}
 use Rattle.cache_replay.specs.Plays.{ledger_of}
-use Rattle.cache_replay.proofs.Dispatch.{all_ends, all_left, all_stops, moment_moves, needs_session}
+use Rattle.cache_replay.proofs.Dispatch.{all_ends, all_stops, moment_moves, needs_session}
+use Rattle.cache_replay.proofs.Outlines.{all_left, all_outlines, moment_outlines}
 use Rattle.cache_replay.proofs.stepping.step.Goals as goal
 
 pub returns-in_default : goal.returns-in_default
@@ -9,8 +10,9 @@ returns-in_default g c =
     record {
       session = c.in_session.ensures.session;
       ends = all_ends _ _ _ c.in_session.result c.args.step c.args.session.now c.in_session.new.session (ledger_of g.B.Bay c.args.bay.now) needs c.in_session.ensures.ends;
-      left = all_left _ _ _ c.in_session.result c.args.session.now c.in_session.new.session (ledger_of g.B.Bay c.args.bay.now) c.in_session.ensures.reached;
-      stop = all_stops _ _ _ c.in_session.result c.args.step c.args.session.now (g.B.Bay.faults c.args.bay.now) (g.B.Bay.faults c.args.bay.now) needs c.in_session.ensures.stop;
+      outline = all_outlines _ _ _ c.in_session.result c.args.step c.args.session.now c.in_session.new.session (ledger_of g.B.Bay c.args.bay.now) needs c.in_session.ensures.device c.in_session.ensures.counts;
+      left = all_left _ _ _ c.in_session.result c.args.step c.args.session.now c.in_session.new.session (ledger_of g.B.Bay c.args.bay.now) c.in_session.ensures.device;
+      stop = all_stops c.in_session.result c.args.step c.args.session.now (g.B.Bay.faults c.args.bay.now) (g.B.Bay.faults c.args.bay.now) needs c.in_session.ensures.stop;
       out = ap (λ n. g.B.Bay.out c.args.bay.now + n) (sym c.in_session.ensures.devices);
       names = c.in_session.ensures.names;
       later = omega arith;
@@ -18,3 +20,6 @@ returns-in_default g c =
 
 pub returns-in-Now-clause-ends : goal.returns-in-Now-clause-ends
 returns-in-Now-clause-ends g c = λ run plays. rw c.in-Now.is (inl (moment_moves _ _ _ run c.in-Now.moment _ _ _ (c.now_line.ensures.moves run plays)))
+
+pub returns-in-Now-clause-outline : goal.returns-in-Now-clause-outline
+returns-in-Now-clause-outline g c = λ o h. rw c.in-Now.is (moment_outlines _ _ _ o c.in-Now.moment c.args.session.now _ _ _ c.now_line.ensures.answer c.now_line.ensures.part h)

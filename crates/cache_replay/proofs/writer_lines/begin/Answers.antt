@@ -3,6 +3,11 @@ use Rattle.stripe_core.specs.Stripe.{kept_in, state_in}
 use Rattle.script_lang.specs.declared.answer.StepAnswer.TheVariants as answer
 use Rattle.cache_replay.specs.WriterLines.{OpenDoes, Opens}
 use Rattle.cache_replay.proofs.Openings.{not_opened, opens}
+use Rattle.std.proofs.Common.{◌≤◌}
+use Rattle.std.specs.Prelude.{IfSome}
+use Rattle.stripe_core.specs.Stripe.{seen_in}
+use Rattle.cache_replay.specs.Outline.{count_in}
+use Rattle.cache_replay.proofs.Counts.{open_counts, refused_counts, some_when}
 use Rattle.cache_replay.proofs.writer_lines.begin.Goals as goal
 
 pub returns-in-Ok-clause-does : goal.returns-in-Ok-clause-does
@@ -17,3 +22,10 @@ returns-in-Err-clause-does g c =
     subst (OpenDoes (state_in g.C.Chronicle c.args.stripe.now) (state_in g.C.Chronicle c.open_write.new.stripe) c.args.actor.0 (Opens c.args.key c.args.pin c.args.request c.args.response) None) (sym c.answer_unless_memory.ensures)
     (not_opened (kept_in g.C.Chronicle c.args.stripe.now) (kept_in g.C.Chronicle c.open_write.new.stripe) c.args.actor c.args.key c.args.request c.args.response c.args.pin c.in-Err.why
     c.in-Err.ensures.quiet c.requires.stripe.actors.puts_fall c.in-Err.ensures.err c.in-Err.ensures.does)
+
+pub returns-in-Err-clause-counts : goal.returns-in-Err-clause-counts
+returns-in-Err-clause-counts g c =
+    let faults = (seen_in g.D.Disk g.R.Directory c.open_write.new.stripe).device.faults in
+    some_when (λ said. count_in said ≤ faults) c.answer_unless_memory.result (λ none.
+    subst (λ o. IfSome o (λ said. count_in said ≤ faults)) (sym c.answer_unless_memory.ensures)
+    (refused_counts c.in-Err.why None faults (open_counts (state_in g.C.Chronicle c.args.stripe.now) c.args.actor c.args.key c.args.request c.args.response c.args.pin faults c.in-Err.why c.in-Err.ensures.does)))

@@ -5,6 +5,10 @@ use Rattle.cache_replay.specs.Plays.{PartEnds}
 use Rattle.cache_replay.specs.Session.{slots_of}
 use Rattle.cache_replay.specs.WriterLines.{Feeds}
 use Rattle.cache_replay.proofs.Lines.{active_by, ends_by, ends_if, given_back, held_writer, idles_by, no_taken, none_changed, others_else, taken_writer}
+use Rattle.std.proofs.Common.{◌≤◌}
+use Rattle.stripe_core.specs.Stripe.{seen_in}
+use Rattle.cache_replay.specs.Outline.{count_in}
+use Rattle.cache_replay.proofs.Counts.{answer_counts}
 use Rattle.cache_replay.proofs.writer_lines.data_in.Goals as goal
 
 pub give_bytes-outcome-requires-clause-writer : goal.give_bytes-outcome-requires-clause-writer
@@ -38,3 +42,8 @@ returns-in-None-clause-ends g c = λ run moment plays.
     (idles_by g.D.Disk g.R.Directory g.C.Chronicle c.others_stay.ensures c.args.part.now c.args.part.now c.args.actors.now c.take_writer.new.actors n (Feeds c.args.body.now) c.args.actor.now tt c.in-Ok.ensures.number c.requires.active
     (no_taken c.args.actors.now c.number.new.self c.take_writer.new.actors n c.number.ensures.slots c.in-None.ensures.takes)
     (none_changed c.args.actors.now c.number.new.self c.take_writer.new.actors n c.number.ensures.slots c.in-None.ensures.takes) (c.in-None.ensures.names ∙ c.in-Ok.ensures.names) run plays)
+
+pub returns-in-Some-clause-counts : goal.returns-in-Some-clause-counts
+returns-in-Some-clause-counts g c =
+    ends_if c.set_back.result c.give_bytes-outcome.result.answer _ c.set_back.ensures.said (λ said answered.
+    answer_counts (seen_in g.D.Disk g.R.Directory c.give_bytes-outcome.new.stripe).device.faults c.give_bytes-outcome.result.answer said answered c.requires.active.part.losses c.give_bytes-outcome.ensures.counts)

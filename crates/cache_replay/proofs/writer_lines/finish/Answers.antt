@@ -3,6 +3,11 @@ use Rattle.stripe_core.specs.Stripe.{kept_in, state_in}
 use Rattle.cache_replay.specs.WriterLines.{Closes, WriterDoes}
 use Rattle.cache_replay.proofs.WriterSteps.{is_left}
 use Rattle.cache_replay.proofs.Closings.{closes_line, rested_put}
+use Rattle.std.proofs.Common.{◌≤◌}
+use Rattle.std.specs.Prelude.{IfSome}
+use Rattle.stripe_core.specs.Stripe.{seen_in}
+use Rattle.cache_replay.specs.Outline.{count_in}
+use Rattle.cache_replay.proofs.Counts.{close_counts, closed_counts, losses_own, some_when}
 use Rattle.cache_replay.proofs.writer_lines.finish.Goals as goal
 
 pub returns-clause-left : goal.returns-clause-left
@@ -16,3 +21,12 @@ returns-clause-does g c =
     (closes_line c.args.now (kept_in g.C.Chronicle c.args.stripe.now) (kept_in g.C.Chronicle c.close_write-result.new.stripe) _ _ c.args.writer c.close_write-result.new.writer c.keep_open.result
     c.close_write-result.ensures.quiet c.requires.writing c.requires.writer c.close_write-result.ensures.rested c.keep_open.ensures
     c.close_write-result.result c.close_write-result.ensures.closes c.close_write-result.ensures.does c.close_write-result.ensures.seals)
+
+pub returns-clause-counts : goal.returns-clause-counts
+returns-clause-counts g c =
+    let faults = (seen_in g.D.Disk g.R.Directory c.close_write-result.new.stripe).device.faults in
+    some_when (λ said. count_in said ≤ faults) c.closed_answer.result (λ none.
+    subst (λ o. IfSome o (λ said. count_in said ≤ faults)) (sym c.closed_answer.ensures)
+    (closed_counts c.close_write-result.result faults
+    (close_counts (state_in g.C.Chronicle c.args.stripe.now) (state_in g.C.Chronicle c.close_write-result.new.stripe) c.args.writer faults c.close_write-result.result
+    (losses_own _ _ _ c.close_write-result.ensures.own none) c.close_write-result.ensures.closes c.close_write-result.ensures.counts)))

@@ -4,6 +4,10 @@ use Rattle.script_lang.specs.declared.step.Step.TheVariants as step
 use Rattle.cache_replay.specs.Plays.{PartEnds}
 use Rattle.cache_replay.specs.Session.{slots_of}
 use Rattle.cache_replay.proofs.Lines.{active_by, busy_in, ends_if, given_new, opens_by, others_are_older}
+use Rattle.std.proofs.Common.{◌≤◌}
+use Rattle.stripe_core.specs.Stripe.{seen_in}
+use Rattle.cache_replay.specs.Outline.{count_in}
+use Rattle.cache_replay.proofs.Counts.{answer_counts}
 use Rattle.cache_replay.proofs.writer_lines.open_write_in.Goals as goal
 
 pub returns-in-Some-clause-ends : goal.returns-in-Some-clause-ends
@@ -28,3 +32,8 @@ returns-in-None-clause-ends g c =
     ends_if c.set_back.result c.begin-outcome.result.answer _ c.set_back.ensures.said (λ said answered.
     opens_by g.D.Disk g.R.Directory g.C.Chronicle c.others_stay.ensures c.args.part.now _ c.args.actors.now c.set_back.new.actors n c.steps_own.ensures c.steps_tell.ensures c.args.actor.now c.args.key c.args.pin c.args.request c.args.response
     c.begin-outcome.result.left c.begin-outcome.result.answer said answered c.in-Ok.ensures.number c.requires.active free changed c.begin-outcome.ensures.own (c.set_back.ensures.names ∙ c.in-Ok.ensures.names) c.begin-outcome.ensures.does)
+
+pub returns-in-None-clause-counts : goal.returns-in-None-clause-counts
+returns-in-None-clause-counts g c =
+    ends_if c.set_back.result c.begin-outcome.result.answer _ c.set_back.ensures.said (λ said answered.
+    answer_counts (seen_in g.D.Disk g.R.Directory c.begin-outcome.new.stripe).device.faults c.begin-outcome.result.answer said answered c.requires.active.part.losses c.begin-outcome.ensures.counts)

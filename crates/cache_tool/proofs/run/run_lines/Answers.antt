@@ -1,15 +1,13 @@
-use Rattle.std.proofs.Common.{refl, ◌∙◌, arith, inl, length, ap}
+use Rattle.std.proofs.Common.{refl, ◌∙◌, arith, length, ap}
 use Rattle.edge_io.specs.LineReader.{unread, source_of}
 use Rattle.cache_replay.specs.Plays.{ledger_of}
 use Rattle.cache_tool.specs.Story.{counts}
-use Rattle.cache_tool.proofs.Halts.{either-map, either-then}
-use Rattle.cache_tool.proofs.Stories.{shown_later}
 use Rattle.cache_tool.proofs.Ends.{begins, Ends-earlier}
 use Rattle.cache_tool.proofs.run.run_lines.Goals as goal
 
 pub lines-init : goal.lines-init
 lines-init g c = record {
-  goes = inl (begins (unread g.S.Source.left c.args.reader.now) (g.K.Sink.taken c.args.sink.now) (ledger_of g.B.Bay c.args.bay.now) _ _ c.requires.given c.requires.fresh);
+  goes = begins (unread g.S.Source.left c.args.reader.now) (g.K.Sink.taken c.args.sink.now) (ledger_of g.B.Bay c.args.bay.now) _ _ _ c.requires.given c.requires.blank c.requires.fresh;
   session = c.requires.session;
   few = omega (arith, ap length c.requires.names);
   out = omega (arith, c.requires.none);
@@ -23,7 +21,7 @@ pub lines-preserved : goal.lines-preserved
 lines-preserved g c =
     let before = c.lines.invariant in
     record {
-      goes = either-then (c.in-Ok.ensures.goes _ _ _) (shown_later _ _ _ _ c.line.ensures.grows) before.goes;
+      goes = c.in-Ok.ensures.goes _ _ _ before.goes;
       session = c.line.ensures.session;
       few = c.in-Ok.ensures.few;
       out = omega (arith, c.line.ensures.out, before.out);
@@ -42,4 +40,4 @@ returns-in-Err-clause-ends g c =
     let sink' = counts (g.K.Sink.faults c.args.sink.now) (g.K.Sink.faults c.line.new.sink) in
     let bay = counts (g.B.Bay.faults c.lines.bay) (g.B.Bay.faults c.line.new.bay) in
     let bay' = counts (g.B.Bay.faults c.args.bay.now) (g.B.Bay.faults c.line.new.bay) in
-    either-map (Ends-earlier source source' sink sink' bay bay' before.source_later refl before.sink_later refl before.bay_later refl _ _ _ _ _ c.in-Err.ending) (either-then (c.in-Err.ensures.ends _ _ _) (shown_later _ _ _ _ c.line.ensures.grows) before.goes)
+    Ends-earlier source source' sink sink' bay bay' before.source_later refl before.sink_later refl before.bay_later refl _ _ _ _ _ c.in-Err.ending (c.in-Err.ensures.ends _ _ _ before.goes)

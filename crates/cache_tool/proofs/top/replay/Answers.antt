@@ -1,26 +1,26 @@
-use Rattle.std.proofs.Common.{◌≡◌, ◌⊎◌, List, ℕ, Option, inl, sym, ◌∙◌, subst}
+use Rattle.std.proofs.Common.{◌≡◌, List, ℕ, Option, inl, sym, ◌∙◌, subst}
 use Rattle.std.specs.Prelude.{IsTrue}
 use Rattle.edge_io.specs.LineReader.{unread, held, source_of}
 use Rattle.dir_table.specs.contracts.list.ListDirectoryDirectory.TheImpl.{ghosts as listed}
 use Rattle.cache_chronicle.specs.contracts.full.FullChronicleChronicle.TheImpl.{ghosts as chronicled}
-use Rattle.script_run.specs.Run.{Run, fresh}
-use Rattle.cache_replay.specs.Plays.{HasReached, ledger_of}
-use Rattle.cache_tool.specs.Story.{Owes, Shown, counts}
+use Rattle.cache_replay.specs.Session.{return_of}
+use Rattle.cache_replay.specs.Plays.{AreReached, ledger_of}
+use Rattle.cache_tool.specs.Story.{Owes, Told, counts}
 use Rattle.cache_tool.specs.Ending.{Ends}
 use Rattle.ats_disk.specs.Bay.{CameBackFaultless}
 use Rattle.cache_tool.specs.Top.{DevicesBack, DevicesWanting, EachBack}
 use Rattle.cache_tool.proofs.Faultless.{settles, settles_more}
-use Rattle.cache_tool.proofs.Halts.{either-both, either-map}
-use Rattle.cache_tool.proofs.Stories.{Deals-nothing, Deals-settled}
-use Rattle.cache_tool.proofs.Ends.{nothing_ends, prepend-nothing, Ends-settled, gave_settled}
+use Rattle.cache_tool.proofs.Halts.{either-both}
+use Rattle.cache_tool.proofs.Stories.{Deals-settled}
+use Rattle.cache_tool.proofs.Ends.{nothing_back, nothing_ends, prepend-nothing, Ends-settled, gave_settled}
 use Rattle.cache_tool.proofs.top.replay.Goals as goal
 
 pub returns-in_default-clause-ends : goal.returns-in_default-clause-ends
 returns-in_default-clause-ends g c =
     let ledger = ledger_of g.B.Bay c.args.bay.now in
     let sure : IsTrue g.B.Bay.faultless → CameBackFaultless ledger.returned = λ t. g.met.B.Bay.came_back c.args.bay.now t in
-    inl (nothing_ends (g.S.Source.left c.args.source.now) (g.K.Sink.taken c.args.sink.now) (DevicesBack g.B.Bay.faultless ledger ledger) (DevicesWanting g.B.Bay.faultless ledger ledger)
-    (settles_more g.B.Bay.faultless ledger ledger sure fresh (inl (Deals-nothing ledger))) (counts 0 0) (counts 0 0) (counts 0 0))
+    nothing_ends (g.S.Source.left c.args.source.now) (g.K.Sink.taken c.args.sink.now) (DevicesBack g.B.Bay.faultless ledger ledger) (DevicesWanting g.B.Bay.faultless ledger ledger)
+    (λ t none own names. settles_more g.B.Bay.faultless ledger ledger sure t (g.S.Source.left c.args.source.now) 0 (inl (nothing_back ledger t none own names))) (counts 0 0) (counts 0 0) (counts 0 0)
 
 pub returns-clause-ends : goal.returns-clause-ends
 returns-clause-ends g c =
@@ -34,11 +34,12 @@ returns-clause-ends g c =
     let ledger = ledger_of g.B.Bay c.args.bay.now in
     let closed = ledger_of g.B.Bay c.close.new.bay in
     let sure : IsTrue g.B.Bay.faultless → CameBackFaultless closed.returned = λ t. g.met.B.Bay.came_back c.close.new.bay t in
-    let settle : (run : Run) → Owes ledger (ledger_of g.B.Bay c.run_lines-ending.new.bay) (λ r. HasReached g.B.Dev.Disk listed chronicled r c.run_lines-ending.new.session) run → EachBack ledger closed run =
-    λ run owes. Deals-settled _ _ _ run.ended _ run.names owes.deals (c.close.ensures.back run owes.reached) c.close.ensures.names in
-    let ends = either-map (Ends-settled source sink bay (unread g.S.Source.left reader) (g.K.Sink.taken c.args.sink.now) (g.K.Sink.taken c.run_lines-ending.new.sink) _ (DevicesBack g.B.Bay.faultless ledger closed)
-    _ (DevicesWanting g.B.Bay.faultless ledger closed) (λ run owes. settles g.B.Bay.faultless ledger closed sure run (settle run owes))
-    (λ run wants. settles_more g.B.Bay.faultless ledger closed sure run (either-both (settle run) (λ gave. gave_settled g.B.Dev.Disk listed chronicled c.run_lines-ending.new.session _ _ _ run c.close.ensures.back c.close.ensures.names gave.0 gave.1) wants)) c.run_lines-ending.result) c.run_lines-ending.ensures.ends in
+    let settle : (t : Told) → Owes ledger (ledger_of g.B.Bay c.run_lines-ending.new.bay) (λ harms. AreReached harms (return_of g.B.Dev.Disk listed chronicled c.run_lines-ending.new.session.part)) t → EachBack ledger closed t =
+    λ t owes. Deals-settled _ _ _ t.ended _ t.names owes.deals (c.close.ensures.back t.own owes.reached) c.close.ensures.names in
+    let ends = Ends-settled source sink bay (unread g.S.Source.left reader) (g.K.Sink.taken c.args.sink.now) (g.K.Sink.taken c.run_lines-ending.new.sink) _ (DevicesBack g.B.Bay.faultless ledger closed)
+    _ (DevicesWanting g.B.Bay.faultless ledger closed) (λ t owes. settles g.B.Bay.faultless ledger closed sure t (settle t owes))
+    (λ left given t wants. settles_more g.B.Bay.faultless ledger closed sure t left given
+    (either-both (settle t) (λ gave. gave_settled g.B.Dev.Disk listed chronicled c.run_lines-ending.new.session _ _ _ left given t c.close.ensures.back c.close.ensures.names gave.0 gave.1) wants)) c.run_lines-ending.result c.run_lines-ending.ensures.ends in
     rw (back, c.close.ensures.faults, ← c.with_buffer-reader.ensures.now)
-    (subst (λ (first : Option (List ℕ)). Ends first (g.K.Sink.taken c.args.sink.now) (g.K.Sink.taken c.run_lines-ending.new.sink) source sink bay (DevicesBack g.B.Bay.faultless ledger closed) (DevicesWanting g.B.Bay.faultless ledger closed) c.run_lines-ending.result ⊎ Shown first (g.K.Sink.taken c.args.sink.now) (g.K.Sink.taken c.run_lines-ending.new.sink))
+    (subst (λ (first : Option (List ℕ)). Ends first (g.K.Sink.taken c.args.sink.now) (g.K.Sink.taken c.run_lines-ending.new.sink) source sink bay (DevicesBack g.B.Bay.faultless ledger closed) (DevicesWanting g.B.Bay.faultless ledger closed) c.run_lines-ending.result)
     (prepend-nothing (held reader) _ (c.with_buffer-reader.ensures.held ∙ c.in-Ok.ensures)) ends)

@@ -1,4 +1,4 @@
-use Rattle.script_laws.proofs.Losses.{formats_lose_none}
+use Rattle.script_run.proofs.Losses.{formats_lose_none}
 use Rattle.script_laws.proofs.laws.formats_lose_none.Goals as goal
 
 pub returns : goal.returns

@@ -1,4 +1,4 @@
-use Rattle.script_laws.proofs.Losses.{losses_stay}
+use Rattle.script_run.proofs.Losses.{losses_stay}
 use Rattle.script_laws.proofs.laws.losses_stay.Goals as goal
 
 pub returns : goal.returns

@@ -1,0 +1,144 @@
+-- What a line makes of an outline.
+use Rattle.std.proofs.Common.{◌≡◌, ℕ, ◌≤◌, List, [], ◌∷◌, ◌++◌, refl, sym, ◌∙◌, ap, subst, arith, Result, Ok, Err}
+use Rattle.std.specs.Prelude.{Option, Some, None, IfOk, IfErr, IsSome, max, option_map}
+use Rattle.std.proofs.lemmas.List.{append-nil}
+use Rattle.ats_disk.specs.Bay.{Return}
+use Rattle.ats_disk.specs.declared.device.Disk.{Ghosts as DiskGhosts}
+use Rattle.dir_table.specs.declared.directory.Directory.{Ghosts as DirectoryGhosts}
+use Rattle.cache_chronicle.specs.declared.chronicle.Chronicle.{Ghosts as ChronicleGhosts}
+use Rattle.tape_base.specs.declared.geometries.BadGeometry.{BadGeometry}
+use Rattle.tape_base.specs.Limits.{first_refusal}
+use Rattle.script_lang.specs.declared.step.Step.{Step}
+use Rattle.script_lang.specs.declared.step.Step.TheVariants as step
+use Rattle.script_lang.specs.declared.answer.Refused.TheVariants as refused
+use Rattle.script_lang.specs.declared.answer.StepAnswer.{StepAnswer}
+use Rattle.script_lang.specs.declared.answer.StepAnswer.TheVariants as answer
+use Rattle.script_run.specs.Run.{Harm, no_harm}
+use Rattle.cache_replay.specs.declared.session.Session.{Session}
+use Rattle.cache_replay.specs.declared.session.Part.{Part}
+use Rattle.cache_replay.specs.declared.stop.Stop.{Stop}
+use Rattle.cache_replay.specs.Outline.{IsAnswered, Outline, begun, begun_by, count_in, joined, outline_after, told_of}
+use Rattle.cache_replay.specs.Session.{AreLater, TellsCount, return_of}
+use Rattle.cache_replay.specs.Stop.{NeedsSession}
+use Rattle.cache_replay.specs.Plays.{AreReached, Deals, IsLeft, IsOutlined, Ledger, Outlines, stays}
+use Rattle.cache_replay.proofs.Dispatch.{no_deals}
+
+-- ---- devices that go on
+
+-- what was told of a device is told of it as it goes on
+pub reached_later : (harms : List Harm) (old new : List Return) → AreLater old new → AreReached harms old → AreReached harms new
+reached_later [] [] [] later h = tt
+reached_later [] [] (d ∷ new) later h = absurd later
+reached_later [] (d ∷ old) new later h = absurd h
+reached_later (harm ∷ harms) [] new later h = absurd h
+reached_later (harm ∷ harms) (d ∷ old) [] later h = absurd later
+reached_later (harm ∷ harms) (d ∷ old) (e ∷ new) later h = (
+  record { counted = omega (arith, h.0.counted, later.0.faults); unharmed = λ trusted. h.0.unharmed (omega (arith, trusted, later.0.trust)) },
+  reached_later harms old new later.1 h.1,
+)
+
+-- a step that works on a session begins none
+begun_none : (o : Outline) (s : Step) → NeedsSession s → begun_by o s ≡ o
+begun_none o (step.Format name segments buckets content agg reach fragment generation alternates) needs = absurd needs
+begun_none o _ needs = refl
+
+module _ {D R C : Type 0} (disk : DiskGhosts D) (directory : DirectoryGhosts R) (chronicle : ChronicleGhosts C) where
+  abbrev Returns : Option (Part D R C) → List Return
+  Returns part = return_of disk directory chronicle part
+
+  -- the count that is told is one that the device reached
+  joins : (session : Option ℕ) (count : ℕ) (old new : Option (Part D R C)) (said : StepAnswer) → count ≡ count_in said → AreLater (Returns old) (Returns new) → TellsCount disk directory chronicle new said
+      → AreReached (told_of session) (Returns old) → AreReached (told_of (option_map (max count) session)) (Returns new)
+  joins session count old None said is later tells h = absurd tells
+  joins None count None (Some b) said is later tells h = absurd later
+  joins None count (Some a) (Some b) said is later tells h = absurd h
+  joins (Some n) count None (Some b) said is later tells h = absurd h
+  joins (Some n) count (Some a) (Some b) said is later tells h = (record { counted = omega (arith, h.0.counted, later.0.faults, tells, is); unharmed = λ trusted. refl }, tt)
+
+  has_session : (session : Option ℕ) (old new : Option (Part D R C)) (said : StepAnswer) → AreLater (Returns old) (Returns new) → TellsCount disk directory chronicle new said → AreReached (told_of session) (Returns old) → IsSome session
+  has_session session old None said later tells h = absurd tells
+  has_session None None (Some b) said later tells h = absurd later
+  has_session None (Some a) (Some b) said later tells h = absurd h
+  has_session (Some n) old (Some b) said later tells h = refl
+
+  no_session : (session : Option ℕ) (count : ℕ) → IsSome session → session ≡ None → count ≡ 0
+  no_session None count some none = cc
+  no_session (Some n) count some none = cc
+
+  -- a line on a session
+  session_outlines : (o : Outline) (s : Step) (old new : Session D R C) (said : StepAnswer) (ledger : Ledger) → NeedsSession s → AreLater (Returns old.part) (Returns new.part) → TellsCount disk directory chronicle new.part said
+      → IsOutlined disk directory chronicle o old → Outlines disk directory chronicle o s new said ledger ledger
+  session_outlines o s old new said ledger needs later tells h =
+      let same : begun_by o s ≡ o = begun_none o s needs in
+      let after : outline_after o s said ≡ joined o (count_in said) = ap (λ x. joined x (count_in said)) same in
+      let some : IsSome o.session = has_session o.session old.part new.part said later tells h in
+      record {
+        answered = record { session = λ x. some; none = λ none. no_session o.session (count_in said) some (ap (λ (x : Outline). x.session) (sym same) ∙ none) };
+        outlined = subst (λ (x : Outline). AreReached (told_of x.session) (Returns new.part)) (sym after) (joins o.session (count_in said) old.part new.part said refl later tells h);
+        harms = [];
+        ended = ap (λ (x : Outline). x.ended) after ∙ sym (append-nil o.ended);
+        names = [];
+        named = ap (λ (x : Outline). x.names) after ∙ sym (append-nil o.names);
+        deals = no_deals ledger;
+      }
+
+  pub all_outlines : (result : Result StepAnswer Stop) (s : Step) (old new : Session D R C) (ledger : Ledger) → NeedsSession s → AreLater (Returns old.part) (Returns new.part)
+      → IfOk result (TellsCount disk directory chronicle new.part)
+      → IfOk result (λ said. (o : Outline) → IsOutlined disk directory chronicle o old → Outlines disk directory chronicle o s new said ledger ledger)
+  all_outlines (Ok said) s old new ledger needs later tells = λ o h. session_outlines o s old new said ledger needs later tells h
+  all_outlines (Err why) s old new ledger needs later tells = tt
+
+  pub all_left : (result : Result StepAnswer Stop) (s : Step) (old new : Session D R C) (ledger : Ledger) → AreLater (Returns old.part) (Returns new.part)
+      → IfErr result (λ why. (harms : List Harm) → AreReached harms (Returns old.part) → IsLeft disk directory chronicle harms s new ledger ledger why)
+  all_left (Ok said) s old new ledger later = tt
+  all_left (Err why) s old new ledger later = λ harms h. stays (reached_later harms (Returns old.part) (Returns new.part) later h) refl
+
+  -- what is told of a device by the count 0
+  joins_none : (session : Option ℕ) (returns : List Return) → AreReached (told_of session) returns → AreReached (told_of (option_map (max 0) session)) returns
+  joins_none None returns h = h
+  joins_none (Some n) [] h = absurd h
+  joins_none (Some n) (d ∷ returns) h = (record { counted = omega (arith, h.0.counted); unharmed = λ trusted. refl }, h.1)
+
+  -- a line that begins no session and tells no count
+  still_outlines : (o : Outline) (s : Step) (new : Session D R C) (said : StepAnswer) (ledger : Ledger) → (NeedsSession s → ⊥) → begun_by o s ≡ o → count_in said ≡ 0 → AreReached (told_of o.session) (Returns new.part)
+      → Outlines disk directory chronicle o s new said ledger ledger
+  still_outlines o s new said ledger free same none h =
+      let after : outline_after o s said ≡ joined o 0 = ap (λ x. joined x (count_in said)) same ∙ ap (joined o) none in
+      record {
+        answered = record { session = λ needs. absurd (free needs); none = λ gone. none };
+        outlined = subst (λ (x : Outline). AreReached (told_of x.session) (Returns new.part)) (sym after) (joins_none o.session (Returns new.part) h);
+        harms = [];
+        ended = ap (λ (x : Outline). x.ended) after ∙ sym (append-nil o.ended);
+        names = [];
+        named = ap (λ (x : Outline). x.names) after ∙ sym (append-nil o.names);
+        deals = no_deals ledger;
+      }
+
+  -- the moment is set
+  pub moment_outlines : (o : Outline) (at : ℕ) (old new : Session D R C) (said : StepAnswer) (ledger : Ledger) → said ≡ answer.Now at → new.part ≡ old.part → IsOutlined disk directory chronicle o old
+      → Outlines disk directory chronicle o (step.Now at) new said ledger ledger
+  moment_outlines o at old new said ledger is same h =
+      still_outlines o (step.Now at) new said ledger (λ needs. needs) refl (ap count_in is) (subst (λ part. AreReached (told_of o.session) (Returns part)) (sym same) h)
+
+  -- numbers that are refused change nothing
+  pub refused_outlines : (o : Outline) (name : List ℕ) (segments buckets content agg reach fragment generation alternates number : ℕ) (bad : BadGeometry) (session : Session D R C) (ledger : Ledger)
+      → first_refusal segments buckets content agg reach fragment alternates ≡ Some bad → IsOutlined disk directory chronicle o session
+      → Outlines disk directory chronicle o (step.Format name segments buckets content agg reach fragment generation alternates) session (answer.Refused (refused.Geometry number) None) ledger ledger
+  refused_outlines o name segments buckets content agg reach fragment generation alternates number bad session ledger is h =
+      still_outlines o (step.Format name segments buckets content agg reach fragment generation alternates) session (answer.Refused (refused.Geometry number) None) ledger (λ needs. needs) (ap (begun o name) is) refl h
+
+  -- a session begins
+  pub format_outlines : (o : Outline) (name : List ℕ) (segments buckets content agg reach fragment generation alternates cursor floor : ℕ) (new : Session D R C) (before now : Ledger)
+      → first_refusal segments buckets content agg reach fragment alternates ≡ None → AreReached (no_harm ∷ []) (Returns new.part) → Deals before now (told_of o.session) (name ∷ [])
+      → Outlines disk directory chronicle o (step.Format name segments buckets content agg reach fragment generation alternates) new (answer.Formatted 1 cursor floor) before now
+  format_outlines o name segments buckets content agg reach fragment generation alternates cursor floor new before now is h deals =
+      let after : outline_after o (step.Format name segments buckets content agg reach fragment generation alternates) (answer.Formatted 1 cursor floor) ≡ joined (begun o name None) 0 = ap (λ x. joined (begun o name x) 0) is in
+      record {
+        answered = record { session = λ needs. absurd needs; none = λ gone. refl };
+        outlined = subst (λ (x : Outline). AreReached (told_of x.session) (Returns new.part)) (sym after) (joins_none (Some 0) (Returns new.part) h);
+        harms = told_of o.session;
+        ended = ap (λ (x : Outline). x.ended) after;
+        names = name ∷ [];
+        named = ap (λ (x : Outline). x.names) after;
+        deals = deals;
+      }

@@ -1,0 +1,85 @@
+-- The answers of a run, and its outline.
+use Rattle.std.proofs.Common.{◌≡◌, ℕ, List, [], ◌∷◌, ◌++◌, refl, sym, ◌∙◌, ap, arith}
+use Rattle.std.specs.Prelude.{All, Option, Some, None, max, option_map}
+use Rattle.std.proofs.lemmas.List.Elements.{All-append, All-cons, All-head, All-nil, All-tail}
+use Rattle.tape_base.specs.declared.geometries.BadGeometry.{BadGeometry}
+use Rattle.tape_base.specs.Limits.{first_refusal}
+use Rattle.script_lang.specs.declared.line.LineAnswer.{LineAnswer}
+use Rattle.script_lang.specs.declared.line.LineAnswer.TheVariants as line
+use Rattle.script_lang.specs.declared.step.Step.{Step}
+use Rattle.script_lang.specs.declared.step.Step.TheVariants as step
+use Rattle.script_lang.specs.declared.answer.StepAnswer.{StepAnswer}
+use Rattle.script_lang.specs.Grammar.{reading_of}
+use Rattle.script_run.specs.Run.{Harm, Run}
+use Rattle.script_run.specs.Turn.{Turn}
+use Rattle.script_run.specs.Behind.{after_line}
+use Rattle.script_run.specs.Takes.{output_of, reading_text}
+use Rattle.cache_replay.specs.Outline.{Outline, all_told, begun, begun_by, count_in, told, told_of}
+use Rattle.cache_replay.specs.Lines.{AreAnswered, IsReadAs, TellsNone, answers_of, outline_of, outline_read, reading_answer, text_of, texts_of}
+
+-- ---- what is printed
+
+same_text : (run : Run) (turn : Turn) (read : LineAnswer) → text_of (reading_answer run turn read) ≡ reading_text run turn read
+same_text run turn (line.Step step) = refl
+same_text run turn line.Nothing = refl
+same_text run turn (line.Bad fault) = refl
+
+pub texts_are_output : (run : Run) (lines : List (List ℕ)) (turns : List Turn) → texts_of (answers_of run lines turns) ≡ output_of run lines turns
+texts_are_output run [] turns = refl
+texts_are_output run (bytes ∷ lines) [] = refl
+texts_are_output run (bytes ∷ lines) (turn ∷ turns) =
+    ap (λ text. text ++ texts_of (answers_of (after_line run turn bytes) lines turns)) (same_text run turn (reading_of bytes))
+    ∙ ap (λ rest. reading_text run turn (reading_of bytes) ++ rest) (texts_are_output (after_line run turn bytes) lines turns)
+
+-- ---- counts that are all 0
+
+pub All-front : {X : Type 0} (P : X → Type 0) (xs ys : List X) → All P (xs ++ ys) → All P xs
+All-front P [] ys all = All-nil P
+All-front P (x ∷ xs) ys all = All-cons P x xs (All-head P x (xs ++ ys) all) (All-front P xs ys (All-tail P x (xs ++ ys) all))
+
+pub All-behind : {X : Type 0} (P : X → Type 0) (xs ys : List X) → All P (xs ++ ys) → All P ys
+All-behind P [] ys all = all
+All-behind P (x ∷ xs) ys all = All-behind P xs ys (All-tail P x (xs ++ ys) all)
+
+abbrev IsNone : Harm → Type 0
+IsNone harm = harm.fault ≡ 0
+
+-- the greater of two counts is 0
+joined_none : (ended : List Harm) (session : Option ℕ) (count : ℕ) → All IsNone (ended ++ told_of (option_map (max count) session)) → All IsNone (ended ++ told_of session) × ((session ≡ None → count ≡ 0) → count ≡ 0)
+joined_none ended None count all = (all, λ none. none refl)
+joined_none ended (Some n) count all =
+    let last : max count n ≡ 0 = All-head IsNone (told (max count n)) [] (All-behind IsNone ended (told (max count n) ∷ []) all) in
+    let mine : n ≡ 0 = omega (arith, last) in
+    (All-append IsNone ended (told n ∷ []) (All-front IsNone ended (told (max count n) ∷ []) all) (All-cons IsNone (told n) [] mine (All-nil IsNone)), λ none. omega (arith, last))
+
+-- so it was before a session began
+begun_none : (o : Outline) (name : List ℕ) (bad : Option BadGeometry) → All IsNone (all_told (begun o name bad)) → All IsNone (all_told o)
+begun_none o name None all = All-front IsNone (all_told o) (told_of (Some 0)) all
+begun_none o name (Some bad) all = all
+
+begun_by_none : (o : Outline) (step : Step) → All IsNone (all_told (begun_by o step)) → All IsNone (all_told o)
+begun_by_none o (step.Format name segments buckets content agg reach fragment generation alternates) all = begun_none o name (first_refusal segments buckets content agg reach fragment alternates) all
+begun_by_none o _ all = all
+
+-- no line before told a fault, nor does this one
+read_none : (o : Outline) (read : LineAnswer) (said : Option StepAnswer) → IsReadAs o read said → All IsNone (all_told (outline_read o read said)) → TellsNone said × All IsNone (all_told o)
+read_none o (line.Step step) (Some said) is all =
+    let here = joined_none (begun_by o step).ended (begun_by o step).session (count_in said) all in
+    (here.1 is.none, begun_by_none o step here.0)
+read_none o (line.Step step) None is all = absurd is
+read_none o line.Nothing None is all = (tt, all)
+read_none o line.Nothing (Some said) is all = absurd is
+read_none o (line.Bad fault) said is all = absurd is
+
+all_none : (o : Outline) (lines : List (List ℕ)) (answers : List (Option StepAnswer)) → AreAnswered o lines answers → All IsNone (all_told (outline_of o lines answers))
+    → All TellsNone answers × All IsNone (all_told o)
+all_none o [] [] are all = (All-nil TellsNone, all)
+all_none o [] (said ∷ answers) are all = absurd are
+all_none o (bytes ∷ lines) [] are all = absurd are
+all_none o (bytes ∷ lines) (said ∷ answers) are all =
+    let rest = all_none (outline_read o (reading_of bytes) said) lines answers are.1 all in
+    let here = read_none o (reading_of bytes) said are.0 rest.1 in
+    (All-cons TellsNone said answers here.0 rest.0, here.1)
+
+pub counts_are_kept : (o : Outline) (lines : List (List ℕ)) (answers : List (Option StepAnswer)) → AreAnswered o lines answers → All IsNone (all_told (outline_of o lines answers)) → All TellsNone answers
+counts_are_kept o lines answers are all = (all_none o lines answers are all).0

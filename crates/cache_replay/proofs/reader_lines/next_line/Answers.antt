@@ -1,0 +1,9 @@
+use Rattle.cache_replay.proofs.OnPart.{line_device, no_device}
+use Rattle.cache_replay.proofs.reader_lines.next_line.Goals as goal
+
+pub returns-in-Some-clause-device : goal.returns-in-Some-clause-device
+returns-in-Some-clause-device g c =
+    line_device g.D.Disk g.R.Directory g.C.Chronicle c.args.session.now c.in-Some.part c.next.new.part c.in-Some.is c.next.ensures.later c.next.ensures.trust
+
+pub returns-in-None-clause-device : goal.returns-in-None-clause-device
+returns-in-None-clause-device g c = no_device g.D.Disk g.R.Directory g.C.Chronicle c.args.session.now c.in-None.is

@@ -1,0 +1,94 @@
+-- What the answers of a run tell of its devices, whatever its records are worth: whether a session stands, which
+-- devices were given back, and up to which count their faults were told.
+use Rattle.std.specs.Prelude.{ℕ, ◌≡◌, max, false, List, [], ◌∷◌, ◌++◌, All, IsSome, Option, Some, None, option_map, ⊤}
+use Rattle.tape_base.specs.declared.geometries.BadGeometry.{BadGeometry}
+use Rattle.tape_base.specs.Limits.{first_refusal}
+use Rattle.cache_model.specs.declared.cause.Cause.{Cause}
+use Rattle.cache_model.specs.declared.cause.Cause.TheVariants as cause
+use Rattle.stripe_core.specs.declared.refusal.Refusal.{Refusal}
+use Rattle.stripe_core.specs.declared.refusal.Refusal.TheVariants as refusal
+use Rattle.script_lang.specs.declared.step.Step.{Step}
+use Rattle.script_lang.specs.declared.step.Step.TheVariants as step
+use Rattle.script_lang.specs.declared.answer.Refused.{Refused}
+use Rattle.script_lang.specs.declared.answer.Refused.TheVariants as refused
+use Rattle.script_lang.specs.declared.answer.StepAnswer.{StepAnswer}
+use Rattle.script_lang.specs.declared.answer.StepAnswer.TheVariants as answer
+use Rattle.script_run.specs.Run.{Harm}
+use Rattle.cache_replay.specs.Stop.{NeedsSession}
+
+-- ---- the counts that answers tell
+
+-- the count of a cause that is a device fault; 0 of any other
+abbrev pub count_of : Cause → ℕ
+count_of (cause.DeviceFault count) = count
+count_of _ = 0
+
+-- that of the cause for which a fragment is lost; 0 of any other refusal
+abbrev pub count_in_refusal : Refused → ℕ
+count_in_refusal (refused.Lost index why) = count_of why
+count_in_refusal _ = 0
+
+-- the count of the device fault that an answer tells; 0 where it tells none
+abbrev pub count_in : StepAnswer → ℕ
+count_in (answer.Miss why) = count_of why
+count_in (answer.Broken why) = count_of why
+count_in (answer.Absent why) = count_of why
+count_in (answer.Refused why took) = count_in_refusal why
+count_in (answer.DeviceFault count took) = count
+count_in _ = 0
+
+-- that of a refusal of a stripe
+abbrev pub count_of_refusal : Refusal → ℕ
+count_of_refusal (refusal.DeviceFault count) = count
+count_of_refusal (refusal.Lost index why) = count_of why
+count_of_refusal _ = 0
+
+-- ---- outlines
+
+-- the greatest count that was told of the session's device, where there is a session; what was told of each device
+-- that was given back; and the name of each device that was attached
+pub record Outline : Type 0 where
+  pub session : Option ℕ
+  pub ended : List Harm
+  pub names : List (List ℕ)
+
+-- before the first line
+abbrev pub blank : Outline
+blank = record { session = None; ended = []; names = [] }
+
+-- what a count tells of a device; of damage it tells nothing
+abbrev pub told : ℕ → Harm
+told count = record { fault = count; damaged = false }
+
+-- of the device of a session, where there is one
+abbrev pub told_of : Option ℕ → List Harm
+told_of None = []
+told_of (Some count) = told count ∷ []
+
+-- of all devices, once the last one is given back
+abbrev pub all_told : Outline → List Harm
+all_told o = o.ended ++ told_of o.session
+
+-- a format whose numbers are accepted ends the session before it, and begins one on the device of its name
+abbrev pub begun : Outline → List ℕ → Option BadGeometry → Outline
+begun o name (Some bad) = o
+begun o name None = record { session = Some 0; ended = all_told o; names = o.names ++ name ∷ [] }
+
+-- no other step ends a session, or begins one
+abbrev pub begun_by : Outline → Step → Outline
+begun_by o (step.Format name segments buckets content agg reach fragment generation alternates) =
+    begun o name (first_refusal segments buckets content agg reach fragment alternates)
+begun_by o _ = o
+
+-- a count that is told of the session's device
+abbrev pub joined : Outline → ℕ → Outline
+joined o count = record { session = option_map (max count) o.session; ended = o.ended; names = o.names }
+
+-- the outline behind a step, by its answer
+abbrev pub outline_after : Outline → Step → StepAnswer → Outline
+outline_after o step said = joined (begun_by o step) (count_in said)
+
+-- a step that needs a session is answered where there is one, and no fault is told where there is none behind it
+pub record IsAnswered (o : Outline) (step : Step) (said : StepAnswer) : Type 0 where
+  pub session : NeedsSession step → IsSome o.session
+  pub none : (begun_by o step).session ≡ None → count_in said ≡ 0

@@ -1,0 +1,49 @@
+-- What is refused, whether or not two documents of one SHA-256 are shown.
+use Rattle.std.proofs.Common.{◌≡◌, ℕ, Bool, List, ◌∷◌, Option, None, arith, take, subst}
+use Rattle.doc_header.specs.Reading.{extent_of}
+use Rattle.cache_model.specs.Pair.{Documents, IsPairOf}
+use Rattle.cache_model.specs.Permit.{Permit}
+use Rattle.cache_model.specs.State.{Row, State}
+use Rattle.tape_base.specs.Digest.{Collide}
+use Rattle.script_lang.specs.declared.line.BadLine.{BadLine}
+use Rattle.script_lang.specs.declared.last.LastLine.{LastLine}
+use Rattle.script_lang.specs.declared.last.LastLine.TheVariants as last
+use Rattle.script_lang.specs.declared.step.Step.{Step}
+use Rattle.script_run.specs.Run.{Run}
+use Rattle.script_run.specs.Turn.{Turn}
+use Rattle.script_run.specs.Takes.{StepShows}
+use Rattle.cache_replay.specs.Outline.{Outline}
+use Rattle.cache_replay.specs.Plays.{Ledger}
+use Rattle.cache_tool.specs.declared.top.Status.{Status}
+use Rattle.cache_tool.specs.declared.top.Status.TheVariants as status
+use Rattle.cache_tool.specs.Story.{Because, Counts, IsBadLine}
+use Rattle.cache_tool.specs.Top.{EndsEarly, status_of}
+
+-- numbers above 255 are no side of a pair, whatever their digest is
+no_numbers : (IsPlaced : Documents) (p : Permit) (s : State) (row : Row) (pair : IsPairOf IsPlaced p s row) (rest : List ℕ)
+    → take (extent_of pair.bytes) pair.bytes ≡ 83 ∷ 339 ∷ rest → ⊥
+no_numbers IsPlaced p s row pair rest given =
+    let c : Collide (83 ∷ 339 ∷ rest) pair.document = subst (λ g. Collide g pair.document) given pair.collide in
+    let small = c.bytes 1 in
+    absurd (omega (arith, small))
+
+-- without a session no line shows a pair
+none_shown : (run : Run) (turn : Turn) (step : Step) → run.state ≡ None → StepShows run turn run.state step → ⊥
+none_shown run turn step none shows = subst (λ o. StepShows run turn o step) none shows
+
+module _ (first old new : Option (List ℕ)) (source sink bay : Counts) (faultless : Bool) (before now : Ledger) where
+  abbrev Early : Status → Type 0
+  Early s = EndsEarly first old new source sink bay faultless before now s
+
+  bad_because : (unread : Option (List ℕ)) (given : ℕ) (o : Outline) (why : LastLine) → status.BadScript ≡ status_of why → Because source bay unread given o why → (fault : BadLine) × IsBadLine given unread fault
+  bad_because unread given o (last.BadScript number fault) said because = (fault, because.1)
+  bad_because unread given o last.Usage said because = cc
+  bad_because unread given o last.ReadFault said because = cc
+  bad_because unread given o last.BayFault said because = cc
+  bad_because unread given o (last.LineTooLong number) said because = cc
+  bad_because unread given o last.TooManyLines said because = cc
+  bad_because unread given o (last.NoCache number) said because = cc
+
+  -- the script is told to be bad only where a line is
+  bad_is_told : (e : Early status.BadScript) → (fault : BadLine) × IsBadLine e.upto.given e.upto.unread fault
+  bad_is_told e = bad_because e.upto.unread e.upto.given _ e.why e.said e.upto.story.behind
