@@ -1,0 +1,11 @@
+pub mod Gathering
+pub mod Purged
+pub mod Segments
+pub mod Phasing
+pub mod Enters
+pub mod Beginning
+pub mod Cleaning
+pub mod Under
+pub mod Chained
+pub mod Leaves
+pub mod Readable

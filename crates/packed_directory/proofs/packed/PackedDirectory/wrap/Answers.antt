@@ -1,0 +1,27 @@
+use Rattle.std.proofs.Common.{◌≤◌}
+use Rattle.packed_directory.specs.Phases.{least_place}
+use Rattle.packed_directory.proofs.Cleaning.{turned_is_packed, turned_rows, least_by_floor}
+use Rattle.packed_directory.proofs.packed.PackedDirectory.wrap.Goals as goal
+
+pub invariant_of-self-2 : goal.invariant_of-self-2
+invariant_of-self-2 c =
+    let d = c.self.inside in
+    let g = d.beside.geometry in
+    let begun = rw (← c.self.view_is) at c.requires.turn.begun in
+    let readable = rw (← c.self.view_is) at c.requires.turn.readable in
+    let least : least_place g c.args.cursor ≤ c.args.floor = least_by_floor g c.args.cursor c.args.floor begun readable in
+    record {
+      packed = turned_is_packed g d.beside.cursor d.floor d.end c.args.cursor c.args.floor d.beside.bounds.first begun least d.segments.items c.clean_all.new.segments.items c.self.invariant.packed c.clean_all.ensures c.requires.turn.low;
+      made = c.self.invariant.made;
+      room = c.self.invariant.room;
+    }
+
+pub returns-clause-rows : goal.returns-clause-rows
+returns-clause-rows c =
+    let d = c.self.inside in
+    let g = d.beside.geometry in
+    let begun = rw (← c.self.view_is) at c.requires.turn.begun in
+    let readable = rw (← c.self.view_is) at c.requires.turn.readable in
+    let above = rw (← c.self.view_is) at c.requires.above in
+    let least : least_place g c.args.cursor ≤ c.args.floor = least_by_floor g c.args.cursor c.args.floor begun readable in
+    rw (← c.self.view_is) (turned_rows g d.beside.cursor d.floor d.end c.args.cursor c.args.floor d.beside.bounds.first begun least d.segments.items c.clean_all.new.segments.items c.self.invariant.packed c.clean_all.ensures above)

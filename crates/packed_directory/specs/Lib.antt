@@ -1,0 +1,15 @@
+pub mod Cleaned
+pub mod Entering
+pub mod Leaving
+pub mod Packed
+pub mod PackedWalks
+pub mod Packing
+pub mod Phases
+pub mod StoredRows
+pub use Rattle.dir_entry.specs.Layout
+pub use Rattle.dir_entry.specs.Sizes
+pub use Rattle.dir_segment.specs.Entries
+pub use Rattle.dir_segment.specs.Image
+pub use Rattle.dir_segment.specs.Lists
+pub use Rattle.tape_base.specs.Key
+pub use Rattle.tape_base.specs.Place

@@ -1,0 +1,144 @@
+-- What a contract sees of a `PackedDirectory`.
+use Rattle.std.specs.Prelude.{ℕ, ◌≡◌, ◌+◌, ◌≤◌, ◌<◌, Bool, true, false, List, [], ◌∷◌, ◌++◌, length, map, replicate, slice_index_or}
+use Rattle.std.specs.List.{All}
+use Rattle.std.specs.List.Sorted.{IsPermutation}
+use Rattle.tape_base.specs.declared.geometries.Geometry.{Geometry}
+use Rattle.tape_base.specs.declared.keys.Key.{Key}
+use Rattle.tape_base.specs.Key.{segment_of, bucket_of, tag_of}
+use Rattle.tape_base.specs.Place.{lap_of, floor_of}
+use Rattle.dir_entry.specs.Sizes.{IsLeastClass}
+use Rattle.dir_entry.specs.declared.entry.Entry.{Entry}
+use Rattle.dir_segment.specs.Lists.{Lists, new_lists, entry_count, IsFull}
+use Rattle.dir_segment.specs.Purging.{tenth_of}
+use Rattle.packed_directory.specs.declared.rows.StoredRow.{StoredRow}
+use Rattle.packed_directory.specs.Entering.{entries_from}
+use Rattle.packed_directory.specs.Phases.{IsCursor, least_place, place_of_entry, has_block, stands_between}
+use Rattle.packed_directory.specs.StoredRows.{rows_of_segments}
+
+-- what the last insert pushed out: the places, their segment, and how many rows that had before
+pub record PushedOut : Type 0 where
+  pub places : List ℕ
+  pub segment : ℕ
+  pub live : ℕ
+
+-- nothing was pushed out
+abbrev pub none_out : PushedOut
+none_out = record { places = []; segment = 0; live = 0 }
+
+-- the segments, beside the cursor at which the buffer begins, the least readable place and the end of
+-- the piece that was entered last
+pub record Packed : Type 0 where
+  pub geometry : Geometry
+  pub cursor : ℕ
+  pub floor : ℕ
+  pub end : ℕ
+  pub segments : List Lists
+  pub out : PushedOut
+
+-- the rows that it stands for, segment by segment
+abbrev pub packed_rows : Packed → List StoredRow
+packed_rows d = rows_of_segments d.geometry d.cursor 0 d.segments
+
+-- nothing is entered yet
+abbrev pub first_packed : Geometry → List Lists → Packed
+first_packed g segments = record {
+  geometry = g;
+  cursor = g.content;
+  floor = floor_of g g.content;
+  end = g.content;
+  segments = segments;
+  out = none_out;
+}
+
+-- each entry of a segment stands for a place from one place on and below another
+abbrev pub AreBetween : Geometry → ℕ → ℕ → ℕ → Lists → Type 0
+AreBetween g cursor low high lists = All (λ it. stands_between g cursor low high it.entry ≡ true) (entries_from 0 lists.chains)
+
+-- each entry stands for one place that may be read: it is there once its phase is read beside the cursor
+pub record IsPacked (g : Geometry) (cursor floor end : ℕ) (segments : List Lists) : Type 0 where
+  pub begun : IsCursor g.content cursor
+  pub readable : (least_place g cursor ≤ floor) × (floor ≤ cursor)
+  pub behind : cursor ≤ end
+  pub count : length segments ≡ g.segments
+  pub widths : All (λ lists. length lists.chains ≡ g.buckets) segments
+  pub between : All (AreBetween g cursor floor end) segments
+
+-- a row stands at a place that may be read, in the cursor's lap or in the one before
+pub record IsReadable (g : Geometry) (cursor floor end : ℕ) (row : StoredRow) : Type 0 where
+  pub low : floor ≤ row.place
+  pub high : row.place < end
+  pub lap : lap_of g row.place ≤ lap_of g cursor
+
+-- a piece may begin at this place: behind the last piece, and in the cursor's lap
+pub record MayBegin (d : Packed) (place : ℕ) : Type 0 where
+  pub behind : d.end ≤ place
+  pub below : place < d.cursor + d.geometry.agg
+  pub lap : lap_of d.geometry place ≡ lap_of d.geometry d.cursor
+
+-- a segment by its number; behind the last one an empty one
+abbrev pub segment_at : List Lists → ℕ → Lists
+segment_at segments n = slice_index_or segments n (record { chains = []; free = [] })
+
+-- only where the row's bucket is full rows go out, a tenth of all that can stand behind roots
+abbrev pub GoesOut : Bool → Geometry → Lists → StoredRow → List StoredRow → Type 0
+GoesOut true g lists row gone =
+    IsFull lists row.bucket × (length gone ≡ tenth_of g.buckets) × All (λ r. r.segment ≡ row.segment) gone
+GoesOut false g lists row gone = (IsFull lists row.bucket → ⊥) × (gone ≡ [])
+
+-- a row is taken in, and others go out
+pub record TakesRow (row : StoredRow) (gone before after : List StoredRow) : Type 0 where
+  pub left : List StoredRow
+  pub parted : IsPermutation before (gone ++ left)
+  pub entered : IsPermutation (row ∷ left) after
+
+-- a row goes into its segment
+pub record EntersRow (g : Geometry) (cursor : ℕ) (row : StoredRow) (purged : Bool) (out : List Entry) (before after : List Lists) : Type 0 where
+  pub gone : List StoredRow
+  pub takes : TakesRow row gone (rows_of_segments g cursor 0 before) (rows_of_segments g cursor 0 after)
+  pub told : map (λ r. r.place) gone ≡ map (place_of_entry g cursor) out
+  pub due : GoesOut purged g (segment_at before row.segment) row gone
+  pub count : length after ≡ length before
+  pub widths : All (λ lists. length lists.chains ≡ g.buckets) after
+  pub between : (low high : ℕ) → All (AreBetween g cursor low high) before → low ≤ row.place → row.place < high
+      → All (AreBetween g cursor low high) after
+  pub blocks : (low high : ℕ) → All (AreBetween g cursor low high) before → All (λ e. has_block g e ≡ true) out
+
+-- the segments of a new directory
+abbrev pub new_segments : Geometry → List Lists
+new_segments g = replicate g.segments (new_lists g.buckets)
+
+-- what an insert is told of a piece, beside its key and its place
+pub record PieceEntered : Type 0 where
+  pub blocks : ℕ
+  pub head : Bool
+  pub pinned : Bool
+
+-- the row of a piece: the least class that holds its blocks, whether it is a vector, whether pinned
+pub record IsRowOf (g : Geometry) (key : Key) (place : ℕ) (piece : PieceEntered) (row : StoredRow) : Type 0 where
+  pub segment : row.segment ≡ segment_of g key
+  pub bucket : row.bucket ≡ bucket_of g key
+  pub tag : row.tag ≡ tag_of key
+  pub there : row.place ≡ place
+  pub class : IsLeastClass piece.blocks row.big row.size
+  pub head : row.head ≡ piece.head
+  pub pinned : row.pinned ≡ piece.pinned
+  pub token : row.token ≡ false
+
+-- an insert: the row of the piece is taken in, and what had to go for it is told
+pub record Inserts (key : Key) (place : ℕ) (piece : PieceEntered) (before after : Packed) : Type 0 where
+  pub row : StoredRow
+  pub gone : List StoredRow
+  pub is : IsRowOf before.geometry key place piece row
+  pub takes : TakesRow row gone (packed_rows before) (packed_rows after)
+  pub purged : Bool
+  pub due : GoesOut purged before.geometry (segment_at before.segments row.segment) row gone
+  pub places : after.out.places ≡ map (λ r. r.place) gone
+  pub told : after.out.segment ≡ row.segment
+  pub live : after.out.live ≡ entry_count (segment_at before.segments row.segment).chains
+
+-- the tape stays as it is, but for the end of the last piece
+pub record KeepsTape (end : ℕ) (before after : Packed) : Type 0 where
+  pub geometry : after.geometry ≡ before.geometry
+  pub cursor : after.cursor ≡ before.cursor
+  pub floor : after.floor ≡ before.floor
+  pub ended : after.end ≡ end

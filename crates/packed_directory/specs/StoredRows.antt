@@ -1,0 +1,58 @@
+-- An entry of a chain as a row, and a row as an entry.
+use Rattle.std.specs.Prelude.{ℕ, ◌+◌, ◌==◌, ◌&&◌, nat_le, Bool, suc, List, [], ◌∷◌, ◌++◌, map, filter}
+use Rattle.tape_base.specs.declared.geometries.Geometry.{Geometry}
+use Rattle.tape_base.specs.declared.keys.Key.{Key}
+use Rattle.tape_base.specs.Key.{segment_of, bucket_of, tag_of}
+use Rattle.tape_base.specs.Place.{slot_of, phase_of}
+use Rattle.dir_entry.specs.declared.entry.Entry.{Entry}
+use Rattle.dir_segment.specs.Lists.{Lists}
+use Rattle.packed_directory.specs.declared.rows.StoredRow.{StoredRow}
+use Rattle.packed_directory.specs.Phases.{place_of_entry}
+use Rattle.packed_directory.specs.Entering.{entries_from}
+
+-- the row of an entry in a bucket of a segment
+abbrev pub row_of_entry : Geometry → ℕ → ℕ → ℕ → Entry → StoredRow
+row_of_entry g cursor segment bucket e = record {
+  segment = segment;
+  bucket = bucket;
+  tag = e.tag;
+  place = place_of_entry g cursor e;
+  big = e.big;
+  size = e.size;
+  head = e.head;
+  pinned = e.pinned;
+  token = e.token;
+}
+
+-- the entry of a row, without a link
+abbrev pub entry_of_row : Geometry → StoredRow → Entry
+entry_of_row g row = record {
+  offset = slot_of g row.place + 1;
+  big = row.big;
+  size = row.size;
+  tag = row.tag;
+  phase = phase_of g row.place;
+  head = row.head;
+  pinned = row.pinned;
+  token = row.token;
+  next = 0;
+}
+
+-- the rows of a segment, by bucket and along each chain
+abbrev pub rows_of_segment : Geometry → ℕ → ℕ → Lists → List StoredRow
+rows_of_segment g cursor segment lists =
+    map (λ it. row_of_entry g cursor segment it.bucket it.entry) (entries_from 0 lists.chains)
+
+-- the rows of the segments from one on, segment by segment
+abbrev pub rows_of_segments : Geometry → ℕ → ℕ → List Lists → List StoredRow
+rows_of_segments g cursor segment [] = []
+rows_of_segments g cursor segment (lists ∷ rest) =
+    rows_of_segment g cursor segment lists ++ rows_of_segments g cursor (suc segment) rest
+
+-- the rows at a place or above, in their order
+abbrev pub stored_from : ℕ → List StoredRow → List StoredRow
+stored_from low rows = filter (λ r. nat_le low r.place) rows
+
+-- the row stands under the segment, the bucket and the tag of a key
+abbrev pub is_under : Geometry → Key → StoredRow → Bool
+is_under g key row = row.segment == segment_of g key && (row.bucket == bucket_of g key && row.tag == tag_of key)

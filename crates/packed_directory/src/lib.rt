@@ -1,0 +1,12 @@
+//! A directory whose rows are entries of ten bytes in segments, as they stand on a device.
+#![tactic(auto)]
+
+mod beside;
+mod packed;
+mod rows;
+mod space;
+mod walks;
+
+pub use packed::PackedDirectory;
+pub use rows::StoredRow;
+pub use walks::PackedWalk;

@@ -1,0 +1,266 @@
+// A directory of packed entries.
+ghost use Rattle.std.specs.Prelude.{◌≡◌, ℕ, ◌+◌, ◌<◌, ◌≤◌, true, false, length, map, All, IfOk, vec_capacity};
+ghost use Rattle.dir_entry.specs.Layout.{IsEntry};
+ghost use Rattle.dir_entry.specs.Sizes.{IsLeastClass};
+ghost use Rattle.std.specs.List.{list_any};
+ghost use Rattle.tape_base.specs.Place.{lap_of};
+ghost use Rattle.packed_directory.specs.Leaving.{is_stored, LosesRow, TakesOut};
+ghost use Rattle.packed_directory.specs.Phases.{least_place, place_of_entry, has_block};
+ghost use Rattle.packed_directory.specs.StoredRows.{entry_of_row, stored_from};
+ghost use Rattle.dir_segment.specs.Lists.{ticked};
+ghost use Rattle.packed_directory.specs.PackedWalks.{IsWalk, places_ahead, places_under, steps_ahead, GivesOn};
+ghost use Rattle.packed_directory.specs.Cleaned.{AreCleaned, MayTurn};
+ghost use Rattle.packed_directory.specs.Packed.{packed_rows, AreBetween, EntersRow, first_packed, new_segments, MayBegin, Inserts, KeepsTape};
+
+use crate::beside::{Beside, entry_of};
+use crate::rows::StoredRow;
+use crate::space::{clean, take_in};
+use crate::walks::PackedWalk;
+use dir_entry::size_class;
+use dir_segment::{PurgeList, Segment, delete_takes};
+use std::alloc::{AllocError, Global};
+use std::marker::Model;
+use tape_base::{Geometry, Key, Steps, floor_of, lap, phase, slot};
+
+/// Segments whose entries are the rows, each at its place.
+#[derive(Drop)]
+pub struct PackedDirectory {
+    beside: Beside,
+    floor: u64,
+    end: u64,
+    segments: Vec<Segment>,
+    purge: PurgeList,
+    // The places of the rows that the last insert pushed out, their segment, and how many rows that
+    // had before.
+    places: Vec<u64>,
+    segment: u32,
+    live: u32,
+}
+
+impl Model for PackedDirectory {
+    ghost use Rattle.packed_directory.specs.Packed.{Packed};
+
+    ghost Value = { Packed };
+
+    ghost use Rattle.packed_directory.specs.Packing.{packed_of, IsPacking};
+
+    ghost view = { packed_of };
+
+    ghost invariant = { IsPacking };
+}
+
+// Enters a row into its segment, and says whether others had to go first.
+fn enter(
+    beside: &Beside,
+    segments: &mut Vec<Segment>,
+    row: &StoredRow,
+    purge: &mut PurgeList,
+) -> bool
+    requires segment { row.now.segment < length segments.old.items }
+    requires bucket { row.now.bucket < beside.now.geometry.buckets }
+    requires widths { All (λ lists. length lists.chains ≡ beside.now.geometry.buckets)
+        segments.old.items }
+    requires entry { IsEntry (entry_of_row beside.now.geometry row.now) }
+    requires place { let g = beside.now.geometry in
+        place_of_entry g beside.now.cursor (entry_of_row g row.now) ≡ row.now.place }
+    requires made { purge.old.buckets ≡ beside.now.geometry.buckets }
+    ensures enters { EntersRow beside.now.geometry beside.now.cursor row.now result
+        purge.new.entries segments.old.items segments.new.items }
+    ensures made { purge.new.buckets ≡ purge.old.buckets }
+{
+    let entry = entry_of(&beside.geometry, row);
+    let segment = &mut segments[row.segment as usize];
+    take_in(segment, row.bucket, entry, purge)
+}
+
+// Takes the row of a key at a place out of its segment, and says whether it stood there.
+fn take_out(beside: &Beside, segments: &mut Vec<Segment>, key: Key, place: u64) -> bool
+    requires segments { beside.now.geometry.segments ≡ length segments.old.items }
+    requires widths { All (λ lists. length lists.chains ≡ beside.now.geometry.buckets)
+        segments.old.items }
+    requires between { (low : ℕ) × (high : ℕ) × All (AreBetween beside.now.geometry
+        beside.now.cursor low high) segments.old.items }
+    requires least { least_place beside.now.geometry beside.now.cursor ≤ place }
+    requires lap { lap_of beside.now.geometry place
+        ≤ lap_of beside.now.geometry beside.now.cursor }
+    ensures { TakesOut beside.now.geometry beside.now.cursor key place result
+        segments.old.items segments.new.items }
+{
+    let g = &beside.geometry;
+    let offset = slot(g, place) + 1;
+    let odd = phase(g, place);
+    delete_takes();
+    let segment = &mut segments[key.segment(g) as usize];
+    segment.is_counted();
+    segment.delete(key.bucket(g), key.tag(), offset, odd)
+}
+
+// The segments of a new directory.
+fn make_segments(alloc: Global, g: &Geometry) -> Result<Vec<Segment>, AllocError>
+    ensures { IfOk result (λ segments. segments.items ≡ new_segments g.now) }
+{
+    let mut segments = Vec::new(alloc);
+    for _ in 0..g.segments {
+        segments.push(Segment::new(alloc, g.buckets)?)?;
+    }
+    Ok(segments)
+}
+
+// The size class of a piece that fits into a buffer.
+fn class_of(blocks: u32) -> (u8, u8)
+    requires some { 1 ≤ blocks }
+    requires few { blocks ≤ 8192 }
+    ensures { IsLeastClass blocks result.0 result.1 }
+{
+    match size_class(blocks) {
+        Some(class) => class,
+        None => (3, 63),
+    }
+}
+
+// Takes out of each segment the entries that stand for no place from one place on and below another.
+fn clean_all(segments: &mut Vec<Segment>, beside: &Beside, low: u64, high: u64)
+    ensures { AreCleaned beside.now.geometry beside.now.cursor low high
+        segments.old.items segments.new.items }
+{
+    for i in 0..segments.len() {
+        clean(&mut segments[i], beside, low, high);
+    }
+}
+
+// The places of the entries that went out.
+fn tell(beside: &Beside, purge: &PurgeList, places: &mut Vec<u64>)
+    requires blocks { All (λ e. has_block beside.now.geometry e ≡ true) purge.now.entries }
+    requires room { length purge.now.entries ≤ vec_capacity places.old }
+    ensures places { places.new.items
+        ≡ map (place_of_entry beside.now.geometry beside.now.cursor) purge.now.entries }
+    ensures room { vec_capacity places.new ≡ vec_capacity places.old }
+{
+    places.clear();
+    for i in 0..purge.len() {
+        places.push_reserved(beside.place_of(&purge.get(i)));
+    }
+}
+
+impl PackedDirectory {
+    pub fn new(alloc: Global, g: &Geometry) -> Result<PackedDirectory, AllocError>
+        ensures { IfOk result (λ d. d ≡ first_packed g.now (new_segments g.now)) }
+    {
+        let segments = make_segments(alloc, g)?;
+        let purge = PurgeList::new(alloc, g.buckets)?;
+        let most = (3 * g.buckets + 9) / 10;
+        let places = Vec::with_capacity(alloc, most as usize)?;
+        Ok(PackedDirectory {
+            beside: Beside {
+                geometry: *g,
+                cursor: g.content,
+            },
+            floor: floor_of(g, g.content),
+            end: g.content,
+            segments,
+            purge,
+            places,
+            segment: 0,
+            live: 0,
+        })
+    }
+
+    /// Enters the piece that stands from a place on. Where its bucket is full, every tenth of the
+    /// entries behind the roots of its segment goes out first.
+    pub fn insert(&mut self, key: Key, place: u64, blocks: u32, head: bool, pinned: bool)
+        requires some { 1 ≤ blocks }
+        requires few { blocks ≤ self.old.geometry.agg }
+        requires next { MayBegin self.old place }
+        ensures rows { Inserts key place (record { blocks = blocks; head = head; pinned = pinned })
+            self.old self.new }
+        ensures tape { KeepsTape (place + blocks) self.old self.new }
+    {
+        let g = self.beside.geometry;
+        let (big, size) = class_of(blocks);
+        let row = StoredRow {
+            segment: key.segment(&g),
+            bucket: key.bucket(&g),
+            tag: key.tag(),
+            place,
+            big,
+            size,
+            head,
+            pinned,
+            token: false,
+        };
+        self.live = self.segments[row.segment as usize].used();
+        self.segment = row.segment;
+        enter(&self.beside, &mut self.segments, &row, &mut self.purge);
+        tell(&self.beside, &self.purge, &mut self.places);
+        self.end = place + blocks as u64;
+    }
+
+    /// Begins the buffer at a cursor, with a floor. The rows below the floor go.
+    pub fn wrap(&mut self, cursor: u64, floor: u64)
+        requires turn { MayTurn self.old cursor floor }
+        requires above { All (λ r. r.place < cursor) (packed_rows self.old) }
+        ensures rows { packed_rows self.new ≡ stored_from floor (packed_rows self.old) }
+        ensures tape { self.new ≡ record self.old {
+          cursor = cursor;
+          floor = floor;
+          end = cursor;
+          segments = self.new.segments;
+        } }
+    {
+        clean_all(&mut self.segments, &self.beside, floor, cursor);
+        self.beside = Beside {
+            geometry: self.beside.geometry,
+            cursor,
+        };
+        self.floor = floor;
+        self.end = cursor;
+    }
+
+    /// Begins a walk over the places of a key.
+    pub fn candidates(&self, key: Key) -> PackedWalk
+        ensures walk { IsWalk self.now result }
+        ensures places { places_ahead self.now result
+            ≡ places_under self.now.geometry key (packed_rows self.now) }
+    {
+        let g = &self.beside.geometry;
+        PackedWalk {
+            segment: key.segment(g),
+            bucket: key.bucket(g),
+            tag: key.tag(),
+            after: None,
+        }
+    }
+
+    /// The next place of a walk.
+    pub fn step(&self, walk: &mut PackedWalk, steps: &mut Steps) -> Option<u64>
+        requires { IsWalk self.now walk.old }
+        ensures walk { IsWalk self.now walk.new }
+        ensures gives { GivesOn (places_ahead self.now walk.old) result (places_ahead self.now walk.new) }
+        ensures steps { steps.new ≡ ticked (steps_ahead self.now walk.old) steps.old }
+    {
+        let segment = &self.segments[walk.segment as usize];
+        match segment.probe(walk.bucket, walk.tag, walk.after, steps) {
+            None => None,
+            Some((slot, entry)) => {
+                walk.after = Some(slot);
+                Some(self.beside.place_of(&entry))
+            }
+        }
+    }
+
+    /// Takes the row of a key at a place out, and says whether it stood there.
+    pub fn delete(&mut self, key: Key, place: u64) -> bool
+        ensures found { let g = self.old.geometry in
+            result ≡ list_any (is_stored g key place) (packed_rows self.old) }
+        ensures gone { result ≡ true → LosesRow (is_stored self.old.geometry key place)
+            (packed_rows self.old) (packed_rows self.new) }
+        ensures none { result ≡ false → self.new ≡ self.old }
+        ensures tape { self.new ≡ record self.old { segments = self.new.segments } }
+    {
+        let g = &self.beside.geometry;
+        if place < self.floor || lap(g, place) > lap(g, self.beside.cursor) {
+            return false;
+        }
+        take_out(&self.beside, &mut self.segments, key, place)
+    }
+}

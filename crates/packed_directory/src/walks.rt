@@ -1,0 +1,9 @@
+// Walks over the rows of a key, and over all rows.
+/// How far a walk over the places of a key has come. It holds until the directory changes.
+#[derive(Clone, Copy, Debug)]
+pub struct PackedWalk {
+    pub(crate) segment: u32,
+    pub(crate) bucket: u32,
+    pub(crate) tag: u16,
+    pub(crate) after: Option<u16>,
+}
