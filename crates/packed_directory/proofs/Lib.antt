@@ -9,3 +9,5 @@ pub mod Under
 pub mod Chained
 pub mod Leaves
 pub mod Readable
+pub mod Spelling
+pub mod Meaning

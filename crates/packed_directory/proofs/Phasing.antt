@@ -11,7 +11,7 @@ use Rattle.dir_entry.specs.declared.entry.Entry.{Entry}
 use Rattle.packed_directory.specs.Phases.{laps_back, place_of_entry, has_block, stands_between, IsOfPlace, least_place}
 
 -- a lap and the next differ in their phase
-next_phase : (k : ℕ) → eqb (suc k % 2) 1 ≡ not (eqb (k % 2) 1)
+pub next_phase : (k : ℕ) → eqb (suc k % 2) 1 ≡ not (eqb (k % 2) 1)
 next_phase k = elim (cases_eq (k % 2) 1) [
   | inl odd ↦ let even : suc k % 2 ≡ 0 = omega (arith, odd) in rw (odd, even) refl
   | inr other ↦
@@ -20,7 +20,7 @@ next_phase k = elim (cases_eq (k % 2) 1) [
       rw (even, odd) refl
 ]
 
-same_beq : (a b : Bool) → a ≡ b → beq a b ≡ true
+pub same_beq : (a b : Bool) → a ≡ b → beq a b ≡ true
 same_beq true true h = refl
 same_beq false false h = refl
 same_beq true false h = absurd (cc h)
@@ -44,7 +44,7 @@ beq_other false false h = absurd (cc h)
 beq_other true false h = refl
 beq_other false true h = refl
 
-not-not : (a : Bool) → not (not a) ≡ a
+pub not-not : (a : Bool) → not (not a) ≡ a
 not-not true = refl
 not-not false = refl
 

@@ -2,6 +2,7 @@ pub mod Cleaned
 pub mod Entering
 pub mod Leaving
 pub mod Packed
+pub mod PackedImage
 pub mod PackedWalks
 pub mod Packing
 pub mod Phases

@@ -2,11 +2,17 @@
 #![tactic(auto)]
 
 mod beside;
+mod fault;
+mod image;
 mod packed;
 mod rows;
 mod space;
 mod walks;
 
+pub use fault::ImageFault;
 pub use packed::PackedDirectory;
 pub use rows::StoredRow;
 pub use walks::PackedWalk;
+
+#[cfg(test)]
+mod tests;

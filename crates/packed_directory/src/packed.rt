@@ -1,18 +1,21 @@
 // A directory of packed entries.
-ghost use Rattle.std.specs.Prelude.{◌≡◌, ℕ, ◌+◌, ◌<◌, ◌≤◌, true, false, length, map, All, IfOk, vec_capacity};
+ghost use Rattle.std.specs.Prelude.{◌≡◌, ℕ, ◌&&◌, nat_le, nat_lt, slice_get, Some, ◌+◌, ◌-◌, ◌*◌, ◌^◌, ◌<◌, ◌≤◌, true, false, length, map, drop, replicate, All, IfOk, IfErr, OnOk, vec_capacity};
 ghost use Rattle.dir_entry.specs.Layout.{IsEntry};
 ghost use Rattle.dir_entry.specs.Sizes.{IsLeastClass};
 ghost use Rattle.std.specs.List.{list_any};
-ghost use Rattle.tape_base.specs.Place.{lap_of};
+ghost use Rattle.tape_base.specs.Place.{lap_of, lap_end_of};
 ghost use Rattle.packed_directory.specs.Leaving.{is_stored, LosesRow, TakesOut};
-ghost use Rattle.packed_directory.specs.Phases.{least_place, place_of_entry, has_block};
+ghost use Rattle.packed_directory.specs.Phases.{IsCursor, least_place, place_of_entry, has_block};
 ghost use Rattle.packed_directory.specs.StoredRows.{entry_of_row, stored_from};
 ghost use Rattle.dir_segment.specs.Lists.{ticked};
+ghost use Rattle.packed_directory.specs.PackedImage.{image_blocks_of, image_segments, segment_length, entries_in, means, IsImage, IsImageFault};
 ghost use Rattle.packed_directory.specs.PackedWalks.{IsWalk, places_ahead, places_under, steps_ahead, GivesOn};
 ghost use Rattle.packed_directory.specs.Cleaned.{AreCleaned, MayTurn};
-ghost use Rattle.packed_directory.specs.Packed.{packed_rows, AreBetween, EntersRow, first_packed, new_segments, MayBegin, Inserts, KeepsTape};
+ghost use Rattle.packed_directory.specs.Packed.{packed_rows, none_out, AreBetween, IsPacked, IsReadable, EntersRow, first_packed, new_segments, MayBegin, Inserts, KeepsTape};
 
 use crate::beside::{Beside, entry_of};
+use crate::fault::ImageFault;
+use crate::image::{count_entries, read_segments, write_segments};
 use crate::rows::StoredRow;
 use crate::space::{clean, take_in};
 use crate::walks::PackedWalk;
@@ -71,6 +74,39 @@ fn enter(
     let entry = entry_of(&beside.geometry, row);
     let segment = &mut segments[row.segment as usize];
     take_in(segment, row.bucket, entry, purge)
+}
+
+// The directory of these segments, into which no piece was entered since the cursor.
+fn assemble(
+    alloc: Global,
+    beside: Beside,
+    floor: u64,
+    segments: Vec<Segment>,
+) -> Result<PackedDirectory, AllocError>
+    requires packed { let c = beside.cursor in IsPacked beside.geometry c floor c segments.items }
+    ensures { IfOk result (λ d. d ≡ record {
+      geometry = beside.geometry;
+      cursor = beside.cursor;
+      floor = floor;
+      end = beside.cursor;
+      segments = segments.items;
+      out = none_out;
+    }) }
+{
+    let buckets = beside.geometry.buckets;
+    let purge = PurgeList::new(alloc, buckets)?;
+    let most = (3 * buckets + 9) / 10;
+    let places = Vec::with_capacity(alloc, most as usize)?;
+    Ok(PackedDirectory {
+        beside,
+        floor,
+        end: beside.cursor,
+        segments,
+        purge,
+        places,
+        segment: 0,
+        live: 0,
+    })
 }
 
 // Takes the row of a key at a place out of its segment, and says whether it stood there.
@@ -147,22 +183,11 @@ impl PackedDirectory {
         ensures { IfOk result (λ d. d ≡ first_packed g.now (new_segments g.now)) }
     {
         let segments = make_segments(alloc, g)?;
-        let purge = PurgeList::new(alloc, g.buckets)?;
-        let most = (3 * g.buckets + 9) / 10;
-        let places = Vec::with_capacity(alloc, most as usize)?;
-        Ok(PackedDirectory {
-            beside: Beside {
-                geometry: *g,
-                cursor: g.content,
-            },
-            floor: floor_of(g, g.content),
-            end: g.content,
-            segments,
-            purge,
-            places,
-            segment: 0,
-            live: 0,
-        })
+        let beside = Beside {
+            geometry: *g,
+            cursor: g.content,
+        };
+        assemble(alloc, beside, floor_of(g, g.content), segments)
     }
 
     /// Enters the piece that stands from a place on. Where its bucket is full, every tenth of the
@@ -262,5 +287,118 @@ impl PackedDirectory {
             return false;
         }
         take_out(&self.beside, &mut self.segments, key, place)
+    }
+
+    /// Whether a place may be read, where a row stands there.
+    pub fn in_range(&self, place: u64) -> bool
+        ensures { result ≡ (nat_le self.now.floor place && nat_lt place self.now.end) }
+    {
+        self.floor <= place && place < self.end
+    }
+
+    /// How many rows the last insert pushed out.
+    pub fn out_len(&self) -> usize
+        ensures { result ≡ length self.now.out.places }
+    {
+        self.places.len()
+    }
+
+    /// The place of a row that the last insert pushed out.
+    pub fn out_place(&self, i: usize) -> u64
+        requires { i < length self.now.out.places }
+        ensures { slice_get self.now.out.places i ≡ Some result }
+    {
+        self.places[i]
+    }
+
+    /// The segment into which the last insert went.
+    pub fn out_segment(&self) -> u32
+        ensures { result ≡ self.now.out.segment }
+    {
+        self.segment
+    }
+
+    /// How many rows that segment had before.
+    pub fn out_live(&self) -> u32
+        ensures { result ≡ self.now.out.live }
+    {
+        self.live
+    }
+
+    /// A law for proofs: each row may be read.
+    pub fn rows_are_readable(&self)
+        ensures { let d = self.now in
+            All (IsReadable d.geometry d.cursor d.floor d.end) (packed_rows d) }
+    {
+        let _ = &self.floor;
+    }
+
+    /// The blocks of an image.
+    pub fn image_blocks(g: &Geometry) -> u64
+        ensures count { result ≡ image_blocks_of g.now }
+        ensures some { 1 ≤ result }
+        ensures few { result ≤ 2 ^ 40 }
+    {
+        (g.segments as u64 * (4 + 40 * g.buckets as u64)).div_ceil(512)
+    }
+
+    /// Writes the bytes of an image for a cursor that is to come: up to the end of the cursor's lap.
+    pub fn image(&self, cursor: u64, into: &mut [u8])
+        requires len { length into.old ≡ 512 * image_blocks_of self.now.geometry }
+        requires next { (self.now.end ≤ cursor)
+            × (cursor ≤ lap_end_of self.now.geometry self.now.cursor) }
+        ensures sound { IsImage self.now.geometry into.new }
+        ensures rows { means self.now.geometry cursor into.new
+            ≡ stored_from (least_place self.now.geometry cursor) (packed_rows self.now) }
+        ensures zero { let g = self.now.geometry in let end = g.segments * segment_length g in
+            drop end into.new ≡ replicate (length into.old - end) 0 }
+    {
+        let _ = cursor;
+        write_segments(&self.beside.geometry, &self.segments, into);
+    }
+
+    /// The directory of an image beside its cursor: the rows that it means, from the floor on.
+    pub fn from_image(
+        alloc: Global,
+        g: &Geometry,
+        cursor: u64,
+        floor: u64,
+        bytes: &[u8],
+    ) -> Result<PackedDirectory, ImageFault>
+        requires len { length bytes.now ≡ 512 * image_blocks_of g.now }
+        requires cursor { IsCursor g.now.content cursor }
+        requires floor { (least_place g.now cursor ≤ floor) × (floor ≤ cursor) }
+        ensures rows { IfOk result (λ d.
+            packed_rows d ≡ stored_from floor (means g.now cursor bytes.now)) }
+        ensures tape { IfOk result (λ d. d ≡ record {
+          geometry = g.now;
+          cursor = cursor;
+          floor = floor;
+          end = cursor;
+          segments = d.segments;
+          out = none_out;
+        }) }
+        ensures sound { OnOk result (IsImage g.now bytes.now) }
+        ensures fault { IfErr result (λ f. IsImageFault g.now bytes.now f) }
+    {
+        let mut segments = read_segments(alloc, g, bytes)?;
+        let beside = Beside {
+            geometry: *g,
+            cursor,
+        };
+        clean_all(&mut segments, &beside, floor, cursor);
+        let directory = assemble(alloc, beside, floor, segments)?;
+        Ok(directory)
+    }
+
+    /// How many entries stand on the chains of an image.
+    pub fn entries(alloc: Global, g: &Geometry, bytes: &[u8]) -> Result<u64, ImageFault>
+        requires len { length bytes.now ≡ 512 * image_blocks_of g.now }
+        ensures count { IfOk result (λ n. n ≡ entries_in (image_segments g.now bytes.now)) }
+        ensures sound { OnOk result (IsImage g.now bytes.now) }
+        ensures fault { IfErr result (λ f. IsImageFault g.now bytes.now f) }
+    {
+        let segments = read_segments(alloc, g, bytes)?;
+        Ok(count_entries(&segments))
     }
 }
