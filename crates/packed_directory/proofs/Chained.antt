@@ -80,7 +80,7 @@ pub candidates_are : (g : Geometry) (cursor : ℕ) (key : Key) (segments : List 
 candidates_are g cursor key segments within below =
     let chain : List Row = chain_of (segment_at segments (segment_of g key)) (bucket_of g key) in
     let f : Entry → StoredRow = row_of_entry g cursor (segment_of g key) (bucket_of g key) in
-    sym (ap (map (λ (r : StoredRow). r.place)) (rows_under g cursor key segments within below ∙ ap (map f) (entries-filter (λ (e : Entry). eqb e.tag (tag_of key)) chain))
+    sym (ap (map (λ (r : StoredRow). r.place)) (rows_under g cursor (segment_of g key) (bucket_of g key) (tag_of key) segments within below ∙ ap (map f) (entries-filter (λ (e : Entry). eqb e.tag (tag_of key)) chain))
     ∙ places (filter (λ (r : Row). eqb r.entry.tag (tag_of key)) chain)) where
       places : (rows : List Row) → map (λ (r : StoredRow). r.place) (map (row_of_entry g cursor (segment_of g key) (bucket_of g key)) (entries_of rows)) ≡ map (λ (r : Row). place_of_entry g cursor r.entry) rows
       places [] = refl

@@ -65,19 +65,22 @@ and_both : (x : Bool) → (true && (x && true)) ≡ x
 and_both true = refl
 and_both false = refl
 
--- the lap before begins below the floor
-pub least_by_floor : (g : Geometry) (cursor floor : ℕ) → IsCursor g.content cursor → floor_of g cursor ≤ floor → least_place g cursor ≤ floor
-least_by_floor g cursor floor begun readable =
+-- the lap before begins a lap below a place of the cursor's
+pub least_back : (g : Geometry) (cursor : ℕ) → g.content ≤ cursor → least_place g cursor ≤ cursor - g.content
+least_back g cursor first =
     let n : ℕ = g.content in
-    let back : n * (cursor / n - 1) + n ≡ n * (cursor / n) = step (cursor / n) (one_lap g cursor begun.first) in
+    let back : n * (cursor / n - 1) + n ≡ n * (cursor / n) = step (cursor / n) (one_lap g cursor first) in
     let whole : n * (cursor / n) ≤ cursor = mul-div-le cursor n in
-    omega (arith, back, whole, readable) where
+    omega (arith, back, whole) where
       step : (l : ℕ) → 1 ≤ l → g.content * (l - 1) + g.content ≡ g.content * l
       step zero one = absurd (omega (arith, one))
       step (suc l) one =
           let less : suc l - 1 ≡ l = omega arith in
           let q : g.content * suc l ≡ g.content * l + g.content = omega arith in
           rw less (sym q)
+
+pub least_by_floor : (g : Geometry) (cursor floor : ℕ) → IsCursor g.content cursor → floor_of g cursor ≤ floor → least_place g cursor ≤ floor
+least_by_floor g cursor floor begun readable = omega (arith, least_back g cursor begun.first, readable)
 
 -- a buffer begins at a later cursor
 module _ (g : Geometry) (cursor floor end cursor' floor' : ℕ) (first : g.content ≤ cursor) (begun : IsCursor g.content cursor') (least : least_place g cursor' ≤ floor') where

@@ -9,8 +9,6 @@ use Rattle.std.proofs.lemmas.List.{set-set, set-get_or}
 use Rattle.std.proofs.lemmas.List.Elements.{All-nil, All-cons, All-head, All-tail, All-get_or, All-set, All-weaker}
 use Rattle.std.proofs.lemmas.List.Sorted.{IsPermutation-refl, IsPermutation-sym, IsPermutation-trans, IsPermutation-cons, IsPermutation-middle, IsPermutation-map, All-permutation}
 use Rattle.tape_base.specs.declared.geometries.Geometry.{Geometry}
-use Rattle.tape_base.specs.declared.keys.Key.{Key}
-use Rattle.tape_base.specs.Key.{segment_of, bucket_of, tag_of}
 use Rattle.tape_base.specs.Place.{lap_of, slot_of, phase_of}
 use Rattle.dir_entry.specs.declared.entry.Entry.{Entry}
 use Rattle.dir_segment.specs.Lists.{Row, Lists, is_that, passes, deleted, chain_of}
@@ -18,9 +16,9 @@ use Rattle.dir_segment.specs.Entries.{AreStored, DeleteTakes, MissedStays, SetsE
 use Rattle.packed_directory.specs.declared.rows.StoredRow.{StoredRow}
 use Rattle.packed_directory.specs.Entering.{BucketEntry, entries_from}
 use Rattle.packed_directory.specs.Phases.{place_of_entry, has_block, stands_between, least_place}
-use Rattle.packed_directory.specs.StoredRows.{row_of_entry, rows_of_segment, rows_of_segments, is_under}
+use Rattle.packed_directory.specs.StoredRows.{row_of_entry, rows_of_segment, rows_of_segments, is_spot}
 use Rattle.packed_directory.specs.Packed.{AreBetween, segment_at, TakesRow}
-use Rattle.packed_directory.specs.Leaving.{is_stored, LosesRow, TakesOut}
+use Rattle.packed_directory.specs.Leaving.{is_row, LosesRow, TakesOut}
 use Rattle.packed_directory.proofs.Gathering.{entries_of, in_bucket, one_more}
 use Rattle.packed_directory.proofs.Phasing.{place_back, of_place, parts_between}
 use Rattle.packed_directory.proofs.Segments.{all_take}
@@ -69,9 +67,9 @@ first_out P test (e ∷ es) h some =
           }
     ] refl some
 
-module _ (g : Geometry) (cursor : ℕ) (key : Key) (place : ℕ) (first : g.content ≤ cursor) (least : least_place g cursor ≤ place) (lap : lap_of g place ≤ lap_of g cursor) where
+module _ (g : Geometry) (cursor : ℕ) (seg bkt tag : ℕ) (place : ℕ) (first : g.content ≤ cursor) (least : least_place g cursor ≤ place) (lap : lap_of g place ≤ lap_of g cursor) where
   abbrev that : Entry → Bool
-  that = is_that (tag_of key) (slot_of g place + 1) (phase_of g place)
+  that = is_that tag (slot_of g place + 1) (phase_of g place)
 
   beq_is : (a b : Bool) → beq a b ≡ true → a ≡ b
   beq_is true true h = refl
@@ -103,80 +101,80 @@ module _ (g : Geometry) (cursor : ℕ) (key : Key) (place : ℕ) (first : g.cont
         not_so ∙ sym no
   ]
 
-  that_is : (e : Entry) → has_block g e ≡ true → that e ≡ (eqb e.tag (tag_of key) && eqb (place_of_entry g cursor e) place)
-  that_is e block = go (eqb e.tag (tag_of key)) where
+  that_is : (e : Entry) → has_block g e ≡ true → that e ≡ (eqb e.tag tag && eqb (place_of_entry g cursor e) place)
+  that_is e block = go (eqb e.tag tag) where
     go : (t : Bool) → ((t && eqb e.offset (slot_of g place + 1)) && beq e.phase (phase_of g place)) ≡ (t && eqb (place_of_entry g cursor e) place)
     go true = there e block
     go false = refl
 
-  module _ (before : List Lists) (within : segment_of g key < length before) (widths : All (λ (l : Lists). length l.chains ≡ g.buckets) before)
-      (low high : ℕ) (between : All (AreBetween g cursor low high) before) (below : bucket_of g key < g.buckets) where
+  module _ (before : List Lists) (within : seg < length before) (widths : All (λ (l : Lists). length l.chains ≡ g.buckets) before)
+      (low high : ℕ) (between : All (AreBetween g cursor low high) before) (below : bkt < g.buckets) where
     abbrev old : Lists
-    old = segment_at before (segment_of g key)
+    old = segment_at before seg
 
-    wide : length (segment_at before (segment_of g key)).chains ≡ g.buckets
-    wide = All-get_or (λ (l : Lists). length l.chains ≡ g.buckets) before (segment_of g key) (record { chains = []; free = [] }) within widths
+    wide : length (segment_at before seg).chains ≡ g.buckets
+    wide = All-get_or (λ (l : Lists). length l.chains ≡ g.buckets) before seg (record { chains = []; free = [] }) within widths
 
-    in_chains : bucket_of g key < length (segment_at before (segment_of g key)).chains
+    in_chains : bkt < length (segment_at before seg).chains
     in_chains = omega (arith, wide, below)
 
     abbrev Block : Entry → Type 0
     Block e = has_block g e ≡ true
 
-    entry_blocks : All (λ (r : Row). has_block g r.entry ≡ true) (chain_of (segment_at before (segment_of g key)) (bucket_of g key))
+    entry_blocks : All (λ (r : Row). has_block g r.entry ≡ true) (chain_of (segment_at before seg) bkt)
     entry_blocks =
         let P : BucketEntry → Type 0 = λ it. stands_between g cursor low high it.entry ≡ true in
         let Q : BucketEntry → Type 0 = λ it. has_block g it.entry ≡ true in
-        let here : AreBetween g cursor low high old = All-get_or (AreBetween g cursor low high) before (segment_of g key) (record { chains = []; free = [] }) within between in
-        chain_all (λ (e : Entry). has_block g e ≡ true) 0 (bucket_of g key) old.chains
+        let here : AreBetween g cursor low high old = All-get_or (AreBetween g cursor low high) before seg (record { chains = []; free = [] }) within between in
+        chain_all (λ (e : Entry). has_block g e ≡ true) 0 bkt old.chains
         (All-weaker P Q (λ it h. (parts_between g cursor low high it.entry h).0) (entries_from 0 old.chains) here)
 
-    blocks : All (λ (e : Entry). has_block g e ≡ true) (bucket_entries (segment_at before (segment_of g key)) (bucket_of g key))
-    blocks = go (chain_of old (bucket_of g key)) entry_blocks where
+    blocks : All (λ (e : Entry). has_block g e ≡ true) (bucket_entries (segment_at before seg) bkt)
+    blocks = go (chain_of old bkt) entry_blocks where
       go : (rows : List Row) → All (λ (r : Row). has_block g r.entry ≡ true) rows → All (λ (e : Entry). has_block g e ≡ true) (entries_of rows)
       go [] h = All-nil (λ (e : Entry). has_block g e ≡ true)
       go (r ∷ rows) h = All-cons (λ (e : Entry). has_block g e ≡ true) r.entry (entries_of rows) (All-head (λ (q : Row). has_block g q.entry ≡ true) r rows h) (go rows (All-tail (λ (q : Row). has_block g q.entry ≡ true) r rows h))
 
-    pub stood_is : list_any (passes that) (chain_of (segment_at before (segment_of g key)) (bucket_of g key)) ≡ list_any (is_stored g key place) (rows_of_segments g cursor 0 before)
+    pub stood_is : list_any (passes that) (chain_of (segment_at before seg) bkt) ≡ list_any (is_row seg bkt tag place) (rows_of_segments g cursor 0 before)
     stood_is =
-        let es : List Entry = bucket_entries old (bucket_of g key) in
-        let f : Entry → StoredRow = row_of_entry g cursor (segment_of g key) (bucket_of g key) in
+        let es : List Entry = bucket_entries old bkt in
+        let f : Entry → StoredRow = row_of_entry g cursor seg bkt in
         let rows : List StoredRow = rows_of_segments g cursor 0 before in
         let at : StoredRow → Bool = λ r. eqb r.place place in
-        any-entries that (chain_of old (bucket_of g key))
-        ∙ any_same Block that (λ (e : Entry). eqb e.tag (tag_of key) && eqb (place_of_entry g cursor e) place) that_is es blocks
-        ∙ any-filter (λ (e : Entry). eqb e.tag (tag_of key)) (λ (e : Entry). eqb (place_of_entry g cursor e) place) es
-        ∙ sym (any-map at f (filter (λ (e : Entry). eqb e.tag (tag_of key)) es))
-        ∙ ap (list_any at) (sym (rows_under g cursor key before within in_chains))
-        ∙ sym (any-filter (is_under g key) at rows)
+        any-entries that (chain_of old bkt)
+        ∙ any_same Block that (λ (e : Entry). eqb e.tag tag && eqb (place_of_entry g cursor e) place) that_is es blocks
+        ∙ any-filter (λ (e : Entry). eqb e.tag tag) (λ (e : Entry). eqb (place_of_entry g cursor e) place) es
+        ∙ sym (any-map at f (filter (λ (e : Entry). eqb e.tag tag) es))
+        ∙ ap (list_any at) (sym (rows_under g cursor seg bkt tag before within in_chains))
+        ∙ sym (any-filter (is_spot seg bkt tag) at rows)
 
-    module _ (takes : DeleteTakes) (missed : MissedStays) (stored : AreStored (segment_at before (segment_of g key))) (found : Bool)
-        (is : found ≡ list_any (passes that) (chain_of (segment_at before (segment_of g key)) (bucket_of g key)))
-        (new : Lists) (done : new ≡ deleted (segment_at before (segment_of g key)) (bucket_of g key) that) where
-      sets : SetsEntries (bucket_of g key) (without_first that (bucket_entries (segment_at before (segment_of g key)) (bucket_of g key))) (segment_at before (segment_of g key)) new
-      sets = subst (λ (l : Lists). SetsEntries (bucket_of g key) (without_first that (bucket_entries old (bucket_of g key))) old l) (sym done) (takes old (bucket_of g key) that stored in_chains)
+    module _ (takes : DeleteTakes) (missed : MissedStays) (stored : AreStored (segment_at before seg)) (found : Bool)
+        (is : found ≡ list_any (passes that) (chain_of (segment_at before seg) bkt))
+        (new : Lists) (done : new ≡ deleted (segment_at before seg) bkt that) where
+      sets : SetsEntries bkt (without_first that (bucket_entries (segment_at before seg) bkt)) (segment_at before seg) new
+      sets = subst (λ (l : Lists). SetsEntries bkt (without_first that (bucket_entries old bkt)) old l) (sym done) (takes old bkt that stored in_chains)
 
-      back : set (set before (segment_of g key) new) (segment_of g key) (segment_at before (segment_of g key)) ≡ before
-      back = set-set before (segment_of g key) new old ∙ set-get_or before (segment_of g key) (record { chains = []; free = [] })
+      back : set (set before seg new) seg (segment_at before seg) ≡ before
+      back = set-set before seg new old ∙ set-get_or before seg (record { chains = []; free = [] })
 
-      entries_back : found ≡ true → FirstOut (λ (e : Entry). has_block g e ≡ true) that (bucket_entries (segment_at before (segment_of g key)) (bucket_of g key)) (without_first that (bucket_entries (segment_at before (segment_of g key)) (bucket_of g key)))
-      entries_back was = first_out Block that (bucket_entries old (bucket_of g key)) blocks (sym (any-entries that (chain_of old (bucket_of g key))) ∙ sym is ∙ was)
+      entries_back : found ≡ true → FirstOut (λ (e : Entry). has_block g e ≡ true) that (bucket_entries (segment_at before seg) bkt) (without_first that (bucket_entries (segment_at before seg) bkt))
+      entries_back was = first_out Block that (bucket_entries old bkt) blocks (sym (any-entries that (chain_of old bkt)) ∙ sym is ∙ was)
 
-      all_back : (was : found ≡ true) → IsPermutation (in_bucket (bucket_of g key) (entries_back was).it ∷ entries_from 0 new.chains) (entries_from 0 (segment_at before (segment_of g key)).chains)
+      all_back : (was : found ≡ true) → IsPermutation (in_bucket bkt (entries_back was).it ∷ entries_from 0 new.chains) (entries_from 0 (segment_at before seg).chains)
       all_back was =
           let out = entries_back was in
-          let b : ℕ = bucket_of g key in
+          let b : ℕ = bkt in
           let zero_b : 0 + b ≡ b = omega arith in
           subst (λ n. IsPermutation (in_bucket n out.it ∷ entries_from 0 new.chains) (entries_from 0 old.chains)) zero_b
           (one_more 0 b out.it new.chains old.chains (sym sets.width) (omega (arith, sets.width, in_chains))
           (subst (λ (q : List Entry). IsPermutation (out.it ∷ q) (bucket_entries old b)) (sym sets.here) out.all)
           (λ j ne. sym (sets.others j ne)))
 
-      loses : found ≡ true → LosesRow (is_stored g key place) (rows_of_segments g cursor 0 before) (rows_of_segments g cursor 0 (set before (segment_of g key) new))
+      loses : found ≡ true → LosesRow (is_row seg bkt tag place) (rows_of_segments g cursor 0 before) (rows_of_segments g cursor 0 (set before seg new))
       loses was =
           let out = entries_back was in
-          let s : ℕ = segment_of g key in
-          let b : ℕ = bucket_of g key in
+          let s : ℕ = seg in
+          let b : ℕ = bkt in
           let f : BucketEntry → StoredRow = λ it. row_of_entry g cursor s it.bucket it.entry in
           let row : StoredRow = f (in_bucket b out.it) in
           let zero_s : s ≡ 0 + s = omega arith in
@@ -189,36 +187,36 @@ module _ (g : Geometry) (cursor : ℕ) (key : Key) (place : ℕ) (first : g.cont
           let all : TakesRow row [] (rows_of_segments g cursor 0 after) (rows_of_segments g cursor 0 (set after s old)) =
           all_take g cursor row [] old (record { chains = []; free = [] }) 0 s after (omega (arith, within, length-set before s new))
           (subst (λ n. TakesRow row [] (rows_of_segment g cursor n (get_or after s (record { chains = []; free = [] }))) (rows_of_segment g cursor n old)) zero_s there') in
-          let parts = and_parts (eqb out.it.tag (tag_of key)) (eqb (place_of_entry g cursor out.it) place) (sym (that_is out.it out.holds) ∙ out.passed) in
-          let under : is_under g key row ≡ true = and_from (eqb s s) (eqb b b && eqb out.it.tag (tag_of key)) (eq-eqb s s refl) (and_from (eqb b b) (eqb out.it.tag (tag_of key)) (eq-eqb b b refl) parts.0) in
+          let parts = and_parts (eqb out.it.tag tag) (eqb (place_of_entry g cursor out.it) place) (sym (that_is out.it out.holds) ∙ out.passed) in
+          let under : is_spot seg bkt tag row ≡ true = and_from (eqb s s) (eqb b b && eqb out.it.tag tag) (eq-eqb s s refl) (and_from (eqb b b) (eqb out.it.tag tag) (eq-eqb b b refl) parts.0) in
           record {
             row = row;
-            is = and_from (is_under g key row) (eqb row.place place) under parts.1;
+            is = and_from (is_spot seg bkt tag row) (eqb row.place place) under parts.1;
             left = IsPermutation-trans (row ∷ rows_of_segments g cursor 0 after) (row ∷ all.left) (rows_of_segments g cursor 0 before)
                 (IsPermutation-cons row (rows_of_segments g cursor 0 after) all.left all.parted)
                 (subst (λ (q : List Lists). IsPermutation (row ∷ all.left) (rows_of_segments g cursor 0 q)) back all.entered);
           }
 
-      stays : found ≡ false → set before (segment_of g key) new ≡ before
+      stays : found ≡ false → set before seg new ≡ before
       stays wasnt =
-          let same : new ≡ old = done ∙ missed old (bucket_of g key) that (sym (any-entries that (chain_of old (bucket_of g key))) ∙ sym is ∙ wasnt) in
-          ap (λ (l : Lists). set before (segment_of g key) l) same ∙ set-get_or before (segment_of g key) (record { chains = []; free = [] })
+          let same : new ≡ old = done ∙ missed old bkt that (sym (any-entries that (chain_of old bkt)) ∙ sym is ∙ wasnt) in
+          ap (λ (l : Lists). set before seg l) same ∙ set-get_or before seg (record { chains = []; free = [] })
 
-      left_between : (low' high' : ℕ) → (b : Bool) → found ≡ b → All (AreBetween g cursor low' high') before → All (AreBetween g cursor low' high') (set before (segment_of g key) new)
+      left_between : (low' high' : ℕ) → (b : Bool) → found ≡ b → All (AreBetween g cursor low' high') before → All (AreBetween g cursor low' high') (set before seg new)
       left_between low' high' true was all =
           let P : BucketEntry → Type 0 = λ it. stands_between g cursor low' high' it.entry ≡ true in
-          let it : BucketEntry = in_bucket (bucket_of g key) (entries_back was).it in
-          let here : AreBetween g cursor low' high' old = All-get_or (AreBetween g cursor low' high') before (segment_of g key) (record { chains = []; free = [] }) within all in
+          let it : BucketEntry = in_bucket bkt (entries_back was).it in
+          let here : AreBetween g cursor low' high' old = All-get_or (AreBetween g cursor low' high') before seg (record { chains = []; free = [] }) within all in
           let with_it : All P (it ∷ entries_from 0 new.chains) = All-permutation P (entries_from 0 old.chains) (it ∷ entries_from 0 new.chains) (IsPermutation-sym (it ∷ entries_from 0 new.chains) (entries_from 0 old.chains) (all_back was)) here in
-          All-set (AreBetween g cursor low' high') before (segment_of g key) new (All-tail P it (entries_from 0 new.chains) with_it) all
+          All-set (AreBetween g cursor low' high') before seg new (All-tail P it (entries_from 0 new.chains) with_it) all
       left_between low' high' false wasnt all = subst (All (AreBetween g cursor low' high')) (sym (stays wasnt)) all
 
-      pub takes_out : TakesOut g cursor key place found before (set before (segment_of g key) new)
+      pub takes_out : TakesOut g cursor seg bkt tag place found before (set before seg new)
       takes_out = record {
         stood = is ∙ stood_is;
         gone = loses;
         none = stays;
-        count = length-set before (segment_of g key) new;
-        widths = All-set (λ (l : Lists). length l.chains ≡ g.buckets) before (segment_of g key) new (sets.width ∙ wide) widths;
+        count = length-set before seg new;
+        widths = All-set (λ (l : Lists). length l.chains ≡ g.buckets) before seg new (sets.width ∙ wide) widths;
         between = λ low' high' all. left_between low' high' found refl all;
       }

@@ -1,5 +1,5 @@
 -- Each row of a packed directory may be read.
-use Rattle.std.proofs.Common.{◌≡◌, ℕ, suc, ◌≤◌, true, false, eqb, List, [], ◌∷◌, map, sym, ap, ◌∙◌, arith}
+use Rattle.std.proofs.Common.{◌≡◌, ℕ, suc, ◌≤◌, Bool, true, false, eqb, List, [], ◌∷◌, map, sym, ap, ◌∙◌, arith}
 use Rattle.std.specs.Prelude.{◌&&◌}
 use Rattle.std.specs.List.{All, list_any}
 use Rattle.std.proofs.lemmas.Bool.{ne_eqb}
@@ -7,14 +7,12 @@ use Rattle.std.proofs.lemmas.List.Elements.{All-nil, All-append, All-head, All-t
 use Rattle.std.proofs.lemmas.List.Folds.{list_any_none}
 use Rattle.std.proofs.Math.Bool.{and-false}
 use Rattle.tape_base.specs.declared.geometries.Geometry.{Geometry}
-use Rattle.tape_base.specs.declared.keys.Key.{Key}
 use Rattle.dir_segment.specs.Lists.{Lists}
 use Rattle.packed_directory.specs.declared.rows.StoredRow.{StoredRow}
 use Rattle.packed_directory.specs.Entering.{BucketEntry, entries_from}
 use Rattle.packed_directory.specs.Phases.{stands_between}
-use Rattle.packed_directory.specs.StoredRows.{row_of_entry, rows_of_segments, is_under}
+use Rattle.packed_directory.specs.StoredRows.{row_of_entry, rows_of_segments}
 use Rattle.packed_directory.specs.Packed.{AreBetween, IsReadable}
-use Rattle.packed_directory.specs.Leaving.{is_stored}
 use Rattle.packed_directory.proofs.Phasing.{parts_between, lap_there}
 
 module _ (g : Geometry) (cursor low high : ℕ) (first : g.content ≤ cursor) where
@@ -32,9 +30,9 @@ module _ (g : Geometry) (cursor low high : ℕ) (first : g.content ≤ cursor) w
       (rows_readable (suc s) rest (All-tail (AreBetween g cursor low high) l rest h))
 
   -- no row stands at a place that is outside
-  pub none_outside : (key : Key) (place : ℕ) (rows : List StoredRow) → All (IsReadable g cursor low high) rows → ((r : StoredRow) → IsReadable g cursor low high r → r.place ≡ place → ⊥)
-      → false ≡ list_any (is_stored g key place) rows
-  none_outside key place rows all outside =
-      sym (list_any_none (is_stored g key place) rows
-      (All-weaker (IsReadable g cursor low high) (λ r. is_stored g key place r ≡ false)
-      (λ r h. let apart : eqb r.place place ≡ false = ne_eqb r.place place (outside r h) in ap (λ t. is_under g key r && t) apart ∙ and-false (is_under g key r)) rows all))
+  pub none_outside : (spot : StoredRow → Bool) (place : ℕ) (rows : List StoredRow) → All (IsReadable g cursor low high) rows → ((r : StoredRow) → IsReadable g cursor low high r → r.place ≡ place → ⊥)
+      → false ≡ list_any (λ r. spot r && eqb r.place place) rows
+  none_outside spot place rows all outside =
+      sym (list_any_none (λ r. spot r && eqb r.place place) rows
+      (All-weaker (IsReadable g cursor low high) (λ r. (spot r && eqb r.place place) ≡ false)
+      (λ r h. let apart : eqb r.place place ≡ false = ne_eqb r.place place (outside r h) in ap (λ t. spot r && t) apart ∙ and-false (spot r)) rows all))

@@ -6,46 +6,44 @@ use Rattle.std.proofs.lemmas.List.{map-append, append-nil}
 use Rattle.std.proofs.lemmas.List.Elements.{filter-append}
 use Rattle.std.proofs.Math.Bool.{and-false}
 use Rattle.tape_base.specs.declared.geometries.Geometry.{Geometry}
-use Rattle.tape_base.specs.declared.keys.Key.{Key}
-use Rattle.tape_base.specs.Key.{segment_of, bucket_of, tag_of}
 use Rattle.dir_entry.specs.declared.entry.Entry.{Entry}
 use Rattle.dir_segment.specs.Lists.{Row, Lists, first_of_tag, rest_of_tag}
 use Rattle.packed_directory.specs.declared.rows.StoredRow.{StoredRow}
 use Rattle.packed_directory.specs.Entering.{BucketEntry, entries_from}
-use Rattle.packed_directory.specs.StoredRows.{row_of_entry, rows_of_segment, rows_of_segments, is_under}
+use Rattle.packed_directory.specs.StoredRows.{row_of_entry, rows_of_segment, rows_of_segments, is_spot}
 use Rattle.packed_directory.specs.Packed.{segment_at}
 use Rattle.packed_directory.proofs.Gathering.{entries_of, in_bucket, entries-cons}
 
 pub of_tag : ℕ → Entry → Bool
 of_tag tag e = eqb e.tag tag
 
-module _ (g : Geometry) (cursor : ℕ) (key : Key) where
+module _ (g : Geometry) (cursor : ℕ) (seg bkt tag : ℕ) where
   abbrev row_at : ℕ → BucketEntry → StoredRow
   row_at s it = row_of_entry g cursor s it.bucket it.entry
 
   abbrev under : List StoredRow → List StoredRow
-  under = filter (is_under g key)
+  under = filter (is_spot seg bkt tag)
 
-  other_bucket : (s b : ℕ) (es : List Entry) → b ≢ bucket_of g key → under (map (row_at s) (map (in_bucket b) es)) ≡ []
+  other_bucket : (s b : ℕ) (es : List Entry) → b ≢ bkt → under (map (row_at s) (map (in_bucket b) es)) ≡ []
   other_bucket s b [] ne = refl
   other_bucket s b (e ∷ es) ne =
-      let apart : eqb b (bucket_of g key) ≡ false = ne_eqb b (bucket_of g key) ne in
-      let not_so : is_under g key (row_at s (in_bucket b e)) ≡ false =
-      ap (λ (t : Bool). eqb s (segment_of g key) && (t && eqb e.tag (tag_of key))) apart ∙ and-false (eqb s (segment_of g key)) in
+      let apart : eqb b bkt ≡ false = ne_eqb b bkt ne in
+      let not_so : is_spot seg bkt tag (row_at s (in_bucket b e)) ≡ false =
+      ap (λ (t : Bool). eqb s seg && (t && eqb e.tag tag)) apart ∙ and-false (eqb s seg) in
       rw not_so (other_bucket s b es ne)
 
-  own_bucket : (es : List Entry) → under (map (row_at (segment_of g key)) (map (in_bucket (bucket_of g key)) es))
-      ≡ map (row_of_entry g cursor (segment_of g key) (bucket_of g key)) (filter (λ (e : Entry). eqb e.tag (tag_of key)) es)
+  own_bucket : (es : List Entry) → under (map (row_at seg) (map (in_bucket bkt) es))
+      ≡ map (row_of_entry g cursor seg bkt) (filter (λ (e : Entry). eqb e.tag tag) es)
   own_bucket [] = refl
   own_bucket (e ∷ es) =
-      let s : eqb (segment_of g key) (segment_of g key) ≡ true = eq-eqb (segment_of g key) (segment_of g key) refl in
-      let b : eqb (bucket_of g key) (bucket_of g key) ≡ true = eq-eqb (bucket_of g key) (bucket_of g key) refl in
-      let is : is_under g key (row_at (segment_of g key) (in_bucket (bucket_of g key) e)) ≡ eqb e.tag (tag_of key) = λ i. s i && (b i && eqb e.tag (tag_of key)) in
-      let row : StoredRow = row_of_entry g cursor (segment_of g key) (bucket_of g key) e in
-      let f : Entry → StoredRow = row_of_entry g cursor (segment_of g key) (bucket_of g key) in
-      let left : List StoredRow = under (map (row_at (segment_of g key)) (map (in_bucket (bucket_of g key)) es)) in
+      let s : eqb seg seg ≡ true = eq-eqb seg seg refl in
+      let b : eqb bkt bkt ≡ true = eq-eqb bkt bkt refl in
+      let is : is_spot seg bkt tag (row_at seg (in_bucket bkt e)) ≡ eqb e.tag tag = λ i. s i && (b i && eqb e.tag tag) in
+      let row : StoredRow = row_of_entry g cursor seg bkt e in
+      let f : Entry → StoredRow = row_of_entry g cursor seg bkt in
+      let left : List StoredRow = under (map (row_at seg) (map (in_bucket bkt) es)) in
       ap (λ (t : Bool). cond t (row ∷ left) left) is
-      ∙ elim (eqb e.tag (tag_of key)) as (λ t. cond t (row ∷ left) left ≡ map f (cond t (e ∷ filter (λ (k : Entry). eqb k.tag (tag_of key)) es) (filter (λ (k : Entry). eqb k.tag (tag_of key)) es)))
+      ∙ elim (eqb e.tag tag) as (λ t. cond t (row ∷ left) left ≡ map f (cond t (e ∷ filter (λ (k : Entry). eqb k.tag tag) es) (filter (λ (k : Entry). eqb k.tag tag) es)))
       [ true ↦ ap (λ (q : List StoredRow). row ∷ q) (own_bucket es) | false ↦ own_bucket es ]
 
   split : (s b : ℕ) (c : List Row) (cs : List (List Row)) → under (map (row_at s) (entries_from b (c ∷ cs)))
@@ -53,59 +51,59 @@ module _ (g : Geometry) (cursor : ℕ) (key : Key) where
   split s b c cs =
       ap (λ (q : List BucketEntry). under (map (row_at s) q)) (entries-cons b c cs)
       ∙ ap under (map-append (row_at s) (map (in_bucket b) (entries_of c)) (entries_from (suc b) cs))
-      ∙ filter-append (is_under g key) (map (row_at s) (map (in_bucket b) (entries_of c))) (map (row_at s) (entries_from (suc b) cs))
+      ∙ filter-append (is_spot seg bkt tag) (map (row_at s) (map (in_bucket b) (entries_of c))) (map (row_at s) (entries_from (suc b) cs))
 
-  later_buckets : (s b : ℕ) (cs : List (List Row)) → bucket_of g key < b → under (map (row_at s) (entries_from b cs)) ≡ []
+  later_buckets : (s b : ℕ) (cs : List (List Row)) → bkt < b → under (map (row_at s) (entries_from b cs)) ≡ []
   later_buckets s b [] lt = refl
   later_buckets s b (c ∷ cs) lt =
       split s b c cs ∙ (λ i. other_bucket s b (entries_of c) (λ q. let no : b < b = subst (λ n. n < b) (sym q) lt in absurd (omega (arith, no))) i ++ later_buckets s (suc b) cs (omega (arith, lt)) i)
 
-  in_segment : (b k : ℕ) (cs : List (List Row)) → k < length cs → b + k ≡ bucket_of g key
-      → under (map (row_at (segment_of g key)) (entries_from b cs))
-      ≡ map (row_of_entry g cursor (segment_of g key) (bucket_of g key)) (filter (λ (e : Entry). eqb e.tag (tag_of key)) (entries_of (get_or cs k [])))
+  in_segment : (b k : ℕ) (cs : List (List Row)) → k < length cs → b + k ≡ bkt
+      → under (map (row_at seg) (entries_from b cs))
+      ≡ map (row_of_entry g cursor seg bkt) (filter (λ (e : Entry). eqb e.tag tag) (entries_of (get_or cs k [])))
   in_segment b k [] lt is = absurd (omega (arith, lt))
   in_segment b zero (c ∷ cs) lt is =
-      let here : b ≡ bucket_of g key = omega (arith, is) in
-      let f : Entry → StoredRow = row_of_entry g cursor (segment_of g key) (bucket_of g key) in
-      let own : List StoredRow = map f (filter (λ (e : Entry). eqb e.tag (tag_of key)) (entries_of c)) in
-      split (segment_of g key) b c cs
-      ∙ (λ i. (ap (λ n. under (map (row_at (segment_of g key)) (map (in_bucket n) (entries_of c)))) here ∙ own_bucket (entries_of c)) i ++ later_buckets (segment_of g key) (suc b) cs (omega (arith, here)) i)
+      let here : b ≡ bkt = omega (arith, is) in
+      let f : Entry → StoredRow = row_of_entry g cursor seg bkt in
+      let own : List StoredRow = map f (filter (λ (e : Entry). eqb e.tag tag) (entries_of c)) in
+      split seg b c cs
+      ∙ (λ i. (ap (λ n. under (map (row_at seg) (map (in_bucket n) (entries_of c)))) here ∙ own_bucket (entries_of c)) i ++ later_buckets seg (suc b) cs (omega (arith, here)) i)
       ∙ append-nil own
   in_segment b (suc k) (c ∷ cs) lt is =
-      split (segment_of g key) b c cs
-      ∙ (λ i. other_bucket (segment_of g key) b (entries_of c) (omega (arith, is)) i ++ in_segment (suc b) k cs (omega (arith, lt)) (omega (arith, is)) i)
+      split seg b c cs
+      ∙ (λ i. other_bucket seg b (entries_of c) (omega (arith, is)) i ++ in_segment (suc b) k cs (omega (arith, lt)) (omega (arith, is)) i)
 
-  other_segment : (s : ℕ) (its : List BucketEntry) → s ≢ segment_of g key → under (map (row_at s) its) ≡ []
+  other_segment : (s : ℕ) (its : List BucketEntry) → s ≢ seg → under (map (row_at s) its) ≡ []
   other_segment s [] ne = refl
   other_segment s (it ∷ its) ne =
-      let apart : eqb s (segment_of g key) ≡ false = ne_eqb s (segment_of g key) ne in
-      let not_so : is_under g key (row_at s it) ≡ false = ap (λ (t : Bool). t && (eqb it.bucket (bucket_of g key) && eqb it.entry.tag (tag_of key))) apart in
+      let apart : eqb s seg ≡ false = ne_eqb s seg ne in
+      let not_so : is_spot seg bkt tag (row_at s it) ≡ false = ap (λ (t : Bool). t && (eqb it.bucket bkt && eqb it.entry.tag tag)) apart in
       rw not_so (other_segment s its ne)
 
-  later_segments : (s : ℕ) (segments : List Lists) → segment_of g key < s → under (rows_of_segments g cursor s segments) ≡ []
+  later_segments : (s : ℕ) (segments : List Lists) → seg < s → under (rows_of_segments g cursor s segments) ≡ []
   later_segments s [] lt = refl
   later_segments s (l ∷ rest) lt =
-      filter-append (is_under g key) (rows_of_segment g cursor s l) (rows_of_segments g cursor (suc s) rest)
+      filter-append (is_spot seg bkt tag) (rows_of_segment g cursor s l) (rows_of_segments g cursor (suc s) rest)
       ∙ (λ i. other_segment s (entries_from 0 l.chains) (λ q. let no : s < s = subst (λ n. n < s) (sym q) lt in absurd (omega (arith, no))) i ++ later_segments (suc s) rest (omega (arith, lt)) i)
 
-  in_segments : (s i : ℕ) (segments : List Lists) (none : Lists) → i < length segments → s + i ≡ segment_of g key
-      → under (rows_of_segments g cursor s segments) ≡ under (rows_of_segment g cursor (segment_of g key) (get_or segments i none))
+  in_segments : (s i : ℕ) (segments : List Lists) (none : Lists) → i < length segments → s + i ≡ seg
+      → under (rows_of_segments g cursor s segments) ≡ under (rows_of_segment g cursor seg (get_or segments i none))
   in_segments s i [] none lt is = absurd (omega (arith, lt))
   in_segments s zero (l ∷ rest) none lt is =
-      let here : s ≡ segment_of g key = omega (arith, is) in
-      filter-append (is_under g key) (rows_of_segment g cursor s l) (rows_of_segments g cursor (suc s) rest)
+      let here : s ≡ seg = omega (arith, is) in
+      filter-append (is_spot seg bkt tag) (rows_of_segment g cursor s l) (rows_of_segments g cursor (suc s) rest)
       ∙ (λ j. under (rows_of_segment g cursor (here j) l) ++ later_segments (suc s) rest (omega (arith, here)) j)
-      ∙ append-nil (under (rows_of_segment g cursor (segment_of g key) l))
+      ∙ append-nil (under (rows_of_segment g cursor seg l))
   in_segments s (suc i) (l ∷ rest) none lt is =
-      filter-append (is_under g key) (rows_of_segment g cursor s l) (rows_of_segments g cursor (suc s) rest)
+      filter-append (is_spot seg bkt tag) (rows_of_segment g cursor s l) (rows_of_segments g cursor (suc s) rest)
       ∙ (λ j. other_segment s (entries_from 0 l.chains) (omega (arith, is)) j ++ in_segments (suc s) i rest none (omega (arith, lt)) (omega (arith, is)) j)
 
-  pub rows_under : (segments : List Lists) → segment_of g key < length segments → bucket_of g key < length (segment_at segments (segment_of g key)).chains
-      → filter (is_under g key) (rows_of_segments g cursor 0 segments)
-      ≡ map (row_of_entry g cursor (segment_of g key) (bucket_of g key)) (filter (λ (e : Entry). eqb e.tag (tag_of key)) (entries_of (get_or (segment_at segments (segment_of g key)).chains (bucket_of g key) [])))
+  pub rows_under : (segments : List Lists) → seg < length segments → bkt < length (segment_at segments seg).chains
+      → filter (is_spot seg bkt tag) (rows_of_segments g cursor 0 segments)
+      ≡ map (row_of_entry g cursor seg bkt) (filter (λ (e : Entry). eqb e.tag tag) (entries_of (get_or (segment_at segments seg).chains bkt [])))
   rows_under segments within below =
-      in_segments 0 (segment_of g key) segments (record { chains = []; free = [] }) within (omega arith)
-      ∙ in_segment 0 (bucket_of g key) (segment_at segments (segment_of g key)).chains below (omega arith)
+      in_segments 0 seg segments (record { chains = []; free = [] }) within (omega arith)
+      ∙ in_segment 0 bkt (segment_at segments seg).chains below (omega arith)
 
 pub entries-filter : (t : Entry → Bool) (rows : List Row) → filter t (entries_of rows) ≡ entries_of (filter (λ (r : Row). t r.entry) rows)
 entries-filter t [] = refl

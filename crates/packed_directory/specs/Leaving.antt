@@ -4,14 +4,19 @@ use Rattle.std.specs.List.{All, list_any}
 use Rattle.std.specs.List.Sorted.{IsPermutation}
 use Rattle.tape_base.specs.declared.geometries.Geometry.{Geometry}
 use Rattle.tape_base.specs.declared.keys.Key.{Key}
+use Rattle.tape_base.specs.Key.{segment_of, bucket_of, tag_of}
 use Rattle.dir_segment.specs.Lists.{Lists}
 use Rattle.packed_directory.specs.declared.rows.StoredRow.{StoredRow}
-use Rattle.packed_directory.specs.StoredRows.{rows_of_segments, is_under}
+use Rattle.packed_directory.specs.StoredRows.{rows_of_segments, is_spot}
 use Rattle.packed_directory.specs.Packed.{AreBetween}
 
--- the row stands under a key, at a place
+-- the row stands under this segment, bucket and tag, at a place
+abbrev pub is_row : ℕ → ℕ → ℕ → ℕ → StoredRow → Bool
+is_row segment bucket tag place row = is_spot segment bucket tag row && row.place == place
+
+-- the row stands under those of a key, at a place
 abbrev pub is_stored : Geometry → Key → ℕ → StoredRow → Bool
-is_stored g key place row = is_under g key row && row.place == place
+is_stored g key = is_row (segment_of g key) (bucket_of g key) (tag_of key)
 
 -- one row that passes is gone
 pub record LosesRow (test : StoredRow → Bool) (before after : List StoredRow) : Type 0 where
@@ -19,10 +24,10 @@ pub record LosesRow (test : StoredRow → Bool) (before after : List StoredRow) 
   pub is : test row ≡ true
   pub left : IsPermutation (row ∷ after) before
 
--- a row of the key at the place is taken out of its segment, where there is one
-pub record TakesOut (g : Geometry) (cursor : ℕ) (key : Key) (place : ℕ) (found : Bool) (before after : List Lists) : Type 0 where
-  pub stood : found ≡ list_any (is_stored g key place) (rows_of_segments g cursor 0 before)
-  pub gone : found ≡ true → LosesRow (is_stored g key place) (rows_of_segments g cursor 0 before) (rows_of_segments g cursor 0 after)
+-- a row of the place is taken out of its segment, where there is one
+pub record TakesOut (g : Geometry) (cursor segment bucket tag place : ℕ) (found : Bool) (before after : List Lists) : Type 0 where
+  pub stood : found ≡ list_any (is_row segment bucket tag place) (rows_of_segments g cursor 0 before)
+  pub gone : found ≡ true → LosesRow (is_row segment bucket tag place) (rows_of_segments g cursor 0 before) (rows_of_segments g cursor 0 after)
   pub none : found ≡ false → after ≡ before
   pub count : length after ≡ length before
   pub widths : All (λ lists. length lists.chains ≡ g.buckets) after

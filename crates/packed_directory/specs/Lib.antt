@@ -6,6 +6,7 @@ pub mod PackedImage
 pub mod PackedWalks
 pub mod Packing
 pub mod Phases
+pub mod Stored
 pub mod StoredRows
 pub use Rattle.dir_entry.specs.Layout
 pub use Rattle.dir_entry.specs.Sizes

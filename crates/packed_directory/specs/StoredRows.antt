@@ -53,6 +53,10 @@ rows_of_segments g cursor segment (lists ∷ rest) =
 abbrev pub stored_from : ℕ → List StoredRow → List StoredRow
 stored_from low rows = filter (λ r. nat_le low r.place) rows
 
--- the row stands under the segment, the bucket and the tag of a key
+-- the row stands under this segment, bucket and tag
+abbrev pub is_spot : ℕ → ℕ → ℕ → StoredRow → Bool
+is_spot segment bucket tag row = row.segment == segment && (row.bucket == bucket && row.tag == tag)
+
+-- the row stands under those of a key
 abbrev pub is_under : Geometry → Key → StoredRow → Bool
-is_under g key row = row.segment == segment_of g key && (row.bucket == bucket_of g key && row.tag == tag_of key)
+is_under g key = is_spot (segment_of g key) (bucket_of g key) (tag_of key)

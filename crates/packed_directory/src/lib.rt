@@ -7,11 +7,13 @@ mod image;
 mod packed;
 mod rows;
 mod space;
+mod stored;
 mod walks;
 
 pub use fault::ImageFault;
 pub use packed::PackedDirectory;
-pub use rows::StoredRow;
+pub use rows::{StoredRow, StoredSpot};
+pub use stored::StoredDirectory;
 pub use walks::PackedWalk;
 
 #[cfg(test)]

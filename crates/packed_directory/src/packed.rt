@@ -4,7 +4,7 @@ ghost use Rattle.dir_entry.specs.Layout.{IsEntry};
 ghost use Rattle.dir_entry.specs.Sizes.{IsLeastClass};
 ghost use Rattle.std.specs.List.{list_any};
 ghost use Rattle.tape_base.specs.Place.{lap_of, lap_end_of};
-ghost use Rattle.packed_directory.specs.Leaving.{is_stored, LosesRow, TakesOut};
+ghost use Rattle.packed_directory.specs.Leaving.{is_row, is_stored, LosesRow, TakesOut};
 ghost use Rattle.packed_directory.specs.Phases.{IsCursor, least_place, place_of_entry, has_block};
 ghost use Rattle.packed_directory.specs.StoredRows.{entry_of_row, stored_from};
 ghost use Rattle.dir_segment.specs.Lists.{ticked};
@@ -16,8 +16,9 @@ ghost use Rattle.packed_directory.specs.Packed.{packed_rows, none_out, AreBetwee
 use crate::beside::{Beside, entry_of};
 use crate::fault::ImageFault;
 use crate::image::{count_entries, read_segments, write_segments};
-use crate::rows::StoredRow;
+use crate::rows::{StoredRow, StoredSpot};
 use crate::space::{clean, take_in};
+use crate::stored::StoredDirectory;
 use crate::walks::PackedWalk;
 use dir_entry::size_class;
 use dir_segment::{PurgeList, Segment, delete_takes};
@@ -109,9 +110,10 @@ fn assemble(
     })
 }
 
-// Takes the row of a key at a place out of its segment, and says whether it stood there.
-fn take_out(beside: &Beside, segments: &mut Vec<Segment>, key: Key, place: u64) -> bool
-    requires segments { beside.now.geometry.segments ≡ length segments.old.items }
+// Takes the row of a place out of its segment, and says whether it stood there.
+fn take_out(beside: &Beside, segments: &mut Vec<Segment>, spot: &StoredSpot, place: u64) -> bool
+    requires segment { spot.now.segment < length segments.old.items }
+    requires bucket { spot.now.bucket < beside.now.geometry.buckets }
     requires widths { All (λ lists. length lists.chains ≡ beside.now.geometry.buckets)
         segments.old.items }
     requires between { (low : ℕ) × (high : ℕ) × All (AreBetween beside.now.geometry
@@ -119,16 +121,16 @@ fn take_out(beside: &Beside, segments: &mut Vec<Segment>, key: Key, place: u64) 
     requires least { least_place beside.now.geometry beside.now.cursor ≤ place }
     requires lap { lap_of beside.now.geometry place
         ≤ lap_of beside.now.geometry beside.now.cursor }
-    ensures { TakesOut beside.now.geometry beside.now.cursor key place result
-        segments.old.items segments.new.items }
+    ensures { TakesOut beside.now.geometry beside.now.cursor spot.now.segment spot.now.bucket
+        spot.now.tag place result segments.old.items segments.new.items }
 {
     let g = &beside.geometry;
     let offset = slot(g, place) + 1;
     let odd = phase(g, place);
     delete_takes();
-    let segment = &mut segments[key.segment(g) as usize];
+    let segment = &mut segments[spot.segment as usize];
     segment.is_counted();
-    segment.delete(key.bucket(g), key.tag(), offset, odd)
+    segment.delete(spot.bucket, spot.tag, offset, odd)
 }
 
 // The segments of a new directory.
@@ -283,10 +285,31 @@ impl PackedDirectory {
         ensures tape { self.new ≡ record self.old { segments = self.new.segments } }
     {
         let g = &self.beside.geometry;
+        let spot = StoredSpot {
+            segment: key.segment(g),
+            bucket: key.bucket(g),
+            tag: key.tag(),
+        };
+        self.delete_row(&spot, place)
+    }
+
+    /// Takes the row of a segment, a bucket and a tag at a place out, and says whether it stood there.
+    pub fn delete_row(&mut self, spot: &StoredSpot, place: u64) -> bool
+        requires segment { spot.now.segment < self.old.geometry.segments }
+        requires bucket { spot.now.bucket < self.old.geometry.buckets }
+        ensures found { let s = spot.now in
+            result ≡ list_any (is_row s.segment s.bucket s.tag place) (packed_rows self.old) }
+        ensures gone { let s = spot.now in
+            result ≡ true → LosesRow (is_row s.segment s.bucket s.tag place)
+            (packed_rows self.old) (packed_rows self.new) }
+        ensures none { result ≡ false → self.new ≡ self.old }
+        ensures tape { self.new ≡ record self.old { segments = self.new.segments } }
+    {
+        let g = &self.beside.geometry;
         if place < self.floor || lap(g, place) > lap(g, self.beside.cursor) {
             return false;
         }
-        take_out(&self.beside, &mut self.segments, key, place)
+        take_out(&self.beside, &mut self.segments, spot, place)
     }
 
     /// Whether a place may be read, where a row stands there.
@@ -333,21 +356,13 @@ impl PackedDirectory {
         let _ = &self.floor;
     }
 
-    /// The blocks of an image.
-    pub fn image_blocks(g: &Geometry) -> u64
-        ensures count { result ≡ image_blocks_of g.now }
-        ensures some { 1 ≤ result }
-        ensures few { result ≤ 2 ^ 40 }
-    {
-        (g.segments as u64 * (4 + 40 * g.buckets as u64)).div_ceil(512)
-    }
-
-    /// Writes the bytes of an image for a cursor that is to come: up to the end of the cursor's lap.
-    pub fn image(&self, cursor: u64, into: &mut [u8])
+    // Writes the bytes of an image for a cursor that is to come: up to the end of the cursor's lap.
+    fn write_image(&self, cursor: u64, into: &mut [u8])
         requires len { length into.old ≡ 512 * image_blocks_of self.now.geometry }
         requires next { (self.now.end ≤ cursor)
             × (cursor ≤ lap_end_of self.now.geometry self.now.cursor) }
         ensures sound { IsImage self.now.geometry into.new }
+        ensures low { let g = self.now.geometry in least_place g cursor ≤ cursor - g.content }
         ensures rows { means self.now.geometry cursor into.new
             ≡ stored_from (least_place self.now.geometry cursor) (packed_rows self.now) }
         ensures zero { let g = self.now.geometry in let end = g.segments * segment_length g in
@@ -357,8 +372,8 @@ impl PackedDirectory {
         write_segments(&self.beside.geometry, &self.segments, into);
     }
 
-    /// The directory of an image beside its cursor: the rows that it means, from the floor on.
-    pub fn from_image(
+    // The directory of an image beside its cursor: the rows that it means, from the floor on.
+    fn read_image(
         alloc: Global,
         g: &Geometry,
         cursor: u64,
@@ -391,8 +406,8 @@ impl PackedDirectory {
         Ok(directory)
     }
 
-    /// How many entries stand on the chains of an image.
-    pub fn entries(alloc: Global, g: &Geometry, bytes: &[u8]) -> Result<u64, ImageFault>
+    // How many entries stand on the chains of an image.
+    fn count_image(alloc: Global, g: &Geometry, bytes: &[u8]) -> Result<u64, ImageFault>
         requires len { length bytes.now ≡ 512 * image_blocks_of g.now }
         ensures count { IfOk result (λ n. n ≡ entries_in (image_segments g.now bytes.now)) }
         ensures sound { OnOk result (IsImage g.now bytes.now) }
@@ -400,5 +415,47 @@ impl PackedDirectory {
     {
         let segments = read_segments(alloc, g, bytes)?;
         Ok(count_entries(&segments))
+    }
+}
+
+impl StoredDirectory for PackedDirectory {
+    ghost use Rattle.packed_directory.specs.Packed.{packed_rows};
+    ghost use Rattle.packed_directory.specs.Stored.{tape_of};
+    ghost use Rattle.packed_directory.specs.PackedImage.{image_blocks_of, image_segments, entries_in, means, IsImage, IsImageFault};
+
+    ghost rows = { packed_rows };
+
+    ghost tape = { tape_of };
+
+    ghost blocks = { image_blocks_of };
+
+    ghost is_image = { IsImage };
+
+    ghost refuses = { IsImageFault };
+
+    ghost means = { means };
+
+    ghost stored = { λ g bytes. entries_in (image_segments g bytes) };
+
+    fn image_blocks(g: &Geometry) -> u64 {
+        (g.segments as u64 * (4 + 40 * g.buckets as u64)).div_ceil(512)
+    }
+
+    fn image(&self, cursor: u64, into: &mut [u8]) {
+        self.write_image(cursor, into);
+    }
+
+    fn from_image(
+        alloc: Global,
+        g: &Geometry,
+        cursor: u64,
+        floor: u64,
+        bytes: &[u8],
+    ) -> Result<Self, ImageFault> {
+        PackedDirectory::read_image(alloc, g, cursor, floor, bytes)
+    }
+
+    fn entries(alloc: Global, g: &Geometry, bytes: &[u8]) -> Result<u64, ImageFault> {
+        PackedDirectory::count_image(alloc, g, bytes)
     }
 }

@@ -16,3 +16,11 @@ pub struct StoredRow {
     /// Written 0.
     pub token: bool,
 }
+
+/// The segment, the bucket and the tag that a row stands under.
+#[derive(Clone, Copy, Debug, PartialEq, Eq)]
+pub struct StoredSpot {
+    pub segment: u32,
+    pub bucket: u32,
+    pub tag: u16,
+}

@@ -1,5 +1,5 @@
 // A worked entry in the bytes of an image, rows of two laps, and what a full bucket pushes out.
-use crate::{ImageFault, PackedDirectory};
+use crate::{ImageFault, PackedDirectory, StoredDirectory};
 use std::test::Fail;
 use tape_base::{Geometry, Key, Steps};
 

@@ -5,7 +5,7 @@ use Rattle.packed_directory.specs.PackedImage.{meant_from}
 use Rattle.packed_directory.specs.StoredRows.{stored_from}
 use Rattle.packed_directory.proofs.Meaning.{read_rows, read_is_packed}
 use Rattle.packed_directory.proofs.Spelling.{image_count}
-use Rattle.packed_directory.proofs.packed.PackedDirectory.from_image.Goals as goal
+use Rattle.packed_directory.proofs.packed.PackedDirectory.read_image.Goals as goal
 
 pub assemble-requires : goal.assemble-requires
 assemble-requires c =

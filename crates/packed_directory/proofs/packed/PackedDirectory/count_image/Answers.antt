@@ -1,7 +1,7 @@
 use Rattle.std.proofs.Common.{List, length, ap, ◌∙◌, arith}
 use Rattle.dir_segment.specs.Lists.{Lists}
 use Rattle.packed_directory.proofs.Spelling.{image_count}
-use Rattle.packed_directory.proofs.packed.PackedDirectory.entries.Goals as goal
+use Rattle.packed_directory.proofs.packed.PackedDirectory.count_image.Goals as goal
 
 pub count_entries-requires : goal.count_entries-requires
 count_entries-requires c =

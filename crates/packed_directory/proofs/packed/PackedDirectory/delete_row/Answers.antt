@@ -2,10 +2,10 @@ use Rattle.std.proofs.Common.{◌≡◌, ap, arith}
 use Rattle.tape_base.specs.Place.{lap_of}
 use Rattle.packed_directory.specs.declared.rows.StoredRow.{StoredRow}
 use Rattle.packed_directory.specs.Packed.{IsReadable}
-use Rattle.packed_directory.specs.StoredRows.{rows_of_segments}
+use Rattle.packed_directory.specs.StoredRows.{rows_of_segments, is_spot}
 use Rattle.packed_directory.proofs.Readable.{rows_readable, none_outside}
-use Rattle.packed_directory.proofs.packed.PackedDirectory.delete.Goals as goal
-use Rattle.packed_directory.proofs.packed.PackedDirectory.delete.Goals.{then-place-self-via-then-place-self, then-place-self-via-else-place-self+then-lap}
+use Rattle.packed_directory.proofs.packed.PackedDirectory.delete_row.Goals as goal
+use Rattle.packed_directory.proofs.packed.PackedDirectory.delete_row.Goals.{then-place-self-via-then-place-self, then-place-self-via-else-place-self+then-lap}
 
 pub returns-then-place-self-clause-found : goal.returns-then-place-self-clause-found
 returns-then-place-self-clause-found c =
@@ -18,4 +18,4 @@ returns-then-place-self-clause-found c =
       | then-place-self-via-then-place-self w ↦ absurd (omega (arith, h.low, is, w.if-place-self.true))
       | then-place-self-via-else-place-self+then-lap w ↦ let k = w.lap.ensures in let m = w.lap-else-place-self.ensures in absurd (omega (arith, h.lap, ap (lap_of g) is, w.if-lap.true, k, m))
     ] in
-    rw (← c.self.view_is) (none_outside g d.beside.cursor d.floor d.end d.beside.bounds.first c.args.key c.args.place rows all outside)
+    rw (← c.self.view_is) (none_outside g d.beside.cursor d.floor d.end d.beside.bounds.first (is_spot c.args.spot.now.segment c.args.spot.now.bucket c.args.spot.now.tag) c.args.place rows all outside)
