@@ -18,6 +18,7 @@ use Rattle.packed_directory.specs.Phases.{IsCursor, least_place, place_of_entry,
 use Rattle.packed_directory.specs.StoredRows.{row_of_entry, rows_of_segments, stored_from}
 use Rattle.packed_directory.specs.Packed.{AreBetween, IsPacked, segment_at}
 use Rattle.packed_directory.specs.Cleaned.{IsCleaned, AreCleaned}
+use Rattle.packed_directory.proofs.Enters.{all_behind, all_before}
 use Rattle.packed_directory.proofs.Gathering.{entries_of, in_bucket, entries-cons}
 use Rattle.packed_directory.proofs.Phasing.{content_some, one_lap, of_place, place_back, parts_between, between_from}
 
@@ -52,14 +53,6 @@ cleaned_from_law law g cursor low high before after stored is wide = record {
 unmap_all : {X Y : Type 0} (P : Y → Type 0) (f : X → Y) (xs : List X) → All P (map f xs) → All (λ x. P (f x)) xs
 unmap_all P f [] h = All-nil (λ x. P (f x))
 unmap_all P f (x ∷ xs) h = All-cons (λ y. P (f y)) x xs (All-head P (f x) (map f xs) h) (unmap_all P f xs (All-tail P (f x) (map f xs) h))
-
-all_behind : {X : Type 0} (P : X → Type 0) (xs ys : List X) → All P (xs ++ ys) → All P ys
-all_behind P [] ys h = h
-all_behind P (x ∷ xs) ys h = all_behind P xs ys (All-tail P x (xs ++ ys) h)
-
-all_before : {X : Type 0} (P : X → Type 0) (xs ys : List X) → All P (xs ++ ys) → All P xs
-all_before P [] ys h = All-nil P
-all_before P (x ∷ xs) ys h = All-cons P x xs (All-head P x (xs ++ ys) h) (all_before P xs ys (All-tail P x (xs ++ ys) h))
 
 and_both : (x : Bool) → (true && (x && true)) ≡ x
 and_both true = refl

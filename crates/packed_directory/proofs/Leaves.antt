@@ -20,7 +20,7 @@ use Rattle.packed_directory.specs.StoredRows.{row_of_entry, rows_of_segment, row
 use Rattle.packed_directory.specs.Packed.{AreBetween, segment_at, TakesRow}
 use Rattle.packed_directory.specs.Leaving.{is_row, LosesRow, TakesOut}
 use Rattle.packed_directory.proofs.Gathering.{entries_of, in_bucket, one_more}
-use Rattle.packed_directory.proofs.Phasing.{place_back, of_place, parts_between}
+use Rattle.packed_directory.proofs.Phasing.{place_back, of_place, parts_between, same_beq, beq_same}
 use Rattle.packed_directory.proofs.Segments.{all_take}
 use Rattle.packed_directory.proofs.Under.{rows_under}
 use Rattle.packed_directory.proofs.Chained.{chain_all}
@@ -71,25 +71,13 @@ module _ (g : Geometry) (cursor : ℕ) (seg bkt tag : ℕ) (place : ℕ) (first 
   abbrev that : Entry → Bool
   that = is_that tag (slot_of g place + 1) (phase_of g place)
 
-  beq_is : (a b : Bool) → beq a b ≡ true → a ≡ b
-  beq_is true true h = refl
-  beq_is false false h = refl
-  beq_is true false h = absurd (cc h)
-  beq_is false true h = absurd (cc h)
-
-  is_beq : (a b : Bool) → a ≡ b → beq a b ≡ true
-  is_beq true true h = refl
-  is_beq false false h = refl
-  is_beq true false h = absurd (cc h)
-  is_beq false true h = absurd (cc h)
-
   -- an entry has the block and the phase of the place exactly where it stands for it
   there : (e : Entry) → has_block g e ≡ true → (eqb e.offset (slot_of g place + 1) && beq e.phase (phase_of g place)) ≡ eqb (place_of_entry g cursor e) place
   there e block = elim (cases_eq (place_of_entry g cursor e) place) [
     | inl is ↦
         let of = of_place g cursor e first block in
         let offset : eqb e.offset (slot_of g place + 1) ≡ true = eq-eqb e.offset (slot_of g place + 1) (of.block ∙ ap (λ p. slot_of g p + 1) is) in
-        let phase : beq e.phase (phase_of g place) ≡ true = is_beq e.phase (phase_of g place) (of.phase ∙ ap (phase_of g) is) in
+        let phase : beq e.phase (phase_of g place) ≡ true = same_beq e.phase (phase_of g place) (of.phase ∙ ap (phase_of g) is) in
         let yes : eqb (place_of_entry g cursor e) place ≡ true = eq-eqb (place_of_entry g cursor e) place is in
         (λ i. offset i && phase i) ∙ sym yes
     | inr ne ↦
@@ -97,7 +85,7 @@ module _ (g : Geometry) (cursor : ℕ) (seg bkt tag : ℕ) (place : ℕ) (first 
         let not_so : (eqb e.offset (slot_of g place + 1) && beq e.phase (phase_of g place)) ≡ false =
         false_from_ne_true (eqb e.offset (slot_of g place + 1) && beq e.phase (phase_of g place)) (λ q.
         let both = and_parts (eqb e.offset (slot_of g place + 1)) (beq e.phase (phase_of g place)) q in
-        ne (place_back g cursor place e first least lap (record { block = eqb-true e.offset (slot_of g place + 1) both.0; phase = beq_is e.phase (phase_of g place) both.1 }))) in
+        ne (place_back g cursor place e first least lap (record { block = eqb-true e.offset (slot_of g place + 1) both.0; phase = beq_same e.phase (phase_of g place) both.1 }))) in
         not_so ∙ sym no
   ]
 

@@ -32,7 +32,7 @@ other_beq true false h = refl
 other_beq false true h = refl
 other_beq false false h = absurd (cc h)
 
-beq_same : (a b : Bool) → beq a b ≡ true → a ≡ b
+pub beq_same : (a b : Bool) → beq a b ≡ true → a ≡ b
 beq_same true true h = refl
 beq_same false false h = refl
 beq_same true false h = absurd (cc h)

@@ -1,5 +1,5 @@
 -- What a directory and its image say of each other.
-use Rattle.std.specs.Prelude.{ℕ, ◌≡◌, ◌≤◌, List}
+use Rattle.std.specs.Prelude.{ℕ, ◌≤◌, List}
 use Rattle.std.specs.List.Sorted.{IsPermutation}
 use Rattle.tape_base.specs.declared.geometries.Geometry.{Geometry}
 use Rattle.packed_directory.specs.declared.rows.StoredRow.{StoredRow}
