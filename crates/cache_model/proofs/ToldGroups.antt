@@ -54,12 +54,12 @@ stopped : {Shown : Type 0} (p : Permit) (s : State) (count : ℕ) (added : List 
 stopped {Shown} p s count added m told = subst (Tells Shown s) (sym m.is) (inl (stopped_tells s (due_pieces s p.now) m.outcomes count told))
 
 -- a pair of a piece that a flush is to copy is one of what is asked, where it begins with the flush
-pub pair_of_copy : (IsPlaced : Documents) (p : Permit) (s : State) (i : Intent) → flushes_first s i ≡ true → IsCopyPair IsPlaced p s p.now → IsPair IsPlaced p s i
-pair_of_copy IsPlaced p s i first c = record { row = c.row; read = Pair.IsToRead.copied first c.written c.due; pair = c.pair }
+pub pair_of_copy : (IsPlaced : Documents) (p : Permit) (s : State) (i : Intent) → flushes_first s i ≡ true → Legal.CanFlush s → IsCopyPair IsPlaced p s p.now → IsPair IsPlaced p s i
+pair_of_copy IsPlaced p s i first can c = record { row = c.row; read = Pair.IsToRead.copied first can c.written c.due; pair = c.pair }
 
 roomed : (p : Permit) (s : State) (i : Intent) (bytes : ℕ) (added : List Rec) (e : End) → (has_room s bytes ≡ false → flushes_first s i ≡ true) → Legal.MakesRoom p s bytes added e → IsSound s → AreTold s
     → Tells (IsPair IsVectorAs p s i) s added
-roomed p s i bytes added e first (Legal.MakesRoom.flushes x m) h told = as_shown (pair_of_copy IsVectorAs p s i (first x)) (flushed p s added m h told)
+roomed p s i bytes added e first (Legal.MakesRoom.flushes x m) h told = as_shown (pair_of_copy IsVectorAs p s i (first x) m.can) (flushed p s added m h told)
 roomed p s i bytes added e first (Legal.MakesRoom.stops count x m) h told = stopped p s count added m told
 roomed p s i bytes added e first (Legal.MakesRoom.exhausted x q is) h told = aside s added [] is tt told
 
@@ -141,7 +141,7 @@ vector_placed p s put fragments added m told =
 
 pub told_group : (p : Permit) (s : State) (i : Intent) (added : List Rec) (e : End) → IsSound s → AreTold s → Does p s i added e → Tells (IsPair IsVectorAs p s i) s added
 told_group p s Flush added e h told (Legal.DoesFlush.empty q f is) = aside s added [] is tt told
-told_group p s Flush added e h told (Legal.DoesFlush.flushes m) = as_shown (pair_of_copy IsVectorAs p s Flush refl) (flushed p s added m h told)
+told_group p s Flush added e h told (Legal.DoesFlush.flushes m) = as_shown (pair_of_copy IsVectorAs p s Flush refl m.can) (flushed p s added m h told)
 told_group p s Flush added e h told (Legal.DoesFlush.stops count m) = stopped p s count added m told
 told_group p s Flush added e h told (Legal.DoesFlush.exhausted q f b is) = aside s added [] is tt told
 told_group p s (Write actor key request response pin) added e h told (Legal.DoesWrite.opens m) = inl (opened s actor key request response pin added m told)

@@ -2,6 +2,7 @@
 -- of one SHA-256 are shown.
 use Rattle.std.specs.Prelude.{ℕ, ◌≡◌, ◌⊎◌, Bool, true, false, List, ◌++◌, take, Option}
 use Rattle.std.specs.List.{AllByRecursion}
+use Rattle.hex.specs.Hex.{IsBytes}
 use Rattle.tape_base.specs.Digest.{Collide}
 use Rattle.doc_header.specs.Reading.{document_digest, extent_of}
 use Rattle.cache_model.specs.declared.record.Rec.{Rec}
@@ -39,6 +40,10 @@ pub record IsOtherCopy (p q : Permit) (s : State) : Type 0 where
   pub other_given : IsGiven q s row other
   pub kept : row.digest ≡ document_digest one
   pub collide : Collide (take (extent_of one) one) (take (extent_of other) other)
+
+-- both are bytes
+abbrev pub OtherCopiesAreBytes : Type 0
+OtherCopiesAreBytes = (p q : Permit) (s : State) (c : IsOtherCopy p q s) → IsBytes (take (extent_of c.one) c.one) × IsBytes (take (extent_of c.other) c.other)
 
 -- two groups that tell no trouble, for what is asked in one state of like devices, are the same and end alike,
 -- whatever else the devices gave and counted, or such a piece is shown

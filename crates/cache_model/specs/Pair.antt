@@ -1,5 +1,5 @@
--- Two documents of one SHA-256: the one as which a live piece was placed, and other bytes that were
--- read for it. What a promise loses where SHA-256 fails, it loses by such a pair alone.
+-- Two documents of one SHA-256: the one as which a live piece was placed, and other bytes for it. What a
+-- promise loses where SHA-256 fails, it loses by such a pair alone.
 use Rattle.std.specs.Prelude.{ℕ, ◌≡◌, ◌++◌, true, List, [], ◌∷◌, take, Some}
 use Rattle.hex.specs.Hex.{IsBytes}
 use Rattle.tape_base.specs.declared.keys.Key.{Key}
@@ -11,15 +11,15 @@ use Rattle.cache_model.specs.Verdict.{live_vector_of}
 use Rattle.cache_model.specs.Permit.{Intent, IsAmong, Permit, Work, to_do}
 use Rattle.cache_model.specs.Given.{IsGiven, IsWritten}
 use Rattle.cache_model.specs.Due.{due_pieces}
-use Rattle.cache_model.specs.Legal.{MayGrow}
+use Rattle.cache_model.specs.Legal.{CanFlush, MayGrow}
 use Rattle.cache_model.specs.Choices.{flushes_first, to_read}
 
 -- which documents a row may have been placed as
 abbrev pub Documents : Type 1
 Documents = State → Row → List ℕ → Type 0
 
--- a live piece was placed as a document, and other bytes for it have the document's SHA-256: the device gave
--- them in the step, or they stand in the buffer
+-- a live piece was placed as a document, and other bytes for it have the document's SHA-256: of a piece that was
+-- written out the device gave them in the step; of one in the buffer nothing more is said of them
 pub record IsPairOf (IsPlaced : Documents) (p : Permit) (s : State) (row : Row) : Type 0 where
   pub document : List ℕ
   pub bytes : List ℕ
@@ -41,10 +41,10 @@ pub record IsCopyPair (IsPlaced : Documents) (p : Permit) (s : State) (now : ℕ
   pub written : IsWritten s row
   pub pair : IsPairOf IsPlaced p s row
 
--- what is read for what is asked: the piece that is asked for, or one that the flush before it is to copy
+-- what is read for what is asked: the piece that is asked for, or one that the flush is to copy with which it begins
 pub data IsToRead (p : Permit) (s : State) (i : Intent) (row : Row) : Type 0 where
   asked_for : to_read s i ≡ Some row → IsToRead p s i row
-  copied : flushes_first s i ≡ true → IsWritten s row → IsAmong row (due_pieces s p.now) → IsToRead p s i row
+  copied : flushes_first s i ≡ true → CanFlush s → IsWritten s row → IsAmong row (due_pieces s p.now) → IsToRead p s i row
 
 -- a pair of a piece that is read for what is asked
 pub record IsPair (IsPlaced : Documents) (p : Permit) (s : State) (i : Intent) : Type 0 where

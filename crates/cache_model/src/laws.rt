@@ -6,7 +6,7 @@ ghost use Rattle.cache_model.specs.StepLaws.{RefusalEnds, NumbersFollow, FaultsR
 ghost use Rattle.cache_model.specs.VerdictLaws.{HitMatches, CompleteIsHit, RemovedIsMissed, PassedIsMissed, FormattedIsEmpty, GivenIsOwn, EndIsWhole, FollowedIsClosed, WaitsForOpen};
 ghost use Rattle.cache_model.specs.Tape.{StepsAreSound, LegalIsSound, LiveIsKnown};
 ghost use Rattle.cache_model.specs.FlushLaws.{DueAreFound, FlushIsSound, FrontIsBacked, GivenAreTried, KeptAreChosen, OutcomesAreFixed, OutcomesAreFound, OutcomesAreTried, StoppedIsBacked, StoppedIsSound, WalkFinds, WalkGoesOn};
-ghost use Rattle.cache_model.specs.Agreeing.{GroupsAgree, StepsAgree};
+ghost use Rattle.cache_model.specs.Agreeing.{GroupsAgree, OtherCopiesAreBytes, StepsAgree};
 ghost use Rattle.cache_model.specs.Pair.{PairsAreBytes, PairsAreGiven};
 ghost use Rattle.cache_model.specs.Vectors.{FlushTells, IsVectorAs, StoppedTells, FormatsTell, GroupsTell, StepsTell, VectorsAreKept, LiveVectorIsListed, VectorIsReadBack, MergedIsSpelled};
 
@@ -240,6 +240,7 @@ pub fn steps_tell()
 pub fn pairs_are_given()
     ensures bytes { PairsAreBytes IsVectorAs }
     ensures given { PairsAreGiven IsVectorAs }
+    ensures copies { OtherCopiesAreBytes }
 {}
 
 /// In each legal chronicle each vector is the document that spells its alternates, or a step shows two

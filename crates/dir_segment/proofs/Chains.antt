@@ -111,3 +111,12 @@ module _ (slots : List Entry) (head spare taken buckets : ℕ) (lists : Lists) (
         let has' : has_slot n c ≡ true = has_behind x n c here in
         let rest : rows ≡ behind_slot n c = same_chain slots (at slots n).next rows (behind_slot n c) k.3 (bucket_behind slots b n c (h.chains b lt) has') in
         (e' ∙ ap (λ (qs : List Row). row n (at slots n) ∷ qs) rest, has')
+
+  pub next_used : (x : ℕ) → has_slot x (get_or lists.chains b []) ≡ true → (n : ℕ) → n ≡ (at slots x).next → n ≢ 0 → 0 < (at slots n).offset
+  next_used x has n is some = go (behind_slot x c) (subst (λ k. IsChain slots k (behind_slot x c)) (sym is) (bucket_behind slots b x c (h.chains b lt) has)) where
+    c : List Row
+    c = get_or lists.chains b []
+
+    go : (d : List Row) → IsChain slots n d → 0 < (at slots n).offset
+    go [] k = absurd (some k)
+    go (r ∷ rows) k = k.1

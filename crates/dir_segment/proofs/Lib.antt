@@ -1,9 +1,12 @@
 pub mod Accepting
 pub mod Bytes
 pub mod Chains
+pub mod Counting
 pub mod Counts
+pub mod Entering
 pub mod Frames
 pub mod Fresh
+pub mod Housing
 pub mod Inserting
 pub mod Marking
 pub mod Moves

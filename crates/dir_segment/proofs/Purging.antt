@@ -1,5 +1,5 @@
 -- Which entries a purge is offered, and which it takes.
-use Rattle.std.proofs.Common.{◌≡◌, ◌≢◌, ℕ, zero, suc, ◌+◌, ◌-◌, ◌*◌, ◌%◌, ◌<◌, ◌≤◌, Bool, true, false, cond, eqb, List, [], ◌∷◌, ◌++◌, drop, length, get_or, set, map, refl, sym, ap, subst, ◌∙◌, arith, append_assoc, length-set, get_or-set_same, get_or-set_other, inl, inr}
+use Rattle.std.proofs.Common.{◌≡◌, ◌≢◌, ℕ, zero, suc, ◌+◌, ◌-◌, ◌*◌, ◌/◌, ◌%◌, ◌<◌, ◌≤◌, Bool, true, false, cond, eqb, List, [], ◌∷◌, ◌++◌, drop, length, get_or, set, map, refl, sym, ap, subst, ◌∙◌, arith, append_assoc, length-set, get_or-set_same, get_or-set_other, inl, inr}
 use Rattle.std.specs.Prelude.{filter, ◌||◌, not, Some, None}
 use Rattle.std.proofs.lemmas.Bool.{cases_eq, eqb-true, ne_eqb, eq-eqb}
 use Rattle.std.proofs.lemmas.List.{append-nil}
@@ -8,7 +8,7 @@ use Rattle.dir_entry.specs.declared.entry.Entry.{Entry}
 use Rattle.dir_segment.specs.Lists.{Row, Lists, row, has_slot, slots_behind_roots}
 use Rattle.dir_segment.specs.Links.{at, IsChain, IsBucket, IsFreeList, IsSegment, followers, lines, hit, occurrences}
 use Rattle.dir_segment.specs.Cleaning.{freed_by, each_bucket}
-use Rattle.dir_segment.specs.Purging.{thin_chain, thin_bucket, after_purge, Purge, behind_roots, find_slot, onto, rows_of, tenths, purged, is_left, is_unmarked, offer, offer_found, offer_slots}
+use Rattle.dir_segment.specs.Purging.{thin_chain, thin_bucket, after_purge, Purge, behind_roots, find_slot, onto, rows_of, tenths, purged, tenth_of, is_left, is_unmarked, offer, offer_found, offer_slots}
 use Rattle.dir_segment.proofs.Counts.{missed, occurrences-append}
 use Rattle.dir_segment.proofs.Moves.{once_at}
 
@@ -112,6 +112,44 @@ has_of_occurs s (r ∷ rows) some =
     elim (eqb r.slot s) as (λ t. 0 < cond t 1 0 + occurrences s (slots_of rows) → (t || has_slot s rows) ≡ true)
     [ true ↦ λ some'. refl | false ↦ λ some'. has_of_occurs s rows (omega (arith, some')) ] some
 
+find_has : (s : ℕ) (rows : List Row) → has_slot s rows ≡ true → (r : Row) × (find_slot s rows ≡ Some r) × (r.slot ≡ s)
+find_has s [] has = absurd (cc has)
+find_has s (r ∷ rows) has =
+    elim (eqb r.slot s) as (λ t. eqb r.slot s ≡ t → (t || has_slot s rows) ≡ true → (q : Row) × (cond t (Some r) (find_slot s rows) ≡ Some q) × (q.slot ≡ s)) [
+      | true ↦ λ e has'. (r, refl, eqb-true r.slot s e)
+      | false ↦ λ e has'. find_has s rows has'
+    ] refl has
+
+-- where no slot is free, each slot behind a root is used
+slot_behind : (slots : List Entry) (head spare taken buckets : ℕ) (lists : Lists) → IsSegment slots head spare taken buckets lists → lists.free ≡ []
+    → (s : ℕ) → s < 4 * buckets → s % 4 ≢ 0 → (r : Row) × (find_slot s (behind_roots lists.chains) ≡ Some r)
+slot_behind slots head spare taken buckets lists h none s lt other =
+    let free : occurrences s lists.free ≡ 0 = ap (occurrences s) none in
+    let all = one slots head spare taken buckets lists h s lt other in
+    let found = find_has s (behind_roots lists.chains) (has_of_occurs s (behind_roots lists.chains) (omega (arith, all, free))) in
+    (found.0, found.1)
+
+rows_behind : (rows : List Row) (end : ℕ) → ((s : ℕ) → s < 4 * end → s % 4 ≢ 0 → (r : Row) × (find_slot s rows ≡ Some r))
+    → (b n : ℕ) → b + n ≤ end → length (rows_of (slots_behind_roots b n) rows) ≡ 3 * n
+rows_behind rows end each b zero le = refl
+rows_behind rows end each b (suc n) le =
+    let first = each (4 * b + 1) (omega (arith, le)) (omega arith) in
+    let second = each (4 * b + 2) (omega (arith, le)) (omega arith) in
+    let third = each (4 * b + 3) (omega (arith, le)) (omega arith) in
+    rw (first.1, second.1, third.1) (omega (arith, rows_behind rows end each (suc b) n (omega (arith, le))))
+
+tenths-length : (skip rest : ℕ) (rows : List Row) → skip + rest ≡ 9 → length (tenths skip rows) ≡ (length rows + rest) / 10
+tenths-length skip rest [] all = omega (arith, all)
+tenths-length zero rest (r ∷ rows) all = omega (arith, all, tenths-length 9 0 rows refl)
+tenths-length (suc skip) rest (r ∷ rows) all = omega (arith, tenths-length skip (suc rest) rows (omega (arith, all)))
+
+-- where no slot is free, a purge takes a tenth of the slots behind the roots
+pub tenth_purged : (slots : List Entry) (head spare taken buckets : ℕ) (lists : Lists) → IsSegment slots head spare taken buckets lists → lists.free ≡ []
+    → length (purged lists) ≡ tenth_of (length lists.chains)
+tenth_purged slots head spare taken buckets lists h none =
+    let behind = rows_behind (behind_roots lists.chains) buckets (slot_behind slots head spare taken buckets lists h none) 0 (length lists.chains) (omega (arith, h.width)) in
+    omega (arith, behind, tenths-length 0 9 (rows_of (slots_behind_roots 0 (length lists.chains)) (behind_roots lists.chains)) refl)
+
 -- where no slot is free, the first slot behind a root is used
 pub full_behind : (slots : List Entry) (head spare taken buckets : ℕ) (lists : Lists) → IsSegment slots head spare taken buckets lists → lists.free ≡ []
     → has_slot 1 (behind_roots lists.chains) ≡ true
@@ -171,7 +209,7 @@ marks_taken s (suc skip) out is r rows lt =
     let less : out.skip - 1 ≡ skip = omega (arith, is) in
     rw there (ap (λ k. get_or out.marks s false || has_slot s (tenths k rows)) less)
 
-find_slot-is : (s : ℕ) (rows : List Row) (r : Row) → find_slot s rows ≡ Some r → r.slot ≡ s
+pub find_slot-is : (s : ℕ) (rows : List Row) (r : Row) → find_slot s rows ≡ Some r → r.slot ≡ s
 find_slot-is s [] r is = absurd (cc is)
 find_slot-is s (q ∷ rows) r is =
     elim (eqb q.slot s) as (λ t. eqb q.slot s ≡ t → cond t (Some q) (find_slot s rows) ≡ Some r → r.slot ≡ s) [
@@ -234,14 +272,6 @@ bucket_offered rows b n root out first second third whole lt place one two three
 
 -- ---- a slot is free again
 
-find_has : (s : ℕ) (rows : List Row) → has_slot s rows ≡ true → (r : Row) × (find_slot s rows ≡ Some r) × (r.slot ≡ s)
-find_has s [] has = absurd (cc has)
-find_has s (r ∷ rows) has =
-    elim (eqb r.slot s) as (λ t. eqb r.slot s ≡ t → (t || has_slot s rows) ≡ true → (q : Row) × (cond t (Some r) (find_slot s rows) ≡ Some q) × (q.slot ≡ s)) [
-      | true ↦ λ e has'. (r, refl, eqb-true r.slot s e)
-      | false ↦ λ e has'. find_has s rows has'
-    ] refl has
-
 purged_first : (chains : List (List Row)) → has_slot 1 (behind_roots chains) ≡ true → has_slot 1 (tenths 0 (rows_of (slots_behind_roots 0 (length chains)) (behind_roots chains))) ≡ true
 purged_first [] has = absurd (cc has)
 purged_first (c ∷ chains) has =
@@ -279,7 +309,7 @@ module _ (test : Row → Bool) where
   unfolding thin_bucket
   thin_grows lists b = chain_grows lists b (get_or lists.chains b [])
 
-  thin_other : (lists : Lists) (b k : ℕ) → k ≢ b → get_or (thin_bucket test lists b).chains k [] ≡ get_or lists.chains k []
+  pub thin_other : (lists : Lists) (b k : ℕ) → k ≢ b → get_or (thin_bucket test lists b).chains k [] ≡ get_or lists.chains k []
   unfolding thin_bucket
   thin_other lists b k ne = chain_other lists b (get_or lists.chains b []) k ne
 

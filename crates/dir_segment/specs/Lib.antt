@@ -1,4 +1,5 @@
 pub mod Cleaning
+pub mod Entries
 pub mod Image
 pub mod Links
 pub mod Lists

@@ -96,6 +96,11 @@ abbrev pub first_of_tag : ℕ → List Row → Option Row
 first_of_tag tag [] = None
 first_of_tag tag (r ∷ rows) = cond (r.entry.tag == tag) (Some r) (first_of_tag tag rows)
 
+-- the rows behind the first of a tag
+abbrev pub rest_of_tag : ℕ → List Row → List Row
+rest_of_tag tag [] = []
+rest_of_tag tag (r ∷ rows) = cond (r.entry.tag == tag) rows (rest_of_tag tag rows)
+
 -- how many rows are looked at up to the first of a tag, that one included
 abbrev pub steps_to : ℕ → List Row → ℕ
 steps_to tag [] = 0

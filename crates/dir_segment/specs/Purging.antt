@@ -1,5 +1,5 @@
 -- Which entries a purge takes out, and what is left.
-use Rattle.std.specs.Prelude.{ℕ, zero, suc, ◌-◌, ◌==◌, Bool, true, false, not, cond, List, [], ◌∷◌, ◌++◌, length, drop, filter, slice_index_or, slice_set, Option, Some, None}
+use Rattle.std.specs.Prelude.{ℕ, zero, suc, ◌+◌, ◌*◌, ◌/◌, ◌-◌, ◌==◌, Bool, true, false, not, cond, List, [], ◌∷◌, ◌++◌, length, drop, filter, slice_index_or, slice_set, Option, Some, None}
 use Rattle.dir_entry.specs.declared.entry.Entry.{Entry}
 use Rattle.dir_segment.specs.Lists.{Row, Lists, chain_of, with_chain, has_slot, slots_behind_roots}
 use Rattle.dir_segment.specs.Cleaning.{freed_by, each_bucket}
@@ -33,6 +33,10 @@ tenths (suc skip) (r ∷ rows) = tenths skip rows
 -- the first, the eleventh and so on of the rows behind the roots, in slot order
 abbrev pub purged : Lists → List Row
 purged lists = tenths 0 (rows_of (slots_behind_roots 0 (length lists.chains)) (behind_roots lists.chains))
+
+-- a tenth of the slots behind so many roots, rounded up
+abbrev pub tenth_of : ℕ → ℕ
+tenth_of buckets = (3 * buckets + 9) / 10
 
 -- the row stands in another slot than all that go
 abbrev pub is_left : List Row → Row → Bool

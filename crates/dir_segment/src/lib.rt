@@ -3,12 +3,14 @@
 
 mod fault;
 mod image;
+mod laws;
 mod purge;
 mod reached;
 mod segment;
 mod slots;
 
 pub use fault::SegmentFault;
+pub use laws::{clean_keeps, delete_takes, insert_enters};
 pub use purge::PurgeList;
 pub use segment::{Inserted, Segment};
 

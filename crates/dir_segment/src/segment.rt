@@ -5,10 +5,11 @@ ghost use Rattle.dir_entry.specs.Layout.{IsEntry};
 ghost use Rattle.std.specs.Fn.{FnReturnsAt};
 ghost use Rattle.dir_entry.specs.declared.entry.Entry.{Entry as EntryValue};
 ghost use Rattle.dir_segment.specs.Cleaning.{Computes, BeginsAt, FirstPasses, clean_bucket, clean_buckets};
+ghost use Rattle.dir_segment.specs.Entries.{AreCounted, AreStored, PurgeTakes};
 ghost use Rattle.dir_segment.specs.Image.{image_lists, image_walk, IsFault, IsSound};
 ghost use Rattle.dir_segment.specs.Links.{fresh_link};
-ghost use Rattle.dir_segment.specs.Lists.{new_lists, inserted, IsFull, entry_count, row, has_slot, chain_of, behind, behind_slot, take_root, take_next, slots_behind_roots, is_that, passes, deleted, IsRoot, IsBeforeFirst, GivesNext, first_of_tag, steps_to, ticked};
-ghost use Rattle.dir_segment.specs.Purging.{purged, after_purge, behind_roots, find_slot, offer_found, offer_slots, thin_bucket, is_unmarked};
+ghost use Rattle.dir_segment.specs.Lists.{new_lists, inserted, IsFull, entry_count, row, has_slot, chain_of, behind, behind_slot, take_root, take_next, slots_behind_roots, is_that, passes, deleted, IsRoot, IsBeforeFirst, GivesNext, first_of_tag, rest_of_tag, steps_to, ticked};
+ghost use Rattle.dir_segment.specs.Purging.{purged, tenth_of, after_purge, behind_roots, find_slot, offer_found, offer_slots, thin_bucket, is_unmarked};
 ghost use Rattle.dir_segment.specs.declared.segment.Inserted.TheVariants as answers;
 
 use crate::fault::SegmentFault;
@@ -213,6 +214,7 @@ impl Segment {
     fn bucket_count(&self) -> u32
         ensures count { result ≡ length self.now.chains }
         ensures full { self.now.free ≡ [] → has_slot 1 (behind_roots self.now.chains) ≡ true }
+        ensures tenth { self.now.free ≡ [] → length (purged self.now) ≡ tenth_of (length self.now.chains) }
     {
         self.buckets
     }
@@ -275,6 +277,7 @@ impl Segment {
         ensures lists { self.new ≡ after_purge self.old }
         ensures entries { out.new.entries ≡ map (λ r. r.entry) (purged self.old) }
         ensures few { 10 * length out.new.entries ≤ 3 * length self.old.chains + 9 }
+        ensures tenth { self.old.free ≡ [] → length out.new.entries ≡ tenth_of (length self.old.chains) }
         ensures room { self.old.free ≡ [] → self.new.free ≢ [] }
         ensures buckets { out.new.buckets ≡ out.old.buckets }
         ensures width { length self.new.chains ≡ length self.old.chains }
@@ -395,6 +398,7 @@ impl Segment {
         requires bucket { bucket < length self.now.chains }
         requires after { IfSome after (λ slot. has_slot slot (chain_of self.now bucket) ≡ true) }
         ensures fits { IfSome result (λ found. IsEntry found.1) }
+        ensures used { IfSome result (λ found. 0 < found.1.offset) }
         ensures next { GivesNext result (behind after (chain_of self.now bucket)) (chain_of self.now bucket) }
     {
         match after {
@@ -428,7 +432,11 @@ impl Segment {
         requires bucket { bucket < length self.now.chains }
         requires after { IfSome after (λ slot. has_slot slot (chain_of self.now bucket) ≡ true) }
         ensures found { option_map (λ f. row f.0 f.1) result ≡ first_of_tag tag (behind after (chain_of self.now bucket)) }
+        ensures fits { IfSome result (λ f. IsEntry f.1) }
+        ensures used { IfSome result (λ f. 0 < f.1.offset) }
         ensures held { IfSome result (λ f. has_slot f.0 (chain_of self.now bucket) ≡ true) }
+        ensures next { IfSome result (λ f. behind_slot f.0 (chain_of self.now bucket)
+            ≡ rest_of_tag tag (behind after (chain_of self.now bucket))) }
         ensures steps { steps.new ≡ ticked (steps_to tag (behind after (chain_of self.now bucket))) steps.old }
     {
         while let Some((slot, entry)) = self.chain(bucket, after) {
@@ -482,5 +490,21 @@ impl Segment {
             free_count: kept as u32,
             used,
         })
+    }
+
+    /// A law for proofs: how many entries and free slots there are together, and that each row has
+    /// an entry which stands in a slot.
+    pub fn is_counted(&self)
+        ensures counted { AreCounted self.now }
+        ensures stored { AreStored self.now }
+    {
+        self.slots.fit();
+    }
+
+    /// A law for proofs: what a purge of this segment takes and leaves.
+    pub fn purge_takes(&self)
+        ensures { PurgeTakes self.now }
+    {
+        let _ = &self.buckets;
     }
 }

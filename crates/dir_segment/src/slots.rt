@@ -1,5 +1,5 @@
 // The entries of a segment in slot order, each packed into its ten bytes.
-ghost use Rattle.std.specs.Prelude.{◌≡◌, ◌<◌, ◌++◌, ◌∷◌, [], length, slice_set, if◌then◌else◌, is_ok, IfOk, ◌*◌, ◌/◌};
+ghost use Rattle.std.specs.Prelude.{◌≡◌, ℕ, ◌<◌, ◌++◌, ◌∷◌, [], length, slice_set, if◌then◌else◌, is_ok, IfOk, ◌*◌, ◌/◌};
 ghost use Rattle.dir_entry.specs.Layout.{IsEntry};
 ghost use Rattle.dir_segment.specs.Image.{entries_of};
 ghost use Rattle.dir_segment.specs.Links.{at};
@@ -85,5 +85,12 @@ impl Slots {
         ensures len { length result.now ≡ 10 * length self.now }
     {
         self.packed.as_flattened()
+    }
+
+    /// A law for proofs: each field of each entry is below its width.
+    pub fn fit(&self)
+        ensures { (slot : ℕ) → IsEntry (at self.now slot) }
+    {
+        let _ = &self.packed;
     }
 }

@@ -5,7 +5,7 @@ use cache_model::Cause;
 /// Why a step was not done.
 #[derive(Clone, Copy, Debug, PartialEq, Eq)]
 pub enum Refused {
-    /// The number of the geometry that is outside, from 1 to 6 in the order of the line.
+    /// The number of the geometry that is outside, from 1 to 7 in the order of the line.
     Geometry { number: u32 },
     TooManyWriters,
     TooManyFragments,

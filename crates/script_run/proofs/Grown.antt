@@ -103,7 +103,7 @@ module _ (kind : Kind) (g : Geometry) (streams : ℕ → Stream) where
 
   roomed : (p : Permit) (s : State) (i : Intent) (bytes : ℕ) (added : List Rec) (e : End) → (has_room s bytes ≡ false → flushes_first s i ≡ true) → Legal.MakesRoom p s bytes added e → IsSound s → IsHeld kind g streams s
       → Leaves p s i added
-  roomed p s i bytes added e first (Legal.MakesRoom.flushes x m) sound h = as_shown (pair_of_copy (kind.documents streams) p s i (first x)) (flushes p s added m sound h)
+  roomed p s i bytes added e first (Legal.MakesRoom.flushes x m) sound h = as_shown (pair_of_copy (kind.documents streams) p s i (first x) m.can) (flushes p s added m sound h)
   roomed p s i bytes added e first (Legal.MakesRoom.stops count x m) sound h = inl (stops p s count added m h)
   roomed p s i bytes added e first (Legal.MakesRoom.exhausted x q is) sound h = inl (adds s added [] is tt h)
 
@@ -161,7 +161,7 @@ module _ (kind : Kind) (g : Geometry) (streams : ℕ → Stream) where
 
   pub held_group : (p : Permit) (s : State) (i : Intent) (added : List Rec) (e : End) → Fits g.fragment streams i → IsSound s → IsHeld kind g streams s → Does p s i added e → Leaves p s i added
   held_group p s Flush added e fits sound h (Legal.DoesFlush.empty q f is) = inl (adds s added [] is tt h)
-  held_group p s Flush added e fits sound h (Legal.DoesFlush.flushes m) = as_shown (pair_of_copy (kind.documents streams) p s Flush refl) (flushes p s added m sound h)
+  held_group p s Flush added e fits sound h (Legal.DoesFlush.flushes m) = as_shown (pair_of_copy (kind.documents streams) p s Flush refl m.can) (flushes p s added m sound h)
   held_group p s Flush added e fits sound h (Legal.DoesFlush.stops count m) = inl (stops p s count added m h)
   held_group p s Flush added e fits sound h (Legal.DoesFlush.exhausted q f b is) = inl (adds s added [] is tt h)
   held_group p s (Write actor key request response pin) added e fits sound h does = inl (held_write p s actor key request response pin added e h does)

@@ -1,4 +1,8 @@
 // Laws of the bytes that lines give. These functions do nothing when they run.
+ghost use Rattle.std.specs.Prelude.{ℕ};
+ghost use Rattle.cache_model.specs.Pair.{PairsAreBytes, PairsAreGiven};
+ghost use Rattle.script_run.specs.Run.{Stream};
+ghost use Rattle.script_run.specs.Own.{IsPlacedAs};
 ghost use Rattle.script_run.specs.Laws.{AllIsFollowed, AllIsGiven, FlushOwns, FormatsKeep, FormatsOwn, GivenIsListed, HitIsPut, OtherShows, OwnIsKept, ReadIsOwn, ReadsKeep, ReadsOwn, StepsKeep, StepsOwn, StoppedOwns};
 
 use cache_model::writer_is_ended;
@@ -32,6 +36,13 @@ pub fn steps_own()
 /// What stands belongs to what writers took, but for what fragments are.
 pub fn own_is_kept()
     ensures { OwnIsKept }
+{}
+
+/// Both sides of a pair that a line may show are bytes; and of a piece that was written out none is shown where
+/// the device gave nothing for it.
+pub fn shown_are_given()
+    ensures bytes { (streams : ℕ → Stream) → PairsAreBytes (IsPlacedAs streams) }
+    ensures given { (streams : ℕ → Stream) → PairsAreGiven (IsPlacedAs streams) }
 {}
 
 /// So it is behind a format.

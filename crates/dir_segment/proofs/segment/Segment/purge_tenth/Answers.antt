@@ -1,7 +1,9 @@
 use Rattle.std.proofs.Common.{◌≡◌, ◌-◌, ◌*◌, ◌<◌, ℕ, List, Bool, length, sym, ap, ◌∙◌, arith}
+use Rattle.std.proofs.lemmas.List.{length-map}
+use Rattle.dir_entry.specs.declared.entry.Entry.{Entry}
 use Rattle.dir_segment.specs.Lists.{Row, Lists}
 use Rattle.dir_segment.specs.Cleaning.{each_bucket}
-use Rattle.dir_segment.specs.Purging.{after_purge, is_unmarked, thin_bucket}
+use Rattle.dir_segment.specs.Purging.{purged, after_purge, is_unmarked, thin_bucket}
 use Rattle.dir_segment.proofs.Purging.{purge_entries, purge_left, purge_frees}
 use Rattle.dir_segment.proofs.Sweeping.{buckets_step}
 use Rattle.dir_segment.proofs.segment.Segment.purge_tenth.Goals as goal
@@ -29,6 +31,10 @@ returns-clause-lists c =
 
 pub returns-clause-entries : goal.returns-clause-entries
 returns-clause-entries c = purge_entries c.args.self.now c.clear.new.self c.offer_all.new.out c.clear.ensures.empty c.clear.ensures.skip c.offer_all.ensures.offered
+
+pub returns-clause-tenth : goal.returns-clause-tenth
+returns-clause-tenth c = λ full.
+    ap (λ (q : List Entry). length q) (returns-clause-entries c) ∙ length-map (purged c.args.self.now) (λ (r : Row). r.entry) ∙ c.bucket_count-bucket-end.ensures.tenth full
 
 pub returns-clause-room : goal.returns-clause-room
 returns-clause-room c = λ full none.

@@ -1,0 +1,10 @@
+pub mod Totals
+pub mod Histories
+pub mod Keeping
+pub mod Queueing
+pub mod Publishing
+pub mod Looking
+pub mod Passing
+pub mod Bounds
+pub mod Turning
+pub mod Dealing
