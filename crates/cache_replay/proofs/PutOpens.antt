@@ -74,7 +74,7 @@ module _ (old now : Kept) (who : Actor) (key : Key) (request response : List Fie
     -- nothing is read to open a writer
     none_read : (p : Permit) (row : Row) → IsToRead p s (Write who.0 key request response 0) row → ⊥
     none_read p row (IsToRead.asked_for e) = none_is e
-    none_read p row (IsToRead.copied flushes written due) = no_truth (sym flushes)
+    none_read p row (IsToRead.copied flushes able written due) = no_truth (sym flushes)
 
     told : (p : Permit) → AreTold s → AreTold (state_of now)
     told p h =
