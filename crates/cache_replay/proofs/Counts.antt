@@ -48,7 +48,7 @@ use Rattle.cache_replay.specs.Feeding.{FeedsWhere}
 use Rattle.cache_replay.specs.Getting.{count_in_piece}
 use Rattle.cache_replay.specs.Outline.{count_in, count_of, count_of_refusal}
 use Rattle.cache_replay.specs.Plain.{flush_refused}
-use Rattle.cache_replay.specs.Putting.{refusal_answer, unless_memory}
+use Rattle.cache_replay.specs.Putting.{unless_memory}
 use Rattle.cache_replay.specs.ReaderLines.{next_answer, opened_answer}
 use Rattle.cache_replay.specs.WriterLines.{closed_answer, fed_answer, refused_answer}
 use Rattle.cache_replay.proofs.Calls.{call_covered, call_permit}

@@ -36,3 +36,4 @@ mod PutEnds
 mod PutLine
 mod PutWhole
 mod PutOpens
+mod Witnesses

@@ -1,6 +1,6 @@
 -- A call of a stripe as a line on a session.
-use Rattle.std.proofs.Common.{◌≡◌, ℕ, ◌≤◌, refl, arith, sym, ◌∙◌, ap, subst, ◌⊎◌, inl, inr, true, Result, Ok, Err}
-use Rattle.std.specs.Prelude.{Option, Some, None, IfSome, IfOk, OnErr, option_and_then}
+use Rattle.std.proofs.Common.{◌≡◌, ℕ, refl, sym, ◌∙◌, ap, subst, ◌⊎◌, inl, inr, true, Result, Ok, Err}
+use Rattle.std.specs.Prelude.{Option, Some, None, IfSome, IfOk, option_and_then}
 use Rattle.ats_disk.specs.declared.device.Disk.{Ghosts as DiskGhosts}
 use Rattle.dir_table.specs.declared.directory.Directory.{Ghosts as DirectoryGhosts}
 use Rattle.cache_chronicle.specs.declared.chronicle.Chronicle.{Ghosts as ChronicleGhosts}
@@ -9,7 +9,7 @@ use Rattle.cache_model.specs.State.{State, after_all}
 use Rattle.cache_model.specs.Legal.{IsQuiet, is_writing}
 use Rattle.cache_model.specs.Tape.{IsSound}
 use Rattle.cache_model.specs.Vectors.{AreTold, StepsTell}
-use Rattle.stripe_core.specs.Stripe.{seen_in, state_in}
+use Rattle.stripe_core.specs.Stripe.{state_in}
 use Rattle.stripe_core.specs.Unharmed.{StaysUnharmed}
 use Rattle.script_lang.specs.declared.step.Step.{Step}
 use Rattle.script_lang.specs.declared.step.Step.TheVariants as step
@@ -28,15 +28,15 @@ use Rattle.cache_replay.specs.declared.session.Part.{Part}
 use Rattle.cache_replay.specs.declared.session.Holding.{Holding}
 use Rattle.cache_replay.specs.declared.stop.Stop.{Stop}
 use Rattle.cache_replay.specs.declared.session.Holding.TheVariants as holding
-use Rattle.cache_replay.specs.Session.{AreHeld, IsActive, IsAt, IsHeld, IsPart, IsSession, LeavesBut, names_in, return_of, slots_in}
-use Rattle.cache_replay.specs.Plays.{AreReached, IsHeldAs, Plays, PlaysAt, PlaysIn, StepEnds, StepMoves}
+use Rattle.cache_replay.specs.Session.{AreHeld, IsActive, IsAt, IsHeld, IsPart, IsSession, LeavesBut, names_in, slots_in}
+use Rattle.cache_replay.specs.Plays.{IsHeldAs, Plays, PlaysAt, PlaysIn, StepEnds, StepMoves}
 use Rattle.cache_replay.specs.Plain.{Plainly}
 use Rattle.cache_replay.specs.Shown.{ShowsIn}
 use Rattle.cache_replay.proofs.Shown.{shows_placed}
 use Rattle.cache_replay.specs.Stop.{NeedsSession}
 use Rattle.cache_replay.proofs.Frames.{some_is}
 use Rattle.cache_replay.proofs.Plain.{none_else, still_held, still_plays}
-use Rattle.cache_replay.proofs.Unharming.{part_reached, session_unharmed, unharmed_in}
+use Rattle.cache_replay.proofs.Unharming.{session_unharmed}
 
 -- ---- each put that an actor writes is open
 

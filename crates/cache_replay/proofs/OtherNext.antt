@@ -1,6 +1,6 @@
 -- Where a reader's next fragment is damaged on a device that tells its content, two documents of one
 -- SHA-256 are shown.
-use Rattle.std.proofs.Common.{◌≡◌, ℕ, ◌≤◌, ◌⊎◌, inl, inr, true, List, [], ◌∷◌, refl, sym, ◌∙◌, ap, subst}
+use Rattle.std.proofs.Common.{◌≡◌, ℕ, ◌≤◌, ◌⊎◌, inl, inr, true, List, [], ◌∷◌, refl, sym, ◌∙◌, ap}
 use Rattle.std.specs.Prelude.{Option, Some, None, is_some, option_map}
 use Rattle.ats_disk.specs.Device.{State as Device}
 use Rattle.fragment_table.specs.Table.{Table}

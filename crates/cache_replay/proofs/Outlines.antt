@@ -1,5 +1,5 @@
 -- What a line makes of an outline.
-use Rattle.std.proofs.Common.{◌≡◌, ℕ, ◌≤◌, List, [], ◌∷◌, ◌++◌, refl, sym, ◌∙◌, ap, subst, arith, Result, Ok, Err}
+use Rattle.std.proofs.Common.{◌≡◌, ℕ, List, [], ◌∷◌, refl, sym, ◌∙◌, ap, subst, arith, Result, Ok, Err}
 use Rattle.std.specs.Prelude.{Option, Some, None, IfOk, IfErr, IsSome, max, option_map}
 use Rattle.std.proofs.lemmas.List.{append-nil}
 use Rattle.ats_disk.specs.Bay.{Return}
@@ -17,7 +17,7 @@ use Rattle.script_run.specs.Run.{Harm, no_harm}
 use Rattle.cache_replay.specs.declared.session.Session.{Session}
 use Rattle.cache_replay.specs.declared.session.Part.{Part}
 use Rattle.cache_replay.specs.declared.stop.Stop.{Stop}
-use Rattle.cache_replay.specs.Outline.{IsAnswered, Outline, begun, begun_by, count_in, joined, outline_after, told_of}
+use Rattle.cache_replay.specs.Outline.{Outline, begun, begun_by, count_in, joined, outline_after, told_of}
 use Rattle.cache_replay.specs.Session.{AreLater, TellsCount, return_of}
 use Rattle.cache_replay.specs.Stop.{NeedsSession}
 use Rattle.cache_replay.specs.Plays.{AreReached, Deals, IsLeft, IsOutlined, Ledger, Outlines, stays}

@@ -8,8 +8,8 @@ use Rattle.cache_model.specs.declared.record.Rec.{Rec}
 use Rattle.cache_model.specs.State.{State, after_all, fragment_piece, put_of}
 use Rattle.cache_model.specs.Kept.{Kept, state_of, with_records}
 use Rattle.cache_model.specs.Verdict.{cause_of_piece}
-use Rattle.cache_model.specs.Permit.{Exhausted, Fails, Faulted, Intent, Lost, ManyFragments, Permit, Reason, TooLarge, Weigh, Work, is_cleanup, to_do}
-use Rattle.cache_model.specs.Legal.{Advances, MayGrow, is_writing, more, nothing}
+use Rattle.cache_model.specs.Permit.{Exhausted, Fails, Faulted, Intent, Lost, ManyFragments, Permit, Reason, TooLarge, Weigh, is_cleanup, to_do}
+use Rattle.cache_model.specs.Legal.{MayGrow, is_writing}
 use Rattle.cache_model.specs.Tape.{IsSound}
 use Rattle.cache_model.specs.Pair.{IsKeyPair, IsPair}
 use Rattle.cache_model.specs.Vectors.{AreTold, IsVectorAs}

@@ -1,5 +1,5 @@
 -- A whole put: it is opened and ends, or is not opened.
-use Rattle.std.proofs.Common.{◌≡◌, ℕ, ◌≤◌, List, [], ◌∷◌, ◌++◌, length, refl, sym, ◌∙◌, ap, subst, arith, false, ◌⊎◌, inl, inr, Ok, Err, Result}
+use Rattle.std.proofs.Common.{◌≡◌, ℕ, ◌≤◌, List, [], ◌∷◌, ◌++◌, length, refl, sym, ◌∙◌, ap, subst, arith, false, inl, inr, Ok, Err, Result}
 use Rattle.std.specs.Prelude.{Some, None, filter}
 use Rattle.std.proofs.lemmas.List.{append_assoc}
 use Rattle.tape_base.specs.declared.keys.Key.{Key}
@@ -74,7 +74,7 @@ module _ (old now : Kept) (who : Actor) (key : Key) (request response : List Fie
     -- nothing is read to open a writer
     none_read : (p : Permit) (row : Row) → IsToRead p s (Write who.0 key request response 0) row → ⊥
     none_read p row (IsToRead.asked_for e) = none_is e
-    none_read p row (IsToRead.copied flushes written due) = no_truth (sym flushes)
+    none_read p row (IsToRead.copied flushes able written due) = no_truth (sym flushes)
 
     told : (p : Permit) → AreTold s → AreTold (state_of now)
     told p h =

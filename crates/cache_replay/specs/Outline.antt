@@ -1,6 +1,6 @@
 -- What the answers of a run tell of its devices, whatever its records are worth: whether a session stands, which
 -- devices were given back, and up to which count their faults were told.
-use Rattle.std.specs.Prelude.{ℕ, ◌≡◌, max, false, List, [], ◌∷◌, ◌++◌, All, IsSome, Option, Some, None, option_map, ⊤}
+use Rattle.std.specs.Prelude.{ℕ, ◌≡◌, max, false, List, [], ◌∷◌, ◌++◌, IsSome, Option, Some, None, option_map}
 use Rattle.tape_base.specs.declared.geometries.BadGeometry.{BadGeometry}
 use Rattle.tape_base.specs.Limits.{first_refusal}
 use Rattle.cache_model.specs.declared.cause.Cause.{Cause}

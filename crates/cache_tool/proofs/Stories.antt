@@ -1,7 +1,6 @@
 -- What a line makes of the story of a run.
 use Rattle.std.proofs.Common.{◌≡◌, ℕ, ◌+◌, ◌≤◌, ◌⊎◌, List, [], ◌∷◌, ◌++◌, length, Option, Some, None, Ok, refl, sym, ◌∙◌, ap, subst, append_assoc, append-nil, arith, length-append, inl, inr}
 use Rattle.std.specs.Io.KnownBytes.{Appends}
-use Rattle.std.proofs.KnownBytes.{Appends-trans}
 use Rattle.edge_io.specs.declared.reader.TheConstants.{MAX_LINE_BYTES}
 use Rattle.edge_io.specs.Lines.{lines_of}
 use Rattle.edge_io.specs.LineReader.{AnswersKnown}

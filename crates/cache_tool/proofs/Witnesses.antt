@@ -1,10 +1,5 @@
--- What is refused, whether or not two documents of one SHA-256 are shown.
-use Rattle.std.proofs.Common.{◌≡◌, ℕ, Bool, List, ◌∷◌, Option, None, arith, take, subst}
-use Rattle.doc_header.specs.Reading.{extent_of}
-use Rattle.cache_model.specs.Pair.{Documents, IsPairOf}
-use Rattle.cache_model.specs.Permit.{Permit}
-use Rattle.cache_model.specs.State.{Row, State}
-use Rattle.tape_base.specs.Digest.{Collide}
+-- What no pair of documents gives leave to say.
+use Rattle.std.proofs.Common.{◌≡◌, ℕ, Bool, List, Option, None, subst}
 use Rattle.script_lang.specs.declared.line.BadLine.{BadLine}
 use Rattle.script_lang.specs.declared.last.LastLine.{LastLine}
 use Rattle.script_lang.specs.declared.last.LastLine.TheVariants as last
@@ -18,14 +13,6 @@ use Rattle.cache_tool.specs.declared.top.Status.{Status}
 use Rattle.cache_tool.specs.declared.top.Status.TheVariants as status
 use Rattle.cache_tool.specs.Story.{Because, Counts, IsBadLine}
 use Rattle.cache_tool.specs.Top.{EndsEarly, status_of}
-
--- numbers above 255 are no side of a pair, whatever their digest is
-no_numbers : (IsPlaced : Documents) (p : Permit) (s : State) (row : Row) (pair : IsPairOf IsPlaced p s row) (rest : List ℕ)
-    → take (extent_of pair.bytes) pair.bytes ≡ 83 ∷ 339 ∷ rest → ⊥
-no_numbers IsPlaced p s row pair rest given =
-    let c : Collide (83 ∷ 339 ∷ rest) pair.document = subst (λ g. Collide g pair.document) given pair.collide in
-    let small = c.bytes 1 in
-    absurd (omega (arith, small))
 
 -- without a session no line shows a pair
 none_shown : (run : Run) (turn : Turn) (step : Step) → run.state ≡ None → StepShows run turn run.state step → ⊥

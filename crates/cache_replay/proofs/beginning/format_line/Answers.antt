@@ -1,4 +1,5 @@
 use Rattle.std.proofs.Common.{refl, sym}
+use Rattle.std.proofs.lemmas.Result.{err_from_is_err_and}
 use Rattle.script_run.specs.Behind.{harm_of}
 use Rattle.cache_replay.specs.Outline.{told_of}
 use Rattle.cache_replay.proofs.Formats.{format_done, format_refused}
@@ -22,4 +23,6 @@ returns-in_ok-format-in-Ok-clause-outline g c = λ o h.
     format_outlines _ _ _ o c.args.name.now _ _ _ _ _ _ _ _ _ _ _ _ _ (sym c.in-Ok.ensures.refused) c.in_ok-format-in-Ok.ensures.begun (c.in_ok-format-in-Ok.ensures.deals (told_of o.session) h)
 
 pub returns-in_err-format-in-Ok-clause-left : goal.returns-in_err-format-in-Ok-clause-left
-returns-in_err-format-in-Ok-clause-left g c = λ harms reached. c.in_err-format-in-Ok.ensures.left harms _ (refl, sym c.in-Ok.ensures.refused) reached
+returns-in_err-format-in-Ok-clause-left g c =
+    let stopped = err_from_is_err_and c.from_residual.result c.from_residual.ensures.1 in
+    rw (stopped.1, stopped.2) (λ harms reached. c.in_err-format-in-Ok.ensures.left harms _ (refl, sym c.in-Ok.ensures.refused) reached)

@@ -40,6 +40,12 @@ returns-in_ok-close-in-Follow-clause-leaves g c =
     leaves_closed s (state_in g.C.Chronicle c.open_read.new.stripe) (state_in g.C.Chronicle c.close.new.stripe) c.in-Follow.reader.reader (rw c.in-Follow.is at c.in_ok-reader.ensures.tells).0
     (kept_leaves _ (kept_in g.C.Chronicle c.args.stripe.now) (kept_in g.C.Chronicle c.open_read.new.stripe) _ c.in_ok-reader.ensures.adds (open_leaves s nobody c.args.key c.args.request _)) c.close.ensures.leaves
 
+pub returns-in_err-close-in-Follow-clause-leaves : goal.returns-in_err-close-in-Follow-clause-leaves
+returns-in_err-close-in-Follow-clause-leaves g c =
+    let s = state_in g.C.Chronicle c.args.stripe.now in
+    leaves_closed s (state_in g.C.Chronicle c.open_read.new.stripe) (state_in g.C.Chronicle c.close.new.stripe) c.in-Follow.reader.reader (rw c.in-Follow.is at c.in_ok-reader.ensures.tells).0
+    (kept_leaves _ (kept_in g.C.Chronicle c.args.stripe.now) (kept_in g.C.Chronicle c.open_read.new.stripe) _ c.in_ok-reader.ensures.adds (open_leaves s nobody c.args.key c.args.request _)) c.close.ensures.leaves
+
 pub returns-in-Miss-clause-gets : goal.returns-in-Miss-clause-gets
 returns-in-Miss-clause-gets g c =
     let k = kept_in g.C.Chronicle c.args.stripe.now in
@@ -67,7 +73,7 @@ pub returns-in_ok-close-in-Follow-clause-unharmed : goal.returns-in_ok-close-in-
 returns-in_ok-close-in-Follow-clause-unharmed g c = λ run told owned. stays_then (inl c.open_read.ensures.unharmed) (inl c.close.ensures.unharmed)
 
 pub returns-in-Hit-clause-counts : goal.returns-in-Hit-clause-counts
-returns-in-Hit-clause-counts g c = ok_after _ c.read_whole.result (losses_then _ _ _ c.in_ok-reader.ensures.adds) c.read_whole.ensures.counts
+returns-in-Hit-clause-counts g c = ok_after _ c.read_whole.result (losses_then (kept_in g.C.Chronicle c.args.stripe.now) (kept_in g.C.Chronicle c.open_read.new.stripe) _ c.in_ok-reader.ensures.adds) c.read_whole.ensures.counts
 
 pub returns-in-Miss-clause-counts : goal.returns-in-Miss-clause-counts
 returns-in-Miss-clause-counts g c = λ none.

@@ -1,7 +1,7 @@
 use Rattle.stripe_core.specs.Stripe.{kept_in, seen_in, state_in}
 use Rattle.cache_replay.proofs.WholeGets.{none_next}
 use Rattle.cache_replay.proofs.WholeLines.{line_ends, read_active}
-use Rattle.std.proofs.Common.{ap, subst, sym, ◌≤◌}
+use Rattle.std.proofs.Common.{subst, sym, ◌≤◌}
 use Rattle.cache_replay.specs.Outline.{count_in}
 use Rattle.cache_replay.proofs.getting.get_in_part.Goals as goal
 

@@ -5,9 +5,7 @@ use Rattle.stripe_write.proofs.Spending.{state_behind}
 use Rattle.script_lang.specs.declared.step.Step.TheVariants as step
 use Rattle.cache_replay.specs.Plain.{Plainly}
 use Rattle.cache_replay.proofs.PlainTurns.{removed_as, removes}
-use Rattle.std.proofs.Common.{refl}
 use Rattle.cache_replay.proofs.Counts.{removed_tells}
-use Rattle.cache_replay.proofs.ReaderFrames.{losses_then}
 use Rattle.stripe_write.specs.declared.removal.Removal.TheVariants as removal
 use Rattle.stripe_core.specs.Stripe.{seen_in}
 use Rattle.cache_replay.proofs.plain_lines.remove_from.Goals as goal

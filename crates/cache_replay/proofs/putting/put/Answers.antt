@@ -37,7 +37,7 @@ returns-in-Err-clause-puts g c =
     refused.err c.open_write.ensures.quiet c.requires.stripe.actors.puts_fall c.in-Err.why refused.does
 
 pub returns-in-Ok-clause-counts : goal.returns-in-Ok-clause-counts
-returns-in-Ok-clause-counts g c = err_after _ c.put_open.result (losses_then _ _ _ c.in-Ok.ensures.adds) c.put_open.ensures.counts
+returns-in-Ok-clause-counts g c = err_after _ c.put_open.result (losses_then (kept_in g.C.Chronicle c.args.stripe.now) (kept_in g.C.Chronicle c.open_write.new.stripe) _ c.in-Ok.ensures.adds) c.put_open.ensures.counts
 
 pub returns-in-Err-clause-counts : goal.returns-in-Err-clause-counts
 returns-in-Err-clause-counts g c = λ none. open_counts (state_in g.C.Chronicle c.args.stripe.now) nobody c.args.key c.args.request c.args.response 0 _ c.in-Err.why c.in-Err.ensures.does

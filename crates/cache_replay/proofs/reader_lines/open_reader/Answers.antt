@@ -49,5 +49,5 @@ returns-clause-ends g c =
 
 pub returns-clause-counts : goal.returns-clause-counts
 returns-clause-counts g c =
-    subst (λ said. count_in said ≤ (seen_in g.D.Disk g.R.Directory c.open_read-opened.new.stripe).device.faults) (sym c.give_reader.ensures.answer)
+    subst (λ said. count_in said ≤ (seen_in g.D.Disk g.R.Directory c.open_read.new.stripe).device.faults) (sym c.give_reader.ensures.answer)
     (missed_tells (state_in g.C.Chronicle c.args.part.now.stripe) c.args.key _ c.in_ok-opened.opened c.requires.active.part.losses c.in_ok-opened.ensures.opens.counted)

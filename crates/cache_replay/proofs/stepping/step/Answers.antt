@@ -23,3 +23,6 @@ returns-in-Now-clause-ends g c = λ run plays. rw c.in-Now.is (inl (moment_moves
 
 pub returns-in-Now-clause-outline : goal.returns-in-Now-clause-outline
 returns-in-Now-clause-outline g c = λ o h. rw c.in-Now.is (moment_outlines _ _ _ o c.in-Now.moment c.args.session.now _ _ _ c.now_line.ensures.answer c.now_line.ensures.part h)
+
+pub returns-in-Format-clause-left : goal.returns-in-Format-clause-left
+returns-in-Format-clause-left g c = rw (c.in-Format.is, ← c.bytes.ensures) c.format_line.ensures.left

@@ -5,9 +5,7 @@ use Rattle.cache_replay.specs.Plays.{PartEnds}
 use Rattle.cache_replay.specs.Session.{slots_of}
 use Rattle.cache_replay.specs.WriterLines.{Closes}
 use Rattle.cache_replay.proofs.Lines.{active_by, ends_by, ends_if, given_back, held_writer, idles_by, no_taken, none_changed, others_else, taken_writer}
-use Rattle.std.proofs.Common.{◌≤◌}
 use Rattle.stripe_core.specs.Stripe.{seen_in}
-use Rattle.cache_replay.specs.Outline.{count_in}
 use Rattle.cache_replay.proofs.Counts.{answer_counts}
 use Rattle.cache_replay.proofs.writer_lines.close_in.Goals as goal
 

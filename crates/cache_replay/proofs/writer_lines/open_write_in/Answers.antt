@@ -4,9 +4,7 @@ use Rattle.script_lang.specs.declared.step.Step.TheVariants as step
 use Rattle.cache_replay.specs.Plays.{PartEnds}
 use Rattle.cache_replay.specs.Session.{slots_of}
 use Rattle.cache_replay.proofs.Lines.{active_by, busy_in, ends_if, given_new, opens_by, others_are_older}
-use Rattle.std.proofs.Common.{◌≤◌}
 use Rattle.stripe_core.specs.Stripe.{seen_in}
-use Rattle.cache_replay.specs.Outline.{count_in}
 use Rattle.cache_replay.proofs.Counts.{answer_counts}
 use Rattle.cache_replay.proofs.writer_lines.open_write_in.Goals as goal
 
