@@ -1,6 +1,6 @@
 -- What a line makes of an outline.
 use Rattle.std.proofs.Common.{◌≡◌, ℕ, List, [], ◌∷◌, refl, sym, ◌∙◌, ap, subst, arith, Result, Ok, Err}
-use Rattle.std.specs.Prelude.{Option, Some, None, IfOk, IfErr, IsSome, max, option_map}
+use Rattle.std.specs.Prelude.{Option, Some, None, IfOk, IfErr, IsSome, option_map}
 use Rattle.std.proofs.lemmas.List.{append-nil}
 use Rattle.ats_disk.specs.Bay.{Return}
 use Rattle.ats_disk.specs.declared.device.Disk.{Ghosts as DiskGhosts}
@@ -17,7 +17,7 @@ use Rattle.script_run.specs.Run.{Harm, no_harm}
 use Rattle.cache_replay.specs.declared.session.Session.{Session}
 use Rattle.cache_replay.specs.declared.session.Part.{Part}
 use Rattle.cache_replay.specs.declared.stop.Stop.{Stop}
-use Rattle.cache_replay.specs.Outline.{Outline, begun, begun_by, count_in, joined, outline_after, told_of}
+use Rattle.cache_replay.specs.Outline.{Outline, begun, begun_by, count_in, joined, outline_after, raised, told_of}
 use Rattle.cache_replay.specs.Session.{AreLater, TellsCount, return_of}
 use Rattle.cache_replay.specs.Stop.{NeedsSession}
 use Rattle.cache_replay.specs.Plays.{AreReached, Deals, IsLeft, IsOutlined, Ledger, Outlines, stays}
@@ -47,23 +47,24 @@ module _ {D R C : Type 0} (disk : DiskGhosts D) (directory : DirectoryGhosts R) 
   Returns part = return_of disk directory chronicle part
 
   -- the count that is told is one that the device reached
-  joins : (session : Option ℕ) (count : ℕ) (old new : Option (Part D R C)) (said : StepAnswer) → count ≡ count_in said → AreLater (Returns old) (Returns new) → TellsCount disk directory chronicle new said
-      → AreReached (told_of session) (Returns old) → AreReached (told_of (option_map (max count) session)) (Returns new)
+  joins : (session : Option Harm) (count : ℕ) (old new : Option (Part D R C)) (said : StepAnswer) → count ≡ count_in said → AreLater (Returns old) (Returns new) → TellsCount disk directory chronicle new said
+      → AreReached (told_of session) (Returns old) → AreReached (told_of (option_map (raised count) session)) (Returns new)
   joins session count old None said is later tells h = absurd tells
   joins None count None (Some b) said is later tells h = absurd later
   joins None count (Some a) (Some b) said is later tells h = absurd h
-  joins (Some n) count None (Some b) said is later tells h = absurd h
-  joins (Some n) count (Some a) (Some b) said is later tells h = (record { counted = omega (arith, h.0.counted, later.0.faults, tells, is); unharmed = λ trusted. refl }, tt)
+  joins (Some harm) count None (Some b) said is later tells h = absurd h
+  joins (Some harm) count (Some a) (Some b) said is later tells h =
+      (record { counted = omega (arith, h.0.counted, later.0.faults, tells, is); unharmed = λ trusted. h.0.unharmed (omega (arith, trusted, later.0.trust)) }, tt)
 
-  has_session : (session : Option ℕ) (old new : Option (Part D R C)) (said : StepAnswer) → AreLater (Returns old) (Returns new) → TellsCount disk directory chronicle new said → AreReached (told_of session) (Returns old) → IsSome session
+  has_session : (session : Option Harm) (old new : Option (Part D R C)) (said : StepAnswer) → AreLater (Returns old) (Returns new) → TellsCount disk directory chronicle new said → AreReached (told_of session) (Returns old) → IsSome session
   has_session session old None said later tells h = absurd tells
   has_session None None (Some b) said later tells h = absurd later
   has_session None (Some a) (Some b) said later tells h = absurd h
-  has_session (Some n) old (Some b) said later tells h = refl
+  has_session (Some harm) old (Some b) said later tells h = refl
 
-  no_session : (session : Option ℕ) (count : ℕ) → IsSome session → session ≡ None → count ≡ 0
+  no_session : (session : Option Harm) (count : ℕ) → IsSome session → session ≡ None → count ≡ 0
   no_session None count some none = cc
-  no_session (Some n) count some none = cc
+  no_session (Some harm) count some none = cc
 
   -- a line on a session
   session_outlines : (o : Outline) (s : Step) (old new : Session D R C) (said : StepAnswer) (ledger : Ledger) → NeedsSession s → AreLater (Returns old.part) (Returns new.part) → TellsCount disk directory chronicle new.part said
@@ -94,10 +95,10 @@ module _ {D R C : Type 0} (disk : DiskGhosts D) (directory : DirectoryGhosts R) 
   all_left (Err why) s old new ledger later = λ harms h. stays (reached_later harms (Returns old.part) (Returns new.part) later h) refl
 
   -- what is told of a device by the count 0
-  joins_none : (session : Option ℕ) (returns : List Return) → AreReached (told_of session) returns → AreReached (told_of (option_map (max 0) session)) returns
+  joins_none : (session : Option Harm) (returns : List Return) → AreReached (told_of session) returns → AreReached (told_of (option_map (raised 0) session)) returns
   joins_none None returns h = h
-  joins_none (Some n) [] h = absurd h
-  joins_none (Some n) (d ∷ returns) h = (record { counted = omega (arith, h.0.counted); unharmed = λ trusted. refl }, h.1)
+  joins_none (Some harm) [] h = absurd h
+  joins_none (Some harm) (d ∷ returns) h = (record { counted = omega (arith, h.0.counted); unharmed = h.0.unharmed }, h.1)
 
   -- a line that begins no session and tells no count
   still_outlines : (o : Outline) (s : Step) (new : Session D R C) (said : StepAnswer) (ledger : Ledger) → (NeedsSession s → ⊥) → begun_by o s ≡ o → count_in said ≡ 0 → AreReached (told_of o.session) (Returns new.part)
@@ -135,7 +136,7 @@ module _ {D R C : Type 0} (disk : DiskGhosts D) (directory : DirectoryGhosts R) 
       let after : outline_after o (step.Format name segments buckets content agg reach fragment generation alternates) (answer.Formatted 1 cursor floor) ≡ joined (begun o name None) 0 = ap (λ x. joined (begun o name x) 0) is in
       record {
         answered = record { session = λ needs. absurd needs; none = λ gone. refl };
-        outlined = subst (λ (x : Outline). AreReached (told_of x.session) (Returns new.part)) (sym after) (joins_none (Some 0) (Returns new.part) h);
+        outlined = subst (λ (x : Outline). AreReached (told_of x.session) (Returns new.part)) (sym after) (joins_none (Some no_harm) (Returns new.part) h);
         harms = told_of o.session;
         ended = ap (λ (x : Outline). x.ended) after;
         names = name ∷ [];

@@ -10,11 +10,11 @@ use Rattle.script_lang.specs.declared.step.Step.{Step}
 use Rattle.script_lang.specs.declared.step.Step.TheVariants as step
 use Rattle.script_lang.specs.declared.answer.StepAnswer.{StepAnswer}
 use Rattle.script_lang.specs.Grammar.{reading_of}
-use Rattle.script_run.specs.Run.{Harm, Run}
+use Rattle.script_run.specs.Run.{Harm, Run, no_harm}
 use Rattle.script_run.specs.Turn.{Turn}
 use Rattle.script_run.specs.Behind.{after_line}
 use Rattle.script_run.specs.Takes.{output_of, reading_text}
-use Rattle.cache_replay.specs.Outline.{Outline, all_told, begun, begun_by, count_in, told, told_of}
+use Rattle.cache_replay.specs.Outline.{Outline, all_told, begun, begun_by, count_in, raised, told_of}
 use Rattle.cache_replay.specs.Lines.{AreAnswered, IsReadAs, TellsNone, answers_of, outline_of, outline_read, reading_answer, text_of, texts_of}
 
 -- ---- what is printed
@@ -45,16 +45,16 @@ abbrev IsNone : Harm → Type 0
 IsNone harm = harm.fault ≡ 0
 
 -- the greater of two counts is 0
-joined_none : (ended : List Harm) (session : Option ℕ) (count : ℕ) → All IsNone (ended ++ told_of (option_map (max count) session)) → All IsNone (ended ++ told_of session) × ((session ≡ None → count ≡ 0) → count ≡ 0)
+joined_none : (ended : List Harm) (session : Option Harm) (count : ℕ) → All IsNone (ended ++ told_of (option_map (raised count) session)) → All IsNone (ended ++ told_of session) × ((session ≡ None → count ≡ 0) → count ≡ 0)
 joined_none ended None count all = (all, λ none. none refl)
-joined_none ended (Some n) count all =
-    let last : max count n ≡ 0 = All-head IsNone (told (max count n)) [] (All-behind IsNone ended (told (max count n) ∷ []) all) in
-    let mine : n ≡ 0 = omega (arith, last) in
-    (All-append IsNone ended (told n ∷ []) (All-front IsNone ended (told (max count n) ∷ []) all) (All-cons IsNone (told n) [] mine (All-nil IsNone)), λ none. omega (arith, last))
+joined_none ended (Some harm) count all =
+    let last : max count harm.fault ≡ 0 = All-head IsNone (raised count harm) [] (All-behind IsNone ended (raised count harm ∷ []) all) in
+    let mine : harm.fault ≡ 0 = omega (arith, last) in
+    (All-append IsNone ended (harm ∷ []) (All-front IsNone ended (raised count harm ∷ []) all) (All-cons IsNone harm [] mine (All-nil IsNone)), λ none. omega (arith, last))
 
 -- so it was before a session began
 begun_none : (o : Outline) (name : List ℕ) (bad : Option BadGeometry) → All IsNone (all_told (begun o name bad)) → All IsNone (all_told o)
-begun_none o name None all = All-front IsNone (all_told o) (told_of (Some 0)) all
+begun_none o name None all = All-front IsNone (all_told o) (told_of (Some no_harm)) all
 begun_none o name (Some bad) all = all
 
 begun_by_none : (o : Outline) (step : Step) → All IsNone (all_told (begun_by o step)) → All IsNone (all_told o)

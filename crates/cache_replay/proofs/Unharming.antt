@@ -1,6 +1,6 @@
 -- What was told of a session's device: no more faults than it counted, and no damage where it tells its content.
-use Rattle.std.proofs.Common.{◌≡◌, ℕ, ◌≤◌, [], ◌∷◌, sym, subst, arith}
-use Rattle.std.specs.Prelude.{Option, Some, None}
+use Rattle.std.proofs.Common.{◌≡◌, ℕ, ◌≤◌, [], ◌∷◌, refl, sym, subst, arith}
+use Rattle.std.specs.Prelude.{Option, Some, None, option_map}
 use Rattle.ats_disk.specs.Bay.{return_of_device}
 use Rattle.ats_disk.specs.Device.{State as Device}
 use Rattle.ats_disk.specs.declared.device.Disk.{Ghosts as DiskGhosts}
@@ -15,7 +15,13 @@ use Rattle.cache_replay.specs.declared.session.Session.{Session}
 use Rattle.cache_replay.specs.declared.session.Part.{Part}
 use Rattle.cache_replay.specs.declared.session.Holding.{Holding}
 use Rattle.cache_replay.specs.Session.{IsAt, IsSession, return_of, slots_in}
-use Rattle.cache_replay.specs.Plays.{AreReached, HasReached, IsUnharmedAt, Plays, PlaysAt}
+use Rattle.cache_replay.specs.Outline.{outline_in, told_of}
+use Rattle.cache_replay.specs.Plays.{AreReached, HasReached, IsOutlined, IsUnharmedAt, Plays, PlaysAt}
+
+-- the outline of a run tells of its session what the run does
+same_own : (state : Option State) → told_of (option_map harm_in state) ≡ harm_of state
+same_own None = refl
+same_own (Some s) = refl
 
 -- ---- one device
 
@@ -62,3 +68,8 @@ module _ {D R C : Type 0} (disk : DiskGhosts D) (directory : DirectoryGhosts R) 
   -- the device of a session is as was told
   pub plays_reached : (run : Run) (session : Session D R C) → IsSession disk directory chronicle session → Plays disk directory chronicle run session → HasReached disk directory chronicle run session
   plays_reached run session h plays = reached_at run session.part (slots_in session) h plays.at plays.unharmed
+
+  -- so the run's outline has it
+  pub plays_outlined : (run : Run) (session : Session D R C) → IsSession disk directory chronicle session → Plays disk directory chronicle run session → IsOutlined disk directory chronicle (outline_in run) session
+  plays_outlined run session h plays =
+      subst (λ harms. AreReached harms (return_of disk directory chronicle session.part)) (sym (same_own run.state)) (plays_reached run session h plays)

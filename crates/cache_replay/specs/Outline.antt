@@ -1,6 +1,6 @@
 -- What the answers of a run tell of its devices, whatever its records are worth: whether a session stands, which
 -- devices were given back, and up to which count their faults were told.
-use Rattle.std.specs.Prelude.{ℕ, ◌≡◌, max, false, List, [], ◌∷◌, ◌++◌, IsSome, Option, Some, None, option_map}
+use Rattle.std.specs.Prelude.{ℕ, ◌≡◌, max, List, [], ◌∷◌, ◌++◌, IsSome, Option, Some, None, option_map}
 use Rattle.tape_base.specs.declared.geometries.BadGeometry.{BadGeometry}
 use Rattle.tape_base.specs.Limits.{first_refusal}
 use Rattle.cache_model.specs.declared.cause.Cause.{Cause}
@@ -13,7 +13,8 @@ use Rattle.script_lang.specs.declared.answer.Refused.{Refused}
 use Rattle.script_lang.specs.declared.answer.Refused.TheVariants as refused
 use Rattle.script_lang.specs.declared.answer.StepAnswer.{StepAnswer}
 use Rattle.script_lang.specs.declared.answer.StepAnswer.TheVariants as answer
-use Rattle.script_run.specs.Run.{Harm}
+use Rattle.script_run.specs.Run.{Harm, Run, no_harm}
+use Rattle.script_run.specs.Behind.{harm_in}
 use Rattle.cache_replay.specs.Stop.{NeedsSession}
 
 -- ---- the counts that answers tell
@@ -45,10 +46,10 @@ count_of_refusal _ = 0
 
 -- ---- outlines
 
--- the greatest count that was told of the session's device, where there is a session; what was told of each device
--- that was given back; and the name of each device that was attached
+-- what was told of the session's device, where there is a session; what was told of each device that was given back; and
+-- the name of each device that was attached
 pub record Outline : Type 0 where
-  pub session : Option ℕ
+  pub session : Option Harm
   pub ended : List Harm
   pub names : List (List ℕ)
 
@@ -56,14 +57,18 @@ pub record Outline : Type 0 where
 abbrev pub blank : Outline
 blank = record { session = None; ended = []; names = [] }
 
--- what a count tells of a device; of damage it tells nothing
-abbrev pub told : ℕ → Harm
-told count = record { fault = count; damaged = false }
+-- what a run tells of its devices
+abbrev pub outline_in : Run → Outline
+outline_in run = record { session = option_map harm_in run.state; ended = run.ended; names = run.names }
+
+-- a count that is told raises what was told; of damage it tells nothing
+abbrev pub raised : ℕ → Harm → Harm
+raised count harm = record { fault = max count harm.fault; damaged = harm.damaged }
 
 -- of the device of a session, where there is one
-abbrev pub told_of : Option ℕ → List Harm
+abbrev pub told_of : Option Harm → List Harm
 told_of None = []
-told_of (Some count) = told count ∷ []
+told_of (Some harm) = harm ∷ []
 
 -- of all devices, once the last one is given back
 abbrev pub all_told : Outline → List Harm
@@ -72,7 +77,7 @@ all_told o = o.ended ++ told_of o.session
 -- a format whose numbers are accepted ends the session before it, and begins one on the device of its name
 abbrev pub begun : Outline → List ℕ → Option BadGeometry → Outline
 begun o name (Some bad) = o
-begun o name None = record { session = Some 0; ended = all_told o; names = o.names ++ name ∷ [] }
+begun o name None = record { session = Some no_harm; ended = all_told o; names = o.names ++ name ∷ [] }
 
 -- no other step ends a session, or begins one
 abbrev pub begun_by : Outline → Step → Outline
@@ -82,7 +87,7 @@ begun_by o _ = o
 
 -- a count that is told of the session's device
 abbrev pub joined : Outline → ℕ → Outline
-joined o count = record { session = option_map (max count) o.session; ended = o.ended; names = o.names }
+joined o count = record { session = option_map (raised count) o.session; ended = o.ended; names = o.names }
 
 -- the outline behind a step, by its answer
 abbrev pub outline_after : Outline → Step → StepAnswer → Outline

@@ -18,11 +18,11 @@ use Rattle.ats_disk.specs.declared.device.Disk.{Ghosts as DiskGhosts}
 use Rattle.dir_table.specs.declared.directory.Directory.{Ghosts as DirectoryGhosts}
 use Rattle.cache_chronicle.specs.declared.chronicle.Chronicle.{Ghosts as ChronicleGhosts}
 use Rattle.cache_replay.specs.declared.session.Session.{Session}
-use Rattle.cache_replay.specs.Outline.{Outline, blank, outline_after}
-use Rattle.cache_replay.specs.Lines.{IsReadAs, answers_of, outline_of, outline_read, reading_answer, text_of, texts_of}
+use Rattle.cache_replay.specs.Outline.{Outline, blank, outline_after, outline_in}
+use Rattle.cache_replay.specs.Lines.{AreAnswered, answers_of, outline_of, outline_read, reading_answer, text_of, texts_of}
 use Rattle.cache_replay.specs.Plays.{ComeBack, Ledger, Deals, DeviceEnds, IsOutlined, Outlines}
 use Rattle.cache_replay.specs.Plays.{Plays as PlaysNow}
-use Rattle.cache_tool.specs.Story.{Story, Told, Recorded, ShownAlong, AreShort, IsBehind, IsNext, GoesOn, SendsAll, told_by, told_in}
+use Rattle.cache_tool.specs.Story.{AnsweredFrom, Story, Told, Recorded, ShownAlong, AreShort, IsBehind, IsNext, GoesOn, SendsAll, told_by, told_in}
 use Rattle.cache_tool.proofs.Runs.{AreAnswered-more, IsRun-more, answers_of-more, outline_of-more, run_after-more, texts_before-more, texts_of-more, AreReached-append}
 
 -- ---- the bytes of a line
@@ -72,11 +72,62 @@ Deals-trans a b c harms more names others first second = record {
 pub Deals-settled : (a b c : Ledger) (harms more : List Harm) (names : List (List ℕ)) → Deals a b harms names → ComeBack b.returned c.returned more → c.names ≡ b.names → Deals a c (harms ++ more) names
 Deals-settled a b c harms more names first back same = record { back = ComeBack-trans a.returned b.returned c.returned harms more first.back back; attached = same ∙ first.attached }
 
+-- ---- what is kept of an outline, in other words
+
+pub answered_with : (o : Outline) (lines : List (List ℕ)) (answers : List (Option StepAnswer)) (From To : Told → Type 0) (Behind Behind' : Outline → Type 0) → ((o : Outline) → From (told_by o) → Behind o → To (told_by o)) → ((o : Outline) → Behind o → Behind' o)
+    → AnsweredFrom o lines answers From Behind → AnsweredFrom o lines answers To Behind'
+answered_with o lines answers From To Behind Behind' settle behind a = record { each = a.each; devices = settle _ a.devices a.behind; behind = behind _ a.behind }
+
+pub along_with : (lines : List (List ℕ)) (answers : List (Option StepAnswer)) (From To : Told → Type 0) (Behind Behind' : Outline → Type 0) → ((o : Outline) → From (told_by o) → Behind o → To (told_by o)) → ((o : Outline) → Behind o → Behind' o)
+    → ShownAlong lines answers From Behind → ShownAlong lines answers To Behind'
+along_with lines answers From To Behind Behind' settle behind s = record {
+  before = s.before;
+  bytes = s.bytes;
+  after = s.after;
+  is = s.is;
+  earlier = s.earlier;
+  legal = s.legal;
+  rest = s.rest;
+  says = s.says;
+  turn = s.turn;
+  shows = s.shows;
+  outline = answered_with (outline_in (run_after fresh s.before s.earlier)) (s.bytes ∷ s.after) s.rest From To Behind Behind' settle behind s.outline;
+}
+
+-- the story, where what is told of its text, its devices and its outline gives something else
+pub story_with : (first unread : Option (List ℕ)) (given : ℕ) (Text Text' : (before all : List ℕ) → Type 0) (From To : Told → Type 0) (Behind Behind' : Outline → Type 0) (Known : Run → Type 0)
+    → ((out all : List ℕ) → Text out all → Text' out all) → ((t : Told) → From t → To t) → ((o : Outline) → Behind o → Behind' o)
+    → Story first unread given Text From Behind Known → Story first unread given Text' To Behind' Known
+story_with first unread given Text Text' From To Behind Behind' Known text settle behind s = record {
+  lines = s.lines;
+  answers = s.answers;
+  taken = s.taken;
+  counted = s.counted;
+  text = text _ _ s.text;
+  outline = answered_with blank s.lines s.answers From To Behind Behind' (λ o from is. settle (told_by o) from) behind s.outline;
+  records = elim s.records [
+    | inl r ↦ inl (record { turns = r.turns; legal = r.legal; says = r.says; devices = settle _ r.devices; known = r.known })
+    | inr along ↦ inr (along_with s.lines s.answers From To Behind Behind' (λ o from is. settle (told_by o) from) behind along)
+  ];
+}
+
 -- ---- a line more
 
+-- what is kept behind one line more
+answered_more : (o : Outline) (lines : List (List ℕ)) (answers : List (Option StepAnswer)) (bytes : List ℕ) (said : Option StepAnswer) (Devices : Told → Type 0) (Behind : Outline → Type 0)
+    → AreAnswered o lines answers → AnsweredFrom (outline_of o lines answers) (bytes ∷ []) (said ∷ []) Devices Behind → AnsweredFrom o (lines ++ bytes ∷ []) (answers ++ said ∷ []) Devices Behind
+answered_more o lines answers bytes said Devices Behind are last =
+    let after : outline_of o (lines ++ bytes ∷ []) (answers ++ said ∷ []) ≡ outline_read (outline_of o lines answers) (reading_of bytes) said = outline_of-more bytes said o lines answers are in
+    record {
+      each = AreAnswered-more bytes said o lines answers are last.each.0;
+      devices = subst (λ (x : Outline). Devices (told_by x)) (sym after) last.devices;
+      behind = subst Behind (sym after) last.behind;
+    }
+
 -- one that showed a pair still does
-along_more : (lines : List (List ℕ)) (answers : List (Option StepAnswer)) (bytes : List ℕ) (said : Option StepAnswer) → ShownAlong lines answers → ShownAlong (lines ++ bytes ∷ []) (answers ++ said ∷ [])
-along_more lines answers bytes said s = record {
+along_more : (lines : List (List ℕ)) (answers : List (Option StepAnswer)) (bytes : List ℕ) (said : Option StepAnswer) (From To : Told → Type 0) (Behind Behind' : Outline → Type 0)
+    → ((o : Outline) → From (told_by o) → Behind o → AnsweredFrom o (bytes ∷ []) (said ∷ []) To Behind') → ShownAlong lines answers From Behind → ShownAlong (lines ++ bytes ∷ []) (answers ++ said ∷ []) To Behind'
+along_more lines answers bytes said From To Behind Behind' follows s = record {
   before = s.before;
   bytes = s.bytes;
   after = s.after ++ bytes ∷ [];
@@ -87,12 +138,13 @@ along_more lines answers bytes said s = record {
   says = ap (λ l. l ++ said ∷ []) s.says ∙ append_assoc (answers_of fresh s.before s.earlier) s.rest (said ∷ []);
   turn = s.turn;
   shows = s.shows;
+  outline = answered_more (outline_in (run_after fresh s.before s.earlier)) (s.bytes ∷ s.after) s.rest bytes said To Behind' s.outline.each (follows _ s.outline.devices s.outline.behind);
 }
 
 -- or the last one shows one
-shown_last : (lines : List (List ℕ)) (answers : List (Option StepAnswer)) (Devices : Told → Type 0) (Known : Run → Type 0) (bytes : List ℕ) (said : Option StepAnswer) (r : Recorded lines answers Devices Known) (turn : Turn)
-    → LineShows (run_after fresh lines r.turns) turn bytes → ShownAlong (lines ++ bytes ∷ []) (answers ++ said ∷ [])
-shown_last lines answers Devices Known bytes said r turn shows = record {
+shown_last : (lines : List (List ℕ)) (answers : List (Option StepAnswer)) (From To : Told → Type 0) (Known : Run → Type 0) (Behind : Outline → Type 0) (bytes : List ℕ) (said : Option StepAnswer) (r : Recorded lines answers From Known) (turn : Turn)
+    → LineShows (run_after fresh lines r.turns) turn bytes → AnsweredFrom (outline_in (run_after fresh lines r.turns)) (bytes ∷ []) (said ∷ []) To Behind → ShownAlong (lines ++ bytes ∷ []) (answers ++ said ∷ []) To Behind
+shown_last lines answers From To Known Behind bytes said r turn shows outline = record {
   before = lines;
   bytes = bytes;
   after = [];
@@ -103,17 +155,18 @@ shown_last lines answers Devices Known bytes said r turn shows = record {
   says = ap (λ l. l ++ said ∷ []) r.says;
   turn = turn;
   shows = shows;
+  outline = outline;
 }
 
 module _ (first taken_first taken : Option (List ℕ)) (ledger_first ledger : Ledger) (unread unread' : Option (List ℕ)) (given given' : ℕ) (Outlined : Outline → Type 0) (Plays : Run → Type 0)
     (story : GoesOn first taken_first ledger_first unread given taken ledger Outlined Plays) (bytes : List ℕ) (known : AnswersKnown given unread unread' (Ok (Some bytes))) (counted : given' ≡ given + 1) where
-  -- the outline that the line finds
-  abbrev here : Outline
-  here = outline_of blank story.lines story.answers
+  -- how the devices stand before the line
+  abbrev Dealt : Told → Type 0
+  Dealt = λ t. Deals ledger_first ledger t.ended t.names
 
   module _ (said : Option StepAnswer) (Text : (before all : List ℕ) → Type 0) (Devices : Told → Type 0) (Behind : Outline → Type 0) (Known : Run → Type 0) where
     -- a line that did what it must
-    recorded_more : (r : Recorded story.lines story.answers (λ t. Deals ledger_first ledger t.ended t.names) Plays) (turn : Turn) → LineTakes (run_after fresh story.lines r.turns) turn bytes
+    recorded_more : (r : Recorded story.lines story.answers Dealt Plays) (turn : Turn) → LineTakes (run_after fresh story.lines r.turns) turn bytes
         → said ≡ reading_answer (run_after fresh story.lines r.turns) turn (reading_of bytes) → Devices (told_in (after_line (run_after fresh story.lines r.turns) turn bytes)) → Known (after_line (run_after fresh story.lines r.turns) turn bytes)
         → Recorded (story.lines ++ bytes ∷ []) (story.answers ++ said ∷ []) Devices Known
     recorded_more r turn takes says devices behind =
@@ -126,38 +179,36 @@ module _ (first taken_first taken : Option (List ℕ)) (ledger_first ledger : Le
           known = subst Known (sym after) behind;
         }
 
-    pub line_more : IsReadAs here (reading_of bytes) said → ((out : List ℕ) → Appends taken_first taken out → Text out (out ++ text_of said))
-        → Devices (told_by (outline_read here (reading_of bytes) said)) → Behind (outline_read here (reading_of bytes) said)
-        → ((r : Recorded story.lines story.answers (λ t. Deals ledger_first ledger t.ended t.names) Plays)
-        → Recorded (story.lines ++ bytes ∷ []) (story.answers ++ said ∷ []) Devices Known ⊎ ((turn : Turn) × LineShows (run_after fresh story.lines r.turns) turn bytes))
-        → Story first unread' given' Text Devices Behind Known
-    line_more answered text devices behind records =
-        let after : outline_of blank (story.lines ++ bytes ∷ []) (story.answers ++ said ∷ []) ≡ outline_read here (reading_of bytes) said = outline_of-more bytes said blank story.lines story.answers story.answered in
-        record {
-          lines = story.lines ++ bytes ∷ [];
-          answers = story.answers ++ said ∷ [];
-          taken = IsBehind-more first story.lines given unread unread' bytes story.counted story.taken known;
-          counted = counted ∙ ap (λ n. n + 1) story.counted ∙ sym (length-append story.lines (bytes ∷ []));
-          answered = AreAnswered-more bytes said blank story.lines story.answers story.answered answered;
-          text = subst (λ (before : List ℕ). Text before (texts_of (story.answers ++ said ∷ []))) (sym (texts_before-more story.answers said))
-              (subst (Text (texts_of story.answers)) (sym (texts_of-more story.answers said)) (text (texts_of story.answers) story.text));
-          devices = subst (λ (o : Outline). Devices (told_by o)) (sym after) devices;
-          behind = subst Behind (sym after) behind;
-          records = elim story.records [
-            | inl r ↦ elim (records r) [
-              | inl more ↦ inl more
-              | inr shows ↦ inr (shown_last story.lines story.answers _ Plays bytes said r shows.0 shows.1)
-            ]
-            | inr along ↦ inr (along_more story.lines story.answers bytes said along)
-          ];
-        }
+    -- it does, or it shows a pair in a run whose outline has the session
+    abbrev EndsRecords : Type 0
+    EndsRecords = (r : Recorded story.lines story.answers Dealt Plays)
+        → Recorded (story.lines ++ bytes ∷ []) (story.answers ++ said ∷ []) Devices Known ⊎ ((turn : Turn) × LineShows (run_after fresh story.lines r.turns) turn bytes × Outlined (outline_in (run_after fresh story.lines r.turns)))
+
+    pub line_more : ((o : Outline) → Dealt (told_by o) → Outlined o → AnsweredFrom o (bytes ∷ []) (said ∷ []) Devices Behind) → ((out : List ℕ) → Appends taken_first taken out → Text out (out ++ text_of said))
+        → EndsRecords → Story first unread' given' Text Devices Behind Known
+    line_more follows text records = record {
+      lines = story.lines ++ bytes ∷ [];
+      answers = story.answers ++ said ∷ [];
+      taken = IsBehind-more first story.lines given unread unread' bytes story.counted story.taken known;
+      counted = counted ∙ ap (λ n. n + 1) story.counted ∙ sym (length-append story.lines (bytes ∷ []));
+      text = subst (λ (before : List ℕ). Text before (texts_of (story.answers ++ said ∷ []))) (sym (texts_before-more story.answers said))
+          (subst (Text (texts_of story.answers)) (sym (texts_of-more story.answers said)) (text (texts_of story.answers) story.text));
+      outline = answered_more blank story.lines story.answers bytes said Devices Behind story.outline.each (follows _ story.outline.devices story.outline.behind);
+      records = elim story.records [
+        | inl r ↦ elim (records r) [
+          | inl more ↦ inl more
+          | inr shows ↦ inr (shown_last story.lines story.answers Dealt Devices Plays Behind bytes said r shows.0 shows.1 (follows (outline_in (run_after fresh story.lines r.turns)) r.devices shows.2))
+        ]
+        | inr along ↦ inr (along_more story.lines story.answers bytes said Dealt Devices Outlined Behind follows along)
+      ];
+    }
 
   -- an empty line or a comment
   pub passed_more : reading_of bytes ≡ line.Nothing → GoesOn first taken_first ledger_first unread' given' taken ledger Outlined Plays
   passed_more e =
-      line_more None (SendsAll taken_first taken) (λ t. Deals ledger_first ledger t.ended t.names) Outlined Plays
-      (rw e tt) (λ out appends. rw append-nil appends) (rw e story.devices) (rw e story.behind)
-      (λ r. inl (recorded_more None (SendsAll taken_first taken) (λ t. Deals ledger_first ledger t.ended t.names) Outlined Plays r no_turn (rw e refl) (rw e refl) (rw e r.devices) (rw e r.known)))
+      line_more None (SendsAll taken_first taken) Dealt Outlined Plays
+      (λ o deals is. record { each = (rw e tt, tt); devices = rw e deals; behind = rw e is }) (λ out appends. rw append-nil appends)
+      (λ r. inl (recorded_more None (SendsAll taken_first taken) Dealt Outlined Plays r no_turn (rw e refl) (rw e refl) (rw e r.devices) (rw e r.known)))
 
   -- a step, whose answer was written as far as this
   module _ (step : Step) (asks : reading_of bytes ≡ line.Step step) (said : StepAnswer) (ledger' : Ledger) where
@@ -166,23 +217,31 @@ module _ (first taken_first taken : Option (List ℕ)) (ledger_first ledger : Le
         → Deals ledger_first ledger ended names → Deals ledger ledger' more others → Deals ledger_first ledger' all called
     deals_all ended more names others all called e n first second = rw (e, n) (Deals-trans ledger_first ledger ledger' ended more names others first second)
 
-    pub step_more : {D R C : Type 0} (disk : DiskGhosts D) (directory : DirectoryGhosts R) (chronicle : ChronicleGhosts C) (new : Session D R C)
-        (Text : (before all : List ℕ) → Type 0) (Devices : Told → Type 0) (Behind : Outline → Type 0) (Known : Run → Type 0)
-        → Outlines disk directory chronicle here step new said ledger ledger' → ((run : Run) → Plays run → DeviceEnds disk directory chronicle run step new said ledger ledger')
-        → ((out : List ℕ) → Appends taken_first taken out → Text out (out ++ answer_line said))
-        → ((o : Outline) → IsOutlined disk directory chronicle o new → Deals ledger_first ledger' o.ended o.names → Devices (told_by o))
-        → ((run : Run) → PlaysNow disk directory chronicle run new → Deals ledger_first ledger' run.ended run.names → Devices (told_in run))
-        → ((o : Outline) → IsOutlined disk directory chronicle o new → Behind o) → ((run : Run) → PlaysNow disk directory chronicle run new → Known run)
-        → Story first unread' given' Text Devices Behind Known
-    step_more disk directory chronicle new Text Devices Behind Known outlined ends text settle settle_run behind knows =
-        line_more (Some said) Text Devices Behind Known (rw asks outlined.answered) text
-        (rw asks (settle (outline_after here step said) outlined.outlined (deals_all here.ended outlined.harms here.names outlined.names _ _ outlined.ended outlined.named story.devices outlined.deals)))
-        (rw asks (behind (outline_after here step said) outlined.outlined))
-        (λ r. elim (ends (run_after fresh story.lines r.turns) r.known) [
-          | inl m ↦
-              let run : Run = run_after fresh story.lines r.turns in
-              inl (recorded_more (Some said) Text Devices Behind Known r m.moves.turn (rw asks m.moves.takes) (rw asks (ap Some (sym m.moves.says)))
-              (rw asks (settle_run (after_step run m.moves.turn step) m.moves.plays (deals_all run.ended m.harms run.names m.names _ _ m.ended m.named r.devices m.deals)))
-              (rw asks (knows (after_step run m.moves.turn step) m.moves.plays)))
-          | inr shows ↦ inr (shows.0, rw asks shows.1)
-        ])
+    module _ {D R C : Type 0} (disk : DiskGhosts D) (directory : DirectoryGhosts R) (chronicle : ChronicleGhosts C) (new : Session D R C) where
+      -- an outline goes on by the answer
+      step_follows : (Devices : Told → Type 0) (Behind : Outline → Type 0) (o : Outline) → Outlines disk directory chronicle o step new said ledger ledger'
+          → ((o : Outline) → IsOutlined disk directory chronicle o new → Deals ledger_first ledger' o.ended o.names → Devices (told_by o)) → ((o : Outline) → IsOutlined disk directory chronicle o new → Behind o)
+          → Dealt (told_by o) → AnsweredFrom o (bytes ∷ []) (Some said ∷ []) Devices Behind
+      step_follows Devices Behind o outlined settle behind deals = record {
+        each = (rw asks outlined.answered, tt);
+        devices = rw asks (settle (outline_after o step said) outlined.outlined (deals_all o.ended outlined.harms o.names outlined.names _ _ outlined.ended outlined.named deals outlined.deals));
+        behind = rw asks (behind (outline_after o step said) outlined.outlined);
+      }
+
+      pub step_more : (Text : (before all : List ℕ) → Type 0) (Devices : Told → Type 0) (Behind : Outline → Type 0) (Known : Run → Type 0)
+          → ((o : Outline) → Outlined o → Outlines disk directory chronicle o step new said ledger ledger') → ((run : Run) → Plays run → Outlined (outline_in run))
+          → ((run : Run) → Plays run → DeviceEnds disk directory chronicle run step new said ledger ledger')
+          → ((out : List ℕ) → Appends taken_first taken out → Text out (out ++ answer_line said))
+          → ((o : Outline) → IsOutlined disk directory chronicle o new → Deals ledger_first ledger' o.ended o.names → Devices (told_by o))
+          → ((run : Run) → PlaysNow disk directory chronicle run new → Deals ledger_first ledger' run.ended run.names → Devices (told_in run))
+          → ((o : Outline) → IsOutlined disk directory chronicle o new → Behind o) → ((run : Run) → PlaysNow disk directory chronicle run new → Known run)
+          → Story first unread' given' Text Devices Behind Known
+      step_more Text Devices Behind Known outlined outlined_in ends text settle settle_run behind knows =
+          line_more (Some said) Text Devices Behind Known (λ o deals is. step_follows Devices Behind o (outlined o is) settle behind deals) text
+          (λ r. let run : Run = run_after fresh story.lines r.turns in elim (ends run r.known) [
+            | inl m ↦
+                inl (recorded_more (Some said) Text Devices Behind Known r m.moves.turn (rw asks m.moves.takes) (rw asks (ap Some (sym m.moves.says)))
+                (rw asks (settle_run (after_step run m.moves.turn step) m.moves.plays (deals_all run.ended m.harms run.names m.names _ _ m.ended m.named r.devices m.deals)))
+                (rw asks (knows (after_step run m.moves.turn step) m.moves.plays)))
+            | inr shows ↦ inr (shows.0, rw asks shows.1, outlined_in run r.known)
+          ])

@@ -12,36 +12,17 @@ use Rattle.cache_tool.specs.declared.top.Status.TheVariants as status
 use Rattle.cache_tool.specs.declared.run.Ending.TheVariants as ending
 use Rattle.script_lang.specs.declared.answer.StepAnswer.{StepAnswer}
 use Rattle.cache_replay.specs.Outline.{Outline}
-use Rattle.cache_tool.specs.Story.{Story, Told, Recorded, ShownAlong, Because, Counts, SendsAll}
+use Rattle.cache_tool.specs.Story.{Because, Counts, SendsAll}
 use Rattle.cache_tool.specs.Ending.{IsOfRun, StoryUpTo}
 use Rattle.cache_tool.specs.Top.{WentOut, DevicesBack, status_of, EndsEarly, Concludes}
 use Rattle.cache_tool.proofs.Halts.{Appends-kept, front_more}
+use Rattle.cache_tool.proofs.Stories.{story_with}
 use Rattle.cache_tool.proofs.Ends.{Rose-earlier}
 
 module _ (first old mid new : Option (List ℕ)) (source sink sink_last bay : Counts) (faultless : Bool) (before now : Ledger) (earlier : sink.before ≤ sink_last.before) (same : sink_last.now ≡ sink.now) where
   went_out : (out text : List ℕ) → Appends old mid out → WentOut mid new sink_last [] text → WentOut old new sink out text
   went_out out text appends (inl all) = inl (Appends-trans old mid new out text appends all)
   went_out out text appends (inr cut) = inr (Rose-earlier sink.before sink_last.before sink.now earlier (rw same at cut.0), front_more old mid new out text appends cut.1)
-
-  records_with : (lines : List (List ℕ)) (answers : List (Option StepAnswer)) (Devices Devices' : Told → Type 0) (Known : Run → Type 0) → ((t : Told) → Devices t → Devices' t)
-      → Recorded lines answers Devices Known ⊎ ShownAlong lines answers → Recorded lines answers Devices' Known ⊎ ShownAlong lines answers
-  records_with lines answers Devices Devices' Known d (inl r) = inl (record { turns = r.turns; legal = r.legal; says = r.says; devices = d _ r.devices; known = r.known })
-  records_with lines answers Devices Devices' Known d (inr along) = inr along
-
-  text_with : (unread : Option (List ℕ)) (given : ℕ) (Text Text' : (before all : List ℕ) → Type 0) (Devices Devices' : Told → Type 0) (Behind Behind' : Outline → Type 0) (Known : Run → Type 0)
-      → ((out all : List ℕ) → Text out all → Text' out all) → ((t : Told) → Devices t → Devices' t) → ((o : Outline) → Behind o → Behind' o)
-      → Story first unread given Text Devices Behind Known → Story first unread given Text' Devices' Behind' Known
-  text_with unread given Text Text' Devices Devices' Behind Behind' Known f d b s = record {
-    lines = s.lines;
-    answers = s.answers;
-    taken = s.taken;
-    counted = s.counted;
-    answered = s.answered;
-    text = f _ _ s.text;
-    devices = d _ s.devices;
-    behind = b _ s.behind;
-    records = records_with s.lines s.answers Devices Devices' Known d s.records;
-  }
 
   abbrev Upto : LastLine → Type 0
   Upto why = StoryUpTo first (SendsAll old mid) (λ unread given. DevicesBack faultless before now) (λ unread given o. Because source bay unread given o why)
@@ -51,15 +32,15 @@ module _ (first old mid new : Option (List ℕ)) (source sink sink_last bay : Co
     early s said out = record {
       why = why;
       said = said;
-      upto = record { unread = upto.unread; given = upto.given; story = text_with upto.unread upto.given (SendsAll old mid) _ _ _ _ _ _ (λ before all appends. went_out all (last_line why) appends out) (λ t back. back) (λ o because. because) upto.story };
+      upto = record { unread = upto.unread; given = upto.given; story = story_with first upto.unread upto.given (SendsAll old mid) _ _ _ _ _ _ (λ before all appends. went_out all (last_line why) appends out) (λ t back. back) (λ o because. because) upto.story };
     }
 
     forgotten : Keeps mid new → Concludes first old new source sink bay faultless before now status.OutOfMemory
-    forgotten keeps = record {
+    forgotten keeps = inl (record {
       unread = upto.unread;
       given = upto.given;
-      story = text_with upto.unread upto.given (SendsAll old mid) _ _ _ _ _ _ (λ before all appends. inl (Appends-kept old mid new all appends keeps)) (λ t back. record { back = inl back.back; unfaulted = back.unfaulted }) (λ o because. tt) upto.story;
-    }
+      story = story_with first upto.unread upto.given (SendsAll old mid) _ _ _ _ _ _ (λ before all appends. Appends-kept old mid new all appends keeps) (λ t back. record { back = inl back.back; unfaulted = back.unfaulted }) (λ o because. tt) upto.story;
+    })
 
   -- the last line went out
   told : (why : LastLine) → IsOfRun (ending.Stopped why) → Upto why → WentOut mid new sink_last [] (last_line why) → Concludes first old new source sink bay faultless before now (status_of why)

@@ -33,4 +33,4 @@ module _ (first old new : Option (List ℕ)) (source sink bay : Counts) (faultle
 
   -- the script is told to be bad only where a line is
   bad_is_told : (e : Early status.BadScript) → (fault : BadLine) × IsBadLine e.upto.given e.upto.unread fault
-  bad_is_told e = bad_because e.upto.unread e.upto.given _ e.why e.said e.upto.story.behind
+  bad_is_told e = bad_because e.upto.unread e.upto.given _ e.why e.said e.upto.story.outline.behind

@@ -16,7 +16,7 @@ use Rattle.script_run.specs.Run.{Harm, Run, fresh, no_harm}
 use Rattle.script_run.specs.Turn.{Turn}
 use Rattle.script_run.specs.Behind.{harm_of}
 use Rattle.script_run.specs.Takes.{IsRun, run_after, LineShows}
-use Rattle.cache_replay.specs.Outline.{Outline, blank, told_of}
+use Rattle.cache_replay.specs.Outline.{Outline, blank, outline_in, told_of}
 use Rattle.cache_replay.specs.Lines.{AreAnswered, answers_of, outline_of, texts_before, texts_of}
 use Rattle.cache_replay.specs.Plays.{Ledger, Deals}
 use Rattle.cache_replay.specs.Stop.{NeedsSession, Attaches, AttachesAs}
@@ -46,7 +46,7 @@ pub record Told : Type 0 where
   pub own : List Harm
   pub names : List (List ℕ)
 
--- by the answers alone: counts of faults
+-- by an outline: of answers alone, counts of faults
 abbrev pub told_by : Outline → Told
 told_by o = record { ended = o.ended; own = told_of o.session; names = o.names }
 
@@ -68,10 +68,17 @@ pub record Recorded (lines : List (List ℕ)) (answers : List (Option StepAnswer
   pub devices : Devices (told_in (run_after fresh lines turns))
   pub known : Known (run_after fresh lines turns)
 
--- Or so it was up to some line, which shows two documents of one SHA-256: that as which a piece was placed that the
--- line reads, and other bytes, which the device gave in the line's turn. Both are bytes, and the piece is live, so that
--- numbers above 255, a line without a session, and equal strings show nothing.
-pub record ShownAlong (lines : List (List ℕ)) (answers : List (Option StepAnswer)) : Type 0 where
+-- from this outline on each step is answered where it can be, and this is what the outline behind the lines keeps
+pub record AnsweredFrom (o : Outline) (lines : List (List ℕ)) (answers : List (Option StepAnswer)) (Devices : Told → Type 0) (Behind : Outline → Type 0) : Type 0 where
+  pub each : AreAnswered o lines answers
+  pub devices : Devices (told_by (outline_of o lines answers))
+  pub behind : Behind (outline_of o lines answers)
+
+-- Or so it was up to some line, which shows two documents of one SHA-256: that as which a piece was placed that the line
+-- reads, and other bytes. Both are bytes, and the piece is live, so that numbers above 255, a line without a session, and
+-- equal strings show nothing. What the records told of devices up to that line stands, with what the answers tell from it
+-- on.
+pub record ShownAlong (lines : List (List ℕ)) (answers : List (Option StepAnswer)) (Devices : Told → Type 0) (Behind : Outline → Type 0) : Type 0 where
   pub before : List (List ℕ)
   pub bytes : List ℕ
   pub after : List (List ℕ)
@@ -82,6 +89,7 @@ pub record ShownAlong (lines : List (List ℕ)) (answers : List (Option StepAnsw
   pub says : answers ≡ answers_of fresh before earlier ++ rest
   pub turn : Turn
   pub shows : LineShows (run_after fresh before earlier) turn bytes
+  pub outline : AnsweredFrom (outline_in (run_after fresh before earlier)) (bytes ∷ after) rest Devices Behind
 
 -- Lines were taken, each step among them was answered, and this is what the text of their answers (of all but the last,
 -- and of all), what was told of their devices, and the outline behind them keep. Where SHA-256 fails, only the records
@@ -91,11 +99,9 @@ pub record Story (first now : Option (List ℕ)) (given : ℕ) (Text : (before a
   pub answers : List (Option StepAnswer)
   pub taken : IsBehind first lines now
   pub counted : given ≡ length lines
-  pub answered : AreAnswered blank lines answers
   pub text : Text (texts_before answers) (texts_of answers)
-  pub devices : Devices (told_by (outline_of blank lines answers))
-  pub behind : Behind (outline_of blank lines answers)
-  pub records : Recorded lines answers Devices Known ⊎ ShownAlong lines answers
+  pub outline : AnsweredFrom blank lines answers Devices Behind
+  pub records : Recorded lines answers Devices Known ⊎ ShownAlong lines answers Devices Behind
 
 -- ---- how a run ends
 
@@ -161,9 +167,9 @@ Because source bay unread given o (last.NoCache number) = (number ≡ given + 1)
 abbrev pub SendsAll : (old new : Option (List ℕ)) → (before all : List ℕ) → Type 0
 SendsAll old new before all = Appends old new all
 
--- whole answers went out: those of all lines, or of all but the last
-abbrev pub SendsWhole : (old new : Option (List ℕ)) → (before all : List ℕ) → Type 0
-SendsWhole old new before all = Appends old new all ⊎ Appends old new before
+-- those of all lines but the last did
+abbrev pub SendsBefore : (old new : Option (List ℕ)) → (before all : List ℕ) → Type 0
+SendsBefore old new before all = Appends old new before
 
 -- these bytes went out, and behind them a front of a text
 pub record SendsFront (old new : Option (List ℕ)) (before text : List ℕ) : Type 0 where

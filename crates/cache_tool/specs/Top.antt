@@ -1,5 +1,5 @@
 -- What the program promises of a run: its status, its output and its devices.
-use Rattle.std.specs.Prelude.{◌≡◌, ℕ, ◌⊎◌, Bool, IsTrue, List, [], ◌∷◌, ◌++◌, All, map, codes, Option, string_bytes, ⊤}
+use Rattle.std.specs.Prelude.{◌≡◌, ℕ, ◌⊎◌, Bool, IsTrue, List, [], ◌∷◌, ◌++◌, All, map, codes, Option, string_bytes}
 use Rattle.std.specs.declared.string.String.{String}
 use Rattle.std.specs.Io.KnownBytes.{Appends, IsAtEnd}
 use Rattle.edge_io.specs.Causes.{Rose}
@@ -9,8 +9,8 @@ use Rattle.script_lang.specs.Texts.{last_line}
 use Rattle.cache_replay.specs.Plays.{Ledger, Deals}
 use Rattle.cache_tool.specs.declared.top.Status.{Status}
 use Rattle.cache_tool.specs.declared.top.Status.TheVariants as status
-use Rattle.cache_tool.specs.Story.{Because, Counts, SendsAll, SendsWhole, SendsFront, CutsLast, GaveBack, Told, all_in}
-use Rattle.cache_tool.specs.Ending.{StoryUpTo}
+use Rattle.cache_tool.specs.Story.{Because, Counts, SendsAll, SendsFront, CutsLast, GaveBack, Told, all_in}
+use Rattle.cache_tool.specs.Ending.{StoryUpTo, WantsMemory}
 
 -- the one word `replay`
 abbrev pub IsReplay : {A : Type 0} → List (String A) → Type 0
@@ -65,7 +65,7 @@ pub record Settles (faultless : Bool) (Back : Told → Type 0) (t : Told) : Type
 abbrev pub DevicesBack : Bool → Ledger → Ledger → Told → Type 0
 DevicesBack faultless before now = Settles faultless (EachBack before now)
 
--- so they came back where it was: there may be one more, of a format
+-- so they came back where it was for the next line: there may be one more, of a format
 abbrev pub DevicesWanting : Bool → Ledger → Ledger → Option (List ℕ) → ℕ → Told → Type 0
 DevicesWanting faultless before now unread given = Settles faultless (EachBackOrMore before now unread given)
 
@@ -77,12 +77,13 @@ pub record EndsEarly (first old new : Option (List ℕ)) (source sink bay : Coun
 
 -- What each status says. Done: the script was read to its end, and the output is the answers of all its lines. Usage: the
 -- last line alone went out. WriteFault: the sink's count rose, and no line was taken behind the one whose answer was cut.
--- OutOfMemory: whole answers went out, of all lines that were taken or of all but the last. The others name the cause that
--- ended the run. All of that stands also where a line showed two documents of one SHA-256 (`ShownAlong`): what is lost then
--- is that the records are legal, and that the answers from that line on are theirs (`Recorded`).
+-- OutOfMemory: whole answers went out, of all lines that were taken, or of all but the last, for whose text memory was
+-- wanting. The others name the cause that ended the run. All of that stands also where a line showed two documents of one
+-- SHA-256 (`ShownAlong`): what is lost then is that the records are legal, and that the answers from that line on are
+-- theirs (`Recorded`).
 abbrev pub Concludes : (first old new : Option (List ℕ)) → (source sink bay : Counts) → (faultless : Bool) → (before now : Ledger) → Status → Type 0
 Concludes first old new source sink bay faultless before now status.Done = StoryUpTo first (SendsAll old new) (λ unread given. DevicesBack faultless before now) (λ unread given o. IsAtEnd unread)
 Concludes first old new source sink bay faultless before now status.Usage = WentOut old new sink [] (last_line last.Usage) × (now ≡ before)
 Concludes first old new source sink bay faultless before now status.WriteFault = StoryUpTo first (CutsLast old new) (λ unread given. DevicesBack faultless before now) (λ unread given o. Rose sink.before sink.now)
-Concludes first old new source sink bay faultless before now status.OutOfMemory = StoryUpTo first (SendsWhole old new) (DevicesWanting faultless before now) (λ unread given o. ⊤)
+Concludes first old new source sink bay faultless before now status.OutOfMemory = WantsMemory first old new (DevicesBack faultless before now) (DevicesWanting faultless before now)
 Concludes first old new source sink bay faultless before now s = EndsEarly first old new source sink bay faultless before now s

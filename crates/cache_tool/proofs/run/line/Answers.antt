@@ -54,7 +54,7 @@ returns-in-Ok-clause-goes g c =
     λ first told back story.
     step_goes g.B.Dev.Disk listed chronicled c.args.session.now first told _ back _ (unread g.S.Source.left c.args.reader.now) (unread g.S.Source.left c.next_reading.new.reader)
     (lines_given c.args.reader.now) (lines_given c.next_reading.new.reader) story
-    read.0 read.2.answers read.2.given c.in-Line-Step.asked asks c.take_step.new.session _ _ c.in-Ok.ensures.done
+    read.0 read.2.answers read.2.given c.in-Line-Step.asked asks c.take_step.new.session _ _ c.requires.session c.in-Ok.ensures.done
 
 pub returns-in-Err-clause-ends : goal.returns-in-Err-clause-ends
 returns-in-Err-clause-ends g c =
