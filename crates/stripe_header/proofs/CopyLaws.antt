@@ -1,5 +1,5 @@
 -- An accepted copy is spelled as one is written, and what is spelled so is accepted.
-use Rattle.std.proofs.Common.{◌≡◌, ◌≤◌, ◌<◌, ◌+◌, ◌-◌, ◌^◌, ◌⊎◌, inl, inr, ℕ, Bool, true, false, cond, List, [], ◌∷◌, ◌++◌, length, take, drop, Option, Some, None, Result, Ok, Err, refl, sym, ap, subst, ◌∙◌, append_assoc, arith}
+use Rattle.std.proofs.Common.{◌≡◌, ◌≤◌, ◌<◌, ◌+◌, ◌-◌, ◌^◌, ◌⊎◌, inl, inr, ℕ, Bool, true, false, cond, List, ◌++◌, length, take, drop, Option, Some, None, Result, Ok, Err, refl, sym, ap, subst, ◌∙◌, append_assoc, arith}
 use Rattle.std.specs.Prelude.{◌*◌, ◌/◌, min, codes, not, nat_lt, ◌==◌, ◌&&◌, ◌||◌, IfOk, replicate}
 use Rattle.std.specs.Int.{w32, w64, to_le_bytes, from_le_bytes}
 use Rattle.std.specs.List.{slice_index}
@@ -7,7 +7,7 @@ use Rattle.std.specs.Option.{option_or}
 use Rattle.std.specs.Str.{bytes_eq}
 use Rattle.std.proofs.Math.Seq.{take-add}
 use Rattle.std.proofs.lemmas.Slice.Eq.{bytes_eq-Decides}
-use Rattle.std.proofs.lemmas.Bool.{eqb-true, eq-eqb, and_parts, ltb-false, le-ltb}
+use Rattle.std.proofs.lemmas.Bool.{eqb-true, eq-eqb, and_parts, ltb-false}
 use Rattle.std.proofs.lemmas.List.{take-append-drop, take_at, drop_at, length-append, length-drop}
 use Rattle.std.proofs.lemmas.Nat.{from_le_bytes-to_le_bytes_4, from_le_bytes-to_le_bytes_8}
 use Rattle.std.proofs.Math.Nat.{min-le_right, mul-div-le, mul-suc}
@@ -16,20 +16,20 @@ use Rattle.sha2.specs.Sha256.{sha256, digest_bytes}
 use Rattle.tape_base.specs.declared.geometries.Geometry.{Geometry}
 use Rattle.stripe_header.specs.declared.states.CopyState.{CopyState}
 use Rattle.stripe_header.specs.declared.states.CopyFault.{CopyFault}
-use Rattle.stripe_header.specs.Spelling.{Numbers, numbers_of, mark_of, head_bytes, foot_bytes, covered_bytes, copy_bytes, is_within, has_cursor, has_counts, has_floor, may_say, IsCopy}
+use Rattle.stripe_header.specs.Spelling.{Numbers, numbers_of, mark_of, head_bytes, foot_bytes, covered_bytes, is_within, has_cursor, has_counts, has_floor, may_say, IsCopy}
 use Rattle.stripe_header.specs.Reading.{bytes_at, number_in, is_version, version_in, covered_of, footer_of, foot_serial, copy_told, has_magics, are_spelled, form_fault, digest_fault, geometry_fault, copy_fault, CopyAnswers}
 
 -- ---- what passed, and what passes
 
-not_none : (b : Bool) (fault : CopyFault) (rest : Option CopyFault) → cond (not b) (Some fault) rest ≡ None → (b ≡ true) × (rest ≡ None)
+pub not_none : {F : Type 0} (b : Bool) (fault : F) (rest : Option F) → cond (not b) (Some fault) rest ≡ None → (b ≡ true) × (rest ≡ None)
 not_none true fault rest h = (refl, h)
 not_none false fault rest h = absurd cc
 
-neither : (a b : Option CopyFault) → option_or a b ≡ None → (a ≡ None) × (b ≡ None)
+pub neither : {F : Type 0} (a b : Option F) → option_or a b ≡ None → (a ≡ None) × (b ≡ None)
 neither None b h = (refl, h)
 neither (Some fault) b h = absurd cc
 
-kept_none : (b : Bool) (fault : CopyFault) → cond b None (Some fault) ≡ None → b ≡ true
+pub kept_none : {F : Type 0} (b : Bool) (fault : F) → cond b None (Some fault) ≡ None → b ≡ true
 kept_none true fault h = refl
 kept_none false fault h = absurd cc
 

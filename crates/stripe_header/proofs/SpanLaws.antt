@@ -1,31 +1,18 @@
 -- An accepted span is spelled as one is written, and what is spelled so is accepted.
 use Rattle.std.proofs.Common.{◌≡◌, ◌≤◌, ◌<◌, ◌+◌, ◌^◌, ◌⊎◌, inl, inr, ℕ, Bool, true, false, cond, List, ◌++◌, length, Option, Some, None, Result, Ok, Err, refl, sym, ap, subst, ◌∙◌, append_assoc, arith}
-use Rattle.std.specs.Prelude.{codes, not, nat_lt, ◌==◌, ◌&&◌, ◌||◌, IfOk, replicate, if◌then◌else◌}
+use Rattle.std.specs.Prelude.{codes, not, nat_lt, ◌==◌, ◌||◌, IfOk, replicate, if◌then◌else◌}
 use Rattle.std.specs.Int.{w32, w64, to_le_bytes}
 use Rattle.std.specs.Option.{option_or}
 use Rattle.std.specs.Str.{bytes_eq}
-use Rattle.std.proofs.lemmas.Slice.Eq.{bytes_eq-Decides}
 use Rattle.std.proofs.lemmas.Bool.{eqb-true, and_parts, ltb-false, le-ltb}
 use Rattle.std.proofs.lemmas.List.{take_at}
 use Rattle.sha2.specs.Sha256.{sha256}
 use Rattle.stripe_header.specs.declared.states.Span.{Span}
 use Rattle.stripe_header.specs.declared.states.SpanFault.{SpanFault}
 use Rattle.stripe_header.specs.Spelling.{Numbers, numbers_of, spelled_alternates, span_fields, span_bytes}
-use Rattle.stripe_header.specs.Reading.{bytes_at, number_in, is_version, version_in, span_numbers, span_blocks, are_accepted, is_laid, seal_fault, span_fault, SpanAnswers}
+use Rattle.stripe_header.specs.Reading.{bytes_at, is_version, version_in, span_numbers, span_blocks, are_accepted, is_laid, seal_fault, span_fault, SpanAnswers}
 use Rattle.stripe_header.specs.Accepted.{IsSpan, FitsFields}
-use Rattle.stripe_header.proofs.CopyLaws.{same, equal, not_false, length-sha256, number_64_is, number_32_is}
-
-not_none : (b : Bool) (fault : SpanFault) (rest : Option SpanFault) → cond (not b) (Some fault) rest ≡ None → (b ≡ true) × (rest ≡ None)
-not_none true fault rest h = (refl, h)
-not_none false fault rest h = absurd cc
-
-neither : (a b : Option SpanFault) → option_or a b ≡ None → (a ≡ None) × (b ≡ None)
-neither None b h = (refl, h)
-neither (Some fault) b h = absurd cc
-
-kept_none : (b : Bool) (fault : SpanFault) → cond b None (Some fault) ≡ None → b ≡ true
-kept_none true fault h = refl
-kept_none false fault h = absurd cc
+use Rattle.stripe_header.proofs.CopyLaws.{not_none, neither, kept_none, same, equal, not_false, length-sha256, number_64_is, number_32_is}
 
 -- ---- what is accepted is spelled so
 

@@ -5,7 +5,7 @@ use Rattle.stripe_header.specs.declared.area.Area.{Area}
 use Rattle.stripe_header.specs.declared.area.Side.{Side}
 use Rattle.stripe_header.specs.declared.area.Side.TheVariants as sides
 
--- the side of the copy that a sync does not write
+-- the side of the other copy
 abbrev pub other_side : Side → Side
 other_side sides.A = sides.B
 other_side sides.B = sides.A

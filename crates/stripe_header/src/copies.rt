@@ -5,7 +5,7 @@ ghost use Rattle.stripe_header.specs.declared.states.CopyState.{CopyState};
 ghost use Rattle.std.specs.Str.{bytes_eq};
 ghost use Rattle.sha2.specs.Sha256.{sha256};
 ghost use Rattle.stripe_header.specs.Spelling.{numbers_of, has_cursor, has_counts, has_floor, may_say, mark_of, then_state, head_bytes, foot_bytes, copy_bytes, IsCopy};
-ghost use Rattle.stripe_header.specs.Reading.{bytes_at, version_in, covered_of, footer_of, foot_serial, copy_told, has_magics, are_spelled, form_fault, digest_fault, geometry_fault, copy_fault, CopyAnswers};
+ghost use Rattle.stripe_header.specs.Reading.{bytes_at, version_in, covered_of, footer_of, foot_serial, copy_told, has_magics, form_fault, digest_fault, geometry_fault, copy_fault, CopyAnswers};
 
 use crate::fields::{array, field, number_32, number_64, put, put_extents, put_sizes, put_zeros};
 use crate::states::{CopyFault, CopyState};

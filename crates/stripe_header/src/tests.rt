@@ -1,4 +1,6 @@
 // What no clause says: a span and a copy spelled out field by field, and a bad one for each fault.
+ghost use Rattle.std.specs.Prelude.{◌≤◌, length};
+
 use crate::{
     Area, CopyFault, CopyState, Side, SpanFault, read_copy, read_span, write_body, write_span,
 };
@@ -37,7 +39,9 @@ fn area() -> Result<Area, Fail> {
 }
 
 // The numbers of the geometry as a span and a copy have them, without the alternates.
-fn spell_numbers(block: &mut [u8]) {
+fn spell_numbers(block: &mut [u8])
+    requires { 56 ≤ length block.old }
+{
     block[8] = 2;
     block[12] = 1;
     block[16] = 2;
@@ -128,7 +132,9 @@ fn the_parts_of_a_device_lie_one_behind_the_other(rt: HostRuntime) -> Result<(),
 // The answer to the worked copy with one byte changed, under the digest of what it then has.
 fn copy_with(at: usize, byte: u8) -> Result<Result<CopyState, CopyFault>, Fail> {
     let mut body = body();
-    body[at] = byte;
+    if at < 1536 {
+        body[at] = byte;
+    }
     let digest = Digest::of(&body[..1024]);
     body[1040..1072].copy_from_slice(&digest.0);
     Ok(read_copy(&geometry()?, &gate(1), &body))
@@ -198,7 +204,9 @@ fn a_copy_of_the_first_version_is_not_clean(rt: HostRuntime) -> Result<(), Fail>
 // The worked span with one byte changed, under the digest of what it then has.
 fn span_with(at: usize, byte: u8) -> [u8; 512] {
     let mut block = span();
-    block[at] = byte;
+    if at < 512 {
+        block[at] = byte;
+    }
     let digest = Digest::of(&block[..72]);
     block[72..104].copy_from_slice(&digest.0);
     block
