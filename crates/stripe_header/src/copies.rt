@@ -263,8 +263,9 @@ pub fn read_copy(g: &Geometry, gate: &[u8; 512], body: &[u8]) -> Result<CopyStat
         × IsCopy body.now (version_in body.now) g.now state
         (bytes_at 512 (length body.now - 1024) body.now)) }
     // What is spelled so is accepted behind an open gate.
-    ensures only { (version : ℕ) (state : CopyState) (directory : List ℕ) → slice_index gate.now 0 ≡ 1
-        → IsCopy body.now version g.now state directory → CopyAnswers result None state }
+    ensures only { (version : ℕ) (state : CopyState) (directory : List ℕ)
+        → slice_index gate.now 0 ≡ 1 → IsCopy body.now version g.now state directory
+        → CopyAnswers result None state }
 {
     read(g, gate, body)
 }

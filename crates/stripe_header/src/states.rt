@@ -17,8 +17,8 @@ pub enum SpanFault {
     Version,
     /// The fields are not those whose digest stands behind them.
     Digest { kept: Digest, found: Digest },
-    /// A geometry that is refused, too few blocks, a stripe that does not begin at block 1, or bytes
-    /// that have to be zero and are not.
+    /// A geometry that is refused, too few blocks, a stripe that does not begin at block 1, or
+    /// bytes that have to be zero and are not.
     Geometry,
 }
 
@@ -49,7 +49,7 @@ pub enum CopyFault {
     Serials { head: u64, foot: u64 },
     /// The header and the directory are not those whose digest the footer keeps.
     Digest { kept: Digest, found: Digest },
-    /// Another geometry than the span's, a state that no copy has, or bytes that have to be zero and
-    /// are not.
+    /// Another geometry than the span's, a state that no copy has, or bytes that have to be zero
+    /// and are not.
     Geometry,
 }
