@@ -12,12 +12,13 @@ fn two_threads_make_a_thousand_turns_each(rt: HostRuntime) -> Result<(), Fail> {
         let worker = row.worker as usize;
         assert!(rt; worker < 2);
         assert_eq!(rt; row.job, jobs[worker]);
-        jobs[worker] += 1;
+        jobs[worker] = row.job.wrapping_add(1);
     }
     assert_eq!(rt; jobs, [1000, 1000]);
     for (worker, numbers) in [(0, &first), (1, &second)] {
         for (job, number) in numbers.iter().enumerate() {
-            let row = tally.rows.get(*number as usize - 1).ok_or("no such turn")?;
+            let at = number.checked_sub(1).ok_or("no such turn")?;
+            let row = tally.rows.get(at as usize).ok_or("no such turn")?;
             assert_eq!(rt; (row.worker, row.job), (worker, job as u64));
         }
     }

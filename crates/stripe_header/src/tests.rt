@@ -1,6 +1,4 @@
 // What no clause says: a span and a copy spelled out field by field, and a bad one for each fault.
-ghost use Rattle.std.specs.Prelude.{◌≤◌, length};
-
 use crate::{
     Area, CopyFault, CopyState, Side, SpanFault, read_copy, read_span, write_body, write_span,
 };
@@ -38,52 +36,66 @@ fn area() -> Result<Area, Fail> {
     })
 }
 
-// The numbers of the geometry as a span and a copy have them, without the alternates.
-fn spell_numbers(block: &mut [u8])
-    requires { 56 ≤ length block.old }
-{
-    block[8] = 2;
-    block[12] = 1;
-    block[16] = 2;
-    block[20] = 16;
-    block[24..26].copy_from_slice(&[0xe8, 0x03]);
-    block[32] = 64;
-    block[40] = 32;
-    block[48] = 7;
+// Bytes from a place on, as far as there is room.
+fn lay(into: &mut [u8], at: usize, bytes: &[u8]) {
+    for (i, byte) in bytes.iter().enumerate() {
+        if let Some(to) = into.get_mut(at.wrapping_add(i)) {
+            *to = *byte;
+        }
+    }
 }
 
-fn directory(body: &mut [u8; 1536]) {
-    for at in 0..512 {
-        body[512 + at] = (at % 251) as u8;
+fn digest_of_first(count: usize, bytes: &[u8]) -> Digest {
+    match bytes.get(..count) {
+        Some(front) => Digest::of(front),
+        None => Digest([0; 32]),
+    }
+}
+
+// The numbers of the geometry as a span and a copy have them, without the alternates.
+fn spell_numbers(block: &mut [u8]) {
+    lay(block, 8, &[2]);
+    lay(block, 12, &[1]);
+    lay(block, 16, &[2]);
+    lay(block, 20, &[16]);
+    lay(block, 24, &[0xe8, 0x03]);
+    lay(block, 32, &[64]);
+    lay(block, 40, &[32]);
+    lay(block, 48, &[7]);
+}
+
+fn directory(body: &mut [u8]) {
+    for at in 0..512u64 {
+        lay(body, 512 + at as usize, &[(at % 251) as u8]);
     }
 }
 
 // The copy of `STATE`, field by field.
 fn body() -> [u8; 1536] {
     let mut body = [0; 1536];
-    body[0..8].copy_from_slice(b"TSCHEAD1");
+    lay(&mut body, 0, b"TSCHEAD1");
     spell_numbers(&mut body);
-    body[56] = 5;
-    body[64] = 130;
-    body[72] = 9;
-    body[80] = 1;
-    body[88] = 90;
+    lay(&mut body, 56, &[5]);
+    lay(&mut body, 64, &[130]);
+    lay(&mut body, 72, &[9]);
+    lay(&mut body, 80, &[1]);
+    lay(&mut body, 88, &[90]);
     directory(&mut body);
-    body[1024..1032].copy_from_slice(b"TSCFOOT1");
-    body[1032] = 5;
-    body[1040..1072].copy_from_slice(&COPY_DIGEST);
+    lay(&mut body, 1024, b"TSCFOOT1");
+    lay(&mut body, 1032, &[5]);
+    lay(&mut body, 1040, &COPY_DIGEST);
     body
 }
 
 // A span of 72 blocks behind it, field by field.
 fn span() -> [u8; 512] {
     let mut block = [0; 512];
-    block[0..8].copy_from_slice(b"TSCSPAN1");
+    lay(&mut block, 0, b"TSCSPAN1");
     spell_numbers(&mut block);
-    block[28] = 3;
-    block[56] = 1;
-    block[64] = 72;
-    block[72..104].copy_from_slice(&SPAN_DIGEST);
+    lay(&mut block, 28, &[3]);
+    lay(&mut block, 56, &[1]);
+    lay(&mut block, 64, &[72]);
+    lay(&mut block, 72, &SPAN_DIGEST);
     block
 }
 
@@ -132,11 +144,9 @@ fn the_parts_of_a_device_lie_one_behind_the_other(rt: HostRuntime) -> Result<(),
 // The answer to the worked copy with one byte changed, under the digest of what it then has.
 fn copy_with(at: usize, byte: u8) -> Result<Result<CopyState, CopyFault>, Fail> {
     let mut body = body();
-    if at < 1536 {
-        body[at] = byte;
-    }
-    let digest = Digest::of(&body[..1024]);
-    body[1040..1072].copy_from_slice(&digest.0);
+    lay(&mut body, at, &[byte]);
+    let digest = digest_of_first(1024, &body);
+    lay(&mut body, 1040, &digest.0);
     Ok(read_copy(&geometry()?, &gate(1), &body))
 }
 
@@ -147,10 +157,10 @@ fn each_fault_of_a_copy_has_its_bytes(rt: HostRuntime) -> Result<(), Fail> {
         Err(CopyFault::GateShut)
     );
     let mut torn = body();
-    torn[600] = 0;
+    lay(&mut torn, 600, &[0]);
     let digests = CopyFault::Digest {
         kept: Digest(COPY_DIGEST),
-        found: Digest::of(&torn[..1024]),
+        found: digest_of_first(1024, &torn),
     };
     assert_eq!(rt; read_copy(&geometry()?, &gate(1), &torn), Err(digests));
     let rows = [
@@ -187,11 +197,11 @@ fn each_fault_of_a_copy_has_its_bytes(rt: HostRuntime) -> Result<(), Fail> {
 #[test]
 fn a_copy_of_the_first_version_is_not_clean(rt: HostRuntime) -> Result<(), Fail> {
     let mut body = body();
-    body[8] = 1;
-    body[80] = 0;
-    body[88] = 0;
-    let digest = Digest::of(&body[..1024]);
-    body[1040..1072].copy_from_slice(&digest.0);
+    lay(&mut body, 8, &[1]);
+    lay(&mut body, 80, &[0]);
+    lay(&mut body, 88, &[0]);
+    let digest = digest_of_first(1024, &body);
+    lay(&mut body, 1040, &digest.0);
     let old = CopyState {
         clean: false,
         floor: 0,
@@ -204,21 +214,19 @@ fn a_copy_of_the_first_version_is_not_clean(rt: HostRuntime) -> Result<(), Fail>
 // The worked span with one byte changed, under the digest of what it then has.
 fn span_with(at: usize, byte: u8) -> [u8; 512] {
     let mut block = span();
-    if at < 512 {
-        block[at] = byte;
-    }
-    let digest = Digest::of(&block[..72]);
-    block[72..104].copy_from_slice(&digest.0);
+    lay(&mut block, at, &[byte]);
+    let digest = digest_of_first(72, &block);
+    lay(&mut block, 72, &digest.0);
     block
 }
 
 #[test]
 fn each_fault_of_a_span_has_its_bytes(rt: HostRuntime) -> Result<(), Fail> {
     let mut torn = span();
-    torn[48] = 8;
+    lay(&mut torn, 48, &[8]);
     let digests = SpanFault::Digest {
         kept: Digest(SPAN_DIGEST),
-        found: Digest::of(&torn[..72]),
+        found: digest_of_first(72, &torn),
     };
     assert_eq!(rt; read_span(&torn).err(), Some(digests));
     let rows = [
@@ -250,9 +258,9 @@ fn each_fault_of_a_span_has_its_bytes(rt: HostRuntime) -> Result<(), Fail> {
 #[test]
 fn a_span_of_the_first_version_means_five_alternates(rt: HostRuntime) -> Result<(), Fail> {
     let mut block = span_with(28, 0);
-    block[8] = 1;
-    let digest = Digest::of(&block[..72]);
-    block[72..104].copy_from_slice(&digest.0);
+    lay(&mut block, 8, &[1]);
+    let digest = digest_of_first(72, &block);
+    lay(&mut block, 72, &digest.0);
     let read = read_span(&block).map_err(|_| "refused")?;
     assert_eq!(rt; read.geometry.alternates, 5);
     Ok(())
