@@ -43,8 +43,9 @@ exit_code status.TooManyLines = 10
 abbrev pub WentOut : Option (List ℕ) → Option (List ℕ) → Counts → (before text : List ℕ) → Type 0
 WentOut old new sink before text = Appends old new (before ++ text) ⊎ (Rose sink.before sink.now × SendsFront old new before text)
 
--- the devices that were attached have the names of the lines that asked for them, in order, and each came back, in that
--- order, with a count that none told exceeds; of one that told its content to the end no piece was told as damaged
+-- the devices that were attached have the names of the lines that asked for them, in order, and as many came back, the
+-- n-th with a count that none told in the n-th session exceeds; where it told its content to the end no piece was told as
+-- damaged in that session
 abbrev pub EachBack : Ledger → Ledger → Told → Type 0
 EachBack before now t = Deals before now (all_in t) t.names
 
