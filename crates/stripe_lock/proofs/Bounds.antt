@@ -21,11 +21,12 @@ use Rattle.stripe_lock.proofs.Keeping.{one_view, Rule}
 
 module _ {T R : Type 0} (k : Ghosts T R) (seats : ℕ) (start : List R) where
   pub opens : (x : T) (floor : ℕ) → k.chronicle x ≡ start → k.turns x ≡ [] → k.is_sound x → floor ≡ k.floor_of (k.chronicle x) (k.turns x) → seats ≤ 64
-      → Rule k seats start (opening (0 ∷ 0 ∷ 0 ∷ 0 ∷ floor ∷ []) (x ∷ []) (opener seats start (k.floor_of start [])))
+      → Rule k seats start (opening (0 ∷ 0 ∷ 0 ∷ floor ∷ []) (x ∷ []) (opener seats start (k.floor_of start [])))
   opens x floor start_is blank sound floor_is few = let top : floor ≡ k.floor_of start [] = floor_is ∙ (λ i. k.floor_of (start_is i) (blank i)) in record {
     c = c;
     words = record { wide = refl; ticket = refl; serving = refl; count = refl; floor = top };
     top_is = refl;
+    top_seen = (0, first, refl, refl);
     told = prefix_same [];
     near = omega arith;
     out = refl;
@@ -56,6 +57,7 @@ module _ {T R : Type 0} (k : Ghosts T R) (seats : ℕ) (start : List R) where
         turn = λ z. absurd (omega arith);
         holds = λ z. absurd (omega arith);
         parts = omega arith;
+        low = omega arith;
       }
       only (suc j) v e = absurd (some-ne-none v (sym e))
 
@@ -80,6 +82,7 @@ module _ {T R : Type 0} (k : Ghosts T R) (seats : ℕ) (start : List R) where
           under = subst (AreUnder v.owned) (sym home.turns_are) (under_all seats v.owned c.log (λ p l. let n = r.each_number p l in dite (ℕ_discrete (c.owner p) id)
               (λ e. subst (λ (u : View R). OwnsNumber u.owned p) (sym (one_view s.views id (c.owner p) v n.0 at n.1 e)) n.2)
               (λ ne. absurd (let none = total_alone weight s.views id (c.owner p) v n.0 at n.1 ne in let some_there = has_some p n.0.owned n.2 in omega arith))) r.workers);
+          higher = let low = g.below in let is : k.floor_of (k.chronicle x) (k.turns x) ≡ c.top = (λ i. k.floor_of (home.chronicle_is i) ((home.turns_are ∙ sym home.told_is) i)) ∙ sym r.top_is in omega arith;
           sound = home.sound;
         },
         all,
@@ -91,11 +94,11 @@ module _ {T R : Type 0} (k : Ghosts T R) (seats : ℕ) (start : List R) where
       r.place
 
 module _ {T R : Type 0} (k : Ghosts T R) where
-  pub home_is_published : HomeIsPublished k
+  pub home_is_published : (seats : ℕ) (start : List R) → HomeIsPublished k (Rule k seats start)
   home_is_published seats start s x r here = ⊎_elim
       (λ (h : (y : T) × (s.homes ≡ some y ∷ []) × IsHome k start r.c y × NoneHolds s.views). let home = h.2 in
       let same : h.0 ≡ x = some-injective h.0 x (some-injective _ _ (ap (λ (l : List (Option T)). get_elem? l 0) (sym h.1 ∙ here))) in
-      subst (λ (y : T). (slice_index s.words 3 ≡ length (k.turns y)) × (slice_index s.words 4 ≡ k.floor_of (k.chronicle y) (k.turns y)) × k.is_sound y) same
+      subst (λ (y : T). (slice_index s.words 2 ≡ length (k.turns y)) × (slice_index s.words 3 ≡ k.floor_of (k.chronicle y) (k.turns y)) × k.is_sound y) same
       (r.words.count ∙ ap length (sym home.turns_are), r.words.floor ∙ (r.top_is ∙ (λ i. k.floor_of (sym home.chronicle_is i) ((home.told_is ∙ sym home.turns_are) i))), home.sound))
       (λ (h : (j : ℕ) × (v : View R) × (s.homes ≡ none ∷ []) × (get_elem? s.views j ≡ some v) × (v.stage ≡ holding)).
       absurd (some-ne-none x (sym (some-injective _ _ (ap (λ (l : List (Option T)). get_elem? l 0) (sym h.2 ∙ here))))))

@@ -10,7 +10,7 @@ use Rattle.stripe_lock.specs.Passes.{PassState, pass_of, view_of, dealt}
 module _ {R : Type 0} where
   -- it has n numbers left, from k on
   abbrev pub dealer : List R → ℕ → ℕ → ℕ → View R
-  dealer chronicle floor k n = record { sight = whole_sight chronicle [] floor; other = whole_sight chronicle [] floor; owned = unused k n; stage = outside; ticket = 0 }
+  dealer chronicle floor k n = record { sight = whole_sight chronicle [] floor; other = whole_sight chronicle [] floor; owned = unused k n; looks = []; peak = floor; stage = outside; ticket = 0 }
 
   -- the pass with the number k
   abbrev pub fresh_pass : TableId → List R → ℕ → ℕ → PassState R

@@ -29,6 +29,34 @@ module _ {R : Type 0} where
       ∙ (cond-append (eqb u.worker p) k (places_from p (suc k) log) (cond (eqb t.worker p) ((suc k + length log) ∷ []) [])
       ∙ ap (λ (n : ℕ). cond (eqb u.worker p) (k ∷ places_from p (suc k) log) (places_from p (suc k) log) ++ cond (eqb t.worker p) (n ∷ []) []) (omega arith))
 
+  places_from-append : (p k : ℕ) (a b : Turns R) → places_from p k (a ++ b) ≡ places_from p k a ++ places_from p (k + length a) b
+  places_from-append p k [] b = ap (λ (n : ℕ). places_from p n b) (omega arith)
+  places_from-append p k (u ∷ a) b = ap (λ l. cond (eqb u.worker p) (k ∷ l) l) (places_from-append p (suc k) a b)
+      ∙ (cond-append (eqb u.worker p) k (places_from p (suc k) a) (places_from p (suc k + length a) b)
+      ∙ ap (λ (n : ℕ). cond (eqb u.worker p) (k ∷ places_from p (suc k) a) (places_from p (suc k) a) ++ places_from p n b) (omega arith))
+
+  -- where two histories have the same places, so has one between them
+  places_between : (p : ℕ) (a b log : Turns R) → IsPrefix a b → IsPrefix b log → places_of p a ≡ places_of p log → places_of p a ≡ places_of p b
+  places_between p a b log h m same = let x = places_from p (0 + length a) h.0 in let y = places_from p (0 + length b) m.0 in
+      let one : places_of p b ≡ places_of p a ++ x = ap (places_of p) (sym h.1) ∙ places_from-append p 0 a h.0 in
+      let two : places_of p log ≡ places_of p b ++ y = ap (places_of p) (sym m.1) ∙ places_from-append p 0 b m.0 in
+      let none : length x ≡ 0 = let i = ap length one in let j = ap length two in let s = ap length same in omega (arith, length-append (places_of p a) x, length-append (places_of p b) y) in
+      sym (one ∙ (ap (λ l. places_of p a ++ l) (empty x none) ∙ append-nil (places_of p a)))
+    where
+      empty : (l : List ℕ) → length l ≡ 0 → l ≡ []
+      empty [] e = refl
+      empty (z ∷ l) e = absurd (omega arith)
+
+  -- what is known of a history holds of one between it and a longer one of which it holds too
+  pub just_between : (a b log : Turns R) (ks : List PassTurns) → IsPrefix a b → IsPrefix b log → HasJust a ks → HasJust log ks → HasJust b ks
+  just_between a b log [] h m f g = tt
+  just_between a b log (k ∷ ks) h m f g = (f.0 ∙ places_between k.number a b log h m (sym f.0 ∙ g.0), just_between a b log ks h m f.1 g.1)
+
+  -- of the numbers of two passes
+  pub just_both : (a a' b log : Turns R) (ks ls : List PassTurns) → IsPrefix a b → IsPrefix a' b → IsPrefix b log → HasJust a ks → HasJust a' ls → HasJust log (ks ++ ls) → HasJust b (ks ++ ls)
+  just_both a a' b log [] ls h h' m f f' g = just_between a' b log ls h' m f' g
+  just_both a a' b log (k ∷ ks) ls h h' m f f' g = (f.0 ∙ places_between k.number a b log h m (sym f.0 ∙ g.0), just_both a a' b log ks ls h h' m f.1 f' g.1)
+
   -- a turn under another number
   pub places-other : (p : ℕ) (log : Turns R) (t : StripeTurn R) → t.worker ≢ p → places_of p (log ++ t ∷ []) ≡ places_of p log
   places-other p log t other = places_from-snoc p 0 log t ∙ (ap (λ b. places_of p log ++ cond b ((0 + length log) ∷ []) []) (ne_eqb t.worker p other) ∙ append-nil (places_of p log))

@@ -14,7 +14,7 @@ use Rattle.stripe_lock.specs.declared.view.StripeTurn.{StripeTurn}
 use Rattle.stripe_lock.specs.declared.view.Sight.{Sight}
 use Rattle.stripe_lock.specs.declared.view.View.{View}
 use Rattle.stripe_lock.specs.History.{OwnsNumber}
-use Rattle.stripe_lock.specs.Rule.{outside, called, holding, total, weight, tickets, NoneHolds, LockCourse, IsSeen, Owns, Knows, IsHome, IsPlaced, IsLocked}
+use Rattle.stripe_lock.specs.Rule.{outside, called, holding, total, weight, tickets, NoneHolds, LockCourse, IsSeen, Owns, Knows, IsTopSeen, IsHome, IsPlaced, IsLocked}
 use Rattle.stripe_lock.proofs.Totals.{in_range, total_set, total_le}
 use Rattle.stripe_lock.proofs.Histories.{prefix_more}
 
@@ -54,6 +54,12 @@ module _ {R : Type 0} where
       (w, ap (get_elem? (set vs id w)) e ∙ set_here vs id w (in_range vs id v at), k.0, k.1 ∙ (ap (λ (u : View R). u.ticket) same ∙ h.3)))
       (λ ne. (h.0, set_else vs id (line t) w ne ∙ h.1, h.2, h.3))
 
+  -- the published floor is still seen, where the view that changed has seen as much
+  pub seen_after : (c : LockCourse R) (vs : Views R) (id : ℕ) (v w : View R) → get_elem? vs id ≡ some v → v.peak ≤ w.peak → w.peak ≤ c.top → IsTopSeen c vs → IsTopSeen c (set vs id w)
+  seen_after c vs id v w at up low h = dite (ℕ_discrete h.0 id)
+      (λ e. let same : v.peak ≡ h.1.peak = ap (λ (u : View R). u.peak) (one_view vs id h.0 v h.1 at h.2 e) in let is = h.3 in (id, w, set_here vs id w (in_range vs id v at), omega arith))
+      (λ ne. (h.0, h.1, set_else vs id h.0 w ne ∙ h.2, h.3))
+
   -- two views that are called are one
   pub one_called : {floor_of : List R → List (StripeTurn R) → ℕ} (seats : ℕ) (start : List R) (c : LockCourse R) (i j : ℕ) (v u : View R) → Knows floor_of seats start c i v → Knows floor_of seats start c j u
       → called ≤ v.stage → called ≤ u.stage → i ≡ j
@@ -72,7 +78,7 @@ module _ {T R : Type 0} (k : Ghosts T R) (seats : ℕ) (start : List R) where
   few_out s r = let h = total_le tickets weight s.views (λ i v e. (r.each_view i v e).parts) in let w = r.weights in omega arith
 
   -- two numbers that are one modulo 2^64, of which one is a ticket that is out
-  pub its_turn : (s : State T (View R)) (r : Rule s) (id : ℕ) (v : View R) → get_elem? s.views id ≡ some v → 0 < v.stage → get_or s.words 2 0 ≡ v.ticket % W → v.ticket ≡ r.c.served
+  pub its_turn : (s : State T (View R)) (r : Rule s) (id : ℕ) (v : View R) → get_elem? s.views id ≡ some v → 0 < v.stage → get_or s.words 1 0 ≡ v.ticket % W → v.ticket ≡ r.c.served
   its_turn s r id v at out e = let t = (r.each_view id v at).ticket out in let few = few_out s r in let most = r.few in let sum = r.out in let low = t.0 in let high = t.1 in
       sym (one_turn r.c.served v.ticket W low (omega arith) (sym r.words.serving ∙ e))
 
@@ -90,14 +96,15 @@ module _ {T R : Type 0} (k : Ghosts T R) (seats : ℕ) (start : List R) where
 
   -- a view in the line that has its numbers and its ticket as before
   pub moves : (s : State T (View R)) (r : Rule s) (id : ℕ) (v w : View R) (homes : List (Option T)) → get_elem? s.views id ≡ some v → w.owned ≡ v.owned → w.ticket ≡ v.ticket → w.other ≡ v.other
-      → 0 < v.stage → 0 < w.stage → IsSeen k.floor_of start r.c w.sight → (called ≤ w.stage → v.ticket ≡ r.c.served) → (w.stage ≡ holding → w.sight ≡ record { chronicle = start; seen = r.c.log; told = r.c.told; floor = r.c.top })
+      → 0 < v.stage → 0 < w.stage → v.peak ≤ w.peak → w.peak ≤ r.c.top → IsSeen k.floor_of start r.c w.sight → (called ≤ w.stage → v.ticket ≡ r.c.served) → (w.stage ≡ holding → w.sight ≡ record { chronicle = start; seen = r.c.log; told = r.c.told; floor = r.c.top })
       → IsPlaced k start r.c homes (set s.views id w) → Rule record { words = s.words; homes = homes; views = set s.views id w }
-  moves s r id v w homes at same_owned same_ticket same_other before after sight turn holds place = let known = r.each_view id v at in
+  moves s r id v w homes at same_owned same_ticket same_other before after up low sight turn holds place = let known = r.each_view id v at in
       let out = r.out in let weights = r.weights in let parts = known.parts in let heavy : weight w ≡ weight v = ap length same_owned in
       let ts = total_set tickets s.views id v w at in let cs = total_set weight s.views id v w at in record {
         c = r.c;
         words = r.words;
         top_is = r.top_is;
+        top_seen = seen_after r.c s.views id v w at up low r.top_seen;
         told = r.told;
         near = r.near;
         out = omega arith;
@@ -112,6 +119,7 @@ module _ {T R : Type 0} (k : Ghosts T R) (seats : ℕ) (start : List R) where
               turn = λ z. same_ticket ∙ turn z;
               holds = holds;
               parts = omega arith;
+              low = low;
             }
             (λ j u _. r.each_view j u);
         each_number = λ p l. number_after s.views r.c.owner id v w at (λ q. subst (λ (ks : List _). OwnsNumber ks q) (sym same_owned)) p (r.each_number p l);
@@ -121,14 +129,15 @@ module _ {T R : Type 0} (k : Ghosts T R) (seats : ℕ) (start : List R) where
       }
 
   -- a view outside the line that sees more
-  pub learns : (s : State T (View R)) (r : Rule s) (id : ℕ) (v w : View R) → get_elem? s.views id ≡ some v → v.stage ≡ outside → w.stage ≡ outside → w.owned ≡ v.owned → w.other ≡ v.other
+  pub learns : (s : State T (View R)) (r : Rule s) (id : ℕ) (v w : View R) → get_elem? s.views id ≡ some v → v.stage ≡ outside → w.stage ≡ outside → w.owned ≡ v.owned → w.other ≡ v.other → v.peak ≤ w.peak → w.peak ≤ r.c.top
       → (0 < weight v → IsSeen k.floor_of start r.c w.sight) → Rule record { words = s.words; homes = s.homes; views = set s.views id w }
-  learns s r id v w at idle idle' same_owned same_other sight = let known = r.each_view id v at in
+  learns s r id v w at idle idle' same_owned same_other up low sight = let known = r.each_view id v at in
       let out = r.out in let weights = r.weights in let heavy : weight w ≡ weight v = ap length same_owned in
       let ts = total_set tickets s.views id v w at in let cs = total_set weight s.views id v w at in let none_out : tickets v ≡ 0 = ap (min 1) idle in let none_out' : tickets w ≡ 0 = ap (min 1) idle' in record {
         c = r.c;
         words = r.words;
         top_is = r.top_is;
+        top_seen = seen_after r.c s.views id v w at up low r.top_seen;
         told = r.told;
         near = r.near;
         out = omega arith;
@@ -143,6 +152,7 @@ module _ {T R : Type 0} (k : Ghosts T R) (seats : ℕ) (start : List R) where
               turn = λ z. absurd (omega arith);
               holds = λ z. absurd (omega arith);
               parts = omega arith;
+              low = low;
             }
             (λ j u _. r.each_view j u);
         each_number = λ p l. number_after s.views r.c.owner id v w at (λ q. subst (λ (ks : List _). OwnsNumber ks q) (sym same_owned)) p (r.each_number p l);

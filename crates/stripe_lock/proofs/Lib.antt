@@ -8,3 +8,4 @@ pub mod Passing
 pub mod Bounds
 pub mod Turning
 pub mod Dealing
+pub mod Rising

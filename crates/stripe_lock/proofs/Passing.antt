@@ -14,7 +14,7 @@ use Rattle.stripe_lock.specs.Rule.{outside, holding, weight, tickets, NoneHolds,
 use Rattle.stripe_lock.specs.Steps.{left_view, right_view, joined_view, spent}
 use Rattle.stripe_lock.proofs.Totals.{put, put_here, put_else, moved, moved_here, moved_else, in_range, total_set, total_snoc}
 use Rattle.stripe_lock.proofs.Histories.{prefix_same, has_left, has_right, owns_moved, owns-append, unused_above, length-unused}
-use Rattle.stripe_lock.proofs.Keeping.{each_after, one_view, ticket_after, Rule, still_seen, placed_after}
+use Rattle.stripe_lock.proofs.Keeping.{each_after, one_view, ticket_after, seen_after, Rule, still_seen, placed_after}
 
 -- what stands in a list that became longer by one stands where it did, or is the last
 at_end : {A : Type 0} (l : List A) (x u : A) (j : ℕ) → get_elem? (l ++ x ∷ []) j ≡ some u → (get_elem? l j ≡ some u) ⊎ ((j ≡ length l) × (x ≡ u))
@@ -42,6 +42,9 @@ module _ {T R : Type 0} (k : Ghosts T R) (seats : ℕ) (start : List R) where
         c = c';
         words = record { wide = r.words.wide; ticket = r.words.ticket; serving = r.words.serving; count = r.words.count; floor = r.words.floor };
         top_is = r.top_is;
+        top_seen = let a = kv.low in let d = kw.low in let h = seen_after c s.views id v b at (omega arith) (omega arith) r.top_seen in dite (ℕ_discrete h.0 other)
+            (λ e. let same : w.peak ≡ h.1.peak = ap (λ (z : View R). z.peak) (one_view vs other h.0 w h.1 there h.2 e) in let is = h.3 in (id, b, here, omega arith))
+            (λ ne. (h.0, h.1, set_else vs other h.0 spent ne ∙ h.2, h.3));
         told = r.told;
         near = r.near;
         out = omega arith;
@@ -56,6 +59,7 @@ module _ {T R : Type 0} (k : Ghosts T R) (seats : ℕ) (start : List R) where
               turn = λ z. absurd (omega arith);
               holds = λ z. absurd (omega arith);
               parts = omega arith;
+              low = omega arith;
             }
             (λ j u far e. dite (ℕ_discrete j id)
             (λ (same : j ≡ id). subst (λ (x : ℕ × View R). Knows k.floor_of seats start c' x.0 x.1)
@@ -70,6 +74,7 @@ module _ {T R : Type 0} (k : Ghosts T R) (seats : ℕ) (start : List R) where
               turn = kv.turn;
               holds = λ z. absurd (omega arith);
               parts = let parts = kv.parts in omega arith;
+              low = let a = kv.low in let b = kw.low in omega arith;
             })
             (λ ne. let ku = r.each_view j u (sym (set_else s.views id j b ne) ∙ e) in record {
               sight = λ z. still u.sight (ku.sight z);
@@ -79,6 +84,7 @@ module _ {T R : Type 0} (k : Ghosts T R) (seats : ℕ) (start : List R) where
               turn = ku.turn;
               holds = ku.holds;
               parts = ku.parts;
+              low = ku.low;
             }));
         each_number = λ p l. let h = r.each_number p l in dite (ℕ_discrete (c.owner p) other)
             (λ e. (b, ap (get_elem? (set vs other spent)) (moved_here c.owner other id p e) ∙ here, has_right p v.owned w.owned (subst (λ (u : View R). OwnsNumber u.owned p) (sym (one_view s.views other (c.owner p) w h.0 near h.1 e)) h.2)))
@@ -104,6 +110,7 @@ module _ {T R : Type 0} (k : Ghosts T R) (seats : ℕ) (start : List R) where
         c = c';
         words = record { wide = r.words.wide; ticket = r.words.ticket; serving = r.words.serving; count = r.words.count; floor = r.words.floor };
         top_is = r.top_is;
+        top_seen = let h = seen_after c s.views id v a at (omega arith) known.low r.top_seen in (h.0, h.1, at_longer vs (b ∷ []) h.0 h.1 h.2, h.3);
         told = r.told;
         near = r.near;
         out = omega arith;
@@ -120,6 +127,7 @@ module _ {T R : Type 0} (k : Ghosts T R) (seats : ℕ) (start : List R) where
               turn = λ z. absurd (omega arith);
               holds = λ z. absurd (omega arith);
               parts = omega arith;
+              low = known.low;
             }
             (λ i x ne q. let kx = r.each_view i x q in record {
               sight = λ z. still x.sight (kx.sight z);
@@ -129,6 +137,7 @@ module _ {T R : Type 0} (k : Ghosts T R) (seats : ℕ) (start : List R) where
               turn = kx.turn;
               holds = kx.holds;
               parts = kx.parts;
+              low = kx.low;
             }) j u)
             (λ (t : (j ≡ length vs) × (b ≡ u)). subst (λ (x : ℕ × View R). Knows k.floor_of seats start c' x.0 x.1) (λ i. (sym (t.0 ∙ end) i, t.1 i))
             record {
@@ -139,6 +148,7 @@ module _ {T R : Type 0} (k : Ghosts T R) (seats : ℕ) (start : List R) where
               turn = λ z. absurd (omega arith);
               holds = λ z. absurd (omega arith);
               parts = omega arith;
+              low = known.low;
             })
             (at_end vs b u j e);
         each_number = λ q l. let h = r.each_number q l in dite (ℕ_discrete q p)

@@ -3,6 +3,7 @@ use Rattle.std.proofs.Common.{◌≡◌, ℕ, ◌+◌, ◌≤◌, max, List, [],
 use mathlib.Core.List.{IsPrefix}
 use mathlib.Core.Option.{none}
 use Rattle.atomic_table.specs.Table.{Me, step, keeps, Allows}
+use Rattle.atomic_table.proofs.Lists.{set_here}
 use Rattle.stripe_lock.specs.declared.kept.KeptState.{Ghosts}
 use Rattle.stripe_lock.specs.declared.view.StripeTurn.{StripeTurn}
 use Rattle.stripe_lock.specs.declared.view.Sight.{Sight}
@@ -10,14 +11,14 @@ use Rattle.stripe_lock.specs.declared.view.View.{View}
 use Rattle.stripe_lock.specs.History.{places_of, with_places, OwnsNumber, AreBelow}
 use Rattle.stripe_lock.specs.Rule.{holding, weight, tickets, LockCourse, Knows}
 use Rattle.stripe_lock.specs.Steps.{with_sight, whole_sight, noted_turn, raised}
-use Rattle.stripe_lock.proofs.Totals.{total_set}
+use Rattle.stripe_lock.proofs.Totals.{in_range, total_set}
 use Rattle.stripe_lock.proofs.Histories.{places-other, below-snoc, prefix_same, prefix_more, owns_moved, owns_noted, owns_owner, has_noted, length-noted}
-use Rattle.stripe_lock.proofs.Keeping.{each_after, number_after, ticket_after, one_called, Rule, still_seen, out_with}
+use Rattle.stripe_lock.proofs.Keeping.{each_after, number_after, ticket_after, one_called, seen_after, Rule, still_seen, out_with}
 
 module _ {T R : Type 0} (k : Ghosts T R) (seats : ℕ) (start : List R) where
   -- the history goes on with the turn that was made
   pub notes : (slots id new : ℕ) (me : Me T (View R)) (x : T) (t : StripeTurn R) → me.0.stage ≡ holding → me.1 ≡ (0, x) ∷ [] → me.0.sight.told ≡ me.0.sight.seen → k.turns x ≡ me.0.sight.seen ++ t ∷ [] → OwnsNumber me.0.owned t.worker → new ≡ length (k.turns x)
-      → Allows (Rule k seats start) slots id me 3 (λ _. new) (λ _. noted_turn k (step slots 3 new 0 none) me new)
+      → Allows (Rule k seats start) slots id me 2 (λ _. new) (λ _. noted_turn k (step slots 2 new 0 none) me new)
   notes slots id new me x t st held told grown own count s r deep at _ = let v = me.0 in let c = r.c in let log : List (StripeTurn R) = k.turns x in
       let w : View R = record v { sight = record v.sight { seen = log }; owned = with_places log v.owned } in let known = r.each_view id v at in
       let c' : LockCourse R = record c { log = log } in let all = known.holds st in
@@ -33,13 +34,14 @@ module _ {T R : Type 0} (k : Ghosts T R) (seats : ℕ) (start : List R) where
         record {
           c = c';
           words = record {
-            wide = length-set s.words 3 _ ∙ r.words.wide;
-            ticket = get_or-set_other s.words 3 1 _ 0 (λ e. omega arith) ∙ r.words.ticket;
-            serving = get_or-set_other s.words 3 2 _ 0 (λ e. omega arith) ∙ r.words.serving;
-            count = get_or-set_same s.words 3 _ 0 (omega arith) ∙ count;
-            floor = get_or-set_other s.words 3 4 _ 0 (λ e. omega arith) ∙ r.words.floor;
+            wide = length-set s.words 2 _ ∙ r.words.wide;
+            ticket = get_or-set_other s.words 2 0 _ 0 (λ e. omega arith) ∙ r.words.ticket;
+            serving = get_or-set_other s.words 2 1 _ 0 (λ e. omega arith) ∙ r.words.serving;
+            count = get_or-set_same s.words 2 _ 0 (omega arith) ∙ count;
+            floor = get_or-set_other s.words 2 3 _ 0 (λ e. omega arith) ∙ r.words.floor;
           };
           top_is = r.top_is;
+          top_seen = seen_after c s.views id v w at (omega arith) known.low r.top_seen;
           told = prefix_more c.told c.log log r.told more;
           near = near;
           out = omega arith;
@@ -54,6 +56,7 @@ module _ {T R : Type 0} (k : Ghosts T R) (seats : ℕ) (start : List R) where
                 turn = known.turn;
                 holds = λ z. λ i. record { chronicle = (all i).chronicle; seen = log; told = (all i).told; floor = (all i).floor };
                 parts = omega arith;
+                low = known.low;
               }
               (λ j u other e. let ku = r.each_view j u e in record {
                 sight = λ z. still u.sight (ku.sight z);
@@ -63,6 +66,7 @@ module _ {T R : Type 0} (k : Ghosts T R) (seats : ℕ) (start : List R) where
                 turn = ku.turn;
                 holds = λ z. absurd (other (one_called seats start c j id u v ku known (omega arith) (omega arith)));
                 parts = ku.parts;
+                low = ku.low;
               });
           each_number = λ p l. number_after s.views c.owner id v w at (λ q. has_noted log q v.owned) p (r.each_number p l);
           each_ticket = λ n low high. ticket_after s.views c.line id v w at (λ z. (z, refl)) n (r.each_ticket n low high);
@@ -71,6 +75,7 @@ module _ {T R : Type 0} (k : Ghosts T R) (seats : ℕ) (start : List R) where
         },
         (
           refl,
+          refl,
           λ y e. let same : x ≡ y = ap (λ (l : List (ℕ × T)). (get_or l 0 (0, x)).1) (sym held ∙ e) in
               ap (λ (z : T). record v { sight = record v.sight { seen = k.turns z }; owned = with_places (k.turns z) v.owned }) same,
         ),
@@ -78,7 +83,7 @@ module _ {T R : Type 0} (k : Ghosts T R) (seats : ℕ) (start : List R) where
 
   -- the floor behind the whole history is published
   pub raises : (slots id n : ℕ) (me : Me T (View R)) → me.0.stage ≡ holding → me.0.sight.floor ≤ n → n ≡ k.floor_of me.0.sight.chronicle me.0.sight.seen
-      → Allows (Rule k seats start) slots id me 4 (λ m. max m n) (raised (step slots 4 n 0 none) me)
+      → Allows (Rule k seats start) slots id me 3 (λ m. max m n) (raised (step slots 3 n 0 none) me)
   raises slots id n me st up is s r deep at _ = let v = me.0 in let c = r.c in let w : View R = with_sight (whole_sight v.sight.chronicle v.sight.seen n) v in let known = r.each_view id v at in
       let parts = known.parts in let all = known.holds st in let log_is : v.sight.seen ≡ c.log = ap (λ (g : Sight R). g.seen) all in let top : v.sight.floor ≡ c.top = ap (λ (g : Sight R). g.floor) all in
       let c' : LockCourse R = record c { told = c.log; top = n } in
@@ -91,13 +96,14 @@ module _ {T R : Type 0} (k : Ghosts T R) (seats : ℕ) (start : List R) where
         record {
           c = c';
           words = record {
-            wide = length-set s.words 4 _ ∙ r.words.wide;
-            ticket = get_or-set_other s.words 4 1 _ 0 (λ e. omega arith) ∙ r.words.ticket;
-            serving = get_or-set_other s.words 4 2 _ 0 (λ e. omega arith) ∙ r.words.serving;
-            count = get_or-set_other s.words 4 3 _ 0 (λ e. omega arith) ∙ r.words.count;
-            floor = get_or-set_same s.words 4 _ 0 (omega arith) ∙ (omega arith);
+            wide = length-set s.words 3 _ ∙ r.words.wide;
+            ticket = get_or-set_other s.words 3 0 _ 0 (λ e. omega arith) ∙ r.words.ticket;
+            serving = get_or-set_other s.words 3 1 _ 0 (λ e. omega arith) ∙ r.words.serving;
+            count = get_or-set_other s.words 3 2 _ 0 (λ e. omega arith) ∙ r.words.count;
+            floor = get_or-set_same s.words 3 _ 0 (omega arith) ∙ (omega arith);
           };
           top_is = now;
+          top_seen = (id, w, set_here s.views id w (in_range s.views id v at), let low = known.low in omega arith);
           told = prefix_same c.log;
           near = omega arith;
           out = omega arith;
@@ -112,6 +118,7 @@ module _ {T R : Type 0} (k : Ghosts T R) (seats : ℕ) (start : List R) where
                 turn = known.turn;
                 holds = λ z. λ i. whole_sight ((all i).chronicle) (log_is i) n;
                 parts = known.parts;
+                low = let low = known.low in omega arith;
               }
               (λ j u other e. let ku = r.each_view j u e in record {
                 sight = λ z. still u.sight (ku.sight z);
@@ -121,6 +128,7 @@ module _ {T R : Type 0} (k : Ghosts T R) (seats : ℕ) (start : List R) where
                 turn = ku.turn;
                 holds = λ z. absurd (other (one_called seats start c j id u v ku known (omega arith) (omega arith)));
                 parts = ku.parts;
+                low = let low = ku.low in omega arith;
               });
           each_number = λ p l. number_after s.views c.owner id v w at (λ q h. h) p (r.each_number p l);
           each_ticket = λ t low high. ticket_after s.views c.line id v w at (λ z. (z, refl)) t (r.each_ticket t low high);

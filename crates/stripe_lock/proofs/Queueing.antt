@@ -15,10 +15,10 @@ use Rattle.stripe_lock.specs.Rule.{outside, waiting, called, holding, weight, ti
 use Rattle.stripe_lock.specs.Steps.{at_stage, with_sight, whole_sight, drew, looked, took, gave, ended_turn}
 use Rattle.stripe_lock.proofs.Totals.{put, put_here, put_else, in_range, total_set}
 use Rattle.stripe_lock.proofs.Histories.{prefix_same, owns_just, owns_moved}
-use Rattle.stripe_lock.proofs.Keeping.{W, counts_on, each_after, one_view, number_after, ticket_after, one_called, Rule, still_seen, its_turn, placed_after, same_word, moves}
+use Rattle.stripe_lock.proofs.Keeping.{W, counts_on, each_after, one_view, number_after, ticket_after, one_called, seen_after, Rule, still_seen, its_turn, placed_after, same_word, moves}
 
 module _ {T R : Type 0} (k : Ghosts T R) (seats : ℕ) (start : List R) where
-  pub draws : (slots id : ℕ) (me : Me T (View R)) → me.0.stage ≡ outside → 0 < weight me.0 → Allows (Rule k seats start) slots id me 1 (λ n. (n + 1) % 2 ^ 64) (drew (step slots 1 1 0 none) me)
+  pub draws : (slots id : ℕ) (me : Me T (View R)) → me.0.stage ≡ outside → 0 < weight me.0 → Allows (Rule k seats start) slots id me 0 (λ n. (n + 1) % 2 ^ 64) (drew (step slots 0 1 0 none) me)
   draws slots id me idle some_weight s r deep at _ = let v = me.0 in let c = r.c in let w : View R = record v { stage = waiting; ticket = c.drawn } in
       let wide = r.words.wide in let out = r.out in let weights = r.weights in let known = r.each_view id v at in
       let c' : LockCourse R = record c { drawn = c.drawn + 1; line = put c.line c.drawn id } in let still = still_seen k seats start c c' (prefix_same c.log) (prefix_same c.told) (omega arith) in
@@ -29,13 +29,14 @@ module _ {T R : Type 0} (k : Ghosts T R) (seats : ℕ) (start : List R) where
         record {
           c = c';
           words = record {
-            wide = length-set s.words 1 _ ∙ r.words.wide;
-            ticket = counts_on s.words 1 c.drawn (omega arith) r.words.ticket;
-            serving = get_or-set_other s.words 1 2 _ 0 (λ e. omega arith) ∙ r.words.serving;
-            count = get_or-set_other s.words 1 3 _ 0 (λ e. omega arith) ∙ r.words.count;
-            floor = get_or-set_other s.words 1 4 _ 0 (λ e. omega arith) ∙ r.words.floor;
+            wide = length-set s.words 0 _ ∙ r.words.wide;
+            ticket = counts_on s.words 0 c.drawn (omega arith) r.words.ticket;
+            serving = get_or-set_other s.words 0 1 _ 0 (λ e. omega arith) ∙ r.words.serving;
+            count = get_or-set_other s.words 0 2 _ 0 (λ e. omega arith) ∙ r.words.count;
+            floor = get_or-set_other s.words 0 3 _ 0 (λ e. omega arith) ∙ r.words.floor;
           };
           top_is = r.top_is;
+          top_seen = seen_after c s.views id v w at (omega arith) known.low r.top_seen;
           told = r.told;
           near = r.near;
           out = omega arith;
@@ -50,6 +51,7 @@ module _ {T R : Type 0} (k : Ghosts T R) (seats : ℕ) (start : List R) where
                 turn = λ z. absurd (omega arith);
                 holds = λ z. absurd (omega arith);
                 parts = some_weight;
+                low = known.low;
               }
               (λ j u other e. let ku = r.each_view j u e in record {
                 sight = λ z. still u.sight (ku.sight z);
@@ -59,6 +61,7 @@ module _ {T R : Type 0} (k : Ghosts T R) (seats : ℕ) (start : List R) where
                 turn = ku.turn;
                 holds = ku.holds;
                 parts = ku.parts;
+                low = ku.low;
               });
           each_number = λ p l. number_after s.views c.owner id v w at (λ q h. h) p (r.each_number p l);
           each_ticket = λ t low high. dite (ℕ_discrete t c.drawn)
@@ -75,14 +78,14 @@ module _ {T R : Type 0} (k : Ghosts T R) (seats : ℕ) (start : List R) where
       again c c' a b homes vs = ⊎_elim (λ (h : (x : T) × (homes ≡ some x ∷ []) × IsHome k start c x × NoneHolds vs).
           inl (h.0, h.1, record { turns_are = h.2.turns_are ∙ sym a; told_is = b ∙ (h.2.told_is ∙ sym a); chronicle_is = h.2.chronicle_is; sound = h.2.sound }, h.3)) inr
 
-  pub looks : (slots id : ℕ) (me : Me T (View R)) → me.0.stage ≡ waiting → Allows (Rule k seats start) slots id me 2 (λ n. n) (looked (step slots 2 0 0 none) me)
-  looks slots id me waits s r deep at _ = let v = me.0 in let n = get_or s.words 2 0 in let known = r.each_view id v at in let parts = known.parts in let here : v.stage ≢ holding = λ z. omega arith in
+  pub looks : (slots id : ℕ) (me : Me T (View R)) → me.0.stage ≡ waiting → Allows (Rule k seats start) slots id me 1 (λ n. n) (looked (step slots 1 0 0 none) me)
+  looks slots id me waits s r deep at _ = let v = me.0 in let n = get_or s.words 1 0 in let known = r.each_view id v at in let parts = known.parts in let here : v.stage ≢ holding = λ z. omega arith in
       dite (ℕ_discrete n (v.ticket % W))
       (λ e. let w : View R = at_stage called v in (
         w,
         keeps,
         tt,
-        same_word k seats start s 2 s.homes (set s.views id w) (moves k seats start s r id v w s.homes at refl refl refl (omega arith) (omega arith) (known.sight (omega arith))
+        same_word k seats start s 1 s.homes (set s.views id w) (moves k seats start s r id v w s.homes at refl refl refl (omega arith) (omega arith) (omega arith) known.low (known.sight (omega arith))
             (λ _. its_turn k seats start s r id v at (omega arith) e) (λ z. absurd (omega arith)) (placed_after k seats start r.c s.homes s.views id v w at here (λ z. omega arith) r.place)),
         ((λ _. refl), λ ne. absurd (ne e)),
       ))
@@ -90,12 +93,12 @@ module _ {T R : Type 0} (k : Ghosts T R) (seats : ℕ) (start : List R) where
         v,
         keeps,
         tt,
-        same_word k seats start s 2 s.homes (set s.views id v) (moves k seats start s r id v v s.homes at refl refl refl (omega arith) (omega arith) (known.sight (omega arith))
+        same_word k seats start s 1 s.homes (set s.views id v) (moves k seats start s r id v v s.homes at refl refl refl (omega arith) (omega arith) (omega arith) known.low (known.sight (omega arith))
             (λ z. absurd (omega arith)) (λ z. absurd (omega arith)) (placed_after k seats start r.c s.homes s.views id v v at here here r.place)),
         ((λ e. absurd (ne e)), λ _. refl),
       ))
 
-  pub takes_it : (slots id : ℕ) (me : Me T (View R)) → me.0.stage ≡ called → me.1 ≡ [] → Allows (Rule k seats start) slots id me 2 (λ n. n) (took k (step slots 2 0 0 none) me)
+  pub takes_it : (slots id : ℕ) (me : Me T (View R)) → me.0.stage ≡ called → me.1 ≡ [] → Allows (Rule k seats start) slots id me 1 (λ n. n) (took k (step slots 1 0 0 none) me)
   takes_it slots id me ready bare s r deep at _ = let v = me.0 in let c = r.c in let known = r.each_view id v at in let parts = known.parts in
       ⊎_elim
       (λ (h : (x : T) × (s.homes ≡ some x ∷ []) × IsHome k start c x × NoneHolds s.views). let x = h.0 in let home = h.2 in let g = known.sight (omega arith) in
@@ -105,7 +108,7 @@ module _ {T R : Type 0} (k : Ghosts T R) (seats : ℕ) (start : List R) where
         w,
         takes 0 x,
         ap (λ (l : List (Option T)). get_elem? l 0) h.1,
-        same_word k seats start s 2 (set s.homes 0 none) (set s.views id w) (moves k seats start s r id v w (set s.homes 0 none) at refl refl refl (omega arith) (omega arith)
+        same_word k seats start s 1 (set s.homes 0 none) (set s.views id w) (moves k seats start s r id v w (set s.homes 0 none) at refl refl refl (omega arith) (omega arith) (omega arith) (let low = known.low in omega arith)
             record {
               chronicle = home.chronicle_is;
               seen = subst (λ (l : List (StripeTurn R)). IsPrefix l c.log) (sym home.turns_are) (prefix_same c.log);
@@ -134,14 +137,14 @@ module _ {T R : Type 0} (k : Ghosts T R) (seats : ℕ) (start : List R) where
 
   -- the holder gives back a state that is as its view says, the floor of which was published
   pub gives_it : (slots id : ℕ) (me : Me T (View R)) (x : T) → slots ≡ 1 → me.0.stage ≡ holding → me.1 ≡ (0, x) ∷ [] → k.chronicle x ≡ me.0.sight.chronicle → k.turns x ≡ me.0.sight.seen → me.0.sight.told ≡ me.0.sight.seen → k.is_sound x
-      → Allows (Rule k seats start) slots id me 2 (λ n. n) (gave (step slots 2 0 0 none) me)
+      → Allows (Rule k seats start) slots id me 1 (λ n. n) (gave (step slots 1 0 0 none) me)
   gives_it slots id me x one st held same_chronicle same_turns told sound s r deep at _ = let v = me.0 in let c = r.c in let w : View R = at_stage called v in let known = r.each_view id v at in let parts = known.parts in
       let all = known.holds st in let log_is : v.sight.seen ≡ c.log = ap (λ g. g.seen) all in let told_is : v.sight.told ≡ c.told = ap (λ g. g.told) all in (
         w,
         gives,
         tt,
-        subst (λ (l : List (ℕ × T)). Rule k seats start (stepped s 2 (get_or s.words 2 0) id l w gives)) (sym held)
-            (same_word k seats start s 2 (set s.homes 0 (some x)) (set s.views id w) (moves k seats start s r id v w (set s.homes 0 (some x)) at refl refl refl (omega arith) (omega arith) (known.sight (omega arith))
+        subst (λ (l : List (ℕ × T)). Rule k seats start (stepped s 1 (get_or s.words 1 0) id l w gives)) (sym held)
+            (same_word k seats start s 1 (set s.homes 0 (some x)) (set s.views id w) (moves k seats start s r id v w (set s.homes 0 (some x)) at refl refl refl (omega arith) (omega arith) (omega arith) known.low (known.sight (omega arith))
             (λ _. known.turn (omega arith)) (λ z. absurd (omega arith)) (inl (
               x,
               only s.homes (deep ∙ one),
@@ -156,7 +159,7 @@ module _ {T R : Type 0} (k : Ghosts T R) (seats : ℕ) (start : List R) where
       only (h ∷ []) e = refl
       only (h ∷ g ∷ l) e = absurd (omega arith)
 
-  pub ends_it : (slots id : ℕ) (me : Me T (View R)) → me.0.stage ≡ called → Allows (Rule k seats start) slots id me 2 (λ n. (n + 1) % 2 ^ 64) (ended_turn (step slots 2 1 0 none) me)
+  pub ends_it : (slots id : ℕ) (me : Me T (View R)) → me.0.stage ≡ called → Allows (Rule k seats start) slots id me 1 (λ n. (n + 1) % 2 ^ 64) (ended_turn (step slots 1 1 0 none) me)
   ends_it slots id me ready s r deep at _ = let v = me.0 in let c = r.c in let w : View R = at_stage outside v in
       let wide = r.words.wide in let out = r.out in let weights = r.weights in let known = r.each_view id v at in let mine = known.ticket (omega arith) in
       let c' : LockCourse R = record c { served = c.served + 1 } in let still = still_seen k seats start c c' (prefix_same c.log) (prefix_same c.told) (omega arith) in
@@ -168,13 +171,14 @@ module _ {T R : Type 0} (k : Ghosts T R) (seats : ℕ) (start : List R) where
         record {
           c = c';
           words = record {
-            wide = length-set s.words 2 _ ∙ r.words.wide;
-            ticket = get_or-set_other s.words 2 1 _ 0 (λ e. omega arith) ∙ r.words.ticket;
-            serving = counts_on s.words 2 c.served (omega arith) r.words.serving;
-            count = get_or-set_other s.words 2 3 _ 0 (λ e. omega arith) ∙ r.words.count;
-            floor = get_or-set_other s.words 2 4 _ 0 (λ e. omega arith) ∙ r.words.floor;
+            wide = length-set s.words 1 _ ∙ r.words.wide;
+            ticket = get_or-set_other s.words 1 0 _ 0 (λ e. omega arith) ∙ r.words.ticket;
+            serving = counts_on s.words 1 c.served (omega arith) r.words.serving;
+            count = get_or-set_other s.words 1 2 _ 0 (λ e. omega arith) ∙ r.words.count;
+            floor = get_or-set_other s.words 1 3 _ 0 (λ e. omega arith) ∙ r.words.floor;
           };
           top_is = r.top_is;
+          top_seen = seen_after c s.views id v w at (omega arith) known.low r.top_seen;
           told = r.told;
           near = r.near;
           out = omega arith;
@@ -189,6 +193,7 @@ module _ {T R : Type 0} (k : Ghosts T R) (seats : ℕ) (start : List R) where
                 turn = λ z. absurd (omega arith);
                 holds = λ z. absurd (omega arith);
                 parts = omega arith;
+                low = known.low;
               }
               (λ j u other e. let ku = r.each_view j u e in record {
                 sight = λ z. still u.sight (ku.sight z);
@@ -198,6 +203,7 @@ module _ {T R : Type 0} (k : Ghosts T R) (seats : ℕ) (start : List R) where
                 turn = λ z. absurd (other (one_called seats start c j id u v ku known z (omega arith)));
                 holds = ku.holds;
                 parts = ku.parts;
+                low = ku.low;
               });
           each_number = λ p l. number_after s.views c.owner id v w at (λ q h. h) p (r.each_number p l);
           each_ticket = λ t low high. let h = r.each_ticket t (omega arith) high in (

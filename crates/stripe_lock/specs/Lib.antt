@@ -1,3 +1,4 @@
+pub mod Course
 pub mod History
 pub mod Passes
 pub mod Rule

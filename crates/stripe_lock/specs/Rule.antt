@@ -1,4 +1,4 @@
--- What holds of a lock's table at every moment. Its words are `passes`, `ticket`, `serving`, `count` and `floor`, and its one slot has the state.
+-- What holds of a lock's table at every moment. Its words are `ticket`, `serving`, `count` and `floor`, and its one slot has the state.
 use Rattle.std.specs.Prelude.{◌≡◌, ◌≢◌, ◌⊎◌, ℕ, ◌+◌, ◌%◌, ◌<◌, ◌≤◌, min, List, [], ◌∷◌, length, slice_index}
 use mathlib.Core.Option.{Option, none, some}
 use mathlib.Core.List.{IsPrefix}
@@ -10,6 +10,19 @@ use Rattle.stripe_lock.specs.declared.view.PassTurns.{PassTurns}
 use Rattle.stripe_lock.specs.declared.view.Sight.{Sight}
 use Rattle.stripe_lock.specs.declared.view.View.{View}
 use Rattle.stripe_lock.specs.History.{places_of, OwnsNumber, AreBelow}
+
+-- the places of the words `ticket`, `serving`, `count` and `floor`
+abbrev pub ticket_word : ℕ
+ticket_word = 0
+
+abbrev pub serving_word : ℕ
+serving_word = 1
+
+abbrev pub count_word : ℕ
+count_word = 2
+
+abbrev pub floor_word : ℕ
+floor_word = 3
 
 -- the stage of a pass that has no ticket
 abbrev pub outside : ℕ
@@ -55,13 +68,13 @@ pub record LockCourse (R : Type 0) : Type 0 where
   pub owner : ℕ → ℕ
   pub line : ℕ → ℕ
 
--- the words `passes`, `ticket`, `serving`, `count` and `floor`, of which the first is not bound
+-- the words say where the lock stands
 pub record AreWords {R : Type 0} (c : LockCourse R) (words : List ℕ) : Type 0 where
-  pub wide : length words ≡ 5
-  pub ticket : slice_index words 1 ≡ c.drawn % 18446744073709551616
-  pub serving : slice_index words 2 ≡ c.served % 18446744073709551616
-  pub count : slice_index words 3 ≡ length c.log
-  pub floor : slice_index words 4 ≡ c.top
+  pub wide : length words ≡ 4
+  pub ticket : slice_index words ticket_word ≡ c.drawn % 18446744073709551616
+  pub serving : slice_index words serving_word ≡ c.served % 18446744073709551616
+  pub count : slice_index words count_word ≡ length c.log
+  pub floor : slice_index words floor_word ≡ c.top
 
 -- what was seen is the chronicle and begins the history, and the floor is that behind a beginning of the turns that were told
 pub record IsSeen {R : Type 0} (floor_of : List R → List (StripeTurn R) → ℕ) (start : List R) (c : LockCourse R) (g : Sight R) : Type 0 where
@@ -76,7 +89,7 @@ abbrev pub Owns : {R : Type 0} → ℕ → LockCourse R → ℕ → List PassTur
 Owns seats c j [] = Unit {0}
 Owns seats c j (k ∷ ks) = (k.number < seats) × (c.owner k.number ≡ j) × (k.places ≡ places_of k.number c.log) × Owns seats c j ks
 
--- what the view j knows, if it holds a number, and where it stands in the line
+-- what the view j knows, if it holds a number, where it stands in the line, and that no floor that it saw is above the published one
 pub record Knows {R : Type 0} (floor_of : List R → List (StripeTurn R) → ℕ) (seats : ℕ) (start : List R) (c : LockCourse R) (j : ℕ) (v : View R) : Type 0 where
   pub sight : 0 < weight v → IsSeen floor_of start c v.sight
   pub other : 0 < weight v → IsSeen floor_of start c v.other
@@ -85,6 +98,11 @@ pub record Knows {R : Type 0} (floor_of : List R → List (StripeTurn R) → ℕ
   pub turn : called ≤ v.stage → v.ticket ≡ c.served
   pub holds : v.stage ≡ holding → v.sight ≡ record { chronicle = start; seen = c.log; told = c.told; floor = c.top }
   pub parts : tickets v ≤ weight v
+  pub low : v.peak ≤ c.top
+
+-- some pass has seen the floor that is published
+abbrev pub IsTopSeen : {R : Type 0} → LockCourse R → List (View R) → Type 0
+IsTopSeen {R} c views = (j : ℕ) × (v : View R) × (get_elem? views j ≡ some v) × (v.peak ≡ c.top)
 
 module _ {T R : Type 0} (k : Ghosts T R) where
   -- the state x has the lock's history, whose floor was published, and is sound
@@ -105,6 +123,7 @@ module _ {T R : Type 0} (k : Ghosts T R) where
     pub c : LockCourse R
     pub words : AreWords c s.words
     pub top_is : c.top ≡ k.floor_of start c.told
+    pub top_seen : IsTopSeen c s.views
     pub told : IsPrefix c.told c.log
     pub near : length c.log ≤ length c.told + 1
     pub out : c.served + total tickets s.views ≡ c.drawn
@@ -116,7 +135,7 @@ module _ {T R : Type 0} (k : Ghosts T R) where
     pub workers : AreBelow seats c.log
     pub place : IsPlaced start c s.homes s.views
 
-  -- whenever a state is at home, `count` is the number of its turns, `floor` is its floor, and it is sound
-  abbrev pub HomeIsPublished : Type 0
-  HomeIsPublished = (seats : ℕ) (start : List R) (s : State T (View R)) (x : T) → IsLocked seats start s → s.homes ≡ some x ∷ []
-      → (slice_index s.words 3 ≡ length (k.turns x)) × (slice_index s.words 4 ≡ k.floor_of (k.chronicle x) (k.turns x)) × k.is_sound x
+  -- by a table's rule, whenever a state is at home, `count` is the number of its turns, `floor` is its floor, and it is sound
+  abbrev pub HomeIsPublished : (State T (View R) → Type 0) → Type 0
+  HomeIsPublished holds = (s : State T (View R)) (x : T) → holds s → s.homes ≡ some x ∷ []
+      → (slice_index s.words count_word ≡ length (k.turns x)) × (slice_index s.words floor_word ≡ k.floor_of (k.chronicle x) (k.turns x)) × k.is_sound x

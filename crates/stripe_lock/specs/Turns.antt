@@ -4,6 +4,7 @@ use mathlib.Core.List.{IsPrefix, drop_last}
 use Rattle.stripe_lock.specs.declared.kept.KeptState.{Ghosts}
 use Rattle.stripe_lock.specs.declared.view.StripeTurn.{StripeTurn}
 use Rattle.stripe_lock.specs.History.{AddsTurn, HasJust, with_places, AreUnder, longer, first_number, first_places}
+use Rattle.stripe_lock.specs.Rule.{count_word, floor_word}
 use Rattle.stripe_lock.specs.Passes.{PassState}
 
 module _ {T R : Type 0} (k : Ghosts T R) where
@@ -19,6 +20,7 @@ module _ {T R : Type 0} (k : Ghosts T R) where
     pub counted : count ≡ length new.seen
     pub owned : new.owned ≡ with_places new.seen old.owned
     pub mine : first_places new.owned ≡ first_places old.owned ++ length before ∷ []
+    pub looks : new.looks ≡ old.looks
     pub told : new.told ≡ new.seen
     pub higher : IsPrefix old.told before × (old.floor ≤ new.floor)
     pub floor : new.floor ≡ k.floor_of new.chronicle new.told
@@ -30,40 +32,46 @@ module _ {T R : Type 0} (k : Ghosts T R) where
     pub later : IsPrefix old.seen new.seen
     pub owned : new.owned ≡ old.owned
     pub known : HasJust new.seen new.owned
+    pub looks : new.looks ≡ old.looks
     pub legal : k.is_legal new.chronicle new.seen
     pub told : new.told ≡ new.seen
     pub higher : IsPrefix old.told new.told × (old.floor ≤ new.floor)
     pub floor : new.floor ≡ k.floor_of new.chronicle new.told
 
-  -- the floor did not fall. It was published behind all turns that had been told to the pass, and all that it has seen but perhaps the last; nothing else changes
+  -- the pass found the floor in its word, once. It did not fall, and was published behind all turns that had been told to the pass, and all that it has seen but perhaps the last; nothing else changes
   pub record SeesFloor (old new : PassState R) (floor : ℕ) : Type 0 where
-    pub same : new ≡ record old { told = new.told; floor = floor }
+    pub same : new ≡ record old { looks = new.looks; told = new.told; floor = floor }
+    pub looked : new.looks ≡ old.looks ++ record { word = floor_word; number = floor } ∷ []
     pub floor_is : floor ≡ k.floor_of old.chronicle new.told
     pub later : IsPrefix old.told new.told
     pub fresh : IsPrefix (drop_last old.seen) new.told
     pub higher : old.floor ≤ floor
 
-  -- a pass has the numbers of both, and has seen what either had seen, and a floor that is not below those of either
+  -- a pass has the numbers of both with all turns under them, and has seen what either had seen, and a floor that is not below those of either, which it found in its word
   pub record Joins (old other new : PassState R) : Type 0 where
-    pub same : new ≡ record old { seen = longer old.seen other.seen; owned = old.owned ++ other.owned; told = new.told; floor = new.floor }
+    pub same : new ≡ record old { seen = longer old.seen other.seen; owned = old.owned ++ other.owned; looks = new.looks; told = new.told; floor = new.floor }
+    pub looked : new.looks ≡ old.looks ++ record { word = floor_word; number = new.floor } ∷ []
     pub chronicle : other.chronicle ≡ old.chronicle
     pub seen : IsPrefix old.seen new.seen × IsPrefix other.seen new.seen
+    pub known : HasJust new.seen new.owned
     pub told : IsPrefix old.told new.told × IsPrefix other.told new.told
     pub floor_is : new.floor ≡ k.floor_of new.chronicle new.told
     pub higher : (old.floor ≤ new.floor) × (other.floor ≤ new.floor)
 
-  -- a sound state, whose chronicle is the one that the pass knows, whose turns begin with what the pass has seen, and are just those that it knows, under its numbers
+  -- a sound state, whose chronicle is the one that the pass knows, whose turns begin with what the pass has seen, and are just those that it knows, under its numbers, and whose floor is not below the one that it has seen
   pub record LockEnds (pass : PassState R) (x : T) : Type 0 where
     pub chronicle : k.chronicle x ≡ pass.chronicle
     pub seen : IsPrefix pass.seen (k.turns x)
     pub told : IsPrefix pass.told (k.turns x)
     pub known : HasJust (k.turns x) pass.owned
     pub under : AreUnder pass.owned (k.turns x)
+    pub higher : pass.floor ≤ k.floor_of (k.chronicle x) (k.turns x)
     pub sound : k.is_sound x
 
--- the history so far is seen, which is as long as the count, with no turn under a number of the pass but those that it knew; nothing else changes
+-- the pass found the count in its word, once. The history so far is seen, which is as long, with no turn under a number of the pass but those that it knew; nothing else changes
 pub record SeesCount {R : Type 0} (old new : PassState R) (count : ℕ) : Type 0 where
-  pub same : new ≡ record old { seen = new.seen }
+  pub same : new ≡ record old { seen = new.seen; looks = new.looks }
+  pub looked : new.looks ≡ old.looks ++ record { word = count_word; number = count } ∷ []
   pub later : IsPrefix old.seen new.seen
   pub fresh : IsPrefix old.told new.seen
   pub counted : count ≡ length new.seen

@@ -1,5 +1,5 @@
 -- What the parts of a turn ask and tell.
-use Rattle.std.specs.Prelude.{◌≡◌, ℕ, ◌≤◌, List, [], ◌∷◌, ◌++◌, length}
+use Rattle.std.specs.Prelude.{◌≡◌, ℕ, ◌≤◌, max, List, [], ◌∷◌, ◌++◌, length}
 use mathlib.Core.List.{IsPrefix}
 use Rattle.atomic_table.specs.Table.{Me}
 use Rattle.stripe_lock.specs.declared.kept.KeptState.{Ghosts}
@@ -12,13 +12,14 @@ use Rattle.stripe_lock.specs.Steps.{whole_sight}
 module _ {R : Type 0} where
   -- a pass that knows the whole history, with the places of its turns, and has published its floor
   abbrev pub published : List (StripeTurn R) → ℕ → View R → View R
-  published turns floor v = record v { sight = whole_sight v.sight.chronicle turns floor; owned = with_places turns v.owned }
+  published turns floor v = record v { sight = whole_sight v.sight.chronicle turns floor; owned = with_places turns v.owned; peak = max v.peak floor }
 
 module _ {T R : Type 0} (k : Ghosts T R) where
   -- the pass that was v has the state x in hand
   pub record InHand (v : View R) (m : Me T (View R)) (x : T) : Type 0 where
     pub carried : m.1 ≡ (0, x) ∷ []
-    pub view : m.0 ≡ record v { sight = whole_sight (k.chronicle x) (k.turns x) (k.floor_of (k.chronicle x) (k.turns x)); stage = holding; ticket = m.0.ticket }
+    pub view : let floor = k.floor_of (k.chronicle x) (k.turns x) in
+        m.0 ≡ record v { sight = whole_sight (k.chronicle x) (k.turns x) floor; peak = max v.peak floor; stage = holding; ticket = m.0.ticket }
     pub chronicle : k.chronicle x ≡ v.sight.chronicle
     pub seen : IsPrefix v.sight.seen (k.turns x)
     pub told : IsPrefix v.sight.told (k.turns x)

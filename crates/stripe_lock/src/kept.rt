@@ -1,5 +1,5 @@
 //! What the lock keeps, and what is done with it in a turn.
-ghost use Rattle.std.specs.Prelude.{◌≡◌, ◌≤◌, ℕ, List, length, OnOk};
+ghost use Rattle.std.specs.Prelude.{◌≡◌, ◌<◌, ◌≤◌, ◌^◌, ℕ, List, length, OnOk};
 ghost use Rattle.stripe_lock.specs.declared.view.StripeTurn.{StripeTurn};
 ghost use Rattle.stripe_lock.specs.History.{AddsTurn};
 
@@ -19,7 +19,7 @@ pub trait KeptState {
     /// What holds of the state between two turns.
     ghost is_sound: { Self → Type 0 };
 
-    /// There is memory for one turn.
+    /// There is memory for one turn, and the number of turns behind it is below 2^64.
     ghost has_room: { Self → Type 0 };
 
     /// A chronicle and turns behind it make one that may be.
@@ -28,10 +28,11 @@ pub trait KeptState {
     /// The floor behind a chronicle and these turns.
     ghost floor_of: { List Self.Record → List (StripeTurn Self.Record) → ℕ };
 
-    /// How many turns there are.
+    /// How many turns there are. The implementor keeps a sound state below 2^64 of them.
     fn count(&self) -> u64
         requires { is_sound self.now }
-        ensures { result ≡ length (turns self.now) };
+        ensures count { result ≡ length (turns self.now) }
+        ensures few { length (turns self.now) < 2 ^ 64 };
 
     /// The floor behind all turns.
     fn floor(&self) -> u64

@@ -12,5 +12,6 @@ mod view;
 
 pub use kept::{Job, KeptState};
 pub use pass::Pass;
+pub use steps::{About, Line};
 pub use stripe::SharedStripe;
-pub use view::{PassTurns, Sight, StripeTurn, View};
+pub use view::{Loaded, PassTurns, Sight, StripeTurn, View};

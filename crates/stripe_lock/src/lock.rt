@@ -9,7 +9,7 @@ ghost use Rattle.stripe_lock.specs.Working.{InHand, KeepsTurns, Works, MayPublis
 use crate::kept::{Job, KeptState};
 use crate::pass::Pass;
 use crate::steps::{
-    About, Both, Count, Cut, Draw, End, Give, Line, Look, Low, Note, Raise, See, Settle, Take,
+    About, Both, Cut, Draw, End, Give, Line, Look, Low, Note, Raise, See, Settle, Take,
 };
 use crate::view::View;
 use atomic_table::{Badge, Refused, Seat, Table};
@@ -18,21 +18,19 @@ use std::snapshot::Snapshot;
 use std::sync::Wait;
 
 // The words of the table.
-const PASSES: usize = 0;
+const TICKET: usize = 0;
 
-const TICKET: usize = 1;
+const SERVING: usize = 1;
 
-const SERVING: usize = 2;
+const COUNT: usize = 2;
 
-const COUNT: usize = 3;
-
-const FLOOR: usize = 4;
+const FLOOR: usize = 3;
 
 #[derive(Drop)]
 pub struct Gate<T: KeptState> {
     pub(crate) table: Table<T, View<T::Record>, About<T>, Line, Global>,
     pub(crate) seats: u32,
-    ghost sized: { (table.shared.table_id.words ≡ 5) × (table.shared.table_id.slots ≡ 1)
+    ghost sized: { (table.shared.table_id.words ≡ 4) × (table.shared.table_id.slots ≡ 1)
         × (table.shared.key.seats ≡ seats) },
 }
 
@@ -87,7 +85,7 @@ impl<T: KeptState> Gate<T> {
             seats,
             first: Snapshot::of(&state),
         };
-        let words = [0, 0, 0, 0, state.floor()];
+        let words = [0, 0, 0, state.floor()];
         let mut slots = Vec::new(alloc);
         if let Err(failed) = slots.push(state) {
             slots.destroy_empty();
@@ -117,7 +115,6 @@ impl<T: KeptState> Gate<T> {
         let mut seat = seat;
         let last = self.seats - 1;
         for number in 0..last {
-            self.table.shared.fetch_add::<Count>(&mut seat, PASSES, 1);
             let next = self.table.shared.split_seat::<Cut>(&mut seat);
             passes.push_reserved(Pass {
                 badge: next.into_badge(),
@@ -125,7 +122,6 @@ impl<T: KeptState> Gate<T> {
                 weight: 1,
             });
         }
-        self.table.shared.fetch_add::<Count>(&mut seat, PASSES, 1);
         passes.push_reserved(Pass {
             badge: seat.into_badge(),
             number: last,
@@ -292,8 +288,7 @@ impl<T: KeptState> Gate<T> {
         requires rests { IsResting badge.views }
         requires other { IsResting other.views }
         ensures table { result.table_id ≡ badge.table_id }
-        ensures rests { (result.views ≡ view_of result.views ∷ [])
-            × ((view_of result.views).stage ≡ outside) }
+        ensures rests { IsResting result.views }
         ensures joins { Joins T.KeptState (pass_of badge.table_id (view_of badge.views))
             (pass_of other.table_id (view_of other.views))
             (pass_of result.table_id (view_of result.views)) }

@@ -1,5 +1,5 @@
 //! The rule of the table, and the steps of a pass.
-ghost use Rattle.stripe_lock.specs.Steps.{drew, looked, took, gave, ended_turn, stayed, noted_turn, raised, saw, lowered, settled, left_view, right_view, joined_view, spent};
+ghost use Rattle.stripe_lock.specs.Steps.{drew, looked, took, gave, ended_turn, noted_turn, raised, saw, lowered, settled, left_view, right_view, joined_view, spent};
 
 use crate::kept::KeptState;
 use crate::view::View;
@@ -30,13 +30,6 @@ impl<T: KeptState> TableRule<T, View<T::Record>, About<T>> for Line {
 
     ghost first = { λ key. let start = T.chronicle key.first.value in
         opener key.seats start (T.floor_of start []) };
-}
-
-/// Adds one to `passes`, before a pass is given.
-pub struct Count;
-
-impl<T: KeptState> Play<T, View<T::Record>> for Count {
-    ghost then = { stayed };
 }
 
 /// Gives the first number to a new pass.

@@ -23,6 +23,12 @@ pub struct Sight<R> {
     pub floor: u64,
 }
 
+/// A number that stood in a word of the table when it was loaded.
+pub struct Loaded {
+    pub word: u64,
+    pub number: u64,
+}
+
 /// What one pass knows, and how far it is in the line.
 pub struct View<R> {
     pub sight: Sight<R>,
@@ -30,6 +36,10 @@ pub struct View<R> {
     pub other: Sight<R>,
     /// Its own number first, then those that were joined into it.
     pub owned: LinkedList<PassTurns>,
+    /// What it has found in the words `count` and `floor`, the last number last.
+    pub looks: LinkedList<Loaded>,
+    /// The highest floor that it has seen.
+    pub peak: u64,
     pub stage: u64,
     pub ticket: u64,
 }

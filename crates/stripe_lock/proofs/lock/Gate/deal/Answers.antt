@@ -2,23 +2,16 @@ use Rattle.std.proofs.Common.{rules, ◌≡◌, ◌+◌, ◌-◌, ◌≤◌, suc
 use Rattle.stripe_lock.specs.declared.view.View.{View}
 use Rattle.stripe_lock.specs.Steps.{left_view, right_view}
 use Rattle.stripe_lock.specs.Passes.{dealt}
-use Rattle.stripe_lock.proofs.Looking.{counts}
 use Rattle.stripe_lock.proofs.Passing.{splits}
 use Rattle.stripe_lock.proofs.Dealing.{dealer, dealt_more, is_fresh, left_view-dealer}
 use Rattle.stripe_lock.proofs.lock.Gate.deal.Goals as goal
 
-pub fetch_add-requires : goal.fetch_add-requires
-fetch_add-requires g c = (search rules, search rules, counts g.T.KeptState _ _ _ _ _)
-
-pub fetch_add-requires-2 : goal.fetch_add-requires-2
-fetch_add-requires-2 g c = (search rules, search rules, counts g.T.KeptState _ _ _ _ _)
-
 pub split_seat-next-requires : goal.split_seat-next-requires
-split_seat-next-requires g c = let n = c.loop-number.invariant.1 in let me = c.fetch_add.ensures.2 ∙ n.2 in
+split_seat-next-requires g c = let n = c.loop-number.invariant.1 in let me = n.2 in
     (search rules, search rules, splits g.T.KeptState _ _ _ _ c.loop-number.number n.0 (ap (λ m. m.0.stage) me) (ap (λ m. m.0.owned) me))
 
 pub loop-number-preserved : goal.loop-number-preserved
-loop-number-preserved g c = let first = c.args.seat.me.0 in let lock = c.args.self.now.table.shared.table_id in let n = c.loop-number.invariant.1 in let me = c.fetch_add.ensures.2 ∙ n.2 in
+loop-number-preserved g c = let first = c.args.seat.me.0 in let lock = c.args.self.now.table.shared.table_id in let n = c.loop-number.invariant.1 in let me = n.2 in
     let k = c.loop-number.number in let sum : k + suc n.0 ≡ c.args.self.now.seats = n.1 in let test = c.loop-number-test.true in let low : 1 ≤ n.0 = omega arith in let more : n.0 ≡ suc (n.0 - 1) = omega arith in
     let split = c.split_seat-next.ensures in (
       search rules,
@@ -31,7 +24,7 @@ loop-number-preserved g c = let first = c.args.seat.me.0 in let lock = c.args.se
     )
 
 pub returns : goal.returns
-returns g c = let first = c.args.seat.me.0 in let lock = c.args.self.now.table.shared.table_id in let n = c.loop-number.invariant.1 in let me = c.fetch_add-2.ensures.2 ∙ n.2 in
+returns g c = let first = c.args.seat.me.0 in let lock = c.args.self.now.table.shared.table_id in let n = c.loop-number.invariant.1 in let me = n.2 in
     let k = c.loop-number.number in let sum : k + suc n.0 ≡ c.args.self.now.seats = n.1 in let test = c.loop-number-test.false in let end = c.loop-number.auto.number-end in
     let none : n.0 ≡ 0 = omega arith in let last : c.args.self.now.seats - 1 ≡ k = omega arith in let all : k + 1 ≡ c.args.self.now.seats = omega arith in
     dealt_more lock first.sight.chronicle first.sight.floor k _ _ _ c.loop-number.invariant.2 c.push_reserved-2.ensures.items

@@ -7,7 +7,7 @@ pub store-requires : goal.store-requires
 store-requires g c = let h = c.requires.turn in (search rules, search rules, notes g.T.KeptState _ _ _ _ _ _ h.x h.turn h.stage h.carried h.told h.added h.own h.counted)
 
 pub fetch_max-requires : goal.fetch_max-requires
-fetch_max-requires g c = let h = c.requires.turn in let noted_turn = c.store.ensures.2.1 h.x h.carried in (
+fetch_max-requires g c = let h = c.requires.turn in let noted_turn = c.store.ensures.2.2 h.x h.carried in (
   search rules,
   search rules,
   raises g.T.KeptState _ _ _ _ _ _ (ap (λ v. v.stage) noted_turn ∙ h.stage) (subst (λ (v : View _). v.sight.floor ≤ c.args.floor) (sym noted_turn) h.higher)

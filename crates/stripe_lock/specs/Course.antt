@@ -1,0 +1,75 @@
+-- How a lock goes on, step by step.
+use Rattle.std.specs.Prelude.{◌≡◌, ℕ, ◌≤◌, List, [], ◌∷◌, ◌++◌, slice_index, slice_set}
+use mathlib.Core.Option.{some}
+use lib.ListN.{get_elem?}
+use Rattle.atomic_table.specs.Table.{State, Step, Act, carried_after, stepped}
+use Rattle.stripe_lock.specs.declared.kept.KeptState.{Ghosts}
+use Rattle.stripe_lock.specs.declared.view.View.{View}
+use Rattle.stripe_lock.specs.Rule.{floor_word}
+use Rattle.stripe_lock.specs.Steps.{Holder, left_view, right_view, joined_view, spent, drew, looked, took, gave, ended_turn, noted_turn, raised, saw, lowered, settled}
+
+module _ {T R : Type 0} where
+  -- a pass makes an atomic step of this kind on one word, which may become any number
+  pub record Plays (then : Step T → Holder T R → ℕ → Holder T R → Type 0) (s t : State T (View R)) : Type 0 where
+    pub pass : ℕ
+    pub me : Holder T R
+    pub st : Step T
+    pub found : ℕ
+    pub new : ℕ
+    pub view : View R
+    pub act : Act T
+    pub at : get_elem? s.views pass ≡ some me.0
+    pub told : then st me found (view, carried_after me.1 act)
+    pub after : t ≡ stepped s st.word new pass me.1 view act
+
+  -- the last of these states, or the first one
+  abbrev pub last_state : State T (View R) → List (State T (View R)) → State T (View R)
+  last_state s [] = s
+  last_state s (t ∷ ts) = last_state t ts
+
+  -- a pass is cut in two
+  pub record Cuts (s t : State T (View R)) : Type 0 where
+    pub pass : ℕ
+    pub view : View R
+    pub at : get_elem? s.views pass ≡ some view
+    pub after : t ≡ record { words = s.words; homes = s.homes; views = slice_set s.views pass (left_view view) ++ right_view view ∷ [] }
+
+  -- a pass takes in another
+  pub record TakesIn (s t : State T (View R)) : Type 0 where
+    pub pass : ℕ
+    pub view : View R
+    pub other : ℕ
+    pub taken : View R
+    pub at : get_elem? s.views pass ≡ some view
+    pub there : get_elem? s.views other ≡ some taken
+    pub after : t ≡ record { words = s.words; homes = s.homes; views = slice_set (slice_set s.views pass (joined_view view taken)) other spent }
+
+  module _ (k : Ghosts T R) where
+    -- one step of a lock, of any kind that `src/steps.rt` has
+    pub data LockStep (s t : State T (View R)) : Type 0 where
+      by_draw : Plays drew s t → LockStep s t
+      by_look : Plays looked s t → LockStep s t
+      by_take : Plays (took k) s t → LockStep s t
+      by_note : Plays (noted_turn k) s t → LockStep s t
+      by_raise : Plays raised s t → LockStep s t
+      by_give : Plays gave s t → LockStep s t
+      by_end : Plays ended_turn s t → LockStep s t
+      by_see : Plays saw s t → LockStep s t
+      by_low : Plays (lowered k) s t → LockStep s t
+      by_settle : Plays (settled k) s t → LockStep s t
+      by_cut : Cuts s t → LockStep s t
+      by_join : TakesIn s t → LockStep s t
+
+    module _ (holds : State T (View R) → Type 0) where
+      -- by a table's rule these states come one after another behind s, each by one step
+      abbrev pub GoesOn : State T (View R) → List (State T (View R)) → Type 0
+      GoesOn s [] = holds s
+      GoesOn s (t ∷ ts) = holds s × LockStep s t × GoesOn t ts
+
+      -- over one step of a lock the word `floor` does not fall
+      abbrev pub StepKeepsFloor : Type 0
+      StepKeepsFloor = (s t : State T (View R)) → holds s → holds t → LockStep s t → slice_index s.words floor_word ≤ slice_index t.words floor_word
+
+      -- nor does it over any number of steps
+      abbrev pub FloorNeverFalls : Type 0
+      FloorNeverFalls = (s : State T (View R)) (ts : List (State T (View R))) → GoesOn s ts → slice_index s.words floor_word ≤ slice_index (last_state s ts).words floor_word
