@@ -10,9 +10,7 @@ use crate::answers::PutAnswer;
 use doc_header::{Doc, move_document, write_doc};
 use std::alloc::{AllocError, Global};
 use std::marker::Model;
-use tape_base::{Digest, Geometry, blocks_of};
-
-const BLOCK: usize = 512;
+use tape_base::{BLOCK, Digest, Geometry, blocks_of};
 
 /// Blocks of consecutive places, in memory. It reserves its places from its cursor on.
 #[derive(Debug, Drop)]

@@ -21,10 +21,8 @@ use dir_table::{Directory, Displaced};
 use doc_header::{Doc, document_digest};
 use edge_io::Failed;
 use std::alloc::{AllocError, Global};
-use tape_base::{Digest, Geometry, Key, PieceId, blocks_of, floor_of, next_cursor, slot};
+use tape_base::{BLOCK, Digest, Geometry, Key, PieceId, blocks_of, floor_of, next_cursor, slot};
 use write_cursor::Cursor;
-
-const BLOCK: usize = 512;
 
 /// The content area of a device, which is written in a circle.
 #[derive(Drop)]

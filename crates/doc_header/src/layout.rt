@@ -1,4 +1,6 @@
 // Where the fields of a document stand.
+pub use tape_base::{BLOCK, HEADER};
+
 pub const MAGIC: [u8; 8] = *b"TSCDOCM1";
 
 pub const VERSION: u32 = 1;
@@ -26,7 +28,3 @@ pub const START_AT: usize = 72;
 pub const DIGEST_AT: usize = 80;
 
 pub const CHECK_AT: usize = 112;
-
-pub const HEADER: usize = 128;
-
-pub const BLOCK: usize = 512;

@@ -17,9 +17,7 @@ use fragment_table::FragTable;
 use std::alloc::{AllocError, Global};
 use std::collections::BTreeMap;
 use std::marker::Model;
-use tape_base::{Digest, Key};
-
-const MAX_WRITERS: usize = 64;
+use tape_base::{Digest, Key, MAX_WRITERS};
 
 /// The open writers of a stripe, its open readers, and the puts that readers follow.
 #[derive(Debug, Drop)]
@@ -74,7 +72,7 @@ impl OpenDirectory {
             OnOk result (self.new ≡ opened writer (room_of put self.new.puts) self.old) }
         ensures err { OnErr result (self.new ≡ self.old) }
     {
-        if self.writers.len() == MAX_WRITERS {
+        if self.writers.len() == MAX_WRITERS as usize {
             return Err(OpenRefusal::TooManyWriters);
         }
         self.writers.reserve(1)?;

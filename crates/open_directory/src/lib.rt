@@ -12,6 +12,3 @@ mod refusal;
 pub use directory::OpenDirectory;
 pub use kept::PutState;
 pub use refusal::OpenRefusal;
-
-#[cfg(test)]
-mod tests;

@@ -1,5 +1,5 @@
 -- An accepted copy is spelled as one is written, and what is spelled so is accepted.
-use Rattle.std.proofs.Common.{◌≡◌, ◌≤◌, ◌<◌, ◌+◌, ◌-◌, ◌^◌, ◌⊎◌, inl, inr, ℕ, Bool, true, false, cond, List, ◌++◌, length, take, drop, Option, Some, None, Result, Ok, Err, refl, sym, ap, subst, ◌∙◌, append_assoc, arith}
+use Rattle.std.proofs.Common.{◌≡◌, ◌≢◌, ◌≤◌, ◌<◌, ◌+◌, ◌-◌, ◌^◌, ◌⊎◌, inl, inr, ℕ, Bool, true, false, cond, List, ◌++◌, length, take, drop, Option, Some, None, Result, Ok, Err, refl, sym, ap, subst, ◌∙◌, append_assoc, arith}
 use Rattle.std.specs.Prelude.{◌*◌, ◌/◌, min, codes, not, nat_lt, ◌==◌, ◌&&◌, ◌||◌, IfOk, replicate}
 use Rattle.std.specs.Int.{w32, w64, to_le_bytes, from_le_bytes}
 use Rattle.std.specs.List.{slice_index}
@@ -16,6 +16,7 @@ use Rattle.sha2.specs.Sha256.{sha256, digest_bytes}
 use Rattle.tape_base.specs.declared.geometries.Geometry.{Geometry}
 use Rattle.stripe_header.specs.declared.states.CopyState.{CopyState}
 use Rattle.stripe_header.specs.declared.states.CopyFault.{CopyFault}
+use Rattle.stripe_header.specs.declared.states.CopyFault.TheVariants as copy_faults
 use Rattle.stripe_header.specs.Spelling.{Numbers, numbers_of, mark_of, head_bytes, foot_bytes, covered_bytes, is_within, has_cursor, has_counts, has_floor, may_say, IsCopy}
 use Rattle.stripe_header.specs.Reading.{bytes_at, number_in, is_version, version_in, covered_of, footer_of, foot_serial, copy_told, has_magics, are_spelled, form_fault, digest_fault, geometry_fault, copy_fault, CopyAnswers}
 
@@ -125,6 +126,16 @@ is_accepted g gate body (Ok state) long given =
     let law = accepted g gate body long given.0 in
     (law.0, subst (λ (s : CopyState). IsCopy body (version_in body) g s (bytes_at 512 (length body - 1024) body)) (sym given.1) law.1)
 is_accepted g gate body (Err fault) long given = tt
+
+-- a gate that is not open is the first fault
+gate_by : (opened : Bool) (gate : ℕ) (rest : Option CopyFault) → (gate == 1) ≡ opened → gate ≢ 1
+    → cond (not opened) (Some copy_faults.GateShut) rest ≡ Some copy_faults.GateShut
+gate_by true gate rest is shut = absurd (shut (eqb-true _ _ is))
+gate_by false gate rest is shut = refl
+
+pub shut_refused : (g : Geometry) (gate body : List ℕ) → slice_index gate 0 ≢ 1 → copy_fault g gate body ≡ Some copy_faults.GateShut
+unfolding copy_fault
+shut_refused g gate body shut = gate_by _ (slice_index gate 0) _ refl shut
 
 -- ---- what is spelled so is accepted
 

@@ -1,5 +1,5 @@
 // Where the parts of a stripe lie on its device.
-ghost use Rattle.std.specs.Prelude.{◌≡◌, ◌≤◌, ◌<◌, ◌^◌};
+ghost use Rattle.std.specs.Prelude.{◌≡◌, ◌≤◌, ◌<◌, ◌+◌, ◌^◌};
 
 use tape_base::{Geometry, slot};
 
@@ -24,7 +24,8 @@ impl Side {
 
     /// The block that says whether the copy counts: it is open exactly where its first byte is 1.
     pub fn gate(self) -> u64
-        ensures { result ≡ gate_of self }
+        ensures value { result ≡ gate_of self }
+        ensures low { result ≤ 2 }
     {
         match self {
             Side::A => 1,
@@ -48,7 +49,9 @@ impl Area {
 
     /// The first block of a copy's body.
     pub fn body(&self, side: Side) -> u64
-        ensures { result ≡ body_of self.now side }
+        ensures value { result ≡ body_of self.now side }
+        ensures behind { 2 < result }
+        ensures within { result + body_blocks self.now ≤ content_of self.now }
     {
         match side {
             Side::A => 3,

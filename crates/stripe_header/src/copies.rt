@@ -9,7 +9,7 @@ ghost use Rattle.stripe_header.specs.Reading.{bytes_at, version_in, covered_of, 
 
 use crate::fields::{array, field, number_32, number_64, put, put_extents, put_sizes, put_zeros};
 use crate::states::{CopyFault, CopyState};
-use tape_base::{Digest, Geometry, lap_end, slot};
+use tape_base::{BLOCK, Digest, Geometry, LIMIT, lap_end, slot};
 
 const HEAD: [u8; 8] = *b"TSCHEAD1";
 
@@ -17,11 +17,7 @@ const FOOT: [u8; 8] = *b"TSCFOOT1";
 
 const VERSION: u32 = 2;
 
-const BLOCK: usize = 512;
-
 // What serials, puts and cursors stay below.
-const LIMIT: u64 = 1 << 62;
-
 fn mark_of(clean: bool) -> u64
     ensures { result ≡ mark_of clean }
 {
@@ -80,7 +76,9 @@ fn put_front(body: &mut [u8], g: &Geometry, state: &CopyState)
 // The footer over the last block.
 fn put_end(body: &mut [u8], serial: u64)
     requires { 512 ≤ length body.old }
-    ensures { body.new ≡ covered_of body.old ++ foot_bytes serial (sha256 (covered_of body.old)) }
+    ensures bytes { body.new
+        ≡ covered_of body.old ++ foot_bytes serial (sha256 (covered_of body.old)) }
+    ensures len { length body.new ≡ length body.old }
 {
     let end = body.len() - BLOCK;
     let digest = Digest::of(&body[..end]);
@@ -93,6 +91,7 @@ pub fn write_body(g: &Geometry, state: &CopyState, body: &mut [u8])
     requires room { 1024 ≤ length body.old }
     ensures bytes { body.new ≡ copy_bytes 2 (numbers_of g.now) state.now
         (bytes_at 512 (length body.old - 1024) body.old) }
+    ensures len { length body.new ≡ length body.old }
 {
     put_front(body, g, state);
     put_end(body, state.serial);

@@ -4,11 +4,13 @@
 mod area;
 mod copies;
 mod fields;
+mod laws;
 mod spans;
 mod states;
 
 pub use area::{Area, Side};
 pub use copies::{read_copy, write_body};
+pub use laws::copies_are_told;
 pub use spans::{read_span, write_span};
 pub use states::{CopyFault, CopyState, Span, SpanFault};
 

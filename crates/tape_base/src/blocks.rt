@@ -2,9 +2,7 @@
 ghost use Rattle.std.specs.Prelude.{◌≡◌, ◌≤◌, ◌<◌, ◌^◌};
 ghost use Rattle.tape_base.specs.Blocks.{blocks_of};
 
-const BLOCK: u64 = 512;
-
-const HEADER: u64 = 128;
+use crate::sizes::{BLOCK, HEADER};
 
 /// The blocks of a document whose payload has this length in bytes.
 pub fn blocks_of(length: u32) -> u32
@@ -18,5 +16,5 @@ pub fn blocks_of_document(length: u64) -> u64
     requires { length < 2 ^ 32 }
     ensures { result ≡ blocks_of length }
 {
-    (HEADER + length).div_ceil(BLOCK)
+    (HEADER as u64 + length).div_ceil(BLOCK as u64)
 }

@@ -9,6 +9,7 @@ mod keys;
 mod pieces;
 mod places;
 mod probes;
+mod sizes;
 
 pub use actors::Actor;
 pub use blocks::blocks_of;
@@ -18,6 +19,7 @@ pub use keys::Key;
 pub use pieces::PieceId;
 pub use places::{floor_of, lap, lap_end, next_cursor, phase, slot};
 pub use probes::Steps;
+pub use sizes::{BLOCK, HEADER, LIMIT, MAX_WRITERS};
 
 #[cfg(test)]
 mod tests;

@@ -12,7 +12,8 @@ returns c =
     let head = head_bytes 2 n c.args.state.now in
     let covered = covered_behind head c.args.body.now (length-head 2 n c.args.state.now) c.requires.room in
     record {
-      bytes = c.put_end.ensures
+      bytes = c.put_end.ensures.bytes
           ∙ (ap (λ body. covered_of body ++ foot_bytes serial (sha256 (covered_of body))) c.put_front.ensures.bytes
           ∙ ap (λ front. front ++ foot_bytes serial (sha256 front)) covered);
+      len = c.put_end.ensures.len ∙ c.put_front.ensures.len;
     }
