@@ -1,0 +1,10 @@
+pub mod Spans
+pub mod Puts
+pub mod SeenLaws
+pub mod LeftLaws
+pub mod CallLaws
+pub mod FlipLaws
+pub mod FaultLaws
+pub mod LogLemmas
+pub mod StreamLemmas
+mod Worked

@@ -1,0 +1,5 @@
+use Rattle.device_log.proofs.LogLemmas.{noted}
+use Rattle.device_log.proofs.log.DeviceLog.refused_write.Goals as goal
+
+pub invariant_of-self : goal.invariant_of-self
+invariant_of-self c = record { is_log = noted _ _ c.args.self.now.rows.rows c.note.new.self.rows c.note.ensures c.args.self.now.is_log (record { bytes = λ i. (c.type_inv.left i).fits; whole = c.requires.whole }) c.requires.count }

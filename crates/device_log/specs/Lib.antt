@@ -1,0 +1,12 @@
+pub mod Image
+pub mod Calls
+pub mod Seen
+pub mod Faults
+pub mod Cuts
+pub mod Along
+pub mod Row
+pub mod Rows
+pub mod DeviceLog
+pub mod Laws
+pub mod Streams
+pub mod StreamLogs
