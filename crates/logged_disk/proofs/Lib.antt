@@ -1,0 +1,5 @@
+pub mod Counted
+pub mod Writing
+pub mod MemoryLemmas
+pub mod Moments
+pub mod FileLemmas

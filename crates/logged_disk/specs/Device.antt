@@ -1,0 +1,91 @@
+-- A block device as its callers see it, and what its calls do.
+use Rattle.std.specs.Prelude.{◌≡◌, ℕ, ◌+◌, ◌%◌, ◌<◌, ◌≤◌, max, Bool, false, List, ◌∷◌, Result, MatchResult}
+use Rattle.device_log.specs.Image.{Image}
+use Rattle.device_log.specs.Calls.{Call}
+use Rattle.device_log.specs.Seen.{seen_of, MayLeave, is_flipped}
+use Rattle.device_log.specs.Faults.{next_count}
+use Rattle.device_log.specs.Along.{Along, WasRefused}
+
+-- a device at one moment
+pub record State : Type 0 where
+  -- how many blocks it has
+  pub size : ℕ
+  -- How far it can be trusted, which can only fall: from 1 on a read gives what is seen, from 2 on
+  -- a cut leaves what it may leave.
+  pub trust : ℕ
+  -- the number that its attach gave it
+  pub number : ℕ
+  -- whether its power can be cut
+  pub has_switch : Bool
+  -- whether nothing was pending at its attach, and what was there then
+  pub settled : Bool
+  pub first : Image
+  -- all calls since, the newest first
+  pub past : List Call
+  pub faults : ℕ
+  -- the calls, and their blocks together, for which there is room
+  pub calls : ℕ
+  pub blocks : ℕ
+
+-- a read gives what is seen
+abbrev pub IsTrusted : State → Type 0
+IsTrusted s = 1 ≤ s.trust
+
+-- a cut leaves what it may leave
+abbrev pub IsHonest : State → Type 0
+IsHonest s = 2 ≤ s.trust
+
+-- of so many blocks from one on what was written stands: a read gives it, and no flip hit it since
+pub record IsTold (s : State) (at n : ℕ) : Type 0 where
+  pub trusted : IsTrusted s
+  pub unhit : (j : ℕ) → at ≤ j → j < at + n → is_flipped s.past j ≡ false
+
+-- what is seen
+abbrev pub seen : State → Image
+seen s = seen_of s.first s.past
+
+-- a cut may leave this now
+abbrev pub Leaves : State → Image → Type 0
+Leaves s c = MayLeave s.settled s.first s.past c
+
+-- a cut leaves what is seen, and nothing else
+abbrev pub IsSettled : State → Type 0
+IsSettled s = (c : Image) → Leaves s c → (j : ℕ) → c j ≡ seen s j
+
+-- behind each call since, all that a cut may leave has P
+abbrev pub Elapses : (Image → Type 0) → State → State → Type 0
+Elapses P old new = Along P old.settled old.first old.past new.past
+
+-- so many bytes, not none, are whole blocks
+pub record IsWhole (bytes : ℕ) : Type 0 where
+  pub some : 0 < bytes
+  pub whole : bytes % 512 ≡ 0
+
+-- what each call keeps, with the room that it uses up at most
+pub record Keeps (used_calls used_blocks : ℕ) (old new : State) : Type 0 where
+  pub size : new.size ≡ old.size
+  pub trust : new.trust ≤ old.trust
+  pub number : new.number ≡ old.number
+  pub switch : new.has_switch ≡ old.has_switch
+  pub settled : new.settled ≡ old.settled
+  pub first : new.first ≡ old.first
+  pub calls : old.calls ≤ new.calls + used_calls
+  pub blocks : old.blocks ≤ new.blocks + used_blocks
+
+-- No call was made, and there is room for at least so many calls of so many blocks together.
+pub record Affords (calls blocks : ℕ) (old new : State) : Type 0 where
+  pub past : new.past ≡ old.past
+  pub faults : new.faults ≡ old.faults
+  pub calls_are : new.calls ≡ max old.calls calls
+  pub blocks_are : new.blocks ≡ max old.blocks blocks
+
+-- one more call was made, this one, and none failed
+pub record Adds (call : Call) (old new : State) : Type 0 where
+  pub past : new.past ≡ call ∷ old.past
+  pub faults : new.faults ≡ old.faults
+
+-- one more call was made, this one: it went, or it failed and was counted
+abbrev pub Logs : {T E : Type 0} → Call → Result T E → State → State → Type 0
+Logs call result old new = MatchResult result
+    (λ _. Adds call old new)
+    (λ _. WasRefused call new.faults old.past new.past × (new.faults ≡ next_count old.faults))

@@ -1,0 +1,39 @@
+-- What a contract sees of a `FileDisk`.
+use Rattle.std.specs.Prelude.{◌≡◌, ℕ, Bool, false, []}
+use Rattle.device_log.specs.Image.{Image}
+use Rattle.device_log.specs.Faults.{IsLog, faults_of}
+use Rattle.device_log.specs.DeviceLog.{calls_of}
+use Rattle.logged_disk.specs.Device.{State, IsTrusted}
+use Rattle.logged_disk.specs.FileTrust.{file_trust}
+use Rattle.logged_disk.specs.declared.file_disk.FileDisk.{FileDisk}
+
+-- the device at this moment, where the file held the first image at its attach
+abbrev pub file_state : {S : Type 0} → Image → FileDisk S → State
+file_state first disk = record {
+  size = disk.size;
+  trust = file_trust first (calls_of disk.log);
+  number = disk.number;
+  has_switch = false;
+  settled = disk.settled;
+  first = first;
+  past = calls_of disk.log;
+  faults = disk.faults;
+  calls = disk.calls;
+  blocks = disk.blocks;
+}
+
+-- a file as it is attached: nothing was called yet, and it is trusted
+pub record IsAttached (number : ℕ) (settled : Bool) (s : State) : Type 0 where
+  pub trusted : IsTrusted s
+  pub number_is : s.number ≡ number
+  pub settled_is : s.settled ≡ settled
+  pub past : s.past ≡ []
+  pub faults : s.faults ≡ 0
+
+pub file_is_log : {S : Type 0} (first : Image) (disk : FileDisk S)
+    → IsLog (file_state first disk).past
+file_is_log first disk = disk.log.is_log
+
+pub file_counted : {S : Type 0} (first : Image) (disk : FileDisk S)
+    → (file_state first disk).faults ≡ faults_of (file_state first disk).past
+file_counted first disk = disk.counted

@@ -1,0 +1,15 @@
+pub mod Device
+pub mod Counting
+pub mod Blocks
+pub mod Switch
+pub use Rattle.device_log.specs.Image
+pub use Rattle.device_log.specs.Calls
+pub use Rattle.device_log.specs.Seen
+pub use Rattle.device_log.specs.Faults
+pub use Rattle.device_log.specs.Cuts
+pub use Rattle.device_log.specs.Along
+pub mod Memory
+pub mod MemDisk
+pub mod MemoryFacts
+pub mod FileTrust
+pub mod FileDisk

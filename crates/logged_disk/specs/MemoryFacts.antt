@@ -1,0 +1,16 @@
+-- What holds of each `MemDisk`.
+use Rattle.std.specs.Prelude.{◌≡◌}
+use Rattle.device_log.specs.Image.{IsImage}
+use Rattle.device_log.specs.Faults.{IsLog, faults_of}
+use Rattle.device_log.proofs.Puts.{blank_is_image}
+use Rattle.logged_disk.specs.MemDisk.{mem_state}
+use Rattle.logged_disk.specs.declared.mem_disk.MemDisk.{MemDisk}
+
+pub memory_is_log : (disk : MemDisk) → IsLog (mem_state disk).past
+memory_is_log disk = disk.log.is_log
+
+pub memory_was_image : (disk : MemDisk) → IsImage (mem_state disk).first
+memory_was_image disk = blank_is_image
+
+pub memory_counted : (disk : MemDisk) → (mem_state disk).faults ≡ faults_of (mem_state disk).past
+memory_counted disk = disk.is_memory.counted

@@ -1,0 +1,169 @@
+// A device in a file.
+ghost use Rattle.std.specs.Prelude.{◌≡◌, ◌+◌, ◌-◌, ◌*◌, ◌≤◌, ◌<◌, ◌^◌, ◌/◌, if◌then◌else◌, is_err, IfOk};
+ghost use Rattle.device_log.specs.DeviceLog.{calls_of};
+ghost use Rattle.device_log.specs.Faults.{faults_of, next_count};
+
+use crate::{BLOCK_BYTES, Disk, PowerDisk};
+use device_log::{CutChoice, DeviceLog};
+use edge_io::Failed;
+use std::alloc::AllocError;
+use std::fs::File;
+use std::io;
+use std::marker::PhantomData;
+use std::os::unix::fs::FileExt;
+
+/// What a file is taken to hold when it is attached.
+pub trait FileStart {
+    ghost use Rattle.device_log.specs.Image.{Image, IsImage};
+
+    ghost first: { Image };
+
+    ghost is_image: { IsImage first };
+}
+
+/// A file as a device: its whole blocks, and what stands behind them stays. It is trusted as long
+/// as each read gives what the log says. Of a write that failed the log says that it changed
+/// nothing; if it did, the first read that shows it ends the trust.
+#[derive(Drop)]
+pub struct FileDisk<S> {
+    file: File,
+    size: u64,
+    number: u64,
+    settled: bool,
+    calls: u64,
+    blocks: u64,
+    faults: u64,
+    log: DeviceLog,
+    start: PhantomData<S>,
+    ghost short: { size * 512 < 2 ^ 64 },
+    ghost counted: { faults ≡ faults_of (calls_of log) },
+}
+
+impl<S: FileStart> FileDisk<S> {
+    ghost use Rattle.logged_disk.specs.FileDisk.{file_state, IsAttached};
+
+    /// The file has to be open for reading and writing. Its length over 512, rounded down, is the
+    /// size. `settled` says that nothing of it is pending.
+    #[tactic(auto, using(crate::proofs::FileLemmas::trusted_at_first), unfolding(device_log::specs::Faults::faults_of))]
+    pub fn attach(file: File, number: u64, settled: bool) -> io::Result<FileDisk<S>>
+        ensures attached { IfOk result (λ disk.
+            IsAttached number settled (file_state S.first disk)) }
+    {
+        let size = file.metadata()?.len() / 512;
+        Ok(FileDisk {
+            file,
+            size,
+            number,
+            settled,
+            calls: 0,
+            blocks: 0,
+            faults: 0,
+            log: DeviceLog::new(),
+            start: PhantomData,
+        })
+    }
+}
+
+/// Counts a call that failed.
+fn counted(answer: io::Result<()>, faults: &mut u64) -> Result<(), Failed>
+    ensures { faults.new ≡ (if is_err result then next_count faults.old else faults.old) }
+{
+    match answer {
+        Ok(()) => Ok(()),
+        Err(_) => {
+            *faults = faults.saturating_add(1);
+            Err(Failed)
+        }
+    }
+}
+
+#[tactic(auto, using(crate::proofs::FileLemmas::file_trust_falls), unfolding(device_log::specs::Faults::faults_of))]
+impl<S: FileStart> Disk for FileDisk<S> {
+    ghost use Rattle.logged_disk.specs.FileDisk.{file_state, file_is_log, file_counted};
+
+    ghost state = { λ disk. file_state S.first disk };
+
+    fn blocks(&self) -> u64 {
+        self.size
+    }
+
+    fn faults(&self) -> u64 {
+        self.faults
+    }
+
+    fn make_room(&mut self, calls: u32, blocks: u64) -> Result<(), AllocError> {
+        self.calls = self.calls.max(u64::from(calls));
+        self.blocks = self.blocks.max(blocks);
+        Ok(())
+    }
+
+    fn read(&mut self, block: u64, into: &mut [u8]) -> Result<(), Failed> {
+        let _size = self.size;
+        let answer = self.file.read_exact_at(into, block * 512);
+        match counted(answer, &mut self.faults) {
+            Ok(()) => {
+                self.log.read(block, into);
+                Ok(())
+            }
+            Err(failed) => {
+                let blocks = (into.len() / BLOCK_BYTES) as u64;
+                self.log.refused_read(block, blocks, self.faults);
+                Err(failed)
+            }
+        }
+    }
+
+    fn write(&mut self, block: u64, bytes: &[u8]) -> Result<(), Failed> {
+        let _size = self.size;
+        let blocks = (bytes.len() / BLOCK_BYTES) as u64;
+        self.calls -= 1;
+        self.blocks -= blocks;
+        let answer = self.file.write_all_at(bytes, block * 512);
+        match counted(answer, &mut self.faults) {
+            Ok(()) => {
+                self.log.wrote(block, bytes);
+                Ok(())
+            }
+            Err(failed) => {
+                self.log.refused_write(block, blocks, &[], self.faults);
+                Err(failed)
+            }
+        }
+    }
+
+    fn sync(&mut self) -> Result<(), Failed> {
+        self.calls -= 1;
+        let answer = self.file.sync_data();
+        match counted(answer, &mut self.faults) {
+            Ok(()) => {
+                self.log.synced();
+                Ok(())
+            }
+            Err(failed) => {
+                self.log.refused_sync(self.faults);
+                Err(failed)
+            }
+        }
+    }
+
+    ghost is_log = { λ disk. file_is_log S.first disk };
+
+    ghost was_image = { λ disk. S.is_image };
+
+    ghost counted = { λ disk. file_counted S.first disk };
+}
+
+/// A file has no switch, so its switch is never told anything.
+impl<S: FileStart> PowerDisk for FileDisk<S> {
+    fn has_switch(&self) -> bool {
+        false
+    }
+
+    fn cut(&mut self, _choice: CutChoice) {}
+
+    fn fail(&mut self, _nth: u64) {}
+
+    fn stop_after(&mut self, _calls: u64) {}
+
+    fn flip(&mut self, _block: u64, _byte: u32) {}
+}

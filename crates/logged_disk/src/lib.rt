@@ -1,0 +1,18 @@
+//! Block devices that tell what their calls did.
+#![tactic(auto)]
+
+mod blocks;
+mod device;
+mod file_disk;
+mod mem_disk;
+mod pending_block;
+mod switch;
+#[cfg(test)]
+mod tests;
+
+pub use device::{Disk, PowerDisk};
+pub use file_disk::{FileDisk, FileStart};
+pub use mem_disk::MemDisk;
+
+/// How many bytes a block has.
+pub const BLOCK_BYTES: usize = 512;
