@@ -1,5 +1,6 @@
 -- A new directory, and one more row.
-use Rattle.std.proofs.Common.{◌≡◌, ℕ, zero, suc, ◌+◌, ◌-◌, ◌*◌, ◌/◌, ◌≤◌, Bool, true, List, [], length, refl, ap, ◌∙◌, arith}
+use Rattle.std.proofs.Common.{◌≡◌, ℕ, zero, suc, ◌+◌, ◌-◌, ◌*◌, ◌/◌, ◌≤◌, Bool, true, List, [], ◌++◌, length, map, refl, ap, ◌∙◌, arith}
+use Rattle.std.specs.Prelude.{replicate}
 use Rattle.std.specs.List.{All}
 use Rattle.std.proofs.lemmas.List.{length-replicate}
 use Rattle.std.proofs.lemmas.List.Elements.{All-nil, All-same, All-weaker, All-replicate}
@@ -11,8 +12,8 @@ use Rattle.dir_segment.specs.Lists.{Lists, empty_chains, new_lists}
 use Rattle.packed_directory.specs.declared.rows.StoredRow.{StoredRow}
 use Rattle.packed_directory.specs.Entering.{BucketEntry, entries_from}
 use Rattle.packed_directory.specs.Phases.{least_place, place_of_entry, stands_between}
-use Rattle.packed_directory.specs.StoredRows.{entry_of_row}
-use Rattle.packed_directory.specs.Packed.{AreBetween, IsPacked, EntersRow, new_segments}
+use Rattle.packed_directory.specs.StoredRows.{row_of_entry, entry_of_row, rows_of_segments}
+use Rattle.packed_directory.specs.Packed.{AreBetween, IsPacked, EntersRow, packed_rows, first_packed, new_segments}
 use Rattle.packed_directory.proofs.Phasing.{content_some, place_back, parts_between, between_from}
 
 chains-length : (n : ℕ) → length (empty_chains n) ≡ n
@@ -22,6 +23,15 @@ chains-length (suc n) = ap suc (chains-length n)
 no_entries : (b n : ℕ) → entries_from b (empty_chains n) ≡ []
 no_entries b zero = refl
 no_entries b (suc n) = no_entries (suc b) n
+
+no_rows : (g : Geometry) (cursor s n : ℕ) → rows_of_segments g cursor s (replicate n (new_lists g.buckets)) ≡ []
+no_rows g cursor s zero = refl
+no_rows g cursor s (suc n) =
+    let f : BucketEntry → StoredRow = λ it. row_of_entry g cursor s it.bucket it.entry in
+    (λ i. map f (no_entries 0 g.buckets i) ++ no_rows g cursor (suc s) n i)
+
+pub first_has_none : (g : Geometry) (segments : List Lists) → segments ≡ new_segments g → packed_rows (first_packed g segments) ≡ []
+first_has_none g segments is = ap (rows_of_segments g g.content 0) is ∙ no_rows g g.content 0 g.segments
 
 none_between : (g : Geometry) (cursor low high : ℕ) → AreBetween g cursor low high (new_lists g.buckets)
 none_between g cursor low high =

@@ -10,12 +10,15 @@ use Rattle.tape_base.specs.declared.geometries.Geometry.{Geometry}
 use Rattle.tape_base.specs.Place.{slot_of}
 use Rattle.dir_entry.specs.declared.entry.Entry.{Entry}
 use Rattle.dir_segment.specs.Lists.{Lists}
+use Rattle.dir_segment.specs.Entries.{AreCounted}
 use Rattle.dir_segment.specs.Purging.{tenth_of}
 use Rattle.packed_directory.specs.declared.rows.StoredRow.{StoredRow}
 use Rattle.packed_directory.specs.Entering.{BucketEntry, entries_from, GoOut, TakesIn}
+use Rattle.packed_directory.specs.Full.{is_full}
 use Rattle.packed_directory.specs.Phases.{place_of_entry, has_block, stands_between}
-use Rattle.packed_directory.specs.StoredRows.{row_of_entry, entry_of_row, rows_of_segment}
+use Rattle.packed_directory.specs.StoredRows.{row_of_entry, entry_of_row, rows_of_segment, rows_of_segments}
 use Rattle.packed_directory.specs.Packed.{AreBetween, segment_at, GoesOut, TakesRow, EntersRow}
+use Rattle.packed_directory.proofs.Fullness.{full_by_rows, open_by_rows}
 use Rattle.packed_directory.proofs.Gathering.{in_bucket}
 use Rattle.packed_directory.proofs.Phasing.{content_some, parts_between, between_from, block_from}
 use Rattle.packed_directory.proofs.Segments.{all_take}
@@ -32,7 +35,8 @@ module _ (g : Geometry) (cursor : ℕ) (row : StoredRow) (purged : Bool) (out : 
     (within : row.segment < length before)
     (widths : All (λ (lists : Lists). length lists.chains ≡ g.buckets) before)
     (stands : place_of_entry g cursor (entry_of_row g row) ≡ row.place)
-    (t : TakesIn (in_bucket row.bucket (entry_of_row g row)) purged out (segment_at before row.segment) new) where
+    (t : TakesIn (in_bucket row.bucket (entry_of_row g row)) purged out (segment_at before row.segment) new)
+    (counted : AreCounted (segment_at before row.segment)) where
   wide : length (segment_at before row.segment).chains ≡ g.buckets
   wide = All-get_or (λ (lists : Lists). length lists.chains ≡ g.buckets) before row.segment (record { chains = []; free = [] }) within widths
 
@@ -67,12 +71,16 @@ module _ (g : Geometry) (cursor : ℕ) (row : StoredRow) (purged : Bool) (out : 
     go [] = All-nil (λ (r : StoredRow). r.segment ≡ row.segment)
     go (it ∷ its) = All-cons (λ (r : StoredRow). r.segment ≡ row.segment) (row_of_entry g cursor row.segment it.bucket it.entry) (map (λ (q : BucketEntry). row_of_entry g cursor row.segment q.bucket q.entry) its) refl (go its)
 
-  due : GoesOut purged g (segment_at before row.segment) row gone
+  due : GoesOut purged g cursor (segment_at before row.segment) row gone
   unfolding gone
   due = go purged t.due own where
-    go : (b : Bool) → GoOut b t.gone (segment_at before row.segment) row.bucket → All (λ (r : StoredRow). r.segment ≡ row.segment) gone → GoesOut b g (segment_at before row.segment) row gone
-    go true d o = (d.0, length-map t.gone (λ (it : BucketEntry). row_of_entry g cursor row.segment it.bucket it.entry) ∙ d.1 ∙ ap tenth_of wide, o)
+    go : (b : Bool) → GoOut b t.gone (segment_at before row.segment) row.bucket → All (λ (r : StoredRow). r.segment ≡ row.segment) gone → GoesOut b g cursor (segment_at before row.segment) row gone
+    go true d o = (d.0, length-map t.gone (λ (it : BucketEntry). row_of_entry g cursor row.segment it.bucket it.entry) ∙ d.1 ∙ ap tenth_of wide, o, record { its = t.gone; are = refl; entries = d.2 })
     go false d o = (d.0, ap (map (λ (it : BucketEntry). row_of_entry g cursor row.segment it.bucket it.entry)) d.1)
+
+  full : (b : Bool) → GoOut b t.gone (segment_at before row.segment) row.bucket → b ≡ is_full g row.segment row.bucket (rows_of_segments g cursor 0 before)
+  full true d = sym (full_by_rows g cursor row.segment before within wide counted row.bucket d.0)
+  full false d = sym (open_by_rows g cursor row.segment before within wide counted row.bucket d.0)
 
   between_new : (low high : ℕ) → All (AreBetween g cursor low high) before → low ≤ row.place → row.place < high → AreBetween g cursor low high new
   between_new low high all least most =
@@ -104,6 +112,7 @@ module _ (g : Geometry) (cursor : ℕ) (row : StoredRow) (purged : Bool) (out : 
         takes = all_take g cursor row gone new (record { chains = []; free = [] }) 0 row.segment before within
             (subst (λ n. TakesRow row gone (rows_of_segment g cursor n (segment_at before row.segment)) (rows_of_segment g cursor n new)) (sym place) segment_takes);
         told = told;
+        full = full purged t.due;
         due = due;
         count = length-set before row.segment new;
         widths = All-set (λ (lists : Lists). length lists.chains ≡ g.buckets) before row.segment new (t.enters.width ∙ wide) widths;

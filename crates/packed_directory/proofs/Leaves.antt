@@ -25,13 +25,13 @@ use Rattle.packed_directory.proofs.Segments.{all_take}
 use Rattle.packed_directory.proofs.Under.{rows_under}
 use Rattle.packed_directory.proofs.Chained.{chain_all}
 
-any-filter : {X : Type 0} (p q : X → Bool) (xs : List X) → list_any (λ x. p x && q x) xs ≡ list_any q (filter p xs)
+pub any-filter : {X : Type 0} (p q : X → Bool) (xs : List X) → list_any (λ x. p x && q x) xs ≡ list_any q (filter p xs)
 any-filter p q [] = refl
 any-filter p q (x ∷ xs) =
     elim (p x) as (λ t. ((t && q x) || list_any (λ y. p y && q y) xs) ≡ list_any q (cond t (x ∷ filter p xs) (filter p xs)))
     [ true ↦ ap (λ (k : Bool). q x || k) (any-filter p q xs) | false ↦ any-filter p q xs ]
 
-any-map : {X Y : Type 0} (q : Y → Bool) (f : X → Y) (xs : List X) → list_any q (map f xs) ≡ list_any (λ x. q (f x)) xs
+pub any-map : {X Y : Type 0} (q : Y → Bool) (f : X → Y) (xs : List X) → list_any q (map f xs) ≡ list_any (λ x. q (f x)) xs
 any-map q f [] = refl
 any-map q f (x ∷ xs) = ap (λ (k : Bool). q (f x) || k) (any-map q f xs)
 

@@ -11,3 +11,5 @@ pub mod Leaves
 pub mod Readable
 pub mod Spelling
 pub mod Meaning
+pub mod Fullness
+pub mod Walking

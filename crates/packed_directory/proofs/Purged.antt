@@ -49,5 +49,5 @@ module _ (law : InsertEnters) (before : Lists) (b : ℕ) (e : Entry) (lt : b < l
           entered = entered_more (after_purge before) (inserted (after_purge before) b e) b (unlinked e) lt' set;
           width = set.width ∙ takes.width;
         };
-        due = (full, sym (length-map (map entry_of takes.gone) (λ (g : BucketEntry). g.entry)) ∙ ap (λ (q : List Entry). length q) tells ∙ count);
+        due = (full, sym (length-map (map entry_of takes.gone) (λ (g : BucketEntry). g.entry)) ∙ ap (λ (q : List Entry). length q) tells ∙ count, tells ∙ told);
       }

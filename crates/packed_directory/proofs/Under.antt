@@ -7,7 +7,7 @@ use Rattle.std.proofs.lemmas.List.Elements.{filter-append}
 use Rattle.std.proofs.Math.Bool.{and-false}
 use Rattle.tape_base.specs.declared.geometries.Geometry.{Geometry}
 use Rattle.dir_entry.specs.declared.entry.Entry.{Entry}
-use Rattle.dir_segment.specs.Lists.{Row, Lists, first_of_tag, rest_of_tag}
+use Rattle.dir_segment.specs.Lists.{Row, Lists, first_of_tag, rest_of_tag, steps_to}
 use Rattle.packed_directory.specs.declared.rows.StoredRow.{StoredRow}
 use Rattle.packed_directory.specs.Entering.{BucketEntry, entries_from}
 use Rattle.packed_directory.specs.StoredRows.{row_of_entry, rows_of_segment, rows_of_segments, is_spot}
@@ -126,3 +126,18 @@ some_of_tag tag (r ∷ rows) first some =
     elim (eqb r.entry.tag tag) as (λ t. cond t (Some r) (first_of_tag tag rows) ≡ Some first → cond t (r ∷ filter (λ (q : Row). eqb q.entry.tag tag) rows) (filter (λ (q : Row). eqb q.entry.tag tag) rows)
     ≡ first ∷ filter (λ (q : Row). eqb q.entry.tag tag) (cond t rows (rest_of_tag tag rows)))
     [ true ↦ λ q. let same : r ≡ first = cc q in ap (λ (k : Row). k ∷ filter (λ (p : Row). eqb p.entry.tag tag) rows) same | false ↦ λ q. some_of_tag tag rows first q ] some
+
+-- ---- the steps of a walk
+
+pub steps_none : (tag : ℕ) (rows : List Row) → first_of_tag tag rows ≡ None → steps_to tag rows ≡ length rows
+steps_none tag [] none = refl
+steps_none tag (r ∷ rows) none =
+    elim (eqb r.entry.tag tag) as (λ t. cond t (Some r) (first_of_tag tag rows) ≡ None → suc (cond t 0 (steps_to tag rows)) ≡ suc (length rows))
+    [ true ↦ λ q. absurd (cc q) | false ↦ λ q. ap suc (steps_none tag rows q) ] none
+
+pub steps_some : (tag : ℕ) (rows : List Row) (first : Row) → first_of_tag tag rows ≡ Some first → steps_to tag rows + length (rest_of_tag tag rows) ≡ length rows
+steps_some tag [] first some = absurd (cc some)
+steps_some tag (r ∷ rows) first some =
+    elim (eqb r.entry.tag tag) as (λ t. cond t (Some r) (first_of_tag tag rows) ≡ Some first
+    → suc (cond t 0 (steps_to tag rows)) + length (cond t rows (rest_of_tag tag rows)) ≡ suc (length rows))
+    [ true ↦ λ q. omega arith | false ↦ λ q. let rest = steps_some tag rows first q in omega (arith, rest) ] some

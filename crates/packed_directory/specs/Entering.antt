@@ -4,7 +4,7 @@ use Rattle.std.specs.List.Sorted.{IsPermutation}
 use Rattle.dir_entry.specs.declared.entry.Entry.{Entry}
 use Rattle.dir_segment.specs.Lists.{Row, Lists, IsFull}
 use Rattle.dir_segment.specs.Entries.{housed}
-use Rattle.dir_segment.specs.Purging.{tenth_of}
+use Rattle.dir_segment.specs.Purging.{purged, tenth_of}
 
 -- an entry of a bucket
 pub record BucketEntry : Type 0 where
@@ -22,9 +22,12 @@ pub record Enters (it : BucketEntry) (gone : List BucketEntry) (before after : L
   pub entered : IsPermutation (it ∷ left) (entries_from 0 after.chains)
   pub width : length after.chains ≡ length before.chains
 
--- only where its bucket is full entries go out, and then a tenth of all that can stand behind roots
+-- only where its bucket is full entries go out: of those behind the roots the first, the eleventh and so
+-- on in slot order, a tenth of all that can stand there
 abbrev pub GoOut : Bool → List BucketEntry → Lists → ℕ → Type 0
-GoOut true gone before bucket = IsFull before bucket × (length gone ≡ tenth_of (length before.chains))
+GoOut true gone before bucket =
+    IsFull before bucket × (length gone ≡ tenth_of (length before.chains))
+    × (map (λ g. g.entry) gone ≡ map (λ r. r.entry) (purged before))
 GoOut false gone before bucket = (IsFull before bucket → ⊥) × (gone ≡ [])
 
 -- a segment takes an entry in: what goes out, and whether anything does

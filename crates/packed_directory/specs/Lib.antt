@@ -1,5 +1,8 @@
+pub mod AllWalks
 pub mod Cleaned
 pub mod Entering
+pub mod FirstFault
+pub mod Full
 pub mod Leaving
 pub mod Packed
 pub mod PackedImage

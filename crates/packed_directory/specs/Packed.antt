@@ -8,12 +8,13 @@ use Rattle.tape_base.specs.Key.{segment_of, bucket_of, tag_of}
 use Rattle.tape_base.specs.Place.{lap_of, floor_of}
 use Rattle.dir_entry.specs.Sizes.{IsLeastClass}
 use Rattle.dir_entry.specs.declared.entry.Entry.{Entry}
-use Rattle.dir_segment.specs.Lists.{Lists, new_lists, entry_count, IsFull}
-use Rattle.dir_segment.specs.Purging.{tenth_of}
+use Rattle.dir_segment.specs.Lists.{Lists, new_lists, IsFull}
+use Rattle.dir_segment.specs.Purging.{purged, tenth_of}
 use Rattle.packed_directory.specs.declared.rows.StoredRow.{StoredRow}
-use Rattle.packed_directory.specs.Entering.{entries_from}
-use Rattle.packed_directory.specs.Phases.{IsCursor, least_place, place_of_entry, has_block, stands_between}
-use Rattle.packed_directory.specs.StoredRows.{rows_of_segments}
+use Rattle.packed_directory.specs.Entering.{BucketEntry, entries_from}
+use Rattle.packed_directory.specs.Full.{segment_rows, is_full}
+use Rattle.packed_directory.specs.Phases.{IsCursor, IsOfPlace, least_place, place_of_entry, has_block, stands_between}
+use Rattle.packed_directory.specs.StoredRows.{row_of_entry, rows_of_segments}
 
 -- what the last insert pushed out: the places, their segment, and how many rows that had before
 pub record PushedOut : Type 0 where
@@ -54,6 +55,11 @@ first_packed g segments = record {
 abbrev pub AreBetween : Geometry → ℕ → ℕ → ℕ → Lists → Type 0
 AreBetween g cursor low high lists = All (λ it. stands_between g cursor low high it.entry ≡ true) (entries_from 0 lists.chains)
 
+-- each entry of a segment has the block and the phase of the place that it stands for
+abbrev pub AreOfPlaces : Geometry → ℕ → Lists → Type 0
+AreOfPlaces g cursor lists =
+    All (λ it. IsOfPlace g (place_of_entry g cursor it.entry) it.entry) (entries_from 0 lists.chains)
+
 -- each entry stands for one place that may be read: it is there once its phase is read beside the cursor
 pub record IsPacked (g : Geometry) (cursor floor end : ℕ) (segments : List Lists) : Type 0 where
   pub begun : IsCursor g.content cursor
@@ -63,8 +69,11 @@ pub record IsPacked (g : Geometry) (cursor floor end : ℕ) (segments : List Lis
   pub widths : All (λ lists. length lists.chains ≡ g.buckets) segments
   pub between : All (AreBetween g cursor floor end) segments
 
--- a row stands at a place that may be read, in the cursor's lap or in the one before
+-- a row stands in a bucket of the geometry, at a place that may be read, in the cursor's lap or in the one
+-- before
 pub record IsReadable (g : Geometry) (cursor floor end : ℕ) (row : StoredRow) : Type 0 where
+  pub segment : row.segment < g.segments
+  pub bucket : row.bucket < g.buckets
   pub low : floor ≤ row.place
   pub high : row.place < end
   pub lap : lap_of g row.place ≤ lap_of g cursor
@@ -79,11 +88,19 @@ pub record MayBegin (d : Packed) (place : ℕ) : Type 0 where
 abbrev pub segment_at : List Lists → ℕ → Lists
 segment_at segments n = slice_index_or segments n (record { chains = []; free = [] })
 
+-- rows of a segment are those of the entries that a purge takes: of those behind the roots the first, the
+-- eleventh and so on, in slot order
+pub record ArePurged (g : Geometry) (cursor segment : ℕ) (lists : Lists) (gone : List StoredRow) : Type 0 where
+  pub its : List BucketEntry
+  pub are : gone ≡ map (λ it. row_of_entry g cursor segment it.bucket it.entry) its
+  pub entries : map (λ it. it.entry) its ≡ map (λ r. r.entry) (purged lists)
+
 -- only where the row's bucket is full rows go out, a tenth of all that can stand behind roots
-abbrev pub GoesOut : Bool → Geometry → Lists → StoredRow → List StoredRow → Type 0
-GoesOut true g lists row gone =
-    IsFull lists row.bucket × (length gone ≡ tenth_of g.buckets) × All (λ r. r.segment ≡ row.segment) gone
-GoesOut false g lists row gone = (IsFull lists row.bucket → ⊥) × (gone ≡ [])
+abbrev pub GoesOut : Bool → Geometry → ℕ → Lists → StoredRow → List StoredRow → Type 0
+GoesOut true g cursor lists row gone =
+    IsFull lists row.bucket × (length gone ≡ tenth_of g.buckets)
+    × All (λ r. r.segment ≡ row.segment) gone × ArePurged g cursor row.segment lists gone
+GoesOut false g cursor lists row gone = (IsFull lists row.bucket → ⊥) × (gone ≡ [])
 
 -- a row is taken in, and others go out
 pub record TakesRow (row : StoredRow) (gone before after : List StoredRow) : Type 0 where
@@ -96,7 +113,8 @@ pub record EntersRow (g : Geometry) (cursor : ℕ) (row : StoredRow) (purged : B
   pub gone : List StoredRow
   pub takes : TakesRow row gone (rows_of_segments g cursor 0 before) (rows_of_segments g cursor 0 after)
   pub told : map (λ r. r.place) gone ≡ map (place_of_entry g cursor) out
-  pub due : GoesOut purged g (segment_at before row.segment) row gone
+  pub full : purged ≡ is_full g row.segment row.bucket (rows_of_segments g cursor 0 before)
+  pub due : GoesOut purged g cursor (segment_at before row.segment) row gone
   pub count : length after ≡ length before
   pub widths : All (λ lists. length lists.chains ≡ g.buckets) after
   pub between : (low high : ℕ) → All (AreBetween g cursor low high) before → low ≤ row.place → row.place < high
@@ -131,10 +149,11 @@ pub record Inserts (key : Key) (place : ℕ) (piece : PieceEntered) (before afte
   pub is : IsRowOf before.geometry key place piece row
   pub takes : TakesRow row gone (packed_rows before) (packed_rows after)
   pub purged : Bool
-  pub due : GoesOut purged before.geometry (segment_at before.segments row.segment) row gone
+  pub full : purged ≡ is_full before.geometry row.segment row.bucket (packed_rows before)
+  pub due : GoesOut purged before.geometry before.cursor (segment_at before.segments row.segment) row gone
   pub places : after.out.places ≡ map (λ r. r.place) gone
   pub told : after.out.segment ≡ row.segment
-  pub live : after.out.live ≡ entry_count (segment_at before.segments row.segment).chains
+  pub live : after.out.live ≡ length (segment_rows row.segment (packed_rows before))
 
 -- the tape stays as it is, but for the end of the last piece
 pub record KeepsTape (end : ℕ) (before after : Packed) : Type 0 where

@@ -16,9 +16,13 @@ use Rattle.packed_directory.specs.StoredRows.{row_of_entry}
 abbrev pub segment_length : Geometry → ℕ
 segment_length g = 4 + 40 * g.buckets
 
+-- the bytes of all segments
+abbrev pub segments_length : Geometry → ℕ
+segments_length g = g.segments * segment_length g
+
 -- the blocks of an image
 abbrev pub image_blocks_of : Geometry → ℕ
-image_blocks_of g = (g.segments * segment_length g + 511) / 512
+image_blocks_of g = (segments_length g + 511) / 512
 
 -- the bytes of one segment of an image
 abbrev pub segment_image : Geometry → ℕ → List ℕ → List ℕ

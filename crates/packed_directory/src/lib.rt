@@ -14,7 +14,7 @@ pub use fault::ImageFault;
 pub use packed::PackedDirectory;
 pub use rows::{StoredRow, StoredSpot};
 pub use stored::StoredDirectory;
-pub use walks::PackedWalk;
+pub use walks::{AllWalk, PackedWalk};
 
 #[cfg(test)]
 mod tests;

@@ -1,5 +1,5 @@
 // A directory of packed entries.
-ghost use Rattle.std.specs.Prelude.{◌≡◌, ℕ, ◌&&◌, nat_le, nat_lt, slice_get, Some, ◌+◌, ◌-◌, ◌*◌, ◌^◌, ◌<◌, ◌≤◌, true, false, length, map, drop, replicate, All, IfOk, IfErr, OnOk, vec_capacity};
+ghost use Rattle.std.specs.Prelude.{◌≡◌, ℕ, [], ◌∷◌, IfSome, IfNone, ◌&&◌, nat_le, nat_lt, slice_get, Some, ◌+◌, ◌-◌, ◌*◌, ◌^◌, ◌<◌, ◌≤◌, true, false, length, map, drop, replicate, All, IfOk, IfErr, OnOk, vec_capacity};
 ghost use Rattle.dir_entry.specs.Layout.{IsEntry};
 ghost use Rattle.dir_entry.specs.Sizes.{IsLeastClass};
 ghost use Rattle.std.specs.List.{list_any};
@@ -9,9 +9,10 @@ ghost use Rattle.packed_directory.specs.Phases.{IsCursor, least_place, place_of_
 ghost use Rattle.packed_directory.specs.StoredRows.{entry_of_row, stored_from};
 ghost use Rattle.dir_segment.specs.Lists.{ticked};
 ghost use Rattle.packed_directory.specs.PackedImage.{image_blocks_of, image_segments, segment_length, entries_in, means, IsImage, IsImageFault};
-ghost use Rattle.packed_directory.specs.PackedWalks.{IsWalk, places_ahead, places_under, steps_ahead, GivesOn};
+ghost use Rattle.packed_directory.specs.PackedWalks.{IsWalk, chain_ahead, places_ahead, places_under, steps_ahead, GivesOn};
+ghost use Rattle.packed_directory.specs.AllWalks.{IsAllWalk, chain_left, rows_ahead, buckets_ahead};
 ghost use Rattle.packed_directory.specs.Cleaned.{AreCleaned, MayTurn};
-ghost use Rattle.packed_directory.specs.Packed.{packed_rows, none_out, AreBetween, IsPacked, IsReadable, EntersRow, first_packed, new_segments, MayBegin, Inserts, KeepsTape};
+ghost use Rattle.packed_directory.specs.Packed.{packed_rows, none_out, AreBetween, AreOfPlaces, IsPacked, IsReadable, EntersRow, first_packed, new_segments, MayBegin, Inserts, KeepsTape};
 
 use crate::beside::{Beside, entry_of};
 use crate::fault::ImageFault;
@@ -19,7 +20,7 @@ use crate::image::{count_entries, read_segments, write_segments};
 use crate::rows::{StoredRow, StoredSpot};
 use crate::space::{clean, take_in};
 use crate::stored::StoredDirectory;
-use crate::walks::PackedWalk;
+use crate::walks::{AllWalk, PackedWalk};
 use dir_entry::size_class;
 use dir_segment::{PurgeList, Segment, delete_takes};
 use std::alloc::{AllocError, Global};
@@ -182,7 +183,8 @@ fn tell(beside: &Beside, purge: &PurgeList, places: &mut Vec<u64>)
 
 impl PackedDirectory {
     pub fn new(alloc: Global, g: &Geometry) -> Result<PackedDirectory, AllocError>
-        ensures { IfOk result (λ d. d ≡ first_packed g.now (new_segments g.now)) }
+        ensures first { IfOk result (λ d. d ≡ first_packed g.now (new_segments g.now)) }
+        ensures rows { IfOk result (λ d. packed_rows d ≡ []) }
     {
         let segments = make_segments(alloc, g)?;
         let beside = Beside {
@@ -255,6 +257,7 @@ impl PackedDirectory {
             bucket: key.bucket(g),
             tag: key.tag(),
             after: None,
+            over: false,
         }
     }
 
@@ -264,15 +267,91 @@ impl PackedDirectory {
         ensures walk { IsWalk self.now walk.new }
         ensures gives { GivesOn (places_ahead self.now walk.old) result (places_ahead self.now walk.new) }
         ensures steps { steps.new ≡ ticked (steps_ahead self.now walk.old) steps.old }
+        ensures passed { steps_ahead self.now walk.old + length (chain_ahead self.now walk.new)
+            ≤ length (chain_ahead self.now walk.old) }
     {
+        if walk.over {
+            return None;
+        }
         let segment = &self.segments[walk.segment as usize];
         match segment.probe(walk.bucket, walk.tag, walk.after, steps) {
-            None => None,
+            None => {
+                walk.over = true;
+                None
+            }
             Some((slot, entry)) => {
                 walk.after = Some(slot);
                 Some(self.beside.place_of(&entry))
             }
         }
+    }
+
+    // Begins a walk over all rows.
+    fn begin_all(&self) -> AllWalk
+        ensures walk { IsAllWalk self.now result }
+        ensures rows { rows_ahead self.now result ≡ packed_rows self.now }
+    {
+        let _ = &self.floor;
+        AllWalk {
+            segment: 0,
+            bucket: 0,
+            after: None,
+        }
+    }
+
+    // Goes on to the next bucket, where no row of its own is left.
+    fn pass_bucket(&self, walk: &mut AllWalk)
+        requires walk { IsAllWalk self.now walk.old }
+        requires within { walk.old.segment < self.now.geometry.segments }
+        requires over { chain_left self.now walk.old ≡ [] }
+        ensures walk { IsAllWalk self.now walk.new }
+        ensures rows { rows_ahead self.now walk.new ≡ rows_ahead self.now walk.old }
+        ensures fewer { let g = self.now.geometry in
+            buckets_ahead g walk.new < buckets_ahead g walk.old }
+    {
+        walk.after = None;
+        if walk.bucket + 1 < self.beside.geometry.buckets {
+            walk.bucket += 1;
+            return;
+        }
+        walk.segment += 1;
+        walk.bucket = 0;
+    }
+
+    // The next row of the bucket at which a walk over all stands.
+    fn next_of_bucket(&self, walk: &mut AllWalk) -> Option<StoredRow>
+        requires walk { IsAllWalk self.now walk.old }
+        requires within { walk.old.segment < self.now.geometry.segments }
+        ensures walk { IsAllWalk self.now walk.new }
+        ensures some { IfSome result (λ row.
+            rows_ahead self.now walk.old ≡ row ∷ rows_ahead self.now walk.new) }
+        ensures none { IfNone result (walk.new ≡ walk.old) }
+        ensures over { IfNone result (chain_left self.now walk.old ≡ []) }
+    {
+        let segment = &self.segments[walk.segment as usize];
+        match segment.chain(walk.bucket, walk.after) {
+            None => None,
+            Some((slot, entry)) => {
+                walk.after = Some(slot);
+                Some(self.beside.row_of(walk.segment, walk.bucket, &entry))
+            }
+        }
+    }
+
+    // The next row of a walk over all.
+    fn next_of_all(&self, walk: &mut AllWalk) -> Option<StoredRow>
+        requires { IsAllWalk self.now walk.old }
+        ensures walk { IsAllWalk self.now walk.new }
+        ensures gives { GivesOn (rows_ahead self.now walk.old) result (rows_ahead self.now walk.new) }
+    {
+        while walk.segment < self.beside.geometry.segments {
+            let row = self.next_of_bucket(walk);
+            if row.is_some() {
+                return row;
+            }
+            self.pass_bucket(walk);
+        }
+        None
     }
 
     /// Takes the row of a key at a place out, and says whether it stood there.
@@ -290,13 +369,11 @@ impl PackedDirectory {
             bucket: key.bucket(g),
             tag: key.tag(),
         };
-        self.delete_row(&spot, place)
+        self.take_row(&spot, place)
     }
 
-    /// Takes the row of a segment, a bucket and a tag at a place out, and says whether it stood there.
-    pub fn delete_row(&mut self, spot: &StoredSpot, place: u64) -> bool
-        requires segment { spot.now.segment < self.old.geometry.segments }
-        requires bucket { spot.now.bucket < self.old.geometry.buckets }
+    // Takes the row of a segment, a bucket and a tag at a place out, and says whether it stood there.
+    fn take_row(&mut self, spot: &StoredSpot, place: u64) -> bool
         ensures found { let s = spot.now in
             result ≡ list_any (is_row s.segment s.bucket s.tag place) (packed_rows self.old) }
         ensures gone { let s = spot.now in
@@ -306,6 +383,9 @@ impl PackedDirectory {
         ensures tape { self.new ≡ record self.old { segments = self.new.segments } }
     {
         let g = &self.beside.geometry;
+        if spot.segment >= g.segments || spot.bucket >= g.buckets {
+            return false;
+        }
         if place < self.floor || lap(g, place) > lap(g, self.beside.cursor) {
             return false;
         }
@@ -348,10 +428,12 @@ impl PackedDirectory {
         self.live
     }
 
-    /// A law for proofs: each row may be read.
+    /// A law for proofs: each row stands in a bucket, and may be read; its entry has the block and the
+    /// phase of its place.
     pub fn rows_are_readable(&self)
-        ensures { let d = self.now in
+        ensures rows { let d = self.now in
             All (IsReadable d.geometry d.cursor d.floor d.end) (packed_rows d) }
+        ensures entries { let d = self.now in All (AreOfPlaces d.geometry d.cursor) d.segments }
     {
         let _ = &self.floor;
     }
@@ -421,13 +503,17 @@ impl PackedDirectory {
 impl StoredDirectory for PackedDirectory {
     ghost use Rattle.packed_directory.specs.Packed.{packed_rows};
     ghost use Rattle.packed_directory.specs.Stored.{tape_of};
-    ghost use Rattle.packed_directory.specs.PackedImage.{image_blocks_of, image_segments, entries_in, means, IsImage, IsImageFault};
+    ghost use Rattle.packed_directory.specs.FirstFault.{no_image, one_fault};
+    ghost use Rattle.packed_directory.specs.AllWalks.{IsAllWalk, rows_ahead};
+    ghost use Rattle.packed_directory.specs.PackedImage.{image_blocks_of, segments_length, image_segments, entries_in, means, IsImage, IsImageFault};
 
     ghost rows = { packed_rows };
 
     ghost tape = { tape_of };
 
     ghost blocks = { image_blocks_of };
+
+    ghost telling = { segments_length };
 
     ghost is_image = { IsImage };
 
@@ -436,6 +522,14 @@ impl StoredDirectory for PackedDirectory {
     ghost means = { means };
 
     ghost stored = { λ g bytes. entries_in (image_segments g bytes) };
+
+    ghost walks_all = { IsAllWalk };
+
+    ghost left = { rows_ahead };
+
+    ghost accepted = { no_image };
+
+    ghost first = { one_fault };
 
     fn image_blocks(g: &Geometry) -> u64 {
         (g.segments as u64 * (4 + 40 * g.buckets as u64)).div_ceil(512)
@@ -457,5 +551,17 @@ impl StoredDirectory for PackedDirectory {
 
     fn entries(alloc: Global, g: &Geometry, bytes: &[u8]) -> Result<u64, ImageFault> {
         PackedDirectory::count_image(alloc, g, bytes)
+    }
+
+    fn all(&self) -> AllWalk {
+        self.begin_all()
+    }
+
+    fn step_all(&self, walk: &mut AllWalk) -> Option<StoredRow> {
+        self.next_of_all(walk)
+    }
+
+    fn delete_row(&mut self, spot: &StoredSpot, place: u64) -> bool {
+        self.take_row(spot, place)
     }
 }

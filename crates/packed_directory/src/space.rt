@@ -1,6 +1,7 @@
 // One segment: what an entry pushes out.
 ghost use Rattle.std.specs.Prelude.{◌≡◌, ◌<◌, length};
 ghost use Rattle.dir_entry.specs.Layout.{IsEntry};
+ghost use Rattle.dir_segment.specs.Entries.{AreCounted};
 ghost use Rattle.dir_segment.specs.Lists.{unlinked};
 ghost use Rattle.packed_directory.specs.Cleaned.{IsCleaned};
 ghost use Rattle.packed_directory.specs.Entering.{TakesIn};
@@ -17,9 +18,11 @@ pub fn take_in(segment: &mut Segment, bucket: u32, entry: Entry, out: &mut Purge
     requires made { out.old.buckets ≡ length segment.old.chains }
     ensures takes { TakesIn (record { bucket = bucket; entry = unlinked entry }) result
         out.new.entries segment.old segment.new }
+    ensures counted { AreCounted segment.old }
     ensures made { out.new.buckets ≡ out.old.buckets }
 {
     insert_enters();
+    segment.is_counted();
     out.clear();
     match segment.insert(bucket, entry) {
         Inserted::Inserted => false,

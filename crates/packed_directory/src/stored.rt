@@ -1,15 +1,23 @@
 // A directory that has an image on a device.
-ghost use Rattle.std.specs.Prelude.{◌≡◌, ℕ, ◌-◌, ◌*◌, ◌^◌, ◌≤◌, List, length, IfOk, IfErr, OnOk};
+ghost use Rattle.std.specs.Prelude.{◌≡◌, true, false, ℕ, ◌-◌, ◌*◌, ◌^◌, ◌≤◌, List, length, drop, replicate, IfOk, IfErr, OnOk};
+ghost use Rattle.std.specs.List.{list_any};
 ghost use Rattle.std.specs.List.Sorted.{IsPermutation};
 ghost use Rattle.tape_base.specs.Place.{lap_end_of};
 ghost use Rattle.tape_base.specs.declared.geometries.Geometry.{Geometry as GeometryValue};
+ghost use Rattle.dir_segment.specs.declared.fault.SegmentFault.{SegmentFault as SegmentFaultValue};
 ghost use Rattle.packed_directory.specs.declared.fault.ImageFault.{ImageFault as ImageFaultValue};
+ghost use Rattle.packed_directory.specs.declared.fault.ImageFault.TheVariants.{Segment};
 ghost use Rattle.packed_directory.specs.declared.rows.StoredRow.{StoredRow};
+ghost use Rattle.packed_directory.specs.declared.walks.AllWalk.{AllWalk as AllWalkValue};
+ghost use Rattle.packed_directory.specs.Leaving.{is_row, LosesRow};
+ghost use Rattle.packed_directory.specs.PackedWalks.{GivesOn};
 ghost use Rattle.packed_directory.specs.Phases.{IsCursor, least_place};
 ghost use Rattle.packed_directory.specs.StoredRows.{stored_from};
 ghost use Rattle.packed_directory.specs.Stored.{TapeSpan, Tells};
 
 use crate::fault::ImageFault;
+use crate::rows::{StoredRow, StoredSpot};
+use crate::walks::AllWalk;
 use std::alloc::Global;
 use tape_base::Geometry;
 
@@ -24,6 +32,9 @@ pub trait StoredDirectory: Sized {
     /// The blocks of an image.
     ghost blocks: { GeometryValue → ℕ };
 
+    /// The bytes of an image that tell rows: up to the last block's end the others are zero.
+    ghost telling: { GeometryValue → ℕ };
+
     /// Bytes are an image.
     ghost is_image: { GeometryValue → List ℕ → Type 0 };
 
@@ -35,6 +46,12 @@ pub trait StoredDirectory: Sized {
 
     /// How many entries an image has.
     ghost stored: { GeometryValue → List ℕ → ℕ };
+
+    /// A walk over all rows was made of this state.
+    ghost walks_all: { Self → AllWalkValue → Type 0 };
+
+    /// The rows that such a walk has left.
+    ghost left: { Self → AllWalkValue → List StoredRow };
 
     fn image_blocks(g: &Geometry) -> u64
         ensures count { result ≡ blocks g.now }
@@ -48,7 +65,9 @@ pub trait StoredDirectory: Sized {
             (t.end ≤ cursor) × (cursor ≤ lap_end_of t.geometry t.cursor) }
         ensures sound { is_image (tape self.now).geometry into.new }
         ensures rows { let g = (tape self.now).geometry in
-            Tells (cursor - g.content) (rows self.now) (means g cursor into.new) };
+            Tells (cursor - g.content) (rows self.now) (means g cursor into.new) }
+        ensures zero { let end = telling (tape self.now).geometry in
+            drop end into.new ≡ replicate (length into.old - end) 0 };
 
     /// The directory of an image, beside its cursor, from a floor on.
     fn from_image(
@@ -74,4 +93,32 @@ pub trait StoredDirectory: Sized {
         ensures count { IfOk result (λ n. n ≡ stored g.now bytes.now) }
         ensures sound { OnOk result (is_image g.now bytes.now) }
         ensures fault { IfErr result (refuses g.now bytes.now) };
+
+    /// Begins a walk over all rows.
+    fn all(&self) -> AllWalk
+        ensures walk { walks_all self.now result }
+        ensures rows { IsPermutation (rows self.now) (left self.now result) };
+
+    /// The next row of a walk over all.
+    fn step_all(&self, walk: &mut AllWalk) -> Option<StoredRow>
+        requires { walks_all self.now walk.old }
+        ensures walk { walks_all self.now walk.new }
+        ensures gives { GivesOn (left self.now walk.old) result (left self.now walk.new) };
+
+    /// Takes one row of a segment, a bucket and a tag at a place out, and says whether it stood there.
+    fn delete_row(&mut self, spot: &StoredSpot, place: u64) -> bool
+        ensures found { let s = spot.now in
+            result ≡ list_any (is_row s.segment s.bucket s.tag place) (rows self.old) }
+        ensures gone { let s = spot.now in result ≡ true → LosesRow
+            (is_row s.segment s.bucket s.tag place) (rows self.old) (rows self.new) }
+        ensures none { result ≡ false → rows self.new ≡ rows self.old }
+        ensures tape { tape self.new ≡ tape self.old };
+
+    /// No image is refused.
+    ghost accepted: { (g : GeometryValue) (bytes : List ℕ) (n : ℕ) (fault : SegmentFaultValue)
+        → is_image g bytes → refuses g bytes (Segment n fault) → ⊥ };
+
+    /// Bytes have one first fault.
+    ghost first: { (g : GeometryValue) (bytes : List ℕ) (n m : ℕ) (f h : SegmentFaultValue)
+        → refuses g bytes (Segment n f) → refuses g bytes (Segment m h) → (n ≡ m) × (f ≡ h) };
 }

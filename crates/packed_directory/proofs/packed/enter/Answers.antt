@@ -2,6 +2,7 @@ use Rattle.std.proofs.Common.{◌≡◌, [], ap, subst, ◌∙◌}
 use Rattle.std.proofs.lemmas.List.{get_or_default}
 use Rattle.dir_entry.specs.declared.entry.Entry.{Entry}
 use Rattle.dir_segment.specs.Lists.{Lists, unlinked}
+use Rattle.dir_segment.specs.Entries.{AreCounted}
 use Rattle.packed_directory.specs.Entering.{TakesIn}
 use Rattle.packed_directory.specs.Packed.{segment_at}
 use Rattle.packed_directory.specs.StoredRows.{entry_of_row}
@@ -22,4 +23,5 @@ returns-clause-enters c =
     let takes : TakesIn (in_bucket row.bucket (entry_of_row g row)) c.take_in.result out (segment_at before row.segment) new =
     subst (λ (l : Lists). TakesIn (in_bucket row.bucket (entry_of_row g row)) c.take_in.result out l new) same
     (subst (λ (e : Entry). TakesIn (in_bucket row.bucket e) c.take_in.result out c.index_mut-segment.result.now new) entry c.take_in.ensures.takes) in
-    enters_row g c.args.beside.now.cursor row c.take_in.result out before new c.requires.segment c.requires.widths c.requires.place takes
+    let counted : AreCounted (segment_at before row.segment) = subst AreCounted same c.take_in.ensures.counted in
+    enters_row g c.args.beside.now.cursor row c.take_in.result out before new c.requires.segment c.requires.widths c.requires.place takes counted
