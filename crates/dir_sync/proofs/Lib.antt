@@ -1,0 +1,5 @@
+pub mod Touched
+pub mod Stages
+pub mod Passes
+pub mod Syncs
+pub mod Writings

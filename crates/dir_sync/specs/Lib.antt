@@ -1,0 +1,11 @@
+pub mod SyncCalls
+pub mod Moments
+pub mod Laws
+pub mod Passes
+pub mod Runs
+pub use Rattle.device_log.specs.Image
+pub use Rattle.device_log.specs.Calls
+pub use Rattle.device_log.specs.Along
+pub use Rattle.stripe_header.specs.Layout
+pub use Rattle.stripe_header.specs.Spelling
+pub use Rattle.logged_disk.specs.Device

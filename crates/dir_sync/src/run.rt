@@ -1,0 +1,215 @@
+// A sync of the directory into one of its copies.
+ghost use Rattle.std.specs.Prelude.{◌≡◌, ◌≤◌, ◌<◌, ◌+◌, ◌-◌, ◌*◌, ◌/◌, ◌⊎◌, length, true, false, min, OnOk, OnErr, IfOk, IfErr, IsTrue};
+ghost use Rattle.logged_disk.specs.Device.{Keeps, Leaves, Elapses};
+ghost use Rattle.device_log.specs.Along.{ButFor, Stopped};
+ghost use Rattle.stripe_header.specs.Layout.{device_blocks, body_blocks, gate_of};
+ghost use Rattle.stripe_header.specs.Spelling.{numbers_of, may_say, copy_bytes};
+ghost use Rattle.stripe_header.specs.Reading.{bytes_at};
+ghost use Rattle.dir_sync.specs.SyncCalls.{shutting_calls, past_behind};
+ghost use Rattle.dir_sync.specs.Moments.{IsShut, IsReplaced, Stands};
+ghost use Rattle.dir_sync.specs.Passes.{StandsOn, pass_after};
+ghost use Rattle.dir_sync.specs.Laws.{past_done, begun_pass, pass_behind, given_up, Halts};
+
+use crate::laws::a_copy_is_shut_or_whole;
+use crate::parts::{Halt, put_body, put_first, put_last, shut_gate};
+use crate::progress::Progress;
+use edge_io::Failed;
+use logged_disk::Disk;
+use stripe_header::{Area, CopyState, Side, write_body};
+
+// Shuts the gate where a pass begins, writes the next blocks, and opens the gate behind the last.
+fn write_parts<D: Disk>(
+    disk: &mut D,
+    area: &Area,
+    side: Side,
+    body: &[u8],
+    p: Progress,
+    n: u64,
+) -> Result<(), Halt>
+    requires whole { length body.now ≡ 512 * body_blocks area.now }
+    requires some { 0 < n }
+    requires next { p.written + n ≤ body_blocks area.now }
+    requires begun { p.begun ≡ true → p.shut ≡ true }
+    requires within { device_blocks area.now ≤ (D.state disk.old).size }
+    requires calls { 6 ≤ (D.state disk.old).calls }
+    requires blocks { n + 2 ≤ (D.state disk.old).blocks }
+    ensures keeps { Keeps 6 (n + 2) (D.state disk.old) (D.state disk.new) }
+    ensures went { OnOk result ((D.state disk.new).past
+        ≡ past_done area.now side body.now p n (D.state disk.old).past) }
+    ensures halts { IfErr result (λ h. Halts area.now side body.now p n h.count h.shut
+        (D.state disk.old).past (D.state disk.new).past × (h.count ≡ (D.state disk.new).faults)) }
+{
+    put_first(disk, side, p)?;
+    put_body(disk, area, side, body, p, n)?;
+    put_last(disk, area, side, p, n)
+}
+
+// The same, as a cut sees it.
+fn advance<D: Disk>(
+    disk: &mut D,
+    area: &Area,
+    side: Side,
+    body: &[u8],
+    p: Progress,
+    n: u64,
+) -> Result<(), Halt>
+    requires whole { length body.now ≡ 512 * body_blocks area.now }
+    requires some { 0 < n }
+    requires next { p.written + n ≤ body_blocks area.now }
+    requires begun { p.begun ≡ true → p.shut ≡ true }
+    requires within { device_blocks area.now ≤ (D.state disk.old).size }
+    requires calls { 6 ≤ (D.state disk.old).calls }
+    requires blocks { n + 2 ≤ (D.state disk.old).blocks }
+    ensures keeps { Keeps 6 (n + 2) (D.state disk.old) (D.state disk.new) }
+    ensures went { OnOk result ((D.state disk.new).past
+        ≡ past_done area.now side body.now p n (D.state disk.old).past) }
+    ensures halts { IfErr result (λ h. Halts area.now side body.now p n h.count h.shut
+        (D.state disk.old).past (D.state disk.new).past × (h.count ≡ (D.state disk.new).faults)) }
+    ensures moments { StandsOn area.now side body.now p (D.state disk.old)
+        → Elapses (IsReplaced area.now side body.now (Leaves (D.state disk.old)))
+        (D.state disk.old) (D.state disk.new) }
+    ensures stands { StandsOn area.now side body.now p (D.state disk.old)
+        → StandsOn area.now side body.now (pass_after area.now p n result) (D.state disk.new) }
+{
+    write_parts(disk, area, side, body, p, n)
+}
+
+/// Why a sync did not go on: the count of the device's faults.
+#[derive(Clone, Copy, Debug, Drop, PartialEq, Eq)]
+pub struct SyncFault {
+    pub count: u64,
+}
+
+/// How far a sync is.
+#[derive(Clone, Copy, Debug, Drop, PartialEq, Eq)]
+pub enum SyncState {
+    /// So many blocks of the body are left.
+    Running { left: u64 },
+    Done { serial: u64 },
+}
+
+/// A sync that was begun. It keeps one body, and takes no memory.
+#[derive(Drop)]
+pub struct SyncRun {
+    area: Area,
+    target: Side,
+    state: CopyState,
+    body: Vec<u8>,
+    progress: Progress,
+    ghost whole: { length body.items ≡ 512 * body_blocks area },
+    ghost begun: { progress.begun ≡ true → progress.shut ≡ true },
+    ghost within: { progress.written ≤ body_blocks area },
+}
+
+impl SyncRun {
+    ghost use Rattle.dir_sync.specs.Runs.{IsSameSync, RunStands, IsBegun, WentOn, Halted, left_of};
+
+    /// Spells the copy and shuts its gate. The body has its directory in place. After a failure it
+    /// comes back, and the gate is known to be shut where it was.
+    pub fn begin<D: Disk>(
+        disk: &mut D,
+        area: &Area,
+        target: Side,
+        shut: bool,
+        state: CopyState,
+        body: Vec<u8>,
+    ) -> Result<SyncRun, (SyncFault, Vec<u8>)>
+        requires whole { length body.items ≡ 512 * body_blocks area.now }
+        requires says { IsTrue (may_say area.now.geometry state) }
+        requires within { device_blocks area.now ≤ (D.state disk.old).size }
+        requires calls { 2 ≤ (D.state disk.old).calls }
+        requires blocks { 1 ≤ (D.state disk.old).blocks }
+        ensures keeps { Keeps 2 1 (D.state disk.old) (D.state disk.new) }
+        ensures run { IfOk result (λ run. IsBegun area.now target state body.items run
+            × ((D.state disk.new).past
+            ≡ past_behind (shutting_calls target shut) (D.state disk.old).past)) }
+        ensures back { IfErr result (λ e. (e.1.items ≡ copy_bytes 2 (numbers_of area.now.geometry)
+            state (bytes_at 512 (length body.items - 1024) body.items))
+            × Stopped (shutting_calls target shut) e.0.count
+            (D.state disk.old).past (D.state disk.new).past
+            × (e.0.count ≡ (D.state disk.new).faults)) }
+    {
+        let mut body = body;
+        write_body(&area.geometry, &state, &mut body);
+        match shut_gate(disk, target, shut) {
+            Ok(()) => Ok(SyncRun {
+                area: *area,
+                target,
+                state,
+                body,
+                progress: Progress {
+                    begun: true,
+                    shut: true,
+                    written: 0,
+                },
+            }),
+            Err(Failed) => Err((
+                SyncFault {
+                    count: disk.faults(),
+                },
+                body,
+            )),
+        }
+    }
+
+    // Writes the next blocks.
+    fn go_on<D: Disk>(&mut self, disk: &mut D, n: u64) -> Result<(), SyncFault>
+        requires some { 0 < n }
+        requires next { n ≤ left_of self.old }
+        requires within { device_blocks self.old.area ≤ (D.state disk.old).size }
+        requires calls { 6 ≤ (D.state disk.old).calls }
+        requires blocks { n + 2 ≤ (D.state disk.old).blocks }
+        ensures keeps { Keeps 6 (n + 2) (D.state disk.old) (D.state disk.new) }
+        ensures same { IsSameSync self.old self.new }
+        ensures went { OnOk result (WentOn self.old self.new n
+            (D.state disk.old).past (D.state disk.new).past) }
+        ensures halts { IfErr result (λ f. Halted self.old self.new n f.count
+            (D.state disk.old).past (D.state disk.new).past
+            × (f.count ≡ (D.state disk.new).faults)) }
+        ensures moments { RunStands self.old (D.state disk.old)
+            → Elapses (IsReplaced self.old.area self.old.target self.old.body.items
+            (Leaves (D.state disk.old))) (D.state disk.old) (D.state disk.new) }
+        ensures stands { RunStands self.old (D.state disk.old)
+            → RunStands self.new (D.state disk.new) }
+    {
+        match advance(disk, &self.area, self.target, &self.body, self.progress, n) {
+            Ok(()) => {
+                let written = self.progress.written + n;
+                self.progress = Progress {
+                    begun: written != self.area.body_blocks(),
+                    shut: written != self.area.body_blocks(),
+                    written,
+                };
+                Ok(())
+            }
+            Err(halt) => {
+                self.progress = Progress {
+                    begun: false,
+                    shut: halt.shut,
+                    written: 0,
+                };
+                Err(SyncFault { count: halt.count })
+            }
+        }
+    }
+
+    /// Whether the gate of the copy is known to be shut.
+    pub fn shut(&self) -> bool
+        ensures { result ≡ self.now.progress.shut }
+    {
+        self.progress.shut
+    }
+
+    /// The blocks of the body that are left to write.
+    pub fn left(&self) -> u64
+        ensures { result ≡ left_of self.now }
+    {
+        self.area.body_blocks() - self.progress.written
+    }
+
+    pub fn into_body(self) -> Vec<u8>
+        ensures { result.items ≡ self.body.items }
+    {
+        self.body
+    }
+}
