@@ -1,7 +1,10 @@
 -- What was found in a list.
 use Rattle.std.proofs.Common.{◌≡◌, ℕ, List, [], ◌∷◌, Bool, true, false, refl, sym, ◌∙◌, ap, subst, eqb-true}
 use Rattle.std.specs.Prelude.{Option, Some, None, option_map, unwrap_or, cond, find, ◌==◌}
-use Rattle.cache_model.specs.State.{State, PutRow, put_of}
+use Rattle.fragment_table.specs.Table.{TableRow}
+use Rattle.cache_model.specs.declared.answer.NextAnswer.TheVariants as next
+use Rattle.cache_model.specs.State.{State, PutRow, ReaderRow, Writing, Open, Closed, GivenUp, put_of}
+use Rattle.cache_model.specs.Verdict
 use Rattle.cache_model.specs.Verdict.{cuts_of}
 
 pub no_truth : {X : Type 0} → true ≡ false → X
@@ -29,3 +32,16 @@ number_of s put w found = eqb-true w.put put (found_passes (λ p. p.put == put) 
 -- and what was cut for it is what was cut for its number
 pub cuts_found : (s : State) (put : ℕ) (w : PutRow) → put_of s put ≡ Some w → cuts_of s put ≡ w.cuts
 cuts_found s put w found = ap (λ (o : Option PutRow). unwrap_or (option_map (λ (p : PutRow). p.cuts) o) []) found
+
+written_gives_none : (p : PutRow) (w : Writing) (index n : ℕ) → Verdict.verdict_of_writing p w ≡ next.Gave index n → ⊥
+written_gives_none p Open index n h = cc
+written_gives_none p Closed index n h = cc
+written_gives_none p GivenUp index n h = cc
+
+followed_gives_none : (o : Option PutRow) (index n : ℕ) → Verdict.verdict_of_followed o ≡ next.Gave index n → ⊥
+followed_gives_none None index n h = cc
+followed_gives_none (Some p) index n h = written_gives_none p p.writing index n h
+
+pub end_gives_none : (s : State) (r : ReaderRow) (t : Option (List TableRow)) (index n : ℕ) → Verdict.verdict_at_end s r t ≡ next.Gave index n → ⊥
+end_gives_none s r (Some table) index n h = cc
+end_gives_none s r None index n h = followed_gives_none (put_of s r.put) index n h

@@ -1,7 +1,7 @@
 -- Lists of rows in rising place, of pieces that differ.
 use Rattle.std.proofs.Common.{◌≡◌, ℕ, ◌+◌, ◌<◌, ◌≤◌, List, [], ◌∷◌, ◌++◌, refl, arith, Bool, true, false, cond}
 use Rattle.std.specs.Prelude.{not, Some, ◌==◌}
-use Rattle.std.specs.List.{filter}
+use Rattle.std.specs.List.{AllByRecursion, filter}
 use Rattle.std.specs.Map.{lookup}
 use Rattle.tape_base.specs.declared.pieces.PieceId.{PieceId}
 use Rattle.tape_base.specs.Piece.{same_piece}
@@ -99,3 +99,9 @@ known-more places place id low (row ∷ rows) r h =
 pub known-append : (places : List (ℕ × PieceId)) (rows : List Row) (row : Row) → AreKnown places rows → lookup (λ p. p == row.place) places ≡ Some row.id → AreKnown places (rows ++ row ∷ [])
 known-append places [] row h e = (e, tt)
 known-append places (x ∷ rows) row h e = (h.0, known-append places rows row h.1 e)
+
+-- what holds of each row holds of each of a part
+pub each_part : {some all : List Row} (P : Row → Type 0) → ArePart some all → AllByRecursion P all → AllByRecursion P some
+each_part P done each = tt
+each_part P (keep p) each = (each.0, each_part P p each.1)
+each_part P (skip p) each = each_part P p each.1

@@ -12,8 +12,7 @@ use Rattle.cache_model.specs.Verdict.{if_at, if_still_at, piece_at}
 use Rattle.cache_model.specs.Permit.{IsAmong}
 use Rattle.cache_model.specs.Tape.{AreApart, AreRising, IsSound, NotAmong}
 use Rattle.cache_model.proofs.Known.{live_is_known}
-use Rattle.cache_model.specs.Due.{due_pieces, is_due}
-use Rattle.cache_model.specs.FlushLaws.{rows_from}
+use Rattle.cache_model.specs.Due.{due_pieces, is_due, rows_from}
 
 -- ---- one test behind the other
 

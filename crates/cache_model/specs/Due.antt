@@ -21,3 +21,7 @@ is_due s now row = nat_lt now row.pin || is_awaited s row.id
 -- the live pieces that the next floor passes and that are due, in rising place
 abbrev pub due_pieces : State → ℕ → List Row
 due_pieces s now = filter (λ row. nat_lt row.place (floor_next s) && is_due s now row) (live_rows s)
+
+-- the pieces that stand from one place on, and below another
+abbrev pub rows_from : State → ℕ → ℕ → List Row
+rows_from s low high = filter (λ row. nat_le low row.place && nat_lt row.place high) s.rows

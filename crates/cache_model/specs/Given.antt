@@ -1,10 +1,10 @@
 -- What the device gave for a piece in a step, or that it refused: what was read, what is damaged, and
 -- the trouble with a piece that is asked for.
-use Rattle.std.specs.Prelude.{ℕ, ◌≡◌, ◌≢◌, ◌*◌, ◌<◌, ◌≤◌, List, [], ◌∷◌, length, Option, Some, None, max}
+use Rattle.std.specs.Prelude.{ℕ, ◌≡◌, ◌≢◌, ◌*◌, ◌<◌, ◌≤◌, List, [], ◌∷◌, length, take, Option, Some, None, max}
 use Rattle.hex.specs.Hex.{IsBytes}
 use Rattle.edge_io.specs.Causes.{Rose}
 use Rattle.tape_base.specs.declared.digests.Digest.{Digest}
-use Rattle.doc_header.specs.Reading.{document_digest}
+use Rattle.doc_header.specs.Reading.{document_digest, payload_of}
 use Rattle.cache_model.specs.declared.cause.Cause.{Cause}
 use Rattle.cache_model.specs.declared.cause.Cause.TheVariants as cause
 use Rattle.cache_model.specs.declared.record.Rec.{Rec}
@@ -60,3 +60,13 @@ pub data Trouble (p : Permit) (s : State) (row : Row) : List Rec → Cause → T
       → Trouble p s row (rec.Fault count ∷ []) (cause.DeviceFault count)
   damaged : (found : Digest) → IsDamaged p s row found
       → Trouble p s row (damage_record row row.digest found ∷ []) (damage_cause row row.digest found)
+
+-- the document of a live piece was read, and this is its payload
+pub record IsDocumentOf (p : Permit) (s : State) (row : Row) (size : ℕ) (into : List ℕ) : Type 0 where
+  pub bytes : List ℕ
+  pub whole : length bytes ≡ 512 * row.blocks
+  pub of_bytes : IsBytes bytes
+  pub digest : row.digest ≡ document_digest bytes
+  pub given : IsWritten s row → IsGiven p s row bytes
+  pub size_is : size ≡ length (payload_of bytes)
+  pub payload : take size into ≡ payload_of bytes

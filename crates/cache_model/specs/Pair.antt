@@ -1,18 +1,16 @@
 -- Two documents of one SHA-256: the one as which a live piece was placed, and other bytes for it. What a
 -- promise loses where SHA-256 fails, it loses by such a pair alone.
-use Rattle.std.specs.Prelude.{ℕ, ◌≡◌, ◌++◌, true, List, [], ◌∷◌, take, Some}
-use Rattle.hex.specs.Hex.{IsBytes}
+use Rattle.std.specs.Prelude.{ℕ, ◌≡◌, ◌++◌, List, [], ◌∷◌, take, Some}
 use Rattle.tape_base.specs.declared.keys.Key.{Key}
 use Rattle.tape_base.specs.Digest.{Collide}
 use Rattle.doc_header.specs.Reading.{extent_of}
 use Rattle.cache_model.specs.declared.record.Rec.{Rec}
 use Rattle.cache_model.specs.State.{State, Row, after_all, live_row_of}
 use Rattle.cache_model.specs.Verdict.{live_vector_of}
-use Rattle.cache_model.specs.Permit.{Intent, IsAmong, Permit, Work, to_do}
+use Rattle.cache_model.specs.Permit.{Intent, Permit, Work, to_do}
 use Rattle.cache_model.specs.Given.{IsGiven, IsWritten}
-use Rattle.cache_model.specs.Due.{due_pieces}
-use Rattle.cache_model.specs.Legal.{CanFlush, MayGrow}
-use Rattle.cache_model.specs.Choices.{flushes_first, to_read}
+use Rattle.cache_model.specs.Legal.{MayGrow}
+use Rattle.cache_model.specs.ToRead.{IsCopied, IsToRead}
 
 -- which documents a row may have been placed as
 abbrev pub Documents : Type 1
@@ -34,17 +32,11 @@ pub record IsKeyPair (IsPlaced : Documents) (p : Permit) (s : State) (key : Key)
   pub vector : live_vector_of s key ≡ Some row
   pub pair : IsPairOf IsPlaced p s row
 
--- or one that a flush at this moment is to copy
-pub record IsCopyPair (IsPlaced : Documents) (p : Permit) (s : State) (now : ℕ) : Type 0 where
+-- or one to which a flush at this moment comes, with so much of its budget left
+pub record IsCopyPair (IsPlaced : Documents) (p : Permit) (s : State) (now left : ℕ) : Type 0 where
   pub row : Row
-  pub due : IsAmong row (due_pieces s now)
-  pub written : IsWritten s row
+  pub copied : IsCopied p s now left row
   pub pair : IsPairOf IsPlaced p s row
-
--- what is read for what is asked: the piece that is asked for, or one that the flush is to copy with which it begins
-pub data IsToRead (p : Permit) (s : State) (i : Intent) (row : Row) : Type 0 where
-  asked_for : to_read s i ≡ Some row → IsToRead p s i row
-  copied : flushes_first s i ≡ true → CanFlush s → IsWritten s row → IsAmong row (due_pieces s p.now) → IsToRead p s i row
 
 -- a pair of a piece that is read for what is asked
 pub record IsPair (IsPlaced : Documents) (p : Permit) (s : State) (i : Intent) : Type 0 where
@@ -71,13 +63,3 @@ abbrev pub ShowsPair : Documents → Permit → State → List Intent → List R
 ShowsPair IsPlaced p s intents added = ShowsFrom IsPlaced p s (to_do intents) added
 
 -- ---- laws
-
--- both sides of a pair are bytes
-abbrev pub PairsAreBytes : Documents → Type 0
-PairsAreBytes IsPlaced = (p : Permit) (s : State) (row : Row) (pair : IsPairOf IsPlaced p s row)
-    → IsBytes (take (extent_of pair.bytes) pair.bytes) × IsBytes pair.document
-
--- of a piece that was written out no pair is shown in a step in which the device gave nothing for its place
-abbrev pub PairsAreGiven : Documents → Type 0
-PairsAreGiven IsPlaced = (p : Permit) (s : State) (row : Row) → IsWritten s row
-    → ((bytes : List ℕ) → IsAmong (record { place = row.place; bytes = bytes }) p.reads → ⊥) → IsPairOf IsPlaced p s row → ⊥

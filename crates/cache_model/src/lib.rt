@@ -8,19 +8,5 @@ mod record;
 
 pub use answer::{NextAnswer, ReadAnswer};
 pub use cause::Cause;
-pub use laws::{
-    all_is_cut_first, answered_is_tried, asked_is_answered, complete_is_hit, due_are_found,
-    empty_flush, end_is_whole, faults_rise, floor_is_last, flush_is_sound, flush_tells,
-    followed_is_closed, formats_tell, formatted_is_empty, fragment_is_cut, front_is_backed,
-    given_are_tried, given_is_own, given_is_read, group_is_fixed, groups_agree, groups_tell,
-    hit_is_read, hit_matches, kept_are_chosen, legal_is_sound, live_is_known, live_is_removed,
-    live_vector_is_listed, lookup_is_one, merged_is_spelled, moved_is_there, nothing_asked,
-    numbers_follow, one_group, outcomes_are_fixed, outcomes_are_found, outcomes_are_tried,
-    pairs_are_given, passed_is_missed, passed_is_not_live, place_follows, place_is_last,
-    reader_is_closed, refusal_ends, removed_is_missed, replaced_is_nowhere, steps_agree,
-    steps_are_sound, steps_tell, stopped_is_backed, stopped_is_sound, stopped_tells,
-    taken_is_nowhere, too_large_is_not_placed, trouble_is_backed, vector_is_last,
-    vector_is_read_back, vectors_are_kept, waits_for_open, walk_finds, walk_goes_on,
-    writer_is_ended,
-};
+pub use laws::{live_vector_is_listed, vector_is_read_back};
 pub use record::Rec;

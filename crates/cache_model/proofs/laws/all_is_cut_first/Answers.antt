@@ -1,5 +1,0 @@
-use Rattle.cache_model.proofs.Asked.{all_is_cut_first}
-use Rattle.cache_model.proofs.laws.all_is_cut_first.Goals as goal
-
-pub returns : goal.returns
-returns c = all_is_cut_first

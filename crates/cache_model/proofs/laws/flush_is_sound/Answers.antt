@@ -1,5 +1,0 @@
-use Rattle.cache_model.proofs.SoundFlush.{flush_is_sound}
-use Rattle.cache_model.proofs.laws.flush_is_sound.Goals as goal
-
-pub returns : goal.returns
-returns c = flush_is_sound

@@ -1,5 +1,0 @@
-use Rattle.cache_model.proofs.Known.{live_is_known}
-use Rattle.cache_model.proofs.laws.live_is_known.Goals as goal
-
-pub returns : goal.returns
-returns c = live_is_known

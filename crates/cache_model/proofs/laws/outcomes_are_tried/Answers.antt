@@ -1,5 +1,0 @@
-use Rattle.cache_model.proofs.TriedFlush.{outcomes_are_tried}
-use Rattle.cache_model.proofs.laws.outcomes_are_tried.Goals as goal
-
-pub returns : goal.returns
-returns c = outcomes_are_tried

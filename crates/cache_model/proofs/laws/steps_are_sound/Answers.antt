@@ -1,5 +1,0 @@
-use Rattle.cache_model.proofs.Onward.{steps_are_sound}
-use Rattle.cache_model.proofs.laws.steps_are_sound.Goals as goal
-
-pub returns : goal.returns
-returns c = steps_are_sound

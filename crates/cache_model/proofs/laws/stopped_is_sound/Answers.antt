@@ -1,5 +1,0 @@
-use Rattle.cache_model.proofs.SoundFlush.{stopped_is_sound}
-use Rattle.cache_model.proofs.laws.stopped_is_sound.Goals as goal
-
-pub returns : goal.returns
-returns c = stopped_is_sound

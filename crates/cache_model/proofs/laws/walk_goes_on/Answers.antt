@@ -1,5 +1,0 @@
-use Rattle.cache_model.proofs.Walks.{walk_goes_on}
-use Rattle.cache_model.proofs.laws.walk_goes_on.Goals as goal
-
-pub returns : goal.returns
-returns c = walk_goes_on

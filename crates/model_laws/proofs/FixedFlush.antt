@@ -1,0 +1,77 @@
+-- Where the device is faithful, what is due tells no trouble, and has one list of outcomes.
+use Rattle.std.proofs.Common.{◌≡◌, ℕ, ◌+◌, ◌-◌, ◌^◌, ◌≤◌, List, [], ◌∷◌, ◌++◌, refl, sym, ◌∙◌, ap, arith}
+use Rattle.std.specs.Prelude.{Some, min, max}
+use Rattle.std.specs.List.{AllByRecursion}
+use Rattle.tape_base.specs.declared.digests.Digest.{Digest}
+use Rattle.tape_base.specs.declared.pieces.PieceId.{PieceId}
+use Rattle.cache_model.specs.declared.record.Rec.{Rec}
+use Rattle.cache_model.specs.State.{State, Row, after_all, live_row_of, state_after}
+use Rattle.cache_model.specs.Permit.{Permit}
+use Rattle.cache_model.specs.Given.{IsDamaged, IsGiven, MayCount}
+use Rattle.model_laws.specs.Choices.{GivesOnce, IsFaithful}
+use Rattle.cache_model.specs.Tape.{IsSound}
+use Rattle.cache_model.specs.Due.{due_pieces}
+use Rattle.cache_model.specs.Outcomes.{AreOutcomes, Copied, Copy, NoRoom, Outcome, Refused, Spoiled, copies_of, flush_records, front_of, moved_record, moved_records, records_of}
+use Rattle.model_laws.specs.Agreeing.{IsUntroubled}
+use Rattle.model_laws.proofs.AgreeingFlush.{Match, copied, matched, no_room, nothing}
+use Rattle.model_laws.proofs.Alike.{given_alike}
+use Rattle.cache_model.proofs.Live.{IsFound, due_are_live}
+
+-- ---- a faithful device
+
+-- it counts no fault, behind whatever records
+pub no_count : {p : Permit} {s u : State} (count : ℕ) → IsFaithful p s → MayCount p u count → ⊥
+no_count {p} {u = u} count still counts =
+    let rose : min (max p.faults_before u.fault + 1) (2 ^ 64 - 1) ≤ count = counts.rose in
+    let above : p.faults_before ≤ max p.faults_before u.fault = omega arith in
+    let reached = counts.reached in
+    let counted = still.counted in
+    let countable = still.countable in
+    omega (arith, rose, above, reached, counted, countable)
+
+-- the row is that of a live piece
+abbrev pub IsLive : State → Row → Type 0
+IsLive s row = (id : PieceId) × (live_row_of s id ≡ Some row)
+
+pub no_damage : {p : Permit} {s u : State} {row : Row} {found : Digest} → IsFaithful p s → IsLive s row → u.cursor ≡ s.cursor → IsDamaged p u row found → ⊥
+no_damage {p} {s} {u} {row = row} still live same d = d.differ (still.kept live.0 row d.bytes live.1 (given_alike p u s row d.bytes (sym same) d.given) ∙ sym d.digest)
+
+pub same_bytes : (p : Permit) (s : State) (row : Row) (one other : List ℕ) → GivesOnce p → IsGiven p s row one → IsGiven p s row other → one ≡ other
+same_bytes p s row one other once g k = once row.place one other g.given k.given (g.whole ∙ sym k.whole)
+
+-- ---- no trouble
+
+front_untroubled : (p : Permit) (s t : State) (left : ℕ) (rows : List Row) (outcomes : List Outcome) (rest : List Rec) → IsFaithful p s → AllByRecursion (IsFound s) rows → t.cursor ≡ s.cursor
+    → AreOutcomes p t left rows outcomes → IsUntroubled rest → IsUntroubled (front_of rows outcomes ++ rest)
+front_untroubled p s t left [] outcomes rest still live same h calm = calm
+front_untroubled p s t left (row ∷ rows) [] rest still live same h calm = absurd h
+front_untroubled p s t left (row ∷ rows) (Spoiled found ∷ outcomes) rest still live same h calm = absurd (no_damage still (row.id, live.0) same h.0.1)
+front_untroubled p s t left (row ∷ rows) (Refused count ∷ outcomes) rest still live same h calm = absurd (no_count count still h.0.2)
+front_untroubled p s t left (row ∷ rows) (NoRoom ∷ outcomes) rest still live same h calm =
+    (refl, front_untroubled p s (after_all t (records_of row NoRoom)) left rows outcomes rest still live.1 same h.1 calm)
+front_untroubled p s t left (row ∷ rows) (Copied bytes ∷ outcomes) rest still live same h calm = front_untroubled p s t (left - row.blocks) rows outcomes rest still live.1 same h.1 calm
+
+copies_untroubled : (u : State) (copies : List Copy) → IsUntroubled (moved_records u copies)
+copies_untroubled u [] = tt
+copies_untroubled u (c ∷ copies) = (refl, copies_untroubled (state_after u (moved_record u c)) copies)
+
+pub flush_untroubled : (p : Permit) (s : State) (now left : ℕ) (outcomes : List Outcome) → IsSound s → IsFaithful p s → AreOutcomes p s left (due_pieces s now) outcomes
+    → IsUntroubled (flush_records s (due_pieces s now) outcomes)
+flush_untroubled p s now left outcomes sound still h =
+    front_untroubled p s s left (due_pieces s now) outcomes _ still (due_are_live s now sound) refl h (refl, copies_untroubled _ (copies_of (due_pieces s now) outcomes))
+
+-- ---- one list
+
+match_once : {p : Permit} {s : State} {now left : ℕ} {rows : List Row} {one other : List Outcome} → GivesOnce p → Match p p s now left rows one other → one ≡ other
+match_once once nothing = refl
+match_once once (no_room m) = ap (λ outcomes. NoRoom ∷ outcomes) (match_once once m)
+match_once {p} {s} once (copied {row = row} {one = one} bytes others came came2 g k kept kept2 m) =
+    ap (λ given. Copied given ∷ one) (same_bytes p s row bytes others once g k) ∙ ap (λ outcomes. Copied others ∷ outcomes) (match_once once m)
+
+pub outcomes_are_fixed : (p : Permit) (s : State) (now left : ℕ) (one other : List Outcome) → IsSound s → IsFaithful p s
+    → AreOutcomes p s left (due_pieces s now) one → AreOutcomes p s left (due_pieces s now) other → one ≡ other
+outcomes_are_fixed p s now left one other sound still h k =
+    let rows : List Row = due_pieces s now in
+    let calm : (outcomes : List Outcome) → AreOutcomes p s left rows outcomes → IsUntroubled (front_of rows outcomes ++ []) =
+    λ outcomes o. front_untroubled p s s left rows outcomes [] still (due_are_live s now sound) refl o tt in
+    match_once still.once (matched p p s s s now left left rows one other [] [] refl refl (λ row c. c) (λ row c. c) (calm one h) (calm other k) h k)

@@ -1,0 +1,25 @@
+pub mod Pairs
+mod Places
+pub mod Answered
+mod Asked
+mod Cleanup
+mod Backed
+mod WorkedSessions
+mod AcceptedSteps
+mod Determined
+mod Purged
+mod Possible
+mod Tried
+pub mod Told
+pub mod ToldGroups
+pub mod Alike
+mod Chosen
+pub mod BackedFlush
+mod AgreeingFlush
+mod FixedFlush
+mod Faithful
+mod AgreeingSteps
+pub mod TriedFlush
+pub mod ToldFlush
+mod WorkedFlush
+mod ReadPairs

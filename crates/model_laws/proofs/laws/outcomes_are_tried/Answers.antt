@@ -1,0 +1,5 @@
+use Rattle.model_laws.proofs.TriedFlush.{outcomes_are_tried}
+use Rattle.model_laws.proofs.laws.outcomes_are_tried.Goals as goal
+
+pub returns : goal.returns
+returns c = outcomes_are_tried

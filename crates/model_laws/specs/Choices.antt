@@ -1,0 +1,146 @@
+-- How many groups of records fit what is asked: one at most where the device is faithful, and one at
+-- least wherever it may be asked; and what a group has read.
+use Rattle.std.specs.Prelude.{ℕ, ◌≡◌, ◌-◌, ◌*◌, ◌^◌, ◌<◌, ◌≤◌, ◌⊎◌, true, false, List, [], ◌∷◌, length, Option, Some, None}
+use Rattle.hex.specs.Hex.{IsBytes}
+use Rattle.tape_base.specs.declared.keys.Key.{Key}
+use Rattle.tape_base.specs.declared.pieces.PieceId.{PieceId}
+use Rattle.tape_base.specs.declared.actors.Actor.{Actor}
+use Rattle.tape_base.specs.Digest.{digest_of}
+use Rattle.tape_base.specs.Geometry.{budget_of}
+use Rattle.doc_header.specs.Reading.{document_digest, payload_of}
+use Rattle.fragment_table.specs.Table.{TableRow}
+use Rattle.alternate_vector.specs.Field.{Field, AreFields}
+use Rattle.cache_model.specs.declared.answer.ReadAnswer.TheVariants as read
+use Rattle.cache_model.specs.declared.answer.NextAnswer.TheVariants as next
+use Rattle.cache_model.specs.declared.record.Rec.{Rec}
+use Rattle.cache_model.specs.State.{State, Row, PutRow, ReaderRow, Open, live_row_of, put_of, reader_of, vector_piece}
+use Rattle.cache_model.specs.Verdict.{live_vector_of, next_piece, next_row}
+use Rattle.cache_model.specs.Permit.{Permit, IsAmong, Intent, Flush, Write, Fragment, Overflow, Weigh, Finish, Commit, GiveUp, Remove, Look, ReadOn, ReadAll, StopReading, End}
+use Rattle.cache_model.specs.Due.{due_pieces}
+use Rattle.cache_model.specs.Tape.{IsSound}
+use Rattle.cache_model.specs.Given.{IsGiven, IsWritten, MayCount}
+use Rattle.cache_model.specs.ToRead.{flushes_first, to_read}
+use Rattle.cache_model.specs.Legal.{CanFlush, Does, IsCut, IsNext, IsLookup, IsQuiet, IsReading, IsWriting, most_fragments}
+
+-- ---- one at most
+
+-- as many bytes as the device gave twice at one place in the step are the same
+abbrev pub GivesOnce : Permit → Type 0
+GivesOnce p = (place : ℕ) (one other : List ℕ) → IsAmong (record { place = place; bytes = one }) p.reads → IsAmong (record { place = place; bytes = other }) p.reads
+    → length one ≡ length other → one ≡ other
+
+-- the directory displaces nothing, the device refuses nothing in the step, what it gives at a place is
+-- one string of bytes, and for a live piece it is what was kept of it, and what the table of a reader
+-- that comes to it lists
+pub record IsFaithful (p : Permit) (s : State) : Type 0 where
+  pub displaces_nothing : p.packed ≡ false
+  pub counted : p.faults ≤ p.faults_before
+  pub countable : p.faults_before < 2 ^ 64 - 1
+  pub once : GivesOnce p
+  pub kept : (id : PieceId) (row : Row) (bytes : List ℕ) → live_row_of s id ≡ Some row → IsGiven p s row bytes → row.digest ≡ document_digest bytes
+  pub listed : (reader : ℕ) (r : ReaderRow) (entry : TableRow) (row : Row) (bytes : List ℕ) → reader_of s reader ≡ Some r → next_row s r ≡ Some entry
+      → live_row_of s (next_piece r) ≡ Some row → IsGiven p s row bytes → entry.digest ≡ (digest_of (payload_of bytes)).0
+
+-- there, and on a sound tape, what is asked fixes the records of a group, and how it ends
+abbrev pub GroupIsFixed : Type 0
+GroupIsFixed = (p : Permit) (s : State) (i : Intent) (one other : List Rec) (e f : End) → IsSound s → IsFaithful p s
+    → Does p s i one e → Does p s i other f → (one ≡ other) × (e ≡ f)
+
+-- ---- one at least
+
+-- a live piece is in the buffer, or the device gave bytes for it in this step, or refused to
+pub data IsTried (p : Permit) (s : State) (row : Row) : Type 0 where
+  buffered : s.cursor ≤ row.place → IsTried p s row
+  given : (bytes : List ℕ) → IsGiven p s row bytes → IsTried p s row
+  refused : (count : ℕ) → IsWritten s row → MayCount p s count → IsTried p s row
+
+-- what is asked for was tried, where it is live
+abbrev pub IsTriedWhereLive : Permit → State → Option Row → Type 0
+IsTriedWhereLive p s None = Unit {0}
+IsTriedWhereLive p s (Some row) = IsTried p s row
+
+-- the device's last fault stands at this count
+abbrev pub with_fault : ℕ → State → State
+with_fault count s = record s { fault = count }
+
+-- the pieces within the budget were tried one behind the other: the device gave bytes for a piece,
+-- whatever they are, or refused it with a count that rose above those before
+pub data AreTried (p : Permit) : State → ℕ → List Row → Type 0 where
+  nothing : {s : State} {left : ℕ} → AreTried p s left []
+  no_room : {s : State} {left : ℕ} {row : Row} {rows : List Row} → left < row.blocks → AreTried p s left rows → AreTried p s left (row ∷ rows)
+  given : {s : State} {left : ℕ} {row : Row} {rows : List Row} (bytes : List ℕ) → row.blocks ≤ left → IsGiven p s row bytes
+      → AreTried p s (left - row.blocks) rows → AreTried p s left (row ∷ rows)
+  refused : {s : State} {left : ℕ} {row : Row} {rows : List Row} (count : ℕ) → row.blocks ≤ left → IsWritten s row → MayCount p s count
+      → AreTried p (with_fault count s) (left - row.blocks) rows → AreTried p s left (row ∷ rows)
+
+-- the device gave some bytes for the piece in the step, in one read of its blocks
+pub record HasBytes (p : Permit) (row : Row) : Type 0 where
+  pub bytes : List ℕ
+  pub given : IsAmong (record { place = row.place; bytes = bytes }) p.reads
+  pub whole : length bytes ≡ 512 * row.blocks
+  pub of_bytes : IsBytes bytes
+
+-- where the flush may be made, what it is to copy was tried within the budget
+abbrev pub AreDueTried : Permit → State → Intent → Type 0
+AreDueTried p s i = flushes_first s i ≡ true → CanFlush s → AreTried p s (budget_of s.geometry) (due_pieces s p.now)
+
+-- an actor has this number
+abbrev pub IsActor : ℕ → Type 0
+IsActor actor = (who : Actor) × (who.0 ≡ actor)
+
+-- the put is open, and its vector was placed last
+pub record IsPending (s : State) (put : ℕ) (w : PutRow) : Type 0 where
+  pub found : put_of s put ≡ Some w
+  pub is_open : w.writing ≡ Open
+  pub pending : s.pending ≡ Some (vector_piece w.key put)
+
+-- a writer may be asked for with these lines and this pin
+pub record MayAskWrite (s : State) (actor : ℕ) (request response : List Field) (pin : ℕ) : Type 0 where
+  pub quiet : IsQuiet s
+  pub number : IsActor actor
+  pub request_fits : AreFields request
+  pub response_fits : AreFields response
+  pub pin_fits : pin < 2 ^ 64
+
+-- this may be asked here: no vector is pending but that of a commit, and what is spoken of is open
+abbrev pub MayAsk : State → Intent → Type 0
+MayAsk s Flush = IsQuiet s
+MayAsk s (Write actor key request response pin) = MayAskWrite s actor request response pin
+MayAsk s (Fragment put index payload) = (w : PutRow) × IsNext s put index payload w
+MayAsk s (Overflow put) = (w : PutRow) × IsWriting s put w × (length w.cuts ≡ most_fragments)
+MayAsk s (Weigh put rest) = (w : PutRow) × IsWriting s put w
+MayAsk s (Finish put fragments) = (w : PutRow) × IsCut s put fragments w
+MayAsk s (Commit put) = (w : PutRow) × IsPending s put w
+MayAsk s (GiveUp put) = IsQuiet s
+MayAsk s (Remove key) = IsQuiet s
+MayAsk s (Look actor key request) = IsQuiet s × IsActor actor
+MayAsk s (ReadOn reader) = IsQuiet s × ((r : ReaderRow) × (reader_of s reader ≡ Some r))
+MayAsk s (ReadAll reader) = IsQuiet s
+MayAsk s (StopReading reader) = IsQuiet s
+
+-- on a sound tape what may be asked can be done, or is refused, whatever the device gives
+abbrev pub AskedIsAnswered : Type 0
+AskedIsAnswered = (p : Permit) (s : State) (i : Intent) → IsSound s → MayAsk s i → IsTriedWhereLive p s (to_read s i) → AreDueTried p s i
+    → (added : List Rec) × (e : End) × Does p s i added e
+
+-- ---- what was read
+
+-- what has to be read for an answer was in the buffer, or was read or refused in the step, and so was
+-- what a flush is to copy
+abbrev pub AnsweredIsTried : Type 0
+AnsweredIsTried = (p : Permit) (s : State) (i : Intent) (added : List Rec) (e : End) → Does p s i added e
+    → IsTriedWhereLive p s (to_read s i) × AreDueTried p s i
+
+-- a piece is in the buffer, or the device gave its blocks in this step, with the digest that was kept
+abbrev pub WasRead : Permit → State → Row → Type 0
+WasRead p s row = (s.cursor ≤ row.place) ⊎ ((bytes : List ℕ) × IsGiven p s row bytes × (row.digest ≡ document_digest bytes))
+
+-- a vector that is hit was read
+abbrev pub HitIsRead : Type 0
+HitIsRead = (p : Permit) (s : State) (key : Key) (request : List Field) (before : List Rec) (put : ℕ) (row : Row)
+    → live_vector_of s key ≡ Some row → IsLookup p s key request before (read.Hit put) → WasRead p s row
+
+-- a fragment that is given is live, and was read
+abbrev pub GivenIsRead : Type 0
+GivenIsRead = (p : Permit) (s : State) (r : ReaderRow) (before : List Rec) (index n : ℕ)
+    → IsReading p s r before (next.Gave index n) → (row : Row) × (live_row_of s (next_piece r) ≡ Some row) × WasRead p s row

@@ -1,0 +1,9 @@
+pub mod PlaceLaws
+pub mod StepLaws
+pub mod Choices
+pub mod PairLaws
+pub mod VerdictLaws
+pub mod TapeLaws
+pub mod VectorLaws
+pub mod FlushLaws
+pub mod Agreeing
