@@ -16,6 +16,3 @@ pub use fields::Fields;
 pub use matching::request_matches;
 pub use sizes::fields_size;
 pub use vector::Vector;
-
-#[cfg(test)]
-mod tests;

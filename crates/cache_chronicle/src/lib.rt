@@ -15,6 +15,3 @@ mod vectors;
 pub use cache_model::{Cause, NextAnswer, ReadAnswer, Rec};
 pub use chronicle::Chronicle;
 pub use full::FullChronicle;
-
-#[cfg(test)]
-mod tests;

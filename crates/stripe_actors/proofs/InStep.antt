@@ -11,20 +11,19 @@ use Rattle.fragment_table.specs.Table.{TableRow, made_row}
 use Rattle.open_directory.specs.declared.kept.Writer.{Writer}
 use Rattle.open_directory.specs.declared.kept.KeptPut.{KeptPut}
 use Rattle.open_directory.specs.declared.kept.Reader.{Reader}
-use Rattle.open_directory.specs.Directory.{Held, changed, is_number, is_open, kept_put, new_put, new_reader, one_fewer, one_more, opened, puts_without, reader_at, unless_done, with_cuts, with_followers, with_phase, with_reader, with_reader_room, with_room, without_done, without_reader, moved}
-use Rattle.open_directory.specs.Directory.{ended as ended_in, with_cut as cut_in}
+use Rattle.open_directory.specs.Directory.{Held, changed, is_number, is_open, kept_put, new_put, new_reader, one_fewer, one_more, opened, puts_without, reader_at, unless_done, with_cuts, with_followers, with_phase, with_reader, with_reader_room, with_room, without_done, without_reader, moved, ended as ended_in, with_cut as cut_in}
 use Rattle.cache_model.specs.declared.cause.Cause.{Cause}
 use Rattle.cache_model.specs.declared.answer.ReadAnswer.TheVariants as read
 use Rattle.cache_model.specs.declared.record.Rec.TheVariants as rec
-use Rattle.cache_model.specs.State.{PutRow, ReaderRow, State, Writing, Closed, GivenUp, after_all, change_put, nothing_yet, opened_put, put_of, reader_of, state_after, table_of_hit, with_writing}
-use Rattle.cache_model.specs.State.{with_cut as cut_row}
+use Rattle.cache_model.specs.State.{PutRow, ReaderRow, State, Writing, Closed, GivenUp, after_all, change_put, nothing_yet, opened_put, put_of, reader_of, state_after, table_of_hit, with_writing, with_cut as cut_row}
 use Rattle.cache_model.specs.Verdict.{is_open as is_open_row}
 use Rattle.cache_model.specs.Legal.{format_records}
 use Rattle.stripe_actors.specs.Actors.{AreActors, FallBelow, IsKeptAs, IsPutOf, IsReaderOf, RiseWithin, Seen, phase_of, put_numbers, reader_numbers}
 use Rattle.open_directory.proofs.Rising.{found_inserted, found_removed}
 use Rattle.open_directory.proofs.Standing.{eq_number}
 use Rattle.stripe_actors.proofs.Numbered.{found_changed, found_unless_done, rise_changed, rises_within}
-use Rattle.stripe_actors.proofs.Rows.{fall_from, fall_without, find-changed, find-without, numbers-changed, writers-cut, writers-ended}
+use Rattle.stripe_actors.proofs.Rows.{fall_from, fall_without, numbers-changed, writers-cut, writers-ended}
+use Rattle.cache_model.proofs.ByNumber.{find-changed, find-without}
 use Rattle.stripe_actors.proofs.Kept.{kept_along, kept_anew, kept_either, kept_mapped, kept_or, kept_unless_done, reader_along, reader_either, reader_mapped}
 
 abbrev pub seen_of : Held → ℕ → ℕ → Seen

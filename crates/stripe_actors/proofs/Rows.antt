@@ -2,7 +2,6 @@
 use Rattle.std.proofs.Common.{◌≡◌, ℕ, ◌+◌, ◌<◌, ◌≤◌, true, false, cond, List, [], ◌∷◌, ◌++◌, length, Option, Some, None, refl, sym, ap, ◌∙◌, fold, arith, length-append}
 use Rattle.std.specs.Prelude.{Bool, not, ◌==◌, ◌&&◌, if◌then◌else◌, option_map, map, filter, find}
 use Rattle.std.specs.List.{count_by}
-use Rattle.std.proofs.lemmas.Bool.{eqb-true, eq-eqb}
 use Rattle.std.proofs.lemmas.List.Elements.{filter-append}
 use Rattle.std.proofs.lemmas.List.Sums.{fold-append}
 use Rattle.std.proofs.lemmas.List.Recursion.{is_count_by}
@@ -15,78 +14,17 @@ use Rattle.open_directory.specs.declared.kept.Writer.{Writer}
 use Rattle.open_directory.specs.Directory.{followed, is_follow, writers_but}
 use Rattle.cache_model.specs.State.{PutRow, Writing, change_put, with_cut, with_writing}
 use Rattle.cache_model.specs.Verdict.{is_open, may_follow}
+use Rattle.cache_model.proofs.ByNumber.{change, has}
 use Rattle.stripe_actors.specs.Actors.{FallBelow, writer_of, writer_where_open, writers_in}
 
--- ---- what is found
-
-differ : (b : Bool) → b ≡ true → b ≡ false → ⊥
-differ b t f = let e : true ≡ false = sym t ∙ f in cc
-
--- a number is not that of another row
-apart : (x n q : ℕ) → (x == n) ≡ false → (x == q) ≡ true → (n == q) ≡ false
-apart x n q t u = by_test (n == q) refl
-  where
-    by_test : (b : Bool) → (n == q) ≡ b → (n == q) ≡ false
-    by_test true v = absurd (differ (x == n) (eq-eqb x n (eqb-true x q u ∙ sym (eqb-true n q v))) t)
-    by_test false v = v
+-- ---- numbers
 
 module _ {X : Type 0} (number : X → ℕ) where
-  abbrev has : ℕ → X → Bool
-  has n x = number x == n
-
-  -- the rows of a number, changed
-  abbrev change : ℕ → (X → X) → List X → List X
-  change n f xs = map (λ x. if has n x then f x else x) xs
-
-  -- the rows of other numbers
-  abbrev but : ℕ → List X → List X
-  but n xs = filter (λ x. not (has n x)) xs
-
-  changed_here : (f : X → X) (n q k m : ℕ) (x : X) (rest before : Option X) → k ≡ n → m ≡ n → rest ≡ cond (n == q) (option_map f before) before
-      → cond (k == q) (Some (f x)) rest ≡ cond (n == q) (option_map f (cond (m == q) (Some x) before)) (cond (m == q) (Some x) before)
-  changed_here f n q k m x rest before e d known =
-      ap (λ (i : ℕ). cond (i == q) (Some (f x)) rest) e
-      ∙ by_test (n == q) known
-      ∙ sym (ap (λ (i : ℕ). cond (n == q) (option_map f (cond (i == q) (Some x) before)) (cond (i == q) (Some x) before)) d)
-    where
-      by_test : (b : Bool) → rest ≡ cond b (option_map f before) before → cond b (Some (f x)) rest ≡ cond b (option_map f (cond b (Some x) before)) (cond b (Some x) before)
-      by_test true known = refl
-      by_test false known = known
-
-  pub find-changed : (f : X → X) → ((x : X) → number (f x) ≡ number x) → (n q : ℕ) (xs : List X)
-      → find (has q) (change n f xs) ≡ cond (n == q) (option_map f (find (has q) xs)) (find (has q) xs)
-  find-changed f keeps n q [] = let none : Option X = None in elim (n == q) as (λ b. none ≡ cond b none none) [ true ↦ refl | false ↦ refl ]
-  find-changed f keeps n q (x ∷ xs) = by_test (find-changed f keeps n q xs) (number x == n) refl (number x == q) refl
-    where
-      by_test : find (has q) (change n f xs) ≡ cond (n == q) (option_map f (find (has q) xs)) (find (has q) xs)
-          → (b : Bool) → (number x == n) ≡ b → (w : Bool) → (number x == q) ≡ w
-          → find (has q) (cond b (f x) x ∷ change n f xs) ≡ cond (n == q) (option_map f (find (has q) (x ∷ xs))) (find (has q) (x ∷ xs))
-      by_test rest true b w u = changed_here f n q (number (f x)) (number x) x (find (has q) (change n f xs)) (find (has q) xs) (keeps x ∙ eqb-true (number x) n b) (eqb-true (number x) n b) rest
-      by_test rest false b true u = let other : (n == q) ≡ false = apart (number x) n q b u in rw (other, u) refl
-      by_test rest false b false u = rw u rest
-
-  pub find-without : (n q : ℕ) (xs : List X) → find (has q) (but n xs) ≡ cond (n == q) None (find (has q) xs)
-  find-without n q [] = let none : Option X = None in elim (n == q) as (λ b. none ≡ cond b none none) [ true ↦ refl | false ↦ refl ]
-  find-without n q (x ∷ xs) = by_test (find-without n q xs) (number x == n) refl (number x == q) refl
-    where
-      gone : (b : Bool) → find (has q) (but n xs) ≡ cond b None (find (has q) xs) → find (has q) (but n xs) ≡ cond b None (cond b (Some x) (find (has q) xs))
-      gone true known = known
-      gone false known = known
-
-      by_test : find (has q) (but n xs) ≡ cond (n == q) None (find (has q) xs)
-          → (b : Bool) → (number x == n) ≡ b → (w : Bool) → (number x == q) ≡ w
-          → find (has q) (cond (not b) (x ∷ but n xs) (but n xs)) ≡ cond (n == q) None (find (has q) (x ∷ xs))
-      by_test rest true b w u = gone (n == q) rest ∙ sym (ap (λ (i : ℕ). cond (n == q) None (cond (i == q) (Some x) (find (has q) xs))) (eqb-true (number x) n b))
-      by_test rest false b true u = let other : (n == q) ≡ false = apart (number x) n q b u in rw (other, u) refl
-      by_test rest false b false u = rw u rest
-
-  -- ---- numbers
-
-  pub numbers-changed : (f : X → X) → ((x : X) → number (f x) ≡ number x) → (n : ℕ) (xs : List X) → map number (change n f xs) ≡ map number xs
+  pub numbers-changed : (f : X → X) → ((x : X) → number (f x) ≡ number x) → (n : ℕ) (xs : List X) → map number (change number n f xs) ≡ map number xs
   numbers-changed f keeps n [] = refl
   numbers-changed f keeps n (x ∷ xs) =
-      elim (has n x) as (λ b. number (cond b (f x) x) ∷ map number (change n f xs) ≡ number x ∷ map number xs) [
-        | true ↦ ap (λ (i : ℕ). i ∷ map number (change n f xs)) (keeps x) ∙ ap (λ (ns : List ℕ). number x ∷ ns) (numbers-changed f keeps n xs)
+      elim (has number n x) as (λ b. number (cond b (f x) x) ∷ map number (change number n f xs) ≡ number x ∷ map number xs) [
+        | true ↦ ap (λ (i : ℕ). i ∷ map number (change number n f xs)) (keeps x) ∙ ap (λ (ns : List ℕ). number x ∷ ns) (numbers-changed f keeps n xs)
         | false ↦ ap (λ (ns : List ℕ). number x ∷ ns) (numbers-changed f keeps n xs)
       ]
 

@@ -12,13 +12,9 @@ use alternate_vector::Fields;
 use open_directory::{OpenDirectory, OpenRefusal};
 use std::alloc::{AllocError, Global};
 use std::marker::Model;
-use tape_base::{Digest, Key};
-
-const MAX_WRITERS: u32 = 64;
+use tape_base::{Digest, Key, LIMIT, MAX_WRITERS};
 
 // The numbers of puts stay below this.
-const LIMIT: u64 = 1 << 62;
-
 /// Who writes and reads on a stripe, and the numbers of the next put and of the next reader.
 #[derive(Debug, Drop)]
 pub struct Actors {

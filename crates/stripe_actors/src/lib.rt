@@ -12,6 +12,3 @@ pub use laws::{
     writing_is_told,
 };
 pub use refusal::OpenPutRefusal;
-
-#[cfg(test)]
-mod tests;

@@ -20,7 +20,7 @@ use Rattle.cache_model.proofs.Lists.{found_row, own_piece}
 use Rattle.stripe_core.specs.declared.refusal.Found.{Found}
 use Rattle.stripe_core.specs.declared.refusal.Found.TheVariants as found
 use Rattle.stripe_core.specs.Held.{IsBufferedWhereNew, IsHeld, IsIntactWhereWritten}
-use Rattle.stripe_core.specs.Damages.{TellNoDamage}
+use Rattle.cache_model.specs.Damage.{TellNoDamage}
 use Rattle.stripe_core.specs.Find.{Finds, IsFoundAs, IsJudged, IsRecorded, cause_records, find_adds, judged_records}
 use Rattle.stripe_core.proofs.Candidates.{live_is}
 

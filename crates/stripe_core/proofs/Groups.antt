@@ -26,7 +26,7 @@ use Rattle.stripe_core.specs.declared.refusal.Placed.{Placed}
 use Rattle.stripe_core.specs.declared.refusal.Stop.{Stop}
 use Rattle.stripe_core.specs.declared.refusal.Stop.TheVariants as stop
 use Rattle.stripe_core.specs.Covers.{Covers, Spends}
-use Rattle.stripe_core.specs.Damages.{TellNoDamage, tells_damage}
+use Rattle.cache_model.specs.Damage.{TellNoDamage, tells_damage}
 use Rattle.stripe_core.specs.Flush.{AreOfFlush, IsOfFlush, LiveBefore, StopsWith, stop_end}
 use Rattle.stripe_core.specs.Place.{CutsAsAsked, IsFragmentAs, IsFragmentOf, IsNew, IsStoppedAs, IsVectorOf, PlacesAt, ReachesLimit, RoomIsMade, RoomsAsAsked, StopsBehind, piece_records, place_adds, place_end}
 use Rattle.stripe_core.proofs.Flushes.{state_of-with_records, with_records-append}

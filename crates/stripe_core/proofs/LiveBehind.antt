@@ -19,11 +19,10 @@ use Rattle.cache_model.specs.Tape.{AreApart, IsSound}
 use Rattle.cache_model.proofs.Copies.{AreReady, IsReady, others_stand, rows_of, still_ready}
 use Rattle.cache_model.proofs.Lists.{row_in-copied, row_in-without}
 use Rattle.cache_model.proofs.Live.{IsFound, due_are_live}
-use Rattle.cache_model.proofs.Rows.{apart-part}
+use Rattle.cache_model.proofs.Rows.{apart-part, each_part}
 use Rattle.cache_model.proofs.Sound.{AllLeaveTape, buffer_left}
 use Rattle.cache_model.proofs.SoundFlush.{copies_part, copies_ready, due_part, front_leaves, part_ready}
 use Rattle.cache_model.proofs.Steps.{after_all-append, all_append}
-use Rattle.cache_model.proofs.Told.{each_part}
 use Rattle.stripe_core.specs.Flush.{AreOfFlush, IsOfFlush, IsSamePiece, LiveBefore}
 use Rattle.stripe_core.proofs.Candidates.{live_is}
 

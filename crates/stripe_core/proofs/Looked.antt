@@ -18,8 +18,7 @@ use Rattle.cache_model.specs.Due.{due_pieces, is_due}
 use Rattle.cache_model.specs.Given.{MayCount}
 use Rattle.cache_model.specs.Legal
 use Rattle.cache_model.specs.Legal.{CanFlush}
-use Rattle.cache_model.specs.Outcomes.{AreOutcomes, Copied, NoRoom, Outcome, Refused, Spoiled, began_record, copies_of, flush_records, front_of, moved_record, moved_records, stopped_front_of, stopped_records}
-use Rattle.cache_model.specs.Outcomes.{Copy}
+use Rattle.cache_model.specs.Outcomes.{AreOutcomes, Copied, NoRoom, Outcome, Refused, Spoiled, began_record, copies_of, flush_records, front_of, moved_record, moved_records, stopped_front_of, stopped_records, Copy}
 use Rattle.cache_model.specs.Tape.{AreApart, IsSound}
 use Rattle.cache_model.proofs.Copies.{AreReady, blocks_of_copies, rows_of}
 use Rattle.cache_model.proofs.Live.{due_are_live}
@@ -36,7 +35,7 @@ use Rattle.stripe_core.specs.declared.refusal.Stop.TheVariants as stop
 use Rattle.stripe_core.specs.Ahead.{LooksAhead}
 use Rattle.stripe_core.specs.Copying.{AreCopyable, AreTellable, begun_behind, copied_of, copies_among, done_records, told_of}
 use Rattle.stripe_core.specs.Covers.{Covers, Uses}
-use Rattle.stripe_core.specs.Damages.{TellNoDamage, tells_damage}
+use Rattle.cache_model.specs.Damage.{TellNoDamage, tells_damage}
 use Rattle.stripe_core.specs.Flush.{FlushesAsAsked, LiveBefore}
 use Rattle.stripe_core.proofs.Flushes.{state_of-with_records}
 use Rattle.stripe_core.proofs.LiveBehind.{flush_before, flush_kinds, stopped_before, stopped_kinds}

@@ -27,7 +27,7 @@ use Rattle.cache_model.specs.Legal.{answer_record}
 use Rattle.cache_model.proofs.Steps.{all_as}
 use Rattle.cache_model.proofs.Lists.{found_row}
 use Rattle.stripe_actors.specs.Actors.{AreActors, Seen as Actors}
-use Rattle.stripe_actors.proofs.Rows.{find-changed}
+use Rattle.cache_model.proofs.ByNumber.{find-changed}
 use Rattle.stripe_actors.proofs.Telling.{was_given}
 use Rattle.stripe_core.specs.declared.refusal.Found.{Found}
 use Rattle.stripe_core.specs.declared.refusal.Found.TheVariants as found

@@ -16,7 +16,7 @@ use Rattle.stripe_core.specs.declared.ahead.Fate.{Fate}
 use Rattle.stripe_core.specs.Ahead.{AreFates, IsFate, StandFrom, StandsAt, taken_by, taken_by_all}
 use Rattle.stripe_core.specs.Looks.{CountsUpTo, Looked, LooksOn}
 use Rattle.stripe_core.specs.Covers.{Covers}
-use Rattle.stripe_core.specs.Damages.{TellNoDamage, tells_damage}
+use Rattle.cache_model.specs.Damage.{TellNoDamage, tells_damage}
 
 -- ---- lists of the same length
 

@@ -6,8 +6,8 @@ use Rattle.cache_model.specs.declared.record.Rec.TheVariants as rec
 use Rattle.cache_model.specs.State.{State, after_all, state_after}
 use Rattle.cache_model.specs.Kept.{Kept, state_of, with_records}
 use Rattle.cache_model.proofs.Steps.{after_all-append}
-use Rattle.stripe_core.specs.Damages.{TellNoDamage, tells_damage}
-use Rattle.stripe_core.specs.Unharmed.{IsUnharmed, StayUnharmed, has_damage}
+use Rattle.cache_model.specs.Damage.{TellNoDamage, tells_damage, has_damage}
+use Rattle.stripe_core.specs.Unharmed.{IsUnharmed, StayUnharmed}
 
 -- one call behind another
 pub stays_unharmed-trans : (a b c : Device) (s t u : State) → StayUnharmed a b s t → StayUnharmed b c t u → StayUnharmed a c s u

@@ -12,7 +12,7 @@ use Rattle.stripe_core.specs.declared.ahead.Ahead.{Ahead}
 use Rattle.stripe_core.specs.declared.ahead.Fate.{Fate}
 use Rattle.stripe_core.specs.declared.ahead.Fate.TheVariants as fate
 use Rattle.stripe_core.specs.Covers.{Covers}
-use Rattle.stripe_core.specs.Damages.{TellNoDamage}
+use Rattle.cache_model.specs.Damage.{TellNoDamage}
 
 -- there is memory for all that the next floor passes, and for half a buffer of documents
 pub record IsMadeFor (g : Geometry) (a : Ahead) : Type 0 where

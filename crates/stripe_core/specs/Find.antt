@@ -1,6 +1,5 @@
 -- What is found of a piece, and what is recorded where it is not.
 use Rattle.std.specs.Prelude.{ℕ, ◌≡◌, ◌≢◌, ◌*◌, ◌≤◌, List, [], ◌∷◌, length, take, Option, Some, None, IfSome}
-use Rattle.hex.specs.Hex.{IsBytes}
 use Rattle.tape_base.specs.declared.pieces.PieceId.{PieceId}
 use Rattle.tape_base.specs.declared.digests.Digest.{Digest}
 use Rattle.ats_disk.specs.Device.{State as Device}
@@ -12,7 +11,7 @@ use Rattle.cache_model.specs.declared.record.Rec.TheVariants as rec
 use Rattle.cache_model.specs.State.{Row, State, live_row_of}
 use Rattle.cache_model.specs.Verdict.{cause_of_piece, size_of}
 use Rattle.cache_model.specs.Permit.{DeviceRead, Permit}
-use Rattle.cache_model.specs.Given.{IsGiven, IsWritten, Trouble}
+use Rattle.cache_model.specs.Given.{IsDocumentOf, Trouble}
 use Rattle.stripe_core.specs.declared.refusal.Found.{Found}
 use Rattle.stripe_core.specs.declared.refusal.Found.TheVariants as found
 use Rattle.stripe_core.specs.Covers.{AreSeen, Covers}
@@ -56,16 +55,6 @@ abbrev pub IsJudged : ℕ → Digest → List ℕ → Found → List ℕ → Typ
 IsJudged place kept bytes (found.Found size) into =
     (kept ≡ document_digest bytes) × (size ≡ length (payload_of bytes)) × (take size into ≡ payload_of bytes)
 IsJudged place kept bytes (found.Missing why) into = (why ≡ cause.Damaged place kept (document_digest bytes)) × (kept ≢ document_digest bytes)
-
--- the document of a live piece was read, and this is its payload
-pub record IsDocumentOf (p : Permit) (s : State) (row : Row) (size : ℕ) (into : List ℕ) : Type 0 where
-  pub bytes : List ℕ
-  pub whole : length bytes ≡ 512 * row.blocks
-  pub of_bytes : IsBytes bytes
-  pub digest : row.digest ≡ document_digest bytes
-  pub given : IsWritten s row → IsGiven p s row bytes
-  pub size_is : size ≡ length (payload_of bytes)
-  pub payload : take size into ≡ payload_of bytes
 
 -- of a piece that is not live the cause; of a live one its payload, or the trouble that it had
 abbrev pub IsFoundAs : Permit → State → PieceId → Option Row → Found → List ℕ → Type 0

@@ -14,7 +14,7 @@ use Rattle.stripe_core.specs.declared.refusal.Flushed.{Flushed}
 use Rattle.stripe_core.specs.declared.refusal.Stop.{Stop}
 use Rattle.stripe_core.specs.declared.refusal.Stop.TheVariants as stop
 use Rattle.stripe_core.specs.Covers.{Covers}
-use Rattle.stripe_core.specs.Damages.{TellNoDamage}
+use Rattle.cache_model.specs.Damage.{TellNoDamage}
 
 -- ---- its records
 

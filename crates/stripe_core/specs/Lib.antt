@@ -3,7 +3,6 @@ pub mod Records
 pub mod Pieces
 pub mod This
 pub mod Covers
-pub mod Damages
 pub mod Ahead
 pub mod Copying
 pub mod Looks

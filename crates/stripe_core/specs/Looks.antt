@@ -16,7 +16,7 @@ use Rattle.stripe_core.specs.declared.ahead.Fate.{Fate}
 use Rattle.stripe_core.specs.declared.ahead.Fate.TheVariants as fate
 use Rattle.stripe_core.specs.Ahead.{AreFates, IsFate, StandFrom, StandsAt, taken_by, taken_by_all}
 use Rattle.stripe_core.specs.Covers.{Covers}
-use Rattle.stripe_core.specs.Damages.{TellNoDamage}
+use Rattle.cache_model.specs.Damage.{TellNoDamage}
 
 -- the piece is live, and is not in the buffer any more
 pub record MayBeCopied (s : State) (row : Row) : Type 0 where

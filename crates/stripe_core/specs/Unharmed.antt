@@ -1,24 +1,13 @@
 -- Whether a piece was told as damaged, on a device that can be trusted.
-use Rattle.std.specs.Prelude.{◌≡◌, ◌≤◌, Bool, true, false}
-use Rattle.std.specs.List.{list_any}
+use Rattle.std.specs.Prelude.{◌≡◌, ◌≤◌, false}
 use Rattle.ats_disk.specs.Device.{IsTold, State as Device}
 use Rattle.ats_disk.specs.declared.device.Disk.{Ghosts as DiskGhosts}
 use Rattle.dir_table.specs.declared.directory.Directory.{Ghosts as DirectoryGhosts}
 use Rattle.cache_chronicle.specs.declared.chronicle.Chronicle.{Ghosts as ChronicleGhosts}
-use Rattle.cache_model.specs.declared.cause.Cause.{Cause}
-use Rattle.cache_model.specs.declared.cause.Cause.TheVariants as cause
 use Rattle.cache_model.specs.State.{State}
+use Rattle.cache_model.specs.Damage.{has_damage}
 use Rattle.stripe_core.specs.declared.stripe.Stripe.{Stripe}
 use Rattle.stripe_core.specs.Stripe.{seen_in, state_in}
-
--- the cause is that the bytes that were read are not those of the piece
-abbrev pub is_damage : Cause → Bool
-is_damage (cause.Damaged place kept found) = true
-is_damage _ = false
-
--- a piece was told as damaged
-abbrev pub has_damage : State → Bool
-has_damage s = list_any (λ lost. is_damage lost.1) s.lost
 
 -- where the device tells its content, no piece was told as damaged
 pub record IsUnharmed (device : Device) (s : State) : Type 0 where

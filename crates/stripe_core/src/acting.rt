@@ -9,7 +9,6 @@ ghost use Rattle.stripe_actors.specs.Actors.{AreActors, reader_room_of};
 ghost use Rattle.stripe_actors.specs.Calls.{HasNumber, KeepUpWith, StayInStep};
 ghost use Rattle.stripe_core.specs.Acts.{AnswersLookup, CommitsAsAsked, GivesUpAsAsked, IsCommitting, IsFollowable, IsGivable, IsGivingUp, IsRefusedPut, OpensAsAsked, RefusesAsAsked, RemovesAsAsked, committed_record, opened_record};
 
-use crate::flushing::LIMIT;
 use crate::pieces::records_of;
 use crate::refusal::Refusal;
 use crate::{Stripe, records};
@@ -20,11 +19,9 @@ use cache_model::{NextAnswer, ReadAnswer};
 use dir_table::Directory;
 use std::alloc::AllocError;
 use stripe_actors::{Actors, OpenPutRefusal};
-use tape_base::{Actor, Digest, Key, PieceId};
+use tape_base::{Actor, Digest, Key, LIMIT, MAX_WRITERS, PieceId};
 
 // How many writers may be open.
-const MAX_WRITERS: u32 = 64;
-
 impl<D: Disk, R: Directory + Drop, C: Chronicle> Stripe<D, R, C> {
     ghost use Rattle.stripe_core.specs.Pieces.{live_place_of};
     ghost use Rattle.stripe_core.specs.Stripe.{IsStill, IsStripe, kept_in, seen_in, state_in, units_in};

@@ -4,9 +4,7 @@ ghost use Rattle.stripe_core.specs.Ahead.{IsMadeFor};
 
 use evacuator::Candidate;
 use std::alloc::{AllocError, Global};
-use tape_base::{Digest, Geometry};
-
-const BLOCK: usize = 512;
+use tape_base::{BLOCK, Digest, Geometry};
 
 // How many buffers the floor moves by at most.
 const BUFFERS: usize = 2;

@@ -17,8 +17,7 @@ use ats_disk::Disk;
 use cache_chronicle::Chronicle;
 use dir_table::Directory;
 use evacuator::Candidate;
-
-const BLOCK: usize = 512;
+use tape_base::BLOCK;
 
 impl<D: Disk, R: Directory + Drop, C: Chronicle> Pieces<D, R, C> {
     ghost use Rattle.stripe_core.specs.Pieces.{ArePieces, kept_of, seen_of, state_now};

@@ -6,7 +6,7 @@ ghost use Rattle.cyclone.specs.Cyclone.{IsCyclone, IsStored, Reads, SameTape, se
 ghost use Rattle.cache_model.specs.Kept.{with_records};
 ghost use Rattle.ats_disk.specs.Device.{IsTold};
 ghost use Rattle.stripe_core.specs.Covers.{Uses};
-ghost use Rattle.stripe_core.specs.Damages.{TellNoDamage};
+ghost use Rattle.cache_model.specs.Damage.{TellNoDamage};
 ghost use Rattle.stripe_core.specs.Find.{Finds, HasRoomFor, IsJudged, IsRecorded, find_adds, judged_records};
 
 use crate::refusal::Found;
@@ -18,11 +18,7 @@ use cyclone::Cyclone;
 use dir_table::Directory;
 use doc_header::{document_digest, payload};
 use edge_io::Failed;
-use tape_base::{Digest, PieceId};
-
-const BLOCK: usize = 512;
-
-const HEADER: usize = 128;
+use tape_base::{BLOCK, Digest, HEADER, PieceId};
 
 impl<D: Disk, R: Directory + Drop, C: Chronicle> Pieces<D, R, C> {
     ghost use Rattle.stripe_core.specs.Pieces.{ArePieces, kept_of, live_place_of, seen_of, state_now};

@@ -19,11 +19,9 @@ use ats_disk::Disk;
 use cache_chronicle::Chronicle;
 use dir_table::Directory;
 use stripe_actors::Actors;
-use tape_base::blocks_of;
+use tape_base::{LIMIT, blocks_of};
 
 // Where no buffer begins, and no piece that is placed ends. The copies of a flush may stand above.
-pub const LIMIT: u64 = 1 << 62;
-
 impl<D: Disk, R: Directory + Drop, C: Chronicle> Pieces<D, R, C> {
     ghost use Rattle.stripe_core.specs.Pieces.{ArePieces, kept_of, seen_of, state_now};
 

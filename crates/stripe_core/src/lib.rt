@@ -22,6 +22,3 @@ pub use laws::{
 pub(crate) use pieces::Pieces;
 pub use refusal::{Flushed, Found, Placed, Refusal, Stop};
 pub use stripe::Stripe;
-
-#[cfg(test)]
-mod tests;

@@ -21,9 +21,7 @@ use doc_header::document_digest;
 use evacuator::{Candidate, choose};
 use stripe_actors::Actors;
 use stripe_due::find_due;
-use tape_base::floor_of;
-
-const BLOCK: usize = 512;
+use tape_base::{BLOCK, floor_of};
 
 impl<D: Disk, R: Directory + Drop, C: Chronicle> Pieces<D, R, C> {
     ghost use Rattle.stripe_core.specs.Pieces.{ArePieces, seen_of, state_now};

@@ -11,7 +11,6 @@ ghost use Rattle.stripe_core.specs.Ahead.{IsMadeFor};
 ghost use Rattle.stripe_core.specs.Place.{CutsAsAsked, IsFragmentOf, IsNew, PlacesAt, piece_records, place_adds};
 
 use crate::ahead::Ahead;
-use crate::flushing::LIMIT;
 use crate::refusal::{Placed, Stop};
 use crate::{Pieces, records};
 use ats_disk::Disk;
@@ -19,7 +18,7 @@ use cache_chronicle::Chronicle;
 use dir_table::Directory;
 use doc_header::Doc;
 use stripe_actors::Actors;
-use tape_base::{Digest, PieceId, blocks_of};
+use tape_base::{Digest, LIMIT, PieceId, blocks_of};
 
 impl<D: Disk, R: Directory + Drop, C: Chronicle> Pieces<D, R, C> {
     ghost use Rattle.stripe_core.specs.Pieces.{ArePieces, kept_of, seen_of, state_now};

@@ -10,8 +10,7 @@ use Rattle.evacuator.specs.declared.choosing.Candidate.{Candidate}
 use Rattle.cache_model.specs.State.{State, Row, floor_next, floor_now, is_live, live_row_of, only_live, place_now, row_of}
 use Rattle.cache_model.specs.Verdict.{if_at, if_still_at, piece_at}
 use Rattle.cache_model.specs.Tape.{AreRising, IsSound}
-use Rattle.cache_model.specs.Due.{is_awaited, is_due}
-use Rattle.cache_model.specs.FlushLaws.{rows_from}
+use Rattle.cache_model.specs.Due.{is_awaited, is_due, rows_from}
 use Rattle.cache_model.proofs.Found.{none_is, same_some}
 use Rattle.cache_model.proofs.Lists.{found_row, own_piece}
 use Rattle.cache_model.proofs.Walks.{due_are_found, walk_finds, walk_goes_on}

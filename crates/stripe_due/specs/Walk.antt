@@ -5,8 +5,7 @@ use Rattle.tape_base.specs.Piece.{is_vector}
 use Rattle.evacuator.specs.declared.choosing.Candidate.{Candidate}
 use Rattle.cache_model.specs.State.{Row, State, live_row_of}
 use Rattle.cache_model.specs.Verdict.{piece_at}
-use Rattle.cache_model.specs.Due.{is_due}
-use Rattle.cache_model.specs.FlushLaws.{rows_from}
+use Rattle.cache_model.specs.Due.{is_due, rows_from}
 use Rattle.stripe_due.specs.Finding.{candidate_of}
 
 -- the live piece that begins at a place

@@ -4,6 +4,3 @@
 mod finding;
 
 pub use finding::find_due;
-
-#[cfg(test)]
-mod tests;

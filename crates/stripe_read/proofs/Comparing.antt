@@ -12,11 +12,11 @@ use Rattle.cache_model.specs.declared.cause.Cause.TheVariants as cause
 use Rattle.cache_model.specs.declared.record.Rec.TheVariants as rec
 use Rattle.cache_model.specs.State.{Row, State, live_row_of, row_in}
 use Rattle.cache_model.specs.Permit.{Permit}
-use Rattle.cache_model.specs.Given.{IsWritten}
+use Rattle.cache_model.specs.Given.{IsWritten, IsDocumentOf}
 use Rattle.cache_model.proofs.Lists.{own_piece}
 use Rattle.stripe_core.specs.declared.refusal.Found.{Found}
 use Rattle.stripe_core.specs.declared.refusal.Found.TheVariants as found
-use Rattle.stripe_core.specs.Find.{Finds, IsDocumentOf, IsFoundAs, find_adds, found_records}
+use Rattle.stripe_core.specs.Find.{Finds, IsFoundAs, find_adds, found_records}
 use Rattle.stripe_core.specs.Pieces.{live_place_of}
 use Rattle.stripe_core.proofs.Candidates.{live_is}
 use Rattle.stripe_vectors.proofs.Finding.{own_covers, own_permit}

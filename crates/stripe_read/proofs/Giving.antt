@@ -14,15 +14,14 @@ use Rattle.cache_model.specs.declared.record.Rec.{Rec}
 use Rattle.cache_model.specs.State.{Closed, GivenUp, Open, PutRow, ReaderRow, Row, State, Writing, live_row_of, put_of}
 use Rattle.cache_model.specs.Verdict.{cause_of_piece, next_piece, next_row, reader_verdict, verdict_at_end, verdict_of_followed, verdict_of_fragment, verdict_of_writing}
 use Rattle.cache_model.specs.Permit.{Done, Permit, ReadOn}
-use Rattle.cache_model.specs.Given.{IsRead, IsReadWhereLive}
+use Rattle.cache_model.specs.Given.{IsRead, IsReadWhereLive, IsDocumentOf}
 use Rattle.cache_model.specs.Legal.{Does, DoesReadOn, IsQuiet, IsReading, ReadTrouble, answer_record, digest_in, live_next}
-use Rattle.cache_model.proofs.Answered.{end_gives_none}
-use Rattle.cache_model.proofs.Found.{no_truth}
+use Rattle.cache_model.proofs.Found.{end_gives_none, no_truth}
 use Rattle.stripe_core.specs.declared.refusal.Found.{Found}
 use Rattle.stripe_core.specs.declared.refusal.Found.TheVariants as found
 use Rattle.stripe_core.specs.Counts.{IsCountedCause}
 use Rattle.stripe_core.specs.Covers.{AreSeen, Covers}
-use Rattle.stripe_core.specs.Find.{IsDocumentOf, cause_records}
+use Rattle.stripe_core.specs.Find.{cause_records}
 use Rattle.stripe_read.specs.declared.reader.Reader.{Reader}
 use Rattle.stripe_read.specs.declared.reading.NextPiece.{NextPiece}
 use Rattle.stripe_read.specs.declared.reading.NextPiece.TheVariants as piece

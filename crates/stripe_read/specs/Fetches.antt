@@ -10,11 +10,11 @@ use Rattle.cache_model.specs.declared.cause.Cause.{Cause}
 use Rattle.cache_model.specs.State.{Row, State, live_row_of}
 use Rattle.cache_model.specs.Verdict.{cause_of_piece}
 use Rattle.cache_model.specs.Permit.{DeviceRead, Permit}
-use Rattle.cache_model.specs.Given.{IsGiven, IsWritten, Trouble, damage_cause}
+use Rattle.cache_model.specs.Given.{IsGiven, IsWritten, Trouble, damage_cause, IsDocumentOf}
 use Rattle.stripe_core.specs.declared.refusal.Found.{Found}
 use Rattle.stripe_core.specs.declared.refusal.Found.TheVariants as found
 use Rattle.stripe_core.specs.Covers.{AreSeen, Covers}
-use Rattle.stripe_core.specs.Find.{IsDocumentOf, cause_records}
+use Rattle.stripe_core.specs.Find.{cause_records}
 use Rattle.stripe_read.specs.declared.fetching.Unlike.{Unlike}
 
 -- the payload of a piece that was written out is the one that is listed

@@ -12,7 +12,8 @@ use Rattle.cache_model.specs.Permit.{DeviceRead, Done, Permit, ReadOn}
 use Rattle.cache_model.specs.Legal.{Does, answer_record, digest_in, live_next}
 use Rattle.stripe_core.specs.Covers.{AreSeen, Covers}
 use Rattle.stripe_core.specs.Counts.{IsCountedCause}
-use Rattle.stripe_core.specs.Find.{IsDocumentOf, cause_records}
+use Rattle.cache_model.specs.Given.{IsDocumentOf}
+use Rattle.stripe_core.specs.Find.{cause_records}
 use Rattle.stripe_read.specs.declared.reader.Reader.{Reader}
 use Rattle.stripe_read.specs.declared.reading.NextPiece.{NextPiece}
 use Rattle.stripe_read.specs.declared.reading.NextPiece.TheVariants as piece

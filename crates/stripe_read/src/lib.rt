@@ -13,6 +13,3 @@ pub use laws::{readers_stay, reads_leave_others};
 pub use opening::{Opened, open_read};
 pub use reader::Reader;
 pub use reading::{NextPiece, read_next};
-
-#[cfg(test)]
-mod tests;

@@ -13,7 +13,8 @@ use Rattle.cache_model.specs.Verdict.{live_vector_of, vector_of}
 use Rattle.cache_model.specs.Permit.{DeviceRead, IsAmong, Permit}
 use Rattle.stripe_core.specs.Covers.{Covers}
 use Rattle.stripe_core.specs.declared.refusal.Found.TheVariants as found
-use Rattle.stripe_core.specs.Find.{Finds, IsDocumentOf, IsFoundAs}
+use Rattle.stripe_core.specs.Find.{Finds, IsFoundAs}
+use Rattle.cache_model.specs.Given.{IsDocumentOf}
 use Rattle.stripe_vectors.specs.declared.reading.KeyVector.TheVariants as answer
 use Rattle.stripe_vectors.specs.Reading.{FindsVector, IsReadAs, IsVectorFound, listed_in}
 

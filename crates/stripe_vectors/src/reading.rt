@@ -16,9 +16,7 @@ use cache_model::Cause;
 use dir_table::Directory;
 use std::alloc::{AllocError, Global};
 use stripe_core::{Found, Stripe};
-use tape_base::{Key, PieceId};
-
-const BLOCK: usize = 512;
+use tape_base::{BLOCK, Key, PieceId};
 
 /// What is read of a key's vector.
 #[derive(Debug, Drop)]

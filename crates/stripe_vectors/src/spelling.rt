@@ -9,11 +9,7 @@ ghost use Rattle.stripe_vectors.specs.Spelled.{IsSpelled};
 
 use alternate_vector::{Alternate, Vector};
 use std::alloc::{AllocError, Global};
-use tape_base::Geometry;
-
-const BLOCK: usize = 512;
-
-const HEADER: usize = 128;
+use tape_base::{BLOCK, Geometry, HEADER};
 
 /// A vector's bytes, and the greatest pin of its alternates.
 #[derive(Debug, Drop)]

@@ -13,15 +13,13 @@ use Rattle.alternate_vector.specs.Alternates.{Stored, vector_size}
 use Rattle.alternate_vector.specs.Spelling.{vector_bytes}
 use Rattle.cache_model.specs.declared.record.Rec.{Rec}
 use Rattle.cache_model.specs.declared.record.Rec.TheVariants as rec
-use Rattle.cache_model.specs.State.{Closed, Complete, LastVector, Open, PutRow, Row, State, TakenOut, alternate_of, alternates_of, fragment_piece, is_live, last_vector, list_among, list_of_last, list_of_put, list_of_row, live_row_of, merged_list, only_live, put_of, row_in, state_after, vector_piece, with_writing}
+use Rattle.cache_model.specs.State.{Closed, Complete, LastVector, Open, PutRow, Row, State, TakenOut, alternate_of, alternates_of, fragment_piece, is_live, last_vector, list_among, list_of_last, list_of_put, list_of_row, live_row_of, merged_list, only_live, put_of, row_in, state_after, vector_piece, with_writing, after_all}
 use Rattle.cache_model.specs.Verdict.{cuts_of, live_vector_of, vector_of_last}
-use Rattle.cache_model.specs.Legal.{AreLiveTo, FitsAlone, IsCut, IsQuiet, IsWriting, is_writing}
+use Rattle.cache_model.specs.Legal.{AreLiveTo, FitsAlone, IsCut, IsQuiet, IsWriting, is_writing, Does}
 use Rattle.cache_model.specs.Room.{greatest_pin, has_room}
-use Rattle.stripe_actors.proofs.Rows.{find-changed}
-use Rattle.cache_model.specs.State.{after_all}
+use Rattle.cache_model.proofs.ByNumber.{find-changed}
 use Rattle.cache_model.specs.Kept.{Kept, state_of, with_records}
 use Rattle.cache_model.specs.Permit.{Commit, Done, Exhausted, Fails, Finish}
-use Rattle.cache_model.specs.Legal.{Does}
 use Rattle.cache_model.proofs.Found.{cuts_found}
 use Rattle.stripe_core.specs.declared.refusal.Placed.{Placed}
 use Rattle.stripe_core.specs.declared.refusal.Refusal.{Refusal}

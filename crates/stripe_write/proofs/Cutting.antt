@@ -20,7 +20,7 @@ use Rattle.cache_model.specs.Kept.{Kept, state_of}
 use Rattle.cache_model.specs.Legal.{IsQuiet}
 use Rattle.cache_model.specs.Room.{placed_record}
 use Rattle.cache_model.proofs.Steps.{after_all-append, all_append}
-use Rattle.stripe_actors.proofs.Rows.{find-changed}
+use Rattle.cache_model.proofs.ByNumber.{find-changed}
 use Rattle.stripe_core.specs.declared.refusal.Placed.{Placed}
 use Rattle.stripe_core.specs.declared.refusal.Refusal.{Refusal}
 use Rattle.stripe_core.specs.declared.refusal.Refusal.TheVariants as refusal

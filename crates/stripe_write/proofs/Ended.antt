@@ -10,7 +10,7 @@ use Rattle.cache_model.specs.State.{Closed, GivenUp, Open, PutRow, Row, State, o
 use Rattle.cache_model.specs.Verdict.{is_open, live_vector_of}
 use Rattle.cache_model.specs.Permit.{Done, Fails, GiveUp, ManyFragments, Overflow, Permit, Remove}
 use Rattle.cache_model.specs.Legal.{Does, DoesGiveUp, DoesOverflow, DoesRemove, IsQuiet, is_writing, most_fragments}
-use Rattle.stripe_actors.proofs.Rows.{find-changed}
+use Rattle.cache_model.proofs.ByNumber.{find-changed}
 use Rattle.stripe_core.specs.Acts.{IsGivingUp, opened_record}
 use Rattle.stripe_write.specs.declared.writer.Writer.{Writer}
 use Rattle.stripe_write.specs.Writers.{IsAtHand, IsWriterOf}

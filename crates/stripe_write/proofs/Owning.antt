@@ -13,7 +13,7 @@ use Rattle.cache_model.specs.State.{PutRow, Row, State, after_all, change_put, s
 use Rattle.cache_model.specs.Kept.{Kept, state_of, with_records}
 use Rattle.cache_model.specs.Verdict.{live_vector_of}
 use Rattle.cache_model.proofs.Steps.{all_append}
-use Rattle.stripe_actors.proofs.Rows.{find-changed}
+use Rattle.cache_model.proofs.ByNumber.{find-changed}
 use Rattle.stripe_core.specs.declared.refusal.Placed.{Placed}
 use Rattle.stripe_core.specs.declared.refusal.Refusal.{Refusal}
 use Rattle.stripe_core.specs.declared.refusal.Refusal.TheVariants as refusal

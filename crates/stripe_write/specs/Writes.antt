@@ -18,7 +18,7 @@ use Rattle.stripe_core.specs.declared.refusal.Refusal.TheVariants as refusal
 use Rattle.stripe_core.specs.declared.refusal.Stop.{Stop}
 use Rattle.stripe_core.specs.declared.refusal.Stop.TheVariants as stop
 use Rattle.stripe_core.specs.Covers.{Covers, Spends}
-use Rattle.stripe_core.specs.Damages.{TellNoDamage}
+use Rattle.cache_model.specs.Damage.{TellNoDamage}
 use Rattle.stripe_core.specs.Place.{IsFragmentAs, place_end}
 use Rattle.stripe_write.specs.declared.writer.Writer.{Writer}
 use Rattle.stripe_write.specs.Others.{IsOfPut}

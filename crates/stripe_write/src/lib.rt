@@ -16,6 +16,3 @@ pub use laws::{others_stay, writers_stay};
 pub use removal::{Removal, remove};
 pub use writer::Writer;
 pub use writing::{abort_write, open_write, write};
-
-#[cfg(test)]
-mod tests;

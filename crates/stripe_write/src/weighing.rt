@@ -25,11 +25,7 @@ use fragment_table::FragTable;
 use std::alloc::{AllocError, Global};
 use stripe_core::{Refusal, Stripe};
 use stripe_vectors::{KeyVector, Spelled, read_is_listed, read_vector, spell};
-use tape_base::{Digest, Geometry};
-
-const BLOCK: usize = 512;
-
-const HEADER: usize = 128;
+use tape_base::{BLOCK, Digest, Geometry, HEADER};
 
 /// The vector that a put is to have: with what the key's vector listed, where that was read, and with
 /// the put's own alternate alone.

@@ -1,11 +1,12 @@
-// What no clause says: that calls succeed where memory is found, and how long a put is known.
+// What no clause of `stripe_actors` says: that calls succeed where memory is found, and how long a
+// put is known.
 ghost use Rattle.std.specs.Prelude.{◌≡◌};
 ghost use Rattle.open_directory.specs.Directory.{is_open};
 
-use super::*;
 use alternate_vector::Fields;
 use open_directory::PutState;
-use std::test::*;
+use std::test::Fail;
+use stripe_actors::{Actors, OpenPutRefusal};
 use tape_base::{Digest, Key};
 
 fn open(rt: &impl AllocGlobal, actors: &mut Actors, url: &str) -> Result<u64, OpenPutRefusal> {

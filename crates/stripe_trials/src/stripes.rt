@@ -1,31 +1,12 @@
-// What no clause says: a fresh stripe, a writer, a reader, and a piece that is missing.
-ghost use Rattle.std.specs.Prelude.{◌≡◌, None, IfOk};
-ghost use Rattle.stripe_core.specs.Stripe.{IsStripe, state_in};
-
-use crate::{Flushed, Found, Stripe};
+// What no clause of `stripe_core` says: a fresh stripe, a writer, a reader, and a missing piece.
+use crate::making::empty;
 use alternate_vector::Fields;
-use ats_disk::{Disk, MemDisk};
-use cache_chronicle::{Chronicle, FullChronicle};
+use ats_disk::Disk;
+use cache_chronicle::Chronicle;
 use cache_model::{Cause, NextAnswer, ReadAnswer};
-use dir_table::{Directory, ListDirectory};
 use std::test::Fail;
-use tape_base::{Actor, Geometry, Key, PieceId};
-
-// A lap of 64 blocks, a buffer of 8.
-fn empty(rt: &impl AllocGlobal) -> Result<Stripe<MemDisk, ListDirectory, FullChronicle>, Fail>
-    ensures stripe { IfOk result (λ t. IsStripe ⟦<MemDisk as Disk>⟧ ⟦<ListDirectory as Directory>⟧ ⟦<FullChronicle as Chronicle>⟧ t) }
-    ensures quiet { IfOk result (λ t. (state_in ⟦<FullChronicle as Chronicle>⟧ t).pending ≡ None) }
-{
-    let g = Geometry::check(1, 64, 64, 8, 16, 4, 7).map_err(|_| "refused")?;
-    let disk = MemDisk::new(rt.alloc(), 64)?;
-    if disk.blocks() < g.content {
-        return Err("a short device".into());
-    }
-    match Stripe::format(rt.alloc(), disk, FullChronicle::new(rt.alloc()), g) {
-        Ok(stripe) => Ok(stripe),
-        Err((_, _disk, _chronicle)) => Err("refused".into()),
-    }
-}
+use stripe_core::{Flushed, Found};
+use tape_base::{Actor, Key, PieceId};
 
 fn vector() -> PieceId {
     PieceId {

@@ -1,8 +1,7 @@
-// What no clause says: short sessions worked by hand, and each cause of a miss.
-use super::*;
-use alternate_vector::Fields;
-use std::alloc::AllocError;
-use std::test::*;
+// What no clause of `cache_chronicle` says: short sessions worked by hand, and each cause of a miss.
+use crate::making::{add, fields};
+use cache_chronicle::{Cause, Chronicle, FullChronicle, Rec};
+use std::test::Fail;
 use tape_base::{Actor, Digest, Geometry, Key, PieceId};
 
 // What an object is asked of, and what it answers.
@@ -22,12 +21,6 @@ fn piece(url: &str, put: u64, index: u32) -> PieceId {
         put,
         index,
     }
-}
-
-fn add(chronicle: &mut FullChronicle, rec: Rec) -> Result<(), AllocError> {
-    chronicle.reserve(1)?;
-    chronicle.push(rec);
-    Ok(())
 }
 
 // A session on 64 blocks of content, with a buffer of 8.
@@ -63,16 +56,12 @@ fn open(
     url: &str,
     value: &str,
 ) -> Result<(), Fail> {
-    let mut request = Fields::new(rt.alloc());
-    let mut response = Fields::new(rt.alloc());
-    request.append(b"X", value.as_bytes()).ok().ok_or("a line")?;
-    response.append(b"Vary", b"X").ok().ok_or("a line")?;
     let rec = Rec::WriteOpened {
         actor: Actor(1),
         put,
         key: key(url),
-        request,
-        response,
+        request: fields(rt, &[("X", value)])?,
+        response: fields(rt, &[("Vary", "X")])?,
         pin: 0,
     };
     Ok(add(chronicle, rec)?)

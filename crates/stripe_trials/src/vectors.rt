@@ -1,19 +1,11 @@
-// What no clause says: that calls succeed with ample memory, worked matches, and spellings by hand.
+// What no clause of `alternate_vector` says: that calls succeed with ample memory, worked matches,
+// and spellings by hand.
 ghost use Rattle.std.specs.Prelude.{◌≡◌, ◌≤◌, IfOk};
 
-use super::*;
+use crate::making::fields;
+use alternate_vector::{Alternate, FieldFault, Fields, Vector, VectorFault, matches};
 use fragment_table::FragTable;
-use std::test::*;
-
-// The fields of one line for each pair.
-fn fields(rt: &impl AllocGlobal, lines: &[(&str, &str)]) -> Result<Fields, Fail> {
-    let mut fields = Fields::new(rt.alloc());
-    for (name, value) in lines {
-        let added = fields.append(name.as_bytes(), value.as_bytes());
-        added.ok().ok_or("the line is a field")?;
-    }
-    Ok(fields)
-}
+use std::test::Fail;
 
 fn alternate(
     rt: &impl AllocGlobal,

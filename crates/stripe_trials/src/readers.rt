@@ -1,32 +1,16 @@
-// What no clause says: a key that is missed, and a follower that waits.
+// What no clause of `stripe_read` says: a key that is missed, and a follower that waits.
 ghost use Rattle.std.specs.Prelude.{◌≡◌, None, IfOk};
 ghost use Rattle.stripe_core.specs.Stripe.{IsStripe, state_in};
 
-use crate::{NextPiece, Opened, close_read, open_read, read_next};
+use crate::making::{Small, empty};
 use alternate_vector::Fields;
 use ats_disk::{Disk, MemDisk};
 use cache_chronicle::{Chronicle, FullChronicle};
 use cache_model::Cause;
 use dir_table::{Directory, ListDirectory};
 use std::test::Fail;
-use stripe_core::Stripe;
-use tape_base::{Actor, Geometry, Key};
-
-// A lap of 64 blocks, a buffer of 8.
-fn empty(rt: &impl AllocGlobal) -> Result<Stripe<MemDisk, ListDirectory, FullChronicle>, Fail>
-    ensures stripe { IfOk result (λ t. IsStripe ⟦<MemDisk as Disk>⟧ ⟦<ListDirectory as Directory>⟧ ⟦<FullChronicle as Chronicle>⟧ t) }
-    ensures quiet { IfOk result (λ t. (state_in ⟦<FullChronicle as Chronicle>⟧ t).pending ≡ None) }
-{
-    let g = Geometry::check(1, 64, 64, 8, 16, 4, 7).map_err(|_| "refused")?;
-    let disk = MemDisk::new(rt.alloc(), 64)?;
-    if disk.blocks() < g.content {
-        return Err("a short device".into());
-    }
-    match Stripe::format(rt.alloc(), disk, FullChronicle::new(rt.alloc()), g) {
-        Ok(stripe) => Ok(stripe),
-        Err((_, _disk, _chronicle)) => Err("refused".into()),
-    }
-}
+use stripe_read::{NextPiece, Opened, close_read, open_read, read_next};
+use tape_base::{Actor, Key};
 
 #[test]
 fn a_key_that_was_never_put_is_missed(rt: HostRuntime) -> Result<(), Fail> {
@@ -68,14 +52,14 @@ fn a_follower_of_an_open_writer_waits(rt: HostRuntime) -> Result<(), Fail> {
     Ok(())
 }
 
-fn open_put(
-    stripe: &mut Stripe<MemDisk, ListDirectory, FullChronicle>,
-    key: Key,
-) -> Result<u64, Fail>
-    requires stripe { IsStripe ⟦<MemDisk as Disk>⟧ ⟦<ListDirectory as Directory>⟧ ⟦<FullChronicle as Chronicle>⟧ stripe.old }
+fn open_put(stripe: &mut Small, key: Key) -> Result<u64, Fail>
+    requires stripe { IsStripe ⟦<MemDisk as Disk>⟧ ⟦<ListDirectory as Directory>⟧
+        ⟦<FullChronicle as Chronicle>⟧ stripe.old }
     requires quiet { (state_in ⟦<FullChronicle as Chronicle>⟧ stripe.old).pending ≡ None }
-    ensures stripe { IfOk result (λ put. IsStripe ⟦<MemDisk as Disk>⟧ ⟦<ListDirectory as Directory>⟧ ⟦<FullChronicle as Chronicle>⟧ stripe.new) }
-    ensures quiet { IfOk result (λ put. (state_in ⟦<FullChronicle as Chronicle>⟧ stripe.new).pending ≡ None) }
+    ensures stripe { IfOk result (λ put. IsStripe ⟦<MemDisk as Disk>⟧ ⟦<ListDirectory as Directory>⟧
+        ⟦<FullChronicle as Chronicle>⟧ stripe.new) }
+    ensures quiet { IfOk result (λ put.
+        (state_in ⟦<FullChronicle as Chronicle>⟧ stripe.new).pending ≡ None) }
 {
     let alloc = stripe.alloc();
     match stripe.start_put(Actor(1), key, Fields::new(alloc), Fields::new(alloc), 0) {
