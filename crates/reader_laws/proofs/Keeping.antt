@@ -10,8 +10,8 @@ use Rattle.cache_model.specs.declared.record.Rec.{Rec}
 use Rattle.cache_model.specs.declared.record.Rec.TheVariants as rec
 use Rattle.cache_model.specs.State.{State, PutRow, ReaderRow, Closed, GivenUp, after_all, change_put, change_reader, opened_reader, put_of, reader_of, state_after, with_cut, with_writing, without_reader}
 use Rattle.cache_model.specs.Verdict.{cuts_of}
-use Rattle.cache_model.specs.StepLaws.{AllAlong, IsNumbered}
-use Rattle.stripe_actors.proofs.Rows.{find-changed, find-without}
+use Rattle.model_laws.specs.StepLaws.{AllAlong, IsNumbered}
+use Rattle.cache_model.proofs.ByNumber.{find-changed, find-without}
 use Rattle.script_run.proofs.Changed.{changed, either, found_changed}
 use Rattle.script_run.proofs.Values.{other_than}
 use Rattle.reader_laws.proofs.Beside.{AllBeside, AnyNumber, IsBeside, OtherThan}

@@ -15,8 +15,8 @@ use Rattle.cache_model.specs.Permit.{Permit}
 use Rattle.cache_model.specs.Given
 use Rattle.cache_model.specs.Legal
 use Rattle.cache_model.specs.Legal.{answer_record}
-use Rattle.cache_model.proofs.Answered.{end_gives_none, given_is_own}
-use Rattle.cache_model.proofs.Found.{same_some}
+use Rattle.cache_model.proofs.Found.{end_gives_none, same_some}
+use Rattle.model_laws.proofs.Answered.{given_is_own}
 use Rattle.cache_model.proofs.Steps.{all_append}
 use Rattle.script_run.specs.Run.{Run, Stream}
 use Rattle.script_run.specs.Turn.{told_in}

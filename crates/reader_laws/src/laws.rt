@@ -1,7 +1,7 @@
 // Laws of all that a reader is given. These functions do nothing when they run.
 ghost use Rattle.reader_laws.specs.Laws.{AllGiven, EndIsAll, FirstGiven, FollowIsAsked, FragmentsGiven, GotIsPut, HitIsAsked, HitOpens, LegalIsKept, LegalIsOwn, LengthIsTold, OpensFirst, OwnIsKeptAlong, PutIsMeasured};
 
-use cache_model::{
+use model_laws::{
     formats_tell, legal_is_sound, nothing_asked, numbers_follow, one_group, reader_is_closed,
     steps_are_sound, steps_tell,
 };

@@ -6,7 +6,7 @@ use Rattle.tape_base.specs.declared.geometries.BadGeometry.{BadGeometry}
 use Rattle.tape_base.specs.Limits.{first_refusal}
 use Rattle.cache_model.specs.declared.record.Rec.{Rec}
 use Rattle.cache_model.specs.State.{State, after_all}
-use Rattle.cache_model.specs.Agreeing.{AreLike, IsUntroubled, ShowsOtherCopy, StepsAgree}
+use Rattle.model_laws.specs.Agreeing.{AreLike, IsUntroubled, ShowsOtherCopy, StepsAgree}
 use Rattle.script_lang.specs.declared.step.Step.{Step}
 use Rattle.script_lang.specs.declared.step.Step.TheVariants as step
 use Rattle.script_lang.specs.declared.line.LineAnswer.{LineAnswer}

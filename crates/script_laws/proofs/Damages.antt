@@ -12,8 +12,7 @@ use Rattle.cache_model.specs.State.{State, after_all, state_after}
 use Rattle.cache_model.specs.Permit.{Intent, IsAmong, Permit, Reason}
 use Rattle.cache_model.specs.Legal.{IsStep}
 use Rattle.cache_model.proofs.Found.{no_truth, none_is}
-use Rattle.stripe_core.specs.Damages.{tells_damage}
-use Rattle.stripe_core.specs.Unharmed.{has_damage, is_damage}
+use Rattle.cache_model.specs.Damage.{tells_damage, has_damage, is_damage}
 use Rattle.script_lang.specs.declared.step.Step.{Step}
 use Rattle.script_run.specs.Run.{Run}
 use Rattle.script_run.specs.Turn.{Turn}

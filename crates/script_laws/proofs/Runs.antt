@@ -11,7 +11,7 @@ use Rattle.cache_model.specs.declared.record.Rec.{Rec}
 use Rattle.cache_model.specs.State.{State, after_all, nothing_yet}
 use Rattle.cache_model.specs.Legal.{format_records}
 use Rattle.cache_model.proofs.Found.{no_truth}
-use Rattle.stripe_core.specs.Unharmed.{has_damage, is_damage}
+use Rattle.cache_model.specs.Damage.{has_damage, is_damage}
 use Rattle.script_lang.specs.declared.step.Step.{Step}
 use Rattle.script_lang.specs.declared.step.Step.TheVariants as step
 use Rattle.script_lang.specs.declared.line.LineAnswer.{LineAnswer}

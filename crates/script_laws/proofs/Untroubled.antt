@@ -7,7 +7,7 @@ use Rattle.cache_model.specs.declared.record.Rec.TheVariants as rec
 use Rattle.cache_model.specs.State.{State, after_all, state_after}
 use Rattle.cache_model.specs.Permit.{Intent, Permit, Reason}
 use Rattle.cache_model.specs.Legal.{IsStep}
-use Rattle.cache_model.specs.Agreeing.{IsUntroubled, is_trouble}
+use Rattle.model_laws.specs.Agreeing.{IsUntroubled, is_trouble}
 use Rattle.cache_model.proofs.Found.{no_truth}
 use Rattle.script_run.specs.Run.{Harm, no_harm}
 use Rattle.script_run.specs.Behind.{harm_in}

@@ -2,7 +2,7 @@
 -- are shown.
 use Rattle.std.specs.Prelude.{ℕ, ◌≡◌, ◌⊎◌, Option, Some, None, List, ◌∷◌, ◌++◌, All}
 use Rattle.cache_model.specs.State.{State}
-use Rattle.cache_model.specs.Agreeing.{ShowsOtherCopy}
+use Rattle.model_laws.specs.Agreeing.{ShowsOtherCopy}
 use Rattle.script_lang.specs.declared.step.Step.{Step}
 use Rattle.script_lang.specs.declared.line.LineAnswer.{LineAnswer}
 use Rattle.script_lang.specs.declared.line.LineAnswer.TheVariants as line

@@ -1,7 +1,7 @@
 -- What no line of a whole script answers, by what was told of its devices.
 use Rattle.std.specs.Prelude.{ℕ, ◌≡◌, ⊤, Bool, true, false, List, [], ◌∷◌, All, option_map, unwrap_or}
 use Rattle.cache_model.specs.declared.cause.Cause.{Cause}
-use Rattle.stripe_core.specs.Unharmed.{is_damage}
+use Rattle.cache_model.specs.Damage.{is_damage}
 use Rattle.script_lang.specs.declared.line.LineAnswer.{LineAnswer}
 use Rattle.script_lang.specs.declared.line.LineAnswer.TheVariants as line
 use Rattle.script_lang.specs.declared.answer.StepAnswer.{StepAnswer}

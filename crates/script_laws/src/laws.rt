@@ -6,7 +6,7 @@ ghost use Rattle.script_laws.specs.Runs.{FaultlessRuns, UndamagedRuns};
 ghost use Rattle.script_run.specs.Losses.{FormatsLoseNone, LossesStay};
 ghost use Rattle.script_laws.specs.Troubles.{FaultIsRecorded, FaultStays, RefusalIsRecorded};
 
-use cache_model::steps_agree;
+use model_laws::steps_agree;
 
 /// Each cause that a step tells to those who read is how things stand, or that of a piece that was lost
 /// before, or that of a record of the step.

@@ -9,7 +9,7 @@ use Rattle.cache_model.specs.Verdict.{is_open}
 use Rattle.cache_model.specs.Permit.{Permit, Intent, Fragment, Weigh, Finish, Commit, GiveUp, StopReading, End, Stays, Done, Fails, Exhausted, Faulted, Work, Reason, is_cleanup, work_after}
 use Rattle.cache_model.specs.Legal
 use Rattle.cache_model.specs.Legal.{Advances, Does, IsStep, MayGrow, nothing, more, IsWriting, aborted_record, is_writing}
-use Rattle.cache_model.specs.StepLaws.{EndsWith}
+use Rattle.model_laws.specs.StepLaws.{EndsWith}
 use Rattle.cache_model.proofs.Steps.{after_all-append, none_left}
 use Rattle.cache_model.proofs.Found.{no_truth, number_of}
 use Rattle.script_run.specs.Asked.{close_intents}

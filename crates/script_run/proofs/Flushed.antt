@@ -14,7 +14,7 @@ use Rattle.script_run.proofs.Fragments.{own_kind, own_stands, stands_own}
 use Rattle.script_run.proofs.Flushing.{loses_alike, stands_flushed, stopped_loses}
 
 pub flush_owns : (p : Permit) (s : State) (streams : ℕ → Stream) (now left : ℕ) (outcomes : List Outcome) → IsSound s → AreOwn s streams → AreOutcomes p s left (due_pieces s now) outcomes
-    → AreOwn (after_all s (flush_records s (due_pieces s now) outcomes)) streams ⊎ IsCopyPair (IsPlacedAs streams) p s now
+    → AreOwn (after_all s (flush_records s (due_pieces s now) outcomes)) streams ⊎ IsCopyPair (IsPlacedAs streams) p s now left
 flush_owns p s streams now left outcomes sound own o = elim (stands_flushed own_kind p s streams now left outcomes sound (stands_own s streams own) o) [
   | inl stands ↦ inl (own_stands (after_all s (flush_records s (due_pieces s now) outcomes)) streams stands)
   | inr pair ↦ inr pair

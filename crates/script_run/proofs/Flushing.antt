@@ -11,19 +11,19 @@ use Rattle.cache_model.specs.declared.record.Rec.{Rec}
 use Rattle.cache_model.specs.declared.record.Rec.TheVariants as rec
 use Rattle.cache_model.specs.State.{State, Row, PutRow, after_all, place_now, state_after, without}
 use Rattle.cache_model.specs.Pair.{IsCopyPair, IsPairOf}
-use Rattle.cache_model.specs.Permit.{IsAmong, Permit}
+use Rattle.cache_model.specs.Permit.{Permit}
 use Rattle.cache_model.specs.Tape.{AreApart, IsSound}
 use Rattle.cache_model.specs.Due.{due_pieces}
+use Rattle.cache_model.specs.ToRead
+use Rattle.cache_model.specs.ToRead.{ComesTo}
 use Rattle.cache_model.specs.Outcomes.{AreOutcomes, Copied, Copy, NoRoom, Outcome, Refused, Spoiled, began_record, copies_of, flush_records, front_of, moved_record, moved_records, records_of, stopped_front_of, stopped_records, stopped_records_of}
-use Rattle.cache_model.proofs.Rows.{ArePart, apart-part, part-filter, part-trans, part_all}
+use Rattle.cache_model.proofs.Rows.{ArePart, apart-part, part-filter, part-trans, part_all, each_part}
 use Rattle.cache_model.proofs.Steps.{after_all-append}
 use Rattle.cache_model.proofs.Copies.{AreReady, IsReady, copied_is, others_stand, rows_of, still_ready}
 use Rattle.cache_model.proofs.SoundFlush.{copies_part, copies_ready, due_part, part_ready}
 use Rattle.cache_model.proofs.Live.{IsFound, due_are_live}
-use Rattle.cache_model.proofs.Told.{each_part}
-use Rattle.cache_model.proofs.ToldFlush.{as_shown, go_on, moved}
-use Rattle.cache_model.proofs.Walks.{all_among}
-use Rattle.cache_model.proofs.Alike.{given_alike}
+use Rattle.model_laws.proofs.ToldFlush.{LeadsTo, as_shown, go_on, moved}
+use Rattle.model_laws.proofs.Alike.{given_alike}
 use Rattle.script_run.specs.Run.{Stream}
 use Rattle.script_run.specs.Own.{AreOwnPuts, IsOwnReader}
 use Rattle.script_run.proofs.Saying.{IsCopied, IsRow, Kind, Stands, rows_carried}
@@ -163,36 +163,36 @@ loses_alike s t l = record {
 
 -- ---- what is copied
 
--- it is due, belongs to what its writer took, and was given
-record IsSaved (kind : Kind) (p : Permit) (s : State) (streams : ℕ → Stream) (now : ℕ) (c : Copy) : Type 0 where
-  due : IsAmong c.row (due_pieces s now)
+-- the flush came to it, it belongs to what its writer took, and was given
+record IsSaved (kind : Kind) (p : Permit) (s : State) (streams : ℕ → Stream) (now left : ℕ) (c : Copy) : Type 0 where
+  comes : ComesTo p c.row s left (due_pieces s now)
   own : IsRow kind s streams c.row
   copied : IsCopied p s c
 
 -- it was given behind the records of others, which leave where the buffer begins
-are_saved : (kind : Kind) (p : Permit) (s t : State) (streams : ℕ → Stream) (now left : ℕ) (rows : List Row) (outcomes : List Outcome) → t.cursor ≡ s.cursor → AllByRecursion (λ row. IsAmong row (due_pieces s now)) rows
-    → AllByRecursion (IsRow kind s streams) rows → AllByRecursion (IsFound s) rows → AreOutcomes p t left rows outcomes → AllByRecursion (IsSaved kind p s streams now) (copies_of rows outcomes)
-are_saved kind p s t streams now left [] outcomes same due own live h = tt
-are_saved kind p s t streams now left (row ∷ rows) [] same due own live h = tt
-are_saved kind p s t streams now left (row ∷ rows) (NoRoom ∷ outcomes) same due own live h =
-    are_saved kind p s (after_all t (records_of row NoRoom)) streams now left rows outcomes same due.1 own.1 live.1 h.1
-are_saved kind p s t streams now left (row ∷ rows) (Copied bytes ∷ outcomes) same due own live h = (
-  record { due = due.0; own = own.0; copied = record { live = live.0; given = given_alike p t s row bytes (sym same) h.0.1; digest = h.0.2 } },
-  are_saved kind p s t streams now (left - row.blocks) rows outcomes same due.1 own.1 live.1 h.1,
+are_saved : (kind : Kind) (p : Permit) (s t : State) (streams : ℕ → Stream) (now left behind : ℕ) (rows : List Row) (outcomes : List Outcome) → t.cursor ≡ s.cursor → LeadsTo p s now left t behind rows
+    → AllByRecursion (IsRow kind s streams) rows → AllByRecursion (IsFound s) rows → AreOutcomes p t behind rows outcomes → AllByRecursion (IsSaved kind p s streams now left) (copies_of rows outcomes)
+are_saved kind p s t streams now left behind [] outcomes same leads own live h = tt
+are_saved kind p s t streams now left behind (row ∷ rows) [] same leads own live h = tt
+are_saved kind p s t streams now left behind (row ∷ rows) (NoRoom ∷ outcomes) same leads own live h =
+    are_saved kind p s (after_all t (records_of row NoRoom)) streams now left behind rows outcomes same (λ piece c. leads piece (ToRead.ComesTo.behind NoRoom h.0 c)) own.1 live.1 h.1
+are_saved kind p s t streams now left behind (row ∷ rows) (Copied bytes ∷ outcomes) same leads own live h = (
+  record { comes = leads row (ToRead.ComesTo.here h.0.0); own = own.0; copied = record { live = live.0; given = given_alike p t s row bytes (sym same) h.0.1; digest = h.0.2 } },
+  are_saved kind p s t streams now left (behind - row.blocks) rows outcomes same (λ piece c. leads piece (ToRead.ComesTo.behind (Copied bytes) h.0 c)) own.1 live.1 h.1,
 )
-are_saved kind p s t streams now left (row ∷ rows) (Spoiled found ∷ outcomes) same due own live h =
-    are_saved kind p s (after_all t (records_of row (Spoiled found))) streams now (left - row.blocks) rows outcomes same due.1 own.1 live.1 h.1
-are_saved kind p s t streams now left (row ∷ rows) (Refused count ∷ outcomes) same due own live h =
-    are_saved kind p s (after_all t (records_of row (Refused count))) streams now (left - row.blocks) rows outcomes same due.1 own.1 live.1 h.1
+are_saved kind p s t streams now left behind (row ∷ rows) (Spoiled found ∷ outcomes) same leads own live h =
+    are_saved kind p s (after_all t (records_of row (Spoiled found))) streams now left (behind - row.blocks) rows outcomes same (λ piece c. leads piece (ToRead.ComesTo.behind (Spoiled found) h.0 c)) own.1 live.1 h.1
+are_saved kind p s t streams now left behind (row ∷ rows) (Refused count ∷ outcomes) same leads own live h =
+    are_saved kind p s (after_all t (records_of row (Refused count))) streams now left (behind - row.blocks) rows outcomes same (λ piece c. leads piece (ToRead.ComesTo.behind (Refused count) h.0 c)) own.1 live.1 h.1
 
--- the pair of a copied piece is of one that was due
-copy_pair : (kind : Kind) (p : Permit) (s : State) (streams : ℕ → Stream) (now : ℕ) (c : Copy) → IsSaved kind p s streams now c → IsPairOf (kind.documents streams) p s c.row → IsCopyPair (kind.documents streams) p s now
-copy_pair kind p s streams now c saved pair = record { row = c.row; due = saved.due; written = saved.copied.given.written; pair = pair }
+-- the pair of a copied piece is of one to which the flush came
+copy_pair : (kind : Kind) (p : Permit) (s : State) (streams : ℕ → Stream) (now left : ℕ) (c : Copy) → IsSaved kind p s streams now left c → IsPairOf (kind.documents streams) p s c.row → IsCopyPair (kind.documents streams) p s now left
+copy_pair kind p s streams now left c saved pair = record { row = c.row; copied = record { written = saved.copied.given.written; comes = saved.comes }; pair = pair }
 
-moved_own : (kind : Kind) (p : Permit) (s : State) (streams : ℕ → Stream) (now place : ℕ) (c : Copy) → AreOwnPuts s streams → IsSaved kind p s streams now c
-    → IsRow kind s streams (moved place c) ⊎ IsCopyPair (kind.documents streams) p s now
-moved_own kind p s streams now place c puts saved =
-    go_on (as_shown (copy_pair kind p s streams now c saved) (kind.copied p s streams place c puts saved.copied saved.own.0)) (λ says. inl (says, saved.own.1))
+moved_own : (kind : Kind) (p : Permit) (s : State) (streams : ℕ → Stream) (now left place : ℕ) (c : Copy) → AreOwnPuts s streams → IsSaved kind p s streams now left c
+    → IsRow kind s streams (moved place c) ⊎ IsCopyPair (kind.documents streams) p s now left
+moved_own kind p s streams now left place c puts saved =
+    go_on (as_shown (copy_pair kind p s streams now left c saved) (kind.copied p s streams place c puts saved.copied saved.own.0)) (λ says. inl (says, saved.own.1))
 
 rows_moved : (kind : Kind) (s u : State) (streams : ℕ → Stream) (c : Copy) → IsReady u.rows c.row → IsRow kind s streams (moved (place_now u) c) → AllByRecursion (IsRow kind s streams) u.rows
     → AllByRecursion (IsRow kind s streams) (state_after u (moved_record u c)).rows
@@ -204,27 +204,27 @@ rows_moved kind s u streams c ready own each =
 
 -- ---- copy after copy
 
-all_moved : (kind : Kind) (p : Permit) (s u : State) (streams : ℕ → Stream) (now : ℕ) (copies : List Copy) → AreOwnPuts s streams → AreApart (rows_of copies) → AreReady u.rows (rows_of copies) → AllByRecursion (IsSaved kind p s streams now) copies
-    → AllByRecursion (IsRow kind s streams) u.rows → AllByRecursion (IsRow kind s streams) (after_all u (moved_records u copies)).rows ⊎ IsCopyPair (kind.documents streams) p s now
-all_moved kind p s u streams now [] puts apart ready saved each = inl each
-all_moved kind p s u streams now (c ∷ copies) puts apart ready saved each =
+all_moved : (kind : Kind) (p : Permit) (s u : State) (streams : ℕ → Stream) (now left : ℕ) (copies : List Copy) → AreOwnPuts s streams → AreApart (rows_of copies) → AreReady u.rows (rows_of copies) → AllByRecursion (IsSaved kind p s streams now left) copies
+    → AllByRecursion (IsRow kind s streams) u.rows → AllByRecursion (IsRow kind s streams) (after_all u (moved_records u copies)).rows ⊎ IsCopyPair (kind.documents streams) p s now left
+all_moved kind p s u streams now left [] puts apart ready saved each = inl each
+all_moved kind p s u streams now left (c ∷ copies) puts apart ready saved each =
     let t : State = state_after u (moved_record u c) in
-    go_on (moved_own kind p s streams now (place_now u) c puts saved.0) (λ own.
-    all_moved kind p s t streams now copies puts apart.1 (still_ready u.rows t.rows c.row.id (others_stand u c) (rows_of copies) apart.0 ready.1) saved.1 (rows_moved kind s u streams c ready.0 own each))
+    go_on (moved_own kind p s streams now left (place_now u) c puts saved.0) (λ own.
+    all_moved kind p s t streams now left copies puts apart.1 (still_ready u.rows t.rows c.row.id (others_stand u c) (rows_of copies) apart.0 ready.1) saved.1 (rows_moved kind s u streams c ready.0 own each))
 
 flush_rows : (kind : Kind) (p : Permit) (s : State) (streams : ℕ → Stream) (now left : ℕ) (outcomes : List Outcome) → IsSound s → Stands kind s streams → AreOutcomes p s left (due_pieces s now) outcomes
-    → AllByRecursion (IsRow kind s streams) (after_all s (flush_records s (due_pieces s now) outcomes)).rows ⊎ IsCopyPair (kind.documents streams) p s now
+    → AllByRecursion (IsRow kind s streams) (after_all s (flush_records s (due_pieces s now) outcomes)).rows ⊎ IsCopyPair (kind.documents streams) p s now left
 flush_rows kind p s streams now left outcomes h own o =
     let rows : List Row = due_pieces s now in
     let copies : List Copy = copies_of rows outcomes in
     let u : State = opened_buffer s (front_of rows outcomes) in
     let apart : AreApart rows = apart-part (due_part s now) h.apart in
-    let saved : AllByRecursion (IsSaved kind p s streams now) copies =
-    are_saved kind p s s streams now left rows outcomes refl (all_among (λ row. IsAmong row rows) rows (λ row among. among)) (each_part (IsRow kind s streams) (due_part s now) own.rows) (due_are_live s now h) o in
+    let saved : AllByRecursion (IsSaved kind p s streams now left) copies =
+    are_saved kind p s s streams now left left rows outcomes refl (λ row c. c) (each_part (IsRow kind s streams) (due_part s now) own.rows) (due_are_live s now h) o in
     let ready : AreReady u.rows (rows_of copies) = copies_ready s rows outcomes apart (part_ready s rows h (due_part s now)) in
     let each : AllByRecursion (IsRow kind s streams) u.rows = each_part (IsRow kind s streams) (opened_loses s rows outcomes).rows own.rows in
-    flush_is s rows outcomes (λ (t : State). AllByRecursion (IsRow kind s streams) t.rows ⊎ IsCopyPair (kind.documents streams) p s now)
-    (all_moved kind p s u streams now copies own.puts (apart-part (copies_part rows outcomes) apart) ready saved each)
+    flush_is s rows outcomes (λ (t : State). AllByRecursion (IsRow kind s streams) t.rows ⊎ IsCopyPair (kind.documents streams) p s now left)
+    (all_moved kind p s u streams now left copies own.puts (apart-part (copies_part rows outcomes) apart) ready saved each)
 
 -- where the books are the same, what stands is own where its rows are
 stands_by_rows : (kind : Kind) (s t : State) (streams : ℕ → Stream) → SameBooks s t → Stands kind s streams → AllByRecursion (IsRow kind s streams) t.rows → Stands kind t streams
@@ -237,7 +237,7 @@ stands_by_rows kind s t streams b own rows =
     }
 
 pub stands_flushed : (kind : Kind) (p : Permit) (s : State) (streams : ℕ → Stream) (now left : ℕ) (outcomes : List Outcome) → IsSound s → Stands kind s streams → AreOutcomes p s left (due_pieces s now) outcomes
-    → Stands kind (after_all s (flush_records s (due_pieces s now) outcomes)) streams ⊎ IsCopyPair (kind.documents streams) p s now
+    → Stands kind (after_all s (flush_records s (due_pieces s now) outcomes)) streams ⊎ IsCopyPair (kind.documents streams) p s now left
 stands_flushed kind p s streams now left outcomes h own o =
     let t : State = after_all s (flush_records s (due_pieces s now) outcomes) in
     go_on (flush_rows kind p s streams now left outcomes h own o) (λ rows. inl (stands_by_rows kind s t streams (flush_books s (due_pieces s now) outcomes) own rows))
@@ -257,7 +257,7 @@ held_stopped kind g streams s rows outcomes count h =
     held_alike kind g streams s t (loses_alike s t l) (l.books.displaced ∙ h.displaced) h
 
 pub held_flushed : (kind : Kind) (g : Geometry) (streams : ℕ → Stream) (p : Permit) (s : State) (now left : ℕ) (outcomes : List Outcome) → IsSound s → IsHeld kind g streams s
-    → AreOutcomes p s left (due_pieces s now) outcomes → IsHeld kind g streams (after_all s (flush_records s (due_pieces s now) outcomes)) ⊎ IsCopyPair (kind.documents streams) p s now
+    → AreOutcomes p s left (due_pieces s now) outcomes → IsHeld kind g streams (after_all s (flush_records s (due_pieces s now) outcomes)) ⊎ IsCopyPair (kind.documents streams) p s now left
 held_flushed kind g streams p s now left outcomes sound h o =
     let t : State = after_all s (flush_records s (due_pieces s now) outcomes) in
     let b : SameBooks s t = flush_books s (due_pieces s now) outcomes in

@@ -11,8 +11,8 @@ use Rattle.cache_model.specs.Pair.{IsPairOf}
 use Rattle.cache_model.specs.Permit.{Permit}
 use Rattle.cache_model.specs.Outcomes.{Copy}
 use Rattle.cache_model.proofs.Found.{number_of}
-use Rattle.cache_model.proofs.Pairs.{AreAlso}
-use Rattle.cache_model.proofs.ToldFlush.{moved}
+use Rattle.model_laws.proofs.Pairs.{AreAlso}
+use Rattle.model_laws.proofs.ToldFlush.{moved}
 use Rattle.script_run.specs.Run.{Stream}
 use Rattle.script_run.specs.Own.{AreKept, AreOwn, AreOwnPuts, IsOwnFragment, IsPlacedAs, fragment_doc, fragment_document, piece_of}
 use Rattle.script_run.proofs.Carried.{fragment_carried}

@@ -15,7 +15,7 @@ use Rattle.cache_model.specs.declared.cause.Cause.{Cause}
 use Rattle.cache_model.specs.declared.record.Rec.{Rec}
 use Rattle.cache_model.specs.declared.record.Rec.TheVariants as rec
 use Rattle.cache_model.specs.State.{State, Row, PutRow, ReaderRow, after_all, state_after}
-use Rattle.cache_model.specs.Choices.{flushes_first}
+use Rattle.cache_model.specs.ToRead.{flushes_first}
 use Rattle.cache_model.specs.Pair.{IsCopyPair, IsPair, IsPairNext, ShowsFrom}
 use Rattle.cache_model.specs.Room.{has_room}
 use Rattle.cache_model.specs.Permit.{Permit, Intent, Flush, Write, Fragment, Overflow, Weigh, Finish, Commit, GiveUp, Remove, Look, ReadOn, ReadAll, StopReading, End, Stays, Done, Fails, Work, Reason, is_cleanup, work_after}
@@ -27,8 +27,8 @@ use Rattle.cache_model.specs.Tape.{IsSound}
 use Rattle.cache_model.proofs.Onward.{later_advanced}
 use Rattle.cache_model.proofs.Sound.{IsLater}
 use Rattle.cache_model.proofs.Steps.{after_all-append, all_append}
-use Rattle.cache_model.proofs.ToldFlush.{as_shown, go_on}
-use Rattle.cache_model.proofs.ToldGroups.{pair_of_copy, shown_first, shown_later}
+use Rattle.model_laws.proofs.ToldFlush.{as_shown, go_on}
+use Rattle.model_laws.proofs.ToldGroups.{pair_of_copy, shown_first, shown_later}
 use Rattle.script_run.specs.Run.{Stream}
 use Rattle.script_run.specs.Own.{rows_from}
 use Rattle.script_run.proofs.Saying.{Kind}
@@ -79,7 +79,7 @@ module _ (kind : Kind) (g : Geometry) (streams : ℕ → Stream) where
   Leaves p s i added = IsHeld kind g streams (after_all s added) ⊎ IsPair (kind.documents streams) p s i
 
   abbrev Flushes : Permit → State → List Rec → Type 0
-  Flushes p s added = IsHeld kind g streams (after_all s added) ⊎ IsCopyPair (kind.documents streams) p s p.now
+  Flushes p s added = IsHeld kind g streams (after_all s added) ⊎ IsCopyPair (kind.documents streams) p s p.now (budget_of s.geometry)
 
   -- records that change no put
   abbrev AllPlain : List Rec → Type 0

@@ -11,9 +11,8 @@ use Rattle.cache_model.specs.State.{State, Row, LastVector, Complete, TakenOut, 
 use Rattle.cache_model.specs.Permit.{IsAmong}
 use Rattle.cache_model.specs.Room.{displaced_record}
 use Rattle.cache_model.proofs.Lists.{found_row, own_piece}
-use Rattle.cache_model.proofs.Rows.{part_all, part-filter, part-trans}
+use Rattle.cache_model.proofs.Rows.{part_all, part-filter, part-trans, each_part}
 use Rattle.cache_model.proofs.Steps.{all_append, all_as}
-use Rattle.cache_model.proofs.Told.{each_part}
 use Rattle.script_run.specs.Own.{AreAlternates, AreListedOf, IsListedOf, IsTableOf}
 use Rattle.script_run.proofs.Carried.{AreAlike, alike_carries, all_filter, listed_carried}
 

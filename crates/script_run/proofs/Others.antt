@@ -9,10 +9,9 @@ use Rattle.cache_model.specs.State.{State, Row, PutRow, ReaderRow, live_row_of, 
 use Rattle.cache_model.specs.Verdict.{cuts_of, next_piece, next_row}
 use Rattle.cache_model.specs.Pair.{IsPairOf}
 use Rattle.cache_model.specs.Permit.{Permit}
-use Rattle.cache_model.specs.Given.{IsGiven}
+use Rattle.cache_model.specs.Given.{IsGiven, IsDocumentOf}
 use Rattle.cache_model.specs.Legal.{digest_in}
 use Rattle.cache_model.proofs.Found.{none_is, number_of, same_some}
-use Rattle.stripe_core.specs.Find.{IsDocumentOf}
 use Rattle.script_run.specs.Run.{Stream}
 use Rattle.script_run.specs.Own.{AreOwn, IsOwnReader, IsPlacedAs, IsTableOfHit, rows_from}
 use Rattle.script_run.proofs.Cuts.{row_at}

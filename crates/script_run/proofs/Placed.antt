@@ -23,9 +23,8 @@ use Rattle.cache_model.specs.Legal
 use Rattle.cache_model.specs.Legal.{IsQuiet, next_fragment_of}
 use Rattle.cache_model.proofs.Steps.{after_all-append, all_append, all_as}
 use Rattle.cache_model.proofs.Found.{none_is, number_of, same_some}
-use Rattle.cache_model.proofs.Rows.{part-filter}
+use Rattle.cache_model.proofs.Rows.{part-filter, each_part}
 use Rattle.cache_model.proofs.Sound.{leaves_one}
-use Rattle.cache_model.proofs.Told.{each_part}
 use Rattle.cache_model.proofs.Merged.{list_found}
 use Rattle.script_run.specs.Run.{Stream}
 use Rattle.script_run.specs.Own.{AreAlternates, AreListedOf, IsListedOf, IsOwnPut, piece_of, rows_from}

@@ -19,7 +19,7 @@ use Rattle.cache_model.specs.Permit.{Permit}
 use Rattle.cache_model.specs.Legal.{IsQuiet, format_records}
 use Rattle.cache_model.proofs.Found.{cuts_found, none_is, number_of}
 use Rattle.cache_model.proofs.Lists.{found_row, own_piece}
-use Rattle.stripe_core.specs.Find.{IsDocumentOf}
+use Rattle.cache_model.specs.Given.{IsDocumentOf}
 use Rattle.script_run.specs.Run.{Stream}
 use Rattle.script_run.specs.Own.{AreKept, AreOwn, IsOwnFragment, IsOwnPut, IsOwnReader, IsOwnRow, IsTableOf, IsTableOfHit, IsPlacedAs, fragment_doc, fragment_document, piece_of}
 use Rattle.script_run.proofs.Cuts.{total_cuts}

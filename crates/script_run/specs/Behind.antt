@@ -12,7 +12,7 @@ use Rattle.script_lang.specs.declared.line.LineAnswer.{LineAnswer}
 use Rattle.script_lang.specs.declared.line.LineAnswer.TheVariants as line
 use Rattle.script_lang.specs.Grammar.{reading_of}
 use Rattle.actor_table.specs.Table.{number_of, with_actor}
-use Rattle.stripe_core.specs.Unharmed.{has_damage}
+use Rattle.cache_model.specs.Damage.{has_damage}
 use Rattle.script_run.specs.Run.{Harm, Run, Stream, Holding, Writes, Reads, no_stream, with_value, writer_of, held_by, actor_of}
 use Rattle.script_run.specs.Turn.{Turn}
 use Rattle.script_run.specs.Answers.{took_of}

@@ -10,7 +10,7 @@ use Rattle.cache_model.specs.Verdict.{next_piece, next_row}
 use Rattle.cache_model.specs.declared.answer.ReadAnswer.TheVariants as read
 use Rattle.cache_model.specs.declared.record.Rec.{Rec}
 use Rattle.cache_model.specs.Permit.{End, Intent, Look, Permit, ReadAll, ReadOn, Reason, StopReading}
-use Rattle.cache_model.specs.Given.{IsGiven}
+use Rattle.cache_model.specs.Given.{IsGiven, IsDocumentOf}
 use Rattle.cache_model.specs.Due.{due_pieces}
 use Rattle.cache_model.specs.Outcomes.{AreOutcomes, Outcome, flush_records, stopped_records}
 use Rattle.cache_model.specs.Tape.{IsSound}
@@ -19,7 +19,6 @@ use Rattle.tape_base.specs.Digest.{digest_of}
 use Rattle.doc_header.specs.Reading.{document_digest, payload_of}
 use Rattle.cache_model.specs.Pair.{IsCopyPair, IsPairOf, ShowsPair}
 use Rattle.cache_model.specs.Vectors.{AreTold}
-use Rattle.stripe_core.specs.Find.{IsDocumentOf}
 use Rattle.script_lang.specs.declared.step.Step.{Step}
 use Rattle.script_run.specs.Run.{Run, Stream}
 use Rattle.script_run.specs.Asked.{asked}
@@ -37,7 +36,7 @@ FormatsOwn = (s : State) (geometry : Geometry) (streams : ℕ → Stream) → Ar
 abbrev pub FlushOwns : Type 0
 FlushOwns = (p : Permit) (s : State) (streams : ℕ → Stream) (now left : ℕ) (outcomes : List Outcome) → IsSound s → AreOwn s streams
     → AreOutcomes p s left (due_pieces s now) outcomes
-    → AreOwn (after_all s (flush_records s (due_pieces s now) outcomes)) streams ⊎ IsCopyPair (IsPlacedAs streams) p s now
+    → AreOwn (after_all s (flush_records s (due_pieces s now) outcomes)) streams ⊎ IsCopyPair (IsPlacedAs streams) p s now left
 
 -- one that stops copies none
 abbrev pub StoppedOwns : Type 0

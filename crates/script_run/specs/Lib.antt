@@ -1,4 +1,5 @@
 pub mod Run
+pub mod Ledger
 pub mod Asked
 pub mod Turn
 pub mod Answers
