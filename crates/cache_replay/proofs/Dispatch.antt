@@ -15,7 +15,8 @@ use Rattle.script_run.specs.Behind.{behind}
 use Rattle.cache_replay.specs.declared.session.Session.{Session}
 use Rattle.cache_replay.specs.declared.stop.Stop.{Stop}
 use Rattle.cache_replay.specs.declared.stop.Stop.TheVariants.{NoCache, BayFault, Memory}
-use Rattle.cache_replay.specs.Plays.{Deals, DeviceEnds, DeviceMoves, Ledger, Plays, StepEnds, StepMoves}
+use Rattle.cache_replay.specs.Plays.{DeviceEnds, DeviceMoves, Plays, StepEnds, StepMoves}
+use Rattle.script_run.specs.Ledger.{Deals, Ledger}
 use Rattle.cache_replay.specs.Stop.{IsSessionStop, NeedsSession, StopsStep}
 
 -- what a run says of devices and of the moment

@@ -11,8 +11,8 @@ use Rattle.cache_model.specs.State.{ReaderRow, State, reader_of, state_after}
 use Rattle.cache_model.specs.Kept.{with_records}
 use Rattle.cache_model.specs.Permit.{StopReading}
 use Rattle.cache_model.specs.Legal.{IsQuiet}
-use Rattle.cache_model.specs.Vectors.{GroupsTell}
-use Rattle.stripe_actors.proofs.Rows.{find-without}
+use Rattle.model_laws.specs.VectorLaws.{GroupsTell}
+use Rattle.cache_model.proofs.ByNumber.{find-without}
 use Rattle.stripe_core.specs.Stripe.{IsStripe, kept_in, state_in}
 use Rattle.stripe_read.specs.declared.reader.Reader.{Reader}
 use Rattle.stripe_read.specs.Readers.{ClosesAsAsked}

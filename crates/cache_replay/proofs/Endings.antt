@@ -16,7 +16,7 @@ use Rattle.cache_model.specs.Due.{due_pieces}
 use Rattle.cache_model.specs.Outcomes.{Copy, Outcome, began_record, copies_of, flush_records, front_of, moved_record, moved_records, records_of}
 use Rattle.cache_model.specs.Room.{MayDisplace, displaced_record, greatest_pin, placed_record}
 use Rattle.cache_model.proofs.Steps.{after_all-append, none_left}
-use Rattle.stripe_actors.proofs.Rows.{find-changed}
+use Rattle.cache_model.proofs.ByNumber.{find-changed}
 use Rattle.stripe_write.proofs.Ended.{own_number}
 
 -- ---- what closing asks of a put

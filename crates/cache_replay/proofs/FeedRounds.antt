@@ -13,7 +13,7 @@ use Rattle.cache_model.specs.Kept.{Kept, state_of, with_records}
 use Rattle.cache_model.specs.Verdict.{cuts_of, is_open}
 use Rattle.cache_model.specs.Legal.{is_writing}
 use Rattle.cache_model.proofs.Found.{cuts_found}
-use Rattle.stripe_actors.proofs.Rows.{find-changed}
+use Rattle.cache_model.proofs.ByNumber.{find-changed}
 use Rattle.stripe_core.specs.declared.refusal.Placed.{Placed}
 use Rattle.stripe_core.specs.Place.{IsCutAs}
 use Rattle.stripe_write.specs.declared.writer.Writer.{Writer}

@@ -1,5 +1,5 @@
 -- What a format makes of a session and its bay.
-use Rattle.std.proofs.Common.{◌≡◌, ℕ, List, [], ◌∷◌, ◌++◌, refl, sym, ◌∙◌, ap, subst, arith}
+use Rattle.std.proofs.Common.{◌≡◌, ℕ, ◌+◌, ◌-◌, List, [], ◌∷◌, ◌++◌, refl, sym, ◌∙◌, ap, subst, arith}
 use Rattle.std.specs.Prelude.{Some, None}
 use Rattle.std.proofs.lemmas.List.{append-nil, append_assoc}
 use Rattle.tape_base.specs.declared.geometries.Geometry.{Geometry}
@@ -22,7 +22,8 @@ use Rattle.script_run.specs.Behind.{after_format, harm_of, formatted}
 use Rattle.script_run.specs.Takes.{FormatTakes}
 use Rattle.cache_replay.specs.declared.session.Session.{Session}
 use Rattle.cache_replay.specs.Session.{return_of}
-use Rattle.cache_replay.specs.Plays.{AreReached, Deals, DeviceMoves, Ledger, Plays}
+use Rattle.cache_replay.specs.Plays.{DeviceMoves, Plays}
+use Rattle.script_run.specs.Ledger.{AreReached, Deals, Ledger}
 use Rattle.cache_replay.proofs.Dispatch.{no_deals}
 
 -- ---- what was told of devices
@@ -33,6 +34,14 @@ reach_more [] [] d h = (record { counted = omega arith; unharmed = λ trusted. r
 reach_more [] (x ∷ devices) d h = absurd h
 reach_more (harm ∷ harms) [] d h = absurd h
 reach_more (harm ∷ harms) (x ∷ devices) d h = (h.0, reach_more harms devices d h.1)
+
+-- the floor behind a format stands a buffer above the tape's first place
+pub first_floor_is : (segments buckets content agg reach fragment generation alternates : ℕ) (g : Geometry) (floor : ℕ) → HasNumbers g segments buckets content agg reach fragment generation alternates
+    → floor ≡ floor_of g g.content → floor ≡ agg
+first_floor_is segments buckets content agg reach fragment generation alternates g floor numbers is = is ∙ (plus_minus g.content g.agg ∙ numbers.has_agg)
+  where
+    plus_minus : (a b : ℕ) → a + b - a ≡ b
+    plus_minus a b = omega arith
 
 module _ {D R C : Type 0} (disk : DiskGhosts D) (directory : DirectoryGhosts R) (chronicle : ChronicleGhosts C) where
   -- ---- formats

@@ -7,7 +7,8 @@ use Rattle.cache_model.specs.Kept.{Kept, state_of}
 use Rattle.cache_model.specs.Verdict.{is_open}
 use Rattle.stripe_actors.specs.Actors.{FallBelow, put_numbers}
 use Rattle.cache_model.specs.Tape.{IsSound}
-use Rattle.cache_model.specs.Vectors.{AreTold, StepsTell}
+use Rattle.cache_model.specs.Vectors.{AreTold}
+use Rattle.model_laws.specs.VectorLaws.{StepsTell}
 use Rattle.cache_model.specs.Legal.{IsQuiet, is_writing}
 use Rattle.tape_base.specs.declared.keys.Key.{Key}
 use Rattle.alternate_vector.specs.Field.{Field}
@@ -26,8 +27,7 @@ use Rattle.script_lang.specs.declared.step.Step.{Step}
 use Rattle.script_lang.specs.declared.step.Step.TheVariants as step
 use Rattle.script_lang.specs.declared.answer.StepAnswer.{StepAnswer}
 use Rattle.script_lang.specs.declared.answer.StepAnswer.TheVariants as answer
-use Rattle.script_run.specs.Run.{Run, Reads, Stream, Writes, actor_of, held_by, no_stream, put_in, with_value, writer_of}
-use Rattle.script_run.specs.Run.{Holding as Held}
+use Rattle.script_run.specs.Run.{Run, Reads, Stream, Writes, actor_of, held_by, no_stream, put_in, with_value, writer_of, Holding as Held}
 use Rattle.script_run.specs.Asked.{asked}
 use Rattle.script_run.specs.Turn.{Turn}
 use Rattle.script_run.specs.Answers.{busy, idle, session_said}

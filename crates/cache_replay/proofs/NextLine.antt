@@ -13,11 +13,12 @@ use Rattle.cache_model.specs.declared.record.Rec.{Rec}
 use Rattle.cache_model.specs.State.{ReaderRow, Row, State, after_all}
 use Rattle.cache_model.specs.Kept.{Kept, state_of, with_records}
 use Rattle.cache_model.specs.Permit.{Done, Permit, ReadOn}
-use Rattle.cache_model.specs.Choices.{to_read}
-use Rattle.cache_model.specs.Pair.{IsPairOf, IsToRead}
+use Rattle.cache_model.specs.ToRead.{to_read, IsToRead}
+use Rattle.cache_model.specs.Pair.{IsPairOf}
 use Rattle.cache_model.specs.Legal.{Does, IsQuiet, answer_record, live_next}
-use Rattle.cache_model.specs.Vectors.{GroupsTell}
-use Rattle.stripe_core.specs.Find.{IsDocumentOf, cause_records}
+use Rattle.model_laws.specs.VectorLaws.{GroupsTell}
+use Rattle.cache_model.specs.Given.{IsDocumentOf}
+use Rattle.stripe_core.specs.Find.{cause_records}
 use Rattle.stripe_core.specs.Stripe.{state_in}
 use Rattle.stripe_read.specs.declared.reader.Reader.{Reader}
 use Rattle.stripe_read.specs.declared.reading.NextPiece.{NextPiece}

@@ -8,7 +8,8 @@ use Rattle.tape_base.specs.declared.keys.Key.{Key}
 use Rattle.cache_model.specs.State.{State, after_all}
 use Rattle.cache_model.specs.Legal.{IsQuiet, is_writing}
 use Rattle.cache_model.specs.Tape.{IsSound}
-use Rattle.cache_model.specs.Vectors.{AreTold, StepsTell}
+use Rattle.cache_model.specs.Vectors.{AreTold}
+use Rattle.model_laws.specs.VectorLaws.{StepsTell}
 use Rattle.stripe_core.specs.Stripe.{state_in}
 use Rattle.stripe_core.specs.Unharmed.{StaysUnharmed}
 use Rattle.script_lang.specs.declared.step.Step.{Step}
@@ -19,7 +20,7 @@ use Rattle.script_run.specs.Asked.{asked}
 use Rattle.script_run.specs.Turn.{Turn}
 use Rattle.script_run.specs.Answers.{session_said, step_said}
 use Rattle.script_run.specs.Behind as then
-use Rattle.script_run.specs.Behind.{harm_of, in_session, streams_behind}
+use Rattle.script_run.specs.Behind.{in_session, streams_behind}
 use Rattle.script_run.specs.Own.{AreOwn, AreWriting}
 use Rattle.script_run.specs.Takes.{SessionTakes, Takes, streams_with}
 use Rattle.script_run.specs.Laws.{StepsOwn}

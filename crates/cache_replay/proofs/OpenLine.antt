@@ -16,7 +16,7 @@ use Rattle.cache_model.specs.State.{ReaderRow, State, after_all, reader_of}
 use Rattle.cache_model.specs.Kept.{with_records}
 use Rattle.cache_model.specs.Permit.{Look, Permit}
 use Rattle.cache_model.specs.Legal.{IsQuiet}
-use Rattle.cache_model.specs.Vectors.{GroupsTell}
+use Rattle.model_laws.specs.VectorLaws.{GroupsTell}
 use Rattle.stripe_actors.specs.Actors.{FallBelow, reader_numbers}
 use Rattle.stripe_actors.proofs.Telling.{was_given}
 use Rattle.stripe_core.specs.Stripe.{IsStripe, kept_in, seen_in, state_in}

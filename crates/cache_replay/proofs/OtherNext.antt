@@ -8,8 +8,8 @@ use Rattle.cache_model.specs.State.{State}
 use Rattle.cache_model.specs.Kept.{Kept, state_of}
 use Rattle.cache_model.specs.Permit.{DeviceRead, IsAmong, Permit, ReadOn}
 use Rattle.cache_model.specs.Legal.{digest_in}
-use Rattle.cache_model.specs.Choices.{to_read}
-use Rattle.cache_model.specs.Pair.{IsPairOf, IsToRead}
+use Rattle.cache_model.specs.ToRead.{to_read, IsToRead}
+use Rattle.cache_model.specs.Pair.{IsPairOf}
 use Rattle.cache_model.specs.Vectors.{AreTold}
 use Rattle.stripe_core.specs.Covers.{Covers}
 use Rattle.stripe_core.specs.Unharmed.{StayUnharmed}

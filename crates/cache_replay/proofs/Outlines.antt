@@ -13,14 +13,16 @@ use Rattle.script_lang.specs.declared.step.Step.TheVariants as step
 use Rattle.script_lang.specs.declared.answer.Refused.TheVariants as refused
 use Rattle.script_lang.specs.declared.answer.StepAnswer.{StepAnswer}
 use Rattle.script_lang.specs.declared.answer.StepAnswer.TheVariants as answer
+use Rattle.script_run.specs.Answers.{number_of_bad}
 use Rattle.script_run.specs.Run.{Harm, no_harm}
 use Rattle.cache_replay.specs.declared.session.Session.{Session}
 use Rattle.cache_replay.specs.declared.session.Part.{Part}
 use Rattle.cache_replay.specs.declared.stop.Stop.{Stop}
-use Rattle.cache_replay.specs.Outline.{Outline, begun, begun_by, count_in, joined, outline_after, raised, told_of}
+use Rattle.cache_replay.specs.Outline.{IsAnswerOf, Outline, begun, begun_by, count_in, format_answer, joined, outline_after, raised, told_of}
 use Rattle.cache_replay.specs.Session.{AreLater, TellsCount, return_of}
 use Rattle.cache_replay.specs.Stop.{NeedsSession}
-use Rattle.cache_replay.specs.Plays.{AreReached, Deals, IsLeft, IsOutlined, Ledger, Outlines, stays}
+use Rattle.cache_replay.specs.Plays.{IsLeft, IsOutlined, Outlines, stays}
+use Rattle.script_run.specs.Ledger.{AreReached, Deals, Ledger}
 use Rattle.cache_replay.proofs.Dispatch.{no_deals}
 
 -- ---- devices that go on
@@ -41,6 +43,12 @@ reached_later (harm ∷ harms) (d ∷ old) (e ∷ new) later h = (
 begun_none : (o : Outline) (s : Step) → NeedsSession s → begun_by o s ≡ o
 begun_none o (step.Format name segments buckets content agg reach fragment generation alternates) needs = absurd needs
 begun_none o _ needs = refl
+
+-- nor is its answer the step's alone
+answer_free : (s : Step) (said : StepAnswer) → NeedsSession s → IsAnswerOf s said
+answer_free (step.Format name segments buckets content agg reach fragment generation alternates) said needs = absurd needs
+answer_free (step.Now moment) said needs = absurd needs
+answer_free _ said needs = tt
 
 module _ {D R C : Type 0} (disk : DiskGhosts D) (directory : DirectoryGhosts R) (chronicle : ChronicleGhosts C) where
   abbrev Returns : Option (Part D R C) → List Return
@@ -74,7 +82,7 @@ module _ {D R C : Type 0} (disk : DiskGhosts D) (directory : DirectoryGhosts R) 
       let after : outline_after o s said ≡ joined o (count_in said) = ap (λ x. joined x (count_in said)) same in
       let some : IsSome o.session = has_session o.session old.part new.part said later tells h in
       record {
-        answered = record { session = λ x. some; none = λ none. no_session o.session (count_in said) some (ap (λ (x : Outline). x.session) (sym same) ∙ none) };
+        answered = record { session = λ x. some; none = λ none. no_session o.session (count_in said) some (ap (λ (x : Outline). x.session) (sym same) ∙ none); fixed = answer_free s said needs };
         outlined = subst (λ (x : Outline). AreReached (told_of x.session) (Returns new.part)) (sym after) (joins o.session (count_in said) old.part new.part said refl later tells h);
         harms = [];
         ended = ap (λ (x : Outline). x.ended) after ∙ sym (append-nil o.ended);
@@ -101,12 +109,12 @@ module _ {D R C : Type 0} (disk : DiskGhosts D) (directory : DirectoryGhosts R) 
   joins_none (Some harm) (d ∷ returns) h = (record { counted = omega (arith, h.0.counted); unharmed = h.0.unharmed }, h.1)
 
   -- a line that begins no session and tells no count
-  still_outlines : (o : Outline) (s : Step) (new : Session D R C) (said : StepAnswer) (ledger : Ledger) → (NeedsSession s → ⊥) → begun_by o s ≡ o → count_in said ≡ 0 → AreReached (told_of o.session) (Returns new.part)
-      → Outlines disk directory chronicle o s new said ledger ledger
-  still_outlines o s new said ledger free same none h =
+  still_outlines : (o : Outline) (s : Step) (new : Session D R C) (said : StepAnswer) (ledger : Ledger) → (NeedsSession s → ⊥) → begun_by o s ≡ o → count_in said ≡ 0 → IsAnswerOf s said
+      → AreReached (told_of o.session) (Returns new.part) → Outlines disk directory chronicle o s new said ledger ledger
+  still_outlines o s new said ledger free same none fixed h =
       let after : outline_after o s said ≡ joined o 0 = ap (λ x. joined x (count_in said)) same ∙ ap (joined o) none in
       record {
-        answered = record { session = λ needs. absurd (free needs); none = λ gone. none };
+        answered = record { session = λ needs. absurd (free needs); none = λ gone. none; fixed = fixed };
         outlined = subst (λ (x : Outline). AreReached (told_of x.session) (Returns new.part)) (sym after) (joins_none o.session (Returns new.part) h);
         harms = [];
         ended = ap (λ (x : Outline). x.ended) after ∙ sym (append-nil o.ended);
@@ -119,23 +127,28 @@ module _ {D R C : Type 0} (disk : DiskGhosts D) (directory : DirectoryGhosts R) 
   pub moment_outlines : (o : Outline) (at : ℕ) (old new : Session D R C) (said : StepAnswer) (ledger : Ledger) → said ≡ answer.Now at → new.part ≡ old.part → IsOutlined disk directory chronicle o old
       → Outlines disk directory chronicle o (step.Now at) new said ledger ledger
   moment_outlines o at old new said ledger is same h =
-      still_outlines o (step.Now at) new said ledger (λ needs. needs) refl (ap count_in is) (subst (λ part. AreReached (told_of o.session) (Returns part)) (sym same) h)
+      still_outlines o (step.Now at) new said ledger (λ needs. needs) refl (ap count_in is) is (subst (λ part. AreReached (told_of o.session) (Returns part)) (sym same) h)
 
   -- numbers that are refused change nothing
   pub refused_outlines : (o : Outline) (name : List ℕ) (segments buckets content agg reach fragment generation alternates number : ℕ) (bad : BadGeometry) (session : Session D R C) (ledger : Ledger)
-      → first_refusal segments buckets content agg reach fragment alternates ≡ Some bad → IsOutlined disk directory chronicle o session
+      → first_refusal segments buckets content agg reach fragment alternates ≡ Some bad → number ≡ number_of_bad bad → IsOutlined disk directory chronicle o session
       → Outlines disk directory chronicle o (step.Format name segments buckets content agg reach fragment generation alternates) session (answer.Refused (refused.Geometry number) None) ledger ledger
-  refused_outlines o name segments buckets content agg reach fragment generation alternates number bad session ledger is h =
-      still_outlines o (step.Format name segments buckets content agg reach fragment generation alternates) session (answer.Refused (refused.Geometry number) None) ledger (λ needs. needs) (ap (begun o name) is) refl h
+  refused_outlines o name segments buckets content agg reach fragment generation alternates number bad session ledger is numbered h =
+      still_outlines o (step.Format name segments buckets content agg reach fragment generation alternates) session (answer.Refused (refused.Geometry number) None) ledger (λ needs. needs) (ap (begun o name) is) refl
+      (ap (λ n. answer.Refused (refused.Geometry n) None) numbered ∙ ap (format_answer content agg) (sym is)) h
 
   -- a session begins
   pub format_outlines : (o : Outline) (name : List ℕ) (segments buckets content agg reach fragment generation alternates cursor floor : ℕ) (new : Session D R C) (before now : Ledger)
-      → first_refusal segments buckets content agg reach fragment alternates ≡ None → AreReached (no_harm ∷ []) (Returns new.part) → Deals before now (told_of o.session) (name ∷ [])
+      → first_refusal segments buckets content agg reach fragment alternates ≡ None → cursor ≡ content → floor ≡ agg → AreReached (no_harm ∷ []) (Returns new.part) → Deals before now (told_of o.session) (name ∷ [])
       → Outlines disk directory chronicle o (step.Format name segments buckets content agg reach fragment generation alternates) new (answer.Formatted 1 cursor floor) before now
-  format_outlines o name segments buckets content agg reach fragment generation alternates cursor floor new before now is h deals =
+  format_outlines o name segments buckets content agg reach fragment generation alternates cursor floor new before now is at low h deals =
       let after : outline_after o (step.Format name segments buckets content agg reach fragment generation alternates) (answer.Formatted 1 cursor floor) ≡ joined (begun o name None) 0 = ap (λ x. joined (begun o name x) 0) is in
       record {
-        answered = record { session = λ needs. absurd needs; none = λ gone. refl };
+        answered = record {
+          session = λ needs. absurd needs;
+          none = λ gone. refl;
+          fixed = ap (λ n. answer.Formatted 1 n floor) at ∙ (ap (answer.Formatted 1 content) low ∙ ap (format_answer content agg) (sym is));
+        };
         outlined = subst (λ (x : Outline). AreReached (told_of x.session) (Returns new.part)) (sym after) (joins_none (Some no_harm) (Returns new.part) h);
         harms = told_of o.session;
         ended = ap (λ (x : Outline). x.ended) after;

@@ -13,7 +13,7 @@ use Rattle.cache_model.specs.Legal.{MayGrow, is_writing}
 use Rattle.cache_model.specs.Tape.{IsSound}
 use Rattle.cache_model.specs.Pair.{IsKeyPair, IsPair}
 use Rattle.cache_model.specs.Vectors.{AreTold, IsVectorAs}
-use Rattle.cache_model.proofs.ToldGroups.{told_grown}
+use Rattle.model_laws.proofs.ToldGroups.{told_grown}
 use Rattle.cache_model.proofs.Steps.{after_all-append, grows_on}
 use Rattle.stripe_core.specs.declared.refusal.Refusal.{Refusal}
 use Rattle.stripe_core.specs.declared.refusal.Refusal.TheVariants as refusal
@@ -25,8 +25,7 @@ use Rattle.stripe_write.specs.Closes.{Closes, ClosesAsAsked, ClosesWhere}
 use Rattle.stripe_write.specs.Closing.{SpendsAll, close_intents, rows_at_close}
 use Rattle.script_lang.specs.declared.answer.StepAnswer.TheVariants as answer
 use Rattle.script_lang.specs.declared.answer.Refused.TheVariants as refused
-use Rattle.script_run.specs.Asked.{body_intents, feed_intents, rest_behind, whole_fragments}
-use Rattle.script_run.specs.Asked.{close_intents as closing_of}
+use Rattle.script_run.specs.Asked.{body_intents, feed_intents, rest_behind, whole_fragments, close_intents as closing_of}
 use Rattle.script_run.specs.Answers.{put_said, said}
 use Rattle.cache_replay.specs.Feeding.{FeedsAsAsked, FeedsWhere, Feeds, IsCutUp, feed_end}
 use Rattle.cache_replay.specs.Putting.{Fills, FillsAsAsked, FillsWhere, IsFresh, IsOver, left_behind, receipt_answer}

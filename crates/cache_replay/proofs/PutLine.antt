@@ -10,7 +10,8 @@ use Rattle.alternate_vector.specs.Field.{Field}
 use Rattle.cache_model.specs.State.{State, after_all}
 use Rattle.cache_model.specs.Kept.{Kept, state_of}
 use Rattle.cache_model.specs.Permit.{Permit}
-use Rattle.cache_model.specs.Vectors.{AreTold, StepsTell}
+use Rattle.cache_model.specs.Vectors.{AreTold}
+use Rattle.model_laws.specs.VectorLaws.{StepsTell}
 use Rattle.stripe_core.specs.declared.refusal.Refusal.{Refusal}
 use Rattle.stripe_core.specs.declared.refusal.Refusal.TheVariants as refusal
 use Rattle.stripe_core.specs.Stripe.{state_in}

@@ -11,8 +11,10 @@ use Rattle.cache_model.specs.Kept.{Kept, state_of, with_records}
 use Rattle.cache_model.specs.Permit.{Done, Exhausted, Fails, GiveUp, Intent, ManyWriters, Permit, Reason, Write, is_cleanup, to_do}
 use Rattle.cache_model.specs.Legal.{Does, DoesGiveUp, IsQuiet, MayGrow}
 use Rattle.cache_model.specs.Tape.{IsSound}
-use Rattle.cache_model.specs.Pair.{IsPairNext, IsToRead}
-use Rattle.cache_model.specs.Vectors.{AreTold, GroupsTell, IsVectorAs}
+use Rattle.cache_model.specs.Pair.{IsPairNext}
+use Rattle.cache_model.specs.ToRead.{IsToRead}
+use Rattle.cache_model.specs.Vectors.{AreTold, IsVectorAs}
+use Rattle.model_laws.specs.VectorLaws.{GroupsTell}
 use Rattle.cache_model.proofs.Found.{no_truth, none_is}
 use Rattle.cache_model.proofs.Steps.{after_all-append, grows_by, grows_on}
 use Rattle.stripe_actors.specs.Actors.{FallBelow, put_numbers}
@@ -25,8 +27,7 @@ use Rattle.stripe_write.specs.Others.{AddsOfPut, OthersStay}
 use Rattle.stripe_write.specs.Writers.{IsWriterOf}
 use Rattle.stripe_write.proofs.Spending.{nothing_more, state_behind, then_more}
 use Rattle.stripe_write.proofs.Owning.{then_owns}
-use Rattle.script_run.specs.Asked.{feed_intents, put_intents, rest_behind, whole_fragments}
-use Rattle.script_run.specs.Asked.{close_intents as closing_of}
+use Rattle.script_run.specs.Asked.{feed_intents, put_intents, rest_behind, whole_fragments, close_intents as closing_of}
 use Rattle.script_run.specs.Answers.{put_said, said}
 use Rattle.cache_replay.specs.Session.{LeavesBut}
 use Rattle.cache_replay.specs.Putting.{BodyEnds, BodyEndsAsAsked, BodyEndsWhere, IsFresh, Puts, PutsAsAsked, PutsWhere, ending_intents, receipt_answer}
@@ -74,7 +75,7 @@ module _ (old now : Kept) (who : Actor) (key : Key) (request response : List Fie
     -- nothing is read to open a writer
     none_read : (p : Permit) (row : Row) → IsToRead p s (Write who.0 key request response 0) row → ⊥
     none_read p row (IsToRead.asked_for e) = none_is e
-    none_read p row (IsToRead.copied flushes able written due) = no_truth (sym flushes)
+    none_read p row (IsToRead.copied flushes able came) = no_truth (sym flushes)
 
     told : (p : Permit) → AreTold s → AreTold (state_of now)
     told p h =

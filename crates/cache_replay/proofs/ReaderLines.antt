@@ -15,7 +15,8 @@ use Rattle.cache_model.specs.Legal.{Does, IsQuiet, IsStep, MayGrow, is_writing, 
 use Rattle.cache_model.specs.declared.record.Rec.{Rec}
 use Rattle.cache_model.proofs.Steps.{grows_by}
 use Rattle.cache_model.specs.Tape.{IsSound}
-use Rattle.cache_model.specs.Vectors.{AreTold, GroupsTell}
+use Rattle.cache_model.specs.Vectors.{AreTold}
+use Rattle.model_laws.specs.VectorLaws.{GroupsTell}
 use Rattle.stripe_core.specs.Stripe.{IsStripe, kept_in, state_in}
 use Rattle.stripe_read.specs.declared.reader.Reader.{Reader}
 use Rattle.stripe_read.specs.Readers.{IsOpenReader, IsReaderOf}

@@ -7,10 +7,10 @@ use Rattle.cache_model.specs.State.{PutRow, State, after_all, put_of}
 use Rattle.cache_model.specs.Verdict.{live_vector_of}
 use Rattle.cache_model.specs.Permit.{Intent, Permit, Weigh, Work, to_do}
 use Rattle.cache_model.specs.Legal.{MayGrow, nothing}
-use Rattle.cache_model.specs.Choices.{to_read}
-use Rattle.cache_model.specs.Pair.{Documents, IsKeyPair, IsPair, IsPairNext, IsToRead, ShowsPair}
+use Rattle.cache_model.specs.ToRead.{to_read, IsToRead}
+use Rattle.cache_model.specs.Pair.{Documents, IsKeyPair, IsPair, IsPairNext, ShowsPair}
 use Rattle.cache_model.specs.Vectors.{IsVectorAs}
-use Rattle.cache_model.proofs.Pairs.{also_pair, also_shows}
+use Rattle.model_laws.proofs.Pairs.{also_pair, also_shows}
 use Rattle.script_lang.specs.declared.step.Step.{Step}
 use Rattle.script_run.specs.Run.{Run, Stream}
 use Rattle.script_run.specs.Asked.{asked}

@@ -16,7 +16,8 @@ use Rattle.cache_replay.specs.declared.session.Part.{Part}
 use Rattle.cache_replay.specs.declared.session.Holding.{Holding}
 use Rattle.cache_replay.specs.Session.{IsAt, IsSession, return_of, slots_in}
 use Rattle.cache_replay.specs.Outline.{outline_in, told_of}
-use Rattle.cache_replay.specs.Plays.{AreReached, HasReached, IsOutlined, IsUnharmedAt, Plays, PlaysAt}
+use Rattle.cache_replay.specs.Plays.{HasReached, IsOutlined, IsUnharmedAt, Plays, PlaysAt}
+use Rattle.script_run.specs.Ledger.{AreReached}
 
 -- the outline of a run tells of its session what the run does
 same_own : (state : Option State) → told_of (option_map harm_in state) ≡ harm_of state

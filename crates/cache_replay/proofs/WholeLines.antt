@@ -13,7 +13,8 @@ use Rattle.cache_model.specs.Kept.{Kept, state_of}
 use Rattle.cache_model.specs.Permit.{Done, End, Fails, Intent, Permit, Reason, Stays, Work, is_cleanup, work_after}
 use Rattle.cache_model.specs.Legal.{Advances, IsQuiet, MayGrow, more, nothing}
 use Rattle.cache_model.specs.Tape.{IsSound}
-use Rattle.cache_model.specs.Vectors.{AreTold, StepsTell}
+use Rattle.cache_model.specs.Vectors.{AreTold}
+use Rattle.model_laws.specs.VectorLaws.{StepsTell}
 use Rattle.cache_model.proofs.Found.{none_is}
 use Rattle.cache_model.proofs.Steps.{after_all-append}
 use Rattle.std.specs.Vec.{with_items}

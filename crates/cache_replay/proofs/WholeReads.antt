@@ -20,7 +20,7 @@ use Rattle.cache_model.specs.Verdict.{next_piece, next_row}
 use Rattle.cache_model.specs.Permit.{Done, End, Intent, Permit, ReadAll, ReadOn, Stays, StopReading, Work, to_do, work_after}
 use Rattle.cache_model.specs.Legal
 use Rattle.cache_model.specs.Legal.{Does, IsQuiet, IsReading, MayGrow, MayReadOn, answer_record, has_hit, is_given, live_next}
-use Rattle.cache_model.proofs.Answered.{end_is_whole}
+use Rattle.model_laws.proofs.Answered.{end_is_whole}
 use Rattle.cache_model.proofs.Found.{none_is, no_truth}
 use Rattle.cache_model.proofs.Steps.{grows_by, grows_on}
 use Rattle.stripe_core.specs.Covers.{Covers}
@@ -39,8 +39,8 @@ use Rattle.script_run.specs.Own.{AreOwn, IsPlacedAs, piece_of}
 use Rattle.script_lang.specs.declared.answer.StepAnswer.{StepAnswer}
 use Rattle.script_lang.specs.declared.answer.StepAnswer.TheVariants as answer
 use Rattle.cache_replay.proofs.Calls.{call_covered, call_permit}
-use Rattle.cache_model.specs.Choices.{to_read}
-use Rattle.cache_model.specs.Pair.{IsPair, IsPairOf, IsToRead}
+use Rattle.cache_model.specs.ToRead.{to_read, IsToRead}
+use Rattle.cache_model.specs.Pair.{IsPair, IsPairOf}
 use Rattle.cache_replay.specs.Getting.{Answered, Began, IsAnswered, IsUnderway, Underway, rows_left}
 use Rattle.cache_replay.specs.Shown.{Shows}
 use Rattle.cache_replay.proofs.Shown.{shows_behind}

@@ -10,7 +10,7 @@ use Rattle.cache_model.specs.Kept.{Kept, state_of, with_records}
 use Rattle.cache_model.specs.Verdict.{cuts_of}
 use Rattle.cache_model.specs.Permit.{Done, End, Fails, GiveUp, Intent, Permit, Reason, Stays, to_do}
 use Rattle.cache_model.specs.Legal.{Does, IsQuiet, IsStep, MayGrow, is_writing}
-use Rattle.cache_model.specs.StepLaws.{WriterIsEnded}
+use Rattle.model_laws.specs.StepLaws.{WriterIsEnded}
 use Rattle.cache_model.proofs.Steps.{grows_by}
 use Rattle.stripe_write.specs.declared.writer.Writer.{Writer}
 use Rattle.stripe_write.specs.Writers.{IsWriterOf}

@@ -1,6 +1,6 @@
 -- What the answers of a run tell of its devices, whatever its records are worth: whether a session stands, which
 -- devices were given back, and up to which count their faults were told.
-use Rattle.std.specs.Prelude.{ℕ, ◌≡◌, max, List, [], ◌∷◌, ◌++◌, IsSome, Option, Some, None, option_map}
+use Rattle.std.specs.Prelude.{ℕ, ◌≡◌, max, List, [], ◌∷◌, ◌++◌, IsSome, Option, Some, None, option_map, ⊤}
 use Rattle.tape_base.specs.declared.geometries.BadGeometry.{BadGeometry}
 use Rattle.tape_base.specs.Limits.{first_refusal}
 use Rattle.cache_model.specs.declared.cause.Cause.{Cause}
@@ -14,6 +14,7 @@ use Rattle.script_lang.specs.declared.answer.Refused.TheVariants as refused
 use Rattle.script_lang.specs.declared.answer.StepAnswer.{StepAnswer}
 use Rattle.script_lang.specs.declared.answer.StepAnswer.TheVariants as answer
 use Rattle.script_run.specs.Run.{Harm, Run, no_harm}
+use Rattle.script_run.specs.Answers.{number_of_bad}
 use Rattle.script_run.specs.Behind.{harm_in}
 use Rattle.cache_replay.specs.Stop.{NeedsSession}
 
@@ -93,7 +94,21 @@ joined o count = record { session = option_map (raised count) o.session; ended =
 abbrev pub outline_after : Outline → Step → StepAnswer → Outline
 outline_after o step said = joined (begun_by o step) (count_in said)
 
--- a step that needs a session is answered where there is one, and no fault is told where there is none behind it
+-- what a format answers, by its numbers: the first one that is refused, or where cursor and floor then stand
+abbrev pub format_answer : (content agg : ℕ) → Option BadGeometry → StepAnswer
+format_answer content agg (Some bad) = answer.Refused (refused.Geometry (number_of_bad bad)) None
+format_answer content agg None = answer.Formatted 1 content agg
+
+-- the answer that is the step's alone, whatever was recorded: that of a format, and of a moment
+abbrev pub IsAnswerOf : Step → StepAnswer → Type 0
+IsAnswerOf (step.Format name segments buckets content agg reach fragment generation alternates) said =
+    said ≡ format_answer content agg (first_refusal segments buckets content agg reach fragment alternates)
+IsAnswerOf (step.Now moment) said = said ≡ answer.Now moment
+IsAnswerOf _ said = ⊤
+
+-- a step that needs a session is answered where there is one, no fault is told where there is none behind it, and what
+-- no record decides is answered as the step has it
 pub record IsAnswered (o : Outline) (step : Step) (said : StepAnswer) : Type 0 where
   pub session : NeedsSession step → IsSome o.session
   pub none : (begun_by o step).session ≡ None → count_in said ≡ 0
+  pub fixed : IsAnswerOf step said

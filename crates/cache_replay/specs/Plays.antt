@@ -1,7 +1,5 @@
 -- What a session is for the run that it serves, and what a line makes of it.
-use Rattle.std.specs.Prelude.{ℕ, ◌≡◌, ◌≤◌, ◌⊎◌, false, List, [], ◌∷◌, ◌++◌, length, drop, Option, Some, None}
-use Rattle.ats_disk.specs.Bay.{Return}
-use Rattle.ats_disk.specs.declared.bay.Bay.{Ghosts as BayGhosts}
+use Rattle.std.specs.Prelude.{ℕ, ◌≡◌, ◌≤◌, ◌⊎◌, List, [], ◌∷◌, ◌++◌, length, drop, Option, Some, None}
 use Rattle.ats_disk.specs.declared.device.Disk.{Ghosts as DiskGhosts}
 use Rattle.dir_table.specs.declared.directory.Directory.{Ghosts as DirectoryGhosts}
 use Rattle.cache_chronicle.specs.declared.chronicle.Chronicle.{Ghosts as ChronicleGhosts}
@@ -15,6 +13,7 @@ use Rattle.stripe_read.specs.Readers.{IsReaderOf}
 use Rattle.actor_table.specs.Table.{Seen}
 use Rattle.script_lang.specs.declared.step.Step.{Step}
 use Rattle.script_lang.specs.declared.answer.StepAnswer.{StepAnswer}
+use Rattle.script_run.specs.Ledger.{AreReached, Deals, Ledger}
 use Rattle.script_run.specs.Run.{Harm, Run, Stream, Writes, Reads, no_harm}
 use Rattle.script_run.specs.Turn.{Turn}
 use Rattle.script_run.specs.Answers.{session_said, step_answer}
@@ -57,19 +56,6 @@ pub record PlaysIn (run : Run) (s : State) (slots : ℕ → Option Holding) : Ty
 pub record PlaysNone (run : Run) : Type 0 where
   pub state : run.state ≡ None
   pub held : (n : ℕ) → run.held n ≡ None
-
--- what was told of a device that came back: no count above its own, and where it told its content to
--- the end, no damage
-pub record IsReached (harm : Harm) (device : Return) : Type 0 where
-  pub counted : harm.fault ≤ device.faults
-  pub unharmed : 1 ≤ device.trust → harm.damaged ≡ false
-
--- so it is of each
-abbrev pub AreReached : List Harm → List Return → Type 0
-AreReached [] [] = Unit {0}
-AreReached [] (device ∷ devices) = ⊥
-AreReached (harm ∷ harms) [] = ⊥
-AreReached (harm ∷ harms) (device ∷ devices) = IsReached harm device × AreReached harms devices
 
 module _ {D R C : Type 0} (disk : DiskGhosts D) (directory : DirectoryGhosts R) (chronicle : ChronicleGhosts C) where
   -- the run beside a session's part, or beside a session that has none
@@ -131,26 +117,6 @@ module _ {D R C : Type 0} (chronicle : ChronicleGhosts C) where
   PartEnds run s step part actors said = PartMoves run s step part actors said ⊎ ShowsIn run (Some s) step
 
 -- ---- devices
-
--- devices came back, of which this was told
-pub record ComeBack (old new : List Return) (harms : List Harm) : Type 0 where
-  pub devices : List Return
-  pub returned : new ≡ old ++ devices
-  pub reached : AreReached harms devices
-
--- what a bay tells: the names of the devices that were attached, and the devices that came back
-pub record Ledger : Type 0 where
-  pub names : List (List ℕ)
-  pub returned : List Return
-
--- what a bay tells at this moment
-abbrev pub ledger_of : {B D : Type 0} → BayGhosts B D → B → Ledger
-ledger_of bay b = record { names = bay.names b; returned = bay.returned b }
-
--- devices came back, of which this was told, and these are the names of those that were attached
-pub record Deals (old new : Ledger) (harms : List Harm) (names : List (List ℕ)) : Type 0 where
-  pub back : ComeBack old.returned new.returned harms
-  pub attached : new.names ≡ old.names ++ names
 
 -- A step did what it must, this is its answer, the devices of what it ended came back, and its own was attached.
 pub record DeviceMoves {D R C : Type 0} (disk : DiskGhosts D) (directory : DirectoryGhosts R) (chronicle : ChronicleGhosts C) (run : Run) (step : Step) (new : Session D R C) (said : StepAnswer) (before now : Ledger) : Type 0 where

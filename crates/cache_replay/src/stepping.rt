@@ -5,7 +5,8 @@ ghost use Rattle.script_lang.specs.declared.step.Step.TheVariants as step;
 ghost use Rattle.script_run.specs.Run.{Harm, Run};
 ghost use Rattle.cache_replay.specs.Outline.{Outline};
 ghost use Rattle.cache_replay.specs.Session.{AreLater, IsSession, TellsCount, devices_of, names_in, return_of};
-ghost use Rattle.cache_replay.specs.Plays.{AreReached, DeviceEnds, IsLeft, IsOutlined, Outlines, Plays, StepEnds, StepMoves, ledger_of};
+ghost use Rattle.cache_replay.specs.Plays.{DeviceEnds, IsLeft, IsOutlined, Outlines, Plays, StepEnds, StepMoves};
+ghost use Rattle.script_run.specs.Ledger.{AreReached, ledger_of};
 ghost use Rattle.cache_replay.specs.Stop.{IsSessionStop, NeedsSession, StopsStep};
 
 use crate::beginning::format_line;

@@ -16,7 +16,6 @@ use Rattle.script_lang.specs.declared.last.LastLine.{LastLine}
 use Rattle.script_lang.specs.declared.last.LastLine.TheVariants as last
 use Rattle.script_lang.specs.Texts.{answer_line}
 use Rattle.script_lang.specs.Grammar.{reading_of}
-use Rattle.script_lang.specs.declared.answer.StepAnswer.{StepAnswer}
 use Rattle.script_run.specs.Run.{Harm, Run, fresh, no_harm}
 use Rattle.script_run.specs.Behind.{harm_of}
 use Rattle.script_run.specs.Takes.{run_after}
@@ -27,7 +26,8 @@ use Rattle.cache_replay.specs.declared.stop.Stop.TheVariants as stop
 use Rattle.cache_replay.specs.declared.session.Part.{Part}
 use Rattle.cache_replay.specs.declared.stop.Stop.{Stop as Stopped}
 use Rattle.cache_replay.specs.Session.{IsSession, devices_of, parts_of, return_of}
-use Rattle.cache_replay.specs.Plays.{AreReached, ComeBack, Deals, IsLeft, IsOutlined, stays, ended, Plays, Ledger}
+use Rattle.cache_replay.specs.Plays.{IsLeft, IsOutlined, stays, ended, Plays}
+use Rattle.script_run.specs.Ledger.{AreReached, ComeBack, Deals, Ledger}
 use Rattle.cache_tool.specs.declared.run.Ending.{Ending}
 use Rattle.cache_tool.specs.declared.run.Ending.TheVariants as ending
 use Rattle.cache_tool.specs.declared.run.Halt.{Halt}

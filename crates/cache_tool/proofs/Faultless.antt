@@ -4,7 +4,7 @@ use Rattle.std.specs.Prelude.{All, IsTrue, Option}
 use Rattle.std.proofs.lemmas.List.Elements.{All-cons, All-head, All-nil, All-tail}
 use Rattle.ats_disk.specs.Bay.{Return, CameBackFaultless}
 use Rattle.script_run.specs.Run.{Harm, no_harm}
-use Rattle.cache_replay.specs.Plays.{AreReached, Ledger, Deals}
+use Rattle.script_run.specs.Ledger.{AreReached, Ledger, Deals}
 use Rattle.cache_replay.proofs.Saying.{All-behind, All-front}
 use Rattle.cache_tool.specs.Story.{Told, all_in}
 use Rattle.cache_tool.specs.Top.{DevicesBack, DevicesWanting, EachBack, EachBackOrMore, NoneFaulted}

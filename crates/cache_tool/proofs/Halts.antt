@@ -13,7 +13,8 @@ use Rattle.script_run.specs.Run.{Run}
 use Rattle.cache_replay.specs.declared.session.Session.{Session}
 use Rattle.cache_replay.specs.Session.{IsSession}
 use Rattle.cache_replay.specs.Outline.{Outline}
-use Rattle.cache_replay.specs.Plays.{DeviceEnds, HasReached, IsOutlined, Ledger, Outlines, Plays}
+use Rattle.cache_replay.specs.Plays.{DeviceEnds, HasReached, IsOutlined, Outlines, Plays}
+use Rattle.script_run.specs.Ledger.{Ledger}
 use Rattle.cache_replay.proofs.Unharming.{plays_reached}
 use Rattle.cache_tool.specs.declared.run.Halt.{Halt}
 use Rattle.cache_tool.specs.declared.run.Halt.TheVariants.{Stop, WriteFault, Memory}

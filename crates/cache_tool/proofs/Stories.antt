@@ -20,7 +20,8 @@ use Rattle.cache_chronicle.specs.declared.chronicle.Chronicle.{Ghosts as Chronic
 use Rattle.cache_replay.specs.declared.session.Session.{Session}
 use Rattle.cache_replay.specs.Outline.{Outline, blank, outline_after, outline_in}
 use Rattle.cache_replay.specs.Lines.{AreAnswered, answers_of, outline_of, outline_read, reading_answer, text_of, texts_of}
-use Rattle.cache_replay.specs.Plays.{ComeBack, Ledger, Deals, DeviceEnds, IsOutlined, Outlines}
+use Rattle.cache_replay.specs.Plays.{DeviceEnds, IsOutlined, Outlines}
+use Rattle.script_run.specs.Ledger.{ComeBack, Ledger, Deals}
 use Rattle.cache_replay.specs.Plays.{Plays as PlaysNow}
 use Rattle.cache_tool.specs.Story.{AnsweredFrom, Story, Told, Recorded, ShownAlong, AreShort, IsBehind, IsNext, GoesOn, SendsAll, told_by, told_in}
 use Rattle.cache_tool.proofs.Runs.{AreAnswered-more, IsRun-more, answers_of-more, outline_of-more, run_after-more, texts_before-more, texts_of-more, AreReached-append}

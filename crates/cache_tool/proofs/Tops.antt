@@ -5,13 +5,10 @@ use Rattle.std.proofs.KnownBytes.{Appends-trans}
 use Rattle.script_lang.specs.declared.last.LastLine.{LastLine}
 use Rattle.script_lang.specs.declared.last.LastLine.TheVariants as last
 use Rattle.script_lang.specs.Texts.{last_line}
-use Rattle.script_run.specs.Run.{Run}
-use Rattle.cache_replay.specs.Plays.{Ledger}
+use Rattle.script_run.specs.Ledger.{Ledger}
 use Rattle.cache_tool.specs.declared.top.Status.{Status}
 use Rattle.cache_tool.specs.declared.top.Status.TheVariants as status
 use Rattle.cache_tool.specs.declared.run.Ending.TheVariants as ending
-use Rattle.script_lang.specs.declared.answer.StepAnswer.{StepAnswer}
-use Rattle.cache_replay.specs.Outline.{Outline}
 use Rattle.cache_tool.specs.Story.{Because, Counts, SendsAll}
 use Rattle.cache_tool.specs.Ending.{IsOfRun, StoryUpTo}
 use Rattle.cache_tool.specs.Top.{WentOut, DevicesBack, status_of, EndsEarly, Concludes}

@@ -9,7 +9,7 @@ use Rattle.script_run.specs.Run.{Run}
 use Rattle.script_run.specs.Turn.{Turn}
 use Rattle.script_run.specs.Takes.{StepShows}
 use Rattle.cache_replay.specs.Outline.{Outline}
-use Rattle.cache_replay.specs.Plays.{Ledger}
+use Rattle.script_run.specs.Ledger.{Ledger}
 use Rattle.cache_tool.specs.declared.top.Status.{Status}
 use Rattle.cache_tool.specs.declared.top.Status.TheVariants as status
 use Rattle.cache_replay.specs.Stop.{AttachesAs}

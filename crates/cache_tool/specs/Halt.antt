@@ -18,7 +18,8 @@ use Rattle.cache_replay.specs.declared.stop.Stop.TheVariants as stop
 use Rattle.cache_replay.specs.declared.stop.Stop.{Stop as Reason}
 use Rattle.cache_replay.specs.Outline.{Outline}
 use Rattle.cache_replay.specs.Session.{return_of}
-use Rattle.cache_replay.specs.Plays.{AreReached, DeviceEnds, IsLeft, IsOutlined, Ledger, Outlines, Plays}
+use Rattle.cache_replay.specs.Plays.{DeviceEnds, IsLeft, IsOutlined, Outlines, Plays}
+use Rattle.script_run.specs.Ledger.{AreReached, Ledger}
 use Rattle.cache_replay.specs.Stop.{StopsStep}
 use Rattle.cache_tool.specs.declared.run.Ending.{Ending}
 use Rattle.cache_tool.specs.declared.run.Ending.TheVariants as ending

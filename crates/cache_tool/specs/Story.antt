@@ -18,7 +18,7 @@ use Rattle.script_run.specs.Behind.{harm_of}
 use Rattle.script_run.specs.Takes.{IsRun, run_after, LineShows}
 use Rattle.cache_replay.specs.Outline.{Outline, blank, outline_in, told_of}
 use Rattle.cache_replay.specs.Lines.{AreAnswered, answers_of, outline_of, texts_before, texts_of}
-use Rattle.cache_replay.specs.Plays.{Ledger, Deals}
+use Rattle.script_run.specs.Ledger.{Ledger, Deals}
 use Rattle.cache_replay.specs.Stop.{NeedsSession, Attaches, AttachesAs}
 
 -- no line is longer than a line may be

@@ -6,7 +6,7 @@ use Rattle.edge_io.specs.Causes.{Rose}
 use Rattle.script_lang.specs.declared.last.LastLine.{LastLine}
 use Rattle.script_lang.specs.declared.last.LastLine.TheVariants as last
 use Rattle.script_lang.specs.Texts.{last_line}
-use Rattle.cache_replay.specs.Plays.{Ledger, Deals}
+use Rattle.script_run.specs.Ledger.{Ledger, Deals}
 use Rattle.cache_tool.specs.declared.top.Status.{Status}
 use Rattle.cache_tool.specs.declared.top.Status.TheVariants as status
 use Rattle.cache_tool.specs.Story.{Because, Counts, SendsAll, SendsFront, CutsLast, GaveBack, Told, all_in}

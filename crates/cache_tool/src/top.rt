@@ -2,7 +2,7 @@
 ghost use Rattle.std.specs.Prelude.{◌≡◌, ◌≤◌, ◌↔◌, ◌⊎◌, [], IsTrue};
 ghost use Rattle.std.specs.Io.KnownBytes.{Keeps};
 ghost use Rattle.script_lang.specs.Texts.{last_line};
-ghost use Rattle.cache_replay.specs.Plays.{ledger_of};
+ghost use Rattle.script_run.specs.Ledger.{ledger_of};
 ghost use Rattle.cache_tool.specs.Story.{counts};
 ghost use Rattle.cache_tool.specs.Ending.{Ends, IsOfRun};
 ghost use Rattle.cache_tool.specs.Top.{IsReplay, WentOut, DevicesBack, DevicesWanting, status_of, exit_code, Concludes};

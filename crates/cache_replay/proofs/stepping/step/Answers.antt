@@ -1,5 +1,5 @@
 use Rattle.std.proofs.Common.{ap, arith, sym, inl, ◌+◌}
-use Rattle.cache_replay.specs.Plays.{ledger_of}
+use Rattle.script_run.specs.Ledger.{ledger_of}
 use Rattle.cache_replay.proofs.Dispatch.{all_ends, all_stops, moment_moves, needs_session}
 use Rattle.cache_replay.proofs.Outlines.{all_left, all_outlines, moment_outlines}
 use Rattle.cache_replay.proofs.stepping.step.Goals as goal

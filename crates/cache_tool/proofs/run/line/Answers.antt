@@ -3,7 +3,7 @@ use Rattle.edge_io.specs.LineReader.{unread, lines_given, held, source_of}
 use Rattle.dir_table.specs.contracts.list.ListDirectoryDirectory.TheImpl.{ghosts as listed}
 use Rattle.cache_chronicle.specs.contracts.full.FullChronicleChronicle.TheImpl.{ghosts as chronicled}
 use Rattle.cache_replay.specs.Session.{devices_of, return_of}
-use Rattle.cache_replay.specs.Plays.{AreReached}
+use Rattle.script_run.specs.Ledger.{AreReached}
 use Rattle.cache_tool.specs.Story.{counts}
 use Rattle.cache_tool.proofs.Halts.{plays_reach}
 use Rattle.cache_tool.proofs.Stories.{passed_more}

@@ -1,6 +1,6 @@
 use Rattle.std.proofs.Common.{refl, ◌∙◌, arith, length, ap}
 use Rattle.edge_io.specs.LineReader.{unread, source_of}
-use Rattle.cache_replay.specs.Plays.{ledger_of}
+use Rattle.script_run.specs.Ledger.{ledger_of}
 use Rattle.cache_tool.specs.Story.{counts}
 use Rattle.cache_tool.proofs.Ends.{begins, Ends-earlier}
 use Rattle.cache_tool.proofs.run.run_lines.Goals as goal

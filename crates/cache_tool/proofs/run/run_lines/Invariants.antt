@@ -5,7 +5,8 @@ use Rattle.edge_io.specs.LineReader.{unread, lines_given, source_of}
 use Rattle.dir_table.specs.contracts.list.ListDirectoryDirectory.TheImpl.{ghosts as listed}
 use Rattle.cache_chronicle.specs.contracts.full.FullChronicleChronicle.TheImpl.{ghosts as chronicled}
 use Rattle.cache_replay.specs.Session.{IsSession, devices_of, names_in}
-use Rattle.cache_replay.specs.Plays.{IsOutlined, Plays, ledger_of}
+use Rattle.cache_replay.specs.Plays.{IsOutlined, Plays}
+use Rattle.script_run.specs.Ledger.{ledger_of}
 use Rattle.cache_tool.specs.Story.{GoesOn}
 use Rattle.cache_tool.proofs.run.run_lines.Given as goal
 

@@ -4,7 +4,7 @@ use Rattle.edge_io.specs.LineReader.{unread, held, source_of}
 use Rattle.dir_table.specs.contracts.list.ListDirectoryDirectory.TheImpl.{ghosts as listed}
 use Rattle.cache_chronicle.specs.contracts.full.FullChronicleChronicle.TheImpl.{ghosts as chronicled}
 use Rattle.cache_replay.specs.Session.{return_of}
-use Rattle.cache_replay.specs.Plays.{AreReached, ledger_of}
+use Rattle.script_run.specs.Ledger.{AreReached, ledger_of}
 use Rattle.cache_tool.specs.Story.{Owes, Told, counts}
 use Rattle.cache_tool.specs.Ending.{Ends}
 use Rattle.ats_disk.specs.Bay.{CameBackFaultless}
