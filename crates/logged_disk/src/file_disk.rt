@@ -3,8 +3,8 @@ ghost use Rattle.std.specs.Prelude.{◌≡◌, ◌+◌, ◌-◌, ◌*◌, ◌≤
 ghost use Rattle.device_log.specs.DeviceLog.{calls_of};
 ghost use Rattle.device_log.specs.Faults.{faults_of, next_count};
 
-use crate::{BLOCK_BYTES, Disk, PowerDisk};
-use device_log::{CutChoice, DeviceLog};
+use crate::{BLOCK_BYTES, Disk};
+use device_log::DeviceLog;
 use edge_io::Failed;
 use std::alloc::AllocError;
 use std::fs::File;
@@ -151,19 +151,4 @@ impl<S: FileStart> Disk for FileDisk<S> {
     ghost was_image = { λ disk. S.is_image };
 
     ghost counted = { λ disk. file_counted S.first disk };
-}
-
-/// A file has no switch, so its switch is never told anything.
-impl<S: FileStart> PowerDisk for FileDisk<S> {
-    fn has_switch(&self) -> bool {
-        false
-    }
-
-    fn cut(&mut self, _choice: CutChoice) {}
-
-    fn fail(&mut self, _nth: u64) {}
-
-    fn stop_after(&mut self, _calls: u64) {}
-
-    fn flip(&mut self, _block: u64, _byte: u32) {}
 }
