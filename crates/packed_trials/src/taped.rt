@@ -135,7 +135,7 @@ impl Taped {
     }
 
     /// What the last insert pushed out: the places, their segment, and how many rows that had.
-    pub fn out(&self, alloc: Global) -> Result<(Vec<u64>, u32, u64), AllocError>
+    pub fn displaced(&self, alloc: Global) -> Result<(Vec<u64>, u32, u64), AllocError>
         ensures places { IfOk result (λ o. o.0.items ≡ self.now.out.places) }
         ensures told { IfOk result (λ o.
             (o.1 ≡ self.now.out.segment) × (o.2 ≡ self.now.out.live)) }

@@ -69,13 +69,13 @@ fn a_purge_takes_the_first_and_the_eleventh(rt: HostRuntime) -> Result<(), Fail>
     for place in 64..77 {
         assert_eq!(rt; taped.insert(key, 1, false, false), Some(place));
         assert_eq!(rt;
-            taped.out(rt.alloc())?,
+            taped.displaced(rt.alloc())?,
             (vec![in rt.alloc()]?, 0, place - 64)
         );
     }
     assert_eq!(rt; taped.insert(key, 1, false, false), Some(77));
     assert_eq!(rt;
-        taped.out(rt.alloc())?,
+        taped.displaced(rt.alloc())?,
         (vec![in rt.alloc(); 65, 75]?, 0, 13)
     );
     let places = taped.places(rt.alloc(), key)?;
