@@ -3,7 +3,7 @@ use Rattle.std.proofs.Common.{◌≡◌, ℕ, ◌+◌, ◌*◌, ◌<◌, ◌≤�
 use Rattle.std.proofs.Math.Seq.{take-length}
 use Rattle.device_log.specs.Image.{Image, IsImage, span}
 use Rattle.device_log.specs.Calls.{Call, Wrote, Synced}
-use Rattle.device_log.specs.Seen.{seen_of, is_pending}
+use Rattle.device_log.specs.Seen.{seen_of}
 use Rattle.device_log.specs.Faults.{IsEntry}
 use Rattle.device_log.specs.Along.{AllLeft, Along, NoCall, Stopped}
 use Rattle.device_log.proofs.Spans.{span_same, span_none}
@@ -12,7 +12,7 @@ use Rattle.stripe_header.specs.declared.area.Area.{Area}
 use Rattle.stripe_header.specs.declared.area.Side.{Side}
 use Rattle.stripe_header.specs.Layout.{gate_of, body_of, body_blocks}
 use Rattle.dir_sync.specs.SyncCalls.{open_block, part_of, shutting_calls, opening_calls, past_behind, MadeSome}
-use Rattle.dir_sync.specs.Moments.{IsOpen, IsReplaced, IsKept, IsBarred, Stands}
+use Rattle.dir_sync.specs.Moments.{IsReplaced, IsKept, IsBarred, IsOpened, Stands}
 use Rattle.dir_sync.specs.Laws.{given_up}
 use Rattle.dir_sync.proofs.Touched.{Touches, touches_some, behind_some, stopped_some}
 use Rattle.dir_sync.proofs.Stages.{gate_low, one_open, open_length, block_put, shut_as, on_shutting, three, on_last, none_still, front_put}
@@ -25,15 +25,15 @@ abbrev pub opens_if : Side → Bool → List Call
 opens_if side last = if last then opening_calls side else []
 
 pub opens : (settled : Bool) (first : Image) (side : Side) (last : Bool) (put : List Call) → last ≡ true
-    → IsOpen side (seen_of first (past_behind (opens_if side last) put))
-    × ((j : ℕ) → is_pending settled (past_behind (opens_if side last) put) j ≡ false)
+    → IsOpened side settled first (past_behind (opens_if side last) put)
 opens settled first side false put is = absurd cc
 opens settled first side true put is =
-    let write = Wrote (gate_of side) open_block ∷ put in (
-      one_open side (seen_of first (Synced ∷ write))
-          (ap (λ (c : Image). c (gate_of side)) (synced_same first write) ∙ block_put first put (gate_of side) open_block open_length),
-      λ j. none_still settled write j,
-    )
+    let write = Wrote (gate_of side) open_block ∷ put in
+    record {
+      still = λ j. none_still settled write j;
+      opened = one_open side (seen_of first (Synced ∷ write))
+          (ap (λ (c : Image). c (gate_of side)) (synced_same first write) ∙ block_put first put (gate_of side) open_block open_length);
+    }
 
 module _ (settled : Bool) (first : Image) (a : Area) (side : Side) (body : List ℕ) where
   pub no_front : (past : List Call) → span (seen_of first past) (body_of a side) 0 ≡ take (512 * 0) body

@@ -2,7 +2,7 @@
 use Rattle.std.specs.Prelude.{◌≡◌, ◌⊎◌, ◌≤◌, ◌<◌, ℕ, ◌+◌, ◌*◌, Bool, true, false, List, length, if◌then◌else◌}
 use Rattle.device_log.specs.Image.{Image, IsImage}
 use Rattle.device_log.specs.Calls.{Call}
-use Rattle.device_log.specs.Seen.{seen_of, is_pending, MayLeave}
+use Rattle.device_log.specs.Seen.{seen_of, MayLeave}
 use Rattle.device_log.specs.Faults.{IsLog}
 use Rattle.device_log.specs.Along.{Along, ButFor, Stopped}
 use Rattle.stripe_header.specs.declared.area.Area.{Area}
@@ -10,7 +10,7 @@ use Rattle.stripe_header.specs.declared.area.Side.{Side}
 use Rattle.stripe_header.specs.Layout.{gate_of, body_blocks}
 use Rattle.dir_sync.specs.declared.progress.Progress.{Progress}
 use Rattle.dir_sync.specs.SyncCalls.{shutting_calls, first_calls, body_calls, last_calls, is_last, past_behind, MadeSome}
-use Rattle.dir_sync.specs.Moments.{IsShut, IsOpen, IsReplaced, Stands}
+use Rattle.dir_sync.specs.Moments.{IsShut, IsReplaced, IsOpened, Spares, Stands}
 
 -- the next blocks of a whole body, in a pass whose gate is shut
 pub record MayWrite (a : Area) (body : List ℕ) (p : Progress) (n : ℕ) : Type 0 where
@@ -85,6 +85,14 @@ WritingReplaces =
     → IsImage first → IsLog new → IsWriting a side body p n old new
     → Along (IsReplaced a side body (MayLeave settled first old)) settled first old new
 
+-- and beside the copy what is seen stays
+abbrev pub WritingSpares : Type 0
+WritingSpares =
+    (a : Area) (side : Side) (body : List ℕ) (p : Progress) (n : ℕ) (settled : Bool) (first : Image)
+    (old new : List Call)
+    → MayWrite a body p n → IsImage first → IsLog new → IsWriting a side body p n old new
+    → Spares a side settled first old new
+
 -- what the pass has done stands behind the next blocks
 abbrev pub PutStands : Type 0
 PutStands =
@@ -109,5 +117,4 @@ LastOpens =
     (a : Area) (side : Side) (body : List ℕ) (p : Progress) (n : ℕ) (settled : Bool) (first : Image)
     (old : List Call)
     → is_last a p n ≡ true
-    → IsOpen side (seen_of first (past_done a side body p n old))
-    × ((j : ℕ) → is_pending settled (past_done a side body p n old) j ≡ false)
+    → IsOpened side settled first (past_done a side body p n old)

@@ -42,6 +42,19 @@ pub record IsBarred (side : Side) (settled : Bool) (first : Image) (past : List 
   pub still : is_pending settled past (gate_of side) ≡ false
   pub shut : IsShut side (seen_of first past)
 
+-- beside this copy what is seen stays, and what was not pending is not
+pub record Spares (a : Area) (side : Side) (settled : Bool) (first : Image) (old new : List Call)
+    : Type 0 where
+  pub seen : Beside a side (seen_of first old) (seen_of first new)
+  pub still : (j : ℕ) → j ≢ gate_of side
+      → (body_of a side ≤ j → j < body_of a side + body_blocks a → ⊥)
+      → is_pending settled old j ≡ false → is_pending settled new j ≡ false
+
+-- the gate is open, and nothing is pending
+pub record IsOpened (side : Side) (settled : Bool) (first : Image) (past : List Call) : Type 0 where
+  pub still : (j : ℕ) → is_pending settled past j ≡ false
+  pub opened : IsOpen side (seen_of first past)
+
 -- What a run has done stands on the device. A gate that is not known to be shut may be open, so the
 -- body behind it is whole.
 pub record Stands (a : Area) (side : Side) (body : List ℕ) (p : Progress) (settled : Bool) (first : Image) (past : List Call)

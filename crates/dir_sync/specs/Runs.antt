@@ -1,5 +1,5 @@
 -- What a contract sees of a `SyncRun`.
-use Rattle.std.specs.Prelude.{◌≡◌, ℕ, ◌-◌, List, length}
+use Rattle.std.specs.Prelude.{◌≡◌, ℕ, ◌-◌, ◌==◌, if◌then◌else◌, List, length}
 use Rattle.device_log.specs.Calls.{Call}
 use Rattle.logged_disk.specs.Device.{State}
 use Rattle.stripe_header.specs.declared.area.Area.{Area}
@@ -9,12 +9,19 @@ use Rattle.stripe_header.specs.Layout.{body_blocks}
 use Rattle.stripe_header.specs.Spelling.{numbers_of, copy_bytes}
 use Rattle.stripe_header.specs.Reading.{bytes_at}
 use Rattle.dir_sync.specs.declared.run.SyncRun.{SyncRun}
+use Rattle.dir_sync.specs.declared.run.SyncState.{SyncState}
+use Rattle.dir_sync.specs.declared.run.SyncState.TheVariants as answers
 use Rattle.dir_sync.specs.Laws.{past_done, begun_pass, pass_behind, given_up, Halts}
 use Rattle.dir_sync.specs.Passes.{StandsOn}
 
 -- how many blocks of the body are left
 abbrev pub left_of : SyncRun → ℕ
 left_of run = body_blocks run.area - run.progress.written
+
+-- what a step answers where the run is here
+abbrev pub answer_of : SyncRun → SyncState
+answer_of run =
+    if left_of run == 0 then answers.Done run.state.serial else answers.Running (left_of run)
 
 -- what the run has done stands on this device
 abbrev pub RunStands : SyncRun → State → Type 0

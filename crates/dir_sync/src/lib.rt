@@ -5,6 +5,8 @@ mod laws;
 mod parts;
 mod progress;
 mod run;
+#[cfg(test)]
+mod tests;
 
 pub use laws::a_copy_is_shut_or_whole;
 pub use progress::Progress;

@@ -1,21 +1,23 @@
 // A sync of the directory into one of its copies.
-ghost use Rattle.std.specs.Prelude.{◌≡◌, ◌≤◌, ◌<◌, ◌+◌, ◌-◌, ◌*◌, ◌/◌, ◌⊎◌, length, true, false, min, OnOk, OnErr, IfOk, IfErr, IsTrue};
-ghost use Rattle.logged_disk.specs.Device.{Keeps, Leaves, Elapses};
+ghost use Rattle.std.specs.Prelude.{◌≡◌, ◌≤◌, ◌<◌, ◌+◌, ◌-◌, ◌*◌, ◌/◌, ◌⊎◌, length, true, false, min, OnOk, OnErr, IfOk, IfErr};
+ghost use Rattle.logged_disk.specs.Device.{Keeps, Leaves, Elapses, seen};
 ghost use Rattle.device_log.specs.Along.{ButFor, Stopped};
 ghost use Rattle.stripe_header.specs.Layout.{device_blocks, body_blocks, gate_of};
-ghost use Rattle.stripe_header.specs.Spelling.{numbers_of, may_say, copy_bytes};
+ghost use Rattle.stripe_header.specs.Spelling.{numbers_of, copy_bytes};
 ghost use Rattle.stripe_header.specs.Reading.{bytes_at};
 ghost use Rattle.dir_sync.specs.SyncCalls.{shutting_calls, past_behind};
 ghost use Rattle.dir_sync.specs.Moments.{IsShut, IsReplaced, Stands};
-ghost use Rattle.dir_sync.specs.Passes.{StandsOn, pass_after};
+ghost use Rattle.dir_sync.specs.Passes.{StandsOn, SparesBeside, OpenedOn, pass_after};
 ghost use Rattle.dir_sync.specs.Laws.{past_done, begun_pass, pass_behind, given_up, Halts};
 
-use crate::laws::a_copy_is_shut_or_whole;
 use crate::parts::{Halt, put_body, put_first, put_last, shut_gate};
 use crate::progress::Progress;
 use edge_io::Failed;
 use logged_disk::Disk;
 use stripe_header::{Area, CopyState, Side, write_body};
+
+// The blocks that a step writes at most.
+const STEP: u64 = 64;
 
 // Shuts the gate where a pass begins, writes the next blocks, and opens the gate behind the last.
 fn write_parts<D: Disk>(
@@ -70,8 +72,35 @@ fn advance<D: Disk>(
         (D.state disk.old) (D.state disk.new) }
     ensures stands { StandsOn area.now side body.now p (D.state disk.old)
         → StandsOn area.now side body.now (pass_after area.now p n result) (D.state disk.new) }
+    ensures spares { SparesBeside area.now side (D.state disk.old) (D.state disk.new) }
+    ensures opens { p.written + n ≡ body_blocks area.now
+        → OnOk result (OpenedOn side (D.state disk.new)) }
 {
     write_parts(disk, area, side, body, p, n)
+}
+
+// Shuts the gate, as a cut sees it.
+fn bar<D: Disk>(
+    disk: &mut D,
+    area: &Area,
+    side: Side,
+    shut: bool,
+    body: &[u8],
+) -> Result<(), Failed>
+    requires within { 2 < (D.state disk.old).size }
+    requires calls { 2 ≤ (D.state disk.old).calls }
+    requires blocks { 1 ≤ (D.state disk.old).blocks }
+    ensures keeps { Keeps 2 1 (D.state disk.old) (D.state disk.new) }
+    ensures went { OnOk result ((D.state disk.new).past
+        ≡ past_behind (shutting_calls side shut) (D.state disk.old).past) }
+    ensures stopped { OnErr result (Stopped (shutting_calls side shut)
+        (D.state disk.new).faults (D.state disk.old).past (D.state disk.new).past) }
+    ensures moments { Elapses (ButFor (gate_of side) 1 (Leaves (D.state disk.old)))
+        (D.state disk.old) (D.state disk.new) }
+    ensures stands { (shut ≡ true → IsShut side (seen (D.state disk.old)))
+        → OnOk result (StandsOn area.now side body.now begun_pass (D.state disk.new)) }
+{
+    shut_gate(disk, side, shut)
 }
 
 /// Why a sync did not go on: the count of the device's faults.
@@ -102,7 +131,7 @@ pub struct SyncRun {
 }
 
 impl SyncRun {
-    ghost use Rattle.dir_sync.specs.Runs.{IsSameSync, RunStands, IsBegun, WentOn, Halted, left_of};
+    ghost use Rattle.dir_sync.specs.Runs.{IsSameSync, RunStands, IsBegun, WentOn, Halted, left_of, answer_of};
 
     /// Spells the copy and shuts its gate. The body has its directory in place. After a failure it
     /// comes back, and the gate is known to be shut where it was.
@@ -115,7 +144,6 @@ impl SyncRun {
         body: Vec<u8>,
     ) -> Result<SyncRun, (SyncFault, Vec<u8>)>
         requires whole { length body.items ≡ 512 * body_blocks area.now }
-        requires says { IsTrue (may_say area.now.geometry state) }
         requires within { device_blocks area.now ≤ (D.state disk.old).size }
         requires calls { 2 ≤ (D.state disk.old).calls }
         requires blocks { 1 ≤ (D.state disk.old).blocks }
@@ -128,10 +156,15 @@ impl SyncRun {
             × Stopped (shutting_calls target shut) e.0.count
             (D.state disk.old).past (D.state disk.new).past
             × (e.0.count ≡ (D.state disk.new).faults)) }
+        ensures moments { Elapses (ButFor (gate_of target) 1 (Leaves (D.state disk.old)))
+            (D.state disk.old) (D.state disk.new) }
+        // Where a gate that is told to be shut was seen shut.
+        ensures stands { (shut ≡ true → IsShut target (seen (D.state disk.old)))
+            → IfOk result (λ run. RunStands run (D.state disk.new)) }
     {
         let mut body = body;
         write_body(&area.geometry, &state, &mut body);
-        match shut_gate(disk, target, shut) {
+        match bar(disk, area, target, shut, &body) {
             Ok(()) => Ok(SyncRun {
                 area: *area,
                 target,
@@ -171,6 +204,10 @@ impl SyncRun {
             (Leaves (D.state disk.old))) (D.state disk.old) (D.state disk.new) }
         ensures stands { RunStands self.old (D.state disk.old)
             → RunStands self.new (D.state disk.new) }
+        ensures spares { SparesBeside self.old.area self.old.target
+            (D.state disk.old) (D.state disk.new) }
+        ensures opens { n ≡ left_of self.old
+            → OnOk result (OpenedOn self.old.target (D.state disk.new)) }
     {
         match advance(disk, &self.area, self.target, &self.body, self.progress, n) {
             Ok(()) => {
@@ -190,6 +227,82 @@ impl SyncRun {
                 };
                 Err(SyncFault { count: halt.count })
             }
+        }
+    }
+
+    /// Writes the next blocks, 64 at most. After a failure the run is at its start: the next call
+    /// shuts the gate again, and the body is written anew under the same serial.
+    pub fn step<D: Disk>(&mut self, disk: &mut D) -> Result<SyncState, SyncFault>
+        requires unfinished { 0 < left_of self.old }
+        requires within { device_blocks self.old.area ≤ (D.state disk.old).size }
+        requires calls { 6 ≤ (D.state disk.old).calls }
+        requires blocks { min 64 (left_of self.old) + 2 ≤ (D.state disk.old).blocks }
+        ensures keeps { Keeps 6 (min 64 (left_of self.old) + 2)
+            (D.state disk.old) (D.state disk.new) }
+        ensures same { IsSameSync self.old self.new }
+        ensures went { IfOk result (λ s. (s ≡ answer_of self.new)
+            × WentOn self.old self.new (min 64 (left_of self.old))
+            (D.state disk.old).past (D.state disk.new).past) }
+        ensures halts { IfErr result (λ f.
+            Halted self.old self.new (min 64 (left_of self.old)) f.count
+            (D.state disk.old).past (D.state disk.new).past
+            × (f.count ≡ (D.state disk.new).faults)) }
+        ensures moments { RunStands self.old (D.state disk.old)
+            → Elapses (IsReplaced self.old.area self.old.target self.old.body.items
+            (Leaves (D.state disk.old))) (D.state disk.old) (D.state disk.new) }
+        ensures stands { RunStands self.old (D.state disk.old)
+            → RunStands self.new (D.state disk.new) }
+        ensures spares { SparesBeside self.old.area self.old.target
+            (D.state disk.old) (D.state disk.new) }
+        ensures opens { left_of self.old ≤ 64
+            → OnOk result (OpenedOn self.old.target (D.state disk.new)) }
+    {
+        let next = self.left().min(STEP);
+        match self.go_on(disk, next) {
+            Ok(()) => Ok(self.answer()),
+            Err(fault) => Err(fault),
+        }
+    }
+
+    /// Writes all blocks that are left, and answers the serial. Else as `step`.
+    pub fn finish<D: Disk>(&mut self, disk: &mut D) -> Result<u64, SyncFault>
+        requires unfinished { 0 < left_of self.old }
+        requires within { device_blocks self.old.area ≤ (D.state disk.old).size }
+        requires calls { 6 ≤ (D.state disk.old).calls }
+        requires blocks { left_of self.old + 2 ≤ (D.state disk.old).blocks }
+        ensures keeps { Keeps 6 (left_of self.old + 2) (D.state disk.old) (D.state disk.new) }
+        ensures same { IsSameSync self.old self.new }
+        ensures went { IfOk result (λ serial. (serial ≡ self.old.state.serial)
+            × WentOn self.old self.new (left_of self.old)
+            (D.state disk.old).past (D.state disk.new).past) }
+        ensures halts { IfErr result (λ f. Halted self.old self.new (left_of self.old) f.count
+            (D.state disk.old).past (D.state disk.new).past
+            × (f.count ≡ (D.state disk.new).faults)) }
+        ensures moments { RunStands self.old (D.state disk.old)
+            → Elapses (IsReplaced self.old.area self.old.target self.old.body.items
+            (Leaves (D.state disk.old))) (D.state disk.old) (D.state disk.new) }
+        ensures stands { RunStands self.old (D.state disk.old)
+            → RunStands self.new (D.state disk.new) }
+        ensures spares { SparesBeside self.old.area self.old.target
+            (D.state disk.old) (D.state disk.new) }
+        ensures opens { OnOk result (OpenedOn self.old.target (D.state disk.new)) }
+    {
+        let left = self.left();
+        match self.go_on(disk, left) {
+            Ok(()) => Ok(self.state.serial),
+            Err(fault) => Err(fault),
+        }
+    }
+
+    // What a step answers here.
+    fn answer(&self) -> SyncState
+        ensures { result ≡ answer_of self.now }
+    {
+        match self.left() {
+            0 => SyncState::Done {
+                serial: self.state.serial,
+            },
+            left => SyncState::Running { left },
         }
     }
 

@@ -9,7 +9,7 @@ ghost use Rattle.stripe_header.specs.Reading.{bytes_at, version_in, covered_of, 
 
 use crate::fields::{array, field, number_32, number_64, put, put_extents, put_sizes, put_zeros};
 use crate::states::{CopyFault, CopyState};
-use tape_base::{BLOCK, Digest, Geometry, LIMIT, lap_end, slot};
+use tape_base::{Digest, Geometry, lap_end, slot};
 
 const HEAD: [u8; 8] = *b"TSCHEAD1";
 
@@ -17,7 +17,11 @@ const FOOT: [u8; 8] = *b"TSCFOOT1";
 
 const VERSION: u32 = 2;
 
+const BLOCK: usize = 512;
+
 // What serials, puts and cursors stay below.
+const LIMIT: u64 = 1 << 62;
+
 fn mark_of(clean: bool) -> u64
     ensures { result ≡ mark_of clean }
 {

@@ -4,7 +4,7 @@ use Rattle.dir_sync.specs.Laws.{past_put}
 use Rattle.dir_sync.proofs.Touched.{touches_some}
 use Rattle.dir_sync.proofs.Stages.{on_shutting, bars}
 use Rattle.dir_sync.proofs.Passes.{no_front, opens}
-use Rattle.dir_sync.proofs.Syncs.{replaces, puts, halts}
+use Rattle.dir_sync.proofs.Syncs.{spares, replaces, puts, halts}
 use Rattle.dir_sync.proofs.laws.a_copy_is_shut_or_whole.Goals as goal
 
 pub returns-clause-shutting : goal.returns-clause-shutting
@@ -17,14 +17,18 @@ returns-clause-shut c a side body shut settled first old known =
 
 pub returns-clause-replaces : goal.returns-clause-replaces
 returns-clause-replaces c a side body p n settled first old new may stands is log made =
-    replaces settled first a side body p n old may stands is new log.entries made
+    replaces settled first a side body p n old may is stands new log.entries made
 
 pub returns-clause-puts : goal.returns-clause-puts
-returns-clause-puts c a side body p n settled first old may stands is log = puts settled first a side body p n old may stands is log.entries
+returns-clause-puts c a side body p n settled first old may stands is log = puts settled first a side body p n old may is stands log.entries
 
 pub returns-clause-halts : goal.returns-clause-halts
 returns-clause-halts c a side body p n count shut settled first old new may stands is log halted =
-    halts settled first a side body p n old may stands is count shut new log.entries halted
+    halts settled first a side body p n old may is stands count shut new log.entries halted
 
 pub returns-clause-opens : goal.returns-clause-opens
 returns-clause-opens c a side body p n settled first old last = opens settled first side (is_last a p n) (past_put a side body p n old) last
+
+pub returns-clause-spares : goal.returns-clause-spares
+returns-clause-spares c a side body p n settled first old new may is log made =
+    spares settled first a side body p n old may is new log.entries made
