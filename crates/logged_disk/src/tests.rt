@@ -133,7 +133,6 @@ fn a_file_keeps_what_was_written_and_its_last_bytes(rt: HostRuntime) -> Result<(
     assert_eq!(rt; disk.blocks(), 5);
     assert!(rt; write_again(&mut disk, 7)?);
     assert_eq!(rt; first_bytes(&mut disk), Ok([7, 0, 0, 0]));
-    assert!(rt; !disk.has_switch());
     let again = OpenOptions::new().read(true).open(&rt, path)?;
     assert_eq!(rt; again.metadata()?.len(), 2660);
     let mut disk: FileDisk<Blank> = FileDisk::attach(again, 1, false)?;
