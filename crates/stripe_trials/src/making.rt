@@ -2,11 +2,9 @@
 ghost use Rattle.std.specs.Prelude.{◌≡◌, None, IfOk};
 ghost use Rattle.stripe_core.specs.Stripe.{IsStripe, state_in};
 
-use alternate_vector::Fields;
 use ats_disk::{Disk, MemDisk};
-use cache_chronicle::{Chronicle, FullChronicle, Rec};
+use cache_chronicle::{Chronicle, FullChronicle};
 use dir_table::{Directory, ListDirectory};
-use std::alloc::AllocError;
 use std::test::Fail;
 use stripe_core::Stripe;
 use tape_base::Geometry;
@@ -29,21 +27,4 @@ pub fn empty(rt: &impl AllocGlobal) -> Result<Small, Fail>
         Ok(stripe) => Ok(stripe),
         Err((_, _disk, _chronicle)) => Err("refused".into()),
     }
-}
-
-/// The fields of one line for each pair.
-pub fn fields(rt: &impl AllocGlobal, lines: &[(&str, &str)]) -> Result<Fields, Fail> {
-    let mut fields = Fields::new(rt.alloc());
-    for (name, value) in lines {
-        let added = fields.append(name.as_bytes(), value.as_bytes());
-        added.ok().ok_or("the line is a field")?;
-    }
-    Ok(fields)
-}
-
-/// Makes room for a record and adds it.
-pub fn add(chronicle: &mut FullChronicle, rec: Rec) -> Result<(), AllocError> {
-    chronicle.reserve(1)?;
-    chronicle.push(rec);
-    Ok(())
 }

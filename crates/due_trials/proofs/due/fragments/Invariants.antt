@@ -1,7 +1,7 @@
 use Rattle.cache_model.specs.Legal.{IsQuiet}
 use Rattle.stripe_core.specs.Stripe.{IsStripe, state_in}
 use Rattle.stripe_write.specs.Writers.{IsWriterOf}
-use Rattle.stripe_trials.proofs.due.fragments.Given as goal
+use Rattle.due_trials.proofs.due.fragments.Given as goal
 
 abbrev pub invariant-each : goal.invariant-each
 invariant-each g l = record {

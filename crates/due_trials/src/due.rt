@@ -1,17 +1,18 @@
 // What no clause of `stripe_due` says: worked readers, pins and places, by what a flush copies ahead.
 ghost use Rattle.std.specs.Prelude.{IfOk, OnOk};
 ghost use Rattle.stripe_core.specs.Stripe.{state_in};
-ghost use Rattle.stripe_trials.specs.Rest.{IsAtRest};
+ghost use Rattle.due_trials.specs.Rest.{IsAtRest};
 ghost use Rattle.stripe_write.specs.Writers.{IsWriterOf};
 
-use crate::making::{Small, add, empty};
 use alternate_vector::Fields;
 use ats_disk::{Disk, MemDisk};
 use cache_chronicle::{Chronicle, FullChronicle, Rec};
 use cache_model::{NextAnswer, ReadAnswer};
 use dir_table::{Directory, ListDirectory};
+use record_trials::add;
 use std::test::Fail;
 use stripe_core::Stripe;
+use stripe_trials::{Small, empty};
 use stripe_write::{Writer, abort_write, close_write, open_write, write};
 use tape_base::{Actor, Digest, Geometry, Key, PieceId};
 
