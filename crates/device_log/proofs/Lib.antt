@@ -7,4 +7,5 @@ pub mod FlipLaws
 pub mod FaultLaws
 pub mod LogLemmas
 pub mod StreamLemmas
+pub mod StreamLaws
 mod Worked

@@ -13,7 +13,7 @@ bytes_of_read (RefusedRead count) = []
 
 abbrev pub bytes_of_write : SinkWrite → List ℕ
 bytes_of_write (TookBytes bytes) = bytes
-bytes_of_write (RefusedWrite count) = []
+bytes_of_write (RefusedWrite front count) = front
 
 one_more_read : (read : SourceRead) (older : List SourceRead) → IsBytes (bytes_of_read read) → IsBytes (given_by older) → IsBytes (given_by (read ∷ older))
 unfolding given_by
@@ -24,7 +24,7 @@ one_more_read (RefusedRead count) older fits before = before
 one_more_write : (write : SinkWrite) (older : List SinkWrite) → IsBytes (bytes_of_write write) → IsBytes (taken_by older) → IsBytes (taken_by (write ∷ older))
 unfolding taken_by
 one_more_write (TookBytes bytes) older fits before = IsBytes-append (taken_by older) bytes before fits
-one_more_write (RefusedWrite count) older fits before = before
+one_more_write (RefusedWrite front count) older fits before = IsBytes-append (taken_by older) front before fits
 
 pub nothing_given : (rows : List Row) → rows ≡ [] → IsBytes (given_by (reads_of_rows rows))
 unfolding given_by reads_of_rows

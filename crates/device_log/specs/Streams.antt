@@ -1,5 +1,5 @@
 -- The reads of a source and the writes of a sink, the newest first.
-use Rattle.std.specs.Prelude.{ℕ, ◌==◌, Bool, true, false, if◌then◌else◌, List, [], ◌∷◌, ◌++◌, slice_index}
+use Rattle.std.specs.Prelude.{ℕ, ◌-◌, ◌^◌, ◌==◌, min, Bool, true, false, if◌then◌else◌, List, [], ◌∷◌, ◌++◌, length, slice_index}
 use Rattle.device_log.specs.Row.{Row}
 
 -- one read of a source
@@ -13,8 +13,8 @@ pub data SourceRead : Type 0 where
 -- one write of a sink
 pub data SinkWrite : Type 0 where
   TookBytes : (bytes : List ℕ) → SinkWrite
-  -- failed; the count of faults behind it
-  RefusedWrite : (count : ℕ) → SinkWrite
+  -- failed; the front that was taken all the same, and the count of faults behind it
+  RefusedWrite : (front : List ℕ) (count : ℕ) → SinkWrite
 
 -- the bytes that the reads gave, in order
 unfoldable pub given_by : List SourceRead → List ℕ
@@ -41,13 +41,21 @@ refused_reads (RefusedRead count ∷ older) = refused_reads older ++ count ∷ [
 unfoldable pub taken_by : List SinkWrite → List ℕ
 taken_by [] = []
 taken_by (TookBytes bytes ∷ older) = taken_by older ++ bytes
-taken_by (RefusedWrite count ∷ older) = taken_by older
+taken_by (RefusedWrite front count ∷ older) = taken_by older ++ front
 
 -- the counts of the writes that failed, in order
 unfoldable pub refused_writes : List SinkWrite → List ℕ
 refused_writes [] = []
 refused_writes (TookBytes bytes ∷ older) = refused_writes older
-refused_writes (RefusedWrite count ∷ older) = refused_writes older ++ count ∷ []
+refused_writes (RefusedWrite front count ∷ older) = refused_writes older ++ count ∷ []
+
+-- how many reads failed; the count stands still at the end of its type
+abbrev pub read_faults : List SourceRead → ℕ
+read_faults reads = min (length (refused_reads reads)) (2 ^ 64 - 1)
+
+-- how many writes failed
+abbrev pub write_faults : List SinkWrite → ℕ
+write_faults writes = min (length (refused_writes writes)) (2 ^ 64 - 1)
 
 -- the read of a row, by its first number
 abbrev pub read_of : List ℕ → List ℕ → SourceRead
@@ -58,7 +66,8 @@ read_of numbers bytes =
 -- the write of a row, by its first number
 abbrev pub write_of : List ℕ → List ℕ → SinkWrite
 write_of numbers bytes =
-    if slice_index numbers 0 == 0 then TookBytes bytes else RefusedWrite (slice_index numbers 1)
+    if slice_index numbers 0 == 0 then TookBytes bytes
+    else RefusedWrite bytes (slice_index numbers 1)
 
 -- the reads of rows, both the newest first
 unfoldable pub reads_of_rows : List Row → List SourceRead

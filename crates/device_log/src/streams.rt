@@ -69,10 +69,10 @@ impl SinkLog {
         self.rows.note(&[0], bytes);
     }
 
-    /// A write failed, and the count of faults is this behind it.
-    pub fn refused(&mut self, count: u64)
-        ensures { writes_of self.new ≡ RefusedWrite count ∷ writes_of self.old }
+    /// A write failed: this front was taken all the same, and the count of faults is this behind it.
+    pub fn refused(&mut self, front: &[u8], count: u64)
+        ensures { writes_of self.new ≡ RefusedWrite front.now count ∷ writes_of self.old }
     {
-        self.rows.note(&[1, count], &[]);
+        self.rows.note(&[1, count], front);
     }
 }

@@ -26,6 +26,6 @@ fn each_call_is_noted(_rt: HostRuntime) -> Result<(), Fail> {
     source.came_to_end();
     let mut sink = SinkLog::new();
     sink.took(b"an answer");
-    sink.refused(1);
+    sink.refused(b"a front", 1);
     Ok(())
 }

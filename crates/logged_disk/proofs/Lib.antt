@@ -3,3 +3,4 @@ pub mod Writing
 pub mod MemoryLemmas
 pub mod Moments
 pub mod FileLemmas
+pub mod GoingOn

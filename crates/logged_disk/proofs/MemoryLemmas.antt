@@ -15,7 +15,8 @@ use Rattle.device_log.proofs.Spans.{span_same}
 use Rattle.logged_disk.specs.Counting.{is_among, is_past, least}
 use Rattle.logged_disk.specs.Blocks.{Written, Pending, AreStored, seen_in, kept_or, kept_in, start_of, over_in, left_in, cut_image}
 use Rattle.logged_disk.specs.Switch.{Obeys, CountsCall}
-use Rattle.logged_disk.specs.Memory.{IsMemory, has_flip, memory_trust}
+use Rattle.logged_disk.specs.Device.{has_flip}
+use Rattle.logged_disk.specs.Memory.{IsMemory, memory_trust}
 use Rattle.logged_disk.specs.declared.switch.Switch.{Switch}
 use Rattle.logged_disk.proofs.Counted.{among_later, past_later, among_pushed, past_least}
 

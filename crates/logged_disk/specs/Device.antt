@@ -1,7 +1,7 @@
 -- A block device as its callers see it, and what its calls do.
-use Rattle.std.specs.Prelude.{◌≡◌, ℕ, ◌+◌, ◌%◌, ◌<◌, ◌≤◌, max, Bool, false, List, ◌∷◌, Result, MatchResult}
+use Rattle.std.specs.Prelude.{◌≡◌, ℕ, ◌+◌, ◌%◌, ◌<◌, ◌≤◌, max, Bool, true, false, List, [], ◌∷◌, ◌++◌, Result, MatchResult}
 use Rattle.device_log.specs.Image.{Image}
-use Rattle.device_log.specs.Calls.{Call}
+use Rattle.device_log.specs.Calls.{Call, Read, Wrote, Synced, RefusedCall, Told, PowerCut, Flipped}
 use Rattle.device_log.specs.Seen.{seen_of, MayLeave, is_flipped}
 use Rattle.device_log.specs.Faults.{next_count}
 use Rattle.device_log.specs.Along.{Along, WasRefused}
@@ -40,9 +40,29 @@ pub record IsTold (s : State) (at n : ℕ) : Type 0 where
   pub trusted : IsTrusted s
   pub unhit : (j : ℕ) → at ≤ j → j < at + n → is_flipped s.past j ≡ false
 
+-- a bit was turned at some time
+unfoldable pub has_flip : List Call → Bool
+has_flip [] = false
+has_flip (Read at bytes ∷ older) = has_flip older
+has_flip (Wrote at bytes ∷ older) = has_flip older
+has_flip (Synced ∷ older) = has_flip older
+has_flip (RefusedCall what count ∷ older) = has_flip older
+has_flip (Told act ∷ older) = has_flip older
+has_flip (PowerCut choice left ∷ older) = has_flip older
+has_flip (Flipped at byte ∷ older) = true
+
+-- what was written anywhere stands: a read gives it, and no bit was ever turned
+pub record TellsAll (s : State) : Type 0 where
+  pub trusted : IsTrusted s
+  pub unturned : has_flip s.past ≡ false
+
 -- what is seen
 abbrev pub seen : State → Image
 seen s = seen_of s.first s.past
+
+-- what was seen is seen
+abbrev pub SeenStays : State → State → Type 0
+SeenStays old new = (j : ℕ) → seen new j ≡ seen old j
 
 -- a cut may leave this now
 abbrev pub Leaves : State → Image → Type 0
@@ -89,3 +109,21 @@ abbrev pub Logs : {T E : Type 0} → Call → Result T E → State → State →
 Logs call result old new = MatchResult result
     (λ _. Adds call old new)
     (λ _. WasRefused call new.faults old.past new.past × (new.faults ≡ next_count old.faults))
+
+-- a device at a later moment: it made these calls meanwhile, and no bit was turned
+pub record IsAfter (old new : State) : Type 0 where
+  pub size : new.size ≡ old.size
+  pub trust : new.trust ≤ old.trust
+  pub number : new.number ≡ old.number
+  pub switch : new.has_switch ≡ old.has_switch
+  pub settled : new.settled ≡ old.settled
+  pub first : new.first ≡ old.first
+  pub made : List Call
+  pub past : new.past ≡ made ++ old.past
+  pub unturned : has_flip made ≡ false
+
+-- a device that was asked for what is there: nothing was written, and no room was used up
+pub record IsAsked (old new : State) : Type 0 where
+  pub keeps : Keeps 0 0 old new
+  pub later : old.faults ≤ new.faults
+  pub goes : IsAfter old new

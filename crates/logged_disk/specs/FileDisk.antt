@@ -7,15 +7,15 @@ use Rattle.logged_disk.specs.Device.{State, IsTrusted}
 use Rattle.logged_disk.specs.FileTrust.{file_trust}
 use Rattle.logged_disk.specs.declared.file_disk.FileDisk.{FileDisk}
 
--- the device at this moment, where the file held the first image at its attach
-abbrev pub file_state : {S : Type 0} → Image → FileDisk S → State
+-- the device at this moment, where the file held the image of its number at its attach
+abbrev pub file_state : {S : Type 0} → (ℕ → Image) → FileDisk S → State
 file_state first disk = record {
   size = disk.size;
-  trust = file_trust first (calls_of disk.log);
+  trust = file_trust (first disk.number) (calls_of disk.log);
   number = disk.number;
   has_switch = false;
   settled = disk.settled;
-  first = first;
+  first = first disk.number;
   past = calls_of disk.log;
   faults = disk.faults;
   calls = disk.calls;
@@ -30,10 +30,10 @@ pub record IsAttached (number : ℕ) (settled : Bool) (s : State) : Type 0 where
   pub past : s.past ≡ []
   pub faults : s.faults ≡ 0
 
-pub file_is_log : {S : Type 0} (first : Image) (disk : FileDisk S)
+pub file_is_log : {S : Type 0} (first : ℕ → Image) (disk : FileDisk S)
     → IsLog (file_state first disk).past
 file_is_log first disk = disk.log.is_log
 
-pub file_counted : {S : Type 0} (first : Image) (disk : FileDisk S)
+pub file_counted : {S : Type 0} (first : ℕ → Image) (disk : FileDisk S)
     → (file_state first disk).faults ≡ faults_of (file_state first disk).past
 file_counted first disk = disk.counted

@@ -12,13 +12,14 @@ use std::io;
 use std::marker::PhantomData;
 use std::os::unix::fs::FileExt;
 
-/// What a file is taken to hold when it is attached.
+/// What files are taken to hold when they are attached, by the numbers of their devices.
 pub trait FileStart {
+    ghost use Rattle.std.specs.Prelude.{ℕ};
     ghost use Rattle.device_log.specs.Image.{Image, IsImage};
 
-    ghost first: { Image };
+    ghost first: { ℕ → Image };
 
-    ghost is_image: { IsImage first };
+    ghost is_image: { (number : ℕ) → IsImage (first number) };
 }
 
 /// A file as a device: its whole blocks, and what stands behind them stays. It is trusted as long
@@ -148,7 +149,7 @@ impl<S: FileStart> Disk for FileDisk<S> {
 
     ghost is_log = { λ disk. file_is_log S.first disk };
 
-    ghost was_image = { λ disk. S.is_image };
+    ghost was_image = { λ disk. S.is_image disk.number };
 
     ghost counted = { λ disk. file_counted S.first disk };
 }

@@ -7,8 +7,8 @@ ghost use Rattle.device_log.specs.Faults.{fails_next, next_count, is_untold, obe
 ghost use Rattle.device_log.specs.Cuts.{left_by};
 ghost use Rattle.device_log.specs.DeviceLog.{calls_of};
 ghost use Rattle.logged_disk.specs.Switch.{CountsCall};
-ghost use Rattle.logged_disk.specs.Memory.{IsMemory, has_flip};
-ghost use Rattle.logged_disk.specs.Device.{State, seen, IsTrusted, IsHonest, IsWhole, Keeps, Affords, Adds, Logs, Leaves};
+ghost use Rattle.logged_disk.specs.Memory.{IsMemory};
+ghost use Rattle.logged_disk.specs.Device.{State, seen, has_flip, IsTrusted, IsHonest, IsWhole, Keeps, Affords, Adds, Logs, Leaves};
 
 use crate::blocks::{Pending, Written, cut_blocks, flip_block, read_blocks, settle, write_blocks};
 use crate::switch::Switch;

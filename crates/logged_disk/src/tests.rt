@@ -106,7 +106,7 @@ fn a_block_is_written_a_million_times(rt: HostRuntime) -> Result<(), Fail> {
     Ok(())
 }
 
-/// A file that is taken to hold zeros.
+/// Files that are taken to hold zeros.
 #[derive(Drop)]
 struct Blank;
 
@@ -114,9 +114,9 @@ impl FileStart for Blank {
     ghost use Rattle.device_log.specs.Image.{blank};
     ghost use Rattle.device_log.proofs.Puts.{blank_is_image};
 
-    ghost first = { blank };
+    ghost first = { λ number. blank };
 
-    ghost is_image = { blank_is_image };
+    ghost is_image = { λ number. blank_is_image };
 }
 
 #[test]

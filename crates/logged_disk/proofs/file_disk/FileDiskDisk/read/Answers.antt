@@ -8,5 +8,6 @@ use Rattle.logged_disk.proofs.file_disk.FileDiskDisk.read.Goals as goal
 pub returns-in-Ok-clause-gives : goal.returns-in-Ok-clause-gives
 returns-in-Ok-clause-gives g c trusted =
     let past = calls_of c.args.self.now.log in
-    trusted_read g.S.FileStart.first c.args.block c.read_exact_at-answer.new.buf past (calls_of c.read.new.self) c.read.ensures trusted
-    ∙ ap (λ (n : ℕ). span (seen_of g.S.FileStart.first past) c.args.block (n / 512)) c.read_exact_at-answer.auto.buf
+    let first = g.S.FileStart.first c.args.self.now.number in
+    trusted_read first c.args.block c.read_exact_at-answer.new.buf past (calls_of c.read.new.self) c.read.ensures trusted
+    ∙ ap (λ (n : ℕ). span (seen_of first past) c.args.block (n / 512)) c.read_exact_at-answer.auto.buf
