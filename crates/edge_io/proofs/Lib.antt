@@ -1,6 +1,9 @@
-pub mod Known
 pub mod Ranges
 pub mod Newlines
 pub mod LineLemmas
+pub mod Texts
+pub mod LineLaws
+pub mod Draws
+pub mod Writes
 pub mod ReaderLemmas
 pub mod Reading

@@ -1,33 +1,17 @@
--- The first line, by the place of the first newline.
-use Rattle.std.proofs.Common.{◌≡◌, ℕ, zero, suc, ◌<◌, ◌≤◌, ◌==◌, true, false, cond, List, [], ◌∷◌, ◌++◌, length, take, drop, sym, ◌∙◌, ap, subst, arith}
+-- The first line, and the place of the first newline.
+use Rattle.std.proofs.Common.{◌≡◌, ℕ, zero, suc, ◌≤◌, ◌==◌, true, false, cond, List, [], ◌∷◌, ◌++◌, length, sym, ap, subst, arith}
 use Rattle.std.proofs.lemmas.Bool.{eq-eqb, ne_eqb}
 use Rattle.edge_io.specs.LineBuffer.{IsClear, IsNewline}
-use Rattle.edge_io.specs.Lines.{lines_of, first_line, onto_first}
+use Rattle.edge_io.specs.Lines.{first_line}
 
-clear_tail : (x : ℕ) (xs : List ℕ) (n : ℕ) → IsClear (x ∷ xs) (suc n) → IsClear xs n
+pub clear_tail : (x : ℕ) (xs : List ℕ) (n : ℕ) → IsClear (x ∷ xs) (suc n) → IsClear xs n
 clear_tail x xs n h = record { clear = λ k below. h.clear (suc k) (omega arith) }
 
-newline_tail : (x : ℕ) (xs : List ℕ) (n : ℕ) → IsNewline (x ∷ xs) (suc n) → IsNewline xs n
+pub newline_tail : (x : ℕ) (xs : List ℕ) (n : ℕ) → IsNewline (x ∷ xs) (suc n) → IsNewline xs n
 newline_tail x xs n h = record { within = omega (arith, h.within); here = h.here; before = clear_tail x xs n h.before }
 
-first_other : (x : ℕ) (xs : List ℕ) (n : ℕ) → IsClear (x ∷ xs) (suc n) → (x == 10) ≡ false
+pub first_other : (x : ℕ) (xs : List ℕ) (n : ℕ) → IsClear (x ∷ xs) (suc n) → (x == 10) ≡ false
 first_other x xs n h = ne_eqb x 10 (h.clear 0 (omega arith))
-
--- the bytes before a newline are the first line, also where more bytes follow
-pub lines_at : (xs : List ℕ) (n : ℕ) (ys : List ℕ) → IsNewline xs n → lines_of (xs ++ ys) ≡ take n xs ∷ lines_of (drop (suc n) xs ++ ys)
-lines_at [] n ys h = absurd (omega (arith, h.within))
-lines_at (x ∷ xs) zero ys h = ap (λ b. cond b ([] ∷ lines_of (xs ++ ys)) (onto_first x (lines_of (xs ++ ys)))) (eq-eqb x 10 h.here)
-lines_at (x ∷ xs) (suc n) ys h =
-    ap (λ b. cond b ([] ∷ lines_of (xs ++ ys)) (onto_first x (lines_of (xs ++ ys)))) (first_other x xs n h.before)
-    ∙ ap (onto_first x) (lines_at xs n ys (newline_tail x xs n h))
-
--- bytes without a newline are one line
-pub lines_clear : (xs : List ℕ) → 0 < length xs → IsClear xs (length xs) → lines_of xs ≡ xs ∷ []
-lines_clear [] some h = absurd (omega arith)
-lines_clear (x ∷ []) some h = ap (λ b. cond b ([] ∷ []) ((x ∷ []) ∷ [])) (first_other x [] 0 h)
-lines_clear (x ∷ y ∷ ys) some h =
-    ap (λ b. cond b ([] ∷ lines_of (y ∷ ys)) (onto_first x (lines_of (y ∷ ys)))) (first_other x (y ∷ ys) (length (y ∷ ys)) h)
-    ∙ ap (onto_first x) (lines_clear (y ∷ ys) (omega arith) (clear_tail x (y ∷ ys) (length (y ∷ ys)) h))
 
 -- the first line goes on through bytes without a newline
 pub first_through : (xs ys : List ℕ) → IsClear xs (length xs) → length xs ≤ length (first_line (xs ++ ys))

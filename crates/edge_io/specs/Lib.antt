@@ -1,7 +1,12 @@
 pub mod Causes
-pub mod Streams
+pub mod Source
+pub mod Sink
 pub mod Memory
+pub mod Writers
+pub mod Text
 pub mod Lines
 pub mod LineBuffer
 pub mod LineReader
+pub mod Laws
 pub use Rattle.std.specs.Io
+pub use Rattle.device_log.specs.Streams

@@ -1,9 +1,9 @@
 -- What a contract sees of a `LineReader`, and what its calls answer.
-use Rattle.edge_io.specs.declared.reader.TheConstants.{MAX_LINES}
-use Rattle.std.specs.Prelude.{◌≡◌, ℕ, ◌+◌, ◌<◌, ◌≤◌, ◌⊎◌, Bool, true, false, List, [], Option, None, Some, Result, Ok, Err, IfErr, Contains, ⊤}
+use Rattle.std.specs.Prelude.{◌≡◌, ◌≢◌, ℕ, ◌+◌, ◌⊎◌, Bool, true, false, List, [], ◌∷◌, Option, None, Some, Result, Ok, Err, Contains, ⊤}
 use Rattle.std.specs.Borrow.{Bor, MutBor}
-use Rattle.std.specs.Io.KnownBytes.{Keeps, prepend_known}
-use Rattle.edge_io.specs.Causes.{Rose}
+use Rattle.device_log.specs.Streams.{SourceRead, CameToEnd}
+use Rattle.edge_io.specs.Source.{Draws, Reads, IsEnded, LastReadFailed, NoReadFailed}
+use Rattle.edge_io.specs.Text.{text_after}
 use Rattle.edge_io.specs.Lines.{IsTooLong, IsTooMany, GivesLine}
 use Rattle.edge_io.specs.declared.reader.LineFault.{LineFault}
 use Rattle.edge_io.specs.declared.reader.LineFault.TheVariants.{LineTooLong, TooManyLines, ReadFault}
@@ -38,64 +38,86 @@ module _ {S : Type 0} where
   abbrev pub held : LineReader S → List ℕ
   held reader = reader.buffer.rest
 
-  -- the bytes in no line yet, read or not, where the source tells them
-  abbrev pub unread : (S → Option (List ℕ)) → LineReader S → Option (List ℕ)
-  unread left reader = prepend_known (held reader) (left (source_of reader).now)
-
 -- one more where a line came
 abbrev pub given_after : ℕ → Answer → ℕ
 given_after given (Ok (Some line)) = given + 1
 given_after given (Ok None) = given
 given_after given (Err fault) = given
 
--- When each answer comes, and which bytes it leaves. Two cases never hold of the same bytes, but for a read fault.
-abbrev pub Answers : ℕ → List ℕ → List ℕ → Answer → Type 0
-Answers given old new (Ok (Some line)) = GivesLine given old line new
-Answers given old new (Ok None) = (old ≡ []) × (new ≡ [])
-Answers given old new (Err (LineTooLong line)) = IsTooLong given old × (new ≡ old)
-Answers given old new (Err TooManyLines) = IsTooMany given old × (new ≡ old)
-Answers given old new (Err (ReadFault count)) = new ≡ old
-
--- the same, where the bytes are known
-abbrev pub AnswersKnown : ℕ → Option (List ℕ) → Option (List ℕ) → Answer → Type 0
-AnswersKnown given None new answer = ⊤
-AnswersKnown given (Some old) None answer = ⊥
-AnswersKnown given (Some old) (Some new) answer = Answers given old new answer
-
--- what shows a fault: the bytes that the reader holds, or the count of the source
-abbrev pub FaultIs : ℕ → List ℕ → ℕ → ℕ → LineFault → Type 0
-FaultIs given bytes before now (LineTooLong line) = (line ≡ given + 1) × IsTooLong given bytes
-FaultIs given bytes before now TooManyLines = IsTooMany given bytes
-FaultIs given bytes before now (ReadFault count) = (count ≡ now) × Rose before now
-
--- the bytes that the reader holds decide the next answer
+-- behind so many lines these bytes decide the next answer
 abbrev pub IsDecided : ℕ → List ℕ → Type 0
 IsDecided given bytes = Contains bytes 10 ⊎ (IsTooLong given bytes ⊎ IsTooMany given bytes)
 
+-- each of these reads was made where the bytes that were in no line decided nothing
+abbrev pub AreNeeded : (given : ℕ) (before : List ℕ) (reads : List SourceRead) → Type 0
+AreNeeded given before [] = ⊤
+AreNeeded given before (read ∷ older) =
+    (IsDecided given (text_after before older) → ⊥) × AreNeeded given before older
+
+-- When each answer comes, by the bytes that are in no line once these reads are made, and which of
+-- them it leaves. Two cases never hold of the same bytes, but for a read fault.
+abbrev pub Answers : (given : ℕ) (reads : List SourceRead) (old new : List ℕ) → Answer → Type 0
+Answers given reads old new (Ok (Some line)) = GivesLine given old line new
+Answers given reads old new (Ok None) = IsEnded reads × (old ≡ []) × (new ≡ [])
+Answers given reads old new (Err (LineTooLong line)) =
+    (line ≡ given + 1) × IsTooLong given old × (new ≡ old)
+Answers given reads old new (Err TooManyLines) = IsTooMany given old × (new ≡ old)
+Answers given reads old new (Err (ReadFault count)) = new ≡ old
+
+-- which reads failed: with a read fault the last one alone, and else none
+abbrev pub Fails : (old new : List SourceRead) → Answer → Type 0
+Fails old new (Err (ReadFault count)) = LastReadFailed old new count
+Fails old new (Err (LineTooLong line)) = NoReadFailed old new
+Fails old new (Err TooManyLines) = NoReadFailed old new
+Fails old new (Ok answer) = NoReadFailed old new
+
 -- The source may have been read, but only where what was held does not decide.
-pub record Waits {S : Type 0} (left : S → Option (List ℕ)) (faults : S → ℕ) (old new : LineReader S) : Type 0 where
+pub record Waits {S : Type 0} (reads : S → List SourceRead) (left : S → Option (List ℕ))
+    (old new : LineReader S) : Type 0 where
   pub same_source : (source_of new).ghost_name ≡ (source_of old).ghost_name
-  pub later : faults (source_of old).now ≤ faults (source_of new).now
+  pub draws : Draws reads left (source_of old).now (source_of new).now
+  pub needed : AreNeeded (lines_given old) (held old) draws.more
+  pub unfailed : NoReadFailed (reads (source_of old).now) (reads (source_of new).now)
   pub given : lines_given new ≡ lines_given old
-  pub known : Keeps (unread left old) (unread left new)
+  pub held_is : held new ≡ text_after (held old) draws.more
   pub held_stays : IsDecided (lines_given old) (held old) → held new ≡ held old
   pub idle : IsDecided (lines_given old) (held old) → (source_of new).now ≡ (source_of old).now
 
--- only so many lines are given
-abbrev pub IsWithin : ℕ → Answer → Type 0
-IsWithin given (Ok (Some line)) = given < MAX_LINES
-IsWithin given _ = ⊤
+-- The source was read once, and came to its end.
+pub record Ends {S : Type 0} (reads : S → List SourceRead) (left : S → Option (List ℕ))
+    (old new : LineReader S) : Type 0 where
+  pub same_source : (source_of new).ghost_name ≡ (source_of old).ghost_name
+  pub read : Reads reads left CameToEnd (source_of old).now (source_of new).now
+  pub given : lines_given new ≡ lines_given old
+  pub held_is : held new ≡ held old
+
+-- whether there were bytes, which are the last line then
+abbrev pub IsRest : {S : Type 0} → (old new : LineReader S) → (some : Bool) → Type 0
+IsRest old new true =
+    (held old ≢ []) × (new.buffer.line ≡ held old) × (lines_given new ≡ lines_given old + 1)
+IsRest old new false = (held old ≡ []) × (lines_given new ≡ lines_given old)
+
+-- All bytes were given as a line, or there were none.
+pub record GivesRest {S : Type 0} (old new : LineReader S) (some : Bool) : Type 0 where
+  pub same_source : (source_of new).ghost_name ≡ (source_of old).ghost_name
+  pub same : (source_of new).now ≡ (source_of old).now
+  pub rest : held new ≡ []
+  pub is : IsRest old new some
 
 -- What a call of `next_line` does and answers.
-pub record Next {S : Type 0} (left : S → Option (List ℕ)) (faults : S → ℕ) (old new : LineReader S) (answer : Answer) : Type 0 where
+pub record Next {S : Type 0} (reads : S → List SourceRead) (left : S → Option (List ℕ))
+    (old new : LineReader S) (answer : Answer) : Type 0 where
   pub same_source : (source_of new).ghost_name ≡ (source_of old).ghost_name
-  pub later : faults (source_of old).now ≤ faults (source_of new).now
-  pub given : lines_given new ≡ given_after (lines_given old) answer
-  pub within : IsWithin (lines_given old) answer
-  pub answers : AnswersKnown (lines_given old) (unread left old) (unread left new) answer
-  pub fault : IfErr answer (FaultIs (lines_given old) (held new) (faults (source_of old).now) (faults (source_of new).now))
-  -- that a line is too long, or one too many, is answered ever after
-  pub too_long : IsTooLong (lines_given old) (held old) → (answer ≡ Err (LineTooLong (lines_given old + 1))) × (held new ≡ held old)
-  pub too_many : IsTooMany (lines_given old) (held old) → (answer ≡ Err TooManyLines) × (held new ≡ held old)
+  pub draws : Draws reads left (source_of old).now (source_of new).now
   -- the source is read only where what was read does not decide
+  pub needed : AreNeeded (lines_given old) (held old) draws.more
+  pub failed : Fails (reads (source_of old).now) (reads (source_of new).now) answer
+  pub given : lines_given new ≡ given_after (lines_given old) answer
+  pub answers : Answers (lines_given old) draws.more
+      (text_after (held old) draws.more) (held new) answer
+  -- that a line is too long, or one too many, is answered ever after
+  pub too_long : IsTooLong (lines_given old) (held old)
+      → (answer ≡ Err (LineTooLong (lines_given old + 1))) × (held new ≡ held old)
+  pub too_many : IsTooMany (lines_given old) (held old)
+      → (answer ≡ Err TooManyLines) × (held new ≡ held old)
   pub idle : IsDecided (lines_given old) (held old) → (source_of new).now ≡ (source_of old).now

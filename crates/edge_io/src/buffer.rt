@@ -1,7 +1,6 @@
 // The bytes that a line reader has read and keeps.
-ghost use Rattle.std.specs.Prelude.{◌≡◌, ◌+◌, ◌-◌, ◌<◌, ◌≤◌, [], length, take, drop, slice_range, Ok, IfOk, IfSome, OnErr, MatchOption};
-ghost use Rattle.std.specs.Io.KnownBytes.{Keeps, Consumes, prepend_known, IsAtEnd};
-ghost use Rattle.edge_io.specs.Causes.{HasCause};
+ghost use Rattle.std.specs.Prelude.{◌≡◌, ◌+◌, ◌-◌, ◌<◌, ◌≤◌, [], length, take, drop, slice_range, IfOk, IfSome, OnErr, MatchOption};
+ghost use Rattle.edge_io.specs.Source.{ReadsOnce};
 ghost use Rattle.edge_io.specs.LineBuffer.{IsClear, IsNewline};
 
 use crate::reader::MAX_LINE_BYTES;
@@ -121,12 +120,11 @@ impl LineBuffer {
     /// Reads more bytes behind those that are in no line.
     fn read_from<S: Source>(&mut self, source: &mut S) -> Result<usize, Failed>
         requires { 0 < self.old.room }
-        ensures bytes { Keeps (prepend_known self.old.rest (S.left source.old)) (prepend_known self.new.rest (S.left source.new)) }
+        ensures reads { ReadsOnce S.reads S.left (λ n. drop (length self.old.rest) self.new.rest)
+            source.old source.new result }
         ensures more { IfOk result (λ n. length self.new.rest ≡ length self.old.rest + n) }
         ensures front { take (length self.old.rest) self.new.rest ≡ self.old.rest }
-        ensures end { result ≡ Ok 0 → IsAtEnd (S.left source.new) }
         ensures err { OnErr result (self.new.rest ≡ self.old.rest) }
-        ensures cause { HasCause (S.faults source.old) (S.faults source.new) result }
     {
         match read_behind(source, &mut self.bytes, self.end) {
             Ok(count) => {
@@ -140,12 +138,11 @@ impl LineBuffer {
     /// Reads more bytes behind those that are in no line; none come only at the end of the source.
     pub(crate) fn fill<S: Source>(&mut self, source: &mut S) -> Result<usize, Failed>
         requires { length self.old.rest < CAPACITY }
-        ensures bytes { Keeps (prepend_known self.old.rest (S.left source.old)) (prepend_known self.new.rest (S.left source.new)) }
+        ensures reads { ReadsOnce S.reads S.left (λ n. drop (length self.old.rest) self.new.rest)
+            source.old source.new result }
         ensures more { IfOk result (λ n. length self.new.rest ≡ length self.old.rest + n) }
         ensures front { take (length self.old.rest) self.new.rest ≡ self.old.rest }
-        ensures end { result ≡ Ok 0 → IsAtEnd (S.left source.new) }
         ensures err { OnErr result (self.new.rest ≡ self.old.rest) }
-        ensures cause { HasCause (S.faults source.old) (S.faults source.new) result }
     {
         self.make_room();
         self.read_from(source)
@@ -169,10 +166,8 @@ fn read_behind<S: Source>(source: &mut S, bytes: &mut [u8], end: usize) -> Resul
     requires { end < length bytes.old }
     ensures front { take end bytes.new ≡ take end bytes.old }
     ensures bound { IfOk result (λ n. end + n ≤ length bytes.new) }
-    ensures bytes { IfOk result (λ n. Consumes (S.left source.old) (S.left source.new) (take n (drop end bytes.new))) }
-    ensures end { result ≡ Ok 0 → IsAtEnd (S.left source.new) }
-    ensures err { OnErr result (Keeps (S.left source.old) (S.left source.new)) }
-    ensures cause { HasCause (S.faults source.old) (S.faults source.new) result }
+    ensures reads { ReadsOnce S.reads S.left (λ n. take n (drop end bytes.new))
+        source.old source.new result }
 {
     source.read(&mut bytes[end..])
 }

@@ -2,6 +2,7 @@
 #![tactic(auto)]
 
 mod buffer;
+mod laws;
 mod memory;
 mod reader;
 mod sink;
@@ -11,6 +12,7 @@ mod streams;
 mod tests;
 
 pub use buffer::LineBuffer;
+pub use laws::texts_have_lines;
 pub use memory::{MemSink, MemSource};
 pub use reader::{LineFault, LineReader, MAX_LINE_BYTES, MAX_LINES};
 pub use sink::Sink;

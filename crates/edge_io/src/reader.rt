@@ -1,6 +1,5 @@
 // The lines of a source.
-ghost use Rattle.std.specs.Prelude.{◌≡◌, ◌+◌, ◌<◌, ◌≤◌, [], length, take, IfOk, IfErr, OnOk};
-ghost use Rattle.std.specs.Io.KnownBytes.{IsAtEnd};
+ghost use Rattle.std.specs.Prelude.{◌≡◌, ◌+◌, ◌<◌, ◌≤◌, [], length, take, IfOk, IfErr};
 ghost use Rattle.std.specs.Borrow.{sem};
 ghost use Rattle.std.specs.Io.BufRead.{Rests};
 ghost use mir.Syntax.{named};
@@ -34,7 +33,7 @@ pub struct LineReader<'a, S: Source> {
 
 impl<'a, S: Source> LineReader<'a, S> {
     ghost use Rattle.edge_io.specs.contracts.reader.LineReader.{the_row};
-    ghost use Rattle.edge_io.specs.LineReader.{source_of, lines_given, held, unread, answer_of, Next};
+    ghost use Rattle.edge_io.specs.LineReader.{source_of, lines_given, held, answer_of, Next};
 
     /// Takes the memory for the longest line. Where it may want, and the source is still needed then,
     /// make the buffer first.
@@ -80,7 +79,7 @@ impl<'a, S: Source> LineReader<'a, S> {
     /// The next line without its newline, or `None` at the end.
     pub fn next_line(&mut self) -> Result<Option<&[u8]>, LineFault>
         ensures* after { sem 𝓛 (Rests (the_row (record { mir = named 0; lft = [] }) S.row) self.entry
-            (λ new. Next S.left S.faults self.old new (answer_of result))) }
+            (λ new. Next S.reads S.left self.old new (answer_of result))) }
     {
         if self.advance()? {
             Ok(Some(self.buffer.line()))
@@ -91,12 +90,12 @@ impl<'a, S: Source> LineReader<'a, S> {
 }
 
 impl<S: Source> LineReader<'_, S> {
-    ghost use Rattle.edge_io.specs.LineReader.{Next, Waits, IsDecided, answer_so, unread};
+    ghost use Rattle.edge_io.specs.LineReader.{Next, Waits, Ends, GivesRest, IsDecided, answer_so};
     ghost use Rattle.edge_io.specs.LineBuffer.{IsClear, IsNewline};
 
     /// Makes the next line the line of the buffer. Without one it gives false.
     fn advance(&mut self) -> Result<bool, LineFault>
-        ensures { Next S.left S.faults self.old self.new (answer_so self.new.buffer.line result) }
+        ensures { Next S.reads S.left self.old self.new (answer_so self.new.buffer.line result) }
     {
         if self.given >= MAX_LINES {
             return self.behind_last();
@@ -124,7 +123,7 @@ impl<S: Source> LineReader<'_, S> {
     /// Behind the last line that may be, only the end may come.
     fn behind_last(&mut self) -> Result<bool, LineFault>
         requires { MAX_LINES ≤ self.old.given }
-        ensures { Next S.left S.faults self.old self.new (answer_so self.new.buffer.line result) }
+        ensures { Next S.reads S.left self.old self.new (answer_so self.new.buffer.line result) }
     {
         if self.buffer.len() > 0 {
             return Err(LineFault::TooManyLines);
@@ -141,7 +140,7 @@ impl<S: Source> LineReader<'_, S> {
         requires within { self.old.given < MAX_LINES }
         requires newline { IsNewline self.old.buffer.rest len }
         requires short { len ≤ MAX_LINE_BYTES }
-        ensures { Next S.left S.faults self.old self.new (Ok (Some self.new.buffer.line)) }
+        ensures { Next S.reads S.left self.old self.new (Ok (Some self.new.buffer.line)) }
     {
         self.buffer.take_line(len);
         self.given += 1;
@@ -149,11 +148,8 @@ impl<S: Source> LineReader<'_, S> {
 
     /// Gives what is left at the end of the source, if that is not nothing.
     fn give_rest(&mut self) -> bool
-        requires within { self.old.given < MAX_LINES }
-        requires clear { IsClear self.old.buffer.rest (length self.old.buffer.rest) }
-        requires short { length self.old.buffer.rest ≤ MAX_LINE_BYTES }
-        requires end { IsAtEnd (S.left self.old.source.now) }
-        ensures { Next S.left S.faults self.old self.new (answer_so self.new.buffer.line (Ok result)) }
+        requires { self.old.given < MAX_LINES }
+        ensures { GivesRest self.old self.new result }
     {
         if self.buffer.len() == 0 {
             return false;
@@ -167,11 +163,11 @@ impl<S: Source> LineReader<'_, S> {
     fn fill(&mut self) -> Result<usize, LineFault>
         requires short { length self.old.buffer.rest ≤ MAX_LINE_BYTES }
         requires undecided { ¬ IsDecided self.old.given self.old.buffer.rest }
-        ensures waits { OnOk result (Waits S.left S.faults self.old self.new) }
+        ensures waits { IfOk result (λ n. 0 < n → Waits S.reads S.left self.old self.new) }
         ensures more { IfOk result (λ n. length self.new.buffer.rest ≡ length self.old.buffer.rest + n) }
         ensures front { take (length self.old.buffer.rest) self.new.buffer.rest ≡ self.old.buffer.rest }
-        ensures end { result ≡ Ok 0 → IsAtEnd (S.left self.new.source.now) }
-        ensures fault { IfErr result (λ fault. Next S.left S.faults self.old self.new (Err fault)) }
+        ensures end { result ≡ Ok 0 → Ends S.reads S.left self.old self.new }
+        ensures fault { IfErr result (λ fault. Next S.reads S.left self.old self.new (Err fault)) }
     {
         match self.buffer.fill(self.source) {
             Ok(count) => Ok(count),

@@ -1,22 +1,23 @@
 // What takes bytes.
-ghost use Rattle.std.specs.Prelude.{◌≡◌, ℕ, List, Option};
-ghost use Rattle.edge_io.specs.Causes.{HasCause};
-ghost use Rattle.edge_io.specs.Streams.{WritesAll};
+ghost use Rattle.std.specs.Prelude.{◌≡◌, List};
+ghost use Rattle.hex.specs.Hex.{IsBytes};
+ghost use Rattle.device_log.specs.Streams.{SinkWrite, taken_by, write_faults};
+ghost use Rattle.edge_io.specs.Sink.{NotesWrite};
 
 use crate::Failed;
 
+/// Each write is in its log.
 pub trait Sink {
-    /// The bytes that were taken, where the sink tells them.
-    ghost taken: { Self → Option (List ℕ) };
-
-    /// How many writes have failed.
-    ghost faults: { Self → ℕ };
+    /// The writes so far, the newest first.
+    ghost writes: { Self → List SinkWrite };
 
     /// Writes all of the bytes out. After a failure the sink has taken a front of them.
     fn write_all(&mut self, bytes: &[u8]) -> Result<(), Failed>
-        ensures bytes { WritesAll (taken self.old) (taken self.new) result bytes.now }
-        ensures cause { HasCause (faults self.old) (faults self.new) result };
+        ensures { NotesWrite (writes self.old) (writes self.new) result bytes.now };
 
+    /// How many writes have failed.
     fn faults(&self) -> u64
-        ensures { result ≡ faults self.now };
+        ensures { result ≡ write_faults (writes self.now) };
+
+    ghost are_bytes: { (sink : Self) → IsBytes (taken_by (writes sink)) };
 }

@@ -1,117 +1,186 @@
 // Any reader as a source, and any writer as a sink.
-ghost use Rattle.std.specs.Prelude.{◌≡◌, ◌<◌, ◌≤◌, length, IfOk};
-ghost use Rattle.std.specs.Io.KnownBytes.{Keeps, WriteAppends};
-ghost use Rattle.edge_io.specs.Causes.{HasCause};
+ghost use Rattle.std.specs.Prelude.{◌≡◌, ◌<◌, ◌≤◌, [], length, take, IfOk, IfErr, OnOk};
+ghost use Rattle.std.specs.Io.{ReadsAtMost};
+ghost use Rattle.std.specs.Io.KnownBytes.{Appends, Keeps, ReadConsumes, WriteAppends};
+ghost use Rattle.device_log.specs.Streams.{read_faults, write_faults};
+ghost use Rattle.device_log.specs.StreamLogs.{reads_of, writes_of};
+ghost use Rattle.edge_io.specs.Sink.{NotesWrite, WritesOut};
 
+use crate::memory::note_read;
 use crate::{Failed, Sink, Source};
+use device_log::{SinkLog, SourceLog};
 use std::io::{ErrorKind, Read, Write};
 
 /// How often an interrupted call is tried again.
 const MAX_RETRIES: u32 = 1_000;
 
-/// A reader as a source.
+/// A reader as a source. Its log has what the reader gave.
 #[derive(Drop)]
 pub struct StdSource<R: Read> {
     inner: R,
     faults: u64,
+    log: SourceLog,
+    ghost failed: { faults ≡ read_faults (reads_of log) },
 }
 
+#[tactic(auto, unfolding(device_log::specs::Streams::refused_reads))]
 impl<R: Read> StdSource<R> {
     pub fn new(inner: R) -> StdSource<R>
         ensures left { ⟦<StdSource<R> as Source>⟧.left result ≡ R.remaining inner }
-        ensures faults { ⟦<StdSource<R> as Source>⟧.faults result ≡ 0 }
+        ensures reads { ⟦<StdSource<R> as Source>⟧.reads result ≡ [] }
     {
-        StdSource { inner, faults: 0 }
+        StdSource {
+            inner,
+            faults: 0,
+            log: SourceLog::new(),
+        }
     }
 }
 
-impl<R: Read> Source for StdSource<R> {
-    ghost left = { λ s. R.remaining s.inner };
+/// Reads some bytes, and tries a call that was interrupted again.
+fn read_some<R: Read>(inner: &mut R, into: &mut [u8]) -> Result<usize, Failed>
+    ensures bound { ReadsAtMost result into.new }
+    ensures bytes { ReadConsumes (R.remaining inner.old) (R.remaining inner.new) result into.new }
+{
+    for _ in 0..=MAX_RETRIES {
+        match inner.read(into) {
+            Ok(count) => return Ok(count),
+            Err(e) if e.kind() == ErrorKind::Interrupted => {}
+            Err(_) => return Err(Failed),
+        }
+    }
+    Err(Failed)
+}
 
-    ghost faults = { λ s. s.faults };
+#[tactic(auto, unfolding(device_log::specs::Streams::refused_reads))]
+impl<R: Read> Source for StdSource<R> {
+    ghost reads = { λ source. reads_of source.log };
+
+    ghost left = { λ source. R.remaining source.inner };
 
     fn read(&mut self, into: &mut [u8]) -> Result<usize, Failed> {
-        for _ in 0..=MAX_RETRIES {
-            match self.inner.read(into) {
-                Ok(count) => return Ok(count),
-                Err(e) if e.kind() == ErrorKind::Interrupted => {}
-                Err(_) => break,
+        match read_some(&mut self.inner, into) {
+            Ok(count) => {
+                note_read(&mut self.log, count, into);
+                Ok(count)
+            }
+            Err(failed) => {
+                self.faults = self.faults.saturating_add(1);
+                self.log.refused(self.faults);
+                Err(failed)
             }
         }
-        self.faults = self.faults.saturating_add(1);
-        Err(Failed)
     }
 
     fn faults(&self) -> u64 {
         self.faults
     }
+
+    ghost are_bytes = { λ source. source.log.are_bytes };
 }
 
-/// A writer as a sink.
+/// A writer as a sink. Its log has what the writer took.
 #[derive(Drop)]
 pub struct StdSink<W: Write> {
     inner: W,
     faults: u64,
+    log: SinkLog,
+    ghost failed: { faults ≡ write_faults (writes_of log) },
 }
 
+/// Writes some of the bytes, but not none.
+fn write_some<W: Write>(inner: &mut W, bytes: &[u8]) -> Result<usize, Failed>
+    requires { 0 < length bytes.now }
+    ensures some { IfOk result (λ n. (0 < n) × (n ≤ length bytes.now)) }
+    ensures bytes { WriteAppends (W.contents inner.old) (W.contents inner.new) result bytes.now }
+{
+    for _ in 0..=MAX_RETRIES {
+        match inner.write(bytes) {
+            Ok(0) => return Err(Failed),
+            Ok(count) => return Ok(count),
+            Err(e) if e.kind() == ErrorKind::Interrupted => {}
+            Err(_) => return Err(Failed),
+        }
+    }
+    Err(Failed)
+}
+
+/// Lets what the writer keeps go out.
+fn flush<W: Write>(inner: &mut W) -> Result<(), Failed>
+    ensures { Keeps (W.contents inner.old) (W.contents inner.new) }
+{
+    for _ in 0..=MAX_RETRIES {
+        match inner.flush() {
+            Ok(()) => return Ok(()),
+            Err(e) if e.kind() == ErrorKind::Interrupted => {}
+            Err(_) => return Err(Failed),
+        }
+    }
+    Err(Failed)
+}
+
+/// Writes all of the bytes, and lets them go out. A failure tells how many the writer took.
+fn write_out<W: Write>(inner: &mut W, bytes: &[u8]) -> Result<(), usize>
+    ensures all { OnOk result (Appends (W.contents inner.old) (W.contents inner.new) bytes.now) }
+    ensures within { IfErr result (λ taken. taken ≤ length bytes.now) }
+    ensures front { IfErr result (λ taken.
+        Appends (W.contents inner.old) (W.contents inner.new) (take taken bytes.now)) }
+{
+    let mut at = 0;
+    while at < bytes.len() {
+        match write_some(inner, &bytes[at..]) {
+            Ok(count) => at += count,
+            Err(_) => return Err(at),
+        }
+    }
+    match flush(inner) {
+        Ok(()) => Ok(()),
+        Err(_) => Err(at),
+    }
+}
+
+#[tactic(auto, unfolding(device_log::specs::Streams::refused_writes, device_log::specs::Streams::taken_by))]
 impl<W: Write> StdSink<W> {
     pub fn new(inner: W) -> StdSink<W>
-        ensures taken { ⟦<StdSink<W> as Sink>⟧.taken result ≡ W.contents inner }
-        ensures faults { ⟦<StdSink<W> as Sink>⟧.faults result ≡ 0 }
+        ensures writes { ⟦<StdSink<W> as Sink>⟧.writes result ≡ [] }
     {
-        StdSink { inner, faults: 0 }
-    }
-
-    /// Writes some of the bytes, but not none.
-    fn write_some(&mut self, bytes: &[u8]) -> Result<usize, Failed>
-        requires { 0 < length bytes.now }
-        ensures some { IfOk result (λ n. (0 < n) × (n ≤ length bytes.now)) }
-        ensures bytes { WriteAppends (W.contents self.old.inner) (W.contents self.new.inner) result bytes.now }
-        ensures cause { HasCause self.old.faults self.new.faults result }
-    {
-        for _ in 0..=MAX_RETRIES {
-            match self.inner.write(bytes) {
-                Ok(0) => break,
-                Ok(count) => return Ok(count),
-                Err(e) if e.kind() == ErrorKind::Interrupted => {}
-                Err(_) => break,
-            }
+        StdSink {
+            inner,
+            faults: 0,
+            log: SinkLog::new(),
         }
-        self.faults = self.faults.saturating_add(1);
-        Err(Failed)
-    }
-
-    /// Lets what the writer keeps go out.
-    fn flush(&mut self) -> Result<(), Failed>
-        ensures bytes { Keeps (W.contents self.old.inner) (W.contents self.new.inner) }
-        ensures cause { HasCause self.old.faults self.new.faults result }
-    {
-        for _ in 0..=MAX_RETRIES {
-            match self.inner.flush() {
-                Ok(()) => return Ok(()),
-                Err(e) if e.kind() == ErrorKind::Interrupted => {}
-                Err(_) => break,
-            }
-        }
-        self.faults = self.faults.saturating_add(1);
-        Err(Failed)
     }
 }
 
+#[tactic(auto, unfolding(device_log::specs::Streams::refused_writes, device_log::specs::Streams::taken_by))]
 impl<W: Write> Sink for StdSink<W> {
-    ghost taken = { λ s. W.contents s.inner };
+    ghost use Rattle.edge_io.specs.Writers.{writer_of};
 
-    ghost faults = { λ s. s.faults };
+    ghost writes = { λ sink. writes_of sink.log };
 
-    fn write_all(&mut self, bytes: &[u8]) -> Result<(), Failed> {
-        let mut at = 0;
-        while at < bytes.len() {
-            at += self.write_some(&bytes[at..])?;
+    fn write_all(&mut self, bytes: &[u8]) -> Result<(), Failed>
+        ensures logs { NotesWrite (⟦<StdSink<W> as Sink>⟧.writes self.old)
+            (⟦<StdSink<W> as Sink>⟧.writes self.new) result bytes.now }
+        ensures goes_out { WritesOut (⟦<StdSink<W> as Sink>⟧.writes self.old)
+            (⟦<StdSink<W> as Sink>⟧.writes self.new)
+            (W.contents (writer_of self.old)) (W.contents (writer_of self.new)) }
+    {
+        match write_out(&mut self.inner, bytes) {
+            Ok(()) => {
+                self.log.took(bytes);
+                Ok(())
+            }
+            Err(taken) => {
+                self.faults = self.faults.saturating_add(1);
+                self.log.refused(&bytes[..taken], self.faults);
+                Err(Failed)
+            }
         }
-        self.flush()
     }
 
     fn faults(&self) -> u64 {
         self.faults
     }
+
+    ghost are_bytes = { λ sink. sink.log.are_bytes };
 }

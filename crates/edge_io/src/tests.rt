@@ -180,6 +180,31 @@ fn stuttering(waits: u32) -> Stutter {
     }
 }
 
+/// A reader that comes to its end behind each of these, and goes on.
+#[derive(Drop)]
+struct Pausing {
+    calls: usize,
+}
+
+impl Read for Pausing {
+    fn read(&mut self, buf: &mut [u8]) -> io::Result<usize> {
+        let given: [&[u8]; 4] = [b"a", b"", b"b\n", b"c\nd"];
+        let bytes: &[u8] = given.get(self.calls).map_or(b"", |bytes| *bytes);
+        self.calls = self.calls.saturating_add(1);
+        let count = bytes.len().min(buf.len());
+        buf[..count].copy_from_slice(&bytes[..count]);
+        Ok(count)
+    }
+}
+
+#[test]
+fn an_end_closes_the_line_before_it_and_more_may_come(rt: HostRuntime) -> Result<(), Fail> {
+    let mut source = StdSource::new(Pausing { calls: 0 });
+    let shown = answers(rt.alloc(), &mut source, 6)?;
+    assert_eq!(rt; shown.as_slice(), b"<a><b><c><d>..".as_slice());
+    Ok(())
+}
+
 #[test]
 fn an_interrupted_call_is_tried_again_1000_times(rt: HostRuntime) -> Result<(), Fail> {
     let rows = [(0, Ok(1), 0), (1_000, Ok(1), 0), (1_001, Err(Failed), 1)];

@@ -1,19 +1,13 @@
-use Rattle.std.proofs.Common.{◌-◌, ◌≤◌, arith, take, take-add, drop, length, length-drop}
-use Rattle.std.proofs.lemmas.List.{take_rest}
-use Rattle.edge_io.proofs.Known.{appends_more}
+use Rattle.std.proofs.Common.{◌≡◌, ◌+◌, ◌-◌, ◌^◌, ◌∷◌, min, take, arith}
+use Rattle.std.proofs.lemmas.Grind.{common_steps}
+use Rattle.device_log.specs.Streams.{RefusedWrite}
+use Rattle.device_log.specs.StreamLogs.{writes_of}
+use Rattle.edge_io.proofs.Writes.{fails_front}
 use Rattle.edge_io.proofs.streams.StdSinkSink.write_all.Goals as goal
 
-pub loop-at-preserved : goal.loop-at-preserved
-loop-at-preserved g c =
+pub returns-in-Err-clause-logs : goal.returns-in-Err-clause-logs
+returns-in-Err-clause-logs g c =
+    let old = writes_of c.args.self.now.log in
     let bytes = c.args.bytes.now in
-    let at = c.loop-at.at in
-    let n = c.in_ok-at.field-0 in
-    let contents = g.W.Write.contents in
-    let so_far = c.loop-at.invariant in
-    let wrote = rw take_rest at (c.in_ok-at.ensures.bytes) in
-    let within = rw take_rest at (c.in_ok-at.ensures.some.1) in
-    let fits : n ≤ length bytes - at = rw length-drop at within in (
-      rw take-add (appends_more (contents c.args.self.now.inner) (contents c.loop-at.self.inner) (contents c.write_some.new.self.inner) (take at bytes) (take n (drop at bytes)) so_far.0 wrote),
-      omega arith,
-      omega (arith, c.in_ok-at.ensures.cause.later),
-    )
+    let is : writes_of c.refused.new.self ≡ RefusedWrite (take c.in-Err.taken bytes) (min (c.args.self.now.faults + 1) (2 ^ 64 - 1)) ∷ old = grind (arith, common_steps) in
+    fails_front old (writes_of c.refused.new.self) bytes c.in-Err.taken c.args.self.now.faults is c.args.self.now.failed
