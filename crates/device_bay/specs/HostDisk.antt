@@ -1,0 +1,30 @@
+-- What a contract sees of a `HostDisk`.
+use Rattle.std.specs.Prelude.{◌≡◌, ℕ}
+use Rattle.device_log.specs.Image.{Image, IsImage}
+use Rattle.device_log.specs.Faults.{IsLog, faults_of}
+use Rattle.logged_disk.specs.Device.{State}
+use Rattle.logged_disk.specs.MemDisk.{mem_state}
+use Rattle.logged_disk.specs.MemoryFacts.{memory_is_log, memory_was_image, memory_counted}
+use Rattle.logged_disk.specs.FileDisk.{file_state, file_is_log, file_counted}
+use Rattle.device_bay.specs.declared.host_disk.HostDisk.{HostDisk}
+use Rattle.device_bay.specs.declared.host_disk.HostDisk.TheVariants.{Memory, File}
+
+-- the device at this moment, where a file held the image of its number at its attach
+abbrev pub host_state : {S : Type 0} → (ℕ → Image) → HostDisk S → State
+host_state first (Memory disk) = mem_state disk
+host_state first (File disk) = file_state first disk
+
+pub host_is_log : {S : Type 0} (first : ℕ → Image) (disk : HostDisk S)
+    → IsLog (host_state first disk).past
+host_is_log first (Memory disk) = memory_is_log disk
+host_is_log first (File disk) = file_is_log first disk
+
+pub host_was_image : {S : Type 0} (first : ℕ → Image) → ((number : ℕ) → IsImage (first number))
+    → (disk : HostDisk S) → IsImage (host_state first disk).first
+host_was_image first are (Memory disk) = memory_was_image disk
+host_was_image first are (File disk) = are disk.number
+
+pub host_counted : {S : Type 0} (first : ℕ → Image) (disk : HostDisk S)
+    → (host_state first disk).faults ≡ faults_of (host_state first disk).past
+host_counted first (Memory disk) = memory_counted disk
+host_counted first (File disk) = file_counted first disk

@@ -1,0 +1,26 @@
+-- What a device tells that came back.
+use Rattle.std.specs.Prelude.{◌≡◌, Bool, true, false, List, [], ◌∷◌}
+use Rattle.device_log.specs.Calls.{Call, Read, Wrote, Synced, RefusedCall, Told, PowerCut, Flipped}
+use Rattle.device_log.specs.Faults.{is_untold, obeys_switch}
+use Rattle.logged_disk.specs.Device.{State}
+use Rattle.device_bay.specs.Calls.{IsDevice}
+
+-- a device in memory failed where its switch was told to, and so nowhere if it was told nothing
+pub record IsMemReturn (s : State) : Type 0 where
+  pub obeys : obeys_switch s.past ≡ true
+  pub untold : is_untold s.past ≡ true → s.faults ≡ 0
+
+-- a call was refused
+unfoldable pub has_refusal : List Call → Bool
+has_refusal [] = false
+has_refusal (Read at bytes ∷ older) = has_refusal older
+has_refusal (Wrote at bytes ∷ older) = has_refusal older
+has_refusal (Synced ∷ older) = has_refusal older
+has_refusal (RefusedCall what count ∷ older) = true
+has_refusal (Told act ∷ older) = has_refusal older
+has_refusal (PowerCut choice left ∷ older) = has_refusal older
+has_refusal (Flipped at byte ∷ older) = has_refusal older
+
+-- of each device that came back with the count 0 no call was refused
+abbrev pub ZeroHasNoRefusal : Type 0
+ZeroHasNoRefusal = (s : State) → IsDevice s → s.faults ≡ 0 → has_refusal s.past ≡ false
