@@ -1,5 +1,5 @@
 -- What an insert pushes out where a segment is full.
-use Rattle.std.specs.Prelude.{ℕ, ◌≡◌, ◌+◌, ◌*◌, ◌/◌, ◌==◌, ◌&&◌, not, Bool, List, [], filter, length, count_by, All, MatchBool, IsTrue}
+use Rattle.std.specs.Prelude.{ℕ, ◌≡◌, ◌≤◌, ◌+◌, ◌*◌, ◌/◌, ◌==◌, ◌&&◌, Bool, List, [], filter, length, map, count_by, All, MatchBool, IsTrue}
 use Rattle.std.specs.List.{list_any, range_with_len}
 use Rattle.tape_base.specs.declared.geometries.Geometry.{Geometry}
 use Rattle.dir_table.specs.declared.rows.DirRow.{DirRow}
@@ -16,13 +16,10 @@ pub record Displacement : Type 0 where
 abbrev pub none_displaced : Displacement
 none_displaced = record { places = []; segment = 0; live = 0 }
 
--- a place is among these, whatever segment the row is of
-abbrev pub has_place : ℕ → List ℕ → Bool
-has_place place places = list_any (λ p. p == place) places
-
--- the rows without the displaced ones
-abbrev pub rows_without : Displacement → List DirRow → List DirRow
-rows_without d rows = filter (λ r. not (r.segment == d.segment && has_place r.place d.places)) rows
+-- what contracts see of a `Displaced`: what it tells, and for how many places it has memory
+pub record DisplacementKept : Type 0 where
+  pub told : Displacement
+  pub room : ℕ
 
 -- the rows of a segment that are in range
 abbrev pub live_rows : Window → ℕ → List DirRow → List DirRow
@@ -48,14 +45,39 @@ is_full w row rows =
 abbrev pub purge_of : Geometry → ℕ
 purge_of g = (3 * g.buckets + 9) / 10
 
--- so many rows of the row's segment go, all of them in range
-pub record IsPurge (w : Window) (row : DirRow) (rows : List DirRow) (d : Displacement) : Type 0 where
+-- so many rows of the row's segment go, all of them in range, and their places are told
+pub record IsPurge (w : Window) (row : DirRow) (rows gone : List DirRow) (d : Displacement) : Type 0 where
   pub segment : d.segment ≡ row.segment
   pub live : d.live ≡ length (live_rows w row.segment rows)
-  pub count : length d.places ≡ purge_of w.geometry
-  pub in_range : All (λ p. IsTrue (is_in_range w p)) d.places
-  pub each : length (rows_without d rows) + length d.places ≡ length rows
+  pub places : d.places ≡ map (λ r. r.place) gone
+  pub count : length gone ≡ purge_of w.geometry
+  pub own : All (λ r. r.segment ≡ row.segment) gone
+  pub in_range : All (λ r. IsTrue (is_in_range w r.place)) gone
+
+-- nothing goes, and no place is told
+pub record NoneGoes (gone : List DirRow) (d : Displacement) : Type 0 where
+  pub none : gone ≡ []
+  pub untold : d.places ≡ []
 
 -- rows are displaced exactly where an insert may displace and finds its segment full
-abbrev pub Displaces : Bool → Window → DirRow → List DirRow → Displacement → Type 0
-Displaces purges w row rows d = MatchBool (purges && is_full w row rows) (IsPurge w row rows d) (d.places ≡ [])
+abbrev pub Displaces : Bool → Window → DirRow → List DirRow → List DirRow → Displacement → Type 0
+Displaces purges w row rows gone d =
+    MatchBool (purges && is_full w row rows) (IsPurge w row rows gone d) (NoneGoes gone d)
+
+-- the rows of a segment
+abbrev pub segment_rows : ℕ → List DirRow → List DirRow
+segment_rows segment rows = filter (λ r. r.segment == segment) rows
+
+-- the row stands in this bucket of a segment
+abbrev pub is_in : ℕ → ℕ → DirRow → Bool
+is_in segment bucket row = row.segment == segment && row.bucket == bucket
+
+-- how many buckets of a segment have a row
+abbrev pub buckets_in_use : Geometry → ℕ → List DirRow → ℕ
+buckets_in_use g segment rows =
+    count_by (λ bucket. list_any (is_in segment bucket) rows) (range_with_len 0 g.buckets)
+
+-- of each segment there are at most three rows for each bucket, and one for each bucket in use
+abbrev pub AreFew : Geometry → List DirRow → Type 0
+AreFew g rows = (segment : ℕ)
+    → length (segment_rows segment rows) ≤ 3 * g.buckets + buckets_in_use g segment rows

@@ -2,10 +2,13 @@ pub mod Rows
 pub mod Window
 pub mod Candidates
 pub mod Displacement
+pub mod Entering
+pub mod Apart
 pub mod Wrap
 pub mod Links
 pub mod Trail
 pub mod Listed
 pub mod Listing
+pub use Rattle.dir_entry.specs.Sizes
 pub use Rattle.tape_base.specs.Key
 pub use Rattle.tape_base.specs.Place

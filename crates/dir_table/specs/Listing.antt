@@ -16,4 +16,4 @@ pub record IsListing (d : Inside) : Type 0 where
   pub within : d.first ≤ d.links.next
   pub ended : All (λ r. r.place < d.window.end) (rows_in d.links)
   pub cursor : d.window.cursor < 2 ^ 62
-  pub none : d.displaced ≡ none_displaced
+  pub none : d.displaced.told ≡ none_displaced

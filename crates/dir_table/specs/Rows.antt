@@ -1,11 +1,12 @@
 -- What contracts see of a directory's rows. A key's segment, bucket and tag are as in the Traffic
 -- Server guide: many keys may share them, and the documents say whose they are.
-use Rattle.std.specs.Prelude.{ℕ, ◌==◌, ◌&&◌, Bool, List}
+use Rattle.std.specs.Prelude.{ℕ, ◌≡◌, ◌==◌, ◌&&◌, Bool, List, ◌∷◌, map, IsPermutation}
 use Rattle.std.specs.List.{list_any}
 use Rattle.tape_base.specs.declared.geometries.Geometry.{Geometry}
 use Rattle.tape_base.specs.declared.keys.Key.{Key}
 use Rattle.tape_base.specs.Key.{segment_of, bucket_of, tag_of}
 use Rattle.dir_table.specs.declared.rows.DirRow.{DirRow}
+use Rattle.dir_table.specs.declared.rows.StoredRow.{StoredRow}
 use Rattle.dir_table.specs.declared.rows.Spot.{Spot}
 
 -- the row of a piece that is entered under a key
@@ -39,3 +40,17 @@ same_row a b = a.segment == b.segment && (a.bucket == b.bucket && (a.tag == b.ta
 -- a row is among these
 abbrev pub has_row : DirRow → List DirRow → Bool
 has_row row rows = list_any (same_row row) rows
+
+-- a row without what is kept beside its place
+abbrev pub plain_row : StoredRow → DirRow
+plain_row r = record { segment = r.segment; bucket = r.bucket; tag = r.tag; place = r.place }
+
+-- so of each of these
+abbrev pub plain_rows : List StoredRow → List DirRow
+plain_rows rows = map plain_row rows
+
+-- one row of the same segment, bucket, tag and place is gone
+pub record LosesPlain (row : DirRow) (before after : List StoredRow) : Type 0 where
+  pub it : StoredRow
+  pub is : plain_row it ≡ row
+  pub left : IsPermutation before (it ∷ after)

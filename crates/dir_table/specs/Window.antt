@@ -23,3 +23,4 @@ pub record IsLater (w : Window) (cursor floor : ℕ) : Type 0 where
   pub first : w.geometry.content ≤ cursor
   pub bound : cursor < 2 ^ 62
   pub readable : floor_of w.geometry cursor ≤ floor
+  pub low : floor ≤ cursor

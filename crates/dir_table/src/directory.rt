@@ -1,14 +1,15 @@
 // What a directory answers.
-ghost use Rattle.std.specs.Prelude.{◌≡◌, ◌+◌, ◌≤◌, ◌<◌, ℕ, Bool, List, [], ◌∷◌, false, All, IfOk, OnOk, IsPermutation, count_by};
+ghost use Rattle.std.specs.Prelude.{◌≡◌, ◌+◌, ◌≤◌, ◌<◌, ◌&&◌, ℕ, Bool, List, [], true, false, All, IsOk, IfOk, OnOk, IsPermutation, count_by};
 ghost use Rattle.std.specs.Bool.{OnTrue};
-ghost use Rattle.dir_table.specs.declared.rows.DirRow.{DirRow};
+ghost use Rattle.dir_table.specs.declared.rows.StoredRow.{StoredRow};
 ghost use Rattle.dir_table.specs.declared.rows.Walk.{Walk as WalkValue};
-ghost use Rattle.dir_table.specs.Rows.{row_of_key, has_row, is_in_bucket};
+ghost use Rattle.dir_table.specs.Rows.{row_of_key, has_row, is_in_bucket, plain_rows, LosesPlain};
 ghost use Rattle.dir_table.specs.declared.window.Window.{Window as WindowValue};
 ghost use Rattle.dir_table.specs.Window.{first_window, is_in_range, IsNext, IsLater};
 ghost use Rattle.dir_table.specs.Candidates.{candidates_of, GivesFirst, Counts};
-ghost use Rattle.dir_table.specs.Displacement.{Displacement, Displaces, none_displaced, rows_without};
-ghost use Rattle.dir_table.specs.Wrap.{Forgets};
+ghost use Rattle.dir_table.specs.Displacement.{Displacement, none_displaced, is_full, AreFew};
+ghost use Rattle.dir_table.specs.Entering.{Enters};
+ghost use Rattle.dir_table.specs.Wrap.{stored_from};
 
 use crate::displaced::Displaced;
 use crate::rows::Walk;
@@ -19,7 +20,7 @@ use tape_base::{Geometry, Key, Steps};
 /// have the same, so a walk gives candidates, and who reads a place finds out whose it is.
 pub trait Directory {
     /// The rows that it stands for.
-    ghost rows: { Self → List DirRow };
+    ghost rows: { Self → List StoredRow };
 
     /// The geometry, where the buffer begins, the least readable place, and the end of the piece
     /// that was entered last.
@@ -30,6 +31,9 @@ pub trait Directory {
 
     /// Whether an insert displaces rows where a segment is full.
     ghost purges: { Bool };
+
+    /// The places of the rows of a segment that a purge takes, in its order.
+    ghost due: { Self → ℕ → List ℕ };
 
     /// What the last insert displaced.
     ghost displaced: { Self → Displacement };
@@ -48,12 +52,13 @@ pub trait Directory {
         ensures window { IfOk result (λ d. window d ≡ first_window g.now) }
         ensures displaced { IfOk result (λ d. displaced d ≡ none_displaced) };
 
-    /// Makes room for so many inserts.
+    /// Makes room for so many inserts. Where there is room, it takes no memory.
     fn reserve(&mut self, more: usize) -> Result<(), AllocError>
         ensures rows { rows self.new ≡ rows self.old }
         ensures window { window self.new ≡ window self.old }
         ensures displaced { displaced self.new ≡ displaced self.old }
         ensures room { OnOk result (more ≤ spare self.new) }
+        ensures enough { more ≤ spare self.old → IsOk result }
         ensures spare { spare self.old ≤ spare self.new };
 
     /// Enters the piece that stands from a place on.
@@ -62,23 +67,29 @@ pub trait Directory {
         requires some { 1 ≤ blocks }
         requires few { blocks ≤ (window self.old).geometry.agg }
         requires next { IsNext (window self.old) place }
-        ensures rows { let row = row_of_key (window self.old).geometry key place in
-            let left = rows_without (displaced self.new) (rows self.old) in
-            IsPermutation (row ∷ left) (rows self.new) }
-        ensures displaced { let row = row_of_key (window self.old).geometry key place in
-            Displaces purges (window self.old) row (rows self.old) (displaced self.new) }
+        ensures rows { Enters purges (window self.old) (record {
+          key = key;
+          place = place;
+          blocks = blocks;
+          head = head;
+          pinned = pinned;
+        }) (rows self.old) (displaced self.new) (rows self.new) }
+        ensures due { let w = window self.old in
+            let row = row_of_key w.geometry key place in
+            purges && is_full w row (plain_rows (rows self.old)) ≡ true
+            → (displaced self.new).places ≡ due self.old row.segment }
         ensures window { window self.new ≡ record (window self.old) { end = place + blocks } }
         ensures spare { spare self.old ≤ spare self.new + 1 };
 
     fn displaced(&self) -> &Displaced
-        ensures { result.now ≡ displaced self.now };
+        ensures { result.now.told ≡ displaced self.now };
 
     /// Takes a row of the key out, and says whether it stood there.
     fn delete(&mut self, key: Key, place: u64) -> bool
         ensures found { let row = row_of_key (window self.old).geometry key place in
-            result ≡ has_row row (rows self.old) }
+            result ≡ has_row row (plain_rows (rows self.old)) }
         ensures gone { let row = row_of_key (window self.old).geometry key place in
-            OnTrue result (IsPermutation (rows self.old) (row ∷ rows self.new)) }
+            OnTrue result (LosesPlain row (rows self.old) (rows self.new)) }
         ensures none { result ≡ false → rows self.new ≡ rows self.old }
         ensures window { window self.new ≡ window self.old }
         ensures displaced { displaced self.new ≡ displaced self.old }
@@ -86,10 +97,11 @@ pub trait Directory {
 
     /// Begins a walk over the places of a key.
     fn candidates(&self, key: Key) -> Walk
-        ensures rest { rest self.now result ≡ candidates_of (window self.now) key (rows self.now) }
+        ensures rest { rest self.now result
+            ≡ candidates_of (window self.now) key (plain_rows (rows self.now)) }
         ensures walks { walks self.now result }
         ensures ahead { let g = (window self.now).geometry in
-            ahead self.now result ≤ count_by (is_in_bucket g key) (rows self.now) };
+            ahead self.now result ≤ count_by (is_in_bucket g key) (plain_rows (rows self.now)) };
 
     /// The next place of a walk.
     fn step(&self, walk: &mut Walk, steps: &mut Steps) -> Option<u64>
@@ -102,14 +114,18 @@ pub trait Directory {
     fn in_range(&self, place: u64) -> bool
         ensures { result ≡ is_in_range (window self.now) place };
 
-    /// Begins the buffer at a cursor, with a floor. The rows of older laps go.
+    /// Begins the buffer at a cursor, with a floor. The rows below the floor go.
     fn wrap(&mut self, cursor: u64, floor: u64)
         requires cursor { IsLater (window self.old) cursor floor }
         requires above { All (λ r. r.place < cursor) (rows self.old) }
-        ensures rows { let g = (window self.old).geometry in
-            Forgets g cursor floor (rows self.old) (rows self.new) }
+        ensures rows { IsPermutation (stored_from floor (rows self.old)) (rows self.new) }
         ensures window { let old = window self.old in
             window self.new ≡ record old { cursor = cursor; floor = floor; end = cursor } }
         ensures displaced { displaced self.new ≡ displaced self.old }
         ensures spare { spare self.old ≤ spare self.new };
+
+    /// A law for proofs: where the rows end, and, where an insert may displace, how many there are.
+    fn rows_fit(&self)
+        ensures ended { All (λ r. r.place < (window self.now).end) (rows self.now) }
+        ensures few { purges ≡ true → AreFew (window self.now).geometry (plain_rows (rows self.now)) };
 }

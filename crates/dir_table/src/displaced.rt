@@ -1,7 +1,7 @@
 // What an insert pushed out.
-ghost use Rattle.std.specs.Prelude.{◌≡◌, ◌<◌, length, slice_get, Some};
+ghost use Rattle.std.specs.Prelude.{◌≡◌, ◌<◌, ◌≤◌, ◌++◌, ◌∷◌, [], length, slice_get, Some, IfOk};
 
-use std::alloc::Global;
+use std::alloc::{AllocError, Global};
 use std::marker::Model;
 
 /// The places of the rows that the last insert displaced, their segment, and how many rows of that
@@ -14,11 +14,15 @@ pub struct Displaced {
 }
 
 impl Model for Displaced {
-    ghost use Rattle.dir_table.specs.Displacement.{Displacement};
+    ghost use Rattle.std.specs.Prelude.{vec_capacity};
+    ghost use Rattle.dir_table.specs.Displacement.{DisplacementKept};
 
-    ghost Value = { Displacement };
+    ghost Value = { DisplacementKept };
 
-    ghost view = { λ d. record { places = d.places.items; segment = d.segment; live = d.live } };
+    ghost view = { λ d. record {
+      told = record { places = d.places.items; segment = d.segment; live = d.live };
+      room = vec_capacity d.places;
+    } };
 }
 
 impl Displaced {
@@ -26,7 +30,7 @@ impl Displaced {
 
     /// Nothing was displaced, which takes no memory.
     pub fn new(alloc: Global) -> Displaced
-        ensures { result ≡ none_displaced }
+        ensures { result.told ≡ none_displaced }
     {
         Displaced {
             places: Vec::new(alloc),
@@ -35,27 +39,60 @@ impl Displaced {
         }
     }
 
+    /// Nothing was displaced, and so many places can be told without more memory.
+    pub fn with_room(alloc: Global, most: usize) -> Result<Displaced, AllocError>
+        ensures told { IfOk result (λ d. d.told ≡ none_displaced) }
+        ensures room { IfOk result (λ d. most ≤ d.room) }
+    {
+        let places = Vec::with_capacity(alloc, most)?;
+        Ok(Displaced {
+            places,
+            segment: 0,
+            live: 0,
+        })
+    }
+
+    /// Tells of an insert into a segment that had so many rows, and of no place yet.
+    pub fn begin(&mut self, segment: u32, live: u64)
+        ensures told { self.new.told ≡ record { places = []; segment = segment; live = live } }
+        ensures room { self.new.room ≡ self.old.room }
+    {
+        self.places.clear();
+        self.segment = segment;
+        self.live = live;
+    }
+
+    /// Tells one place more.
+    pub fn push(&mut self, place: u64)
+        requires { length self.old.told.places < self.old.room }
+        ensures told { self.new.told
+            ≡ record self.old.told { places = self.old.told.places ++ place ∷ [] } }
+        ensures room { self.new.room ≡ self.old.room }
+    {
+        self.places.push_reserved(place);
+    }
+
     pub fn len(&self) -> usize
-        ensures { result ≡ length self.now.places }
+        ensures { result ≡ length self.now.told.places }
     {
         self.places.len()
     }
 
     pub fn place(&self, i: usize) -> u64
-        requires { i < length self.now.places }
-        ensures { slice_get self.now.places i ≡ Some result }
+        requires { i < length self.now.told.places }
+        ensures { slice_get self.now.told.places i ≡ Some result }
     {
         self.places[i]
     }
 
     pub fn segment(&self) -> u32
-        ensures { result ≡ self.now.segment }
+        ensures { result ≡ self.now.told.segment }
     {
         self.segment
     }
 
     pub fn live(&self) -> u64
-        ensures { result ≡ self.now.live }
+        ensures { result ≡ self.now.told.live }
     {
         self.live
     }

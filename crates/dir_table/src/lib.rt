@@ -3,6 +3,7 @@
 
 mod directory;
 mod displaced;
+mod laws;
 mod links;
 mod list;
 mod rows;
@@ -11,8 +12,9 @@ mod window;
 
 pub use directory::Directory;
 pub use displaced::Displaced;
+pub use laws::rows_stay_apart;
 pub use list::ListDirectory;
-pub use rows::{DirRow, Walk};
+pub use rows::{DirRow, Spot, StoredRow, Walk};
 pub use window::Window;
 
 #[cfg(test)]

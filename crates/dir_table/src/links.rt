@@ -1,21 +1,21 @@
 // Rows under numbers, each linked to the next older row of its segment, bucket and tag.
-ghost use Rattle.std.specs.Prelude.{ℕ, ◌≡◌, ◌+◌, ◌≤◌, ◌<◌, [], ◌∷◌, true, All, Some, None, IfSome, is_some, OnOk, nat_eq};
-ghost use Rattle.std.specs.Prelude.{IsPermutation, false};
+ghost use Rattle.std.specs.Prelude.{ℕ, ◌≡◌, ◌+◌, ◌≤◌, ◌<◌, [], ◌∷◌, true, All, Some, None, IfSome, is_some, IsOk, OnOk, nat_eq};
+ghost use Rattle.std.specs.Prelude.{false};
 ghost use Rattle.std.specs.Bool.{OnTrue};
 ghost use Rattle.std.specs.HashMap.{get, spare};
 ghost use Rattle.dir_table.specs.declared.rows.Spot.{Spot as SpotValue};
-ghost use Rattle.dir_table.specs.Rows.{same_spot, is_at, has_row};
-ghost use Rattle.dir_table.specs.Links.{IsLinked, PointsTo, entries_of, node_at, newest_at, row_at, rows_in, room_of, relinked, renewed, without, AllFrom, stands_from};
-ghost use Rattle.dir_table.specs.Wrap.{rows_from};
+ghost use Rattle.dir_table.specs.Rows.{same_spot, has_row, plain_rows, LosesPlain};
+ghost use Rattle.dir_table.specs.Links.{IsLinked, IsPlainAt, stands_at, PointsTo, entries_of, node_at, newest_at, row_at, rows_in, room_of, relinked, renewed, without, AllFrom, stands_from};
+ghost use Rattle.dir_table.specs.Wrap.{stored_from};
 
-use crate::rows::{DirRow, Spot};
+use crate::rows::{DirRow, Spot, StoredRow};
 use std::alloc::{AllocError, Global};
 use std::collections::HashMap;
 
 /// A row, and the number of the next older row of its spot.
 #[derive(Clone, Copy, Debug)]
 pub(crate) struct Node {
-    pub row: DirRow,
+    pub row: StoredRow,
     pub older: Option<u64>,
 }
 
@@ -48,6 +48,7 @@ pub(crate) fn reserve(links: &mut Links, more: usize) -> Result<(), AllocError>
     ensures entries { entries_of links.new ≡ entries_of links.old }
     ensures next { links.new.next ≡ links.old.next }
     ensures room { OnOk result (more ≤ room_of links.new) }
+    ensures enough { more ≤ room_of links.old → IsOk result }
     ensures same { room_of links.old ≤ room_of links.new }
 {
     links.nodes.reserve(more)?;
@@ -74,7 +75,7 @@ pub(crate) fn newest_of(links: &Links, spot: Spot) -> Option<u64>
 }
 
 /// Adds the newest row.
-pub(crate) fn add(links: &mut Links, row: DirRow)
+pub(crate) fn add(links: &mut Links, row: StoredRow)
     requires linked { IsLinked links.old }
     requires room { 0 < room_of links.old }
     requires last { All (λ r. r.place ≤ row.place) (rows_in links.old) }
@@ -96,13 +97,13 @@ pub(crate) fn add(links: &mut Links, row: DirRow)
 /// The number of a row, if it is there.
 pub(crate) fn number_of(links: &Links, row: &DirRow) -> Option<u64>
     requires { IsLinked links.now }
-    ensures found { IfSome result (λ k. row_at links.now k ≡ Some row.now) }
-    ensures has { is_some result ≡ has_row row.now (rows_in links.now) }
+    ensures found { IfSome result (λ k. IsPlainAt links.now k row.now) }
+    ensures has { is_some result ≡ has_row row.now (plain_rows (rows_in links.now)) }
 {
     let mut at = newest_of(links, row.spot());
     while let Some(number) = at {
         let node = node_of(links, number);
-        if *row == node.row {
+        if *row == node.row.plain() {
             return Some(number);
         }
         at = node.older;
@@ -113,7 +114,7 @@ pub(crate) fn number_of(links: &Links, row: &DirRow) -> Option<u64>
 // What points to a number: the next newer row of its spot, or none where it is the newest.
 fn pointing_to(links: &Links, number: u64, spot: Spot) -> Option<u64>
     requires linked { IsLinked links.now }
-    requires stands { IfSome (row_at links.now number) (λ row. is_at spot row ≡ true) }
+    requires stands { IfSome (row_at links.now number) (λ row. stands_at spot row ≡ true) }
     requires some { is_some (row_at links.now number) ≡ true }
     ensures { PointsTo links.now spot result (Some number) }
 {
@@ -186,8 +187,8 @@ pub(crate) fn take_out(links: &mut Links, number: u64)
 pub(crate) fn take_row(links: &mut Links, row: &DirRow) -> bool
     requires { IsLinked links.old }
     ensures linked { IsLinked links.new }
-    ensures found { result ≡ has_row row.now (rows_in links.old) }
-    ensures gone { OnTrue result (IsPermutation (rows_in links.old) (row.now ∷ rows_in links.new)) }
+    ensures found { result ≡ has_row row.now (plain_rows (rows_in links.old)) }
+    ensures gone { OnTrue result (LosesPlain row.now (rows_in links.old) (rows_in links.new)) }
     ensures none { result ≡ false → entries_of links.new ≡ entries_of links.old }
     ensures above { (first : ℕ) →
         AllFrom first (entries_of links.old) → AllFrom first (entries_of links.new) }
@@ -210,7 +211,7 @@ pub(crate) fn forget(links: &mut Links, first: u64, low: u64) -> u64
     requires above { AllFrom first (entries_of links.old) }
     requires within { first ≤ links.old.next }
     ensures linked { IsLinked links.new }
-    ensures rows { rows_in links.new ≡ rows_from low (rows_in links.old) }
+    ensures rows { rows_in links.new ≡ stored_from low (rows_in links.old) }
     ensures above { AllFrom result (entries_of links.new) }
     ensures within { result ≤ links.new.next }
     ensures room { room_of links.old ≤ room_of links.new }

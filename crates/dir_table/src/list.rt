@@ -4,7 +4,7 @@ ghost use Rattle.std.specs.Prelude.{◌≡◌};
 use crate::directory::Directory;
 use crate::displaced::Displaced;
 use crate::links::{self, Links};
-use crate::rows::{DirRow, Spot, Walk};
+use crate::rows::{DirRow, Spot, StoredRow, Walk};
 use crate::walks;
 use crate::window::Window;
 use std::alloc::{AllocError, Global};
@@ -35,7 +35,7 @@ impl Model for ListDirectory {
 }
 
 impl Directory for ListDirectory {
-    ghost use Rattle.std.specs.Prelude.{false, true, ◌≡◌};
+    ghost use Rattle.std.specs.Prelude.{[], false, true, ◌≡◌};
     ghost use Rattle.dir_table.specs.Listed.{rows_listed};
     ghost use Rattle.dir_table.specs.Trail.{is_on, places_left, count_left};
     ghost use Rattle.dir_table.specs.Displacement.{none_displaced};
@@ -47,6 +47,8 @@ impl Directory for ListDirectory {
     ghost spare = { λ d. d.spare };
 
     ghost purges = { false };
+
+    ghost due = { λ _ _. [] };
 
     ghost displaced = { λ _. none_displaced };
 
@@ -69,8 +71,8 @@ impl Directory for ListDirectory {
         links::reserve(&mut self.links, more)
     }
 
-    fn insert(&mut self, key: Key, place: u64, blocks: u32, _head: bool, _pinned: bool) {
-        let row = DirRow::of_key(&self.window.geometry, key, place);
+    fn insert(&mut self, key: Key, place: u64, blocks: u32, head: bool, pinned: bool) {
+        let row = StoredRow::of_piece(&self.window.geometry, key, place, blocks, head, pinned);
         links::add(&mut self.links, row);
         self.window.end = place + blocks as u64;
     }
@@ -101,5 +103,9 @@ impl Directory for ListDirectory {
         self.window.cursor = cursor;
         self.window.floor = floor;
         self.window.end = cursor;
+    }
+
+    fn rows_fit(&self) {
+        let _ = &self.window;
     }
 }

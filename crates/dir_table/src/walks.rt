@@ -1,12 +1,11 @@
 // Walks over the rows of a spot, the newest first.
 ghost use Rattle.std.specs.Prelude.{◌≡◌, ◌+◌, ◌-◌, ◌^◌, ◌≤◌, true, filter, min};
-ghost use Rattle.dir_table.specs.Rows.{is_at};
-ghost use Rattle.dir_table.specs.Links.{IsLinked, entries_of, rows_in};
+ghost use Rattle.dir_table.specs.Links.{IsLinked, stands_at, entries_of, rows_in};
 ghost use Rattle.dir_table.specs.Candidates.{GivesFirst, Counts};
 ghost use Rattle.dir_table.specs.Trail.{trail_of, is_on, places_left, count_left};
 
 use crate::links::{Links, newest_of, node_of};
-use crate::rows::{DirRow, Spot, Walk};
+use crate::rows::{Spot, StoredRow, Walk};
 use crate::window::Window;
 use tape_base::Steps;
 
@@ -14,7 +13,7 @@ pub(crate) fn begin(links: &Links, spot: Spot) -> Walk
     requires { IsLinked links.now }
     ensures on { is_on result (entries_of links.now) ≡ true }
     ensures trail { trail_of result (entries_of links.now)
-        ≡ filter (is_at spot) (rows_in links.now) }
+        ≡ filter (stands_at spot) (rows_in links.now) }
 {
     Walk {
         spot,
@@ -23,7 +22,7 @@ pub(crate) fn begin(links: &Links, spot: Spot) -> Walk
 }
 
 // The row at which a walk stands. The walk goes on to the next older one of the spot.
-fn pass(links: &Links, walk: &mut Walk) -> Option<DirRow>
+fn pass(links: &Links, walk: &mut Walk) -> Option<StoredRow>
     requires linked { IsLinked links.now }
     requires on { is_on walk.old (entries_of links.now) ≡ true }
     ensures on { is_on walk.new (entries_of links.now) ≡ true }

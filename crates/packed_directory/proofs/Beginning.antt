@@ -9,7 +9,7 @@ use Rattle.tape_base.specs.declared.geometries.Geometry.{Geometry}
 use Rattle.tape_base.specs.Place.{lap_of, floor_of}
 use Rattle.dir_entry.specs.declared.entry.Entry.{Entry}
 use Rattle.dir_segment.specs.Lists.{Lists, empty_chains, new_lists}
-use Rattle.packed_directory.specs.declared.rows.StoredRow.{StoredRow}
+use Rattle.dir_table.specs.declared.rows.StoredRow.{StoredRow}
 use Rattle.packed_directory.specs.Entering.{BucketEntry, entries_from}
 use Rattle.packed_directory.specs.Phases.{least_place, place_of_entry, stands_between}
 use Rattle.packed_directory.specs.StoredRows.{row_of_entry, entry_of_row, rows_of_segments}

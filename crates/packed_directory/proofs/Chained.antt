@@ -8,7 +8,7 @@ use Rattle.tape_base.specs.declared.keys.Key.{Key}
 use Rattle.tape_base.specs.Key.{segment_of, bucket_of, tag_of}
 use Rattle.dir_entry.specs.declared.entry.Entry.{Entry}
 use Rattle.dir_segment.specs.Lists.{Row, Lists, row, unlinked, chain_of, behind, behind_slot, first_of_tag, rest_of_tag}
-use Rattle.packed_directory.specs.declared.rows.StoredRow.{StoredRow}
+use Rattle.dir_table.specs.declared.rows.StoredRow.{StoredRow}
 use Rattle.packed_directory.specs.Entering.{BucketEntry, entries_from}
 use Rattle.packed_directory.specs.Phases.{place_of_entry, stands_between}
 use Rattle.packed_directory.specs.StoredRows.{row_of_entry, rows_of_segments}

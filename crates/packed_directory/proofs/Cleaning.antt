@@ -12,15 +12,16 @@ use Rattle.dir_entry.specs.declared.entry.Entry.{Entry}
 use Rattle.dir_segment.specs.Lists.{Row, Lists}
 use Rattle.dir_segment.specs.Cleaning.{clean_buckets}
 use Rattle.dir_segment.specs.Entries.{AreStored, CleanKeeps}
-use Rattle.packed_directory.specs.declared.rows.StoredRow.{StoredRow}
+use Rattle.dir_table.specs.declared.rows.StoredRow.{StoredRow}
 use Rattle.packed_directory.specs.Entering.{BucketEntry, entries_from}
 use Rattle.packed_directory.specs.Phases.{IsCursor, least_place, place_of_entry, has_block, stands_between}
-use Rattle.packed_directory.specs.StoredRows.{row_of_entry, rows_of_segments, stored_from}
+use Rattle.packed_directory.specs.StoredRows.{row_of_entry, rows_of_segments}
 use Rattle.packed_directory.specs.Packed.{AreBetween, IsPacked, segment_at}
 use Rattle.packed_directory.specs.Cleaned.{IsCleaned, AreCleaned}
 use Rattle.packed_directory.proofs.Enters.{all_behind, all_before}
 use Rattle.packed_directory.proofs.Gathering.{entries_of, in_bucket, entries-cons}
 use Rattle.packed_directory.proofs.Phasing.{content_some, one_lap, of_place, place_back, parts_between, between_from}
+use Rattle.dir_table.specs.Wrap.{stored_from}
 
 map-filter : (t : Entry → Bool) (b : ℕ) (es : List Entry) → map (in_bucket b) (filter t es) ≡ filter (λ (it : BucketEntry). t it.entry) (map (in_bucket b) es)
 map-filter t b [] = refl

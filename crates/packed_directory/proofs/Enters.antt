@@ -12,16 +12,17 @@ use Rattle.dir_entry.specs.declared.entry.Entry.{Entry}
 use Rattle.dir_segment.specs.Lists.{Lists}
 use Rattle.dir_segment.specs.Entries.{AreCounted}
 use Rattle.dir_segment.specs.Purging.{tenth_of}
-use Rattle.packed_directory.specs.declared.rows.StoredRow.{StoredRow}
+use Rattle.dir_table.specs.declared.rows.StoredRow.{StoredRow}
 use Rattle.packed_directory.specs.Entering.{BucketEntry, entries_from, GoOut, TakesIn}
 use Rattle.packed_directory.specs.Full.{is_full}
 use Rattle.packed_directory.specs.Phases.{place_of_entry, has_block, stands_between}
 use Rattle.packed_directory.specs.StoredRows.{row_of_entry, entry_of_row, rows_of_segment, rows_of_segments}
-use Rattle.packed_directory.specs.Packed.{AreBetween, segment_at, GoesOut, TakesRow, EntersRow}
+use Rattle.packed_directory.specs.Packed.{AreBetween, segment_at, GoesOut, EntersRow}
 use Rattle.packed_directory.proofs.Fullness.{full_by_rows, open_by_rows}
 use Rattle.packed_directory.proofs.Gathering.{in_bucket}
 use Rattle.packed_directory.proofs.Phasing.{content_some, parts_between, between_from, block_from}
 use Rattle.packed_directory.proofs.Segments.{all_take}
+use Rattle.dir_table.specs.Entering.{TakesRow}
 
 pub all_behind : {X : Type 0} (P : X → Type 0) (xs ys : List X) → All P (xs ++ ys) → All P ys
 all_behind P [] ys h = h

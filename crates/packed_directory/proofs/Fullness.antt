@@ -1,5 +1,5 @@
 -- Whether a bucket is full, by rows.
-use Rattle.std.proofs.Common.{◌≡◌, ◌≢◌, ℕ, zero, suc, ◌+◌, ◌*◌, ◌<◌, Bool, true, false, cond, eqb, List, [], ◌∷◌, ◌++◌, length, get_or, map, refl, sym, ap, subst, ◌∙◌, arith}
+use Rattle.std.proofs.Common.{◌≡◌, ◌≢◌, ℕ, zero, suc, ◌+◌, ◌*◌, ◌<◌, ◌≤◌, Bool, true, false, cond, eqb, List, [], ◌∷◌, ◌++◌, length, get_or, map, refl, sym, ap, subst, ◌∙◌, arith}
 use Rattle.std.specs.Prelude.{filter, ◌||◌}
 use Rattle.std.specs.List.{list_any, range_with_len, count_by}
 use Rattle.std.proofs.lemmas.Bool.{and_parts, and_from, eqb-true, eq-eqb, ne_eqb, false_from_ne_true}
@@ -11,7 +11,7 @@ use Rattle.tape_base.specs.declared.geometries.Geometry.{Geometry}
 use Rattle.dir_entry.specs.declared.entry.Entry.{Entry}
 use Rattle.dir_segment.specs.Lists.{Row, Lists, entry_count, IsFull}
 use Rattle.dir_segment.specs.Entries.{AreCounted, used_roots}
-use Rattle.packed_directory.specs.declared.rows.StoredRow.{StoredRow}
+use Rattle.dir_table.specs.declared.rows.StoredRow.{StoredRow}
 use Rattle.packed_directory.specs.Entering.{BucketEntry, entries_from}
 use Rattle.packed_directory.specs.StoredRows.{row_of_entry, rows_of_segment, rows_of_segments}
 use Rattle.packed_directory.specs.Packed.{segment_at}
@@ -104,6 +104,13 @@ module _ (g : Geometry) (cursor seg : ℕ) where
       filter-append (λ (r : StoredRow). eqb r.segment seg) (rows_of_segment g cursor s l) (rows_of_segments g cursor (suc s) rest)
       ∙ (λ i. other_rows s (entries_from 0 l.chains) (λ q. let no : s < s = subst (λ n. n < s) (sym q) lt in absurd (omega (arith, no))) i ++ later_rows (suc s) rest (omega (arith, lt)) i)
 
+  -- no segment behind the last has rows
+  pub none_past : (s : ℕ) (segments : List Lists) → s + length segments ≤ seg → segment_rows seg (rows_of_segments g cursor s segments) ≡ []
+  none_past s [] le = refl
+  none_past s (l ∷ rest) le =
+      filter-append (λ (r : StoredRow). eqb r.segment seg) (rows_of_segment g cursor s l) (rows_of_segments g cursor (suc s) rest)
+      ∙ (λ i. other_rows s (entries_from 0 l.chains) (λ q. let no : s < s = subst (λ n. s < n) (sym q) (omega (arith, le)) in absurd (omega (arith, no))) i ++ none_past (suc s) rest (omega (arith, le)) i)
+
   pub rows_in : (s i : ℕ) (segments : List Lists) (none : Lists) → i < length segments → s + i ≡ seg
       → segment_rows seg (rows_of_segments g cursor s segments) ≡ rows_of_segment g cursor seg (get_or segments i none)
   rows_in s i [] none lt is = absurd (omega (arith, lt))
@@ -140,7 +147,7 @@ module _ (g : Geometry) (cursor seg : ℕ) where
         ∙ any-map (λ (r : StoredRow). eqb r.bucket b) f (entries_from 0 lists.chains)
         ∙ bucket_has 0 b b lists.chains (omega arith)
 
-    in_use : length lists.chains ≡ g.buckets → buckets_in_use g seg rows ≡ used_roots lists.chains
+    pub in_use : length (segment_at segments seg).chains ≡ g.buckets → buckets_in_use g seg (rows_of_segments g cursor 0 segments) ≡ used_roots (segment_at segments seg).chains
     in_use wide =
         ap (λ n. count_by (λ (b : ℕ). list_any (is_in seg b) rows) (range_with_len 0 n)) (sym wide)
         ∙ roots_used (λ (b : ℕ). list_any (is_in seg b) rows) 0 lists.chains (λ j lt. let z : 0 + j ≡ j = omega arith in ap (λ n. list_any (is_in seg n) rows) z ∙ row_has j)

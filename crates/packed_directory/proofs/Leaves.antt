@@ -13,17 +13,18 @@ use Rattle.tape_base.specs.Place.{lap_of, slot_of, phase_of}
 use Rattle.dir_entry.specs.declared.entry.Entry.{Entry}
 use Rattle.dir_segment.specs.Lists.{Row, Lists, is_that, passes, deleted, chain_of}
 use Rattle.dir_segment.specs.Entries.{AreStored, DeleteTakes, MissedStays, SetsEntries, without_first, bucket_entries}
-use Rattle.packed_directory.specs.declared.rows.StoredRow.{StoredRow}
+use Rattle.dir_table.specs.declared.rows.StoredRow.{StoredRow}
 use Rattle.packed_directory.specs.Entering.{BucketEntry, entries_from}
 use Rattle.packed_directory.specs.Phases.{place_of_entry, has_block, stands_between, least_place}
 use Rattle.packed_directory.specs.StoredRows.{row_of_entry, rows_of_segment, rows_of_segments, is_spot}
-use Rattle.packed_directory.specs.Packed.{AreBetween, segment_at, TakesRow}
+use Rattle.packed_directory.specs.Packed.{AreBetween, segment_at}
 use Rattle.packed_directory.specs.Leaving.{is_row, LosesRow, TakesOut}
 use Rattle.packed_directory.proofs.Gathering.{entries_of, in_bucket, one_more}
 use Rattle.packed_directory.proofs.Phasing.{place_back, of_place, parts_between, same_beq, beq_same}
 use Rattle.packed_directory.proofs.Segments.{all_take}
 use Rattle.packed_directory.proofs.Under.{rows_under}
 use Rattle.packed_directory.proofs.Chained.{chain_all}
+use Rattle.dir_table.specs.Entering.{TakesRow}
 
 pub any-filter : {X : Type 0} (p q : X → Bool) (xs : List X) → list_any (λ x. p x && q x) xs ≡ list_any q (filter p xs)
 any-filter p q [] = refl

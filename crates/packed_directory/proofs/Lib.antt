@@ -13,3 +13,4 @@ pub mod Spelling
 pub mod Meaning
 pub mod Fullness
 pub mod Walking
+pub mod Plain

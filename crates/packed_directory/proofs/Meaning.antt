@@ -12,14 +12,15 @@ use Rattle.tape_base.specs.declared.geometries.Geometry.{Geometry}
 use Rattle.tape_base.specs.Place.{lap_of, phase_of, lap_end_of}
 use Rattle.dir_entry.specs.declared.entry.Entry.{Entry}
 use Rattle.dir_segment.specs.Lists.{Lists}
-use Rattle.packed_directory.specs.declared.rows.StoredRow.{StoredRow}
+use Rattle.dir_table.specs.declared.rows.StoredRow.{StoredRow}
 use Rattle.packed_directory.specs.Entering.{BucketEntry, entries_from}
 use Rattle.packed_directory.specs.Phases.{IsCursor, least_place, laps_back, place_of_entry, has_block, stands_between}
-use Rattle.packed_directory.specs.StoredRows.{row_of_entry, rows_of_segments, stored_from}
+use Rattle.packed_directory.specs.StoredRows.{row_of_entry, rows_of_segments}
 use Rattle.packed_directory.specs.Packed.{AreBetween, IsPacked, segment_at}
 use Rattle.packed_directory.specs.Cleaned.{IsCleaned, AreCleaned}
 use Rattle.packed_directory.specs.PackedImage.{meant_from}
 use Rattle.packed_directory.proofs.Phasing.{content_some, one_lap, of_place, place_back, place_least, parts_between, between_from, next_phase, same_beq, not-not}
+use Rattle.dir_table.specs.Wrap.{stored_from}
 
 abbrev row_at : Geometry → ℕ → ℕ → BucketEntry → StoredRow
 row_at g c s it = row_of_entry g c s it.bucket it.entry

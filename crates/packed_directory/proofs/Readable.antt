@@ -8,7 +8,7 @@ use Rattle.std.proofs.lemmas.List.Folds.{list_any_none}
 use Rattle.tape_base.specs.declared.geometries.Geometry.{Geometry}
 use Rattle.dir_entry.specs.declared.entry.Entry.{Entry}
 use Rattle.dir_segment.specs.Lists.{Row, Lists}
-use Rattle.packed_directory.specs.declared.rows.StoredRow.{StoredRow}
+use Rattle.dir_table.specs.declared.rows.StoredRow.{StoredRow}
 use Rattle.packed_directory.specs.Entering.{BucketEntry, entries_from}
 use Rattle.packed_directory.specs.Phases.{IsOfPlace, place_of_entry, stands_between}
 use Rattle.packed_directory.specs.StoredRows.{row_of_entry, rows_of_segments, is_spot}

@@ -4,9 +4,9 @@ use Rattle.std.specs.List.Sorted.{IsPermutation}
 use Rattle.std.proofs.lemmas.List.Sorted.{IsPermutation-sym, IsPermutation-trans, IsPermutation-middle, IsPermutation-append_left, IsPermutation-append_right, IsPermutation-append_comm}
 use Rattle.tape_base.specs.declared.geometries.Geometry.{Geometry}
 use Rattle.dir_segment.specs.Lists.{Lists}
-use Rattle.packed_directory.specs.declared.rows.StoredRow.{StoredRow}
+use Rattle.dir_table.specs.declared.rows.StoredRow.{StoredRow}
 use Rattle.packed_directory.specs.StoredRows.{rows_of_segment, rows_of_segments}
-use Rattle.packed_directory.specs.Packed.{TakesRow}
+use Rattle.dir_table.specs.Entering.{TakesRow}
 
 -- a part in the middle comes to the front
 to_front : {X : Type 0} (front mid rest : List X) → IsPermutation (front ++ (mid ++ rest)) (mid ++ (front ++ rest))

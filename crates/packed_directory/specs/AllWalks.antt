@@ -2,7 +2,7 @@
 use Rattle.std.specs.Prelude.{ℕ, suc, ◌≡◌, ◌-◌, ◌*◌, ◌<◌, ◌≤◌, true, List, ◌++◌, map, drop, IfSome}
 use Rattle.dir_segment.specs.Lists.{Row, chain_of, behind, has_slot}
 use Rattle.tape_base.specs.declared.geometries.Geometry.{Geometry}
-use Rattle.packed_directory.specs.declared.rows.StoredRow.{StoredRow}
+use Rattle.dir_table.specs.declared.rows.StoredRow.{StoredRow}
 use Rattle.packed_directory.specs.declared.walks.AllWalk.{AllWalk}
 use Rattle.packed_directory.specs.Entering.{entries_from}
 use Rattle.packed_directory.specs.StoredRows.{row_of_entry, rows_of_segments}

@@ -1,11 +1,10 @@
 -- What is left of segments where entries outside two places go out.
-use Rattle.std.specs.Prelude.{ℕ, ◌≡◌, ◌<◌, ◌≤◌, List, length, filter}
+use Rattle.std.specs.Prelude.{ℕ, ◌≡◌, ◌<◌, List, length, filter}
 use Rattle.tape_base.specs.declared.geometries.Geometry.{Geometry}
-use Rattle.tape_base.specs.Place.{floor_of}
 use Rattle.dir_segment.specs.Lists.{Lists}
 use Rattle.packed_directory.specs.Entering.{entries_from}
-use Rattle.packed_directory.specs.Phases.{IsCursor, stands_between}
-use Rattle.packed_directory.specs.Packed.{Packed, segment_at}
+use Rattle.packed_directory.specs.Phases.{stands_between}
+use Rattle.packed_directory.specs.Packed.{segment_at}
 
 -- of a segment the entries are left that stand for a place from one place on and below another
 pub record IsCleaned (g : Geometry) (cursor low high : ℕ) (before after : Lists) : Type 0 where
@@ -16,9 +15,3 @@ pub record IsCleaned (g : Geometry) (cursor low high : ℕ) (before after : List
 pub record AreCleaned (g : Geometry) (cursor low high : ℕ) (before after : List Lists) : Type 0 where
   pub count : length after ≡ length before
   pub each : (i : ℕ) → i < length before → IsCleaned g cursor low high (segment_at before i) (segment_at after i)
-
--- a buffer may begin at this cursor, with this floor
-pub record MayTurn (d : Packed) (cursor floor : ℕ) : Type 0 where
-  pub begun : IsCursor d.geometry.content cursor
-  pub readable : floor_of d.geometry cursor ≤ floor
-  pub low : floor ≤ cursor

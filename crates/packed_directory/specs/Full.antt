@@ -2,7 +2,7 @@
 use Rattle.std.specs.Prelude.{ℕ, ◌+◌, ◌*◌, ◌==◌, ◌&&◌, Bool, List, length, filter, count_by}
 use Rattle.std.specs.List.{list_any, range_with_len}
 use Rattle.tape_base.specs.declared.geometries.Geometry.{Geometry}
-use Rattle.packed_directory.specs.declared.rows.StoredRow.{StoredRow}
+use Rattle.dir_table.specs.declared.rows.StoredRow.{StoredRow}
 
 -- the row stands in this bucket of a segment
 abbrev pub is_in : ℕ → ℕ → StoredRow → Bool

@@ -3,20 +3,14 @@ use Rattle.std.specs.Prelude.{ℕ, ◌≡◌, ◌==◌, ◌&&◌, Bool, true, fa
 use Rattle.std.specs.List.{All, list_any}
 use Rattle.std.specs.List.Sorted.{IsPermutation}
 use Rattle.tape_base.specs.declared.geometries.Geometry.{Geometry}
-use Rattle.tape_base.specs.declared.keys.Key.{Key}
-use Rattle.tape_base.specs.Key.{segment_of, bucket_of, tag_of}
 use Rattle.dir_segment.specs.Lists.{Lists}
-use Rattle.packed_directory.specs.declared.rows.StoredRow.{StoredRow}
+use Rattle.dir_table.specs.declared.rows.StoredRow.{StoredRow}
 use Rattle.packed_directory.specs.StoredRows.{rows_of_segments, is_spot}
 use Rattle.packed_directory.specs.Packed.{AreBetween}
 
 -- the row stands under this segment, bucket and tag, at a place
 abbrev pub is_row : ℕ → ℕ → ℕ → ℕ → StoredRow → Bool
 is_row segment bucket tag place row = is_spot segment bucket tag row && row.place == place
-
--- the row stands under those of a key, at a place
-abbrev pub is_stored : Geometry → Key → ℕ → StoredRow → Bool
-is_stored g key = is_row (segment_of g key) (bucket_of g key) (tag_of key)
 
 -- one row that passes is gone
 pub record LosesRow (test : StoredRow → Bool) (before after : List StoredRow) : Type 0 where

@@ -12,9 +12,10 @@ pub mod Phases
 pub mod Stored
 pub mod StoredRows
 pub use Rattle.dir_entry.specs.Layout
-pub use Rattle.dir_entry.specs.Sizes
 pub use Rattle.dir_segment.specs.Entries
 pub use Rattle.dir_segment.specs.Image
 pub use Rattle.dir_segment.specs.Lists
+pub use Rattle.dir_table.specs.Rows
+pub use Rattle.dir_table.specs.Wrap
 pub use Rattle.tape_base.specs.Key
 pub use Rattle.tape_base.specs.Place

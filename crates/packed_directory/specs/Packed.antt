@@ -1,30 +1,19 @@
 -- What a contract sees of a `PackedDirectory`.
-use Rattle.std.specs.Prelude.{ℕ, ◌≡◌, ◌+◌, ◌≤◌, ◌<◌, Bool, true, false, List, [], ◌∷◌, ◌++◌, length, map, replicate, slice_index_or}
+use Rattle.std.specs.Prelude.{ℕ, ◌≡◌, ◌≤◌, ◌<◌, Bool, true, false, List, [], length, map, replicate, slice_index_or}
 use Rattle.std.specs.List.{All}
-use Rattle.std.specs.List.Sorted.{IsPermutation}
 use Rattle.tape_base.specs.declared.geometries.Geometry.{Geometry}
-use Rattle.tape_base.specs.declared.keys.Key.{Key}
-use Rattle.tape_base.specs.Key.{segment_of, bucket_of, tag_of}
 use Rattle.tape_base.specs.Place.{lap_of, floor_of}
-use Rattle.dir_entry.specs.Sizes.{IsLeastClass}
 use Rattle.dir_entry.specs.declared.entry.Entry.{Entry}
 use Rattle.dir_segment.specs.Lists.{Lists, new_lists, IsFull}
 use Rattle.dir_segment.specs.Purging.{purged, tenth_of}
-use Rattle.packed_directory.specs.declared.rows.StoredRow.{StoredRow}
+use Rattle.dir_table.specs.declared.rows.StoredRow.{StoredRow}
+use Rattle.dir_table.specs.declared.window.Window.{Window}
+use Rattle.dir_table.specs.Displacement.{Displacement, none_displaced}
+use Rattle.dir_table.specs.Entering.{TakesRow}
 use Rattle.packed_directory.specs.Entering.{BucketEntry, entries_from}
-use Rattle.packed_directory.specs.Full.{segment_rows, is_full}
+use Rattle.packed_directory.specs.Full.{is_full}
 use Rattle.packed_directory.specs.Phases.{IsCursor, IsOfPlace, least_place, place_of_entry, has_block, stands_between}
 use Rattle.packed_directory.specs.StoredRows.{row_of_entry, rows_of_segments}
-
--- what the last insert pushed out: the places, their segment, and how many rows that had before
-pub record PushedOut : Type 0 where
-  pub places : List ℕ
-  pub segment : ℕ
-  pub live : ℕ
-
--- nothing was pushed out
-abbrev pub none_out : PushedOut
-none_out = record { places = []; segment = 0; live = 0 }
 
 -- the segments, beside the cursor at which the buffer begins, the least readable place and the end of
 -- the piece that was entered last
@@ -34,7 +23,7 @@ pub record Packed : Type 0 where
   pub floor : ℕ
   pub end : ℕ
   pub segments : List Lists
-  pub out : PushedOut
+  pub out : Displacement
 
 -- the rows that it stands for, segment by segment
 abbrev pub packed_rows : Packed → List StoredRow
@@ -48,7 +37,7 @@ first_packed g segments = record {
   floor = floor_of g g.content;
   end = g.content;
   segments = segments;
-  out = none_out;
+  out = none_displaced;
 }
 
 -- each entry of a segment stands for a place from one place on and below another
@@ -78,11 +67,9 @@ pub record IsReadable (g : Geometry) (cursor floor end : ℕ) (row : StoredRow) 
   pub high : row.place < end
   pub lap : lap_of g row.place ≤ lap_of g cursor
 
--- a piece may begin at this place: behind the last piece, and in the cursor's lap
-pub record MayBegin (d : Packed) (place : ℕ) : Type 0 where
-  pub behind : d.end ≤ place
-  pub below : place < d.cursor + d.geometry.agg
-  pub lap : lap_of d.geometry place ≡ lap_of d.geometry d.cursor
+-- the tape beside which the rows stand
+abbrev pub window_of : Packed → Window
+window_of d = record { geometry = d.geometry; cursor = d.cursor; floor = d.floor; end = d.end }
 
 -- a segment by its number; behind the last one an empty one
 abbrev pub segment_at : List Lists → ℕ → Lists
@@ -102,12 +89,6 @@ GoesOut true g cursor lists row gone =
     × All (λ r. r.segment ≡ row.segment) gone × ArePurged g cursor row.segment lists gone
 GoesOut false g cursor lists row gone = (IsFull lists row.bucket → ⊥) × (gone ≡ [])
 
--- a row is taken in, and others go out
-pub record TakesRow (row : StoredRow) (gone before after : List StoredRow) : Type 0 where
-  pub left : List StoredRow
-  pub parted : IsPermutation before (gone ++ left)
-  pub entered : IsPermutation (row ∷ left) after
-
 -- a row goes into its segment
 pub record EntersRow (g : Geometry) (cursor : ℕ) (row : StoredRow) (purged : Bool) (out : List Entry) (before after : List Lists) : Type 0 where
   pub gone : List StoredRow
@@ -125,39 +106,7 @@ pub record EntersRow (g : Geometry) (cursor : ℕ) (row : StoredRow) (purged : B
 abbrev pub new_segments : Geometry → List Lists
 new_segments g = replicate g.segments (new_lists g.buckets)
 
--- what an insert is told of a piece, beside its key and its place
-pub record PieceEntered : Type 0 where
-  pub blocks : ℕ
-  pub head : Bool
-  pub pinned : Bool
-
--- the row of a piece: the least class that holds its blocks, whether it is a vector, whether pinned
-pub record IsRowOf (g : Geometry) (key : Key) (place : ℕ) (piece : PieceEntered) (row : StoredRow) : Type 0 where
-  pub segment : row.segment ≡ segment_of g key
-  pub bucket : row.bucket ≡ bucket_of g key
-  pub tag : row.tag ≡ tag_of key
-  pub there : row.place ≡ place
-  pub class : IsLeastClass piece.blocks row.big row.size
-  pub head : row.head ≡ piece.head
-  pub pinned : row.pinned ≡ piece.pinned
-  pub token : row.token ≡ false
-
--- an insert: the row of the piece is taken in, and what had to go for it is told
-pub record Inserts (key : Key) (place : ℕ) (piece : PieceEntered) (before after : Packed) : Type 0 where
-  pub row : StoredRow
-  pub gone : List StoredRow
-  pub is : IsRowOf before.geometry key place piece row
-  pub takes : TakesRow row gone (packed_rows before) (packed_rows after)
-  pub purged : Bool
-  pub full : purged ≡ is_full before.geometry row.segment row.bucket (packed_rows before)
-  pub due : GoesOut purged before.geometry before.cursor (segment_at before.segments row.segment) row gone
-  pub places : after.out.places ≡ map (λ r. r.place) gone
-  pub told : after.out.segment ≡ row.segment
-  pub live : after.out.live ≡ length (segment_rows row.segment (packed_rows before))
-
--- the tape stays as it is, but for the end of the last piece
-pub record KeepsTape (end : ℕ) (before after : Packed) : Type 0 where
-  pub geometry : after.geometry ≡ before.geometry
-  pub cursor : after.cursor ≡ before.cursor
-  pub floor : after.floor ≡ before.floor
-  pub ended : after.end ≡ end
+-- the places of the rows that a purge of a segment takes, in slot order
+abbrev pub purge_places : Packed → ℕ → List ℕ
+purge_places d segment =
+    map (place_of_entry d.geometry d.cursor) (map (λ r. r.entry) (purged (segment_at d.segments segment)))

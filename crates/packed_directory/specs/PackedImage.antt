@@ -7,7 +7,7 @@ use Rattle.dir_segment.specs.Image.{image_lists, image_walk, IsSound}
 use Rattle.dir_segment.specs.declared.fault.SegmentFault.{SegmentFault}
 use Rattle.packed_directory.specs.declared.fault.ImageFault.{ImageFault}
 use Rattle.packed_directory.specs.declared.fault.ImageFault.TheVariants.{Segment, Memory}
-use Rattle.packed_directory.specs.declared.rows.StoredRow.{StoredRow}
+use Rattle.dir_table.specs.declared.rows.StoredRow.{StoredRow}
 use Rattle.packed_directory.specs.Entering.{entries_from}
 use Rattle.packed_directory.specs.Phases.{stands_between}
 use Rattle.packed_directory.specs.StoredRows.{row_of_entry}

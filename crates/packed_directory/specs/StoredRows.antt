@@ -1,12 +1,12 @@
 -- An entry of a chain as a row, and a row as an entry.
-use Rattle.std.specs.Prelude.{ℕ, ◌+◌, ◌==◌, ◌&&◌, nat_le, Bool, suc, List, [], ◌∷◌, ◌++◌, map, filter}
+use Rattle.std.specs.Prelude.{ℕ, ◌+◌, ◌==◌, ◌&&◌, Bool, suc, List, [], ◌∷◌, ◌++◌, map}
 use Rattle.tape_base.specs.declared.geometries.Geometry.{Geometry}
 use Rattle.tape_base.specs.declared.keys.Key.{Key}
 use Rattle.tape_base.specs.Key.{segment_of, bucket_of, tag_of}
 use Rattle.tape_base.specs.Place.{slot_of, phase_of}
 use Rattle.dir_entry.specs.declared.entry.Entry.{Entry}
 use Rattle.dir_segment.specs.Lists.{Lists}
-use Rattle.packed_directory.specs.declared.rows.StoredRow.{StoredRow}
+use Rattle.dir_table.specs.declared.rows.StoredRow.{StoredRow}
 use Rattle.packed_directory.specs.Phases.{place_of_entry}
 use Rattle.packed_directory.specs.Entering.{entries_from}
 
@@ -48,10 +48,6 @@ abbrev pub rows_of_segments : Geometry → ℕ → ℕ → List Lists → List S
 rows_of_segments g cursor segment [] = []
 rows_of_segments g cursor segment (lists ∷ rest) =
     rows_of_segment g cursor segment lists ++ rows_of_segments g cursor (suc segment) rest
-
--- the rows at a place or above, in their order
-abbrev pub stored_from : ℕ → List StoredRow → List StoredRow
-stored_from low rows = filter (λ r. nat_le low r.place) rows
 
 -- the row stands under this segment, bucket and tag
 abbrev pub is_spot : ℕ → ℕ → ℕ → StoredRow → Bool

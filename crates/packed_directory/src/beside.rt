@@ -3,8 +3,8 @@ ghost use Rattle.std.specs.Prelude.{◌≡◌, ◌<◌, ◌≤◌, ◌^◌};
 ghost use Rattle.packed_directory.specs.Phases.{IsCursor, place_of_entry, stands_between};
 ghost use Rattle.packed_directory.specs.StoredRows.{row_of_entry, entry_of_row};
 
-use crate::rows::StoredRow;
 use dir_entry::Entry;
+use dir_table::StoredRow;
 use tape_base::{Geometry, lap, phase, slot};
 
 /// The cursor at which a buffer begins, of a tape of this geometry.

@@ -5,16 +5,14 @@ mod beside;
 mod fault;
 mod image;
 mod packed;
-mod rows;
 mod space;
 mod stored;
 mod walks;
 
 pub use fault::ImageFault;
 pub use packed::PackedDirectory;
-pub use rows::{StoredRow, StoredSpot};
 pub use stored::StoredDirectory;
-pub use walks::{AllWalk, PackedWalk};
+pub use walks::AllWalk;
 
 #[cfg(test)]
 mod tests;

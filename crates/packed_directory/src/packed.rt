@@ -1,28 +1,30 @@
 // A directory of packed entries.
-ghost use Rattle.std.specs.Prelude.{◌≡◌, ℕ, [], ◌∷◌, IfSome, IfNone, ◌&&◌, nat_le, nat_lt, slice_get, Some, ◌+◌, ◌-◌, ◌*◌, ◌^◌, ◌<◌, ◌≤◌, true, false, length, map, drop, replicate, All, IfOk, IfErr, OnOk, vec_capacity};
+ghost use Rattle.std.specs.Prelude.{◌≡◌, ℕ, [], ◌∷◌, IfSome, IfNone, ◌+◌, ◌-◌, ◌*◌, ◌^◌, ◌<◌, ◌≤◌, true, false, length, map, drop, replicate, All, IfOk, IfErr, OnOk};
 ghost use Rattle.dir_entry.specs.Layout.{IsEntry};
-ghost use Rattle.dir_entry.specs.Sizes.{IsLeastClass};
+ghost use Rattle.std.specs.Bool.{OnTrue};
 ghost use Rattle.std.specs.List.{list_any};
 ghost use Rattle.tape_base.specs.Place.{lap_of, lap_end_of};
-ghost use Rattle.packed_directory.specs.Leaving.{is_row, is_stored, LosesRow, TakesOut};
+ghost use Rattle.dir_table.specs.Candidates.{GivesFirst};
+ghost use Rattle.dir_table.specs.Displacement.{none_displaced};
+ghost use Rattle.dir_table.specs.Rows.{has_row, plain_rows, LosesPlain};
+ghost use Rattle.dir_table.specs.Wrap.{stored_from};
+ghost use Rattle.packed_directory.specs.Leaving.{is_row, LosesRow, TakesOut};
 ghost use Rattle.packed_directory.specs.Phases.{IsCursor, least_place, place_of_entry, has_block};
-ghost use Rattle.packed_directory.specs.StoredRows.{entry_of_row, stored_from};
-ghost use Rattle.dir_segment.specs.Lists.{ticked};
+ghost use Rattle.packed_directory.specs.StoredRows.{entry_of_row};
 ghost use Rattle.packed_directory.specs.PackedImage.{image_blocks_of, image_segments, segment_length, entries_in, means, IsImage, IsImageFault};
-ghost use Rattle.packed_directory.specs.PackedWalks.{IsWalk, chain_ahead, places_ahead, places_under, steps_ahead, GivesOn};
 ghost use Rattle.packed_directory.specs.AllWalks.{IsAllWalk, chain_left, rows_ahead, buckets_ahead};
-ghost use Rattle.packed_directory.specs.Cleaned.{AreCleaned, MayTurn};
-ghost use Rattle.packed_directory.specs.Packed.{packed_rows, none_out, AreBetween, AreOfPlaces, IsPacked, IsReadable, EntersRow, first_packed, new_segments, MayBegin, Inserts, KeepsTape};
+ghost use Rattle.packed_directory.specs.Cleaned.{AreCleaned};
+ghost use Rattle.dir_segment.specs.Entries.{AreCounted};
+ghost use Rattle.packed_directory.specs.Packed.{packed_rows, segment_at, AreBetween, AreOfPlaces, IsPacked, IsReadable, EntersRow, first_packed, new_segments};
 
 use crate::beside::{Beside, entry_of};
 use crate::fault::ImageFault;
 use crate::image::{count_entries, read_segments, write_segments};
-use crate::rows::{StoredRow, StoredSpot};
 use crate::space::{clean, take_in};
 use crate::stored::StoredDirectory;
-use crate::walks::{AllWalk, PackedWalk};
-use dir_entry::size_class;
+use crate::walks::{AllWalk, slot_before};
 use dir_segment::{PurgeList, Segment, delete_takes};
+use dir_table::{DirRow, Directory, Displaced, Spot, StoredRow, Walk};
 use std::alloc::{AllocError, Global};
 use std::marker::Model;
 use tape_base::{Geometry, Key, Steps, floor_of, lap, phase, slot};
@@ -35,11 +37,7 @@ pub struct PackedDirectory {
     end: u64,
     segments: Vec<Segment>,
     purge: PurgeList,
-    // The places of the rows that the last insert pushed out, their segment, and how many rows that
-    // had before.
-    places: Vec<u64>,
-    segment: u32,
-    live: u32,
+    displaced: Displaced,
 }
 
 impl Model for PackedDirectory {
@@ -92,27 +90,25 @@ fn assemble(
       floor = floor;
       end = beside.cursor;
       segments = segments.items;
-      out = none_out;
+      out = none_displaced;
     }) }
 {
     let buckets = beside.geometry.buckets;
     let purge = PurgeList::new(alloc, buckets)?;
     let most = (3 * buckets + 9) / 10;
-    let places = Vec::with_capacity(alloc, most as usize)?;
+    let displaced = Displaced::with_room(alloc, most as usize)?;
     Ok(PackedDirectory {
         beside,
         floor,
         end: beside.cursor,
         segments,
         purge,
-        places,
-        segment: 0,
-        live: 0,
+        displaced,
     })
 }
 
 // Takes the row of a place out of its segment, and says whether it stood there.
-fn take_out(beside: &Beside, segments: &mut Vec<Segment>, spot: &StoredSpot, place: u64) -> bool
+fn take_out(beside: &Beside, segments: &mut Vec<Segment>, spot: &Spot, place: u64) -> bool
     requires segment { spot.now.segment < length segments.old.items }
     requires bucket { spot.now.bucket < beside.now.geometry.buckets }
     requires widths { All (λ lists. length lists.chains ≡ beside.now.geometry.buckets)
@@ -145,18 +141,6 @@ fn make_segments(alloc: Global, g: &Geometry) -> Result<Vec<Segment>, AllocError
     Ok(segments)
 }
 
-// The size class of a piece that fits into a buffer.
-fn class_of(blocks: u32) -> (u8, u8)
-    requires some { 1 ≤ blocks }
-    requires few { blocks ≤ 8192 }
-    ensures { IsLeastClass blocks result.0 result.1 }
-{
-    match size_class(blocks) {
-        Some(class) => class,
-        None => (3, 63),
-    }
-}
-
 // Takes out of each segment the entries that stand for no place from one place on and below another.
 fn clean_all(segments: &mut Vec<Segment>, beside: &Beside, low: u64, high: u64)
     ensures { AreCleaned beside.now.geometry beside.now.cursor low high
@@ -167,22 +151,33 @@ fn clean_all(segments: &mut Vec<Segment>, beside: &Beside, low: u64, high: u64)
     }
 }
 
-// The places of the entries that went out.
-fn tell(beside: &Beside, purge: &PurgeList, places: &mut Vec<u64>)
-    requires blocks { All (λ e. has_block beside.now.geometry e ≡ true) purge.now.entries }
-    requires room { length purge.now.entries ≤ vec_capacity places.old }
-    ensures places { places.new.items
-        ≡ map (place_of_entry beside.now.geometry beside.now.cursor) purge.now.entries }
-    ensures room { vec_capacity places.new ≡ vec_capacity places.old }
+// A law for proofs: how many entries and free slots each segment has.
+fn all_counted(segments: &[Segment])
+    ensures { (k : ℕ) → k < length segments.now → AreCounted (segment_at segments.now k) }
 {
-    places.clear();
+    for i in 0..segments.len() {
+        segments[i].is_counted();
+    }
+}
+
+// Tells the places of the entries that went out.
+fn tell(beside: &Beside, purge: &PurgeList, displaced: &mut Displaced)
+    requires blocks { All (λ e. has_block beside.now.geometry e ≡ true) purge.now.entries }
+    requires none { displaced.old.told.places ≡ [] }
+    requires room { length purge.now.entries ≤ displaced.old.room }
+    ensures told { displaced.new.told ≡ record displaced.old.told {
+      places = map (place_of_entry beside.now.geometry beside.now.cursor) purge.now.entries;
+    } }
+    ensures room { displaced.new.room ≡ displaced.old.room }
+{
     for i in 0..purge.len() {
-        places.push_reserved(beside.place_of(&purge.get(i)));
+        displaced.push(beside.place_of(&purge.get(i)));
     }
 }
 
 impl PackedDirectory {
-    pub fn new(alloc: Global, g: &Geometry) -> Result<PackedDirectory, AllocError>
+    /// A directory with no row, whose free slots stand in rising order.
+    pub fn empty(alloc: Global, g: &Geometry) -> Result<PackedDirectory, AllocError>
         ensures first { IfOk result (λ d. d ≡ first_packed g.now (new_segments g.now)) }
         ensures rows { IfOk result (λ d. packed_rows d ≡ []) }
     {
@@ -192,98 +187,6 @@ impl PackedDirectory {
             cursor: g.content,
         };
         assemble(alloc, beside, floor_of(g, g.content), segments)
-    }
-
-    /// Enters the piece that stands from a place on. Where its bucket is full, every tenth of the
-    /// entries behind the roots of its segment goes out first.
-    pub fn insert(&mut self, key: Key, place: u64, blocks: u32, head: bool, pinned: bool)
-        requires some { 1 ≤ blocks }
-        requires few { blocks ≤ self.old.geometry.agg }
-        requires next { MayBegin self.old place }
-        ensures rows { Inserts key place (record { blocks = blocks; head = head; pinned = pinned })
-            self.old self.new }
-        ensures tape { KeepsTape (place + blocks) self.old self.new }
-    {
-        let g = self.beside.geometry;
-        let (big, size) = class_of(blocks);
-        let row = StoredRow {
-            segment: key.segment(&g),
-            bucket: key.bucket(&g),
-            tag: key.tag(),
-            place,
-            big,
-            size,
-            head,
-            pinned,
-            token: false,
-        };
-        self.live = self.segments[row.segment as usize].used();
-        self.segment = row.segment;
-        enter(&self.beside, &mut self.segments, &row, &mut self.purge);
-        tell(&self.beside, &self.purge, &mut self.places);
-        self.end = place + blocks as u64;
-    }
-
-    /// Begins the buffer at a cursor, with a floor. The rows below the floor go.
-    pub fn wrap(&mut self, cursor: u64, floor: u64)
-        requires turn { MayTurn self.old cursor floor }
-        requires above { All (λ r. r.place < cursor) (packed_rows self.old) }
-        ensures rows { packed_rows self.new ≡ stored_from floor (packed_rows self.old) }
-        ensures tape { self.new ≡ record self.old {
-          cursor = cursor;
-          floor = floor;
-          end = cursor;
-          segments = self.new.segments;
-        } }
-    {
-        clean_all(&mut self.segments, &self.beside, floor, cursor);
-        self.beside = Beside {
-            geometry: self.beside.geometry,
-            cursor,
-        };
-        self.floor = floor;
-        self.end = cursor;
-    }
-
-    /// Begins a walk over the places of a key.
-    pub fn candidates(&self, key: Key) -> PackedWalk
-        ensures walk { IsWalk self.now result }
-        ensures places { places_ahead self.now result
-            ≡ places_under self.now.geometry key (packed_rows self.now) }
-    {
-        let g = &self.beside.geometry;
-        PackedWalk {
-            segment: key.segment(g),
-            bucket: key.bucket(g),
-            tag: key.tag(),
-            after: None,
-            over: false,
-        }
-    }
-
-    /// The next place of a walk.
-    pub fn step(&self, walk: &mut PackedWalk, steps: &mut Steps) -> Option<u64>
-        requires { IsWalk self.now walk.old }
-        ensures walk { IsWalk self.now walk.new }
-        ensures gives { GivesOn (places_ahead self.now walk.old) result (places_ahead self.now walk.new) }
-        ensures steps { steps.new ≡ ticked (steps_ahead self.now walk.old) steps.old }
-        ensures passed { steps_ahead self.now walk.old + length (chain_ahead self.now walk.new)
-            ≤ length (chain_ahead self.now walk.old) }
-    {
-        if walk.over {
-            return None;
-        }
-        let segment = &self.segments[walk.segment as usize];
-        match segment.probe(walk.bucket, walk.tag, walk.after, steps) {
-            None => {
-                walk.over = true;
-                None
-            }
-            Some((slot, entry)) => {
-                walk.after = Some(slot);
-                Some(self.beside.place_of(&entry))
-            }
-        }
     }
 
     // Begins a walk over all rows.
@@ -342,7 +245,7 @@ impl PackedDirectory {
     fn next_of_all(&self, walk: &mut AllWalk) -> Option<StoredRow>
         requires { IsAllWalk self.now walk.old }
         ensures walk { IsAllWalk self.now walk.new }
-        ensures gives { GivesOn (rows_ahead self.now walk.old) result (rows_ahead self.now walk.new) }
+        ensures gives { GivesFirst (rows_ahead self.now walk.old) result (rows_ahead self.now walk.new) }
     {
         while walk.segment < self.beside.geometry.segments {
             let row = self.next_of_bucket(walk);
@@ -354,26 +257,24 @@ impl PackedDirectory {
         None
     }
 
-    /// Takes the row of a key at a place out, and says whether it stood there.
-    pub fn delete(&mut self, key: Key, place: u64) -> bool
-        ensures found { let g = self.old.geometry in
-            result ≡ list_any (is_stored g key place) (packed_rows self.old) }
-        ensures gone { result ≡ true → LosesRow (is_stored self.old.geometry key place)
-            (packed_rows self.old) (packed_rows self.new) }
+    // Takes one row of this segment, bucket, tag and place out, and says whether one stood there.
+    fn take_plain(&mut self, row: &DirRow) -> bool
+        ensures found { result ≡ has_row row.now (plain_rows (packed_rows self.old)) }
+        ensures gone { OnTrue result
+            (LosesPlain row.now (packed_rows self.old) (packed_rows self.new)) }
         ensures none { result ≡ false → self.new ≡ self.old }
         ensures tape { self.new ≡ record self.old { segments = self.new.segments } }
     {
-        let g = &self.beside.geometry;
-        let spot = StoredSpot {
-            segment: key.segment(g),
-            bucket: key.bucket(g),
-            tag: key.tag(),
+        let spot = Spot {
+            segment: row.segment,
+            bucket: row.bucket,
+            tag: row.tag,
         };
-        self.take_row(&spot, place)
+        self.take_row(&spot, row.place)
     }
 
     // Takes the row of a segment, a bucket and a tag at a place out, and says whether it stood there.
-    fn take_row(&mut self, spot: &StoredSpot, place: u64) -> bool
+    fn take_row(&mut self, spot: &Spot, place: u64) -> bool
         ensures found { let s = spot.now in
             result ≡ list_any (is_row s.segment s.bucket s.tag place) (packed_rows self.old) }
         ensures gone { let s = spot.now in
@@ -390,42 +291,6 @@ impl PackedDirectory {
             return false;
         }
         take_out(&self.beside, &mut self.segments, spot, place)
-    }
-
-    /// Whether a place may be read, where a row stands there.
-    pub fn in_range(&self, place: u64) -> bool
-        ensures { result ≡ (nat_le self.now.floor place && nat_lt place self.now.end) }
-    {
-        self.floor <= place && place < self.end
-    }
-
-    /// How many rows the last insert pushed out.
-    pub fn out_len(&self) -> usize
-        ensures { result ≡ length self.now.out.places }
-    {
-        self.places.len()
-    }
-
-    /// The place of a row that the last insert pushed out.
-    pub fn out_place(&self, i: usize) -> u64
-        requires { i < length self.now.out.places }
-        ensures { slice_get self.now.out.places i ≡ Some result }
-    {
-        self.places[i]
-    }
-
-    /// The segment into which the last insert went.
-    pub fn out_segment(&self) -> u32
-        ensures { result ≡ self.now.out.segment }
-    {
-        self.segment
-    }
-
-    /// How many rows that segment had before.
-    pub fn out_live(&self) -> u32
-        ensures { result ≡ self.now.out.live }
-    {
-        self.live
     }
 
     /// A law for proofs: each row stands in a bucket, and may be read; its entry has the block and the
@@ -473,7 +338,7 @@ impl PackedDirectory {
           floor = floor;
           end = cursor;
           segments = d.segments;
-          out = none_out;
+          out = none_displaced;
         }) }
         ensures sound { OnOk result (IsImage g.now bytes.now) }
         ensures fault { IfErr result (λ f. IsImageFault g.now bytes.now f) }
@@ -500,16 +365,104 @@ impl PackedDirectory {
     }
 }
 
-impl StoredDirectory for PackedDirectory {
-    ghost use Rattle.packed_directory.specs.Packed.{packed_rows};
-    ghost use Rattle.packed_directory.specs.Stored.{tape_of};
-    ghost use Rattle.packed_directory.specs.FirstFault.{no_image, one_fault};
-    ghost use Rattle.packed_directory.specs.AllWalks.{IsAllWalk, rows_ahead};
-    ghost use Rattle.packed_directory.specs.PackedImage.{image_blocks_of, segments_length, image_segments, entries_in, means, IsImage, IsImageFault};
+impl Directory for PackedDirectory {
+    ghost use Rattle.std.specs.Prelude.{◌^◌, true, length};
+    ghost use Rattle.packed_directory.specs.Packed.{packed_rows, purge_places, window_of};
+    ghost use Rattle.packed_directory.specs.PackedWalks.{IsWalk, chain_ahead, places_ahead};
 
     ghost rows = { packed_rows };
 
-    ghost tape = { tape_of };
+    ghost window = { window_of };
+
+    ghost spare = { λ _. 2 ^ 64 };
+
+    ghost purges = { true };
+
+    ghost due = { purge_places };
+
+    ghost displaced = { λ d. d.out };
+
+    ghost walks = { IsWalk };
+
+    ghost rest = { places_ahead };
+
+    ghost ahead = { λ d walk. length (chain_ahead d walk) };
+
+    fn new(alloc: Global, g: &Geometry) -> Result<Self, AllocError> {
+        PackedDirectory::empty(alloc, g)
+    }
+
+    fn reserve(&mut self, _more: usize) -> Result<(), AllocError> {
+        Ok(())
+    }
+
+    // Where the bucket is full, every tenth of the entries behind the roots of its segment goes out
+    // first.
+    fn insert(&mut self, key: Key, place: u64, blocks: u32, head: bool, pinned: bool) {
+        let row = StoredRow::of_piece(&self.beside.geometry, key, place, blocks, head, pinned);
+        let live = self.segments[row.segment as usize].used();
+        self.displaced.begin(row.segment, live as u64);
+        enter(&self.beside, &mut self.segments, &row, &mut self.purge);
+        tell(&self.beside, &self.purge, &mut self.displaced);
+        self.end = place + blocks as u64;
+    }
+
+    fn displaced(&self) -> &Displaced {
+        &self.displaced
+    }
+
+    fn delete(&mut self, key: Key, place: u64) -> bool {
+        let row = DirRow::of_key(&self.beside.geometry, key, place);
+        self.take_plain(&row)
+    }
+
+    fn candidates(&self, key: Key) -> Walk {
+        Walk {
+            spot: Spot::of_key(&self.beside.geometry, key),
+            next: Some(0),
+        }
+    }
+
+    fn step(&self, walk: &mut Walk, steps: &mut Steps) -> Option<u64> {
+        let next = walk.next?;
+        // The counter is below 2^64.
+        let _taken = steps.count();
+        let segment = &self.segments[walk.spot.segment as usize];
+        match segment.probe(walk.spot.bucket, walk.spot.tag, slot_before(next), steps) {
+            None => {
+                walk.next = None;
+                None
+            }
+            Some((slot, entry)) => {
+                walk.next = Some(slot as u64 + 1);
+                Some(self.beside.place_of(&entry))
+            }
+        }
+    }
+
+    fn in_range(&self, place: u64) -> bool {
+        self.floor <= place && place < self.end
+    }
+
+    fn wrap(&mut self, cursor: u64, floor: u64) {
+        clean_all(&mut self.segments, &self.beside, floor, cursor);
+        self.beside = Beside {
+            geometry: self.beside.geometry,
+            cursor,
+        };
+        self.floor = floor;
+        self.end = cursor;
+    }
+
+    fn rows_fit(&self) {
+        all_counted(&self.segments);
+    }
+}
+
+impl StoredDirectory for PackedDirectory {
+    ghost use Rattle.packed_directory.specs.FirstFault.{no_image, one_fault};
+    ghost use Rattle.packed_directory.specs.AllWalks.{IsAllWalk, rows_ahead};
+    ghost use Rattle.packed_directory.specs.PackedImage.{image_blocks_of, segments_length, image_segments, entries_in, means, IsImage, IsImageFault};
 
     ghost blocks = { image_blocks_of };
 
@@ -561,7 +514,7 @@ impl StoredDirectory for PackedDirectory {
         self.next_of_all(walk)
     }
 
-    fn delete_row(&mut self, spot: &StoredSpot, place: u64) -> bool {
-        self.take_row(spot, place)
+    fn delete_row(&mut self, row: &DirRow) -> bool {
+        self.take_plain(row)
     }
 }

@@ -1,34 +1,28 @@
 // A directory that has an image on a device.
-ghost use Rattle.std.specs.Prelude.{◌≡◌, true, false, ℕ, ◌-◌, ◌*◌, ◌^◌, ◌≤◌, List, length, drop, replicate, IfOk, IfErr, OnOk};
-ghost use Rattle.std.specs.List.{list_any};
+ghost use Rattle.std.specs.Prelude.{◌≡◌, false, ℕ, ◌-◌, ◌*◌, ◌^◌, ◌≤◌, List, length, drop, replicate, IfOk, IfErr, OnOk};
+ghost use Rattle.std.specs.Bool.{OnTrue};
 ghost use Rattle.std.specs.List.Sorted.{IsPermutation};
 ghost use Rattle.tape_base.specs.Place.{lap_end_of};
 ghost use Rattle.tape_base.specs.declared.geometries.Geometry.{Geometry as GeometryValue};
 ghost use Rattle.dir_segment.specs.declared.fault.SegmentFault.{SegmentFault as SegmentFaultValue};
 ghost use Rattle.packed_directory.specs.declared.fault.ImageFault.{ImageFault as ImageFaultValue};
 ghost use Rattle.packed_directory.specs.declared.fault.ImageFault.TheVariants.{Segment};
-ghost use Rattle.packed_directory.specs.declared.rows.StoredRow.{StoredRow};
 ghost use Rattle.packed_directory.specs.declared.walks.AllWalk.{AllWalk as AllWalkValue};
-ghost use Rattle.packed_directory.specs.Leaving.{is_row, LosesRow};
-ghost use Rattle.packed_directory.specs.PackedWalks.{GivesOn};
+ghost use Rattle.dir_table.specs.declared.rows.StoredRow.{StoredRow};
+ghost use Rattle.dir_table.specs.Candidates.{GivesFirst};
+ghost use Rattle.dir_table.specs.Rows.{has_row, plain_rows, LosesPlain};
+ghost use Rattle.dir_table.specs.Wrap.{stored_from};
 ghost use Rattle.packed_directory.specs.Phases.{IsCursor, least_place};
-ghost use Rattle.packed_directory.specs.StoredRows.{stored_from};
-ghost use Rattle.packed_directory.specs.Stored.{TapeSpan, Tells};
+ghost use Rattle.packed_directory.specs.Stored.{Tells};
 
 use crate::fault::ImageFault;
-use crate::rows::{StoredRow, StoredSpot};
 use crate::walks::AllWalk;
+use dir_table::{DirRow, Directory, StoredRow};
 use std::alloc::Global;
 use tape_base::Geometry;
 
 /// A directory that is written as an image of whole blocks, and read back beside a cursor.
-pub trait StoredDirectory: Sized {
-    /// The rows that it stands for.
-    ghost rows: { Self → List StoredRow };
-
-    /// The geometry, where the buffer begins, the least readable place and the end of the last piece.
-    ghost tape: { Self → TapeSpan };
-
+pub trait StoredDirectory: Directory + Sized {
     /// The blocks of an image.
     ghost blocks: { GeometryValue → ℕ };
 
@@ -60,13 +54,13 @@ pub trait StoredDirectory: Sized {
 
     /// Writes an image for a cursor that is to come, up to the end of the lap.
     fn image(&self, cursor: u64, into: &mut [u8])
-        requires len { length into.old ≡ 512 * blocks (tape self.now).geometry }
-        requires next { let t = tape self.now in
+        requires len { length into.old ≡ 512 * blocks (Self.window self.now).geometry }
+        requires next { let t = Self.window self.now in
             (t.end ≤ cursor) × (cursor ≤ lap_end_of t.geometry t.cursor) }
-        ensures sound { is_image (tape self.now).geometry into.new }
-        ensures rows { let g = (tape self.now).geometry in
-            Tells (cursor - g.content) (rows self.now) (means g cursor into.new) }
-        ensures zero { let end = telling (tape self.now).geometry in
+        ensures sound { is_image (Self.window self.now).geometry into.new }
+        ensures rows { let g = (Self.window self.now).geometry in
+            Tells (cursor - g.content) (Self.rows self.now) (means g cursor into.new) }
+        ensures zero { let end = telling (Self.window self.now).geometry in
             drop end into.new ≡ replicate (length into.old - end) 0 };
 
     /// The directory of an image, beside its cursor, from a floor on.
@@ -81,8 +75,8 @@ pub trait StoredDirectory: Sized {
         requires cursor { IsCursor g.now.content cursor }
         requires floor { (least_place g.now cursor ≤ floor) × (floor ≤ cursor) }
         ensures rows { IfOk result (λ d.
-            IsPermutation (stored_from floor (means g.now cursor bytes.now)) (rows d)) }
-        ensures tape { IfOk result (λ d. tape d
+            IsPermutation (stored_from floor (means g.now cursor bytes.now)) (Self.rows d)) }
+        ensures window { IfOk result (λ d. Self.window d
             ≡ record { geometry = g.now; cursor = cursor; floor = floor; end = cursor }) }
         ensures sound { OnOk result (is_image g.now bytes.now) }
         ensures fault { IfErr result (refuses g.now bytes.now) };
@@ -97,22 +91,20 @@ pub trait StoredDirectory: Sized {
     /// Begins a walk over all rows.
     fn all(&self) -> AllWalk
         ensures walk { walks_all self.now result }
-        ensures rows { IsPermutation (rows self.now) (left self.now result) };
+        ensures rows { IsPermutation (Self.rows self.now) (left self.now result) };
 
     /// The next row of a walk over all.
     fn step_all(&self, walk: &mut AllWalk) -> Option<StoredRow>
         requires { walks_all self.now walk.old }
         ensures walk { walks_all self.now walk.new }
-        ensures gives { GivesOn (left self.now walk.old) result (left self.now walk.new) };
+        ensures gives { GivesFirst (left self.now walk.old) result (left self.now walk.new) };
 
-    /// Takes one row of a segment, a bucket and a tag at a place out, and says whether it stood there.
-    fn delete_row(&mut self, spot: &StoredSpot, place: u64) -> bool
-        ensures found { let s = spot.now in
-            result ≡ list_any (is_row s.segment s.bucket s.tag place) (rows self.old) }
-        ensures gone { let s = spot.now in result ≡ true → LosesRow
-            (is_row s.segment s.bucket s.tag place) (rows self.old) (rows self.new) }
-        ensures none { result ≡ false → rows self.new ≡ rows self.old }
-        ensures tape { tape self.new ≡ tape self.old };
+    /// Takes one row of this segment, bucket, tag and place out, and says whether one stood there.
+    fn delete_row(&mut self, row: &DirRow) -> bool
+        ensures found { result ≡ has_row row.now (plain_rows (Self.rows self.old)) }
+        ensures gone { OnTrue result (LosesPlain row.now (Self.rows self.old) (Self.rows self.new)) }
+        ensures none { result ≡ false → Self.rows self.new ≡ Self.rows self.old }
+        ensures window { Self.window self.new ≡ Self.window self.old };
 
     /// No image is refused.
     ghost accepted: { (g : GeometryValue) (bytes : List ℕ) (n : ℕ) (fault : SegmentFaultValue)

@@ -1,5 +1,6 @@
 // A row that is found under its key, taken out once, and not found again.
 use crate::PackedDirectory;
+use dir_table::Directory;
 use std::test::Fail;
 use tape_base::{Geometry, Key, Steps};
 
@@ -12,7 +13,7 @@ fn a_row_is_found_until_it_is_taken_out(rt: HostRuntime) -> Result<(), Fail> {
     let key = Key::of_url(b"abc");
     let mut directory = PackedDirectory::new(rt.alloc(), &g)?;
     directory.insert(key, CONTENT + 1, 1, true, false);
-    assert_eq!(rt; directory.out_len(), 0);
+    assert_eq!(rt; directory.displaced().len(), 0);
     assert!(rt; directory.in_range(CONTENT + 1));
     let mut steps = Steps::new();
     let mut walk = directory.candidates(key);

@@ -1,13 +1,10 @@
 // One list of calls, drawn by number, that drives both directories.
-ghost use Rattle.std.specs.Prelude.{◌≡◌, ◌<◌, [], OnOk};
-ghost use Rattle.dir_table.specs.Window.{first_window};
-ghost use Rattle.packed_trials.specs.Along.{GoAlong};
+ghost use Rattle.std.specs.Prelude.{◌≡◌, ◌<◌};
 
-use crate::both::{delete_both, delete_listed, insert_both, turn_both};
-use crate::taped::Taped;
-use crate::walks::{all_rows, places_listed, places_packed};
+use crate::taped::{Taped, image_of, read_at};
+use crate::walks::all_rows;
 use dir_table::Directory;
-use packed_directory::ImageFault;
+use packed_directory::PackedDirectory;
 use std::alloc::{AllocError, Global};
 use tape_base::{Geometry, Key};
 
@@ -113,218 +110,206 @@ fn known_in(known: &[Known], g: &Geometry, segment: u32) -> u64 {
     count
 }
 
-// What the last insert pushed out goes from the other directory, and from the rows known: a tenth
-// of the slots behind the roots, all of the segment that was told.
-fn follow_purge<L: Directory>(
-    list: &mut L,
-    taped: &Taped,
+// Whether a row of a key's number stands at a place.
+fn stands_in(known: &[Known], number: u32, place: u64) -> bool {
+    known.iter().any(|k| k.place == place && k.number == number)
+}
+
+// How many known rows a key's number has.
+fn count_of(known: &[Known], number: u32) -> usize {
+    known.iter().filter(|k| k.number == number).count()
+}
+
+// Takes what the last insert displaced out of the other directory and the rows known: a tenth of
+// the slots behind the roots, all of the segment that was told.
+fn follow_purge<L: Directory + Drop>(
+    list: &mut Taped<L>,
+    packed: &Taped<PackedDirectory>,
     known: &mut Vec<Known>,
-    tally: &mut Tally,
-) -> Result<(), Unlike>
-    requires along { GoAlong L.Directory list.old taped.now }
-    ensures along { OnOk result (GoAlong L.Directory list.new taped.now) }
-{
-    let out = taped.directory.out_len();
+) -> Result<bool, Unlike> {
+    let displaced = packed.directory.displaced();
+    let out = displaced.len();
     if out == 0 {
-        return Ok(());
+        return Ok(false);
     }
-    let g = taped.geometry();
-    let most = (3 * g.buckets as u64).div_ceil(10);
-    if out as u64 != most {
+    let g = &packed.geometry;
+    if out as u64 != (3 * g.buckets as u64).div_ceil(10) {
         return Err(Unlike::PurgeSize);
     }
-    let segment = taped.directory.out_segment();
-    if known_in(known, g, segment) != taped.directory.out_live() as u64 {
+    let segment = displaced.segment();
+    if known_in(known, g, segment) != displaced.live() {
         return Err(Unlike::PurgeLive);
     }
     for i in 0..out {
-        let place = taped.directory.out_place(i);
-        let Some(number) = forget(known, place) else {
+        let place = displaced.place(i);
+        if !drop_row(list, known, segment, place) {
             return Err(Unlike::PurgePlace);
+        }
+    }
+    Ok(true)
+}
+
+// Takes a displaced row out of the other directory, and says whether it is of the segment.
+fn drop_row<L: Directory + Drop>(
+    list: &mut Taped<L>,
+    known: &mut Vec<Known>,
+    segment: u32,
+    place: u64,
+) -> bool {
+    let Some(number) = forget(known, place) else {
+        return false;
+    };
+    let key = key_of(number);
+    key.segment(&list.geometry) == segment && list.delete(key, place)
+}
+
+// A directory of any kind and a packed one, the rows that both have, and what was done.
+#[derive(Drop)]
+struct Both<L: Directory + Drop> {
+    list: Taped<L>,
+    packed: Taped<PackedDirectory>,
+    known: Vec<Known>,
+    tally: Tally,
+}
+
+impl<L: Directory + Drop> Both<L> {
+    fn new(alloc: Global, g: &Geometry) -> Result<Both<L>, AllocError> {
+        Ok(Both {
+            list: Taped::new(alloc, g)?,
+            packed: Taped::new(alloc, g)?,
+            known: Vec::new(alloc),
+            tally: Tally {
+                inserts: 0,
+                deletes: 0,
+                found: 0,
+                turns: 0,
+                purges: 0,
+                images: 0,
+            },
+        })
+    }
+
+    // A piece of a key by its number is entered, and gives its place, if the buffers have room.
+    fn put(&mut self, number: u32) -> Result<Option<u64>, Unlike> {
+        let (key, blocks) = (key_of(number), 1 + number % 4);
+        let (head, pinned) = (number % 2 == 0, number % 5 == 0);
+        let place = self.list.insert(key, blocks, head, pinned)?;
+        if self.packed.insert(key, blocks, head, pinned)? != place {
+            return Err(Unlike::TapeEnd);
+        }
+        Ok(place)
+    }
+
+    // A piece of one of the keys is entered, where the buffer has no room in the next one.
+    fn enter(&mut self, draw: u64) -> Result<(), Unlike> {
+        let number = number_of(draw);
+        let place = match self.put(number)? {
+            Some(place) => place,
+            None => {
+                self.turn()?;
+                self.put(number)?.ok_or(Unlike::TapeEnd)?
+            }
         };
+        if follow_purge(&mut self.list, &self.packed, &mut self.known)? {
+            self.tally.purges = self.tally.purges.saturating_add(1);
+        }
+        self.tally.inserts = self.tally.inserts.saturating_add(1);
+        remember(&mut self.known, Known { place, number })?;
+        Ok(())
+    }
+
+    // The next buffer begins: the rows below its floor go.
+    fn turn(&mut self) -> Result<(), Unlike> {
+        let next = self.packed.turn();
+        if self.list.turn() != next {
+            return Err(Unlike::TapeEnd);
+        }
+        let Some((_, floor)) = next else {
+            return Err(Unlike::TapeEnd);
+        };
+        self.known.retain(|k| k.place >= floor);
+        self.tally.turns = self.tally.turns.saturating_add(1);
+        Ok(())
+    }
+
+    // A row that both have is taken out, or one that neither has is asked for.
+    fn delete(&mut self, draw: u64) -> Result<(), Unlike> {
+        let at = below(draw, self.known.len() as u64) as usize;
+        let Some(row) = self.known.get(at).copied() else {
+            return Ok(());
+        };
+        let place = row.place.saturating_add((draw % 4 == 0) as u64);
+        let stands = stands_in(&self.known, row.number, place);
+        let key = key_of(row.number);
+        if self.list.delete(key, place) != stands || self.packed.delete(key, place) != stands {
+            return Err(Unlike::Deleted);
+        }
+        if stands {
+            let _ = forget(&mut self.known, place);
+            self.tally.found = self.tally.found.saturating_add(1);
+        }
+        self.tally.deletes = self.tally.deletes.saturating_add(1);
+        Ok(())
+    }
+
+    // Both have the same places under a key.
+    fn look(&self, alloc: Global, draw: u64) -> Result<(), Unlike> {
+        let number = number_of(draw);
         let key = key_of(number);
-        if key.segment(g) != segment || !delete_listed(list, taped, key, place) {
-            return Err(Unlike::PurgePlace);
+        let mut listed = self.list.places(alloc, key)?;
+        let mut packed = self.packed.places(alloc, key)?;
+        listed.sort()?;
+        packed.sort()?;
+        if listed != packed || count_of(&self.known, number) > packed.len() {
+            return Err(Unlike::Places);
+        }
+        Ok(())
+    }
+
+    // An image of the packed directory is read back as the same rows, and these are as many as are
+    // known.
+    fn read_back(&mut self, alloc: Global) -> Result<(), Unlike> {
+        let rows = all_rows(alloc, &self.packed.directory)?;
+        if rows.len() != self.known.len() {
+            return Err(Unlike::Rows);
+        }
+        let Some(bytes) = image_of(alloc, &self.packed)? else {
+            return Ok(());
+        };
+        let Some(Ok(again)) = read_at(alloc, &self.packed, &bytes) else {
+            return Err(Unlike::Image);
+        };
+        if all_rows(alloc, &again)? != rows {
+            return Err(Unlike::Image);
+        }
+        self.tally.images = self.tally.images.saturating_add(1);
+        Ok(())
+    }
+
+    // One call, by a draw.
+    fn call(&mut self, alloc: Global, draw: u64) -> Result<(), Unlike> {
+        match draw >> 60 {
+            0..=6 => self.enter(draw),
+            7..=9 => self.delete(draw),
+            10 => self.turn(),
+            11 => self.read_back(alloc),
+            _ => self.look(alloc, draw),
         }
     }
-    tally.purges = tally.purges.saturating_add(1);
-    Ok(())
 }
 
-// A piece of one of the keys is entered, where the buffer has no room in the next one.
-fn enter<L: Directory>(
-    list: &mut L,
-    taped: &mut Taped,
-    known: &mut Vec<Known>,
-    tally: &mut Tally,
-    draw: u64,
-) -> Result<(), Unlike>
-    requires along { GoAlong L.Directory list.old taped.old }
-    ensures along { OnOk result (GoAlong L.Directory list.new taped.new) }
-{
-    let number = number_of(draw);
-    let blocks = 1 + number % 4;
-    let key = key_of(number);
-    let place = match insert_both(list, taped, key, blocks, number % 2 == 0, number % 5 == 0)? {
-        Some(place) => place,
-        None => {
-            turn(list, taped, known, tally)?;
-            let again = insert_both(list, taped, key, blocks, number % 2 == 0, number % 5 == 0)?;
-            again.ok_or(Unlike::TapeEnd)?
-        }
-    };
-    tally.inserts = tally.inserts.saturating_add(1);
-    follow_purge(list, taped, known, tally)?;
-    remember(known, Known { place, number })?;
-    Ok(())
-}
-
-// The next buffer begins: the rows below its floor go.
-fn turn<L: Directory>(
-    list: &mut L,
-    taped: &mut Taped,
-    known: &mut Vec<Known>,
-    tally: &mut Tally,
-) -> Result<(), Unlike>
-    requires along { GoAlong L.Directory list.old taped.old }
-    ensures along { OnOk result (GoAlong L.Directory list.new taped.new) }
-{
-    let Some((_, floor)) = turn_both(list, taped) else {
-        return Err(Unlike::TapeEnd);
-    };
-    known.retain(|k| k.place >= floor);
-    tally.turns = tally.turns.saturating_add(1);
-    Ok(())
-}
-
-// A row that both have is taken out, or one that neither has is asked for.
-fn delete<L: Directory>(
-    list: &mut L,
-    taped: &mut Taped,
-    known: &mut Vec<Known>,
-    tally: &mut Tally,
-    draw: u64,
-) -> Result<(), Unlike>
-    requires along { GoAlong L.Directory list.old taped.old }
-    ensures along { OnOk result (GoAlong L.Directory list.new taped.new) }
-{
-    let at = below(draw, known.len() as u64) as usize;
-    let Some(row) = known.get(at).copied() else {
-        return Ok(());
-    };
-    let gone = draw % 4 == 0;
-    let place = if gone {
-        row.place.saturating_add(1)
-    } else {
-        row.place
-    };
-    let stands = known
-        .iter()
-        .any(|k| k.place == place && k.number == row.number);
-    let (one, other) = delete_both(list, taped, key_of(row.number), place);
-    if one != stands || other != stands {
-        return Err(Unlike::Deleted);
-    }
-    if stands {
-        let _ = forget(known, place);
-        tally.found = tally.found.saturating_add(1);
-    }
-    tally.deletes = tally.deletes.saturating_add(1);
-    Ok(())
-}
-
-// Both have the same places under a key.
-fn look<L: Directory>(
-    alloc: Global,
-    list: &L,
-    taped: &Taped,
-    known: &[Known],
-    draw: u64,
-) -> Result<(), Unlike> {
-    let number = number_of(draw);
-    let key = key_of(number);
-    let mut listed = places_listed(alloc, list, key)?;
-    let mut packed = places_packed(alloc, &taped.directory, key)?;
-    listed.sort()?;
-    packed.sort()?;
-    let held = known.iter().filter(|k| k.number == number);
-    if listed != packed || held.count() > packed.len() {
-        return Err(Unlike::Places);
-    }
-    Ok(())
-}
-
-// An image of the packed directory is read back as the same rows, and these are as many as are
-// known.
-fn read_back(
-    alloc: Global,
-    taped: &Taped,
-    known: &[Known],
-    tally: &mut Tally,
-) -> Result<(), Unlike> {
-    let rows = all_rows(alloc, &taped.directory)?;
-    if rows.len() != known.len() {
-        return Err(Unlike::Rows);
-    }
-    let Some(bytes) = taped.image(alloc)? else {
-        return Ok(());
-    };
-    let Some(Ok(again)) = taped.read(alloc, &bytes) else {
-        return Err(Unlike::Image);
-    };
-    if all_rows(alloc, &again)? != rows {
-        return Err(Unlike::Image);
-    }
-    tally.images = tally.images.saturating_add(1);
-    Ok(())
-}
-
-// One call, by a draw.
-fn call<L: Directory>(
-    alloc: Global,
-    list: &mut L,
-    taped: &mut Taped,
-    known: &mut Vec<Known>,
-    tally: &mut Tally,
-    draw: u64,
-) -> Result<(), Unlike>
-    requires along { GoAlong L.Directory list.old taped.old }
-    ensures along { OnOk result (GoAlong L.Directory list.new taped.new) }
-{
-    match draw >> 60 {
-        0..=6 => enter(list, taped, known, tally, draw),
-        7..=9 => delete(list, taped, known, tally, draw),
-        10 => turn(list, taped, known, tally),
-        11 => read_back(alloc, taped, known, tally),
-        _ => look(alloc, list, taped, known, draw),
-    }
-}
-
-/// So many calls on a new directory of any kind and a new packed one, which answer alike, where
-/// what the packed one pushes out is taken out of the other.
-pub fn drive<L: Directory>(
+/// So many calls on a new directory of a kind and a new packed one, which answer alike, where what
+/// the packed one displaces is taken out of the other.
+pub fn drive<L: Directory + Drop>(
     alloc: Global,
     g: &Geometry,
-    list: &mut L,
     calls: u32,
-) -> Result<Tally, Unlike>
-    requires none { L.rows list.old ≡ [] }
-    requires first { L.window list.old ≡ first_window g.now }
-{
-    let mut taped = Taped::new(alloc, g)?;
-    let mut known = Vec::new(alloc);
-    let mut tally = Tally {
-        inserts: 0,
-        deletes: 0,
-        found: 0,
-        turns: 0,
-        purges: 0,
-        images: 0,
-    };
+) -> Result<Tally, Unlike> {
+    let mut both: Both<L> = Both::new(alloc, g)?;
     let mut draw = 1;
     for _ in 0..calls {
         draw = next_draw(draw);
-        call(alloc, list, &mut taped, &mut known, &mut tally, draw)?;
+        both.call(alloc, draw)?;
     }
-    Ok(tally)
+    Ok(both.tally)
 }

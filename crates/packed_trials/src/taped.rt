@@ -1,14 +1,14 @@
-// A packed directory beside the tape whose pieces it has.
-ghost use Rattle.std.specs.Prelude.{◌≡◌, [], IfOk, IfSome, IfNone};
-ghost use Rattle.packed_directory.specs.Packed.{packed_rows};
-ghost use Rattle.packed_directory.specs.PackedWalks.{places_under};
-ghost use Rattle.packed_trials.specs.Along.{IsFirst, Grows, Turns};
+// A directory beside the tape whose pieces it has.
+ghost use Rattle.std.specs.Prelude.{◌≡◌, ◌+◌, ◌≤◌, ◌<◌, ◌^◌, [], true, IfOk};
+ghost use Rattle.dir_table.specs.Window.{IsNext};
+ghost use Rattle.dir_table.specs.Candidates.{candidates_of};
+ghost use Rattle.dir_table.specs.Rows.{plain_rows};
 
 use crate::images::read_image;
-use crate::walks::places_packed;
+use crate::walks::places_of;
+use dir_table::Directory;
 use packed_directory::{ImageFault, PackedDirectory, StoredDirectory};
 use std::alloc::{AllocError, Global};
-use std::marker::Model;
 use tape_base::{Geometry, Key, floor_of, lap, lap_end, next_cursor};
 
 // No tape is turned to a cursor above this place.
@@ -16,32 +16,21 @@ const LAST: u64 = 1 << 61;
 
 /// A directory, with its geometry, the cursor, the floor and the end of the last piece.
 #[derive(Drop)]
-pub struct Taped {
-    pub(crate) directory: PackedDirectory,
-    geometry: Geometry,
+pub struct Taped<D: Directory + Drop> {
+    pub(crate) directory: D,
+    pub(crate) geometry: Geometry,
     cursor: u64,
     floor: u64,
     end: u64,
+    ghost agrees: { D.window directory
+        ≡ record { geometry = geometry; cursor = cursor; floor = floor; end = end } },
 }
 
-impl Model for Taped {
-    ghost use Rattle.std.specs.Prelude.{◌≡◌};
-    ghost use Rattle.packed_directory.specs.Packed.{Packed};
-
-    ghost Value = { Packed };
-
-    ghost view = { λ t. t.directory };
-
-    ghost invariant = { λ t. (t.directory.geometry ≡ t.geometry) × (t.directory.cursor ≡ t.cursor)
-        × (t.directory.floor ≡ t.floor) × (t.directory.end ≡ t.end) };
-}
-
-impl Taped {
-    pub fn new(alloc: Global, g: &Geometry) -> Result<Taped, AllocError>
-        ensures rows { IfOk result (λ t. packed_rows t ≡ []) }
-        ensures first { IfOk result (IsFirst g.now) }
+impl<D: Directory + Drop> Taped<D> {
+    pub fn new(alloc: Global, g: &Geometry) -> Result<Taped<D>, AllocError>
+        ensures { IfOk result (λ t. D.rows t.directory ≡ []) }
     {
-        let directory = PackedDirectory::new(alloc, g)?;
+        let directory = D::new(alloc, g)?;
         Ok(Taped {
             directory,
             geometry: *g,
@@ -51,42 +40,44 @@ impl Taped {
         })
     }
 
-    pub fn geometry(&self) -> &Geometry
-        ensures { result.now ≡ self.now.geometry }
-    {
-        &self.geometry
-    }
-
     /// Enters a piece behind the last one, and gives its place, if the buffer has room for it.
-    pub fn insert(&mut self, key: Key, blocks: u32, head: bool, pinned: bool) -> Option<u64>
-        ensures none { IfNone result (self.new ≡ self.old) }
-        ensures some { IfSome result (Grows blocks self.old self.new) }
-    {
-        let g = self.geometry;
-        let place = self.end;
-        let end = place.checked_add(blocks as u64)?;
-        let filled = place.checked_sub(self.cursor)?;
-        let next = filled.saturating_add(blocks as u64);
-        if blocks == 0 || next > g.agg as u64 || lap(&g, place) != lap(&g, self.cursor) {
-            return None;
+    pub fn insert(
+        &mut self,
+        key: Key,
+        blocks: u32,
+        head: bool,
+        pinned: bool,
+    ) -> Result<Option<u64>, AllocError> {
+        if !self.has_room(blocks) {
+            return Ok(None);
         }
+        self.directory.reserve(1)?;
+        let place = self.end;
         self.directory.insert(key, place, blocks, head, pinned);
-        self.end = end;
-        Some(place)
+        self.end = place + blocks as u64;
+        Ok(Some(place))
     }
 
-    /// Takes the row of a key at a place out, and says whether it stood there.
-    pub fn delete(&mut self, key: Key, place: u64) -> bool
-        ensures tape { self.new ≡ record self.old { segments = self.new.segments } }
+    // Whether a piece may be entered behind the last one.
+    fn has_room(&self, blocks: u32) -> bool
+        ensures some { result ≡ true → 1 ≤ blocks }
+        ensures few { result ≡ true → blocks ≤ self.now.geometry.agg }
+        ensures next { result ≡ true → IsNext (D.window self.now.directory) self.now.end }
+        ensures bound { result ≡ true → self.now.end + blocks < 2 ^ 64 }
     {
-        self.directory.delete(key, place)
+        let g = &self.geometry;
+        let Some(filled) = self.end.checked_sub(self.cursor) else {
+            return false;
+        };
+        let most = filled.saturating_add(blocks as u64);
+        blocks > 0
+            && most <= g.agg as u64
+            && self.cursor < LAST
+            && lap(g, self.end) == lap(g, self.cursor)
     }
 
     /// Begins the next buffer, and gives its cursor and its floor, unless the tape ends.
-    pub fn turn(&mut self) -> Option<(u64, u64)>
-        ensures none { IfNone result (self.new ≡ self.old) }
-        ensures some { IfSome result (λ next. Turns next.0 next.1 self.old self.new) }
-    {
+    pub fn turn(&mut self) -> Option<(u64, u64)> {
         let g = self.geometry;
         let filled = self.end.checked_sub(self.cursor)?;
         if filled > g.agg as u64 || self.cursor >= LAST {
@@ -100,7 +91,7 @@ impl Taped {
         if floor > cursor {
             return None;
         }
-        self.directory.rows_are_readable();
+        self.directory.rows_fit();
         self.directory.wrap(cursor, floor);
         self.cursor = cursor;
         self.floor = floor;
@@ -108,43 +99,40 @@ impl Taped {
         Some((cursor, floor))
     }
 
-    /// The bytes of its image for a cursor at the end of the last piece, unless that lies behind
-    /// the lap.
-    pub fn image(&self, alloc: Global) -> Result<Option<Vec<u8>>, AllocError> {
-        let g = &self.geometry;
-        if self.cursor >= LAST || self.end > lap_end(g, self.cursor) {
-            return Ok(None);
-        }
-        let blocks = PackedDirectory::image_blocks(g);
-        let mut bytes = vec![in alloc; 255; 512 * blocks as usize]?;
-        self.directory.image(self.end, &mut bytes);
-        Ok(Some(bytes))
+    /// Takes the row of a key at a place out, and says whether it stood there.
+    pub fn delete(&mut self, key: Key, place: u64) -> bool {
+        self.directory.delete(key, place)
     }
 
-    /// The directory of an image that was written at the end of the last piece.
-    pub fn read(&self, alloc: Global, bytes: &[u8]) -> Option<Result<PackedDirectory, ImageFault>> {
-        read_image(alloc, &self.geometry, self.end, self.floor, bytes)
-    }
-
-    /// The places under a key, along its chain.
+    /// The places under a key.
     pub fn places(&self, alloc: Global, key: Key) -> Result<Vec<u64>, AllocError>
-        ensures { IfOk result (λ v.
-            v.items ≡ places_under self.now.geometry key (packed_rows self.now)) }
+        ensures { IfOk result (λ v. v.items ≡ candidates_of
+            (D.window self.now.directory) key (plain_rows (D.rows self.now.directory))) }
     {
-        places_packed(alloc, &self.directory, key)
+        places_of(alloc, &self.directory, key)
     }
+}
 
-    /// What the last insert pushed out: the places, their segment, and how many rows that had.
-    pub fn displaced(&self, alloc: Global) -> Result<(Vec<u64>, u32, u64), AllocError>
-        ensures places { IfOk result (λ o. o.0.items ≡ self.now.out.places) }
-        ensures told { IfOk result (λ o.
-            (o.1 ≡ self.now.out.segment) × (o.2 ≡ self.now.out.live)) }
-    {
-        let mut places = Vec::new(alloc);
-        for i in 0..self.directory.out_len() {
-            places.push(self.directory.out_place(i))?;
-        }
-        let live = self.directory.out_live() as u64;
-        Ok((places, self.directory.out_segment(), live))
+/// The bytes of an image for a cursor at the end of the last piece, unless that lies behind the lap.
+pub fn image_of(
+    alloc: Global,
+    taped: &Taped<PackedDirectory>,
+) -> Result<Option<Vec<u8>>, AllocError> {
+    let g = &taped.geometry;
+    if taped.cursor >= LAST || taped.end > lap_end(g, taped.cursor) {
+        return Ok(None);
     }
+    let blocks = PackedDirectory::image_blocks(g);
+    let mut bytes = vec![in alloc; 255; 512 * blocks as usize]?;
+    taped.directory.image(taped.end, &mut bytes);
+    Ok(Some(bytes))
+}
+
+/// The directory of an image that was written at the end of the last piece.
+pub fn read_at(
+    alloc: Global,
+    taped: &Taped<PackedDirectory>,
+    bytes: &[u8],
+) -> Option<Result<PackedDirectory, ImageFault>> {
+    read_image(alloc, &taped.geometry, taped.end, taped.floor, bytes)
 }

@@ -2,8 +2,8 @@
 use super::*;
 use crate::tables::{BAD, GOOD, Good, Told};
 use dir_segment::SegmentFault;
-use dir_table::{Directory, ListDirectory};
-use packed_directory::{ImageFault, StoredRow};
+use dir_table::{Directory, ListDirectory, StoredRow};
+use packed_directory::{ImageFault, PackedDirectory};
 use std::alloc::{AllocError, Global};
 use std::test::Fail;
 use tape_base::{Geometry, Key};
@@ -27,18 +27,34 @@ fn bytes_of(alloc: Global, told: &Told, g: &Geometry) -> Result<Vec<u8>, Fail> {
 #[test]
 fn the_worked_entry_comes_out(rt: HostRuntime) -> Result<(), Fail> {
     let g = Geometry::check(4, 16, 64, 8, 16, 4, 7).map_err(|_| "no geometry")?;
-    let mut taped = Taped::new(rt.alloc(), &g)?;
+    let mut taped: Taped<PackedDirectory> = Taped::new(rt.alloc(), &g)?;
     assert_eq!(rt;
-        taped.insert(Key::of_url(b"filler"), 1, false, false),
+        taped.insert(Key::of_url(b"filler"), 1, false, false)?,
         Some(64)
     );
-    assert_eq!(rt; taped.insert(Key::of_url(b"abc"), 1, true, false), Some(65));
-    let image = taped.image(rt.alloc())?.ok_or("no image")?;
+    assert_eq!(rt;
+        taped.insert(Key::of_url(b"abc"), 1, true, false)?,
+        Some(65)
+    );
+    let image = image_of(rt.alloc(), &taped)?.ok_or("no image")?;
     assert_eq!(rt; image.len(), 3072);
     // Segment 2 is 644 bytes long, bucket 15 begins with slot 60.
     let entry = image.get(1892..1902).ok_or("no entry")?;
     assert_eq!(rt; entry, [2, 0, 0, 0, 0x41, 0x31, 0, 0, 0, 0].as_slice());
     Ok(())
+}
+
+// What the last insert displaced: the places, their segment, and how many rows that had.
+fn told_of(
+    alloc: Global,
+    taped: &Taped<PackedDirectory>,
+) -> Result<(Vec<u64>, u32, u64), AllocError> {
+    let displaced = taped.directory.displaced();
+    let mut places = Vec::new(alloc);
+    for i in 0..displaced.len() {
+        places.push(displaced.place(i))?;
+    }
+    Ok((places, displaced.segment(), displaced.live()))
 }
 
 // A key of segment 0, bucket 0 and tag 0.
@@ -49,8 +65,8 @@ fn plain_key() -> Key {
 #[test]
 fn a_new_segment_comes_out_with_zeros_behind(rt: HostRuntime) -> Result<(), Fail> {
     let g = Geometry::check(1, 2, 64, 8, 16, 4, 7).map_err(|_| "no geometry")?;
-    let taped = Taped::new(rt.alloc(), &g)?;
-    let image = taped.image(rt.alloc())?.ok_or("no image")?;
+    let taped: Taped<PackedDirectory> = Taped::new(rt.alloc(), &g)?;
+    let image = image_of(rt.alloc(), &taped)?.ok_or("no image")?;
     assert_eq!(rt; image.len(), 512);
     // The free list leads through the slots behind the roots.
     let links = [(0, 1), (2, 6), (20, 2), (30, 3), (40, 5), (60, 6), (70, 7)];
@@ -64,18 +80,18 @@ fn a_new_segment_comes_out_with_zeros_behind(rt: HostRuntime) -> Result<(), Fail
 #[test]
 fn a_purge_takes_the_first_and_the_eleventh(rt: HostRuntime) -> Result<(), Fail> {
     let g = Geometry::check(1, 4, 64, 16, 16, 4, 7).map_err(|_| "no geometry")?;
-    let mut taped = Taped::new(rt.alloc(), &g)?;
+    let mut taped: Taped<PackedDirectory> = Taped::new(rt.alloc(), &g)?;
     let key = plain_key();
     for place in 64..77 {
-        assert_eq!(rt; taped.insert(key, 1, false, false), Some(place));
+        assert_eq!(rt; taped.insert(key, 1, false, false)?, Some(place));
         assert_eq!(rt;
-            taped.displaced(rt.alloc())?,
+            told_of(rt.alloc(), &taped)?,
             (vec![in rt.alloc()]?, 0, place - 64)
         );
     }
-    assert_eq!(rt; taped.insert(key, 1, false, false), Some(77));
+    assert_eq!(rt; taped.insert(key, 1, false, false)?, Some(77));
     assert_eq!(rt;
-        taped.displaced(rt.alloc())?,
+        told_of(rt.alloc(), &taped)?,
         (vec![in rt.alloc(); 65, 75]?, 0, 13)
     );
     let places = taped.places(rt.alloc(), key)?;
@@ -89,18 +105,18 @@ fn a_purge_takes_the_first_and_the_eleventh(rt: HostRuntime) -> Result<(), Fail>
 #[test]
 fn a_turn_takes_out_what_the_next_lap_would_take_for_its_own(rt: HostRuntime) -> Result<(), Fail> {
     let g = Geometry::check(1, 4, 64, 16, 16, 4, 7).map_err(|_| "no geometry")?;
-    let mut taped = Taped::new(rt.alloc(), &g)?;
+    let mut taped: Taped<PackedDirectory> = Taped::new(rt.alloc(), &g)?;
     let key = plain_key();
     let buffers = [(64, 78, 30), (78, 92, 44), (92, 106, 58), (106, 128, 80)];
     for (place, cursor, floor) in buffers {
-        assert_eq!(rt; taped.insert(key, 14, false, false), Some(place));
+        assert_eq!(rt; taped.insert(key, 14, false, false)?, Some(place));
         assert_eq!(rt; taped.turn(), Some((cursor, floor)));
     }
     assert_eq!(rt;
         taped.places(rt.alloc(), key)?,
         vec![in rt.alloc(); 106, 92]?
     );
-    assert_eq!(rt; taped.insert(key, 14, false, false), Some(128));
+    assert_eq!(rt; taped.insert(key, 14, false, false)?, Some(128));
     assert_eq!(rt;
         taped.places(rt.alloc(), key)?,
         vec![in rt.alloc(); 106, 128, 92]?
@@ -207,8 +223,7 @@ fn images_from_outside_are_refused_at_their_first_fault(rt: HostRuntime) -> Resu
 
 fn driven(alloc: Global, buckets: u32) -> Result<Tally, Fail> {
     let g = Geometry::check(2, buckets, 256, 16, 64, 4, 7).map_err(|_| "no geometry")?;
-    let mut list = ListDirectory::new(alloc, &g)?;
-    drive(alloc, &g, &mut list, 10_000).map_err(|_| "the two differ".into())
+    drive::<ListDirectory>(alloc, &g, 10_000).map_err(|_| "the two differ".into())
 }
 
 #[test]

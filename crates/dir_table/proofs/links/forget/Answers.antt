@@ -1,7 +1,7 @@
 use Rattle.std.proofs.Common.{ℕ, ◌+◌, List, ap, sym, subst, ◌∙◌, arith}
-use Rattle.dir_table.specs.declared.rows.DirRow.{DirRow}
+use Rattle.dir_table.specs.declared.rows.StoredRow.{StoredRow}
 use Rattle.dir_table.specs.Links.{AllFrom, entries_of, node_at, newest_at, row_at, rows_of}
-use Rattle.dir_table.specs.Wrap.{rows_from}
+use Rattle.dir_table.specs.Wrap.{stored_from}
 use Rattle.dir_table.proofs.Parts.{above_without, all_left, from_without, none_left}
 use Rattle.dir_table.proofs.links.forget.Goals as goal
 
@@ -16,7 +16,7 @@ pub loop-number-preserved : goal.loop-number-preserved
 loop-number-preserved c =
     let links = c.loop-number.links in
     let number = c.loop-number.number in
-    let P : List (ℕ × DirRow) → Type 0 = λ es. AllFrom (number + 1) es in
+    let P : List (ℕ × StoredRow) → Type 0 = λ es. AllFrom (number + 1) es in
     let less = c.loop-number-test.true in
     let room = c.loop-number.invariant.room in
     let more = c.clear.ensures.room in
@@ -25,7 +25,7 @@ loop-number-preserved c =
       above = subst P (sym c.clear.ensures.entries) (above_without number (entries_of links) c.loop-number.invariant.above);
       within = omega arith;
       next = c.clear.ensures.next ∙ c.loop-number.invariant.next;
-      rows = ap (λ es. rows_from c.args.low (rows_of es)) c.clear.ensures.entries
+      rows = ap (λ es. stored_from c.args.low (rows_of es)) c.clear.ensures.entries
           ∙ from_without c.args.low number (row_at links) (sym c.is_standing_from.ensures ∙ c.if-is_standing_from.false) links.next
           ∙ c.loop-number.invariant.rows;
       room = omega (arith, room, more);

@@ -1,7 +1,7 @@
 -- Of the rows from the place on none is gone, and no number below is in use.
 use Rattle.std.proofs.Common.{◌≡◌, ◌≤◌, ◌-◌}
 use Rattle.dir_table.specs.Links.{IsLinked, AllFrom, entries_of, rows_in, room_of}
-use Rattle.dir_table.specs.Wrap.{rows_from}
+use Rattle.dir_table.specs.Wrap.{stored_from}
 use Rattle.dir_table.proofs.links.forget.Given as goal
 
 abbrev pub invariant-loop-number : goal.invariant-loop-number
@@ -10,7 +10,7 @@ invariant-loop-number l = record {
   above : AllFrom l.number (entries_of l.links);
   within : l.number ≤ l.end;
   next : l.links.next ≡ l.end;
-  rows : rows_from l.low (rows_in l.links) ≡ rows_from l.low (rows_in l.fn.links);
+  rows : stored_from l.low (rows_in l.links) ≡ stored_from l.low (rows_in l.fn.links);
   room : room_of l.fn.links ≤ room_of l.links;
 }
 

@@ -1,6 +1,6 @@
 use Rattle.std.proofs.Common.{ℕ, ap, sym, subst, ◌∙◌, Option, arith}
 use Rattle.dir_table.specs.Links.{node_at, newest_at, row_at, row_of_node}
-use Rattle.dir_table.specs.Rows.{spot_of}
+use Rattle.dir_table.specs.Rows.{same_row, spot_of}
 use Rattle.dir_table.proofs.Numbers.{has_first, has_next, first_meets, Meets, Stands, height, height_first}
 use Rattle.dir_table.proofs.Linked.{older_is, stands_node}
 use Rattle.dir_table.proofs.links.number_of.Goals as goal
@@ -31,6 +31,6 @@ loop-at-preserved c =
     let first = older_is (node_at c.args.links.now) (newest_at c.args.links.now) c.args.links.now.next (spot_of c.args.row.now) c.in-Some.number c.node_of-node.result c.requires c.node_of-node.ensures fits in
     record {
       has = rw c.in-Some.is at c.loop-at.invariant.has
-          ∙ has_next c.args.row.now (row_at c.args.links.now) c.in-Some.number c.node_of-node.result.row c.node_of-node.result.older (ap row_of_node c.node_of-node.ensures) (sym c.eq.ensures ∙ c.if-eq.false) first;
+          ∙ has_next c.args.row.now (row_at c.args.links.now) c.in-Some.number c.node_of-node.result.row c.node_of-node.result.older (ap row_of_node c.node_of-node.ensures) (ap (same_row c.args.row.now) (sym c.plain.ensures) ∙ sym c.eq.ensures ∙ c.if-eq.false) first;
       meets = first_meets (spot_of c.args.row.now) (row_at c.args.links.now) c.in-Some.number c.node_of-node.result.older first;
     }

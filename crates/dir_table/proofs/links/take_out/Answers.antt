@@ -1,14 +1,13 @@
 use Rattle.std.proofs.Common.{ℕ, None, cond, nat_eq, is_some, ap, sym, subst, ◌∙◌, Option}
 use Rattle.dir_table.specs.declared.links.Node.{Node}
-use Rattle.dir_table.specs.Links.{IsLinkedBy, node_at, newest_at, row_at, entries_below}
-use Rattle.dir_table.specs.Rows.{spot_of}
+use Rattle.dir_table.specs.Links.{spot_under, IsLinkedBy, node_at, newest_at, row_at, entries_below}
 use Rattle.dir_table.proofs.Numbers.{first_reaches}
 use Rattle.dir_table.proofs.Linked.{linked_taken, entries_taken, node_stands, same_spot_self}
 use Rattle.dir_table.proofs.links.take_out.Goals as goal
 
 pub redirect-requires : goal.redirect-requires
 redirect-requires c =
-    let spot = spot_of c.node_of-node.result.row in
+    let spot = spot_under c.node_of-node.result.row in
     let stands = node_stands (node_at c.args.links.now) spot c.args.number c.node_of-node.result c.node_of-node.ensures (same_spot_self spot) in
     let reach = first_reaches spot (row_at c.args.links.now) c.args.links.now.next c.args.number stands (c.requires.linked.below c.args.number c.node_of-node.result c.node_of-node.ensures) in
     ap (λ s. is_some (newest_at c.args.links.now s)) c.spot-spot.ensures ∙ ap is_some (c.requires.linked.newest spot ∙ reach.first)

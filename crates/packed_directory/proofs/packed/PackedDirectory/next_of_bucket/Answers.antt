@@ -2,7 +2,7 @@ use Rattle.std.proofs.Common.{◌≡◌, suc, ◌<◌, List, [], ◌∷◌, ◌+
 use Rattle.std.proofs.lemmas.List.{get_or_default}
 use Rattle.std.proofs.lemmas.List.Elements.{All-get_or}
 use Rattle.dir_segment.specs.Lists.{Row, Lists, row, chain_of, behind, behind_slot}
-use Rattle.packed_directory.specs.declared.rows.StoredRow.{StoredRow}
+use Rattle.dir_table.specs.declared.rows.StoredRow.{StoredRow}
 use Rattle.packed_directory.specs.Packing.{packed_of}
 use Rattle.packed_directory.specs.Packed.{AreBetween, segment_at}
 use Rattle.packed_directory.specs.StoredRows.{row_of_entry}

@@ -2,10 +2,10 @@ use Rattle.std.proofs.Common.{List, length, ap, ◌∙◌}
 use Rattle.dir_segment.specs.Lists.{Lists}
 use Rattle.packed_directory.specs.Packed.{packed_rows}
 use Rattle.packed_directory.specs.PackedImage.{meant_from}
-use Rattle.packed_directory.specs.StoredRows.{stored_from}
 use Rattle.packed_directory.proofs.Meaning.{read_rows, read_is_packed}
 use Rattle.packed_directory.proofs.Spelling.{image_count}
 use Rattle.packed_directory.proofs.packed.PackedDirectory.read_image.Goals as goal
+use Rattle.dir_table.specs.Wrap.{stored_from}
 
 pub assemble-requires : goal.assemble-requires
 assemble-requires c =

@@ -1,6 +1,6 @@
 use Rattle.std.proofs.Common.{◌≡◌, ◌+◌, length, true, ap, arith}
 use Rattle.tape_base.specs.Place.{lap_of}
-use Rattle.packed_directory.specs.declared.rows.StoredRow.{StoredRow}
+use Rattle.dir_table.specs.declared.rows.StoredRow.{StoredRow}
 use Rattle.packed_directory.specs.Packed.{IsReadable}
 use Rattle.packed_directory.specs.StoredRows.{rows_of_segments, is_spot}
 use Rattle.packed_directory.proofs.Readable.{rows_readable, none_outside, spot_parts}

@@ -1,11 +1,11 @@
 use Rattle.std.proofs.Common.{List, sym, subst}
 use Rattle.std.specs.List.Sorted.{IsPermutation}
 use Rattle.std.proofs.lemmas.List.Sorted.{IsPermutation-refl}
-use Rattle.packed_directory.specs.declared.rows.StoredRow.{StoredRow}
+use Rattle.dir_table.specs.declared.rows.StoredRow.{StoredRow}
 use Rattle.packed_directory.specs.Phases.{least_place}
 use Rattle.packed_directory.specs.Packed.{packed_rows}
-use Rattle.packed_directory.specs.StoredRows.{stored_from}
 use Rattle.packed_directory.proofs.packed.PackedDirectoryStoredDirectory.image.Goals as goal
+use Rattle.dir_table.specs.Wrap.{stored_from}
 
 pub returns-clause-rows : goal.returns-clause-rows
 returns-clause-rows c =
