@@ -1,25 +1,27 @@
 -- A piece that was put, and the places that stay below the next one.
-use Rattle.std.proofs.Common.{◌≡◌, ℕ, ◌+◌, ◌^◌, ◌<◌, ◌≤◌, List, ◌∷◌, length, suc, true, false, refl, sym, ◌∙◌, ap, subst, arith, Bool}
+use Rattle.std.proofs.Common.{◌≡◌, ℕ, ◌+◌, ◌^◌, ◌<◌, ◌≤◌, List, [], ◌∷◌, ◌++◌, length, suc, true, false, refl, sym, ◌∙◌, ap, subst, arith, Bool}
 use Rattle.std.specs.Prelude.{All, IsPermutation, MatchBool}
 use Rattle.std.specs.Bool.{OnTrue}
-use Rattle.std.specs.List.{filter}
 use Rattle.std.proofs.lemmas.List.Elements.{All-filter}
 use Rattle.std.proofs.lemmas.List.Sorted.{All-permutation}
-use Rattle.std.proofs.lemmas.List.Elements.{All-cons}
+use Rattle.std.proofs.lemmas.List.Elements.{All-cons, All-tail}
 use Rattle.doc_header.specs.declared.documents.Doc.{Doc}
 use Rattle.doc_header.specs.Document.{document_bytes}
 use Rattle.doc_header.specs.Moving.{moved_to}
 use Rattle.tape_base.specs.Blocks.{blocks_of}
 use Rattle.agg_buffer.specs.Buffer.{Buffer, Adds, empty_buffer, next_place_of, blocks_in}
-use Rattle.dir_table.specs.Rows.{has_row}
+use Rattle.dir_table.specs.Rows.{has_row, plain_rows, LosesPlain}
 use Rattle.tape_base.specs.declared.pieces.PieceId.{PieceId}
 use Rattle.dir_table.specs.declared.window.Window.{Window}
-use Rattle.cyclone.specs.Cyclone.{Seen, IsTurning, IsPut, IsMoved, TakesOut, BeginsNext, SameButRows, row_of_piece, cursor_next}
-use Rattle.dir_table.specs.Wrap.{Forgets, rows_from}
+use Rattle.cyclone.specs.Cyclone.{Seen, IsTurning, IsPut, IsMoved, TakesOut, TakesOutStored, BeginsNext, SameButRows, row_of_piece, cursor_next}
+use Rattle.dir_table.specs.Entering.{TakesRow}
+use Rattle.dir_table.proofs.Plainly.{all_stored}
+use Rattle.dir_table.specs.Wrap.{rows_from}
 use Rattle.write_cursor.specs.Plan.{FitsInLap}
 use Rattle.tape_base.specs.declared.geometries.Geometry.{Geometry}
 use Rattle.tape_base.specs.Place.{slot_of}
 use Rattle.dir_table.specs.declared.rows.DirRow.{DirRow}
+use Rattle.dir_table.specs.declared.rows.StoredRow.{StoredRow}
 
 abbrev pub AllBelow : ℕ → List DirRow → Type 0
 AllBelow high rows = All (λ (r : DirRow). r.place < high) rows
@@ -28,12 +30,16 @@ pub below_more : (low high : ℕ) (rows : List DirRow) → low ≤ high → AllB
 below_more low high rows h all = λ k d within. let there = all k d within in omega arith
 
 -- what stands behind an insert: the new row, and old ones that are left
-pub below_inserted : (low high : ℕ) (row : DirRow) (keeps : DirRow → Bool) (old new : List DirRow) → low ≤ high → row.place < high
-    → IsPermutation (row ∷ filter keeps old) new → AllBelow low old → AllBelow high new
-below_inserted low high row keeps old new h there p all =
-    All-permutation (λ (r : DirRow). r.place < high) (row ∷ filter keeps old) new p
-    (All-cons (λ (r : DirRow). r.place < high) row (filter keeps old) there
-    (All-filter keeps (λ (r : DirRow). r.place < high) old (below_more low high old h all)))
+all_behind : (high : ℕ) (gone left : List DirRow) → AllBelow high (gone ++ left) → AllBelow high left
+all_behind high [] left all = all
+all_behind high (row ∷ gone) left all = all_behind high gone left (All-tail (λ (r : DirRow). r.place < high) row (gone ++ left) all)
+
+pub below_inserted : (low high : ℕ) (row : DirRow) (gone old new : List DirRow) → low ≤ high → row.place < high
+    → TakesRow row gone old new → AllBelow low old → AllBelow high new
+below_inserted low high row gone old new h there t all =
+    All-permutation (λ (r : DirRow). r.place < high) (row ∷ t.left) new t.entered
+    (All-cons (λ (r : DirRow). r.place < high) row t.left there
+    (below_more low high t.left h (all_behind low gone t.left (All-permutation (λ (r : DirRow). r.place < low) old (gone ++ t.left) t.parted all))))
 
 -- a cyclone turns on where blocks were added to its buffer, and all that is entered ends there
 added_turns : (old new : Seen) (piece : List ℕ) → IsTurning old → new.geometry ≡ old.geometry → Adds old.buffer new.buffer piece
@@ -62,15 +68,19 @@ put_turns purges old new doc payload t p at size =
     let further : next_place_of new.buffer ≡ next_place_of old.buffer + blocks_of (length payload) = p.buffer.next ∙ ap (λ n. next_place_of old.buffer + n) size in
     let some : 0 < blocks_of (length payload) = omega arith in
     added_turns old new (document_bytes doc payload) t p.geometry p.buffer p.window p.device
-    (below_inserted (next_place_of old.buffer) (next_place_of new.buffer) _ _ old.rows new.rows (omega arith) (omega arith) p.rows t.entered)
+    (below_inserted (next_place_of old.buffer) (next_place_of new.buffer) _ p.gone old.rows new.rows (omega arith) (omega arith) p.rows t.entered)
 
-below_forgotten : (g : Geometry) (cursor floor low high : ℕ) (old new : List DirRow) → low ≤ high → Forgets g cursor floor old new → AllBelow low old → AllBelow high new
-below_forgotten g cursor floor low high old new h f all =
-    All-permutation (λ (r : DirRow). r.place < high) (rows_from f.low old) new f.kept
+below_from : (floor low high : ℕ) (old new : List DirRow) → low ≤ high → IsPermutation (rows_from floor old) new → AllBelow low old → AllBelow high new
+below_from floor low high old new h kept all =
+    All-permutation (λ (r : DirRow). r.place < high) (rows_from floor old) new kept
     (All-filter _ (λ (r : DirRow). r.place < high) old (below_more low high old h all))
 
 begun : (cursor reserved : ℕ) → next_place_of (empty_buffer cursor reserved) ≡ cursor
 begun cursor reserved = omega arith
+
+-- so what is entered stands below the next buffer
+pub stored_below : (low high : ℕ) (rows : List StoredRow) → low ≤ high → AllBelow low (plain_rows rows) → All (λ (r : StoredRow). r.place < high) rows
+stored_below low high rows h all = all_stored (λ (r : DirRow). r.place < high) rows (below_more low high (plain_rows rows) h all)
 
 -- and when the next buffer begins
 pub next_turns : (old new : Seen) → IsTurning old → BeginsNext old new → FitsInLap old.geometry (cursor_next old) → next_place_of old.buffer ≤ cursor_next old → cursor_next old < 2 ^ 62
@@ -90,7 +100,7 @@ next_turns old new t b fits behind below =
       below = rw cursor below;
       lap = rw (b.geometry, cursor) fits;
       sized = rw (b.geometry, b.device) t.sized;
-      entered = below_forgotten _ _ _ (next_place_of old.buffer) (next_place_of new.buffer) old.rows new.rows (omega arith) b.rows t.entered;
+      entered = below_from _ (next_place_of old.buffer) (next_place_of new.buffer) old.rows new.rows (omega arith) b.rows t.entered;
     }
 
 -- the blocks of a buffer lie in the content area
@@ -127,6 +137,16 @@ told_by : (row : DirRow) (rows left : List DirRow) (b : Bool) → OnTrue b (IsPe
 told_by row rows left true gone none = gone
 told_by row rows left false gone none = none refl
 
+told_stored_by : (row : DirRow) (rows left : List StoredRow) (b : Bool) → OnTrue b (LosesPlain row rows left) → (b ≡ false → left ≡ rows)
+    → MatchBool b (LosesPlain row rows left) (left ≡ rows)
+told_stored_by row rows left true gone none = gone
+told_stored_by row rows left false gone none = none refl
+
+pub takes_out_stored : (row : DirRow) (rows left : List StoredRow) (b : Bool) → b ≡ has_row row (plain_rows rows) → OnTrue b (LosesPlain row rows left) → (b ≡ false → left ≡ rows)
+    → TakesOutStored row rows left
+takes_out_stored row rows left b found gone none =
+    subst (λ b. MatchBool b (LosesPlain row rows left) (left ≡ rows)) found (told_stored_by row rows left b gone none)
+
 pub takes_out : (row : DirRow) (rows left : List DirRow) (b : Bool) → b ≡ has_row row rows → OnTrue b (IsPermutation rows (row ∷ left)) → (b ≡ false → left ≡ rows)
     → TakesOut row rows left
 takes_out row rows left b found gone none =
@@ -144,4 +164,4 @@ moved_turns purges old new id from bytes t m some =
     let low = next_place_of old.buffer in
     let left = below_matched low (row_of_piece old id from) old.rows m.left (has_row (row_of_piece old id from) old.rows) m.taken t.entered in
     added_turns old new (moved_to low bytes) t m.geometry m.buffer m.window m.device
-    (below_inserted low (next_place_of new.buffer) _ _ m.left new.rows (omega (arith, m.buffer.next)) (omega (arith, m.buffer.next, some)) m.rows left)
+    (below_inserted low (next_place_of new.buffer) _ m.gone m.left new.rows (omega (arith, m.buffer.next)) (omega (arith, m.buffer.next, some)) m.rows left)

@@ -1,6 +1,6 @@
 -- What contracts see of a cyclone: the content area that is written in a circle, the buffer of what
 -- is not written yet, and the directory of what stands on both (Traffic Server guide, "Cache Architecture").
-use Rattle.std.specs.Prelude.{ℕ, ◌≡◌, ◌+◌, ◌*◌, ◌<◌, ◌≤◌, ◌^◌, Bool, List, [], ◌∷◌, length, IsPermutation, All, MatchBool}
+use Rattle.std.specs.Prelude.{ℕ, ◌≡◌, ◌+◌, ◌*◌, ◌<◌, ◌≤◌, ◌^◌, ◌==◌, not, Bool, List, [], ◌∷◌, length, IsPermutation, All, MatchBool}
 use Rattle.hex.specs.Hex.{IsBytes}
 use Rattle.tape_base.specs.declared.geometries.Geometry.{Geometry}
 use Rattle.tape_base.specs.declared.pieces.PieceId.{PieceId}
@@ -9,18 +9,23 @@ use Rattle.tape_base.specs.Place.{slot_of, floor_of, next_cursor_of, lap_end_of}
 use Rattle.edge_io.specs.Causes.{HasCause}
 use Rattle.edge_io.specs.declared.source.Failed.{Failed}
 use Rattle.std.specs.Prelude.{Result, OnOk}
-use Rattle.ats_disk.specs.Device.{State, IsTold, Keeps, SameBut, SameSeen, span}
-use Rattle.ats_disk.specs.declared.device.Disk.{Ghosts as DiskGhosts}
+use Rattle.device_log.specs.Image.{span}
+use Rattle.device_log.specs.Calls.{Read, Wrote}
+use Rattle.logged_disk.specs.Device.{State, IsTrusted, Keeps, Logs, seen as content_of}
+use Rattle.logged_disk.specs.declared.device.Disk.{Ghosts as DiskGhosts}
 use Rattle.doc_header.specs.declared.documents.Doc.{Doc}
 use Rattle.doc_header.specs.Document.{document_bytes}
 use Rattle.doc_header.specs.Moving.{moved_to}
 use Rattle.agg_buffer.specs.Buffer.{Buffer, bytes_at, filled_of, next_place_of, empty_buffer, Adds}
 use Rattle.dir_table.specs.declared.rows.DirRow.{DirRow}
+use Rattle.dir_table.specs.declared.rows.StoredRow.{StoredRow}
 use Rattle.dir_table.specs.declared.window.Window.{Window}
 use Rattle.dir_table.specs.declared.directory.Directory.{Ghosts as DirectoryGhosts}
-use Rattle.dir_table.specs.Rows.{row_of_key, has_row}
-use Rattle.dir_table.specs.Displacement.{Displacement, Displaces, none_displaced, rows_without}
-use Rattle.dir_table.specs.Wrap.{Forgets}
+use Rattle.dir_table.specs.Rows.{row_of_key, has_row, plain_rows, LosesPlain}
+use Rattle.dir_table.specs.Displacement.{Displacement, Displaces, none_displaced}
+use Rattle.dir_table.specs.Entering.{PieceEntered, TakesRow, Enters}
+use Rattle.dir_table.specs.Wrap.{rows_from, stored_from}
+use Rattle.tape_base.specs.Blocks.{blocks_of}
 use Rattle.write_cursor.specs.Plan.{FitsInLap}
 use Rattle.cyclone.specs.declared.cyclone.Cyclone.{Cyclone}
 
@@ -31,6 +36,8 @@ pub record Seen : Type 0 where
   pub window : Window
   -- what the directory stands for
   pub rows : List DirRow
+  -- the same with what is kept beside each place
+  pub stored : List StoredRow
   -- how many pieces can be put without more memory
   pub spare : ℕ
   -- what the piece that was put last displaced
@@ -43,7 +50,8 @@ seen disk directory c = record {
   geometry = c.geometry;
   buffer = c.buffer;
   window = directory.window c.directory;
-  rows = directory.rows c.directory;
+  rows = plain_rows (directory.rows c.directory);
+  stored = directory.rows c.directory;
   spare = directory.spare c.directory;
   displaced = directory.displaced c.directory;
   device = disk.state c.disk;
@@ -80,11 +88,28 @@ pub record IsFresh (c : Seen) (g : Geometry) (device : State) : Type 0 where
 pub record IsPut (purges : Bool) (old new : Seen) (doc : Doc) (payload : List ℕ) : Type 0 where
   pub geometry : new.geometry ≡ old.geometry
   pub buffer : Adds old.buffer new.buffer (document_bytes doc payload)
-  pub rows : IsPermutation (row_of_key old.geometry (key_of_piece doc.id) doc.place ∷ rows_without new.displaced old.rows) new.rows
-  pub displaced : Displaces purges old.window (row_of_key old.geometry (key_of_piece doc.id) doc.place) old.rows new.displaced
+  -- the rows that go for it
+  pub gone : List DirRow
+  pub rows : TakesRow (row_of_key old.geometry (key_of_piece doc.id) doc.place) gone old.rows new.rows
+  pub displaced : Displaces purges old.window (row_of_key old.geometry (key_of_piece doc.id) doc.place) old.rows gone new.displaced
   pub window : new.window ≡ record old.window { end = next_place_of new.buffer }
   pub spare : old.spare ≤ new.spare + 1
   pub device : new.device ≡ old.device
+
+-- the piece of a document, as the directory is told of it
+abbrev pub piece_of_doc : Doc → List ℕ → PieceEntered
+piece_of_doc doc payload = record {
+  key = key_of_piece doc.id;
+  place = doc.place;
+  blocks = blocks_of (length payload);
+  head = doc.id.index == 0;
+  pinned = not (doc.pin == 0);
+}
+
+-- it is entered so
+abbrev pub EntersDoc : Bool → Seen → Seen → Doc → List ℕ → Type 0
+EntersDoc purges old new doc payload =
+    Enters purges old.window (piece_of_doc doc payload) old.stored new.displaced new.stored
 
 -- the row of a piece that stands at a place
 abbrev pub row_of_piece : Seen → PieceId → ℕ → DirRow
@@ -94,6 +119,23 @@ row_of_piece c id place = row_of_key c.geometry (key_of_piece id) place
 abbrev pub TakesOut : DirRow → List DirRow → List DirRow → Type 0
 TakesOut row rows left = MatchBool (has_row row rows) (IsPermutation rows (row ∷ left)) (left ≡ rows)
 
+-- the same of rows with what is kept beside each place
+abbrev pub TakesOutStored : DirRow → List StoredRow → List StoredRow → Type 0
+TakesOutStored row rows left = MatchBool (has_row row (plain_rows rows)) (LosesPlain row rows left) (left ≡ rows)
+
+-- the piece of a copy of so many blocks is entered behind the buffer's last one, without the row of
+-- where it stood
+pub record EntersCopy (purges : Bool) (old new : Seen) (id : PieceId) (from blocks : ℕ) (pinned : Bool) : Type 0 where
+  pub left : List StoredRow
+  pub taken : TakesOutStored (row_of_piece old id from) old.stored left
+  pub entered : Enters purges old.window (record {
+    key = key_of_piece id;
+    place = next_place_of old.buffer;
+    blocks = blocks;
+    head = id.index == 0;
+    pinned = pinned;
+  }) left new.displaced new.stored
+
 -- a copy of a document that stood at `from` is in the buffer, and its piece in the directory there,
 -- in place of the row of where it stood
 pub record IsMoved (purges : Bool) (old new : Seen) (id : PieceId) (from : ℕ) (bytes : List ℕ) : Type 0 where
@@ -102,8 +144,10 @@ pub record IsMoved (purges : Bool) (old new : Seen) (id : PieceId) (from : ℕ) 
   -- the rows without that of where it stood
   pub left : List DirRow
   pub taken : TakesOut (row_of_piece old id from) old.rows left
-  pub rows : IsPermutation (row_of_piece old id (next_place_of old.buffer) ∷ rows_without new.displaced left) new.rows
-  pub displaced : Displaces purges old.window (row_of_piece old id (next_place_of old.buffer)) left new.displaced
+  -- the rows that go for it
+  pub gone : List DirRow
+  pub rows : TakesRow (row_of_piece old id (next_place_of old.buffer)) gone left new.rows
+  pub displaced : Displaces purges old.window (row_of_piece old id (next_place_of old.buffer)) left gone new.displaced
   pub window : new.window ≡ record old.window { end = next_place_of new.buffer }
   pub spare : old.spare ≤ new.spare + 1
   pub device : new.device ≡ old.device
@@ -117,19 +161,20 @@ pub record BeginsNext (old new : Seen) : Type 0 where
   pub geometry : new.geometry ≡ old.geometry
   pub buffer : new.buffer ≡ empty_buffer (cursor_next old) old.buffer.reserved
   pub window : new.window ≡ record old.window { cursor = cursor_next old; floor = floor_of old.geometry (cursor_next old); end = cursor_next old }
-  pub rows : Forgets old.geometry (cursor_next old) (floor_of old.geometry (cursor_next old)) old.rows new.rows
+  pub rows : IsPermutation (rows_from (floor_of old.geometry (cursor_next old)) old.rows) new.rows
+  pub stored : IsPermutation (stored_from (floor_of old.geometry (cursor_next old)) old.stored) new.stored
   pub displaced : new.displaced ≡ old.displaced
   pub spare : old.spare ≤ new.spare
   pub device : new.device ≡ old.device
 
--- the device has what is in the buffer, where it tells its content
+-- what is in the buffer is seen on the device
 abbrev pub HasBuffer : Seen → Type 0
-HasBuffer c = IsTold c.device → span c.device.seen (slot_of c.geometry c.buffer.cursor) (filled_of c.buffer) ≡ c.buffer.bytes
+HasBuffer c = span (content_of c.device) (slot_of c.geometry c.buffer.cursor) (filled_of c.buffer) ≡ c.buffer.bytes
 
--- what a write of the buffer does to the device, also where it fails
+-- a write of the buffer is one call of the device, also where it fails
 pub record WritesBuffer (old new : Seen) (result : Result (Unit {0}) Failed) : Type 0 where
   pub keeps : Keeps 1 (filled_of old.buffer) old.device new.device
-  pub others : IsTold new.device → SameBut (slot_of old.geometry old.buffer.cursor) (filled_of old.buffer) old.device.seen new.device.seen
+  pub logs : Logs (Wrote (slot_of old.geometry old.buffer.cursor) old.buffer.bytes) result old.device new.device
   pub cause : HasCause old.device.faults new.device.faults result
 
 -- nothing changed but the room for more pieces, which may have grown, and what the device is
@@ -143,7 +188,7 @@ SameTape old new = new ≡ record old { device = new.device }
 
 -- nothing changed but the rows, and the room for more
 pub record SameButRows (old new : Seen) : Type 0 where
-  pub same : new ≡ record old { rows = new.rows; spare = new.spare }
+  pub same : new ≡ record old { rows = new.rows; stored = new.stored; spare = new.spare }
   pub spare : old.spare ≤ new.spare
 
 -- so many blocks from a place on stand in the buffer, or on the device within one lap
@@ -152,12 +197,13 @@ pub record IsStored (c : Seen) (place blocks : ℕ) : Type 0 where
   pub below : place + blocks ≤ next_place_of c.buffer
   pub lap : place + blocks ≤ lap_end_of c.geometry place
 
--- what a read of blocks from a place on gives
+-- what a read of blocks from a place on gives: those of the buffer, or by one call of the device
 pub record Reads (old new : Seen) (place blocks : ℕ) (result : Result (Unit {0}) Failed) (bytes : List ℕ) : Type 0 where
   pub keeps : Keeps 0 0 old.device new.device
-  pub same : SameSeen old.device new.device
+  pub logs : place < old.buffer.cursor → Logs (Read (slot_of old.geometry place) bytes) result old.device new.device
+  pub none : old.buffer.cursor ≤ place → new.device ≡ old.device
   pub length : length bytes ≡ 512 * blocks
   pub of_bytes : IsBytes bytes
   pub buffered : old.buffer.cursor ≤ place → bytes ≡ bytes_at old.buffer place blocks
-  pub given : OnOk result (place < old.buffer.cursor → IsTold new.device → bytes ≡ span old.device.seen (slot_of old.geometry place) blocks)
+  pub given : OnOk result (place < old.buffer.cursor → IsTrusted new.device → bytes ≡ span (content_of old.device) (slot_of old.geometry place) blocks)
   pub cause : HasCause old.device.faults new.device.faults result

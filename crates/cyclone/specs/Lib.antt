@@ -1,5 +1,5 @@
 pub mod Cyclone
-pub use Rattle.ats_disk.specs.Device
+pub use Rattle.logged_disk.specs.Device
 pub use Rattle.agg_buffer.specs.Buffer
 pub use Rattle.dir_table.specs.Rows
 pub use Rattle.tape_base.specs.Place

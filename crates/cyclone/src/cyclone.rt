@@ -3,23 +3,22 @@ ghost use Rattle.std.specs.Prelude.{◌≡◌, ◌+◌, ◌-◌, ◌*◌, ◌/�
 ghost use Rattle.tape_base.specs.Blocks.{blocks_of};
 ghost use Rattle.tape_base.specs.Digest.{digest_of};
 ghost use Rattle.tape_base.specs.Place.{floor_of};
-ghost use Rattle.ats_disk.specs.Device.{Grows};
 ghost use Rattle.doc_header.specs.Document.{digest_of_document, document_bytes};
 ghost use Rattle.doc_header.specs.Reading.{document_digest};
 ghost use Rattle.doc_header.specs.Moving.{moved_to};
 ghost use Rattle.agg_buffer.specs.Buffer.{IsWhole as IsWholePiece, blocks_in, filled_of, empty_buffer, next_place_of, room_of};
 ghost use Rattle.std.specs.Prelude.{[], ◌∷◌, false, IsOk, IsPermutation};
 ghost use Rattle.std.specs.Bool.{OnTrue};
-ghost use Rattle.ats_disk.specs.Device.{IsWhole};
+ghost use Rattle.logged_disk.specs.Device.{Affords, IsWhole, Keeps};
 ghost use Rattle.dir_table.specs.Window.{first_window};
-ghost use Rattle.dir_table.specs.Rows.{has_row};
+ghost use Rattle.dir_table.specs.Rows.{has_row, plain_rows};
 ghost use Rattle.dir_table.specs.Displacement.{none_displaced};
 
 use agg_buffer::AggBuffer;
-use ats_disk::Disk;
 use dir_table::{Directory, Displaced};
 use doc_header::{Doc, document_digest};
 use edge_io::Failed;
+use logged_disk::Disk;
 use std::alloc::{AllocError, Global};
 use tape_base::{BLOCK, Digest, Geometry, Key, PieceId, blocks_of, floor_of, next_cursor, slot};
 use write_cursor::Cursor;
@@ -41,7 +40,7 @@ pub struct Put {
 }
 
 impl<D: Disk, R: Directory + Drop> Cyclone<D, R> {
-    ghost use Rattle.cyclone.specs.Cyclone.{IsCyclone, HasBuffer, IsFresh, IsPut, IsMoved, BeginsNext, IsStored, Reads, SameButRoom, SameButRows, SameTape, WritesBuffer, row_of_piece, cursor_next, seen};
+    ghost use Rattle.cyclone.specs.Cyclone.{IsCyclone, HasBuffer, IsFresh, IsPut, EntersDoc, IsMoved, EntersCopy, TakesOutStored, BeginsNext, IsStored, Reads, SameButRoom, SameButRows, SameTape, WritesBuffer, row_of_piece, cursor_next, seen};
 
     /// An empty cyclone over a device, from the start of its second lap on. A refusal gives the
     /// device back.
@@ -124,15 +123,16 @@ impl<D: Disk, R: Directory + Drop> Cyclone<D, R> {
         floor_of(&self.geometry, self.buffer.cursor())
     }
 
-    /// Makes room for so many pieces, and on the device for so many more flushes.
+    /// Makes room for so many pieces, and on the device for at least so many flushes.
     pub fn prepare(&mut self, pieces: usize, flushes: u32) -> Result<(), AllocError>
         requires turns { IsCyclone D.Disk R.Directory self.old }
         ensures turns { IsCyclone D.Disk R.Directory self.new }
         ensures same { SameButRoom (seen D.Disk R.Directory self.old) (seen D.Disk R.Directory self.new) }
         ensures pieces { OnOk result (pieces ≤ (seen D.Disk R.Directory self.new).spare) }
         ensures device { let old = (seen D.Disk R.Directory self.old).device in
-            OnOk result (Grows flushes (flushes * (seen D.Disk R.Directory self.old).geometry.agg) old (seen D.Disk R.Directory self.new).device) }
-        ensures none { OnErr result (Grows 0 0 (seen D.Disk R.Directory self.old).device (seen D.Disk R.Directory self.new).device) }
+            OnOk result (Affords flushes (flushes * (seen D.Disk R.Directory self.old).geometry.agg) old (seen D.Disk R.Directory self.new).device) }
+        ensures none { OnErr result (Affords 0 0 (seen D.Disk R.Directory self.old).device (seen D.Disk R.Directory self.new).device) }
+        ensures keeps { Keeps 0 0 (seen D.Disk R.Directory self.old).device (seen D.Disk R.Directory self.new).device }
     {
         self.directory.reserve(pieces)?;
         self.disk
@@ -149,6 +149,7 @@ impl<D: Disk, R: Directory + Drop> Cyclone<D, R> {
         requires room { blocks_of (length payload.now) ≤ room_of (seen D.Disk R.Directory self.old).buffer }
         ensures turns { IsCyclone D.Disk R.Directory self.new }
         ensures put { IsPut R.purges (seen D.Disk R.Directory self.old) (seen D.Disk R.Directory self.new) doc.now payload.now }
+        ensures entered { EntersDoc R.purges (seen D.Disk R.Directory self.old) (seen D.Disk R.Directory self.new) doc.now payload.now }
         ensures payload { result.payload ≡ digest_of payload.now }
         ensures document { result.document ≡ digest_of_document doc.now payload.now }
         // Who reads it back finds this digest.
@@ -178,6 +179,7 @@ impl<D: Disk, R: Directory + Drop> Cyclone<D, R> {
         requires room { blocks_in bytes.now ≤ room_of (seen D.Disk R.Directory self.old).buffer }
         ensures turns { IsCyclone D.Disk R.Directory self.new }
         ensures moved { IsMoved R.purges (seen D.Disk R.Directory self.old) (seen D.Disk R.Directory self.new) id from bytes.now }
+        ensures entered { EntersCopy R.purges (seen D.Disk R.Directory self.old) (seen D.Disk R.Directory self.new) id from (blocks_in bytes.now) pinned }
         ensures document { result ≡ document_digest (moved_to (next_place_of (seen D.Disk R.Directory self.old).buffer) bytes.now) }
         ensures size { length (moved_to (next_place_of (seen D.Disk R.Directory self.old).buffer) bytes.now) ≡ length bytes.now }
     {
@@ -253,13 +255,16 @@ impl<D: Disk, R: Directory + Drop> Cyclone<D, R> {
         ensures gone { OnTrue result (IsPermutation (seen D.Disk R.Directory self.old).rows
             (row_of_piece (seen D.Disk R.Directory self.old) id place ∷ (seen D.Disk R.Directory self.new).rows)) }
         ensures none { result ≡ false → (seen D.Disk R.Directory self.new).rows ≡ (seen D.Disk R.Directory self.old).rows }
+        ensures stored { TakesOutStored (row_of_piece (seen D.Disk R.Directory self.old) id place)
+            (seen D.Disk R.Directory self.old).stored (seen D.Disk R.Directory self.new).stored }
     {
         self.directory.delete(Key::of_piece(id), place)
     }
 
     /// The directory, for walks.
     pub fn directory(&self) -> &R
-        ensures rows { R.rows result.now ≡ (seen D.Disk R.Directory self.now).rows }
+        ensures rows { plain_rows (R.rows result.now) ≡ (seen D.Disk R.Directory self.now).rows }
+        ensures stored { R.rows result.now ≡ (seen D.Disk R.Directory self.now).stored }
         ensures window { R.window result.now ≡ (seen D.Disk R.Directory self.now).window }
         ensures displaced { R.displaced result.now ≡ (seen D.Disk R.Directory self.now).displaced }
     {

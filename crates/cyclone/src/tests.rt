@@ -3,9 +3,9 @@ ghost use Rattle.std.specs.Prelude.{◌≤◌, IfOk, length};
 ghost use Rattle.cyclone.specs.Cyclone.{IsCyclone};
 
 use crate::Cyclone;
-use ats_disk::{Disk, MemDisk};
 use dir_table::{Directory, ListDirectory};
 use doc_header::{Doc, read_doc};
+use logged_disk::{Disk, MemDisk};
 use std::test::Fail;
 use tape_base::{Geometry, Key, PieceId, blocks_of};
 
@@ -24,7 +24,7 @@ fn empty(rt: &impl AllocGlobal) -> Result<Cyclone<MemDisk, ListDirectory>, Fail>
     ensures { IfOk result (λ c. IsCyclone ⟦<MemDisk as Disk>⟧ ⟦<ListDirectory as Directory>⟧ c) }
 {
     let g = Geometry::check(1, 64, 64, 8, 16, 4, GENERATION).map_err(|_| "refused")?;
-    let disk = MemDisk::new(rt.alloc(), 64)?;
+    let disk = MemDisk::new(rt.alloc(), 0, 64);
     if disk.blocks() < g.content {
         return Err("a short device".into());
     }
