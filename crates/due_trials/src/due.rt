@@ -5,10 +5,10 @@ ghost use Rattle.due_trials.specs.Rest.{IsAtRest};
 ghost use Rattle.stripe_write.specs.Writers.{IsWriterOf};
 
 use alternate_vector::Fields;
-use ats_disk::{Disk, MemDisk};
 use cache_chronicle::{Chronicle, FullChronicle, Rec};
 use cache_model::{NextAnswer, ReadAnswer};
 use dir_table::{Directory, ListDirectory};
+use logged_disk::{Disk, MemDisk};
 use record_trials::add;
 use std::test::Fail;
 use stripe_core::Stripe;

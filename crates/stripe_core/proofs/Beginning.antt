@@ -3,7 +3,8 @@ use Rattle.std.proofs.Common.{◌≡◌, ℕ, ◌+◌, ◌<◌, ◌≤◌, ◌�
 use Rattle.std.specs.Prelude.{map, nat_le}
 use Rattle.std.specs.List.{AllByRecursion}
 use Rattle.tape_base.specs.Place.{floor_of, slot_of}
-use Rattle.ats_disk.specs.Device.{State as Device, IsTold, span}
+use Rattle.device_log.specs.Image.{span}
+use Rattle.logged_disk.specs.Device.{State as Device, TellsAll, seen as content_of}
 use Rattle.doc_header.specs.Reading.{document_digest}
 use Rattle.dir_table.specs.declared.rows.DirRow.{DirRow}
 use Rattle.dir_table.specs.declared.window.Window.{Window}
@@ -53,11 +54,14 @@ module _ (s : State) (c new : Seen) (held : IsHeld s c) (out : IsWrittenOut c) (
   new_end : new.window.end ≡ cursor_next s
   new_end = ap (λ (w : Window). w.end) begins.window ∙ cursor_is
 
-  low_is : begins.rows.low ≤ floor_next s
-  low_is = subst (λ n. begins.rows.low ≤ n) (ap (λ g. floor_of g (cursor_behind c)) held.geometry ∙ ap (floor_of s.geometry) cursor_is) begins.rows.unreadable
+  abbrev low : ℕ
+  low = floor_of c.geometry (cursor_behind c)
 
-  entries_are : (x : DirRow) → times x new.rows ≡ kept (nat_le begins.rows.low x.place) (times x c.rows)
-  entries_are x = times-permutation x (rows_from begins.rows.low c.rows) new.rows begins.rows.kept ∙ times-filter (nat_le begins.rows.low) x c.rows
+  low_is : low ≤ floor_next s
+  low_is = omega (arith, ap (λ g. floor_of g (cursor_behind c)) held.geometry ∙ ap (floor_of s.geometry) cursor_is)
+
+  entries_are : (x : DirRow) → times x new.rows ≡ kept (nat_le low x.place) (times x c.rows)
+  entries_are x = times-permutation x (rows_from low c.rows) new.rows begins.rows ∙ times-filter (nat_le low) x c.rows
 
   count_at : (x : DirRow) → kept (is_between new.window.floor new.window.end x.place) (times x new.rows) ≡ kept (nat_le (floor_now after) x.place) (times x (map (entry_of s.geometry) s.rows))
   count_at x =
@@ -68,33 +72,33 @@ module _ (s : State) (c new : Seen) (held : IsHeld s c) (out : IsWrittenOut c) (
       let up : c.window.floor ≤ floor_next s = omega (arith, start, behind) in
       let on : c.window.end ≤ cursor_next s = omega (arith, end_is s c held, behind) in
       rw (new_floor, new_end, entries_are x)
-      (later_between c.window.floor (floor_next s) c.window.end (cursor_next s) begins.rows.low x.place (times x c.rows) pieces up low_is on (none_behind c x held.turning) old)
+      (later_between c.window.floor (floor_next s) c.window.end (cursor_next s) low x.place (times x c.rows) pieces up low_is on (none_behind c x held.turning) old)
 
   counts : AreCounted after new
   counts = record { each = count_at }
 
   -- a piece that was written before, or that this buffer wrote, is intact
-  was_intact : (row : Row) → IsTold c.device → row.place + row.blocks ≤ place_now s → 0 < row.blocks → IsIntactWhereWritten s c.device.seen row → IsBufferedWhereNew c.buffer row
-      → floor_next s ≤ row.place → ((s.cursor ≤ row.place) ⊎ (row.place < s.cursor)) → document_digest (span c.device.seen (slot_of s.geometry row.place) row.blocks) ≡ row.digest
-  was_intact row told ends some written buffered low (inl above) =
-      subst (λ g. document_digest (span c.device.seen (slot_of g row.place) row.blocks) ≡ row.digest) held.geometry
-      (written_intact c.geometry c.buffer c.device.seen row held.turning.few held.turning.lap (λ j. out.whole j told) (out.written told) some
+  was_intact : (row : Row) → row.place + row.blocks ≤ place_now s → 0 < row.blocks → IsIntactWhereWritten s (content_of c.device) row → IsBufferedWhereNew c.buffer row
+      → floor_next s ≤ row.place → ((s.cursor ≤ row.place) ⊎ (row.place < s.cursor)) → document_digest (span (content_of c.device) (slot_of s.geometry row.place) row.blocks) ≡ row.digest
+  was_intact row ends some written buffered low (inl above) =
+      subst (λ g. document_digest (span (content_of c.device) (slot_of g row.place) row.blocks) ≡ row.digest) held.geometry
+      (written_intact c.geometry c.buffer (content_of c.device) row held.turning.few held.turning.lap out.whole out.written some
       (buffered (let same : c.buffer.cursor ≡ s.cursor = held.cursor in omega (arith, same, above))))
-  was_intact row told ends some written buffered low (inr below) = (written (omega (arith, low, behind)) below).digest
+  was_intact row ends some written buffered low (inr below) = (written (omega (arith, low, behind)) below).digest
 
   either_side : (a b : ℕ) → ((a ≤ b) ⊎ (b < a))
   either_side a b = grind arith
 
-  all_intact : (low : ℕ) (rows : List Row) → IsTold c.device → AreRising low rows (place_now s) → AllByRecursion (IsIntactWhereWritten s c.device.seen) rows
-      → AllByRecursion (IsBufferedWhereNew c.buffer) rows → AllByRecursion (IsIntactWhereWritten after c.device.seen) rows
-  all_intact low [] told rising written buffered = tt
-  all_intact low (row ∷ rows) told rising written buffered =
+  all_intact : (low : ℕ) (rows : List Row) → AreRising low rows (place_now s) → AllByRecursion (IsIntactWhereWritten s (content_of c.device)) rows
+      → AllByRecursion (IsBufferedWhereNew c.buffer) rows → AllByRecursion (IsIntactWhereWritten after (content_of c.device)) rows
+  all_intact low [] rising written buffered = tt
+  all_intact low (row ∷ rows) rising written buffered =
       let ends : row.place + row.blocks ≤ place_now s = rising_ends (row.place + row.blocks) rows (place_now s) rising.2 in (
         λ from below. record {
           ends = omega (arith, ends, behind);
-          digest = was_intact row told ends rising.1 written.0 buffered.0 from (either_side s.cursor row.place);
+          digest = was_intact row ends rising.1 written.0 buffered.0 from (either_side s.cursor row.place);
         },
-        all_intact (row.place + row.blocks) rows told rising.2 written.1 buffered.1,
+        all_intact (row.place + row.blocks) rows rising.2 written.1 buffered.1,
       )
 
   begun_is_held_here : IsHeld after new
@@ -106,8 +110,8 @@ module _ (s : State) (c new : Seen) (held : IsHeld s c) (out : IsWrittenOut c) (
     filled = new_filled;
     entered = entered after new counts;
     buffered = none_new new.buffer s.geometry.content (place_now s) s.rows held.sound.rising (omega (arith, new_cursor, behind));
-    intact = subst (λ (d : Device). IsTold d → AllByRecursion (IsIntactWhereWritten after d.seen) s.rows) (sym begins.device)
-        (λ told. all_intact s.geometry.content s.rows told held.sound.rising (held.intact told) held.buffered);
+    intact = subst (λ (d : Device). TellsAll d → AllByRecursion (IsIntactWhereWritten after (content_of d)) s.rows) (sym begins.device)
+        (λ told. all_intact s.geometry.content s.rows held.sound.rising (held.intact told) held.buffered);
     laps = held.laps;
     faults = subst (λ n. s.fault ≤ n) (sym (ap (λ (d : Device). d.faults) begins.device)) held.faults;
   }

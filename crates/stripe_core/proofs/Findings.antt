@@ -1,16 +1,19 @@
 -- What was read of a live piece, and what it tells.
 use Rattle.std.proofs.Common.{◌≡◌, ℕ, ◌*◌, ◌/◌, ◌<◌, ◌≤◌, List, [], ◌∷◌, refl, sym, ◌∙◌, ap, subst, arith, length, inl, inr, Result, Ok, Err, ◌⊎◌}
 use Rattle.std.proofs.lemmas.Bool.{leb-true}
-use Rattle.ats_disk.proofs.Spans.{span_same}
+use Rattle.device_log.proofs.Spans.{span_same}
 use Rattle.std.specs.Prelude.{Some, IsOk, max}
 use Rattle.edge_io.specs.Causes.{Rose}
 use Rattle.edge_io.specs.declared.source.Failed.{Failed}
 use Rattle.tape_base.specs.declared.pieces.PieceId.{PieceId}
 use Rattle.tape_base.specs.declared.digests.Digest.{Digest}
 use Rattle.tape_base.specs.Place.{slot_of}
-use Rattle.ats_disk.specs.Device.{IsTold, span}
+use Rattle.device_log.specs.Image.{span}
+use Rattle.logged_disk.specs.Device.{IsTrusted, TellsAll, seen as content_of}
+use Rattle.logged_disk.proofs.GoingOn.{told_before}
 use Rattle.doc_header.specs.Reading.{document_digest}
 use Rattle.cyclone.specs.Cyclone.{Reads, Seen}
+use Rattle.cyclone.proofs.Calls.{reads_go_on, reads_same}
 use Rattle.cache_model.specs.declared.cause.Cause.{Cause}
 use Rattle.cache_model.specs.declared.cause.Cause.TheVariants as cause
 use Rattle.cache_model.specs.State.{State, Row, floor_now, live_row_of, row_in}
@@ -55,12 +58,12 @@ module _ (s : State) (c new : Seen) (id : PieceId) (row : Row) (bytes into : Lis
   abbrev given : DeviceRead
   given = record { place = row.place; bytes = bytes }
 
-  shown : row.place < s.cursor → IsTold new.device → bytes ≡ span new.device.seen (slot_of s.geometry row.place) (length bytes / 512)
-  shown below told =
+  shown : row.place < s.cursor → IsTrusted new.device → bytes ≡ span (content_of new.device) (slot_of s.geometry row.place) (length bytes / 512)
+  shown below trusted =
       let count : row.blocks ≡ length bytes / 512 = omega (arith, whole) in
-      read.given (omega (arith, below, held.cursor)) told
-      ∙ (span_same c.device.seen new.device.seen (slot_of c.geometry row.place) row.blocks (λ j low high. sym (read.same told j))
-      ∙ (ap (λ g. span new.device.seen (slot_of g row.place) row.blocks) held.geometry ∙ ap (span new.device.seen (slot_of s.geometry row.place)) count))
+      read.given (omega (arith, below, held.cursor)) trusted
+      ∙ (span_same (content_of c.device) (content_of new.device) (slot_of c.geometry row.place) row.blocks (λ j low high. sym (reads_same c new row.place row.blocks (Ok tt) bytes read j))
+      ∙ (ap (λ g. span (content_of new.device) (slot_of g row.place) row.blocks) held.geometry ∙ ap (span (content_of new.device) (slot_of s.geometry row.place)) count))
 
   is_given : (p : Permit) → row.place < s.cursor → IsAmong given p.reads → IsGiven p s row bytes
   is_given p below among = record { written = below; given = among; whole = whole; of_bytes = read.of_bytes }
@@ -93,15 +96,15 @@ module _ (s : State) (c new : Seen) (id : PieceId) (row : Row) (bytes into : Lis
   }
 
   -- where the device tells its content, what was read has the recorded digest
-  pub right_by : ((s.cursor ≤ row.place) ⊎ (row.place < s.cursor)) → IsTold new.device → row.digest ≡ document_digest bytes
+  pub right_by : ((s.cursor ≤ row.place) ⊎ (row.place < s.cursor)) → TellsAll new.device → row.digest ≡ document_digest bytes
   right_by (inl above) told = own_digest above
   right_by (inr below) told =
-      let before : IsTold c.device = omega (arith, told, read.keeps.trust) in
+      let before : TellsAll c.device = told_before c.device new.device (reads_go_on c new row.place row.blocks (Ok tt) bytes read) told in
       let found = live_is s (row_in s.rows id) row live in
-      let i = found_row (IsIntactWhereWritten s c.device.seen) id s.rows row (held.intact before) found.0 (leb-true (floor_now s) row.place found.1) below in
-      sym (ap document_digest (read.given (omega (arith, below, held.cursor)) told ∙ ap (λ g. span c.device.seen (slot_of g row.place) row.blocks) held.geometry) ∙ i.digest)
+      let i = found_row (IsIntactWhereWritten s (content_of c.device)) id s.rows row (held.intact before) found.0 (leb-true (floor_now s) row.place found.1) below in
+      sym (ap document_digest (read.given (omega (arith, below, held.cursor)) told.trusted ∙ ap (λ g. span (content_of c.device) (slot_of g row.place) row.blocks) held.geometry) ∙ i.digest)
 
-  no_damage_by : (answer : Found) → ((s.cursor ≤ row.place) ⊎ (row.place < s.cursor)) → IsJudged row.place row.digest bytes answer into → IsTold new.device → TellNoDamage (find_adds s id answer)
+  no_damage_by : (answer : Found) → ((s.cursor ≤ row.place) ⊎ (row.place < s.cursor)) → IsJudged row.place row.digest bytes answer into → TellsAll new.device → TellNoDamage (find_adds s id answer)
   no_damage_by (found.Found size) side j told = rw live tt
   no_damage_by (found.Missing why) side j told = absurd (j.1 (right_by side told))
 
@@ -118,7 +121,7 @@ finds_read s c new id place blocks kept bytes into answer held r read j =
     finds_by s c new id r.row bytes into held r.live here answer (either_side s.cursor r.row.place) judged
 
 pub finds_no_damage : (s : State) (c new : Seen) (id : PieceId) (place blocks : ℕ) (kept : Digest) (bytes into : List ℕ) (answer : Found) → IsHeld s c
-    → IsRecorded s id place blocks kept → Reads c new place blocks (Ok tt) bytes → IsJudged place kept bytes answer into → IsTold new.device → TellNoDamage (find_adds s id answer)
+    → IsRecorded s id place blocks kept → Reads c new place blocks (Ok tt) bytes → IsJudged place kept bytes answer into → TellsAll new.device → TellNoDamage (find_adds s id answer)
 finds_no_damage s c new id place blocks kept bytes into answer held r read j told =
     let here : Reads c new r.row.place r.row.blocks (Ok tt) bytes =
     subst (λ n. Reads c new r.row.place n (Ok tt) bytes) (sym r.blocks_is) (subst (λ p. Reads c new p blocks (Ok tt) bytes) (sym r.place_is) read) in

@@ -6,7 +6,9 @@ use Rattle.std.proofs.lemmas.Bool.{leb-true, leb-false, lt-leb}
 use Rattle.tape_base.specs.declared.pieces.PieceId.{PieceId}
 use Rattle.tape_base.specs.Piece.{key_of_piece, same_piece}
 use Rattle.std.specs.Prelude.{Result, Ok, Err, OnOk, OnErr}
-use Rattle.ats_disk.specs.Device.{State as Device, Grows, Image, IsTold, SameBut, SameSeen}
+use Rattle.device_log.specs.Image.{Image, SameBut}
+use Rattle.logged_disk.specs.Device.{State as Device, Affords, IsAfter, Keeps, TellsAll, SeenStays, seen as content_of}
+use Rattle.logged_disk.proofs.GoingOn.{goes_by_none, same_past, told_before}
 use Rattle.tape_base.specs.Place.{slot_of}
 use Rattle.dir_table.specs.declared.rows.DirRow.{DirRow}
 use Rattle.dir_table.specs.Rows.{row_of_key}
@@ -17,6 +19,7 @@ use Rattle.cache_model.specs.Tape.{AreApart, AreRising}
 use Rattle.cache_model.proofs.Lists.{own_piece}
 use Rattle.stripe_core.specs.Held.{IsBufferedWhereNew, IsHeld, IsInLap, IsIntactWhereWritten, entry_of, rows_in_range, same_entry, times}
 use Rattle.stripe_core.specs.Records.{IsAlike, IsWithout, SparesPieces}
+use Rattle.stripe_core.specs.Stripe.{IsStill}
 use Rattle.stripe_core.proofs.Intact.{each_same_intact, each_stays_intact}
 use Rattle.stripe_core.proofs.Entries.{kept, one_more, times-permutation, times-without, same_entry-true}
 use Rattle.stripe_core.proofs.Counts.{is_between, fewer_between}
@@ -107,7 +110,7 @@ module _ (s t : State) (c new : Seen) (id : PieceId) (row : Row) (held : IsHeld 
     filled = ap (λ (y : Seen). filled_of y.buffer) rest.same ∙ (held.filled ∙ sym gone.filled);
     entered = entered t new (record { each = count_at });
     buffered = rw (gone.rows, ap (λ (y : Seen). y.buffer) rest.same) (all_left (IsBufferedWhereNew c.buffer) id s.rows held.buffered);
-    intact = subst (λ (d : Device). IsTold d → AllByRecursion (IsIntactWhereWritten t d.seen) t.rows) (sym (ap (λ (y : Seen). y.device) rest.same)) (left_intact s t c.device.seen id gone held.intact);
+    intact = subst (λ (d : Device). TellsAll d → AllByRecursion (IsIntactWhereWritten t (content_of d)) t.rows) (sym (ap (λ (y : Seen). y.device) rest.same)) (left_intact s t (content_of c.device) id gone held.intact);
     laps = rw (gone.geometry, gone.rows) (all_left (IsInLap s.geometry) id s.rows held.laps);
     faults = rw (gone.fault, ap (λ (y : Seen). y.device) rest.same) held.faults;
   }
@@ -152,7 +155,7 @@ passed_is_held s t c id held none gone = record {
         rw (gone.geometry, gone.cursor, gone.rows) ((counted s c held.entered).each x ∙ sym (same_live s id x (row_in s.rows id) refl held.sound.apart none));
   });
   buffered = rw gone.rows (all_left (IsBufferedWhereNew c.buffer) id s.rows held.buffered);
-  intact = left_intact s t c.device.seen id gone held.intact;
+  intact = left_intact s t (content_of c.device) id gone held.intact;
   laps = rw (gone.geometry, gone.rows) (all_left (IsInLap s.geometry) id s.rows held.laps);
   faults = rw gone.fault held.faults;
 }
@@ -169,19 +172,19 @@ alike_is_held s t c held alike faults = record {
   entered = entered t c (record { each = λ x. rw (alike.geometry, alike.cursor, alike.rows) ((counted s c held.entered).each x) });
   buffered = rw alike.rows held.buffered;
   intact = λ told.
-      subst (λ rs. AllByRecursion (IsIntactWhereWritten t c.device.seen) rs) (sym alike.rows)
-      (each_same_intact s t c.device.seen s.rows (sym alike.geometry) (sym alike.cursor) (held.intact told));
+      subst (λ rs. AllByRecursion (IsIntactWhereWritten t (content_of c.device)) rs) (sym alike.rows)
+      (each_same_intact s t (content_of c.device) s.rows (sym alike.geometry) (sym alike.cursor) (held.intact told));
   laps = rw (alike.geometry, alike.rows) held.laps;
   faults = faults;
 }
 
 -- what was written out stays intact on a device that changes no more than where the buffer is written
-spared_intact : (s : State) (c : Seen) (device : Device) → IsHeld s c → SparesPieces c device → IsTold device → AllByRecursion (IsIntactWhereWritten s device.seen) s.rows
+spared_intact : (s : State) (c : Seen) (device : Device) → IsHeld s c → SparesPieces c device → TellsAll device → AllByRecursion (IsIntactWhereWritten s (content_of device)) s.rows
 spared_intact s c device held spares told =
     let at : slot_of c.geometry c.buffer.cursor ≡ slot_of s.geometry s.cursor = ap (λ g. slot_of g c.buffer.cursor) held.geometry ∙ ap (slot_of s.geometry) held.cursor in
-    let before : IsTold c.device = omega (arith, told, spares.trust) in
-    each_stays_intact s s.filled c.device.seen device.seen s.rows held.sound.room
-    (subst (λ n. SameBut n s.filled c.device.seen device.seen) at (subst (λ n. SameBut (slot_of c.geometry c.buffer.cursor) n c.device.seen device.seen) held.filled (spares.others told)))
+    let before : TellsAll c.device = told_before c.device device spares.goes told in
+    each_stays_intact s s.filled (content_of c.device) (content_of device) s.rows held.sound.room
+    (subst (λ n. SameBut n s.filled (content_of c.device) (content_of device)) at (subst (λ n. SameBut (slot_of c.geometry c.buffer.cursor) n (content_of c.device) (content_of device)) held.filled (spares.others)))
     (held.intact before)
 
 pub device_may_change : (s : State) (c new : Seen) → IsHeld s c → SameTape c new → IsTurning new → SparesPieces c new.device → IsHeld s new
@@ -213,13 +216,25 @@ room_may_grow s c new held same turning spares = record {
 }
 
 -- a device that shows what it showed spares all pieces
-pub shows_same : (c : Seen) (device : Device) → c.device.faults ≤ device.faults → device.trust ≤ c.device.trust → SameSeen c.device device → SparesPieces c device
-shows_same c device later trust same = record { later = later; trust = trust; others = λ told j beside. same told j }
+pub shows_same : (c : Seen) (device : Device) → c.device.faults ≤ device.faults → IsAfter c.device device → SeenStays c.device device → SparesPieces c device
+shows_same c device later goes same = record { later = later; goes = goes; others = λ j beside. same j }
 
-grown : (calls blocks : ℕ) (c : Seen) (device : Device) → Grows calls blocks c.device device → SparesPieces c device
-grown calls blocks c device grows = shows_same c device (let same : device.faults ≡ c.device.faults = grows.faults in omega arith) grows.trust grows.seen
+-- a device that makes room stays as it is
+pub afforded : (calls blocks : ℕ) (old new : Device) → Keeps 0 0 old new → Affords calls blocks old new → IsStill old new
+afforded calls blocks old new keeps affords = record {
+  goes = goes_by_none 0 0 old new keeps affords.past;
+  seen = same_past old new keeps.first affords.past;
+  faults = affords.faults;
+}
 
--- and so does one that makes room, whether that is found or not
-pub steady : {X E : Type 0} (r : Result X E) (calls blocks : ℕ) (c : Seen) (device : Device) → OnOk r (Grows calls blocks c.device device) → OnErr r (Grows 0 0 c.device device) → SparesPieces c device
-steady (Ok x) calls blocks c device ok err = grown calls blocks c device ok
-steady (Err e) calls blocks c device ok err = grown 0 0 c device err
+-- whether that is found or not
+pub still_of : {X E : Type 0} (r : Result X E) (calls blocks : ℕ) (old new : Device) → Keeps 0 0 old new → OnOk r (Affords calls blocks old new) → OnErr r (Affords 0 0 old new) → IsStill old new
+still_of (Ok x) calls blocks old new keeps ok err = afforded calls blocks old new keeps ok
+still_of (Err e) calls blocks old new keeps ok err = afforded 0 0 old new keeps err
+
+still_spares : (c : Seen) (device : Device) → IsStill c.device device → SparesPieces c device
+still_spares c device still = shows_same c device (let same : device.faults ≡ c.device.faults = still.faults in omega arith) still.goes still.seen
+
+-- and so it spares all pieces
+pub steady : {X E : Type 0} (r : Result X E) (calls blocks : ℕ) (c : Seen) (device : Device) → Keeps 0 0 c.device device → OnOk r (Affords calls blocks c.device device) → OnErr r (Affords 0 0 c.device device) → SparesPieces c device
+steady r calls blocks c device keeps ok err = still_spares c device (still_of r calls blocks c.device device keeps ok err)

@@ -10,7 +10,7 @@ use Rattle.tape_base.specs.Digest.{digest_of}
 use Rattle.tape_base.specs.Geometry.{budget_of}
 use Rattle.tape_base.specs.Piece.{is_vector, same_piece}
 use Rattle.fragment_table.specs.Table.{total_length}
-use Rattle.ats_disk.specs.Device.{State as Device, IsTold}
+use Rattle.logged_disk.specs.Device.{State as Device, TellsAll}
 use Rattle.cache_model.specs.declared.record.Rec.{Rec}
 use Rattle.cache_model.specs.declared.record.Rec.TheVariants as rec
 use Rattle.cache_model.specs.Verdict.{cuts_of}
@@ -211,7 +211,7 @@ module _ (now : ℕ) (old mid : Kept) (before : ℕ) (device : Device) (id : Pie
             ∙ (with_records-append old r.added (place_adds (state_of mid) id pin start payload result)
             ∙ ap (λ x. with_records old (r.added ++ place_adds x id pin start payload result)) mid_is));
         shape = shape_by after.faults result here there;
-        unharmed = λ told. all_append (λ r. tells_damage r ≡ false) r.added _ (r.unharmed (subst IsTold still told)) (no_damage_adds t id pin start payload result);
+        unharmed = λ told. all_append (λ r. tells_damage r ≡ false) r.added _ (r.unharmed (subst TellsAll still told)) (no_damage_adds t id pin start payload result);
         does = λ p moment covers.
             by_room p result covers.plain (r.does p moment (subst (λ (d : Device). Covers p before d.faults r.reads) still covers)) f small here there (has_room s (length payload)) refl;
       }

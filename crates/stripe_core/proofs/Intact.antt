@@ -4,8 +4,8 @@ use Rattle.std.specs.List.{AllByRecursion}
 use Rattle.std.proofs.Math.Nat.{div-add-mod, lt_of_mul-lt-mul_left, mul-le-mul_left}
 use Rattle.tape_base.specs.declared.geometries.Geometry.{Geometry}
 use Rattle.tape_base.specs.Place.{floor_of, lap_end_of, slot_of}
-use Rattle.ats_disk.specs.Device.{Image, SameBut, span}
-use Rattle.ats_disk.proofs.Spans.{length-span, span_apart, span_more}
+use Rattle.device_log.specs.Image.{Image, SameBut, span}
+use Rattle.device_log.proofs.Spans.{length-span, span_apart, span_more}
 use Rattle.doc_header.specs.Reading.{document_digest}
 use Rattle.agg_buffer.specs.Buffer.{Buffer, bytes_at, filled_of}
 use Rattle.cache_model.specs.State.{Row, State}

@@ -3,7 +3,6 @@ use Rattle.std.proofs.Common.{◌≡◌, ℕ, zero, suc, ◌+◌, ◌<◌, List,
 use Rattle.std.specs.Prelude.{Option, Some, if◌then◌else◌, nat_le, slice_get, slice_index, slice_index_or}
 use Rattle.std.specs.List.{AllByRecursion}
 use Rattle.std.proofs.lemmas.List.{length-map, take-take}
-use Rattle.ats_disk.specs.Device.{Keeps, State as Device}
 use Rattle.evacuator.specs.declared.choosing.Candidate.{Candidate}
 use Rattle.evacuator.specs.Choice.{IsChoice, blocks_of_all, kept_blocks}
 use Rattle.cyclone.specs.Cyclone.{SameTape, Seen}
@@ -78,11 +77,3 @@ taken_on candidates marks i at end h k is goes =
 
 pub tape_on : (a b c : Seen) → SameTape a b → SameTape b c → SameTape a c
 tape_on a b c first last = last ∙ ap (λ (y : Seen). record y { device = c.device }) first
-
-pub keeps_on : (a b c : Device) → Keeps 0 0 a b → Keeps 0 0 b c → Keeps 0 0 a c
-keeps_on a b c first last = record {
-  size = last.size ∙ first.size;
-  trust = omega (arith, first.trust, last.trust);
-  calls = omega (arith, first.calls, last.calls);
-  blocks = omega (arith, first.blocks, last.blocks);
-}

@@ -8,7 +8,9 @@ use Rattle.edge_io.specs.declared.source.Failed.{Failed}
 use Rattle.agg_buffer.specs.Buffer.{filled_of}
 use Rattle.cyclone.specs.Cyclone.{SameTape, Seen, WritesBuffer}
 use Rattle.tape_base.specs.Geometry.{budget_of}
-use Rattle.ats_disk.specs.Device.{State as Device, Keeps}
+use Rattle.logged_disk.specs.Device.{State as Device, IsAfter, IsAsked}
+use Rattle.logged_disk.proofs.GoingOn.{goes_further, told_before}
+use Rattle.cyclone.proofs.Calls.{write_goes_on}
 use Rattle.cache_model.specs.declared.record.Rec.{Rec}
 use Rattle.cache_model.specs.declared.record.Rec.TheVariants as rec
 use Rattle.cache_model.specs.State.{Row, State, after_all, cursor_next, floor_next, live_rows, state_after}
@@ -169,10 +171,10 @@ stopped_unharmed rows outcomes count h = all_append (λ r. tells_damage r ≡ fa
 
 -- ---- what was asked
 
--- the device was asked once more
+-- the device was called once more
 pub record IsLaterDevice (mid after : Device) : Type 0 where
   pub faults : mid.faults ≤ after.faults
-  pub trust : after.trust ≤ mid.trust
+  pub goes : IsAfter mid after
 
 earlier_covers : (p : Permit) (before mid after : ℕ) (reads : List DeviceRead) → mid ≤ after → Covers p before after reads → Covers p before mid reads
 earlier_covers p before mid after reads later c = record { plain = c.plain; from = c.from; upto = omega (arith, later, c.upto); knows = c.knows }
@@ -191,7 +193,7 @@ flush_asked now old new before mid after a flushed sound able looks later is =
       adds = adds;
       kinds = flush_kinds s (due_pieces s now) looks.outcomes;
       live = subst (LiveBefore s) (sym (ap state_of adds ∙ state_of-with_records old added)) (flush_before s now looks.outcomes sound (later_began s sound).floor);
-      unharmed = λ told. flush_unharmed s (due_pieces s now) looks.outcomes (looks.unharmed (omega (arith, told, later.trust)));
+      unharmed = λ told. flush_unharmed s (due_pieces s now) looks.outcomes (looks.unharmed (told_before mid after later.goes told));
       does = λ p moment covers. Legal.DoesFlush.flushes (record {
         outcomes = looks.outcomes;
         can = able;
@@ -222,7 +224,7 @@ stop_asked now old new before mid after a sound able low first looks later rose 
       adds = adds;
       kinds = stopped_kinds (due_pieces s now) looks.outcomes count;
       live = subst (LiveBefore s) (sym (ap state_of adds ∙ state_of-with_records old added)) (stopped_before s (due_pieces s now) looks.outcomes count);
-      unharmed = λ told. stopped_unharmed (due_pieces s now) looks.outcomes count (looks.unharmed (omega (arith, told, later.trust)));
+      unharmed = λ told. stopped_unharmed (due_pieces s now) looks.outcomes count (looks.unharmed (told_before mid after later.goes told));
       does = λ p moment covers. Legal.DoesFlush.stops count (record {
         outcomes = looks.outcomes;
         can = able;
@@ -235,10 +237,11 @@ stop_asked now old new before mid after a sound able low first looks later rose 
 
 -- ---- what it uses up
 
-pub flush_uses : (n e records entries room left : ℕ) (c mid out new : Seen) (result : Result (Unit {0}) Failed) → SameTape c mid → Keeps 0 0 c.device mid.device → c.device.faults ≤ mid.device.faults
+pub flush_uses : (n e records entries room left : ℕ) (c mid out new : Seen) (result : Result (Unit {0}) Failed) → SameTape c mid → IsAsked c.device mid.device
     → SameTape mid out → WritesBuffer mid out result → filled_of c.buffer ≤ c.geometry.agg → Uses n e 0 0 room left out new → n ≤ records → e ≤ entries
     → Uses records entries 1 c.geometry.agg room left c new
-flush_uses n e records entries room left c mid out new result first read later second wrote few uses fits enters =
+flush_uses n e records entries room left c mid out new result first asked second wrote few uses fits enters =
+    let read = asked.keeps in
     let geometry : out.geometry ≡ c.geometry = ap (λ (y : Seen). y.geometry) second ∙ ap (λ (y : Seen). y.geometry) first in
     let spare : out.spare ≡ c.spare = ap (λ (y : Seen). y.spare) second ∙ ap (λ (y : Seen). y.spare) first in
     let filled : filled_of mid.buffer ≡ filled_of c.buffer = ap (λ (y : Seen). filled_of y.buffer) first in
@@ -249,8 +252,13 @@ flush_uses n e records entries room left c mid out new result first read later s
       device = record {
         size = uses.device.size ∙ (wrote.keeps.size ∙ read.size);
         trust = omega (arith, uses.device.trust, wrote.keeps.trust, read.trust);
+        number = uses.device.number ∙ (wrote.keeps.number ∙ read.number);
+        switch = uses.device.switch ∙ (wrote.keeps.switch ∙ read.switch);
+        settled = uses.device.settled ∙ (wrote.keeps.settled ∙ read.settled);
+        first = uses.device.first ∙ (wrote.keeps.first ∙ read.first);
         calls = omega (arith, uses.device.calls, wrote.keeps.calls, read.calls);
         blocks = omega (arith, uses.device.blocks, wrote.keeps.blocks, read.blocks, filled, few);
       };
-      later = omega (arith, uses.later, wrote.cause.later, later);
+      goes = goes_further c.device mid.device new.device asked.goes (goes_further mid.device out.device new.device (write_goes_on mid out result wrote) uses.goes);
+      later = omega (arith, uses.later, wrote.cause.later, asked.later);
     }

@@ -12,10 +12,9 @@ use Rattle.doc_header.specs.Reading.{document_digest}
 use Rattle.doc_header.proofs.MovingLaws.{moves_keep_lem}
 use Rattle.dir_table.specs.declared.rows.DirRow.{DirRow}
 use Rattle.dir_table.specs.declared.window.Window.{Window}
-use Rattle.dir_table.specs.Displacement.{rows_without}
 use Rattle.dir_table.specs.Rows.{has_row, row_of_key}
 use Rattle.agg_buffer.specs.Buffer.{Buffer, blocks_in, bytes_at, filled_of, next_place_of}
-use Rattle.ats_disk.specs.Device.{State as Device, IsTold}
+use Rattle.logged_disk.specs.Device.{State as Device, TellsAll, seen as content_of}
 use Rattle.cyclone.specs.Cyclone.{IsMoved, IsTurning, Seen, row_of_piece}
 use Rattle.alternate_vector.proofs.Loops.{each_push}
 use Rattle.cache_model.specs.State.{Row, State, floor_now, moved_row, only_live, place_now, row_in, state_after, without}
@@ -133,9 +132,9 @@ module _ (s : State) (c new : Seen) (id : PieceId) (row : Row) (bytes : List ℕ
 
   entries_are : (x : DirRow) → times x new.rows ≡ one_more (same_entry entry x) (times x moved.left)
   entries_are x =
-      times-permutation x (row_of_piece c id (next_place_of c.buffer) ∷ rows_without new.displaced moved.left) new.rows moved.rows
-      ∙ (ap (λ e. times x (e ∷ rows_without new.displaced moved.left)) entry_is
-      ∙ ap (λ rs. times x (entry ∷ rs)) (nothing_goes new.displaced moved.left moved.displaced))
+      times-permutation x (row_of_piece c id (next_place_of c.buffer) ∷ moved.rows.left) new.rows moved.rows.entered
+      ∙ (ap (λ e. times x (e ∷ moved.rows.left)) entry_is
+      ∙ ap (one_more (same_entry entry x)) (nothing_goes x moved.gone moved.rows.left moved.left moved.displaced.none moved.rows.parted))
 
   -- what was in range is what it was, as the old entry was not
   count_left : (x : DirRow) → kept (is_between c.window.floor c.window.end x.place) (times x moved.left) ≡ kept (nat_le c.window.floor x.place) (times x (map (entry_of s.geometry) others))
@@ -195,7 +194,7 @@ module _ (s : State) (c new : Seen) (id : PieceId) (row : Row) (bytes : List ℕ
       record { small = old.small; within = omega (arith, same_lap, movable.room, held.sound.lap) }
 
   -- it is in the buffer
-  not_written : IsIntactWhereWritten after c.device.seen copy
+  not_written : IsIntactWhereWritten after (content_of c.device) copy
   not_written = λ low below. absurd (omega (arith, below))
 
   -- ---- the record
@@ -225,9 +224,9 @@ module _ (s : State) (c new : Seen) (id : PieceId) (row : Row) (bytes : List ℕ
         each_push (IsBufferedWhereNew new.buffer) others copy
         (still_buffered c.buffer new.buffer (moved_to (next_place_of c.buffer) bytes) others moved.buffer same_cursor (all_left (IsBufferedWhereNew c.buffer) id s.rows held.buffered))
         own_buffered;
-    intact = subst (λ (d : Device). IsTold d → AllByRecursion (IsIntactWhereWritten after d.seen) after.rows) (sym moved.device)
-        (λ told. each_push (IsIntactWhereWritten after c.device.seen) others copy
-        (each_same_intact s after c.device.seen others refl refl (all_left (IsIntactWhereWritten s c.device.seen) id s.rows (held.intact told))) not_written);
+    intact = subst (λ (d : Device). TellsAll d → AllByRecursion (IsIntactWhereWritten after (content_of d)) after.rows) (sym moved.device)
+        (λ told. each_push (IsIntactWhereWritten after (content_of c.device)) others copy
+        (each_same_intact s after (content_of c.device) others refl refl (all_left (IsIntactWhereWritten s (content_of c.device)) id s.rows (held.intact told))) not_written);
     laps = each_push (IsInLap s.geometry) others copy (all_left (IsInLap s.geometry) id s.rows held.laps) in_lap;
     faults = subst (λ n. s.fault ≤ n) (sym (ap (λ (d : Device). d.faults) moved.device)) held.faults;
   }

@@ -8,7 +8,7 @@ use Rattle.std.proofs.lemmas.Slice.{between-put_mid, take-put_mid_below}
 use Rattle.std.proofs.lemmas.List.{length-drop, length-take-le, with_items_is}
 use Rattle.std.specs.Vec.{with_items}
 use borrow.Rule.Slice.PartMut.{mid_of, put_mid, same_len_mid}
-use Rattle.ats_disk.specs.Device.{State as Device}
+use Rattle.logged_disk.specs.Device.{State as Device}
 use Rattle.tape_base.specs.Geometry.{budget_of}
 use Rattle.evacuator.specs.declared.choosing.Candidate.{Candidate}
 use Rattle.evacuator.specs.Choice.{blocks_of_all}

@@ -1,7 +1,8 @@
 -- Pieces that were looked at, and one more behind them.
 use Rattle.std.proofs.Common.{◌≡◌, ℕ, ◌+◌, ◌-◌, ◌*◌, ◌≤◌, List, [], ◌∷◌, ◌++◌, refl, sym, ◌∙◌, ap, subst, arith, false, take, append_assoc}
 use Rattle.std.proofs.lemmas.List.{append-nil}
-use Rattle.ats_disk.specs.Device.{State as Device, IsTold}
+use Rattle.logged_disk.specs.Device.{State as Device, IsAsked, TellsAll}
+use Rattle.logged_disk.proofs.GoingOn.{told_before}
 use Rattle.tape_base.specs.Geometry.{budget_of}
 use Rattle.doc_header.proofs.Stands.{part_in_front}
 use Rattle.cache_model.specs.State.{State, Row, after_all}
@@ -133,9 +134,10 @@ looked_none s device a none low = record {
   fault = low;
 }
 
-pub looked_more : (s : State) (before : ℕ) (mid after : Device) (rows : List Row) (row : Row) (at end : ℕ) (old new : Ahead) → before ≤ mid.faults → mid.faults ≤ after.faults → after.trust ≤ mid.trust
+pub looked_more : (s : State) (before : ℕ) (mid after : Device) (rows : List Row) (row : Row) (at end : ℕ) (old new : Ahead) → before ≤ mid.faults → IsAsked mid after
     → Looked s before mid rows at old → LooksOn s mid.faults after row at end old new → Looked s before after (rows ++ row ∷ []) end new
-looked_more s before mid after rows row at end old new first last trust h k =
+looked_more s before mid after rows row at end old new first asked h k =
+    let last : mid.faults ≤ after.faults = asked.later in
     let pair : ArePaired rows h.outcomes = paired rows h.outcomes old.fates.items h.fates in
     let t : State = after_all s (front_of rows h.outcomes) in
     let front : front_of (rows ++ row ∷ []) (h.outcomes ++ k.outcome ∷ []) ≡ front_of rows h.outcomes ++ records_of row k.outcome = front_more rows h.outcomes row k.outcome pair in
@@ -150,7 +152,7 @@ looked_more s before mid after rows row at end old new first last trust h k =
       taken = omega (arith, k.taken, h.taken, taken_more rows h.outcomes row k.outcome pair);
       unharmed = λ told.
           subst TellNoDamage (sym front)
-          (all_append (λ r. tells_damage r ≡ false) (front_of rows h.outcomes) (records_of row k.outcome) (h.unharmed (let before_told : IsTold mid = omega (arith, told, trust) in before_told)) (k.unharmed told));
+          (all_append (λ r. tells_damage r ≡ false) (front_of rows h.outcomes) (records_of row k.outcome) (h.unharmed (told_before mid after asked.goes told)) (k.unharmed told));
       are = λ p covers.
           outcomes_more p s (budget_of s.geometry) rows h.outcomes row k.outcome (h.are p (covers_first p before mid.faults after.faults h.reads k.reads last covers))
           (subst (λ n. IsOutcome p t (budget_of s.geometry - n) row k.outcome) h.taken (k.is p t (covers_last p before mid.faults after.faults h.reads k.reads first covers) h.cursor low));

@@ -1,6 +1,6 @@
 -- A piece that is placed stays held.
 use Rattle.std.proofs.Common.{◌≡◌, ℕ, ◌+◌, ◌*◌, ◌/◌, ◌<◌, ◌≤◌, List, [], ◌∷◌, ◌++◌, refl, sym, ◌∙◌, ap, subst, arith, Bool, true, false, cond, length}
-use Rattle.std.specs.Prelude.{◌&&◌, ◌==◌, not, if◌then◌else◌, map, Some, None, nat_le}
+use Rattle.std.specs.Prelude.{not, if◌then◌else◌, map, Some, None, nat_le, IsPermutation}
 use Rattle.std.specs.List.{AllByRecursion}
 use Rattle.std.proofs.lemmas.Bool.{le-leb}
 use Rattle.tape_base.specs.declared.geometries.Geometry.{Geometry}
@@ -15,9 +15,8 @@ use Rattle.doc_header.specs.Reading.{document_digest}
 use Rattle.dir_table.specs.declared.rows.DirRow.{DirRow}
 use Rattle.dir_table.specs.declared.window.Window.{Window}
 use Rattle.dir_table.specs.Rows.{row_of_key}
-use Rattle.dir_table.specs.Displacement.{Displacement, rows_without}
 use Rattle.agg_buffer.specs.Buffer.{Buffer, Adds, blocks_in, bytes_at, filled_of, next_place_of}
-use Rattle.ats_disk.specs.Device.{State as Device, IsTold}
+use Rattle.logged_disk.specs.Device.{State as Device, TellsAll, seen as content_of}
 use Rattle.cyclone.specs.Cyclone.{Seen, IsTurning, IsPut}
 use Rattle.alternate_vector.proofs.Loops.{each_push}
 use Rattle.cache_model.specs.declared.record.Rec.TheVariants as rec
@@ -81,16 +80,9 @@ still_buffered b after piece (row ∷ rows) adds same all = (one, still_buffered
 
 -- ---- nothing is displaced
 
-stays_by : (b : Bool) (row : DirRow) (left rows : List DirRow) → left ≡ rows → cond (not (b && false)) (row ∷ left) left ≡ row ∷ rows
-stays_by true row left rows h = ap (λ xs. row ∷ xs) h
-stays_by false row left rows h = ap (λ xs. row ∷ xs) h
-
-none_goes : (segment live : ℕ) (rows : List DirRow) → rows_without (record { places = []; segment = segment; live = live }) rows ≡ rows
-none_goes segment live [] = refl
-none_goes segment live (row ∷ rows) = stays_by (row.segment == segment) row (rows_without (record { places = []; segment = segment; live = live }) rows) rows (none_goes segment live rows)
-
-pub nothing_goes : (d : Displacement) (rows : List DirRow) → d.places ≡ [] → rows_without d rows ≡ rows
-nothing_goes d rows h = ap (λ ps. rows_without (record { places = ps; segment = d.segment; live = d.live }) rows) h ∙ none_goes d.segment d.live rows
+pub nothing_goes : (x : DirRow) (gone left rows : List DirRow) → gone ≡ [] → IsPermutation rows (gone ++ left) → times x left ≡ times x rows
+nothing_goes x gone left rows none parted =
+    ap (λ (g : List DirRow). times x (g ++ left)) (sym none) ∙ times-permutation x rows (gone ++ left) parted
 
 -- ---- a piece that is put and recorded
 
@@ -127,16 +119,16 @@ module _ (s : State) (c new : Seen) (doc : Doc) (payload : List ℕ) (digest : D
   end_further = ap (λ (w : Window). w.end) put.window ∙ (further ∙ ap (λ n. n + size) (sym held.turning.end))
 
   -- nothing was displaced
-  all_stay : rows_without new.displaced c.rows ≡ c.rows
-  all_stay = nothing_goes new.displaced c.rows put.displaced
+  all_stay : (x : DirRow) → times x put.rows.left ≡ times x c.rows
+  all_stay x = nothing_goes x put.gone put.rows.left c.rows put.displaced.none put.rows.parted
 
   entry_is : row_of_key c.geometry (key_of_piece doc.id) doc.place ≡ entry
   entry_is = ap (λ g. row_of_key g (key_of_piece doc.id) doc.place) held.geometry ∙ ap (λ p. row_of_key s.geometry (key_of_piece doc.id) p) placed.place
 
   entries_are : (x : DirRow) → times x new.rows ≡ one_more (same_entry entry x) (times x c.rows)
   entries_are x =
-      times-permutation x (row_of_key c.geometry (key_of_piece doc.id) doc.place ∷ rows_without new.displaced c.rows) new.rows put.rows
-      ∙ (ap (λ e. times x (e ∷ rows_without new.displaced c.rows)) entry_is ∙ ap (λ rs. times x (entry ∷ rs)) all_stay)
+      times-permutation x (row_of_key c.geometry (key_of_piece doc.id) doc.place ∷ put.rows.left) new.rows put.rows.entered
+      ∙ (ap (λ e. times x (e ∷ put.rows.left)) entry_is ∙ ap (one_more (same_entry entry x)) (all_stay x))
 
   low_end : c.window.floor ≤ c.window.end
   low_end = omega (arith, held.turning.floor, held.turning.end)
@@ -187,7 +179,7 @@ module _ (s : State) (c new : Seen) (doc : Doc) (payload : List ℕ) (digest : D
   in_lap = record { small = placed.small; within = omega (arith, same_lap, placed.room, held.sound.lap) }
 
   -- it is in the buffer
-  not_written : IsIntactWhereWritten after c.device.seen row
+  not_written : IsIntactWhereWritten after (content_of c.device) row
   not_written = λ low below. absurd (omega (arith, below))
 
   pub placed_is_held_here : IsHeld after new
@@ -200,8 +192,8 @@ module _ (s : State) (c new : Seen) (doc : Doc) (payload : List ℕ) (digest : D
     entered = entered after new counts;
     buffered = subst (AllByRecursion (IsBufferedWhereNew new.buffer)) (sym rows_are)
         (each_push (IsBufferedWhereNew new.buffer) s.rows row (still_buffered c.buffer new.buffer (document_bytes doc payload) s.rows put.buffer same_cursor held.buffered) own_buffered);
-    intact = subst (λ (d : Device). IsTold d → AllByRecursion (IsIntactWhereWritten after d.seen) after.rows) (sym put.device)
-        (λ told. subst (AllByRecursion (IsIntactWhereWritten after c.device.seen)) (sym rows_are) (each_push (IsIntactWhereWritten after c.device.seen) s.rows row (each_same_intact s after c.device.seen s.rows refl refl (held.intact told)) not_written));
+    intact = subst (λ (d : Device). TellsAll d → AllByRecursion (IsIntactWhereWritten after (content_of d)) after.rows) (sym put.device)
+        (λ told. subst (AllByRecursion (IsIntactWhereWritten after (content_of c.device))) (sym rows_are) (each_push (IsIntactWhereWritten after (content_of c.device)) s.rows row (each_same_intact s after (content_of c.device) s.rows refl refl (held.intact told)) not_written));
     laps = subst (AllByRecursion (IsInLap s.geometry)) (sym rows_are) (each_push (IsInLap s.geometry) s.rows row held.laps in_lap);
     faults = subst (λ n. s.fault ≤ n) (sym (ap (λ (d : Device). d.faults) put.device)) held.faults;
   }

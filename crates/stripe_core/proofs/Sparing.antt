@@ -12,7 +12,8 @@ use Rattle.tape_base.specs.declared.digests.Digest.{Digest}
 use Rattle.tape_base.specs.declared.pieces.PieceId.{PieceId}
 use Rattle.tape_base.specs.Digest.{digest_of}
 use Rattle.tape_base.specs.Piece.{is_vector}
-use Rattle.ats_disk.specs.Device.{Keeps}
+use Rattle.logged_disk.specs.Device.{Keeps}
+use Rattle.logged_disk.proofs.GoingOn.{asked_nothing}
 use Rattle.cyclone.specs.Cyclone.{Seen}
 use Rattle.cache_model.specs.declared.cause.Cause.TheVariants as cause
 use Rattle.cache_model.specs.declared.record.Rec.{Rec}
@@ -154,6 +155,7 @@ spent_calm u f room left records entries c new h uses r e =
       of_records = uses.of_records;
       of_entries = uses.of_entries;
       device = subst (λ k. Keeps 0 k c.device new.device) (none_of c.geometry.agg) uses.device;
+      goes = uses.goes;
       later = uses.later;
     }) r e (omega arith))
   where
@@ -178,6 +180,7 @@ spent_by true u f n room left records entries c new is h uses r e still = subst 
   of_records = uses.of_records;
   of_entries = uses.of_entries;
   device = subst (λ k. Keeps 1 k c.device new.device) (one_of c.geometry.agg) uses.device;
+  goes = uses.goes;
   later = uses.later;
 }) r e (omega arith))
   where
@@ -187,7 +190,8 @@ spent_by false u f n room left records entries c new is h uses r e still = subst
   same = uses.same;
   of_records = uses.of_records;
   of_entries = uses.of_entries;
-  device = subst (λ d. Keeps 0 0 c.device d) (sym (still refl)) (record { size = refl; trust = omega arith; calls = omega arith; blocks = omega arith });
+  device = subst (λ d. Keeps 0 0 c.device d) (sym (still refl)) (asked_nothing c.device).keeps;
+  goes = uses.goes;
   later = uses.later;
 }) r e)
 

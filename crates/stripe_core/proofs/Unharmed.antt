@@ -1,9 +1,13 @@
 -- What becomes of the pieces that were told as damaged, behind one call and behind several.
-use Rattle.std.proofs.Common.{◌≡◌, ◌≤◌, false, List, [], ◌∷◌, refl, sym, ◌∙◌, ap, subst, arith}
-use Rattle.ats_disk.specs.Device.{State as Device, IsTold}
+use Rattle.std.proofs.Common.{◌≡◌, ℕ, append-nil, false, List, [], ◌∷◌, refl, sym, ◌∙◌, ap, subst, arith}
+use Rattle.logged_disk.specs.Device.{State as Device, IsAfter, TellsAll}
+use Rattle.logged_disk.proofs.GoingOn.{goes_further, stays_as, told_before}
+use Rattle.cache_model.specs.declared.answer.NextAnswer.{NextAnswer}
+use Rattle.cache_model.specs.declared.answer.NextAnswer.TheVariants as next
 use Rattle.cache_model.specs.declared.record.Rec.{Rec}
 use Rattle.cache_model.specs.declared.record.Rec.TheVariants as rec
 use Rattle.cache_model.specs.State.{State, after_all, state_after}
+use Rattle.cache_model.specs.Legal.{answer_record}
 use Rattle.cache_model.specs.Kept.{Kept, state_of, with_records}
 use Rattle.cache_model.proofs.Steps.{after_all-append}
 use Rattle.cache_model.specs.Damage.{TellNoDamage, tells_damage, has_damage}
@@ -12,7 +16,7 @@ use Rattle.stripe_core.specs.Unharmed.{IsUnharmed, StayUnharmed}
 -- one call behind another
 pub stays_unharmed-trans : (a b c : Device) (s t u : State) → StayUnharmed a b s t → StayUnharmed b c t u → StayUnharmed a c s u
 stays_unharmed-trans a b c s t u first next =
-    record { trust = omega (arith, first.trust, next.trust); unharmed = λ (h : IsUnharmed a s). next.unharmed (first.unharmed h) }
+    record { goes = goes_further a b c first.goes next.goes; unharmed = λ (h : IsUnharmed a s). next.unharmed (first.unharmed h) }
 
 -- ---- records that tell no damage
 
@@ -27,13 +31,32 @@ after_records s [] none h = h
 after_records s (r ∷ recs) none h = after_records (state_after s r) recs none.1 (after_record s r none.0 h)
 
 -- a call that adds records which tell no damage, where its device tells its content
-pub stays_unharmed-adds : (a b : Device) (old new : Kept) (recs : List Rec) → new ≡ with_records old recs → b.trust ≤ a.trust → (IsTold b → TellNoDamage recs)
+pub stays_unharmed-adds : (a b : Device) (old new : Kept) (recs : List Rec) → new ≡ with_records old recs → IsAfter a b → (TellsAll b → TellNoDamage recs)
     → StayUnharmed a b (state_of old) (state_of new)
-stays_unharmed-adds a b old new recs is trust none = record {
-  trust = trust;
+stays_unharmed-adds a b old new recs is goes none = record {
+  goes = goes;
   unharmed = λ (h : IsUnharmed a (state_of old)). record {
     unharmed = λ told.
-        let before : IsTold a = omega (arith, told, trust) in
+        let before : TellsAll a = told_before a b goes told in
         subst (λ s. has_damage s ≡ false) (sym (ap state_of is ∙ after_all-append old.base old.since recs)) (after_records (state_of old) recs (none told) (h.unharmed before));
   };
+}
+
+-- a call that adds no record
+pub stays_unharmed-none : (a b : Device) (old new : Kept) → new ≡ old → IsAfter a b → StayUnharmed a b (state_of old) (state_of new)
+stays_unharmed-none a b old new same goes =
+    stays_unharmed-adds a b old new [] (same ∙ sym (ap (λ recs. record { base = old.base; since = recs }) (append-nil old.since))) goes (λ told. tt)
+
+-- what a reader was answered tells no damage
+pub answer_tells_none : (reader : ℕ) (answer : NextAnswer) → tells_damage (answer_record reader answer) ≡ false
+answer_tells_none reader (next.Gave index length) = refl
+answer_tells_none reader (next.Ended length) = refl
+answer_tells_none reader (next.Waited cut) = refl
+answer_tells_none reader (next.Broke why) = refl
+
+-- where nothing changed
+pub unharmed_same : (a b : Device) (s t : State) → b ≡ a → t ≡ s → StayUnharmed a b s t
+unharmed_same a b s t device state = record {
+  goes = stays_as a b device;
+  unharmed = λ (h : IsUnharmed a s). subst (λ x. IsUnharmed b x) (sym state) (subst (λ d. IsUnharmed d s) (sym device) h);
 }

@@ -2,7 +2,7 @@
 use Rattle.std.specs.Prelude.{ℕ, ◌≡◌, ◌+◌, ◌*◌, ◌≤◌, ◌==◌, not, List, [], ◌∷◌, drop, length, take, vec_capacity}
 use Rattle.tape_base.specs.declared.geometries.Geometry.{Geometry}
 use Rattle.tape_base.specs.Geometry.{budget_of}
-use Rattle.ats_disk.specs.Device.{State as Device, IsTold}
+use Rattle.logged_disk.specs.Device.{State as Device, TellsAll}
 use Rattle.cache_model.specs.State.{Row, State}
 use Rattle.cache_model.specs.Permit.{DeviceRead, Permit}
 use Rattle.cache_model.specs.Due.{due_pieces}
@@ -67,5 +67,5 @@ pub record LooksAhead (now : ℕ) (s : State) (before : ℕ) (after : Device) (a
   pub fates : AreFates (due_pieces s now) outcomes a.fates.items
   pub stand : StandFrom 0 (due_pieces s now) outcomes a.bytes.items
   -- a device that tells its content shows each piece as it was placed
-  pub unharmed : IsTold after → TellNoDamage (front_of (due_pieces s now) outcomes)
+  pub unharmed : TellsAll after → TellNoDamage (front_of (due_pieces s now) outcomes)
   pub are : (p : Permit) → Covers p before after.faults reads → AreOutcomes p s (budget_of s.geometry) (due_pieces s now) outcomes

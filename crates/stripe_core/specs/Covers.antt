@@ -3,7 +3,8 @@ use Rattle.std.specs.Prelude.{ℕ, ◌≡◌, ◌+◌, ◌/◌, ◌≤◌, false
 use Rattle.std.specs.List.{AllByRecursion}
 use Rattle.tape_base.specs.declared.geometries.Geometry.{Geometry}
 use Rattle.tape_base.specs.Place.{slot_of}
-use Rattle.ats_disk.specs.Device.{State as Device, IsTold, Keeps, span}
+use Rattle.device_log.specs.Image.{span}
+use Rattle.logged_disk.specs.Device.{State as Device, IsAfter, IsTrusted, Keeps, seen as content_of}
 use Rattle.cyclone.specs.Cyclone.{Seen}
 use Rattle.cache_model.specs.declared.record.Rec.{Rec}
 use Rattle.cache_model.specs.State.{State}
@@ -18,10 +19,10 @@ pub record Covers (p : Permit) (before after : ℕ) (reads : List DeviceRead) : 
   pub upto : after ≤ p.faults
   pub knows : AllByRecursion (λ r. IsAmong r p.reads) reads
 
--- what was read is what the device shows there, where it tells that
+-- what was read is what is seen there, where the device is trusted
 abbrev pub AreSeen : Geometry → Device → List DeviceRead → Type 0
 AreSeen g device reads =
-    AllByRecursion (λ (r : DeviceRead). IsTold device → r.bytes ≡ span device.seen (slot_of g r.place) (length r.bytes / 512)) reads
+    AllByRecursion (λ (r : DeviceRead). IsTrusted device → r.bytes ≡ span (content_of device) (slot_of g r.place) (length r.bytes / 512)) reads
 
 -- what is asked first comes to this end, by one group of records or more
 abbrev pub Spends : Permit → State → Intent → List Rec → End → Type 0
@@ -33,4 +34,5 @@ pub record Uses (records entries calls blocks : ℕ) (room left : ℕ) (old new 
   pub of_records : room ≤ left + records
   pub of_entries : old.spare ≤ new.spare + entries
   pub device : Keeps calls blocks old.device new.device
+  pub goes : IsAfter old.device new.device
   pub later : old.device.faults ≤ new.device.faults

@@ -2,7 +2,7 @@
 use Rattle.std.specs.Prelude.{ℕ, ◌≡◌, ◌≤◌, List, Some, Result, Ok, Err}
 use Rattle.std.specs.List.{AllByRecursion}
 use Rattle.tape_base.specs.declared.pieces.PieceId.{PieceId}
-use Rattle.ats_disk.specs.Device.{State as Device, IsTold}
+use Rattle.logged_disk.specs.Device.{State as Device, TellsAll}
 use Rattle.cache_model.specs.declared.record.Rec.{Rec}
 use Rattle.cache_model.specs.declared.record.Rec.TheVariants as rec
 use Rattle.cache_model.specs.State.{Row, State, cursor_next, floor_now, live_row_of}
@@ -75,5 +75,5 @@ pub record FlushesAsAsked (now : ℕ) (old new : Kept) (before : ℕ) (after : D
   pub kinds : AreOfFlush added
   pub live : LiveBefore (state_of old) (state_of new)
   -- a device that tells its content shows each piece as it was placed
-  pub unharmed : IsTold after → TellNoDamage added
+  pub unharmed : TellsAll after → TellNoDamage added
   pub does : (p : Permit) → p.now ≡ now → Covers p before after.faults reads → Does p (state_of old) Flush added (flush_end result)

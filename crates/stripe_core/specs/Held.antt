@@ -5,7 +5,8 @@ use Rattle.tape_base.specs.declared.geometries.Geometry.{Geometry}
 use Rattle.tape_base.specs.Geometry.{budget_of}
 use Rattle.tape_base.specs.Piece.{key_of_piece}
 use Rattle.tape_base.specs.Place.{lap_end_of, slot_of}
-use Rattle.ats_disk.specs.Device.{Image, IsTold, span}
+use Rattle.device_log.specs.Image.{Image, span}
+use Rattle.logged_disk.specs.Device.{TellsAll, seen as content_of}
 use Rattle.doc_header.specs.Reading.{document_digest}
 use Rattle.agg_buffer.specs.Buffer.{Buffer, bytes_at, filled_of, IsFilled}
 use Rattle.dir_table.specs.declared.rows.DirRow.{DirRow}
@@ -69,6 +70,6 @@ pub record IsHeld (s : State) (c : Seen) : Type 0 where
   -- the entries in range are those of the live pieces, one each
   pub entered : SameRows (rows_in_range c) (map (entry_of s.geometry) (live_rows s))
   pub buffered : AllByRecursion (IsBufferedWhereNew c.buffer) s.rows
-  pub intact : IsTold c.device → AllByRecursion (IsIntactWhereWritten s c.device.seen) s.rows
+  pub intact : TellsAll c.device → AllByRecursion (IsIntactWhereWritten s (content_of c.device)) s.rows
   pub laps : AllByRecursion (IsInLap s.geometry) s.rows
   pub faults : s.fault ≤ c.device.faults

@@ -2,7 +2,7 @@
 use Rattle.std.specs.Prelude.{ℕ, ◌≡◌, ◌≢◌, ◌+◌, ◌-◌, ◌*◌, ◌≤◌, ◌==◌, Bool, false, not, if◌then◌else◌, List, [], ◌∷◌, ◌++◌, map, slice_index, slice_index_or, take, Some}
 use Rattle.std.specs.List.{AllByRecursion}
 use Rattle.tape_base.specs.Geometry.{budget_of}
-use Rattle.ats_disk.specs.Device.{State as Device, IsTold}
+use Rattle.logged_disk.specs.Device.{State as Device, TellsAll}
 use Rattle.doc_header.specs.Reading.{document_digest}
 use Rattle.evacuator.specs.declared.choosing.Candidate.{Candidate}
 use Rattle.evacuator.specs.Choice.{blocks_of_all}
@@ -68,7 +68,7 @@ pub record Comes (s : State) (before : ℕ) (after : Device) (row : Row) (f : Fa
   pub copy : IsCopyOf bytes outcome
   pub taken : taken_by row outcome ≡ row.blocks
   pub count : CountsUpTo after.faults outcome
-  pub unharmed : IsTold after → TellNoDamage (records_of row outcome)
+  pub unharmed : TellsAll after → TellNoDamage (records_of row outcome)
   pub is : (p : Permit) (t : State) (left : ℕ) → Covers p before after.faults reads → t.cursor ≡ s.cursor → t.fault ≤ before → row.blocks ≤ left
       → IsOutcome p t left row outcome
 
@@ -83,7 +83,7 @@ pub record LooksOn (s : State) (before : ℕ) (after : Device) (row : Row) (at e
   pub stay : take (512 * at) new.bytes.items ≡ take (512 * at) old.bytes.items
   pub taken : end ≡ at + taken_by row outcome
   pub count : CountsUpTo after.faults outcome
-  pub unharmed : IsTold after → TellNoDamage (records_of row outcome)
+  pub unharmed : TellsAll after → TellNoDamage (records_of row outcome)
   pub is : (p : Permit) (t : State) → Covers p before after.faults reads → t.cursor ≡ s.cursor → t.fault ≤ before
       → IsOutcome p t (budget_of s.geometry - at) row outcome
 
@@ -94,7 +94,7 @@ pub record Looked (s : State) (before : ℕ) (after : Device) (rows : List Row) 
   pub fates : AreFates rows outcomes a.fates.items
   pub stand : StandFrom 0 rows outcomes a.bytes.items
   pub taken : end ≡ taken_by_all rows outcomes
-  pub unharmed : IsTold after → TellNoDamage (front_of rows outcomes)
+  pub unharmed : TellsAll after → TellNoDamage (front_of rows outcomes)
   pub are : (p : Permit) → Covers p before after.faults reads → AreOutcomes p s (budget_of s.geometry) rows outcomes
   -- behind their records the buffer stands where it stood, and no fault is later than the device's
   pub cursor : (after_all s (front_of rows outcomes)).cursor ≡ s.cursor

@@ -1,7 +1,7 @@
 -- What contracts see of the pieces of a stripe: the records, and what a cyclone holds of them.
 use Rattle.std.specs.Prelude.{ℕ, ◌≡◌, Option, Some, option_map, Contains}
 use Rattle.tape_base.specs.declared.pieces.PieceId.{PieceId}
-use Rattle.ats_disk.specs.declared.device.Disk.{Ghosts as DiskGhosts}
+use Rattle.logged_disk.specs.declared.device.Disk.{Ghosts as DiskGhosts}
 use Rattle.dir_table.specs.declared.directory.Directory.{Ghosts as DirectoryGhosts}
 use Rattle.dir_table.specs.declared.rows.Walk.{Walk}
 use Rattle.cyclone.specs.Cyclone.{Seen, seen}

@@ -9,7 +9,7 @@ use Rattle.tape_base.specs.Piece.{is_vector}
 use Rattle.fragment_table.specs.Table.{total_length}
 use Rattle.cache_model.specs.declared.record.Rec.{Rec}
 use Rattle.cache_model.specs.declared.record.Rec.TheVariants as rec
-use Rattle.ats_disk.specs.Device.{State as Device, IsTold}
+use Rattle.logged_disk.specs.Device.{State as Device, TellsAll}
 use Rattle.cache_model.specs.State.{PutRow, State, after_all, cursor_next, list_of_put, place_now, row_of, vector_piece}
 use Rattle.cache_model.specs.Kept.{Kept, state_of, with_records}
 use Rattle.cache_model.specs.Verdict.{cuts_of}
@@ -37,7 +37,7 @@ pub record RoomsAsAsked (now : ℕ) (old new : Kept) (before : ℕ) (after : Dev
   pub adds : new ≡ with_records old added
   pub kinds : AreOfFlush added
   pub live : LiveBefore (state_of old) (state_of new)
-  pub unharmed : IsTold after → TellNoDamage added
+  pub unharmed : TellsAll after → TellNoDamage added
   pub does : (p : Permit) → p.now ≡ now → Covers p before after.faults reads → RoomIsMade p (state_of old) bytes added result
 
 -- where a piece of so many bytes would end; or where it has no room, where the next buffer would begin
@@ -129,7 +129,7 @@ pub record CutsAsAsked (now : ℕ) (old new : Kept) (before : ℕ) (after : Devi
   pub reads : List DeviceRead
   pub adds : new ≡ with_records old added
   pub shape : IsFragmentAs (state_of old) after.faults id pin start payload added result
-  pub unharmed : IsTold after → TellNoDamage added
+  pub unharmed : TellsAll after → TellNoDamage added
   pub does : (p : Permit) → p.now ≡ now → Covers p before after.faults reads
       → Spends p (state_of old) (Fragment id.put id.index payload) added (place_end result)
 

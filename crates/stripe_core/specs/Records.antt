@@ -16,7 +16,8 @@ use Rattle.cache_model.specs.declared.record.Rec.{Rec}
 use Rattle.cache_model.specs.declared.record.Rec.TheVariants as rec
 use Rattle.cache_model.specs.State.{State, Row, cursor_next, floor_next, floor_now, live_row_of, nothing_yet, place_now, row_of, after_all, state_after, without}
 use Rattle.cache_model.specs.Legal.{format_records}
-use Rattle.ats_disk.specs.Device.{State as Device, IsTold, SameBut, span}
+use Rattle.device_log.specs.Image.{SameBut, span}
+use Rattle.logged_disk.specs.Device.{State as Device, IsAfter, seen as content_of}
 use Rattle.cache_model.specs.Tape.{IsSound}
 use Rattle.stripe_core.specs.Held.{IsHeld}
 
@@ -51,10 +52,10 @@ abbrev pub MovedIsHeld : Type 0
 MovedIsHeld = (s : State) (c new : Seen) (id : PieceId) (row : Row) (bytes : List ℕ) → IsHeld s c → IsMovable s id row bytes
     → IsMoved false c new id row.place bytes → IsTurning new → IsHeld (state_after s (moved_to_here s id row bytes)) new
 
--- the device has what is in the buffer, where it tells its content
+-- what is in the buffer is seen on the device, in whole blocks
 pub record IsWrittenOut (c : Seen) : Type 0 where
-  pub whole : (block : ℕ) → IsTold c.device → length (c.device.seen block) ≡ 512
-  pub written : IsTold c.device → span c.device.seen (slot_of c.geometry c.buffer.cursor) (filled_of c.buffer) ≡ c.buffer.bytes
+  pub whole : (block : ℕ) → length ((content_of c.device) block) ≡ 512
+  pub written : span (content_of c.device) (slot_of c.geometry c.buffer.cursor) (filled_of c.buffer) ≡ c.buffer.bytes
 
 -- where the next buffer begins, and is recorded, what may still be read is held
 abbrev pub BegunIsHeld : Type 0
@@ -91,12 +92,12 @@ PassedIsHeld = (s t : State) (c : Seen) (id : PieceId) → IsHeld s c → live_r
 abbrev pub AlikeIsHeld : Type 0
 AlikeIsHeld = (s t : State) (c : Seen) → IsHeld s c → IsAlike s t → t.fault ≤ c.device.faults → IsHeld t c
 
--- a device that counts no fault less, is trusted no more, and shows what it showed but where the buffer
--- is written
+-- a device that goes on, counts no fault less, and shows what it showed but where the buffer is
+-- written
 pub record SparesPieces (c : Seen) (device : Device) : Type 0 where
   pub later : c.device.faults ≤ device.faults
-  pub trust : device.trust ≤ c.device.trust
-  pub others : IsTold device → SameBut (slot_of c.geometry c.buffer.cursor) (filled_of c.buffer) c.device.seen device.seen
+  pub goes : IsAfter c.device device
+  pub others : SameBut (slot_of c.geometry c.buffer.cursor) (filled_of c.buffer) (content_of c.device) (content_of device)
 
 -- and so does a device that changes no more than that
 abbrev pub DeviceMayChange : Type 0

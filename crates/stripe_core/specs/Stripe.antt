@@ -3,8 +3,8 @@
 use Rattle.std.specs.Prelude.{ℕ, ◌≡◌, ◌*◌, ◌<◌, ◌≤◌, false, length, Result, Ok, Err}
 use Rattle.tape_base.specs.declared.pieces.PieceId.{PieceId}
 use Rattle.tape_base.specs.Piece.{is_vector}
-use Rattle.ats_disk.specs.Device.{SameSeen, State as Device}
-use Rattle.ats_disk.specs.declared.device.Disk.{Ghosts as DiskGhosts}
+use Rattle.logged_disk.specs.Device.{IsAfter, SeenStays, State as Device}
+use Rattle.logged_disk.specs.declared.device.Disk.{Ghosts as DiskGhosts}
 use Rattle.dir_table.specs.declared.directory.Directory.{Ghosts as DirectoryGhosts}
 use Rattle.cyclone.specs.Cyclone.{Seen}
 use Rattle.cache_model.specs.State.{State}
@@ -57,16 +57,14 @@ pub record IsSpared (units flushes room : ℕ) (c : Seen) : Type 0 where
 
 -- the device shows what it showed, and counts no fault more
 pub record IsStill (old new : Device) : Type 0 where
-  pub size : new.size ≡ old.size
-  pub trust : new.trust ≤ old.trust
-  pub seen : SameSeen old new
+  pub goes : IsAfter old new
+  pub seen : SeenStays old new
   pub faults : new.faults ≡ old.faults
 
 -- the device shows what it showed; its count of faults may have risen
 pub record IsUnwritten (old new : Device) : Type 0 where
-  pub size : new.size ≡ old.size
-  pub trust : new.trust ≤ old.trust
-  pub seen : SameSeen old new
+  pub goes : IsAfter old new
+  pub seen : SeenStays old new
 
 -- how many fragments of a put can be cut without more memory
 abbrev pub room_for : ℕ → Actors → ℕ

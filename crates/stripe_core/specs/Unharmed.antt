@@ -1,7 +1,7 @@
--- Whether a piece was told as damaged, on a device that can be trusted.
-use Rattle.std.specs.Prelude.{◌≡◌, ◌≤◌, false}
-use Rattle.ats_disk.specs.Device.{IsTold, State as Device}
-use Rattle.ats_disk.specs.declared.device.Disk.{Ghosts as DiskGhosts}
+-- Whether a piece was told as damaged, on a device that tells its content.
+use Rattle.std.specs.Prelude.{◌≡◌, false}
+use Rattle.logged_disk.specs.Device.{IsAfter, TellsAll, State as Device}
+use Rattle.logged_disk.specs.declared.device.Disk.{Ghosts as DiskGhosts}
 use Rattle.dir_table.specs.declared.directory.Directory.{Ghosts as DirectoryGhosts}
 use Rattle.cache_chronicle.specs.declared.chronicle.Chronicle.{Ghosts as ChronicleGhosts}
 use Rattle.cache_model.specs.State.{State}
@@ -11,12 +11,11 @@ use Rattle.stripe_core.specs.Stripe.{seen_in, state_in}
 
 -- where the device tells its content, no piece was told as damaged
 pub record IsUnharmed (device : Device) (s : State) : Type 0 where
-  pub unharmed : IsTold device → has_damage s ≡ false
+  pub unharmed : TellsAll device → has_damage s ≡ false
 
--- a device is trusted no more than before, and where it tells its content no more pieces are told as
--- damaged
+-- a device goes on, and where it tells its content no more pieces are told as damaged
 pub record StayUnharmed (old_device new_device : Device) (s t : State) : Type 0 where
-  pub trust : new_device.trust ≤ old_device.trust
+  pub goes : IsAfter old_device new_device
   pub unharmed : IsUnharmed old_device s → IsUnharmed new_device t
 
 -- so it is of a stripe before a call and behind it

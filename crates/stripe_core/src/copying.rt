@@ -13,10 +13,10 @@ ghost use Rattle.stripe_core.specs.declared.refusal.Stop.TheVariants.{DeviceFaul
 use crate::ahead::{Ahead, Fate};
 use crate::refusal::Stop;
 use crate::{Pieces, records};
-use ats_disk::Disk;
 use cache_chronicle::Chronicle;
 use dir_table::Directory;
 use evacuator::Candidate;
+use logged_disk::Disk;
 use tape_base::BLOCK;
 
 impl<D: Disk, R: Directory + Drop, C: Chronicle> Pieces<D, R, C> {
@@ -174,8 +174,11 @@ impl<D: Disk, R: Directory + Drop, C: Chronicle> Pieces<D, R, C> {
         ensures uses { Uses (copies_by fate) (copies_by fate) 0 0
             (C.room self.old.chronicle) (C.room self.new.chronicle) (seen_of D.Disk R.Directory self.old) (seen_of D.Disk R.Directory self.new) }
     {
-        if let Fate::Copied { pinned } = fate {
-            self.move_here(candidate, pinned, bytes);
+        match fate {
+            Fate::Copied { pinned } => self.move_here(candidate, pinned, bytes),
+            Fate::NoRoom => {}
+            Fate::Spoiled { .. } => {}
+            Fate::Refused { .. } => {}
         }
     }
 

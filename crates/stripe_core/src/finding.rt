@@ -4,20 +4,20 @@ ghost use Rattle.tape_base.specs.Geometry.{budget_of};
 ghost use Rattle.doc_header.specs.Reading.{payload_of};
 ghost use Rattle.cyclone.specs.Cyclone.{IsCyclone, IsStored, Reads, SameTape, seen};
 ghost use Rattle.cache_model.specs.Kept.{with_records};
-ghost use Rattle.ats_disk.specs.Device.{IsTold};
+ghost use Rattle.logged_disk.specs.Device.{TellsAll};
 ghost use Rattle.stripe_core.specs.Covers.{Uses};
 ghost use Rattle.cache_model.specs.Damage.{TellNoDamage};
 ghost use Rattle.stripe_core.specs.Find.{Finds, HasRoomFor, IsJudged, IsRecorded, find_adds, judged_records};
 
 use crate::refusal::Found;
 use crate::{Pieces, records};
-use ats_disk::Disk;
 use cache_chronicle::Chronicle;
 use cache_model::Cause;
 use cyclone::Cyclone;
 use dir_table::Directory;
 use doc_header::{document_digest, payload};
 use edge_io::Failed;
+use logged_disk::Disk;
 use tape_base::{BLOCK, Digest, HEADER, PieceId};
 
 impl<D: Disk, R: Directory + Drop, C: Chronicle> Pieces<D, R, C> {
@@ -36,7 +36,7 @@ impl<D: Disk, R: Directory + Drop, C: Chronicle> Pieces<D, R, C> {
         ensures finds { Finds (state_now C.Chronicle self.old) (seen_of D.Disk R.Directory self.old).device
             (seen_of D.Disk R.Directory self.new).device id result into.new }
         // A device that tells its content shows each piece as it was placed.
-        ensures unharmed { IsTold (seen_of D.Disk R.Directory self.new).device → TellNoDamage (find_adds (state_now C.Chronicle self.old) id result) }
+        ensures unharmed { TellsAll (seen_of D.Disk R.Directory self.new).device → TellNoDamage (find_adds (state_now C.Chronicle self.old) id result) }
         ensures unwritten { IsUnwritten (seen_of D.Disk R.Directory self.old).device (seen_of D.Disk R.Directory self.new).device }
         ensures uses { Uses 1 0 0 0 (C.room self.old.chronicle) (C.room self.new.chronicle)
             (seen_of D.Disk R.Directory self.old) (seen_of D.Disk R.Directory self.new) }
@@ -58,7 +58,7 @@ impl<D: Disk, R: Directory + Drop, C: Chronicle> Pieces<D, R, C> {
         ensures finds { Finds (state_now C.Chronicle self.old) (seen_of D.Disk R.Directory self.old).device
             (seen_of D.Disk R.Directory self.new).device id result into.new }
         // A device that tells its content shows each piece as it was placed.
-        ensures unharmed { IsTold (seen_of D.Disk R.Directory self.new).device → TellNoDamage (find_adds (state_now C.Chronicle self.old) id result) }
+        ensures unharmed { TellsAll (seen_of D.Disk R.Directory self.new).device → TellNoDamage (find_adds (state_now C.Chronicle self.old) id result) }
         ensures unwritten { IsUnwritten (seen_of D.Disk R.Directory self.old).device (seen_of D.Disk R.Directory self.new).device }
         ensures uses { Uses 1 0 0 0 (C.room self.old.chronicle) (C.room self.new.chronicle)
             (seen_of D.Disk R.Directory self.old) (seen_of D.Disk R.Directory self.new) }

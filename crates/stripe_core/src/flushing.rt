@@ -15,9 +15,9 @@ ghost use Rattle.stripe_core.specs.Place.{RoomsAsAsked};
 use crate::ahead::Ahead;
 use crate::refusal::{Flushed, Stop};
 use crate::{Pieces, records};
-use ats_disk::Disk;
 use cache_chronicle::Chronicle;
 use dir_table::Directory;
+use logged_disk::Disk;
 use stripe_actors::Actors;
 use tape_base::{LIMIT, blocks_of};
 

@@ -2,7 +2,7 @@
 // memory.
 ghost use Rattle.std.specs.Prelude.{◌≡◌, ◌+◌, ◌*◌, ◌≤◌, ◌<◌, ℕ, List, length, take, slice_get, slice_index, Some, nat_le};
 ghost use Rattle.tape_base.specs.Geometry.{budget_of};
-ghost use Rattle.ats_disk.specs.Device.{Keeps};
+ghost use Rattle.logged_disk.specs.Device.{IsAsked};
 ghost use Rattle.evacuator.specs.Choice.{AreRising, IsChoice, blocks_of_all};
 ghost use Rattle.cyclone.specs.Cyclone.{SameTape};
 ghost use Rattle.cache_model.specs.State.{Row};
@@ -14,11 +14,11 @@ ghost use Rattle.stripe_core.specs.Looks.{AreOfRows, Comes, HasRow, HasRows, IsJ
 use crate::Pieces;
 use crate::ahead::{Ahead, Fate};
 use crate::finding::load;
-use ats_disk::Disk;
 use cache_chronicle::Chronicle;
 use dir_table::Directory;
 use doc_header::document_digest;
 use evacuator::{Candidate, choose};
+use logged_disk::Disk;
 use stripe_actors::Actors;
 use stripe_due::find_due;
 use tape_base::{BLOCK, floor_of};
@@ -34,8 +34,7 @@ impl<D: Disk, R: Directory + Drop, C: Chronicle> Pieces<D, R, C> {
         ensures pieces { ArePieces D.Disk R.Directory C.Chronicle self.new }
         ensures chronicle { self.new.chronicle ≡ self.old.chronicle }
         ensures same { SameTape (seen_of D.Disk R.Directory self.old) (seen_of D.Disk R.Directory self.new) }
-        ensures keeps { Keeps 0 0 (seen_of D.Disk R.Directory self.old).device (seen_of D.Disk R.Directory self.new).device }
-        ensures later { (seen_of D.Disk R.Directory self.old).device.faults ≤ (seen_of D.Disk R.Directory self.new).device.faults }
+        ensures asked { IsAsked (seen_of D.Disk R.Directory self.old).device (seen_of D.Disk R.Directory self.new).device }
         ensures ahead { IsMadeFor (state_now C.Chronicle self.old).geometry ahead.new }
         ensures looks { LooksAhead now (state_now C.Chronicle self.old) (seen_of D.Disk R.Directory self.old).device.faults
             (seen_of D.Disk R.Directory self.new).device ahead.new }
@@ -66,8 +65,7 @@ impl<D: Disk, R: Directory + Drop, C: Chronicle> Pieces<D, R, C> {
         ensures pieces { ArePieces D.Disk R.Directory C.Chronicle self.new }
         ensures chronicle { self.new.chronicle ≡ self.old.chronicle }
         ensures same { SameTape (seen_of D.Disk R.Directory self.old) (seen_of D.Disk R.Directory self.new) }
-        ensures keeps { Keeps 0 0 (seen_of D.Disk R.Directory self.old).device (seen_of D.Disk R.Directory self.new).device }
-        ensures later { (seen_of D.Disk R.Directory self.old).device.faults ≤ (seen_of D.Disk R.Directory self.new).device.faults }
+        ensures asked { IsAsked (seen_of D.Disk R.Directory self.old).device (seen_of D.Disk R.Directory self.new).device }
         ensures ahead { IsMadeFor (state_now C.Chronicle self.old).geometry ahead.new }
         ensures due { ahead.new.due.items ≡ ahead.old.due.items }
         ensures looked { (rows : List Row) → AreOfRows (state_now C.Chronicle self.old) ahead.old.due.items rows
@@ -95,8 +93,7 @@ impl<D: Disk, R: Directory + Drop, C: Chronicle> Pieces<D, R, C> {
         ensures pieces { ArePieces D.Disk R.Directory C.Chronicle self.new }
         ensures chronicle { self.new.chronicle ≡ self.old.chronicle }
         ensures same { SameTape (seen_of D.Disk R.Directory self.old) (seen_of D.Disk R.Directory self.new) }
-        ensures keeps { Keeps 0 0 (seen_of D.Disk R.Directory self.old).device (seen_of D.Disk R.Directory self.new).device }
-        ensures later { (seen_of D.Disk R.Directory self.old).device.faults ≤ (seen_of D.Disk R.Directory self.new).device.faults }
+        ensures asked { IsAsked (seen_of D.Disk R.Directory self.old).device (seen_of D.Disk R.Directory self.new).device }
         ensures ahead { IsMadeFor (state_now C.Chronicle self.old).geometry ahead.new }
         ensures due { ahead.new.due ≡ ahead.old.due }
         ensures kept { ahead.new.kept ≡ ahead.old.kept }
@@ -126,8 +123,7 @@ impl<D: Disk, R: Directory + Drop, C: Chronicle> Pieces<D, R, C> {
         ensures pieces { ArePieces D.Disk R.Directory C.Chronicle self.new }
         ensures chronicle { self.new.chronicle ≡ self.old.chronicle }
         ensures same { SameTape (seen_of D.Disk R.Directory self.old) (seen_of D.Disk R.Directory self.new) }
-        ensures keeps { Keeps 0 0 (seen_of D.Disk R.Directory self.old).device (seen_of D.Disk R.Directory self.new).device }
-        ensures later { (seen_of D.Disk R.Directory self.old).device.faults ≤ (seen_of D.Disk R.Directory self.new).device.faults }
+        ensures asked { IsAsked (seen_of D.Disk R.Directory self.old).device (seen_of D.Disk R.Directory self.new).device }
         ensures comes { (row : Row) → candidate ≡ candidate_of row → MayBeCopied (state_now C.Chronicle self.old) row
             → Comes (state_now C.Chronicle self.old) (seen_of D.Disk R.Directory self.old).device.faults
             (seen_of D.Disk R.Directory self.new).device row result into.new }

@@ -3,15 +3,15 @@ ghost use Rattle.std.specs.Prelude.{◌≡◌, ◌*◌, ◌<◌, ◌≤◌, ◌^
 ghost use Rattle.cache_model.specs.Kept.{all_of};
 ghost use Rattle.cache_model.specs.Legal.{format_records};
 ghost use Rattle.cyclone.specs.Cyclone.{IsCyclone, SameButRoom, seen};
-ghost use Rattle.ats_disk.specs.Device.{Grows};
+ghost use Rattle.logged_disk.specs.Device.{Affords, Keeps};
 ghost use Rattle.stripe_core.specs.Units.{entries_of_unit, records_of_unit};
 ghost use Rattle.stripe_core.specs.This.{is_this};
 
 use crate::records;
-use ats_disk::Disk;
 use cache_chronicle::Chronicle;
 use cyclone::Cyclone;
 use dir_table::Directory;
+use logged_disk::Disk;
 use std::alloc::{AllocError, Global};
 use tape_base::{Geometry, Key, PieceId, Steps};
 
@@ -68,8 +68,8 @@ impl<D: Disk, R: Directory + Drop, C: Chronicle> Pieces<D, R, C> {
         Pieces { cyclone, chronicle }
     }
 
-    /// Makes room for so many calls, each with its pieces and records, and on the device for so many
-    /// more flushes.
+    /// Makes room for so many calls, each with its pieces and records, and on the device for at
+    /// least so many flushes.
     pub fn prepare(&mut self, units: u32, flushes: u32) -> Result<(), AllocError>
         requires { ArePieces D.Disk R.Directory C.Chronicle self.old }
         ensures pieces { ArePieces D.Disk R.Directory C.Chronicle self.new }
@@ -79,8 +79,9 @@ impl<D: Disk, R: Directory + Drop, C: Chronicle> Pieces<D, R, C> {
         ensures room { C.room self.old.chronicle ≤ C.room self.new.chronicle }
         ensures spare { OnOk result (entries_of_unit (seen_of D.Disk R.Directory self.old).geometry * units ≤ (seen_of D.Disk R.Directory self.new).spare) }
         ensures device { let old = (seen_of D.Disk R.Directory self.old).device in
-            OnOk result (Grows flushes (flushes * (seen_of D.Disk R.Directory self.old).geometry.agg) old (seen_of D.Disk R.Directory self.new).device) }
-        ensures none { OnErr result (Grows 0 0 (seen_of D.Disk R.Directory self.old).device (seen_of D.Disk R.Directory self.new).device) }
+            OnOk result (Affords flushes (flushes * (seen_of D.Disk R.Directory self.old).geometry.agg) old (seen_of D.Disk R.Directory self.new).device) }
+        ensures none { OnErr result (Affords 0 0 (seen_of D.Disk R.Directory self.old).device (seen_of D.Disk R.Directory self.new).device) }
+        ensures keeps { Keeps 0 0 (seen_of D.Disk R.Directory self.old).device (seen_of D.Disk R.Directory self.new).device }
     {
         let g = self.cyclone.geometry();
         let entries = (g.agg as usize / 2 + 1) * units as usize;

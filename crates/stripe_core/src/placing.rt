@@ -13,10 +13,10 @@ ghost use Rattle.stripe_core.specs.Place.{CutsAsAsked, IsFragmentOf, IsNew, Plac
 use crate::ahead::Ahead;
 use crate::refusal::{Placed, Stop};
 use crate::{Pieces, records};
-use ats_disk::Disk;
 use cache_chronicle::Chronicle;
 use dir_table::Directory;
 use doc_header::Doc;
+use logged_disk::Disk;
 use stripe_actors::Actors;
 use tape_base::{Digest, LIMIT, PieceId, blocks_of};
 

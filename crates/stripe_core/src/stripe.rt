@@ -16,9 +16,9 @@ ghost use Rattle.stripe_core.specs.Place.{CutsAsAsked, IsFragmentOf, IsPlacing, 
 use crate::Pieces;
 use crate::ahead::Ahead;
 use crate::refusal::{Flushed, Found, Placed, Refusal};
-use ats_disk::Disk;
 use cache_chronicle::Chronicle;
 use dir_table::Directory;
+use logged_disk::Disk;
 use open_directory::OpenDirectory;
 use std::alloc::{AllocError, Global};
 use stripe_actors::Actors;
@@ -389,11 +389,11 @@ impl<D: Disk, R: Directory + Drop, C: Chronicle> Stripe<D, R, C> {
         ensures still { IsStill (seen_in D.Disk R.Directory self.old).device (seen_in D.Disk R.Directory self.new).device }
     {
         if units > self.units {
-            let more = units.saturating_sub(self.flushes);
+            let flushes = self.flushes.max(units);
             self.actors.reserve_readers(units)?;
-            self.pieces.prepare(units, more)?;
+            self.pieces.prepare(units, flushes)?;
             self.units = units;
-            self.flushes += more;
+            self.flushes = flushes;
         }
         Ok(())
     }

@@ -10,9 +10,9 @@ ghost use Rattle.stripe_core.specs.Records.{IsWithout};
 ghost use Rattle.stripe_core.specs.Covers.{Uses};
 
 use crate::{Pieces, records};
-use ats_disk::Disk;
 use cache_chronicle::Chronicle;
 use dir_table::Directory;
+use logged_disk::Disk;
 use tape_base::{Digest, Key, PieceId};
 
 impl<D: Disk, R: Directory + Drop, C: Chronicle> Pieces<D, R, C> {

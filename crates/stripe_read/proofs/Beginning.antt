@@ -1,14 +1,14 @@
 -- The reader that a lookup opens.
 use Rattle.std.proofs.Common.{◌≡◌, ℕ, ◌/◌, ◌≤◌, List, length, [], ◌∷◌, ◌++◌, refl, sym, ◌∙◌, ap, subst, arith, inl, inr, Bool, cond}
 use Rattle.std.specs.declared.alloc.AllocError.{AllocError}
-use Rattle.std.specs.Prelude.{Option, Some, None, Result, Ok, Err, IfOk, IsOk, find, ◌==◌}
+use Rattle.std.specs.Prelude.{Option, Some, None, Result, Ok, Err, IfOk, OnErr, IsOk, find, ◌==◌}
 use Rattle.std.proofs.lemmas.Bool.{eq-eqb}
 use Rattle.tape_base.specs.declared.actors.Actor.{Actor}
 use Rattle.tape_base.specs.declared.keys.Key.{Key}
 use Rattle.tape_base.specs.declared.geometries.Geometry.{Geometry}
 use Rattle.tape_base.specs.Place.{slot_of}
-use Rattle.ats_disk.proofs.Spans.{span_same}
-use Rattle.ats_disk.specs.Device.{State as Device}
+use Rattle.device_log.proofs.Spans.{span_same}
+use Rattle.logged_disk.specs.Device.{State as Device, seen as content_of}
 use Rattle.alternate_vector.specs.Field.{Field}
 use Rattle.cache_model.specs.declared.answer.ReadAnswer.{ReadAnswer}
 use Rattle.cache_model.specs.declared.answer.ReadAnswer.TheVariants as read
@@ -25,7 +25,7 @@ use Rattle.stripe_read.specs.declared.opening.Looked.{Looked}
 use Rattle.stripe_read.specs.declared.opening.Looked.TheVariants as looked
 use Rattle.stripe_read.specs.declared.opening.Opened.{Opened}
 use Rattle.stripe_read.specs.Readers.{IsOpenReader, IsReaderOf}
-use Rattle.stripe_read.specs.Lookups.{IfReader, IsCountedMiss, IsFound, LooksUp, Opens, answer_in, answer_of, lookup_adds, open_adds, opened_as, trouble_with}
+use Rattle.stripe_read.specs.Lookups.{IfReader, IsCountedMiss, IsFound, LooksUp, Opens, Tells, answer_in, answer_of, lookup_adds, open_adds, opened_as, trouble_with}
 use Rattle.stripe_read.proofs.Looking.{hit_adds, nothing_recorded}
 use Rattle.stripe_read.proofs.Staying.{LeavesReaders, cause_leaves, state_behind, two_calls}
 
@@ -101,12 +101,17 @@ table_behind k k1 key request (looked.Miss why) is table = tt
 still_seen : (g : Geometry) (new newer : Device) → IsStill new newer → (reads : List DeviceRead) → AreSeen g new reads → AreSeen g newer reads
 still_seen g new newer still [] h = tt
 still_seen g new newer still (r ∷ reads) h =
-    (λ told. h.0 (omega (arith, told, still.trust)) ∙ span_same new.seen newer.seen (slot_of g r.place) (length r.bytes / 512) (λ j low high. sym (still.seen told j)), still_seen g new newer still reads h.1)
+    (λ trusted. h.0 (omega (arith, trusted, still.goes.trust)) ∙ span_same (content_of new) (content_of newer) (slot_of g r.place) (length r.bytes / 512) (λ j low high. sym (still.seen j)), still_seen g new newer still reads h.1)
 
 miss_later : (before after : ℕ) (s : State) (key : Key) (answer : ReadAnswer) → before ≤ after → IsCountedMiss before s key answer → IsCountedMiss after s key answer
 miss_later before after s key (read.Miss why) h (inl is) = inl is
 miss_later before after s key (read.Miss why) h (inr counted) = inr (cause_later before after why h counted)
 miss_later before after s key _ h counted = tt
+
+tells_as : (number : ℕ) (key : Key) (found : Looked) → Tells number (opened_as number key found)
+tells_as number key (looked.Hit chosen) = (refl, refl, refl)
+tells_as number key (looked.Follow put) = (refl, refl, refl)
+tells_as number key (looked.Miss why) = tt
 
 -- ---- the call
 
@@ -132,6 +137,9 @@ module _ (k k0 k1 k2 : Kept) (who : Actor) (key : Key) (request : List Field) (f
     where
       quiet_now : (a : ReadAnswer) → IsQuiet (state_of k1) → IsQuiet (state_after (state_of k1) (rec.ReadOpened (state_of k1).next_reader who key request a))
       quiet_now a h = h
+
+  pub begun_tells : Tells (state_of k).next_reader opened
+  begun_tells = subst (λ n. Tells n opened) number (subst (Tells (state_of k1).next_reader) (sym is) (tells_as (state_of k1).next_reader key found))
 
   pub begun_reader : IfReader (IsOpenReader (state_of k2)) opened
   begun_reader = subst (λ t. IfReader (IsOpenReader t) opened) (sym state_is) (subst (IfReader (IsOpenReader (opens_now (state_of k1) who key request found))) (sym is) (open_as (state_of k1) who key request found))
@@ -187,3 +195,12 @@ module _ (k k0 k1 k2 : Kept) (who : Actor) (key : Key) (request : List Field) (f
       → IfOk r (Opens (state_of k) (state_of k2) old newer who key request)
   opens_then old older new newer (Ok opened) adds opens from still quiet l = begun_opens k k0 k1 k2 who key request found opened same looks adds opens old older new newer from still quiet l
   opens_then old older new newer (Err e) adds opens from still quiet l = tt
+
+  pub tells_then : (r : Result Opened AllocError) → AddsIt r → OpensIt r → IfOk r (Tells (state_of k).next_reader)
+  tells_then (Ok opened) adds opens = begun_tells k k0 k1 k2 who key request found opened same looks adds opens
+  tells_then (Err e) adds opens = tt
+
+-- memory is not wanting
+pub never_fails : (r : Result Opened AllocError) (P : Type 0) → IsOk r → OnErr r P
+never_fails (Ok opened) P ok = tt
+never_fails (Err e) P ok = cc

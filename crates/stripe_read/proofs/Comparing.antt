@@ -5,7 +5,7 @@ use Rattle.std.proofs.lemmas.List.{length-take}
 use Rattle.tape_base.specs.declared.digests.Digest.{Digest}
 use Rattle.tape_base.specs.declared.pieces.PieceId.{PieceId}
 use Rattle.tape_base.specs.Digest.{digest_of}
-use Rattle.ats_disk.specs.Device.{State as Device}
+use Rattle.logged_disk.specs.Device.{State as Device}
 use Rattle.doc_header.specs.Reading.{payload_of}
 use Rattle.cache_model.specs.declared.cause.Cause.{Cause}
 use Rattle.cache_model.specs.declared.cause.Cause.TheVariants as cause

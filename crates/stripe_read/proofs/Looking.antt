@@ -3,7 +3,7 @@ use Rattle.std.proofs.Common.{◌≡◌, ℕ, ◌<◌, ◌≤◌, List, [], refl
 use Rattle.std.specs.Prelude.{Option, Some, None, if◌then◌else◌, option_and_then, option_map, unwrap_or}
 use Rattle.std.proofs.lemmas.List.{append-nil}
 use Rattle.tape_base.specs.declared.keys.Key.{Key}
-use Rattle.ats_disk.specs.Device.{State as Device}
+use Rattle.logged_disk.specs.Device.{State as Device}
 use Rattle.alternate_vector.specs.Field.{Field}
 use Rattle.alternate_vector.specs.Alternates.{Stored}
 use Rattle.open_directory.specs.Directory.{followed as followed_put}

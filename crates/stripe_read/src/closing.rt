@@ -9,9 +9,9 @@ ghost use Rattle.stripe_read.specs.Readers.{ClosesAsAsked, IsOpenReader};
 ghost use Rattle.stripe_read.specs.Others.{AddsOfReader};
 
 use crate::Reader;
-use ats_disk::Disk;
 use cache_chronicle::Chronicle;
 use dir_table::Directory;
+use logged_disk::Disk;
 use std::alloc::AllocError;
 use stripe_core::Stripe;
 

@@ -6,17 +6,18 @@ ghost use Rattle.cache_model.specs.Legal.{most_fragments};
 ghost use Rattle.cache_model.specs.Verdict.{next_row};
 ghost use Rattle.open_directory.specs.Directory.{table_row};
 ghost use Rattle.stripe_core.specs.Find.{find_adds};
+ghost use Rattle.logged_disk.specs.Device.{IsAfter};
 ghost use Rattle.stripe_core.specs.Stripe.{IsStripe, kept_in, seen_in, state_in, units_in};
 ghost use Rattle.stripe_core.specs.Unharmed.{StaysUnharmed};
 ghost use Rattle.stripe_read.specs.Readers.{IsOpenReader, as_row};
 ghost use Rattle.stripe_read.specs.Fetches.{Fetches, IsAsListed, IsCompared, IsOtherDocument, IsUnlike};
 
 use crate::Reader;
-use ats_disk::Disk;
 use cache_chronicle::Chronicle;
 use cache_model::Cause;
 use dir_table::Directory;
 use fragment_table::FragTable;
+use logged_disk::Disk;
 use std::alloc::AllocError;
 use stripe_core::{Found, Stripe};
 use tape_base::{Digest, PieceId};
@@ -78,7 +79,7 @@ pub(crate) fn fetch<D: Disk, R: Directory + Drop, C: Chronicle>(
     requires into { length into.old ≡ 512 * budget_of (state_in C.Chronicle stripe.old).geometry }
     ensures stripe { IsStripe D.Disk R.Directory C.Chronicle stripe.new }
     ensures unharmed { StaysUnharmed D.Disk R.Directory C.Chronicle stripe.old stripe.new ⊎ IsOtherDocument (state_in C.Chronicle stripe.old) id listed }
-    ensures trust { (seen_in D.Disk R.Directory stripe.new).device.trust ≤ (seen_in D.Disk R.Directory stripe.old).device.trust }
+    ensures device { IsAfter (seen_in D.Disk R.Directory stripe.old).device (seen_in D.Disk R.Directory stripe.new).device }
     ensures adds { IfOk result (λ found. kept_in C.Chronicle stripe.new
         ≡ with_records (kept_in C.Chronicle stripe.old) (find_adds (state_in C.Chronicle stripe.old) id found)) }
     ensures fetches { IfOk result (λ found. Fetches (state_in C.Chronicle stripe.old) (seen_in D.Disk R.Directory stripe.old).device

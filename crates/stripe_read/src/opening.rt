@@ -13,11 +13,11 @@ ghost use Rattle.stripe_read.specs.Others.{AddsOfReader};
 
 use crate::Reader;
 use alternate_vector::{Fields, Vector};
-use ats_disk::Disk;
 use cache_chronicle::Chronicle;
 use cache_model::{Cause, ReadAnswer};
 use dir_table::Directory;
 use fragment_table::FragTable;
+use logged_disk::Disk;
 use std::alloc::AllocError;
 use stripe_core::Stripe;
 use stripe_vectors::{KeyVector, read_is_listed, read_vector};
@@ -58,6 +58,7 @@ struct Chosen {
 
 /// Looks a key up: a stored alternate that matches the request, or else an open writer, or else the
 /// cause. It opens the reader of what it finds.
+#[tactic(auto)]
 pub fn open_read<D: Disk, R: Directory + Drop, C: Chronicle>(
     stripe: &mut Stripe<D, R, C>,
     actor: Actor,

@@ -2,9 +2,9 @@
 ghost use Rattle.std.specs.Prelude.{◌≡◌, None, IfOk};
 ghost use Rattle.stripe_core.specs.Stripe.{IsStripe, state_in};
 
-use ats_disk::{Disk, MemDisk};
 use cache_chronicle::{Chronicle, FullChronicle};
 use dir_table::{Directory, ListDirectory};
+use logged_disk::{Disk, MemDisk};
 use std::test::Fail;
 use stripe_core::Stripe;
 use tape_base::Geometry;
@@ -19,7 +19,7 @@ pub fn empty(rt: &impl AllocGlobal) -> Result<Small, Fail>
     ensures quiet { IfOk result (λ t. (state_in ⟦<FullChronicle as Chronicle>⟧ t).pending ≡ None) }
 {
     let g = Geometry::check(1, 64, 64, 8, 16, 4, 7).map_err(|_| "refused")?;
-    let disk = MemDisk::new(rt.alloc(), 64)?;
+    let disk = MemDisk::new(rt.alloc(), 0, 64);
     if disk.blocks() < g.content {
         return Err("a short device".into());
     }

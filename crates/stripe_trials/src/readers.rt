@@ -4,10 +4,10 @@ ghost use Rattle.stripe_core.specs.Stripe.{IsStripe, state_in};
 
 use crate::making::{Small, empty};
 use alternate_vector::Fields;
-use ats_disk::{Disk, MemDisk};
 use cache_chronicle::{Chronicle, FullChronicle};
 use cache_model::Cause;
 use dir_table::{Directory, ListDirectory};
+use logged_disk::{Disk, MemDisk};
 use std::test::Fail;
 use stripe_read::{NextPiece, Opened, close_read, open_read, read_next};
 use tape_base::{Actor, Key};

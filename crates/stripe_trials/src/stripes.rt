@@ -1,9 +1,9 @@
 // What no clause of `stripe_core` says: a fresh stripe, a writer, a reader, and a missing piece.
 use crate::making::empty;
 use alternate_vector::Fields;
-use ats_disk::Disk;
 use cache_chronicle::Chronicle;
 use cache_model::{Cause, NextAnswer, ReadAnswer};
+use logged_disk::Disk;
 use std::test::Fail;
 use stripe_core::{Flushed, Found};
 use tape_base::{Actor, Key, PieceId};

@@ -2,7 +2,7 @@
 use Rattle.std.specs.Prelude.{ℕ, ◌≡◌, ◌*◌, ◌⊎◌, List, [], length, Option, Some, None, Result, Ok, Err}
 use Rattle.hex.specs.Hex.{IsBytes}
 use Rattle.tape_base.specs.declared.keys.Key.{Key}
-use Rattle.ats_disk.specs.Device.{State as Device}
+use Rattle.logged_disk.specs.Device.{State as Device}
 use Rattle.doc_header.specs.Reading.{document_digest, payload_of}
 use Rattle.alternate_vector.specs.declared.fault.VectorFault.{VectorFault}
 use Rattle.alternate_vector.specs.Alternates.{Stored}

@@ -10,10 +10,10 @@ ghost use Rattle.stripe_core.specs.Unharmed.{StaysUnharmed};
 ghost use Rattle.stripe_vectors.specs.Reading.{FindsVector, listed_in, vector_adds};
 
 use alternate_vector::{Vector, VectorFault};
-use ats_disk::Disk;
 use cache_chronicle::Chronicle;
 use cache_model::Cause;
 use dir_table::Directory;
+use logged_disk::Disk;
 use std::alloc::{AllocError, Global};
 use stripe_core::{Found, Stripe};
 use tape_base::{BLOCK, Key, PieceId};

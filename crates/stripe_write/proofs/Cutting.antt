@@ -2,7 +2,7 @@
 use Rattle.std.proofs.Common.{◌≡◌, ℕ, ◌+◌, ◌*◌, ◌<◌, inl, inr, ◌⊎◌, List, [], ◌∷◌, ◌++◌, refl, sym, ◌∙◌, ap, subst, arith, Bool, true, false, length, Result, Ok, Err}
 use Rattle.std.specs.Prelude.{Some, option_map, find, ◌==◌, MatchBool, OnOk}
 use Rattle.std.specs.List.{AllByRecursion}
-use Rattle.ats_disk.specs.Device.{State as Device}
+use Rattle.logged_disk.specs.Device.{State as Device}
 use Rattle.std.specs.declared.alloc.AllocError.{AllocError}
 use Rattle.std.proofs.lemmas.Bool.{eq-eqb, eqb-true}
 use Rattle.std.proofs.lemmas.List.{length-append}

@@ -12,7 +12,7 @@ use Rattle.cache_model.specs.declared.record.Rec.{Rec}
 use Rattle.cache_model.specs.declared.record.Rec.TheVariants as rec
 use Rattle.cache_model.specs.State.{PutRow, State, fragment_piece, put_of}
 use Rattle.cache_model.specs.Kept.{Kept, state_of, with_records}
-use Rattle.ats_disk.specs.Device.{State as Device}
+use Rattle.logged_disk.specs.Device.{State as Device}
 use Rattle.cache_model.specs.Legal.{is_writing, most_fragments}
 use Rattle.stripe_core.specs.declared.refusal.Placed.{Placed}
 use Rattle.stripe_core.specs.declared.refusal.Refusal.{Refusal}

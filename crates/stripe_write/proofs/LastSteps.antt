@@ -2,7 +2,7 @@
 use Rattle.std.proofs.Common.{◌≡◌, ℕ, ◌+◌, ◌≤◌, List, [], ◌∷◌, ◌++◌, refl, sym, ◌∙◌, ap, subst, true, length, Result, Ok, Err, inl, inr}
 use Rattle.std.specs.Prelude.{◌<◌, ◌==◌, Option, option_map, unwrap_or, find, if◌then◌else◌, IfErr}
 use Rattle.std.proofs.lemmas.List.{append-nil, append_assoc}
-use Rattle.ats_disk.specs.Device.{State as Device}
+use Rattle.logged_disk.specs.Device.{State as Device}
 use Rattle.fragment_table.specs.Table.{TableRow}
 use Rattle.cache_model.specs.declared.record.Rec.{Rec}
 use Rattle.cache_model.specs.State.{PutRow, State, after_all, put_of}

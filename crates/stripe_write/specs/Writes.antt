@@ -11,7 +11,7 @@ use Rattle.cache_model.specs.State.{Open, PutRow, State, fragment_piece, put_of}
 use Rattle.cache_model.specs.Kept.{Kept, state_of, with_records}
 use Rattle.cache_model.specs.Permit.{DeviceRead, Done, Fails, Fragment, GiveUp, Intent, ManyFragments, Overflow, Permit}
 use Rattle.cache_model.specs.Legal.{Does, is_writing, most_fragments}
-use Rattle.ats_disk.specs.Device.{State as Device, IsTold}
+use Rattle.logged_disk.specs.Device.{State as Device, TellsAll}
 use Rattle.stripe_core.specs.declared.refusal.Placed.{Placed}
 use Rattle.stripe_core.specs.declared.refusal.Refusal.{Refusal}
 use Rattle.stripe_core.specs.declared.refusal.Refusal.TheVariants as refusal
@@ -136,7 +136,7 @@ pub record WritesAsAsked (now : ℕ) (old new : Kept) (before : ℕ) (after : De
   pub adds : new ≡ with_records old added
   pub own : AllByRecursion (IsOfPut w.put) added
   -- a device that tells its content shows each piece as it was placed
-  pub unharmed : IsTold after → TellNoDamage added
+  pub unharmed : TellsAll after → TellNoDamage added
   pub does : WritesAs now (state_of old) before after.faults w bytes result added reads
 
 -- a writer as it was

@@ -15,9 +15,9 @@ use crate::finishing::{Receipt, finish};
 use crate::resting::cut_rest;
 use crate::weighing::{Vectors, weigh};
 use crate::writing::is_open;
-use ats_disk::Disk;
 use cache_chronicle::Chronicle;
 use dir_table::Directory;
+use logged_disk::Disk;
 use std::alloc::AllocError;
 use stripe_core::{Refusal, Stripe};
 

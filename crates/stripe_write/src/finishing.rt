@@ -20,9 +20,9 @@ ghost use Rattle.stripe_write.specs.Finishing.{AreLive, FinishesAsRead, Finishes
 
 use crate::Writer;
 use crate::weighing::Vectors;
-use ats_disk::Disk;
 use cache_chronicle::Chronicle;
 use dir_table::Directory;
+use logged_disk::Disk;
 use stripe_core::{Refusal, Stripe};
 use stripe_vectors::{Spelled, live_vector};
 use tape_base::PieceId;

@@ -12,9 +12,9 @@ ghost use Rattle.stripe_write.specs.Writes.{SameButBytes, SameWriter};
 
 use crate::Writer;
 use crate::writing::cut;
-use ats_disk::Disk;
 use cache_chronicle::Chronicle;
 use dir_table::Directory;
+use logged_disk::Disk;
 use stripe_core::{Refusal, Stripe};
 
 /// Cuts what a sealed writer has gathered, where there is some. Memory for it is made before.

@@ -17,11 +17,11 @@ ghost use Rattle.stripe_write.specs.Weighing.{FitsWhere, IsSpelledWith, fault_in
 
 use crate::Writer;
 use alternate_vector::{Alternate, Vector};
-use ats_disk::Disk;
 use cache_chronicle::Chronicle;
 use cache_model::Cause;
 use dir_table::Directory;
 use fragment_table::FragTable;
+use logged_disk::Disk;
 use std::alloc::{AllocError, Global};
 use stripe_core::{Refusal, Stripe};
 use stripe_vectors::{KeyVector, Spelled, read_is_listed, read_vector, spell};

@@ -16,10 +16,10 @@ ghost use Rattle.stripe_write.specs.Writes.{AbortsAsAsked, AbortsWhere, GathersA
 
 use crate::Writer;
 use alternate_vector::Fields;
-use ats_disk::Disk;
 use cache_chronicle::Chronicle;
 use dir_table::Directory;
 use fragment_table::FragTable;
+use logged_disk::Disk;
 use open_directory::PutState;
 use stripe_core::{Placed, Refusal, Stripe};
 use tape_base::{Actor, Key, PieceId};

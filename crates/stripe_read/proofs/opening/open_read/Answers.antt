@@ -1,6 +1,7 @@
 use Rattle.stripe_core.specs.Stripe.{kept_in, seen_in}
-use Rattle.stripe_read.proofs.Beginning.{adds_then, opens_then, quiet_then, reader_then}
+use Rattle.stripe_read.proofs.Beginning.{adds_then, never_fails, opens_then, quiet_then, reader_then, tells_then}
 use Rattle.stripe_read.proofs.Owning.{owns_open}
+use Rattle.stripe_core.proofs.Unharmed.{stays_unharmed-trans}
 use Rattle.stripe_read.proofs.opening.open_read.Goals as goal
 
 pub returns-clause-quiet : goal.returns-clause-quiet
@@ -34,3 +35,19 @@ returns-clause-own g c =
     (adds_then (kept_in g.C.Chronicle c.args.stripe.now) (kept_in g.C.Chronicle c.prepare.new.self) (kept_in g.C.Chronicle c.look_up.new.stripe) (kept_in g.C.Chronicle c.begin.new.stripe)
     c.args.actor c.args.key c.args.request c.in_ok-looked.looked c.prepare.ensures.records c.in_ok-looked.ensures.adds
     c.begin.result c.begin.ensures.adds c.begin.ensures.opens) c.begin.ensures.memory
+
+pub returns-in_err-looked-clause-unharmed : goal.returns-in_err-looked-clause-unharmed
+returns-in_err-looked-clause-unharmed g c = stays_unharmed-trans _ _ _ _ _ _ c.prepare.ensures.unharmed c.look_up.ensures.unharmed
+
+pub returns-clause-unharmed : goal.returns-clause-unharmed
+returns-clause-unharmed g c =
+    stays_unharmed-trans _ _ _ _ _ _ c.prepare.ensures.unharmed (stays_unharmed-trans _ _ _ _ _ _ c.look_up.ensures.unharmed c.begin.ensures.unharmed)
+
+pub returns-clause-tells : goal.returns-clause-tells
+returns-clause-tells g c =
+    tells_then (kept_in g.C.Chronicle c.args.stripe.now) (kept_in g.C.Chronicle c.prepare.new.self) (kept_in g.C.Chronicle c.look_up.new.stripe) (kept_in g.C.Chronicle c.begin.new.stripe)
+    c.args.actor c.args.key c.args.request c.in_ok-looked.looked c.prepare.ensures.records c.in_ok-looked.ensures.adds
+    c.begin.result c.begin.ensures.adds c.begin.ensures.opens
+
+pub returns-clause-err : goal.returns-clause-err
+returns-clause-err g c = never_fails c.begin.result _ c.begin.ensures.memory

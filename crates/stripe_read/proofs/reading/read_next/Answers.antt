@@ -7,6 +7,7 @@ use Rattle.stripe_read.specs.Others.{AddsOfReader}
 use Rattle.stripe_read.proofs.Giving.{given_prepared, reads_prepared}
 use Rattle.stripe_read.proofs.Harmless.{behind_unharmed}
 use Rattle.stripe_read.proofs.Owning.{owns_read_or_none}
+use Rattle.logged_disk.proofs.GoingOn.{goes_further}
 use Rattle.stripe_read.proofs.reading.read_next.Goals as goal
 
 pub returns-in-Some-clause-reads : goal.returns-in-Some-clause-reads
@@ -35,3 +36,9 @@ returns-in-Some-clause-own g c =
 
 pub returns-in-Some-clause-keeps : goal.returns-in-Some-clause-keeps
 returns-in-Some-clause-keeps g c = λ own. c.give.ensures.keeps (subst (λ (k : Kept). IsReaderOf (state_of k) c.args.reader.now) (sym c.prepare.ensures.records) own)
+
+pub returns-in-Some-clause-device : goal.returns-in-Some-clause-device
+returns-in-Some-clause-device g c = goes_further _ _ _ c.prepare.ensures.still.goes c.give.ensures.device
+
+pub returns-in-None-clause-keeps : goal.returns-in-None-clause-keeps
+returns-in-None-clause-keeps g c = λ own. c.stop.ensures.keeps (subst (λ (k : Kept). IsReaderOf (state_of k) c.args.reader.now) (sym c.prepare.ensures.records) own)

@@ -1,7 +1,8 @@
 use Rattle.std.proofs.Common.{◌≡◌, ◌+◌, ◌*◌, ◌≤◌, ◌∷◌, ◌++◌, sym, ◌∙◌, ap, subst, arith, true, false, [], Err, length}
 use Rattle.tape_base.specs.declared.geometries.Geometry.{Geometry}
 use Rattle.tape_base.specs.Geometry.{budget_of}
-use Rattle.ats_disk.specs.Device.{State as Device}
+use Rattle.logged_disk.specs.Device.{State as Device, IsAfter}
+use Rattle.cyclone.proofs.Calls.{write_goes_on}
 use Rattle.cyclone.specs.Cyclone.{Seen, seen}
 use Rattle.cache_model.specs.declared.record.Rec.TheVariants as rec
 use Rattle.cache_model.specs.State.{State, after_all}
@@ -108,10 +109,10 @@ returns-in-Ok-clause-does g c =
     let next = c.next_cursor-next.ensures ∙ next_is s before c.requires.pieces in
     let some = some_filled s before c.next_place.result c.cursor.result c.requires.pieces c.next_place.ensures c.cursor.ensures c.if-blocks-eq0.false in
     let faults = ap (λ (d : Device). d.faults) c.go_on.ensures.still in
-    let trust = ap (λ (d : Device). d.trust) c.go_on.ensures.still in
+    let later = write_goes_on (seen_of g.D.Disk g.R.Directory c.look_ahead.new.self) (seen g.D.Disk g.R.Directory c.write_out.new.self) c.write_out.result c.write_out.ensures.device in
     flush_asked c.args.now (kept_of g.C.Chronicle c.args.self.now) (kept_of g.C.Chronicle c.go_on.new.self) before.device.faults (seen_of g.D.Disk g.R.Directory c.look_ahead.new.self).device after a
     c.flushed-in-Ok.result c.requires.pieces.sound (can s c.requires.quiet some (omega (arith, next, c.if-next-ge-LIMIT.false))) c.look_ahead.ensures.looks
-    (record { faults = omega (arith, faults, c.write_out.ensures.device.cause.later); trust = omega (arith, trust, c.write_out.ensures.device.keeps.trust) })
+    (record { faults = omega (arith, faults, c.write_out.ensures.device.cause.later); goes = subst (λ d. IsAfter (seen_of g.D.Disk g.R.Directory c.look_ahead.new.self).device d) (sym c.go_on.ensures.still) later })
     (subst (λ x. kept_of g.C.Chronicle c.go_on.new.self ≡ with_records (g.C.Chronicle.kept x) (done_records (state_of (g.C.Chronicle.kept x)) a.due.items a.fates.items a.bytes.items))
     c.look_ahead.ensures.chronicle c.go_on.ensures.adds)
 
@@ -129,7 +130,7 @@ returns-in-Ok-clause-uses g c =
     subst (λ n. Uses (2 * most_passed before.geometry + 1) (budget_of before.geometry) 1 before.geometry.agg n (g.C.Chronicle.room c.go_on.new.self.chronicle) before after)
     (ap (λ x. g.C.Chronicle.room x) c.look_ahead.ensures.chronicle)
     (flush_uses _ _ _ _ _ _ before (seen_of g.D.Disk g.R.Directory c.look_ahead.new.self) (seen g.D.Disk g.R.Directory c.write_out.new.self) after c.write_out.result
-    c.look_ahead.ensures.same c.look_ahead.ensures.keeps c.look_ahead.ensures.later c.write_out.ensures.same c.write_out.ensures.device c.requires.pieces.turning.few c.go_on.ensures.uses fits enters)
+    c.look_ahead.ensures.same c.look_ahead.ensures.asked c.write_out.ensures.same c.write_out.ensures.device c.requires.pieces.turning.few c.go_on.ensures.uses fits enters)
 
 pub returns-in-Ok-clause-room : goal.returns-in-Ok-clause-room
 returns-in-Ok-clause-room g c =
@@ -157,14 +158,14 @@ returns-in-Err-clause-does g c =
     let next = c.next_cursor-next.ensures ∙ next_is s before c.requires.pieces in
     let some = some_filled s before c.next_place.result c.cursor.result c.requires.pieces c.next_place.ensures c.cursor.ensures c.if-blocks-eq0.false in
     let faults : after.faults ≡ out.faults = ap (λ (d : Device). d.faults) c.stop.ensures.still in
-    let trust = ap (λ (d : Device). d.trust) c.stop.ensures.still in
+    let later = write_goes_on (seen_of g.D.Disk g.R.Directory c.look_ahead.new.self) (seen g.D.Disk g.R.Directory c.write_out.new.self) c.write_out.result c.write_out.ensures.device in
     let adds = subst (λ x. kept_of g.C.Chronicle c.stop.new.self ≡ with_records (g.C.Chronicle.kept x) (told_of false a.due.items a.fates.items ++ rec.Fault out.faults ∷ []))
     c.look_ahead.ensures.chronicle c.stop.ensures.adds in
     subst (λ why. FlushesAsAsked c.args.now (kept_of g.C.Chronicle c.args.self.now) (kept_of g.C.Chronicle c.stop.new.self) before.device.faults after (Err why))
     (ap (λ n. stop.DeviceFault n) faults ∙ sym c.stop.ensures.why)
     (stop_asked c.args.now (kept_of g.C.Chronicle c.args.self.now) (kept_of g.C.Chronicle c.stop.new.self) before.device.faults (seen_of g.D.Disk g.R.Directory c.look_ahead.new.self).device after a
-    c.requires.pieces.sound (can s c.requires.quiet some (omega (arith, next, c.if-next-ge-LIMIT.false))) c.requires.pieces.faults c.look_ahead.ensures.later c.look_ahead.ensures.looks
-    (record { faults = omega (arith, faults, c.write_out.ensures.device.cause.later); trust = omega (arith, trust, c.write_out.ensures.device.keeps.trust) })
+    c.requires.pieces.sound (can s c.requires.quiet some (omega (arith, next, c.if-next-ge-LIMIT.false))) c.requires.pieces.faults c.look_ahead.ensures.asked.later c.look_ahead.ensures.looks
+    (record { faults = omega (arith, faults, c.write_out.ensures.device.cause.later); goes = subst (λ d. IsAfter (seen_of g.D.Disk g.R.Directory c.look_ahead.new.self).device d) (sym c.stop.ensures.still) later })
     (omega (arith, faults, c.in-Err.ensures.device.cause.failed))
     (subst (λ n. kept_of g.C.Chronicle c.stop.new.self ≡ with_records (kept_of g.C.Chronicle c.args.self.now) (told_of false a.due.items a.fates.items ++ rec.Fault n ∷ [])) (sym faults) adds))
 
@@ -180,4 +181,4 @@ returns-in-Err-clause-uses g c =
     subst (λ n. Uses (2 * most_passed before.geometry + 1) (budget_of before.geometry) 1 before.geometry.agg n (g.C.Chronicle.room c.stop.new.self.chronicle) before after)
     (ap (λ x. g.C.Chronicle.room x) c.look_ahead.ensures.chronicle)
     (flush_uses _ _ _ _ _ _ before (seen_of g.D.Disk g.R.Directory c.look_ahead.new.self) (seen g.D.Disk g.R.Directory c.write_out.new.self) after c.write_out.result
-    c.look_ahead.ensures.same c.look_ahead.ensures.keeps c.look_ahead.ensures.later c.write_out.ensures.same c.write_out.ensures.device c.requires.pieces.turning.few c.stop.ensures.uses fits (omega arith))
+    c.look_ahead.ensures.same c.look_ahead.ensures.asked c.write_out.ensures.same c.write_out.ensures.device c.requires.pieces.turning.few c.stop.ensures.uses fits (omega arith))

@@ -1,20 +1,24 @@
 use Rattle.std.proofs.Common.{◌*◌, sym, ◌∙◌, ap, subst, take, [], ◌∷◌}
-use Rattle.ats_disk.specs.Device.{State as Device, IsTold}
+use Rattle.logged_disk.specs.Device.{State as Device, TellsAll}
 use Rattle.cache_model.specs.declared.record.Rec.TheVariants as rec
 use Rattle.cache_model.specs.Kept.{state_of, with_records}
 use Rattle.cyclone.specs.Cyclone.{seen}
 use Rattle.stripe_core.specs.Find.{Finds}
 use Rattle.stripe_core.specs.Held.{IsHeld}
 use Rattle.stripe_core.specs.Pieces.{kept_of, seen_of, state_now}
-use Rattle.stripe_core.proofs.Flushes.{fault_is_held, state_of-with_records}
+use Rattle.stripe_core.proofs.Flushes.{fault_is_held, read_spares, state_of-with_records}
 use Rattle.stripe_core.proofs.Findings.{finds_fault, finds_no_damage, finds_read, judged_adds}
-use Rattle.stripe_core.proofs.Going.{device_may_change, shows_same}
+use Rattle.stripe_core.proofs.Going.{device_may_change}
+use Rattle.cyclone.proofs.Calls.{reads_go_on, reads_same}
+use Rattle.stripe_core.specs.Covers.{Uses}
+use Rattle.stripe_core.specs.Stripe.{IsUnwritten}
+use Rattle.stripe_core.proofs.Flushes.{read_uses, records_use}
 use Rattle.stripe_core.proofs.pieces.Pieces.read.Goals as goal
 
 pub judge-requires-clause-pieces : goal.judge-requires-clause-pieces
 judge-requires-clause-pieces g c =
     device_may_change (state_now g.C.Chronicle c.args.self.now) (seen_of g.D.Disk g.R.Directory c.args.self.now) (seen g.D.Disk g.R.Directory c.load.new.cyclone) c.requires.pieces
-    c.load.ensures.same c.load.ensures.turns (shows_same _ _ c.load.ensures.reads.cause.later c.load.ensures.reads.keeps.trust c.load.ensures.reads.same)
+    c.load.ensures.same c.load.ensures.turns (read_spares _ _ _ _ _ _ c.load.ensures.reads)
 
 pub returns-in-Ok-clause-adds : goal.returns-in-Ok-clause-adds
 returns-in-Ok-clause-adds g c =
@@ -36,7 +40,7 @@ returns-in-Err-clause-pieces g c =
     let s = state_now g.C.Chronicle c.args.self.now in
     let after = seen g.D.Disk g.R.Directory c.load.new.cyclone in
     subst (λ t. IsHeld t after) (sym (ap state_of c.fault.ensures.kept ∙ state_of-with_records (kept_of g.C.Chronicle c.args.self.now) (rec.Fault c.faults-count.result ∷ [])))
-    (fault_is_held s (seen_of g.D.Disk g.R.Directory c.args.self.now) after c.faults-count.result c.requires.pieces c.load.ensures.same c.load.ensures.turns (shows_same _ _ c.load.ensures.reads.cause.later c.load.ensures.reads.keeps.trust c.load.ensures.reads.same)
+    (fault_is_held s (seen_of g.D.Disk g.R.Directory c.args.self.now) after c.faults-count.result c.requires.pieces c.load.ensures.same c.load.ensures.turns (read_spares _ _ _ _ _ _ c.load.ensures.reads)
     (c.faults-count.ensures ∙ ap (λ (d : Device). d.faults) c.disk.ensures))
 
 pub returns-in-Err-clause-finds : goal.returns-in-Err-clause-finds
@@ -52,4 +56,24 @@ returns-in-Ok-clause-unharmed g c told =
     let before = seen_of g.D.Disk g.R.Directory c.args.self.now in
     finds_no_damage s before (seen g.D.Disk g.R.Directory c.load.new.cyclone) c.args.id c.args.place c.recorded-blocks.result.0 c.recorded-blocks.result.1
     (take (512 * c.recorded-blocks.result.0) c.load.new.into) c.judge.new.into c.judge.result c.requires.pieces c.recorded-blocks.ensures.recorded c.in-Ok.ensures.reads c.judge.ensures.judges
-    (subst (λ (d : Device). IsTold d) c.judge.ensures.still told)
+    (subst (λ (d : Device). TellsAll d) c.judge.ensures.still told)
+
+pub returns-in-Ok-clause-unwritten : goal.returns-in-Ok-clause-unwritten
+returns-in-Ok-clause-unwritten g c =
+    subst (λ d. IsUnwritten (seen_of g.D.Disk g.R.Directory c.args.self.now).device d) (sym c.judge.ensures.still)
+    (record { goes = reads_go_on _ _ _ _ _ _ c.load.ensures.reads; seen = reads_same _ _ _ _ _ _ c.load.ensures.reads })
+
+pub returns-in-Ok-clause-uses : goal.returns-in-Ok-clause-uses
+returns-in-Ok-clause-uses g c =
+    read_uses 1 _ _ (seen_of g.D.Disk g.R.Directory c.args.self.now) (seen g.D.Disk g.R.Directory c.load.new.cyclone) (seen_of g.D.Disk g.R.Directory c.judge.new.self) _ _ _ _
+    c.load.ensures.same c.load.ensures.reads c.judge.ensures.uses
+
+pub returns-in-Err-clause-unwritten : goal.returns-in-Err-clause-unwritten
+returns-in-Err-clause-unwritten g c =
+    record { goes = reads_go_on _ _ _ _ _ _ c.load.ensures.reads; seen = reads_same _ _ _ _ _ _ c.load.ensures.reads }
+
+pub returns-in-Err-clause-uses : goal.returns-in-Err-clause-uses
+returns-in-Err-clause-uses g c =
+    let after = seen g.D.Disk g.R.Directory c.load.new.cyclone in
+    read_uses 1 _ _ (seen_of g.D.Disk g.R.Directory c.args.self.now) after after _ _ _ _
+    c.load.ensures.same c.load.ensures.reads (records_use 1 _ _ after c.fault.ensures.room)

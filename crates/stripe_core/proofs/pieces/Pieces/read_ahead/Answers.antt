@@ -1,9 +1,11 @@
 use Rattle.std.proofs.Common.{◌<◌, ◌∙◌, ap, arith}
-use Rattle.ats_disk.specs.Device.{State as Device}
+use Rattle.logged_disk.specs.Device.{State as Device}
 use Rattle.cyclone.specs.Cyclone.{seen}
 use Rattle.stripe_core.specs.Pieces.{seen_of, state_now}
-use Rattle.stripe_core.proofs.Going.{device_may_change, shows_same}
+use Rattle.stripe_core.proofs.Flushes.{read_spares}
+use Rattle.stripe_core.proofs.Going.{device_may_change}
 use Rattle.stripe_core.proofs.ReadAhead.{comes_of, comes_refused, has_blocks, is_stored, reads_row}
+use Rattle.cyclone.proofs.Calls.{reads_ask}
 use Rattle.stripe_core.proofs.pieces.Pieces.read_ahead.Goals as goal
 
 pub load-requires-clause-some : goal.load-requires-clause-some
@@ -23,7 +25,7 @@ compare-requires-clause-some g c =
 pub returns-in-Ok-clause-pieces : goal.returns-in-Ok-clause-pieces
 returns-in-Ok-clause-pieces g c =
     device_may_change (state_now g.C.Chronicle c.args.self.now) (seen_of g.D.Disk g.R.Directory c.args.self.now) (seen g.D.Disk g.R.Directory c.load.new.cyclone) c.requires.pieces
-    c.load.ensures.same c.load.ensures.turns (shows_same _ _ c.load.ensures.reads.cause.later c.load.ensures.reads.keeps.trust c.load.ensures.reads.same)
+    c.load.ensures.same c.load.ensures.turns (read_spares _ _ _ _ _ _ c.load.ensures.reads)
 
 pub returns-in-Ok-clause-comes : goal.returns-in-Ok-clause-comes
 returns-in-Ok-clause-comes g c row is may =
@@ -35,7 +37,7 @@ returns-in-Ok-clause-comes g c row is may =
 pub returns-in-Err-clause-pieces : goal.returns-in-Err-clause-pieces
 returns-in-Err-clause-pieces g c =
     device_may_change (state_now g.C.Chronicle c.args.self.now) (seen_of g.D.Disk g.R.Directory c.args.self.now) (seen g.D.Disk g.R.Directory c.load.new.cyclone) c.requires.pieces
-    c.load.ensures.same c.load.ensures.turns (shows_same _ _ c.load.ensures.reads.cause.later c.load.ensures.reads.keeps.trust c.load.ensures.reads.same)
+    c.load.ensures.same c.load.ensures.turns (read_spares _ _ _ _ _ _ c.load.ensures.reads)
 
 pub returns-in-Err-clause-comes : goal.returns-in-Err-clause-comes
 returns-in-Err-clause-comes g c row is may =
@@ -44,3 +46,9 @@ returns-in-Err-clause-comes g c row is may =
     comes_refused (state_now g.C.Chronicle c.args.self.now) before after row c.load.new.into c.requires.pieces may c.faults.result c.in-Err.field-0
     (reads_row before after c.args.candidate row _ c.load.new.into is (c.load.ensures.length ∙ c.requires.into) c.in-Err.ensures.reads)
     (c.faults.ensures ∙ ap (λ (d : Device). d.faults) c.disk.ensures)
+
+pub returns-in-Ok-clause-asked : goal.returns-in-Ok-clause-asked
+returns-in-Ok-clause-asked g c = reads_ask _ _ _ _ _ _ c.load.ensures.reads
+
+pub returns-in-Err-clause-asked : goal.returns-in-Err-clause-asked
+returns-in-Err-clause-asked g c = reads_ask _ _ _ _ _ _ c.load.ensures.reads

@@ -7,7 +7,8 @@ use Rattle.stripe_due.specs.Finding.{candidate_of}
 use Rattle.stripe_core.specs.Ahead.{IsMadeFor}
 use Rattle.stripe_core.specs.Looks.{Looked, LooksOn, MayBeCopied, blocks_kept}
 use Rattle.stripe_core.specs.Pieces.{seen_of, state_now}
-use Rattle.stripe_core.proofs.Kept.{choice_there, keeps_on, next_row, tape_on, taken_on}
+use Rattle.stripe_core.proofs.Kept.{choice_there, next_row, tape_on, taken_on}
+use Rattle.logged_disk.proofs.GoingOn.{asked_further, asked_nothing}
 use Rattle.stripe_core.proofs.OneMore.{looked_more, looked_none}
 use Rattle.stripe_core.proofs.pieces.Pieces.read_kept.Goals as goal
 
@@ -19,8 +20,7 @@ loop-i-init g c =
       pieces = c.requires.pieces;
       chronicle = refl;
       same = refl;
-      keeps = record { size = refl; trust = omega arith; calls = omega arith; blocks = omega arith };
-      later = omega arith;
+      asked = asked_nothing before.device;
       made = record { due = c.requires.ahead.due; kept = c.requires.ahead.kept; fates = omega (arith, c.requires.ahead.fates, c.clear.ensures.capacity); bytes = c.requires.ahead.bytes };
       due = refl;
       kept = refl;
@@ -55,8 +55,7 @@ loop-i-preserved g c =
       pieces = e.pieces;
       chronicle = e.chronicle ∙ inv.chronicle;
       same = tape_on before mid after inv.same e.same;
-      keeps = keeps_on before.device mid.device after.device inv.keeps e.keeps;
-      later = omega (arith, inv.later, e.later);
+      asked = asked_further before.device mid.device after.device inv.asked e.asked;
       made = subst (λ (t : State). IsMadeFor t.geometry c.look_at-at.new.ahead) same e.ahead;
       due = e.due ∙ inv.due;
       kept = e.kept ∙ inv.kept;
@@ -70,6 +69,6 @@ loop-i-preserved g c =
           let looks : LooksOn s mid.device.faults after.device n.row c.loop-i.at c.look_at-at.result c.loop-i.ahead c.look_at-at.new.ahead =
           subst (λ (t : State). MayBeCopied t n.row → LooksOn t mid.device.faults after.device n.row c.loop-i.at c.look_at-at.result c.loop-i.ahead c.look_at-at.new.ahead) same (e.looks n.row there) n.may in
           subst (λ xs. Looked s before.device.faults after.device xs c.look_at-at.result c.look_at-at.new.ahead) (sym n.next)
-          (looked_more s before.device.faults mid.device after.device (take c.loop-i.i rows) n.row c.loop-i.at c.look_at-at.result c.loop-i.ahead c.look_at-at.new.ahead inv.later e.later e.keeps.trust
+          (looked_more s before.device.faults mid.device after.device (take c.loop-i.i rows) n.row c.loop-i.at c.look_at-at.result c.loop-i.ahead c.look_at-at.new.ahead inv.asked.later e.asked
           (inv.looked rows of) looks);
     }

@@ -1,6 +1,6 @@
 use Rattle.std.proofs.Common.{◌≡◌, ◌≤◌, List, length, take}
 use Rattle.tape_base.specs.Geometry.{budget_of}
-use Rattle.ats_disk.specs.Device.{Keeps}
+use Rattle.logged_disk.specs.Device.{IsAsked}
 use Rattle.cyclone.specs.Cyclone.{SameTape}
 use Rattle.evacuator.specs.Choice.{blocks_of_all, kept_blocks}
 use Rattle.cache_model.specs.State.{Row}
@@ -18,8 +18,7 @@ invariant-loop-i g l =
       pieces : ArePieces g.D.Disk g.R.Directory g.C.Chronicle l.self;
       chronicle : l.self.chronicle ≡ l.fn.self.chronicle;
       same : SameTape before after;
-      keeps : Keeps 0 0 before.device after.device;
-      later : before.device.faults ≤ after.device.faults;
+      asked : IsAsked before.device after.device;
       made : IsMadeFor s.geometry l.ahead;
       due : l.ahead.due ≡ l.fn.ahead.due;
       kept : l.ahead.kept ≡ l.fn.ahead.kept;

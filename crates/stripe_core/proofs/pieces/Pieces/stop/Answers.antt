@@ -1,5 +1,5 @@
 use Rattle.std.proofs.Common.{[], ◌∷◌, ap, ◌∙◌, arith}
-use Rattle.ats_disk.specs.Device.{State as Device}
+use Rattle.logged_disk.specs.Device.{State as Device}
 use Rattle.cache_model.specs.declared.record.Rec.TheVariants as rec
 use Rattle.cyclone.specs.Cyclone.{Seen}
 use Rattle.stripe_core.specs.Pieces.{kept_of, seen_of, state_now}

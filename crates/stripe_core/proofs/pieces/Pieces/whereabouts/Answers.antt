@@ -1,6 +1,7 @@
 use Rattle.std.proofs.Common.{◌≡◌, ◌∷◌, sym, ◌∙◌, ap, subst, arith, Some}
 use Rattle.std.specs.Prelude.{Contains}
 use Rattle.dir_table.specs.Candidates.{candidates_of}
+use Rattle.dir_table.specs.Rows.{plain_rows}
 use Rattle.cache_model.specs.State.{Row, live_row_of}
 use Rattle.cache_model.specs.Verdict.{piece_at}
 use Rattle.cache_model.proofs.Known.{live_is_known}
@@ -12,7 +13,7 @@ pub walks-init : goal.walks-init
 walks-init g c =
     let s = state_now g.C.Chronicle c.args.self.now in
     let d = c.directory-directory.result.now in
-    let there : (row : Row) → live_row_of s c.args.id ≡ Some row → Contains (candidates_of (g.R.Directory.window d) c.of_piece.result (g.R.Directory.rows d)) row.place =
+    let there : (row : Row) → live_row_of s c.args.id ≡ Some row → Contains (candidates_of (g.R.Directory.window d) c.of_piece.result (plain_rows (g.R.Directory.rows d))) row.place =
     λ row live. rw (c.directory-directory.ensures.rows, c.directory-directory.ensures.window, c.of_piece.ensures) (live_is_candidate s (seen_of g.D.Disk g.R.Directory c.args.self.now) c.args.id row c.requires live) in
     record {
       walks = c.candidates-walk.ensures.walks;

@@ -70,13 +70,13 @@ pub returns-in-Ok-clause-unharmed : goal.returns-in-Ok-clause-unharmed
 returns-in-Ok-clause-unharmed g c =
     let does = c.in-Ok.ensures.does in
     stays_unharmed-trans _ _ _ _ _ _ c.take_unit.ensures.unharmed
-    (stays_unharmed-adds _ _ (kept_in g.C.Chronicle c.take_unit.new.self) _ does.added does.adds c.flush.ensures.uses.device.trust does.unharmed)
+    (stays_unharmed-adds _ _ (kept_in g.C.Chronicle c.take_unit.new.self) _ does.added does.adds c.flush.ensures.uses.goes does.unharmed)
 
 pub returns-in-Err-clause-unharmed : goal.returns-in-Err-clause-unharmed
 returns-in-Err-clause-unharmed g c =
     let does = c.in-Err.ensures.does in
     stays_unharmed-trans _ _ _ _ _ _ c.take_unit.ensures.unharmed
-    (stays_unharmed-adds _ _ (kept_in g.C.Chronicle c.take_unit.new.self) _ does.added does.adds c.flush.ensures.uses.device.trust does.unharmed)
+    (stays_unharmed-adds _ _ (kept_in g.C.Chronicle c.take_unit.new.self) _ does.added does.adds c.flush.ensures.uses.goes does.unharmed)
 
 pub returns-in-Err-clause-stops : goal.returns-in-Err-clause-stops
 returns-in-Err-clause-stops g c =

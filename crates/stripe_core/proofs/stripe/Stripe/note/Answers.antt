@@ -7,6 +7,8 @@ use Rattle.stripe_core.proofs.Flushes.{state_of-with_records}
 use Rattle.stripe_core.proofs.Doings.{answer_keeps_readers, answer_leaves, answer_leaves_tape, held_behind, one_record, reader_behind}
 use Rattle.stripe_core.proofs.Sparing.{made_behind, numbered_by}
 use Rattle.stripe_core.proofs.Naming.{answer_leaves_names, named_behind}
+use Rattle.logged_disk.proofs.GoingOn.{stays_put}
+use Rattle.stripe_core.proofs.Unharmed.{answer_tells_none, stays_unharmed-adds}
 use Rattle.stripe_core.proofs.stripe.Stripe.note.Goals as goal
 
 pub returns-clause-stripe : goal.returns-clause-stripe
@@ -27,3 +29,8 @@ returns-clause-stripe g c =
       ahead = made_behind kept _ told c.args.self.now.ahead c.answered.ensures.kept leaves.geometry c.requires.stripe.ahead;
       numbered = numbered_by kept (g.C.Chronicle.kept c.answered.new.chronicle) (told ∷ []) 0 c.answered.ensures.kept (omega (arith, reader)) (omega arith) c.requires.stripe.numbered;
     }
+
+pub returns-clause-unharmed : goal.returns-clause-unharmed
+returns-clause-unharmed g c =
+    stays_unharmed-adds _ _ (kept_in g.C.Chronicle c.args.self.now) (g.C.Chronicle.kept c.answered.new.chronicle) (answer_record c.args.reader c.args.answer ∷ []) c.answered.ensures.kept (stays_put _)
+    (λ told. (answer_tells_none c.args.reader c.args.answer, tt))

@@ -1,7 +1,10 @@
-use Rattle.std.proofs.Common.{◌≡◌, ◌*◌, ◌≤◌, sym, ◌∙◌, ap, subst, refl, arith, [], ◌∷◌}
+use Rattle.std.proofs.Common.{◌≡◌, ℕ, List, ◌*◌, ◌≤◌, sym, ◌∙◌, ap, subst, refl, arith, [], ◌∷◌}
 use Rattle.cache_model.specs.declared.record.Rec.TheVariants as rec
 use Rattle.cache_model.specs.State.{state_after}
-use Rattle.cache_model.specs.Kept.{state_of, with_records}
+use Rattle.cache_model.specs.Kept.{Kept, state_of, with_records}
+use Rattle.tape_base.specs.declared.actors.Actor.{Actor}
+use Rattle.tape_base.specs.declared.keys.Key.{Key}
+use Rattle.alternate_vector.specs.Field.{Field}
 use Rattle.stripe_core.specs.Named.{IsNamed}
 use Rattle.stripe_actors.specs.Actors.{AreActors}
 use Rattle.stripe_core.specs.Stripe.{kept_in, seen_in, state_in}
@@ -10,7 +13,18 @@ use Rattle.stripe_core.proofs.Flushes.{state_of-with_records}
 use Rattle.stripe_core.proofs.Doings.{held_behind, opens, reader_behind}
 use Rattle.stripe_core.proofs.Sparing.{behind_one, made_behind, numbered_by}
 use Rattle.stripe_core.proofs.Naming.{named_behind, named_opened}
+use Rattle.logged_disk.proofs.GoingOn.{stays_put}
+use Rattle.stripe_core.proofs.Unharmed.{stays_unharmed-adds}
 use Rattle.stripe_core.proofs.stripe.Stripe.open_put.Goals as goal
+
+-- what was opened, by the lines that were asked
+opened_as : (actor : Actor) (put pin : ℕ) (key : Key) (kept reserved after : Kept) (request given_request response given_response : List Field)
+    → after ≡ with_records reserved (rec.WriteOpened actor put key given_request given_response pin ∷ []) → reserved ≡ kept → given_request ≡ request → given_response ≡ response
+    → after ≡ with_records kept (rec.WriteOpened actor put key request response pin ∷ [])
+opened_as actor put pin key kept reserved after request given_request response given_response is same first second =
+    is ∙ (ap (λ k. with_records k (rec.WriteOpened actor put key given_request given_response pin ∷ [])) same
+    ∙ (ap (λ q. with_records kept (rec.WriteOpened actor put key q given_response pin ∷ [])) first
+    ∙ ap (λ q. with_records kept (rec.WriteOpened actor put key request q pin ∷ [])) second))
 
 pub returns-in-Ok-clause-stripe : goal.returns-in-Ok-clause-stripe
 returns-in-Ok-clause-stripe g c =
@@ -20,10 +34,7 @@ returns-in-Ok-clause-stripe g c =
     let told = rec.WriteOpened c.args.actor c.in-Ok.put c.args.key c.args.request c.args.response c.args.pin in
     let after = g.C.Chronicle.kept c.write_opened.new.chronicle in
     let is : after ≡ with_records kept (told ∷ []) =
-    c.write_opened.ensures.kept
-    ∙ (ap (λ k. with_records k (rec.WriteOpened c.args.actor c.in-Ok.put c.args.key c.in_ok-kept_request.kept_request c.in_ok-kept_response.kept_response c.args.pin ∷ [])) c.reserve.ensures.kept
-    ∙ (ap (λ q. with_records kept (rec.WriteOpened c.args.actor c.in-Ok.put c.args.key q c.in_ok-kept_response.kept_response c.args.pin ∷ [])) c.in_ok-kept_request.ensures.copy
-    ∙ ap (λ q. with_records kept (rec.WriteOpened c.args.actor c.in-Ok.put c.args.key c.args.request q c.args.pin ∷ [])) c.in_ok-kept_response.ensures.copy)) in
+    opened_as c.args.actor c.in-Ok.put c.args.pin c.args.key kept (g.C.Chronicle.kept c.reserve.new.self) after c.args.request c.in_ok-kept_request.kept_request c.args.response c.in_ok-kept_response.kept_response c.write_opened.ensures.kept c.reserve.ensures.kept c.in_ok-kept_request.ensures.copy c.in_ok-kept_response.ensures.copy in
     let reader = reader_behind kept after told is in
     record {
       pieces = held_behind kept after before told is tt (record { geometry = refl; cursor = refl; filled = refl; rows = refl; fault = refl }) c.requires.stripe.pieces;
@@ -53,3 +64,10 @@ returns-in-Ok-clause-does g c =
       λ p. opens p s c.args.actor c.args.key c.args.request c.args.response c.args.pin c.requires.quiet c.requires.number.few c.requires.number.below
           c.in_ok-kept_request.ensures.fields c.in_ok-kept_response.ensures.fields (omega arith),
     )
+
+pub returns-in-Ok-clause-unharmed : goal.returns-in-Ok-clause-unharmed
+returns-in-Ok-clause-unharmed g c =
+    let told = rec.WriteOpened c.args.actor c.in-Ok.put c.args.key c.args.request c.args.response c.args.pin in
+    let kept = kept_in g.C.Chronicle c.args.self.now in
+    let after = g.C.Chronicle.kept c.write_opened.new.chronicle in
+    stays_unharmed-adds _ _ kept after (told ∷ []) (opened_as c.args.actor c.in-Ok.put c.args.pin c.args.key kept (g.C.Chronicle.kept c.reserve.new.self) after c.args.request c.in_ok-kept_request.kept_request c.args.response c.in_ok-kept_response.kept_response c.write_opened.ensures.kept c.reserve.ensures.kept c.in_ok-kept_request.ensures.copy c.in_ok-kept_response.ensures.copy) (stays_put _) (λ told. (refl, tt))

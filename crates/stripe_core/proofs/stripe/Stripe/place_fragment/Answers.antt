@@ -87,12 +87,12 @@ returns-in-Err-clause-memory g c = λ some. subst (λ r. HasMemory {X = Placed} 
 pub returns-in-Ok-clause-unharmed : goal.returns-in-Ok-clause-unharmed
 returns-in-Ok-clause-unharmed g c =
     let does = c.in-Ok.ensures.does in
-    stays_unharmed-adds _ _ (kept_in g.C.Chronicle c.args.self.now) _ does.added does.adds c.place_fragment.ensures.uses.device.trust does.unharmed
+    stays_unharmed-adds _ _ (kept_in g.C.Chronicle c.args.self.now) _ does.added does.adds c.place_fragment.ensures.uses.goes does.unharmed
 
 pub returns-in-Err-clause-unharmed : goal.returns-in-Err-clause-unharmed
 returns-in-Err-clause-unharmed g c =
     let does = c.in-Err.ensures.does in
-    stays_unharmed-adds _ _ (kept_in g.C.Chronicle c.args.self.now) _ does.added does.adds c.place_fragment.ensures.uses.device.trust does.unharmed
+    stays_unharmed-adds _ _ (kept_in g.C.Chronicle c.args.self.now) _ does.added does.adds c.place_fragment.ensures.uses.goes does.unharmed
 
 pub place_fragment-requires-clause-new : goal.place_fragment-requires-clause-new
 place_fragment-requires-clause-new g c =

@@ -69,4 +69,4 @@ returns-in-Ok-clause-unharmed g c =
     let s = state_in g.C.Chronicle c.args.self.now in
     let kind : is_vector c.args.id ≡ true = eq-eqb c.args.id.index 0 c.requires.kind in
     stays_unharmed-adds _ _ (kept_in g.C.Chronicle c.args.self.now) _ (placed_record s c.args.id c.args.pin c.args.start (length c.args.payload.now) c.args.payload.now ∷ [])
-    (c.in-Ok.ensures.adds ∙ ap (with_records (kept_in g.C.Chronicle c.args.self.now)) (vector_alone s c.args.id c.args.pin c.args.start c.args.payload.now kind)) c.place.ensures.uses.device.trust (λ told. (refl, tt))
+    (c.in-Ok.ensures.adds ∙ ap (with_records (kept_in g.C.Chronicle c.args.self.now)) (vector_alone s c.args.id c.args.pin c.args.start c.args.payload.now kind)) c.place.ensures.uses.goes (λ told. (refl, tt))
