@@ -2,7 +2,8 @@
 use Rattle.std.proofs.Common.{◌≡◌, ℕ, List, [], refl, sym, ◌∙◌, subst, inl, inr}
 use Rattle.std.specs.Prelude.{IfErr, IfOk, Option, Some, None, Result, Ok, Err}
 use Rattle.std.proofs.lemmas.List.{append-nil}
-use Rattle.ats_disk.specs.declared.device.Disk.{Ghosts as DiskGhosts}
+use Rattle.logged_disk.specs.declared.device.Disk.{Ghosts as DiskGhosts}
+use Rattle.device_bay.specs.Calls.{BayCall}
 use Rattle.dir_table.specs.declared.directory.Directory.{Ghosts as DirectoryGhosts}
 use Rattle.cache_chronicle.specs.declared.chronicle.Chronicle.{Ghosts as ChronicleGhosts}
 use Rattle.cache_model.specs.State.{State}
@@ -17,7 +18,7 @@ use Rattle.cache_replay.specs.declared.stop.Stop.{Stop}
 use Rattle.cache_replay.specs.declared.stop.Stop.TheVariants.{NoCache, BayFault, Memory}
 use Rattle.cache_replay.specs.Plays.{DeviceEnds, DeviceMoves, Plays, StepEnds, StepMoves}
 use Rattle.script_run.specs.Ledger.{Deals, Ledger}
-use Rattle.cache_replay.specs.Stop.{IsSessionStop, NeedsSession, StopsStep}
+use Rattle.cache_replay.specs.Stop.{IsSessionStop, NeedsSession, RefusesAtStop, StopsStep}
 
 -- what a run says of devices and of the moment
 pub record SameBeside (run new : Run) : Type 0 where
@@ -89,8 +90,13 @@ module _ {D R C : Type 0} (disk : DiskGhosts D) (directory : DirectoryGhosts R) 
   all_ends (Err why) s old new ledger needs h = tt
 
 -- why a line on a session ends the run
-pub all_stops : {D R C : Type 0} (result : Result StepAnswer Stop) (s : Step) (old : Session D R C) (before now : ℕ) → NeedsSession s → IfErr result (IsSessionStop old) → IfErr result (StopsStep old s before now)
+pub all_stops : {D R C : Type 0} (result : Result StepAnswer Stop) (s : Step) (old : Session D R C) (before now : List BayCall) → NeedsSession s → IfErr result (IsSessionStop old) → IfErr result (StopsStep old s before now)
 all_stops (Ok said) s old before now needs h = tt
 all_stops (Err NoCache) s old before now needs h = (needs, h)
 all_stops (Err BayFault) s old before now needs h = absurd h
 all_stops (Err Memory) s old before now needs h = tt
+
+-- the bay is as it was
+pub all_refuse_none : (result : Result StepAnswer Stop) (past : List BayCall) → RefusesAtStop past past result
+all_refuse_none (Ok said) past = refl
+all_refuse_none (Err why) past = λ other. refl

@@ -2,7 +2,7 @@
 use Rattle.std.proofs.Common.{◌≡◌, ℕ, List, [], ◌∷◌, length, refl, sym, ◌∙◌, ap, Bool, cond}
 use Rattle.std.specs.Prelude.{Option, Some, None, if◌then◌else◌, is_some, option_and_then}
 use Rattle.std.proofs.lemmas.Bool.{eq-eqb}
-use Rattle.ats_disk.specs.declared.device.Disk.{Ghosts as DiskGhosts}
+use Rattle.logged_disk.specs.declared.device.Disk.{Ghosts as DiskGhosts}
 use Rattle.dir_table.specs.declared.directory.Directory.{Ghosts as DirectoryGhosts}
 use Rattle.cache_chronicle.specs.declared.chronicle.Chronicle.{Ghosts as ChronicleGhosts}
 use Rattle.actor_table.specs.Table.{Seen, number_of, with_actor}

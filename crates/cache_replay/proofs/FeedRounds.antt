@@ -4,7 +4,7 @@ use Rattle.std.specs.Prelude.{Option, Some, option_map, unwrap_or, find, â—Œ==â—
 use Rattle.std.proofs.lemmas.Bool.{eqb-true, eq-eqb}
 use Rattle.std.proofs.lemmas.Bool.Decides.{eqb_tells}
 use Rattle.std.proofs.lemmas.List.{length-append, length-take-le}
-use Rattle.ats_disk.specs.Device.{State as Device}
+use Rattle.logged_disk.specs.Device.{State as Device}
 use Rattle.tape_base.specs.Digest.{digest_of}
 use Rattle.fragment_table.specs.Table.{TableRow, made_row}
 use Rattle.cache_model.specs.declared.record.Rec.{Rec}

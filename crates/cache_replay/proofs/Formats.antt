@@ -7,8 +7,8 @@ use Rattle.tape_base.specs.declared.geometries.BadGeometry.{BadGeometry}
 use Rattle.tape_base.specs.Geometry.{HasNumbers}
 use Rattle.tape_base.specs.Limits.{first_refusal}
 use Rattle.tape_base.specs.Place.{floor_of}
-use Rattle.ats_disk.specs.Bay.{Return}
-use Rattle.ats_disk.specs.declared.device.Disk.{Ghosts as DiskGhosts}
+use Rattle.logged_disk.specs.Device.{State as Device}
+use Rattle.logged_disk.specs.declared.device.Disk.{Ghosts as DiskGhosts}
 use Rattle.dir_table.specs.declared.directory.Directory.{Ghosts as DirectoryGhosts}
 use Rattle.cache_chronicle.specs.declared.chronicle.Chronicle.{Ghosts as ChronicleGhosts}
 use Rattle.cache_model.specs.Legal.{format_records}
@@ -29,7 +29,7 @@ use Rattle.cache_replay.proofs.Dispatch.{no_deals}
 -- ---- what was told of devices
 
 -- one device more, of which nothing was told
-pub reach_more : (harms : List Harm) (devices : List Return) (d : Return) → AreReached harms devices → AreReached (harms ++ no_harm ∷ []) (devices ++ d ∷ [])
+pub reach_more : (harms : List Harm) (devices : List Device) (d : Device) → AreReached harms devices → AreReached (harms ++ no_harm ∷ []) (devices ++ d ∷ [])
 reach_more [] [] d h = (record { counted = omega arith; unharmed = λ trusted. refl }, tt)
 reach_more [] (x ∷ devices) d h = absurd h
 reach_more (harm ∷ harms) [] d h = absurd h
@@ -87,7 +87,7 @@ module _ {D R C : Type 0} (disk : DiskGhosts D) (directory : DirectoryGhosts R) 
   }
 
   -- a device that was attached in vain came back behind that of the session
-  pub format_left : (harms : List Harm) (session : Session D R C) (name : List ℕ) (r0 r1 r2 r3 : List Return) (n0 n1 n2 n3 : List (List ℕ)) (d : Return)
+  pub format_left : (harms : List Harm) (session : Session D R C) (name : List ℕ) (r0 r1 r2 r3 : List Device) (n0 n1 n2 n3 : List (List ℕ)) (d : Device)
       → AreReached harms (return_of disk directory chronicle session.part) → r1 ≡ r0 → r2 ≡ r1 ++ return_of disk directory chronicle session.part → r3 ≡ r2 ++ d ∷ []
       → n1 ≡ n0 ++ name ∷ [] → n2 ≡ n1 → n3 ≡ n2 → Deals (record { names = n0; returned = r0 }) (record { names = n3; returned = r3 }) (harms ++ no_harm ∷ []) (name ∷ [])
   format_left harms session name r0 r1 r2 r3 n0 n1 n2 n3 d reached one two three four five six = record {

@@ -10,6 +10,7 @@ mod Plain
 mod PlainTurns
 mod OnSession
 mod Formats
+pub mod Order
 pub mod ReaderFrames
 pub mod ReaderLines
 mod OtherNext

@@ -18,7 +18,7 @@ use Rattle.stripe_write.specs.Others.{AddsOfPut, LeavesOthers, OthersStay}
 use Rattle.actor_table.specs.Table.{Seen, number_of, with_actor}
 use Rattle.std.specs.Global.{Vec}
 use Rattle.std.proofs.lemmas.List.{length-append}
-use Rattle.ats_disk.specs.declared.device.Disk.{Ghosts as DiskGhosts}
+use Rattle.logged_disk.specs.declared.device.Disk.{Ghosts as DiskGhosts}
 use Rattle.dir_table.specs.declared.directory.Directory.{Ghosts as DirectoryGhosts}
 use Rattle.cache_chronicle.specs.declared.chronicle.Chronicle.{Ghosts as ChronicleGhosts}
 use Rattle.stripe_core.specs.Stripe.{IsStripe, kept_in, state_in}

@@ -1,7 +1,8 @@
 -- A line on a part and its actors, as a line on a session.
 use Rattle.std.proofs.Common.{◌≡◌, ◌≤◌, ◌⊎◌, inl, inr, sym, ◌∙◌, subst, Result, Ok, Err}
 use Rattle.std.specs.Prelude.{Some, None, IfErr, IfOk}
-use Rattle.ats_disk.specs.declared.device.Disk.{Ghosts as DiskGhosts}
+use Rattle.logged_disk.specs.Device.{IsAfter}
+use Rattle.logged_disk.specs.declared.device.Disk.{Ghosts as DiskGhosts}
 use Rattle.dir_table.specs.declared.directory.Directory.{Ghosts as DirectoryGhosts}
 use Rattle.cache_chronicle.specs.declared.chronicle.Chronicle.{Ghosts as ChronicleGhosts}
 use Rattle.cache_model.specs.State.{State, after_all}
@@ -94,10 +95,10 @@ module _ {D R C : Type 0} (disk : DiskGhosts D) (directory : DirectoryGhosts R) 
   -- it goes on behind a call on its part
   pub line_device : (old : Session D R C) (before after : Part D R C) → old.part ≡ Some before
       → (seen_in disk directory before.stripe).device.faults ≤ (seen_in disk directory after.stripe).device.faults
-      → (seen_in disk directory after.stripe).device.trust ≤ (seen_in disk directory before.stripe).device.trust
+      → IsAfter (seen_in disk directory before.stripe).device (seen_in disk directory after.stripe).device
       → AreLater (return_of disk directory chronicle old.part) (return_of disk directory chronicle (Some after))
-  line_device old before after was more less =
-      subst (λ o. AreLater (return_of disk directory chronicle o) (return_of disk directory chronicle (Some after))) (sym was) (record { faults = more; trust = less }, tt)
+  line_device old before after was more goes =
+      subst (λ o. AreLater (return_of disk directory chronicle o) (return_of disk directory chronicle (Some after))) (sym was) (record { faults = more; goes = goes }, tt)
 
   -- and stays where there is none
   pub no_device : (old : Session D R C) → old.part ≡ None → AreLater (return_of disk directory chronicle old.part) (return_of disk directory chronicle old.part)

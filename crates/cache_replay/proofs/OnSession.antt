@@ -1,7 +1,7 @@
 -- A call of a stripe as a line on a session.
 use Rattle.std.proofs.Common.{◌≡◌, ℕ, refl, sym, ◌∙◌, ap, subst, ◌⊎◌, inl, inr, true, Result, Ok, Err}
 use Rattle.std.specs.Prelude.{Option, Some, None, IfSome, IfOk, option_and_then}
-use Rattle.ats_disk.specs.declared.device.Disk.{Ghosts as DiskGhosts}
+use Rattle.logged_disk.specs.declared.device.Disk.{Ghosts as DiskGhosts}
 use Rattle.dir_table.specs.declared.directory.Directory.{Ghosts as DirectoryGhosts}
 use Rattle.cache_chronicle.specs.declared.chronicle.Chronicle.{Ghosts as ChronicleGhosts}
 use Rattle.tape_base.specs.declared.keys.Key.{Key}

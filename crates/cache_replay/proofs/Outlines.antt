@@ -2,8 +2,9 @@
 use Rattle.std.proofs.Common.{◌≡◌, ℕ, List, [], ◌∷◌, refl, sym, ◌∙◌, ap, subst, arith, Result, Ok, Err}
 use Rattle.std.specs.Prelude.{Option, Some, None, IfOk, IfErr, IsSome, option_map}
 use Rattle.std.proofs.lemmas.List.{append-nil}
-use Rattle.ats_disk.specs.Bay.{Return}
-use Rattle.ats_disk.specs.declared.device.Disk.{Ghosts as DiskGhosts}
+use Rattle.logged_disk.specs.Device.{State as Device}
+use Rattle.logged_disk.proofs.GoingOn.{told_before}
+use Rattle.logged_disk.specs.declared.device.Disk.{Ghosts as DiskGhosts}
 use Rattle.dir_table.specs.declared.directory.Directory.{Ghosts as DirectoryGhosts}
 use Rattle.cache_chronicle.specs.declared.chronicle.Chronicle.{Ghosts as ChronicleGhosts}
 use Rattle.tape_base.specs.declared.geometries.BadGeometry.{BadGeometry}
@@ -28,14 +29,14 @@ use Rattle.cache_replay.proofs.Dispatch.{no_deals}
 -- ---- devices that go on
 
 -- what was told of a device is told of it as it goes on
-pub reached_later : (harms : List Harm) (old new : List Return) → AreLater old new → AreReached harms old → AreReached harms new
+pub reached_later : (harms : List Harm) (old new : List Device) → AreLater old new → AreReached harms old → AreReached harms new
 reached_later [] [] [] later h = tt
 reached_later [] [] (d ∷ new) later h = absurd later
 reached_later [] (d ∷ old) new later h = absurd h
 reached_later (harm ∷ harms) [] new later h = absurd h
 reached_later (harm ∷ harms) (d ∷ old) [] later h = absurd later
 reached_later (harm ∷ harms) (d ∷ old) (e ∷ new) later h = (
-  record { counted = omega (arith, h.0.counted, later.0.faults); unharmed = λ trusted. h.0.unharmed (omega (arith, trusted, later.0.trust)) },
+  record { counted = omega (arith, h.0.counted, later.0.faults); unharmed = λ told. h.0.unharmed (told_before d e later.0.goes told) },
   reached_later harms old new later.1 h.1,
 )
 
@@ -51,7 +52,7 @@ answer_free (step.Now moment) said needs = absurd needs
 answer_free _ said needs = tt
 
 module _ {D R C : Type 0} (disk : DiskGhosts D) (directory : DirectoryGhosts R) (chronicle : ChronicleGhosts C) where
-  abbrev Returns : Option (Part D R C) → List Return
+  abbrev Returns : Option (Part D R C) → List Device
   Returns part = return_of disk directory chronicle part
 
   -- the count that is told is one that the device reached
@@ -62,7 +63,7 @@ module _ {D R C : Type 0} (disk : DiskGhosts D) (directory : DirectoryGhosts R) 
   joins None count (Some a) (Some b) said is later tells h = absurd h
   joins (Some harm) count None (Some b) said is later tells h = absurd h
   joins (Some harm) count (Some a) (Some b) said is later tells h =
-      (record { counted = omega (arith, h.0.counted, later.0.faults, tells, is); unharmed = λ trusted. h.0.unharmed (omega (arith, trusted, later.0.trust)) }, tt)
+      (record { counted = omega (arith, h.0.counted, later.0.faults, tells, is); unharmed = λ told. h.0.unharmed (told_before _ _ later.0.goes told) }, tt)
 
   has_session : (session : Option Harm) (old new : Option (Part D R C)) (said : StepAnswer) → AreLater (Returns old) (Returns new) → TellsCount disk directory chronicle new said → AreReached (told_of session) (Returns old) → IsSome session
   has_session session old None said later tells h = absurd tells
@@ -103,7 +104,7 @@ module _ {D R C : Type 0} (disk : DiskGhosts D) (directory : DirectoryGhosts R) 
   all_left (Err why) s old new ledger later = λ harms h. stays (reached_later harms (Returns old.part) (Returns new.part) later h) refl
 
   -- what is told of a device by the count 0
-  joins_none : (session : Option Harm) (returns : List Return) → AreReached (told_of session) returns → AreReached (told_of (option_map (raised 0) session)) returns
+  joins_none : (session : Option Harm) (returns : List Device) → AreReached (told_of session) returns → AreReached (told_of (option_map (raised 0) session)) returns
   joins_none None returns h = h
   joins_none (Some harm) [] h = absurd h
   joins_none (Some harm) (d ∷ returns) h = (record { counted = omega (arith, h.0.counted); unharmed = h.0.unharmed }, h.1)

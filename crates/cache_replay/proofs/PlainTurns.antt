@@ -1,7 +1,7 @@
 -- Removals and flushes as lines of a run.
 use Rattle.std.proofs.Common.{◌≡◌, ℕ, ◌*◌, List, [], ◌∷◌, refl, sym, ◌∙◌, ap, subst, Result, Ok, Err}
 use Rattle.std.specs.Prelude.{IfOk, Option, Some, None, ◌==◌, find}
-use Rattle.ats_disk.specs.Device.{State as Device}
+use Rattle.logged_disk.specs.Device.{State as Device}
 use Rattle.tape_base.specs.Geometry.{budget_of}
 use Rattle.tape_base.specs.declared.keys.Key.{Key}
 use Rattle.cache_model.specs.declared.record.Rec.{Rec}

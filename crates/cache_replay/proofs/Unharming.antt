@@ -1,9 +1,9 @@
 -- What was told of a session's device: no more faults than it counted, and no damage where it tells its content.
 use Rattle.std.proofs.Common.{◌≡◌, ℕ, ◌≤◌, [], ◌∷◌, refl, sym, subst, arith}
 use Rattle.std.specs.Prelude.{Option, Some, None, option_map}
-use Rattle.ats_disk.specs.Bay.{return_of_device}
-use Rattle.ats_disk.specs.Device.{State as Device}
-use Rattle.ats_disk.specs.declared.device.Disk.{Ghosts as DiskGhosts}
+use Rattle.logged_disk.specs.Device.{State as Device, IsAfter}
+use Rattle.logged_disk.proofs.GoingOn.{stays_put, told_before}
+use Rattle.logged_disk.specs.declared.device.Disk.{Ghosts as DiskGhosts}
 use Rattle.dir_table.specs.declared.directory.Directory.{Ghosts as DirectoryGhosts}
 use Rattle.cache_chronicle.specs.declared.chronicle.Chronicle.{Ghosts as ChronicleGhosts}
 use Rattle.cache_model.specs.State.{State}
@@ -26,11 +26,11 @@ same_own (Some s) = refl
 
 -- ---- one device
 
--- with less trust less is said
-pub less_trusted : (old new : Device) (s : State) → new.trust ≤ old.trust → IsUnharmed old s → IsUnharmed new s
-less_trusted old new s less h = record { unharmed = λ told. h.unharmed (omega (arith, told, less)) }
+-- as a device goes on no more is told of it
+pub still_unharmed : (old new : Device) (s : State) → IsAfter old new → IsUnharmed old s → IsUnharmed new s
+still_unharmed old new s goes h = record { unharmed = λ told. h.unharmed (told_before old new goes told) }
 
-pub one_reached : (device : Device) (s : State) → s.fault ≤ device.faults → IsUnharmed device s → AreReached (harm_in s ∷ []) (return_of_device device ∷ [])
+pub one_reached : (device : Device) (s : State) → s.fault ≤ device.faults → IsUnharmed device s → AreReached (harm_in s ∷ []) (device ∷ [])
 one_reached device s counted h = (record { counted = counted; unharmed = λ trusted. h.unharmed trusted }, tt)
 
 module _ {D R C : Type 0} (disk : DiskGhosts D) (directory : DirectoryGhosts R) (chronicle : ChronicleGhosts C) where
@@ -44,11 +44,11 @@ module _ {D R C : Type 0} (disk : DiskGhosts D) (directory : DirectoryGhosts R) 
   part_unharmed old new stays h = stays.unharmed h
 
   -- behind a call on it of which nothing is told
-  pub part_reached : (run : Run) (old new : Part D R C) → run.state ≡ Some (state_in chronicle old.stripe) → (state_in chronicle old.stripe).fault ≤ (device_of new).faults → (device_of new).trust ≤ (device_of old).trust
+  pub part_reached : (run : Run) (old new : Part D R C) → run.state ≡ Some (state_in chronicle old.stripe) → (state_in chronicle old.stripe).fault ≤ (device_of new).faults → IsAfter (device_of old) (device_of new)
       → IsUnharmedAt disk directory chronicle (Some old) → AreReached (harm_of run.state) (return_of disk directory chronicle (Some new))
-  part_reached run old new state counted less h =
+  part_reached run old new state counted goes h =
       subst (λ o. AreReached (harm_of o) (return_of disk directory chronicle (Some new))) (sym state)
-      (one_reached (device_of new) (state_in chronicle old.stripe) counted (less_trusted (device_of old) (device_of new) (state_in chronicle old.stripe) less h))
+      (one_reached (device_of new) (state_in chronicle old.stripe) counted (still_unharmed (device_of old) (device_of new) (state_in chronicle old.stripe) goes h))
 
   -- ---- that of a session
 
@@ -64,7 +64,7 @@ module _ {D R C : Type 0} (disk : DiskGhosts D) (directory : DirectoryGhosts R) 
   reached_at : (run : Run) (part : Option (Part D R C)) (slots : ℕ → Option Holding) → IsAt disk directory chronicle part slots → PlaysAt disk directory chronicle run part slots → IsUnharmedAt disk directory chronicle part
       → AreReached (harm_of run.state) (return_of disk directory chronicle part)
   reached_at run None slots h plays unharmed = subst (λ o. AreReached (harm_of o) []) (sym plays.state) tt
-  reached_at run (Some part) slots h plays unharmed = part_reached run part part plays.state h.part.stripe.pieces.faults (omega arith) unharmed
+  reached_at run (Some part) slots h plays unharmed = part_reached run part part plays.state h.part.stripe.pieces.faults (stays_put (device_of part)) unharmed
 
   -- the device of a session is as was told
   pub plays_reached : (run : Run) (session : Session D R C) → IsSession disk directory chronicle session → Plays disk directory chronicle run session → HasReached disk directory chronicle run session

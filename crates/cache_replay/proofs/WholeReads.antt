@@ -3,7 +3,7 @@ use Rattle.std.proofs.Common.{◌≡◌, ℕ, zero, suc, min, ◌+◌, ◌-◌, 
 use Rattle.std.specs.Prelude.{Option, Some, None, if◌then◌else◌, is_some, option_map, option_and_then, unwrap_or, slice_get}
 use Rattle.std.proofs.Math.Nat.{add-mul}
 use Rattle.std.proofs.Math.Seq.{take-add}
-use Rattle.ats_disk.specs.Device.{State as Device}
+use Rattle.logged_disk.specs.Device.{State as Device}
 use Rattle.tape_base.specs.declared.geometries.Geometry.{Geometry}
 use Rattle.fragment_table.specs.Table.{Table, TableRow}
 use Rattle.cache_model.specs.declared.cause.Cause.{Cause}

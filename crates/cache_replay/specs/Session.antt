@@ -1,8 +1,8 @@
 -- What holds of a session between lines, whatever its device gave.
 use Rattle.std.specs.Prelude.{ℕ, ◌≡◌, ◌*◌, ◌≤◌, ⊤, true, List, [], ◌∷◌, length, Option, Some, None, IfSome}
 use Rattle.tape_base.specs.Geometry.{budget_of}
-use Rattle.ats_disk.specs.Bay.{Return, return_of_device}
-use Rattle.ats_disk.specs.declared.device.Disk.{Ghosts as DiskGhosts}
+use Rattle.logged_disk.specs.Device.{State as Device, IsAfter}
+use Rattle.logged_disk.specs.declared.device.Disk.{Ghosts as DiskGhosts}
 use Rattle.dir_table.specs.declared.directory.Directory.{Ghosts as DirectoryGhosts}
 use Rattle.cache_chronicle.specs.declared.chronicle.Chronicle.{Ghosts as ChronicleGhosts}
 use Rattle.cache_model.specs.State.{State, put_of, reader_of}
@@ -87,9 +87,9 @@ module _ {D R C : Type 0} (disk : DiskGhosts D) (directory : DirectoryGhosts R) 
   IsSession session = IsAt session.part (slots_in session)
 
   -- the device of a session, as it would be given back
-  abbrev pub return_of : Option (Part D R C) → List Return
+  abbrev pub return_of : Option (Part D R C) → List Device
   return_of None = []
-  return_of (Some part) = return_of_device (seen_in disk directory part.stripe).device ∷ []
+  return_of (Some part) = (seen_in disk directory part.stripe).device ∷ []
 
   -- the count of a fault that an answer tells is no higher than that of the session's device
   abbrev pub TellsCount : Option (Part D R C) → StepAnswer → Type 0
@@ -98,13 +98,13 @@ module _ {D R C : Type 0} (disk : DiskGhosts D) (directory : DirectoryGhosts R) 
 
 -- ---- a device that goes on
 
--- it counts no less than before, and is trusted no more
-pub record IsLater (old new : Return) : Type 0 where
+-- it counts no less than before, and is the same but for what it was called for since
+pub record IsLater (old new : Device) : Type 0 where
   pub faults : old.faults ≤ new.faults
-  pub trust : new.trust ≤ old.trust
+  pub goes : IsAfter old new
 
 -- so it is of the device of a session, where there is one
-abbrev pub AreLater : List Return → List Return → Type 0
+abbrev pub AreLater : List Device → List Device → Type 0
 AreLater [] [] = ⊤
 AreLater [] (new ∷ others) = ⊥
 AreLater (old ∷ devices) [] = ⊥

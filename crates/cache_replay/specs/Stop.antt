@@ -1,7 +1,8 @@
 -- When each reason to end the run comes.
-use Rattle.std.specs.Prelude.{ℕ, ◌≡◌, List, None, ⊤}
+use Rattle.std.specs.Prelude.{ℕ, ◌≡◌, Bool, true, false, List, None, Result, MatchResult, ⊤}
 use Rattle.tape_base.specs.Limits.{first_refusal}
-use Rattle.edge_io.specs.Causes.{Rose}
+use Rattle.device_bay.specs.Calls.{BayCall, Refusal, refusals_of}
+use Rattle.device_bay.specs.Bay.{Refuses}
 use Rattle.script_lang.specs.declared.step.Step.{Step}
 use Rattle.script_lang.specs.declared.step.Step.TheVariants as step
 use Rattle.cache_replay.specs.declared.session.Session.{Session}
@@ -14,22 +15,29 @@ NeedsSession (step.Format name segments buckets content agg reach fragment gener
 NeedsSession (step.Now moment) = ⊥
 NeedsSession _ = ⊤
 
--- a format whose numbers are accepted attaches a device
-abbrev pub Attaches : Step → Type 0
-Attaches (step.Format name segments buckets content agg reach fragment generation alternates) = first_refusal segments buckets content agg reach fragment alternates ≡ None
-Attaches _ = ⊥
-
 -- the device that an accepted format attaches has the name of its line
 abbrev pub AttachesAs : List ℕ → Step → Type 0
 AttachesAs name (step.Format other segments buckets content agg reach fragment generation alternates) =
     (name ≡ other) × (first_refusal segments buckets content agg reach fragment alternates ≡ None)
 AttachesAs name _ = ⊥
 
--- a format ends the run where the bay's count rose, or for want of memory
-abbrev pub IsFormatStop : ℕ → ℕ → Stop → Type 0
-IsFormatStop before now BayFault = Rose before now
-IsFormatStop before now Memory = ⊤
-IsFormatStop before now NoCache = ⊥
+-- and so many blocks are asked of it
+abbrev pub AttachesWith : (name : List ℕ) (blocks : ℕ) → Step → Type 0
+AttachesWith name blocks (step.Format other segments buckets content agg reach fragment generation alternates) =
+    (name ≡ other) × (blocks ≡ content) × (first_refusal segments buckets content agg reach fragment alternates ≡ None)
+AttachesWith name blocks _ = ⊥
+
+-- the attach that a step asks for is noted as refused, and nothing else is noted
+pub record RefusesStep (step : Step) (old new : List BayCall) : Type 0 where
+  pub refusal : Refusal
+  pub attaches : AttachesWith refusal.name refusal.blocks step
+  pub refuses : Refuses refusal.name refusal.blocks refusal.count old new
+
+-- a format ends the run where the bay refused its attach, or for want of memory
+abbrev pub IsFormatStop : (name : List ℕ) (blocks : ℕ) → (old new : List BayCall) → Stop → Type 0
+IsFormatStop name blocks old new BayFault = (count : ℕ) × Refuses name blocks count old new
+IsFormatStop name blocks old new Memory = ⊤
+IsFormatStop name blocks old new NoCache = ⊥
 
 -- a line on a session does where there is none, or for want of memory
 abbrev pub IsSessionStop : {D R C : Type 0} → Session D R C → Stop → Type 0
@@ -38,7 +46,21 @@ IsSessionStop session BayFault = ⊥
 IsSessionStop session Memory = ⊤
 
 -- why a step ends the run, by the session before it
-abbrev pub StopsStep : {D R C : Type 0} → Session D R C → Step → ℕ → ℕ → Stop → Type 0
-StopsStep session s before now NoCache = NeedsSession s × (session.part ≡ None)
-StopsStep session s before now BayFault = Attaches s × Rose before now
-StopsStep session s before now Memory = ⊤
+abbrev pub StopsStep : {D R C : Type 0} → Session D R C → Step → (old new : List BayCall) → Stop → Type 0
+StopsStep session s old new NoCache = NeedsSession s × (session.part ≡ None)
+StopsStep session s old new BayFault = RefusesStep s old new
+StopsStep session s old new Memory = ⊤
+
+-- a fault of the bay ended the run
+abbrev pub is_bay_stop : Stop → Bool
+is_bay_stop BayFault = true
+is_bay_stop _ = false
+
+-- no attach was refused
+abbrev pub RefusesNone : (old new : List BayCall) → Type 0
+RefusesNone old new = refusals_of new ≡ refusals_of old
+
+-- nor was one where a step is answered, or stops for another reason
+abbrev pub RefusesAtStop : {T : Type 0} → (old new : List BayCall) → Result T Stop → Type 0
+RefusesAtStop old new result =
+    MatchResult result (λ _. RefusesNone old new) (λ why. is_bay_stop why ≡ false → RefusesNone old new)

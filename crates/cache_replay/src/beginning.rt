@@ -3,7 +3,9 @@ ghost use Rattle.std.specs.Prelude.{◌≡◌, ◌+◌, ◌-◌, ◌*◌, ◌<�
 ghost use Rattle.std.specs.Result.{result_err};
 ghost use Rattle.tape_base.specs.Geometry.{HasNumbers, budget_of};
 ghost use Rattle.tape_base.specs.Limits.{first_refusal};
-ghost use Rattle.ats_disk.specs.Bay.{IsAttached};
+ghost use Rattle.logged_disk.specs.Device.{State as Device};
+ghost use Rattle.device_bay.specs.Calls.{Gave, names_of, out_of, returned_by};
+ghost use Rattle.device_bay.specs.Bay.{IsNewDevice};
 ghost use Rattle.script_lang.specs.declared.step.Step.TheVariants as step;
 ghost use Rattle.cache_model.specs.Legal.{format_records};
 ghost use Rattle.stripe_core.specs.Stripe.{seen_in};
@@ -14,15 +16,16 @@ ghost use Rattle.script_run.specs.Behind.{formatted};
 ghost use Rattle.cache_replay.specs.Session.{IsSession, devices_of, names_in, parts_of, return_of, slots_in};
 ghost use Rattle.cache_replay.specs.Outline.{Outline, blank};
 ghost use Rattle.cache_replay.specs.Plays.{DeviceMoves, IsLeft, IsOutlined, Outlines, Plays, PlaysReach};
-ghost use Rattle.script_run.specs.Ledger.{AreReached, ComeBack, Deals, ledger_of};
-ghost use Rattle.cache_replay.specs.Stop.{AttachesAs, IsFormatStop};
+ghost use Rattle.script_run.specs.Ledger.{AreReached, ComeBack, Deals, KeepsOrder, ledger_of};
+ghost use Rattle.cache_replay.specs.Stop.{AttachesAs, IsFormatStop, RefusesAtStop, RefusesNone};
 
 use crate::session::{Cache, Part, Session};
 use crate::stop::Stop;
 use actor_table::Actors;
-use ats_disk::{Bay, BayFault, Disk};
 use cache_chronicle::{Chronicle, FullChronicle};
+use device_bay::{Bay, BayFault};
 use dir_table::{Directory, ListDirectory};
+use logged_disk::Disk;
 use model_laws::formats_tell;
 use script_lang::{Refused, StepAnswer};
 use script_run::formats_own;
@@ -55,13 +58,14 @@ pub fn plays_reach<D: Disk, R: Directory + Drop, C: Chronicle>()
 
 /// Gives the session's device back.
 pub fn close<B: Bay>(session: Cache<B::Dev>, bay: &mut B)
-    requires held { devices_of session ≤ B.out bay.old }
+    requires held { devices_of session ≤ out_of (B.past bay.old) }
     ensures back { (harms : List Harm)
         → AreReached harms (return_of B.Dev.Disk ⟦<ListDirectory as Directory>⟧ ⟦<FullChronicle as Chronicle>⟧ session.part)
-        → ComeBack (B.returned bay.old) (B.returned bay.new) harms }
-    ensures out { B.out bay.new + devices_of session ≡ B.out bay.old }
-    ensures names { B.names bay.new ≡ B.names bay.old }
-    ensures faults { B.faults bay.new ≡ B.faults bay.old }
+        → ComeBack (returned_by (B.past bay.old)) (returned_by (B.past bay.new)) harms }
+    ensures out { out_of (B.past bay.new) + devices_of session ≡ out_of (B.past bay.old) }
+    ensures order { (own : List Device) → KeepsOrder (return_of B.Dev.Disk ⟦<ListDirectory as Directory>⟧ ⟦<FullChronicle as Chronicle>⟧ session.part ++ own) (B.past bay.old) own (B.past bay.new) }
+    ensures names { names_of (B.past bay.new) ≡ names_of (B.past bay.old) }
+    ensures refusals { RefusesNone (B.past bay.old) (B.past bay.new) }
 {
     let Session { part, .. } = session;
     give_back(bay, part);
@@ -72,11 +76,12 @@ fn give_back<B: Bay, R: Directory + Drop, C: Chronicle + Drop>(
     bay: &mut B,
     part: Option<Part<B::Dev, R, C>>,
 )
-    requires held { parts_of part ≤ B.out bay.old }
-    ensures back { B.returned bay.new ≡ B.returned bay.old ++ return_of B.Dev.Disk R.Directory C.Chronicle part }
-    ensures out { B.out bay.new + parts_of part ≡ B.out bay.old }
-    ensures names { B.names bay.new ≡ B.names bay.old }
-    ensures faults { B.faults bay.new ≡ B.faults bay.old }
+    requires held { parts_of part ≤ out_of (B.past bay.old) }
+    ensures back { returned_by (B.past bay.new) ≡ returned_by (B.past bay.old) ++ return_of B.Dev.Disk R.Directory C.Chronicle part }
+    ensures out { out_of (B.past bay.new) + parts_of part ≡ out_of (B.past bay.old) }
+    ensures order { (own : List Device) → KeepsOrder (return_of B.Dev.Disk R.Directory C.Chronicle part ++ own) (B.past bay.old) own (B.past bay.new) }
+    ensures names { names_of (B.past bay.new) ≡ names_of (B.past bay.old) }
+    ensures refusals { RefusesNone (B.past bay.old) (B.past bay.new) }
 {
     match part {
         Some(part) => bay.give_back(into_disk(part)),
@@ -137,13 +142,15 @@ fn make_page(alloc: Global, geometry: &Geometry) -> Result<Vec<u8>, AllocError>
 
 // Attaches a device.
 fn attach<B: Bay>(alloc: Global, bay: &mut B, name: &[u8], blocks: u64) -> Result<B::Dev, Stop>
-    ensures device { IfOk result (λ device. IsAttached blocks (B.Dev.state device)) }
-    ensures names { OnOk result (B.names bay.new ≡ B.names bay.old ++ name.now ∷ []) }
-    ensures out { OnOk result (B.out bay.new ≡ B.out bay.old + 1) }
-    ensures refused { OnErr result ((B.names bay.new ≡ B.names bay.old) × (B.out bay.new ≡ B.out bay.old)) }
-    ensures returned { B.returned bay.new ≡ B.returned bay.old }
-    ensures stop { IfErr result (IsFormatStop (B.faults bay.old) (B.faults bay.new)) }
-    ensures later { B.faults bay.old ≤ B.faults bay.new }
+    ensures device { IfOk result (λ device. IsNewDevice blocks (B.past bay.old) (B.Dev.state device)) }
+    ensures gave { OnOk result (B.past bay.new ≡ Gave name.now blocks ∷ B.past bay.old) }
+    ensures names { OnOk result (names_of (B.past bay.new) ≡ names_of (B.past bay.old) ++ name.now ∷ []) }
+    ensures out { OnOk result (out_of (B.past bay.new) ≡ out_of (B.past bay.old) + 1) }
+    ensures refused { OnErr result ((names_of (B.past bay.new) ≡ names_of (B.past bay.old)) × (out_of (B.past bay.new) ≡ out_of (B.past bay.old))) }
+    ensures returned { returned_by (B.past bay.new) ≡ returned_by (B.past bay.old) }
+    ensures stop { IfErr result (IsFormatStop name.now blocks (B.past bay.old) (B.past bay.new)) }
+    ensures order { (own : List Device) → OnErr result (KeepsOrder own (B.past bay.old) own (B.past bay.new)) }
+    ensures refusals { RefusesAtStop (B.past bay.old) (B.past bay.new) result }
 {
     match bay.attach(alloc, name, blocks) {
         Ok(device) => Ok(device),
@@ -154,15 +161,16 @@ fn attach<B: Bay>(alloc: Global, bay: &mut B, name: &[u8], blocks: u64) -> Resul
 
 // Ends the session, and gives its device back.
 fn end<B: Bay>(session: &mut Cache<B::Dev>, bay: &mut B)
-    requires held { devices_of session.old ≤ B.out bay.old }
+    requires held { devices_of session.old ≤ out_of (B.past bay.old) }
     ensures part { session.new.part ≡ None }
     ensures slots { (n : ℕ) → slots_in session.new n ≡ None }
     ensures names { names_in session.new ≡ names_in session.old }
-    ensures back { B.returned bay.new ≡ B.returned bay.old
+    ensures back { returned_by (B.past bay.new) ≡ returned_by (B.past bay.old)
         ++ return_of B.Dev.Disk ⟦<ListDirectory as Directory>⟧ ⟦<FullChronicle as Chronicle>⟧ session.old.part }
-    ensures out { B.out bay.new + devices_of session.old ≡ B.out bay.old }
-    ensures attached { B.names bay.new ≡ B.names bay.old }
-    ensures faults { B.faults bay.new ≡ B.faults bay.old }
+    ensures out { out_of (B.past bay.new) + devices_of session.old ≡ out_of (B.past bay.old) }
+    ensures order { (own : List Device) → KeepsOrder (return_of B.Dev.Disk ⟦<ListDirectory as Directory>⟧ ⟦<FullChronicle as Chronicle>⟧ session.old.part ++ own) (B.past bay.old) own (B.past bay.new) }
+    ensures attached { names_of (B.past bay.new) ≡ names_of (B.past bay.old) }
+    ensures refusals { RefusesNone (B.past bay.old) (B.past bay.new) }
 {
     session.actors.clear();
     let part = mem::replace(&mut session.part, None);
@@ -184,7 +192,7 @@ pub(crate) fn format_line<B: Bay>(
     alternates: u32,
 ) -> Result<StepAnswer, Stop>
     requires session { IsSession B.Dev.Disk ⟦<ListDirectory as Directory>⟧ ⟦<FullChronicle as Chronicle>⟧ session.old }
-    requires held { devices_of session.old ≤ B.out bay.old }
+    requires held { devices_of session.old ≤ out_of (B.past bay.old) }
     ensures session { IsSession B.Dev.Disk ⟦<ListDirectory as Directory>⟧ ⟦<FullChronicle as Chronicle>⟧ session.new }
     ensures ends { IfOk result (λ said. (run : Run) → Plays B.Dev.Disk ⟦<ListDirectory as Directory>⟧ ⟦<FullChronicle as Chronicle>⟧ run session.old
         → DeviceMoves B.Dev.Disk ⟦<ListDirectory as Directory>⟧ ⟦<FullChronicle as Chronicle>⟧ run
@@ -199,10 +207,12 @@ pub(crate) fn format_line<B: Bay>(
         → IsLeft B.Dev.Disk ⟦<ListDirectory as Directory>⟧ ⟦<FullChronicle as Chronicle>⟧ harms
         (step.Format name.now segments buckets content agg reach fragment generation alternates) session.new
         (ledger_of B.Bay bay.old) (ledger_of B.Bay bay.new) why) }
-    ensures stop { IfErr result (λ stop. (first_refusal segments buckets content agg reach fragment alternates ≡ None) × IsFormatStop (B.faults bay.old) (B.faults bay.new) stop) }
-    ensures out { B.out bay.new + devices_of session.old ≡ B.out bay.old + devices_of session.new }
+    ensures stop { IfErr result (λ stop. (first_refusal segments buckets content agg reach fragment alternates ≡ None) × IsFormatStop name.now content (B.past bay.old) (B.past bay.new) stop) }
+    ensures out { out_of (B.past bay.new) + devices_of session.old ≡ out_of (B.past bay.old) + devices_of session.new }
     ensures names { names_in session.new ≡ names_in session.old }
-    ensures later { B.faults bay.old ≤ B.faults bay.new }
+    ensures order { KeepsOrder (return_of B.Dev.Disk ⟦<ListDirectory as Directory>⟧ ⟦<FullChronicle as Chronicle>⟧ session.old.part) (B.past bay.old)
+        (return_of B.Dev.Disk ⟦<ListDirectory as Directory>⟧ ⟦<FullChronicle as Chronicle>⟧ session.new.part) (B.past bay.new) }
+    ensures refusals { RefusesAtStop (B.past bay.old) (B.past bay.new) result }
 {
     match checked(
         segments, buckets, content, agg, reach, fragment, generation, alternates,
@@ -232,7 +242,7 @@ fn format<B: Bay>(
     geometry: Geometry,
 ) -> Result<(), Stop>
     requires session { IsSession B.Dev.Disk ⟦<ListDirectory as Directory>⟧ ⟦<FullChronicle as Chronicle>⟧ session.old }
-    requires held { devices_of session.old ≤ B.out bay.old }
+    requires held { devices_of session.old ≤ out_of (B.past bay.old) }
     ensures session { IsSession B.Dev.Disk ⟦<ListDirectory as Directory>⟧ ⟦<FullChronicle as Chronicle>⟧ session.new }
     ensures plays { OnOk result ((run : Run) → Plays B.Dev.Disk ⟦<ListDirectory as Directory>⟧ ⟦<FullChronicle as Chronicle>⟧ run session.old
         → Plays B.Dev.Disk ⟦<ListDirectory as Directory>⟧ ⟦<FullChronicle as Chronicle>⟧ (formatted run name.now (format_records geometry)) session.new) }
@@ -243,10 +253,12 @@ fn format<B: Bay>(
     ensures left { IfErr result (λ why. (harms : List Harm) (step : Step) → AttachesAs name.now step
         → AreReached harms (return_of B.Dev.Disk ⟦<ListDirectory as Directory>⟧ ⟦<FullChronicle as Chronicle>⟧ session.old.part)
         → IsLeft B.Dev.Disk ⟦<ListDirectory as Directory>⟧ ⟦<FullChronicle as Chronicle>⟧ harms step session.new (ledger_of B.Bay bay.old) (ledger_of B.Bay bay.new) why) }
-    ensures stop { IfErr result (IsFormatStop (B.faults bay.old) (B.faults bay.new)) }
-    ensures out { B.out bay.new + devices_of session.old ≡ B.out bay.old + devices_of session.new }
+    ensures stop { IfErr result (IsFormatStop name.now geometry.content (B.past bay.old) (B.past bay.new)) }
+    ensures out { out_of (B.past bay.new) + devices_of session.old ≡ out_of (B.past bay.old) + devices_of session.new }
     ensures names { names_in session.new ≡ names_in session.old }
-    ensures later { B.faults bay.old ≤ B.faults bay.new }
+    ensures order { KeepsOrder (return_of B.Dev.Disk ⟦<ListDirectory as Directory>⟧ ⟦<FullChronicle as Chronicle>⟧ session.old.part) (B.past bay.old)
+        (return_of B.Dev.Disk ⟦<ListDirectory as Directory>⟧ ⟦<FullChronicle as Chronicle>⟧ session.new.part) (B.past bay.new) }
+    ensures refusals { RefusesAtStop (B.past bay.old) (B.past bay.new) result }
 {
     formats_tell();
     formats_own();
@@ -272,16 +284,18 @@ fn start<B: Bay>(
     bay: &mut B,
     part: Part<B::Dev, ListDirectory, FullChronicle>,
 )
-    requires held { devices_of session.old ≤ B.out bay.old }
+    requires held { devices_of session.old ≤ out_of (B.past bay.old) }
     ensures part { session.new.part ≡ Some part }
     ensures slots { (n : ℕ) → slots_in session.new n ≡ None }
     ensures names { names_in session.new ≡ names_in session.old }
     ensures now { session.new.now ≡ session.old.now }
-    ensures back { B.returned bay.new ≡ B.returned bay.old
+    ensures order { KeepsOrder (return_of B.Dev.Disk ⟦<ListDirectory as Directory>⟧ ⟦<FullChronicle as Chronicle>⟧ session.old.part ++ (seen_in B.Dev.Disk ⟦<ListDirectory as Directory>⟧ part.stripe).device ∷ [])
+        (B.past bay.old) (return_of B.Dev.Disk ⟦<ListDirectory as Directory>⟧ ⟦<FullChronicle as Chronicle>⟧ session.new.part) (B.past bay.new) }
+    ensures back { returned_by (B.past bay.new) ≡ returned_by (B.past bay.old)
         ++ return_of B.Dev.Disk ⟦<ListDirectory as Directory>⟧ ⟦<FullChronicle as Chronicle>⟧ session.old.part }
-    ensures out { B.out bay.new + devices_of session.old ≡ B.out bay.old }
-    ensures attached { B.names bay.new ≡ B.names bay.old }
-    ensures faults { B.faults bay.new ≡ B.faults bay.old }
+    ensures out { out_of (B.past bay.new) + devices_of session.old ≡ out_of (B.past bay.old) }
+    ensures attached { names_of (B.past bay.new) ≡ names_of (B.past bay.old) }
+    ensures refusals { RefusesNone (B.past bay.old) (B.past bay.new) }
 {
     session.actors.clear();
     let before = mem::replace(&mut session.part, Some(part));

@@ -7,9 +7,9 @@ ghost use Rattle.stripe_write.specs.Others.{AddsOfPut};
 ghost use Rattle.stripe_write.specs.Writers.{IsWriterOf};
 ghost use Rattle.cache_replay.specs.Feeding.{FeedsWhere, IsCutWhere, IsFed, IsOpenBehind, taken_of};
 
-use ats_disk::Disk;
 use cache_chronicle::Chronicle;
 use dir_table::Directory;
+use logged_disk::Disk;
 use stripe_core::{Refusal, Stripe};
 use stripe_write::{Writer, write};
 

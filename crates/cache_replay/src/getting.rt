@@ -5,6 +5,7 @@ ghost use Rattle.cache_model.specs.Legal.{IsQuiet};
 ghost use Rattle.cache_model.specs.Kept.{state_of};
 ghost use Rattle.cache_model.specs.Permit.{StopReading};
 ghost use Rattle.cache_model.specs.Vectors.{AreTold};
+ghost use Rattle.logged_disk.specs.Device.{IsAfter};
 ghost use Rattle.stripe_core.specs.Stripe.{IsStripe, kept_in, seen_in, state_in};
 ghost use Rattle.stripe_core.specs.Unharmed.{StaysUnharmed};
 ghost use Rattle.stripe_read.specs.Readers.{IsOpenReader};
@@ -26,10 +27,10 @@ use crate::answers::{broken_said, miss_said};
 use crate::session::{Part, Session};
 use crate::stop::Stop;
 use alternate_vector::Fields;
-use ats_disk::Disk;
 use cache_chronicle::Chronicle;
 use cache_model::Cause;
 use dir_table::Directory;
+use logged_disk::Disk;
 use model_laws::steps_tell;
 use script_lang::{ByteList, StepAnswer};
 use script_run::{all_is_given, other_shows, read_is_own, reads_own};
@@ -74,7 +75,7 @@ pub(crate) fn get<D: Disk, R: Directory + Drop, C: Chronicle>(
     ensures later { (seen_in D.Disk R.Directory stripe.old).device.faults ≤ (seen_in D.Disk R.Directory stripe.new).device.faults }
     ensures unharmed { (run : Run) → AreTold (state_in C.Chronicle stripe.old) → AreOwn (state_in C.Chronicle stripe.old) run.streams
         → StaysUnharmed D.Disk R.Directory C.Chronicle stripe.old stripe.new ⊎ ShowsAt (IsPlacedAs run.streams) run.now (state_in C.Chronicle stripe.old) (get_intents (state_in C.Chronicle stripe.old) key request) }
-    ensures trust { (seen_in D.Disk R.Directory stripe.new).device.trust ≤ (seen_in D.Disk R.Directory stripe.old).device.trust }
+    ensures goes { IsAfter (seen_in D.Disk R.Directory stripe.old).device (seen_in D.Disk R.Directory stripe.new).device }
 {
     reads_own();
     match open_read(stripe, Actor(0), key, request)? {
@@ -111,7 +112,7 @@ fn read_whole<D: Disk, R: Directory + Drop, C: Chronicle>(
     ensures later { (seen_in D.Disk R.Directory stripe.old).device.faults ≤ (seen_in D.Disk R.Directory stripe.new).device.faults }
     ensures unharmed { (b : Began) (run : Run) → IsUnderway b (seen_in D.Disk R.Directory stripe.old).device.faults (kept_in C.Chronicle stripe.old) reader []
         → AreTold (state_of b.kept) → AreOwn (state_of b.kept) run.streams → StaysUnharmed D.Disk R.Directory C.Chronicle stripe.old stripe.new ⊎ ShowsAt (IsPlacedAs run.streams) run.now (state_of b.kept) b.asks }
-    ensures trust { (seen_in D.Disk R.Directory stripe.new).device.trust ≤ (seen_in D.Disk R.Directory stripe.old).device.trust }
+    ensures goes { IsAfter (seen_in D.Disk R.Directory stripe.old).device (seen_in D.Disk R.Directory stripe.new).device }
 {
     let mut reader = reader;
     match read_to_end(alloc, stripe, page, &mut reader, put) {
@@ -149,7 +150,7 @@ fn read_to_end<D: Disk, R: Directory + Drop, C: Chronicle>(
     ensures later { (seen_in D.Disk R.Directory stripe.old).device.faults ≤ (seen_in D.Disk R.Directory stripe.new).device.faults }
     ensures unharmed { (b : Began) (run : Run) → IsUnderway b (seen_in D.Disk R.Directory stripe.old).device.faults (kept_in C.Chronicle stripe.old) reader.old []
         → AreTold (state_of b.kept) → AreOwn (state_of b.kept) run.streams → StaysUnharmed D.Disk R.Directory C.Chronicle stripe.old stripe.new ⊎ ShowsAt (IsPlacedAs run.streams) run.now (state_of b.kept) b.asks }
-    ensures trust { (seen_in D.Disk R.Directory stripe.new).device.trust ≤ (seen_in D.Disk R.Directory stripe.old).device.trust }
+    ensures goes { IsAfter (seen_in D.Disk R.Directory stripe.old).device (seen_in D.Disk R.Directory stripe.new).device }
 {
     let mut body = Vec::new(alloc);
     loop {
@@ -189,7 +190,7 @@ fn read_more<D: Disk, R: Directory + Drop, C: Chronicle>(
     ensures later { (seen_in D.Disk R.Directory stripe.old).device.faults ≤ (seen_in D.Disk R.Directory stripe.new).device.faults }
     ensures unharmed { (b : Began) (run : Run) → IsUnderway b (seen_in D.Disk R.Directory stripe.old).device.faults (kept_in C.Chronicle stripe.old) reader.old body.old.items
         → AreTold (state_of b.kept) → AreOwn (state_of b.kept) run.streams → StaysUnharmed D.Disk R.Directory C.Chronicle stripe.old stripe.new ⊎ ShowsAt (IsPlacedAs run.streams) run.now (state_of b.kept) b.asks }
-    ensures trust { (seen_in D.Disk R.Directory stripe.new).device.trust ≤ (seen_in D.Disk R.Directory stripe.old).device.trust }
+    ensures goes { IsAfter (seen_in D.Disk R.Directory stripe.old).device (seen_in D.Disk R.Directory stripe.new).device }
 {
     read_is_own();
     other_shows();
@@ -270,7 +271,7 @@ fn get_in_part<D: Disk, R: Directory + Drop, C: Chronicle>(
     ensures later { (seen_in D.Disk R.Directory part.old.stripe).device.faults ≤ (seen_in D.Disk R.Directory part.new.stripe).device.faults }
     ensures unharmed { (run : Run) → AreTold (state_in C.Chronicle part.old.stripe) → AreOwn (state_in C.Chronicle part.old.stripe) run.streams
         → StaysUnharmed D.Disk R.Directory C.Chronicle part.old.stripe part.new.stripe ⊎ ShowsAt (IsPlacedAs run.streams) run.now (state_in C.Chronicle part.old.stripe) (get_intents (state_in C.Chronicle part.old.stripe) key request) }
-    ensures trust { (seen_in D.Disk R.Directory part.new.stripe).device.trust ≤ (seen_in D.Disk R.Directory part.old.stripe).device.trust }
+    ensures goes { IsAfter (seen_in D.Disk R.Directory part.old.stripe).device (seen_in D.Disk R.Directory part.new.stripe).device }
 {
     reads_own();
     steps_tell();

@@ -11,9 +11,9 @@ ghost use Rattle.cache_replay.specs.Stop.{IsSessionStop};
 
 use crate::session::{Part, Session};
 use crate::stop::Stop;
-use ats_disk::Disk;
 use cache_chronicle::Chronicle;
 use dir_table::Directory;
+use logged_disk::Disk;
 use model_laws::steps_tell;
 use script_lang::{Refused, StepAnswer};
 use script_run::steps_own;

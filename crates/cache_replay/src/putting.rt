@@ -12,9 +12,9 @@ ghost use Rattle.cache_replay.specs.Putting.{BodyEndsWhere, FillsWhere, IsFresh,
 
 use crate::feeding::feed;
 use alternate_vector::Fields;
-use ats_disk::Disk;
 use cache_chronicle::Chronicle;
 use dir_table::Directory;
+use logged_disk::Disk;
 use model_laws::groups_tell;
 use stripe_core::{Refusal, Stripe};
 use stripe_write::{Receipt, Writer, abort_write, close_write, open_write, others_stay};

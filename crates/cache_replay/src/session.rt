@@ -1,8 +1,8 @@
 // A session: a cache on a device, and the actors of the script with what they have.
 use actor_table::Actors;
-use ats_disk::Disk;
 use cache_chronicle::{Chronicle, FullChronicle};
 use dir_table::{Directory, ListDirectory};
+use logged_disk::Disk;
 use std::alloc::Global;
 use stripe_core::Stripe;
 use stripe_read::Reader;

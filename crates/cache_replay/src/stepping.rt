@@ -1,13 +1,14 @@
 // The steps of a script, whatever they are.
 ghost use Rattle.std.specs.Prelude.{◌≡◌, ◌+◌, ◌-◌, ◌^◌, ◌<◌, ◌≤◌, List, length, IfOk, IfErr};
+ghost use Rattle.device_bay.specs.Calls.{out_of};
 ghost use Rattle.script_lang.specs.declared.answer.StepAnswer.TheVariants as answer;
 ghost use Rattle.script_lang.specs.declared.step.Step.TheVariants as step;
 ghost use Rattle.script_run.specs.Run.{Harm, Run};
 ghost use Rattle.cache_replay.specs.Outline.{Outline};
 ghost use Rattle.cache_replay.specs.Session.{AreLater, IsSession, TellsCount, devices_of, names_in, return_of};
 ghost use Rattle.cache_replay.specs.Plays.{DeviceEnds, IsLeft, IsOutlined, Outlines, Plays, StepEnds, StepMoves};
-ghost use Rattle.script_run.specs.Ledger.{AreReached, ledger_of};
-ghost use Rattle.cache_replay.specs.Stop.{IsSessionStop, NeedsSession, StopsStep};
+ghost use Rattle.script_run.specs.Ledger.{AreReached, KeepsOrder, ledger_of};
+ghost use Rattle.cache_replay.specs.Stop.{IsSessionStop, NeedsSession, RefusesAtStop, StopsStep};
 
 use crate::beginning::format_line;
 use crate::getting::get_line;
@@ -17,9 +18,10 @@ use crate::reader_lines::{done_line, next_line, open_read_line};
 use crate::session::{Cache, Session};
 use crate::stop::Stop;
 use crate::writer_lines::{abort_line, close_line, data_line, open_write_line};
-use ats_disk::{Bay, Disk};
 use cache_chronicle::{Chronicle, FullChronicle};
+use device_bay::Bay;
 use dir_table::{Directory, ListDirectory};
+use logged_disk::Disk;
 use script_lang::{Step, StepAnswer};
 
 /// Does a step, and says what came of it.
@@ -29,7 +31,7 @@ pub fn step<B: Bay>(
     step: Step,
 ) -> Result<StepAnswer, Stop>
     requires session { IsSession B.Dev.Disk ⟦<ListDirectory as Directory>⟧ ⟦<FullChronicle as Chronicle>⟧ session.old }
-    requires held { devices_of session.old ≤ B.out bay.old }
+    requires held { devices_of session.old ≤ out_of (B.past bay.old) }
     requires few { length (names_in session.old) < 2 ^ 32 - 1 }
     ensures session { IsSession B.Dev.Disk ⟦<ListDirectory as Directory>⟧ ⟦<FullChronicle as Chronicle>⟧ session.new }
     ensures ends { IfOk result (λ said. (run : Run) → Plays B.Dev.Disk ⟦<ListDirectory as Directory>⟧ ⟦<FullChronicle as Chronicle>⟧ run session.old
@@ -41,10 +43,12 @@ pub fn step<B: Bay>(
     ensures left { IfErr result (λ why. (harms : List Harm)
         → AreReached harms (return_of B.Dev.Disk ⟦<ListDirectory as Directory>⟧ ⟦<FullChronicle as Chronicle>⟧ session.old.part)
         → IsLeft B.Dev.Disk ⟦<ListDirectory as Directory>⟧ ⟦<FullChronicle as Chronicle>⟧ harms step session.new (ledger_of B.Bay bay.old) (ledger_of B.Bay bay.new) why) }
-    ensures stop { IfErr result (StopsStep session.old step (B.faults bay.old) (B.faults bay.new)) }
-    ensures out { B.out bay.new + devices_of session.old ≡ B.out bay.old + devices_of session.new }
+    ensures stop { IfErr result (StopsStep session.old step (B.past bay.old) (B.past bay.new)) }
+    ensures out { out_of (B.past bay.new) + devices_of session.old ≡ out_of (B.past bay.old) + devices_of session.new }
     ensures names { length (names_in session.new) ≤ length (names_in session.old) + 1 }
-    ensures later { B.faults bay.old ≤ B.faults bay.new }
+    ensures order { KeepsOrder (return_of B.Dev.Disk ⟦<ListDirectory as Directory>⟧ ⟦<FullChronicle as Chronicle>⟧ session.old.part) (B.past bay.old)
+        (return_of B.Dev.Disk ⟦<ListDirectory as Directory>⟧ ⟦<FullChronicle as Chronicle>⟧ session.new.part) (B.past bay.new) }
+    ensures refusals { RefusesAtStop (B.past bay.old) (B.past bay.new) result }
 {
     match step {
         Step::Format {

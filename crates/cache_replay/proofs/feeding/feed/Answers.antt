@@ -1,6 +1,7 @@
 use Rattle.std.proofs.Common.{ℕ, ◌+◌, ◌-◌, ◌<◌, ◌≤◌, arith}
 use Rattle.std.specs.Prelude.{Some, None}
 use Rattle.stripe_core.specs.Stripe.{kept_in, seen_in}
+use Rattle.stripe_core.proofs.Unharmed.{stays_unharmed-trans}
 use Rattle.cache_replay.proofs.FeedEnds.{Ends}
 use Rattle.cache_replay.proofs.FeedTurns.{all_ends, bounds, fails_ends, goes_on, some_taken, wrote}
 use Rattle.cache_replay.proofs.feeding.feed.Given.{Over}
@@ -72,3 +73,9 @@ feed-preserved g c =
     (wrote g.D.Disk g.R.Directory g.C.Chronicle c.args.now c.args.stripe.now c.feed.stripe c.write.new.stripe c.args.writer.now c.feed.writer c.write.new.writer c.args.bytes.now c.feed.taken c.feed.invariant c.in-Ok.count
     (record { own = c.feed.invariant.writer; takes = c.in-Ok.ensures.writes; does = c.in-Ok.ensures.does; gathers = c.in-Ok.ensures.gathers; next_own = c.write.ensures.writer }))
     c.if-taken-bytes.false c.write.ensures.stripe c.write.ensures.quiet c.write.ensures.later c.write.ensures.unharmed
+
+pub returns-in-Err-clause-unharmed : goal.returns-in-Err-clause-unharmed
+returns-in-Err-clause-unharmed g c = stays_unharmed-trans _ _ _ _ _ _ c.feed.invariant.unharmed c.write.ensures.unharmed
+
+pub returns-then-taken-bytes-clause-unharmed : goal.returns-then-taken-bytes-clause-unharmed
+returns-then-taken-bytes-clause-unharmed g c = stays_unharmed-trans _ _ _ _ _ _ c.feed.invariant.unharmed c.write.ensures.unharmed

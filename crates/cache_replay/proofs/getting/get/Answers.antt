@@ -7,6 +7,7 @@ use Rattle.cache_replay.proofs.WholeGets.{began, follow_answered, gets_as_asked,
 use Rattle.stripe_read.specs.declared.opening.Opened.TheVariants as opened
 use Rattle.cache_replay.proofs.Counts.{missed_tells, ok_after}
 use Rattle.cache_replay.proofs.ReaderFrames.{losses_then}
+use Rattle.logged_disk.proofs.GoingOn.{goes_further}
 use Rattle.cache_replay.proofs.getting.get.Goals as goal
 
 pub returns-in-Hit-clause-gets : goal.returns-in-Hit-clause-gets
@@ -79,3 +80,12 @@ pub returns-in-Miss-clause-counts : goal.returns-in-Miss-clause-counts
 returns-in-Miss-clause-counts g c = λ none.
     missed_tells (state_in g.C.Chronicle c.args.stripe.now) c.args.key (seen_in g.D.Disk g.R.Directory c.open_read.new.stripe).device.faults (opened.Miss c.in-Miss.why)
     none (rw c.in-Miss.is at c.in_ok-reader.ensures.opens).counted
+
+pub returns-in-Hit-clause-goes : goal.returns-in-Hit-clause-goes
+returns-in-Hit-clause-goes g c = goes_further _ _ _ c.open_read.ensures.unharmed.goes c.read_whole.ensures.goes
+
+pub returns-in_err-close-in-Follow-clause-goes : goal.returns-in_err-close-in-Follow-clause-goes
+returns-in_err-close-in-Follow-clause-goes g c = goes_further _ _ _ c.open_read.ensures.unharmed.goes c.close.ensures.unharmed.goes
+
+pub returns-in_ok-close-in-Follow-clause-goes : goal.returns-in_ok-close-in-Follow-clause-goes
+returns-in_ok-close-in-Follow-clause-goes g c = goes_further _ _ _ c.open_read.ensures.unharmed.goes c.close.ensures.unharmed.goes

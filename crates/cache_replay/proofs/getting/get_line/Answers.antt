@@ -20,11 +20,11 @@ returns-in-Ok-clause-ends g c = λ run plays.
 
 pub returns-in-Ok-clause-device : goal.returns-in-Ok-clause-device
 returns-in-Ok-clause-device g c =
-    line_device g.D.Disk g.R.Directory g.C.Chronicle c.args.session.now c.in-Some.part c.get_in_part.new.part c.in-Some.is c.get_in_part.ensures.later c.get_in_part.ensures.trust
+    line_device g.D.Disk g.R.Directory g.C.Chronicle c.args.session.now c.in-Some.part c.get_in_part.new.part c.in-Some.is c.get_in_part.ensures.later c.get_in_part.ensures.goes
 
 pub returns-in-Err-clause-device : goal.returns-in-Err-clause-device
 returns-in-Err-clause-device g c =
-    line_device g.D.Disk g.R.Directory g.C.Chronicle c.args.session.now c.in-Some.part c.get_in_part.new.part c.in-Some.is c.get_in_part.ensures.later c.get_in_part.ensures.trust
+    line_device g.D.Disk g.R.Directory g.C.Chronicle c.args.session.now c.in-Some.part c.get_in_part.new.part c.in-Some.is c.get_in_part.ensures.later c.get_in_part.ensures.goes
 
 pub returns-in-None-clause-device : goal.returns-in-None-clause-device
 returns-in-None-clause-device g c = no_device g.D.Disk g.R.Directory g.C.Chronicle c.args.session.now c.in-None.is

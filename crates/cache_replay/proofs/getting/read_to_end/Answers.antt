@@ -1,6 +1,7 @@
 use Rattle.std.proofs.Common.{[], ◌∷◌, subst, sym, ap, ◌∙◌, arith}
 use Rattle.std.proofs.lemmas.Grind.{common_steps}
 use Rattle.std.specs.Prelude.{is_some}
+use Rattle.logged_disk.proofs.GoingOn.{goes_further}
 use Rattle.cache_model.specs.Permit.{StopReading}
 use Rattle.stripe_core.specs.Stripe.{kept_in, seen_in}
 use Rattle.script_run.specs.Answers.{broken_said}
@@ -43,7 +44,7 @@ loop-body-preserved g c = record {
   under = λ b under. (rw c.in-Piece.is at c.in_ok-read_more.ensures.comes) b (c.loop-body.invariant.under b under);
   leaves = grind (arith, common_steps);
   harms = λ b run under told owned. stays_then (c.loop-body.invariant.harms b run under told owned) (c.read_more.ensures.unharmed b run (c.loop-body.invariant.under b under) told owned);
-  trust = omega (arith, c.read_more.ensures.trust, c.loop-body.invariant.trust);
+  goes = goes_further _ _ _ c.loop-body.invariant.goes c.read_more.ensures.goes;
   later = omega (arith, c.read_more.ensures.later, c.loop-body.invariant.later);
 }
 
@@ -66,3 +67,15 @@ returns-in-Broken-clause-unharmed g c = λ b run under told owned.
 pub returns-in-Broken-clause-counts : goal.returns-in-Broken-clause-counts
 returns-in-Broken-clause-counts g c = λ none.
     broken_tells c.in-Broken.why (seen_in g.D.Disk g.R.Directory c.read_more.new.stripe).device.faults ((rw c.in-Broken.is at c.in_ok-read_more.ensures.counts) (c.loop-body.invariant.leaves.losses none))
+
+pub returns-in_err-read_more-clause-goes : goal.returns-in_err-read_more-clause-goes
+returns-in_err-read_more-clause-goes g c = goes_further _ _ _ c.loop-body.invariant.goes c.read_more.ensures.goes
+
+pub returns-in-End-clause-goes : goal.returns-in-End-clause-goes
+returns-in-End-clause-goes g c = goes_further _ _ _ c.loop-body.invariant.goes c.read_more.ensures.goes
+
+pub returns-in-NotYet-clause-goes : goal.returns-in-NotYet-clause-goes
+returns-in-NotYet-clause-goes g c = goes_further _ _ _ c.loop-body.invariant.goes c.read_more.ensures.goes
+
+pub returns-in-Broken-clause-goes : goal.returns-in-Broken-clause-goes
+returns-in-Broken-clause-goes g c = goes_further _ _ _ c.loop-body.invariant.goes c.read_more.ensures.goes

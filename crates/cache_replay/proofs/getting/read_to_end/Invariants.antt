@@ -1,5 +1,6 @@
 use Rattle.std.proofs.Common.{◌≡◌, ◌*◌, ◌≤◌, ◌⊎◌, [], true, length, is_some, Some, None}
 use Rattle.tape_base.specs.Geometry.{budget_of}
+use Rattle.logged_disk.specs.Device.{IsAfter}
 use Rattle.cache_model.specs.Kept.{state_of}
 use Rattle.cache_model.specs.Legal.{IsQuiet}
 use Rattle.cache_model.specs.Vectors.{AreTold}
@@ -27,7 +28,7 @@ invariant-loop-body g l = record {
   leaves : LeavesBut None (Some l.fn.reader.reader) (state_in g.C.Chronicle l.fn.stripe) (state_in g.C.Chronicle l.stripe);
   harms : (b : Began) (run : Run) → IsUnderway b (seen_in g.D.Disk g.R.Directory l.fn.stripe).device.faults (kept_in g.C.Chronicle l.fn.stripe) l.fn.reader [] → AreTold (state_of b.kept) → AreOwn (state_of b.kept) run.streams
       → StaysUnharmed g.D.Disk g.R.Directory g.C.Chronicle l.fn.stripe l.stripe ⊎ ShowsAt (IsPlacedAs run.streams) run.now (state_of b.kept) b.asks;
-  trust : (seen_in g.D.Disk g.R.Directory l.stripe).device.trust ≤ (seen_in g.D.Disk g.R.Directory l.fn.stripe).device.trust;
+  goes : IsAfter (seen_in g.D.Disk g.R.Directory l.fn.stripe).device (seen_in g.D.Disk g.R.Directory l.stripe).device;
   later : (seen_in g.D.Disk g.R.Directory l.fn.stripe).device.faults ≤ (seen_in g.D.Disk g.R.Directory l.stripe).device.faults;
 }
 

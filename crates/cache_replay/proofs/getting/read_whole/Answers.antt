@@ -3,6 +3,7 @@ use Rattle.stripe_core.specs.Stripe.{kept_in, seen_in}
 use Rattle.cache_replay.specs.Getting.{given_in, got_answer}
 use Rattle.cache_replay.proofs.OtherNext.{stays_then}
 use Rattle.cache_replay.proofs.WholeReads.{answered_as}
+use Rattle.logged_disk.proofs.GoingOn.{goes_further}
 use Rattle.cache_replay.proofs.getting.read_whole.Goals as goal
 
 pub returns-in_ok-close-in-Ok-clause-answers : goal.returns-in_ok-close-in-Ok-clause-answers
@@ -19,3 +20,9 @@ returns-in_ok-close-in-Ok-clause-unharmed g c = λ b run under told owned. stays
 
 pub returns-in_ok-close-in-Ok-clause-counts : goal.returns-in_ok-close-in-Ok-clause-counts
 returns-in_ok-close-in-Ok-clause-counts g c = λ none. let told = c.in-Ok.ensures.counts none in omega (arith, told, c.close.ensures.later)
+
+pub returns-in_err-close-in-Ok-clause-goes : goal.returns-in_err-close-in-Ok-clause-goes
+returns-in_err-close-in-Ok-clause-goes g c = goes_further _ _ _ c.read_to_end.ensures.goes c.close.ensures.unharmed.goes
+
+pub returns-in_ok-close-in-Ok-clause-goes : goal.returns-in_ok-close-in-Ok-clause-goes
+returns-in_ok-close-in-Ok-clause-goes g c = goes_further _ _ _ c.read_to_end.ensures.goes c.close.ensures.unharmed.goes

@@ -12,7 +12,7 @@ returns-in-Some-clause-ends g c =
 
 pub returns-in-Some-clause-device : goal.returns-in-Some-clause-device
 returns-in-Some-clause-device g c =
-    line_device g.D.Disk g.R.Directory g.C.Chronicle c.args.session.now c.in-Some.part c.open_reader.new.part c.in-Some.is c.open_reader.ensures.later c.open_reader.ensures.unharmed.trust
+    line_device g.D.Disk g.R.Directory g.C.Chronicle c.args.session.now c.in-Some.part c.open_reader.new.part c.in-Some.is c.open_reader.ensures.later c.open_reader.ensures.unharmed.goes
 
 pub returns-in-None-clause-device : goal.returns-in-None-clause-device
 returns-in-None-clause-device g c = no_device g.D.Disk g.R.Directory g.C.Chronicle c.args.session.now c.in-None.is

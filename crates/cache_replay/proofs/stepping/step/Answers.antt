@@ -1,6 +1,11 @@
 use Rattle.std.proofs.Common.{ap, arith, sym, inl, ◌+◌}
 use Rattle.script_run.specs.Ledger.{ledger_of}
-use Rattle.cache_replay.proofs.Dispatch.{all_ends, all_stops, moment_moves, needs_session}
+use Rattle.device_bay.specs.Calls.{out_of}
+use Rattle.dir_table.specs.contracts.list.ListDirectoryDirectory.TheImpl.{ghosts as listed}
+use Rattle.cache_chronicle.specs.contracts.full.FullChronicleChronicle.TheImpl.{ghosts as chronicled}
+use Rattle.cache_replay.specs.Session.{return_of}
+use Rattle.cache_replay.proofs.Dispatch.{all_ends, all_refuse_none, all_stops, moment_moves, needs_session}
+use Rattle.cache_replay.proofs.Order.{order_stays}
 use Rattle.cache_replay.proofs.Outlines.{all_left, all_outlines, moment_outlines}
 use Rattle.cache_replay.proofs.stepping.step.Goals as goal
 
@@ -12,10 +17,11 @@ returns-in_default g c =
       ends = all_ends _ _ _ c.in_session.result c.args.step c.args.session.now c.in_session.new.session (ledger_of g.B.Bay c.args.bay.now) needs c.in_session.ensures.ends;
       outline = all_outlines _ _ _ c.in_session.result c.args.step c.args.session.now c.in_session.new.session (ledger_of g.B.Bay c.args.bay.now) needs c.in_session.ensures.device c.in_session.ensures.counts;
       left = all_left _ _ _ c.in_session.result c.args.step c.args.session.now c.in_session.new.session (ledger_of g.B.Bay c.args.bay.now) c.in_session.ensures.device;
-      stop = all_stops c.in_session.result c.args.step c.args.session.now (g.B.Bay.faults c.args.bay.now) (g.B.Bay.faults c.args.bay.now) needs c.in_session.ensures.stop;
-      out = ap (λ n. g.B.Bay.out c.args.bay.now + n) (sym c.in_session.ensures.devices);
+      stop = all_stops c.in_session.result c.args.step c.args.session.now (g.B.Bay.past c.args.bay.now) (g.B.Bay.past c.args.bay.now) needs c.in_session.ensures.stop;
+      out = ap (λ n. out_of (g.B.Bay.past c.args.bay.now) + n) (sym c.in_session.ensures.devices);
       names = c.in_session.ensures.names;
-      later = omega arith;
+      order = order_stays (return_of g.B.Dev.Disk listed chronicled c.args.session.now.part) (return_of g.B.Dev.Disk listed chronicled c.in_session.new.session.part) (g.B.Bay.past c.args.bay.now) c.in_session.ensures.device;
+      refusals = all_refuse_none c.in_session.result (g.B.Bay.past c.args.bay.now);
     }
 
 pub returns-in-Now-clause-ends : goal.returns-in-Now-clause-ends

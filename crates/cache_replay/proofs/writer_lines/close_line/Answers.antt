@@ -11,7 +11,7 @@ returns-in-Some-clause-ends g c =
 
 pub returns-in-Some-clause-device : goal.returns-in-Some-clause-device
 returns-in-Some-clause-device g c =
-    line_device g.D.Disk g.R.Directory g.C.Chronicle c.args.session.now c.in-Some.part c.close_in.new.part c.in-Some.is c.close_in.ensures.later c.close_in.ensures.unharmed.trust
+    line_device g.D.Disk g.R.Directory g.C.Chronicle c.args.session.now c.in-Some.part c.close_in.new.part c.in-Some.is c.close_in.ensures.later c.close_in.ensures.unharmed.goes
 
 pub returns-in-None-clause-device : goal.returns-in-None-clause-device
 returns-in-None-clause-device g c = no_device g.D.Disk g.R.Directory g.C.Chronicle c.args.session.now c.in-None.is
