@@ -1,14 +1,18 @@
 -- How each line that is not answered ends a run.
-use Rattle.std.proofs.Common.{◌≡◌, ℕ, ◌+◌, ◌≤◌, List, [], ◌∷◌, ◌++◌, append_assoc, append-nil, Option, Some, None, Ok, Err, refl, arith, inl, inr, ◌⊎◌, lit≤}
-use Rattle.std.specs.Io.KnownBytes.{Appends, Keeps, IsAtEnd, prepend_known}
-use Rattle.std.proofs.KnownBytes.{Appends-trans, Appends-nil}
+use Rattle.std.proofs.Common.{◌≡◌, ℕ, ◌+◌, ◌-◌, ◌^◌, ◌≤◌, min, List, [], ◌∷◌, ◌++◌, length, length-append, append_assoc, append-nil, Option, Some, None, Ok, Err, refl, sym, ◌∙◌, ap, subst, arith, inl, inr, ◌⊎◌, lit≤}
+use Rattle.device_log.specs.Faults.{next_count}
+use Rattle.device_log.specs.Streams.{SourceRead, SinkWrite, GaveBytes, CameToEnd, RefusedRead, refused_reads}
 use Rattle.edge_io.specs.Causes.{Rose}
-use Rattle.edge_io.specs.LineReader.{AnswersKnown, FaultIs}
+use Rattle.edge_io.specs.Lines.{GivesLine}
+use Rattle.edge_io.specs.Source.{IsEnded, LastReadFailed, NoReadFailed}
+use Rattle.edge_io.specs.Text.{text_after}
+use Rattle.edge_io.specs.LineReader.{Answers, AreNeeded, Fails, IsDecided}
 use Rattle.edge_io.specs.declared.reader.LineFault.{LineFault}
 use Rattle.edge_io.specs.declared.reader.LineFault.TheVariants as fault
-use Rattle.ats_disk.specs.declared.device.Disk.{Ghosts as DiskGhosts}
+use Rattle.logged_disk.specs.declared.device.Disk.{Ghosts as DiskGhosts}
 use Rattle.dir_table.specs.declared.directory.Directory.{Ghosts as DirectoryGhosts}
 use Rattle.cache_chronicle.specs.declared.chronicle.Chronicle.{Ghosts as ChronicleGhosts}
+use Rattle.device_bay.specs.Calls.{BayCall, refusals_of}
 use Rattle.script_lang.specs.declared.line.BadLine.{BadLine}
 use Rattle.script_lang.specs.declared.line.LineAnswer.TheVariants as line
 use Rattle.script_lang.specs.declared.step.Step.{Step}
@@ -32,31 +36,35 @@ use Rattle.cache_tool.specs.declared.run.Ending.{Ending}
 use Rattle.cache_tool.specs.declared.run.Ending.TheVariants as ending
 use Rattle.cache_tool.specs.declared.run.Halt.{Halt}
 use Rattle.cache_tool.specs.declared.run.Halt.TheVariants.{Stop, WriteFault, Memory}
-use Rattle.cache_tool.specs.Story.{Story, Told, Recorded, ShownAlong, IsBehind, GoesOn, GaveBack, Owes, OwesOrGave, SendsAll, SendsBefore, SendsFront, CutsLast, Counts, Because, IsTooLongAt, IsTooManyAt, all_in, told_by, told_in}
-use Rattle.cache_tool.specs.Ending.{Ends, IsOfRun}
+use Rattle.cache_tool.specs.Story.{Story, Told, Taken, Took, Recorded, ShownAlong, GoesOn, GaveBack, IsReadThrough, Owes, OwesOrGave, SendsAll, SendsBefore, SendsFront, CutsLast, Refusals, refusals, Because, all_in, told_by, told_in}
+use Rattle.cache_tool.specs.Ending.{Ends, FailedReads, IsOfRun}
 use Rattle.cache_tool.specs.Halt.{Written, Halts, Leaves, ending_of, last_of}
-use Rattle.cache_tool.proofs.Stories.{step_more, IsNext-known, Deals-nothing, Deals-trans, Deals-settled, answered_with, along_with, story_with}
+use Rattle.cache_tool.proofs.Stories.{step_more, Deals-nothing, Deals-trans, Deals-settled, answered_with, along_with, story_with}
 use Rattle.cache_replay.proofs.Unharming.{plays_outlined}
-use Rattle.cache_tool.proofs.Halts.{Appends-kept, cuts_last, plays_reach}
+use Rattle.cache_tool.proofs.Halts.{Took-kept, Took-nothing, Took-trans, cuts_last, plays_reach}
 
-at_end : (given : ℕ) (unread unread' : Option (List ℕ)) → AnswersKnown given unread unread' (Ok None) → IsAtEnd unread
-at_end given None unread' known = tt
-at_end given (Some u) None known = absurd known
-at_end given (Some u) (Some u') known = known.0
+-- the end that the last reads met
+pub read_through : (given : ℕ) (more old now : List SourceRead) (unread unread' : List ℕ) → now ≡ more ++ old → Answers given more unread unread' (Ok None) → IsReadThrough now unread
+read_through given more old now unread unread' grew known =
+    record { ended = (known.0.0 ++ old, grew ∙ ap (λ l. l ++ old) known.0.1); none = known.1 }
 
-too_long : (given number : ℕ) (unread unread' : Option (List ℕ)) → AnswersKnown given unread unread' (Err (fault.LineTooLong number)) → IsTooLongAt given unread
-too_long given number None unread' known = tt
-too_long given number (Some u) None known = absurd known
-too_long given number (Some u) (Some u') known = known.0
+-- one refusal more is one count more
+not_same : (old older : List SourceRead) (count : ℕ) → old ≡ RefusedRead count ∷ older → refused_reads older ≡ refused_reads old → ⊥
+unfolding refused_reads
+not_same old older count is same =
+    let more : length (refused_reads old) ≡ length (refused_reads older) + 1 = ap (λ l. length (refused_reads l)) is ∙ length-append (refused_reads older) (count ∷ []) in
+    absurd (omega (arith, more, ap length same))
 
-too_many : (given : ℕ) (unread unread' : Option (List ℕ)) → AnswersKnown given unread unread' (Err fault.TooManyLines) → IsTooManyAt given unread
-too_many given None unread' known = tt
-too_many given (Some u) None known = absurd known
-too_many given (Some u) (Some u') known = known.0
+-- a read that failed was made where nothing was decided
+holds_none : (given : ℕ) (before : List ℕ) (more old now : List SourceRead) (count : ℕ) → now ≡ more ++ old → LastReadFailed old now count → AreNeeded given before more → IsDecided given (text_after before more) → ⊥
+holds_none given before [] old now count grew failed needed = λ decided. not_same old failed.older count (sym grew ∙ failed.is) failed.others
+holds_none given before (GaveBytes bytes ∷ more) old now count grew failed needed = let no : GaveBytes bytes ∷ (more ++ old) ≡ RefusedRead count ∷ failed.older = sym grew ∙ failed.is in absurd cc
+holds_none given before (CameToEnd ∷ more) old now count grew failed needed = let no : CameToEnd ∷ (more ++ old) ≡ RefusedRead count ∷ failed.older = sym grew ∙ failed.is in absurd cc
+holds_none given before (RefusedRead k ∷ more) old now count grew failed needed = needed.0
 
-module _ (first taken_first taken : Option (List ℕ)) (ledger_first ledger : Ledger) (unread : Option (List ℕ)) (given : ℕ) (Outlined : Outline → Type 0) (Plays' : Run → Type 0)
+module _ (first now : List SourceRead) (taken_first taken : List SinkWrite) (ledger_first ledger : Ledger) (unread : List ℕ) (given : ℕ) (Outlined : Outline → Type 0) (Plays' : Run → Type 0)
     (Reached : List Harm → Type 0) (devices : ℕ) (reach : (o : Outline) → Outlined o → Reached (told_of o.session)) (reach_run : (run : Run) → Plays' run → Reached (harm_of run.state))
-    (story : GoesOn first taken_first ledger_first unread given taken ledger Outlined Plays') where
+    (story : GoesOn first taken_first ledger_first now unread given taken ledger Outlined Plays') where
   -- what the records are worth as they stand
   still_recorded : (Devices : Told → Type 0) (Behind : Outline → Type 0) → ((t : Told) → Deals ledger_first ledger t.ended t.names → Reached t.own → Devices t) → ((o : Outline) → Outlined o → Behind o)
       → Recorded story.lines story.answers (λ t. Deals ledger_first ledger t.ended t.names) Plays' ⊎ ShownAlong story.lines story.answers (λ t. Deals ledger_first ledger t.ended t.names) Outlined
@@ -67,8 +75,10 @@ module _ (first taken_first taken : Option (List ℕ)) (ledger_first ledger : Le
 
   -- the story as it stands
   still : (Text : (before all : List ℕ) → Type 0) (Devices : Told → Type 0) (Behind : Outline → Type 0) → Text (texts_before story.answers) (texts_of story.answers)
-      → ((t : Told) → Deals ledger_first ledger t.ended t.names → Reached t.own → Devices t) → ((o : Outline) → Outlined o → Behind o) → Story first unread given Text Devices Behind (λ run. Unit {0})
+      → ((t : Told) → Deals ledger_first ledger t.ended t.names → Reached t.own → Devices t) → ((o : Outline) → Outlined o → Behind o) → Story first now unread given Text Devices Behind (λ run. Unit {0})
   still Text Devices Behind text settle behind = record {
+    reads = story.reads;
+    since = story.since;
     lines = story.lines;
     answers = story.answers;
     taken = story.taken;
@@ -81,39 +91,40 @@ module _ (first taken_first taken : Option (List ℕ)) (ledger_first ledger : Le
   owes : (t : Told) → Deals ledger_first ledger t.ended t.names → Reached t.own → Owes ledger_first ledger Reached t
   owes t deals reached = record { deals = deals; reached = reached }
 
-  abbrev Wants : Option (List ℕ) → ℕ → Told → Type 0
+  abbrev Wants : List ℕ → ℕ → Told → Type 0
   Wants = OwesOrGave ledger_first ledger devices Reached
 
   -- the script was read to its end
-  pub done_ends : (unread' : Option (List ℕ)) (source sink bay : Counts) → AnswersKnown given unread unread' (Ok None) → Ends first taken_first taken source sink bay (Owes ledger_first ledger Reached) Wants ending.Done
-  done_ends unread' source sink bay known = record { unread = unread; given = given; story = still (SendsAll taken_first taken) _ _ story.text owes (λ o is. at_end given unread unread' known) }
+  pub done_ends : (bay : Refusals) → IsReadThrough now unread → Ends first now taken_first taken bay (Owes ledger_first ledger Reached) Wants ending.Done
+  done_ends bay through = record { held = unread; given = given; story = still (SendsAll taken_first taken) _ _ story.text owes (λ o is. through) }
 
-  pub memory_ends : (source sink bay : Counts) → Ends first taken_first taken source sink bay (Owes ledger_first ledger Reached) Wants ending.OutOfMemory
-  memory_ends source sink bay = inl (record { unread = unread; given = given; story = still (SendsAll taken_first taken) _ _ story.text (λ t deals reached. inl (owes t deals reached)) (λ o is. tt) })
+  pub memory_ends : (bay : Refusals) → Ends first now taken_first taken bay (Owes ledger_first ledger Reached) Wants ending.OutOfMemory
+  memory_ends bay = inl (record { held = unread; given = given; story = still (SendsAll taken_first taken) _ _ story.text (λ t deals reached. inl (owes t deals reached)) (λ o is. tt) })
 
-  stopped : (source sink bay : Counts) (why : LastLine) → ((o : Outline) → Outlined o → Because source bay unread given o why) → Ends first taken_first taken source sink bay (Owes ledger_first ledger Reached) Wants (ending.Stopped why)
-  stopped source sink bay why because = record { unread = unread; given = given; story = still (SendsAll taken_first taken) _ _ story.text owes because }
+  stopped : (bay : Refusals) (why : LastLine) → ((o : Outline) → Outlined o → Because bay unread given o why) → Ends first now taken_first taken bay (Owes ledger_first ledger Reached) Wants (ending.Stopped why)
+  stopped bay why because = record { held = unread; given = given; story = still (SendsAll taken_first taken) _ _ story.text owes because }
 
   -- the reader met a fault
-  pub fault_ends : (unread' : Option (List ℕ)) (held : List ℕ) (source sink bay : Counts) (f : LineFault) → AnswersKnown given unread unread' (Err f) → FaultIs given held source.before source.now f
-      → Ends first taken_first taken source sink bay (Owes ledger_first ledger Reached) Wants (ending.Stopped (last_of f))
-  fault_ends unread' held source sink bay (fault.LineTooLong number) known is = stopped source sink bay (last.LineTooLong number) (λ o out. (is.0, too_long given number unread unread' known))
-  fault_ends unread' held source sink bay fault.TooManyLines known is = stopped source sink bay last.TooManyLines (λ o out. too_many given unread unread' known)
-  fault_ends unread' held source sink bay (fault.ReadFault count) known is = stopped source sink bay last.ReadFault (λ o out. is.1)
+  pub fault_ends : (before : List ℕ) (old more : List SourceRead) (unread' : List ℕ) (bay : Refusals) (f : LineFault) → unread ≡ text_after before more → now ≡ more ++ old → AreNeeded given before more → Fails old now (Err f)
+      → Answers given more unread unread' (Err f) → Ends first now taken_first taken bay (Owes ledger_first ledger Reached) Wants (ending.Stopped (last_of f))
+  fault_ends before old more unread' bay (fault.LineTooLong number) is grew needed failed known = stopped bay (last.LineTooLong number) (λ o out. (known.0, known.1))
+  fault_ends before old more unread' bay fault.TooManyLines is grew needed failed known = stopped bay last.TooManyLines (λ o out. known.0)
+  fault_ends before old more unread' bay (fault.ReadFault count) is grew needed failed known =
+      stopped bay last.ReadFault (λ o out. record { undecided = λ decided. holds_none given before more old now count grew failed needed (subst (λ (l : List ℕ). IsDecided given l) is decided) })
 
   -- the next line
-  module _ (bytes : List ℕ) (unread' : Option (List ℕ)) (given' : ℕ) (known : AnswersKnown given unread unread' (Ok (Some bytes))) (counted : given' ≡ given + 1) where
-    pub bad_ends : (source sink bay : Counts) (bad : BadLine) → reading_of bytes ≡ line.Bad bad
-        → Ends first taken_first taken source sink bay (Owes ledger_first ledger Reached) Wants (ending.Stopped (last.BadScript given' bad))
-    bad_ends source sink bay bad e =
-        stopped source sink bay (last.BadScript given' bad) (λ o out. (counted, record { bytes = bytes; next = IsNext-known given unread unread' bytes known; bad = e }))
+  module _ (bytes unread' : List ℕ) (given' : ℕ) (known : GivesLine given unread bytes unread') (counted : given' ≡ given + 1) where
+    pub bad_ends : (bay : Refusals) (bad : BadLine) → reading_of bytes ≡ line.Bad bad
+        → Ends first now taken_first taken bay (Owes ledger_first ledger Reached) Wants (ending.Stopped (last.BadScript given' bad))
+    bad_ends bay bad e =
+        stopped bay (last.BadScript given' bad) (λ o out. (counted, record { bytes = bytes; next = (unread', known); bad = e }))
 
 -- the next line is a step
-module _ {D R C : Type 0} (disk : DiskGhosts D) (directory : DirectoryGhosts R) (chronicle : ChronicleGhosts C) (old : Session D R C) (first taken_first taken : Option (List ℕ)) (ledger_first ledger : Ledger)
-    (unread unread' : Option (List ℕ)) (given given' : ℕ)
-    (story : GoesOn first taken_first ledger_first unread given taken ledger (λ o. IsOutlined disk directory chronicle o old) (λ run. Plays disk directory chronicle run old))
-    (bytes : List ℕ) (known : AnswersKnown given unread unread' (Ok (Some bytes))) (counted : given' ≡ given + 1)
-    (step : Step) (asks : reading_of bytes ≡ line.Step step) (session : Session D R C) (ledger' : Ledger) (taken' : Option (List ℕ)) where
+module _ {D R C : Type 0} (disk : DiskGhosts D) (directory : DirectoryGhosts R) (chronicle : ChronicleGhosts C) (old : Session D R C) (first now : List SourceRead) (taken_first taken : List SinkWrite) (ledger_first ledger : Ledger)
+    (unread unread' : List ℕ) (given given' : ℕ)
+    (story : GoesOn first taken_first ledger_first now unread given taken ledger (λ o. IsOutlined disk directory chronicle o old) (λ run. Plays disk directory chronicle run old))
+    (bytes : List ℕ) (known : GivesLine given unread bytes unread') (counted : given' ≡ given + 1)
+    (step : Step) (asks : reading_of bytes ≡ line.Step step) (session : Session D R C) (ledger' : Ledger) (taken' : List SinkWrite) where
   -- the session before it
   abbrev Before : Outline → Type 0
   Before = λ o. IsOutlined disk directory chronicle o old
@@ -121,34 +132,40 @@ module _ {D R C : Type 0} (disk : DiskGhosts D) (directory : DirectoryGhosts R) 
   abbrev Reaches : List Harm → Type 0
   Reaches = λ harms. AreReached harms (return_of disk directory chronicle session.part)
 
-  abbrev Wanting : Option (List ℕ) → ℕ → Told → Type 0
+  abbrev Wanting : List ℕ → ℕ → Told → Type 0
   Wanting = OwesOrGave ledger_first ledger' (devices_of session) Reaches
 
   -- the run goes on behind it
-  pub step_goes : IsSession disk directory chronicle old → Written disk directory chronicle old step session ledger ledger' (Appends taken taken')
-      → GoesOn first taken_first ledger_first unread' given' taken' ledger' (λ o. IsOutlined disk directory chronicle o session) (λ run. Plays disk directory chronicle run session)
+  pub step_goes : IsSession disk directory chronicle old → Written disk directory chronicle old step session ledger ledger' (Took taken taken')
+      → GoesOn first taken_first ledger_first now unread' given' taken' ledger' (λ o. IsOutlined disk directory chronicle o session) (λ run. Plays disk directory chronicle run session)
   step_goes was w =
-      step_more first taken_first taken ledger_first ledger unread unread' given given' _ _ story bytes known counted step asks w.said ledger' disk directory chronicle session
+      step_more first now taken_first taken ledger_first ledger unread unread' given given' _ _ story bytes known counted step asks w.said ledger' disk directory chronicle session
       (SendsAll taken_first taken') (λ t. Deals ledger_first ledger' t.ended t.names) _ _ w.outlines (λ run plays. plays_outlined disk directory chronicle run old was plays) w.ends
-      (λ out appends. Appends-trans taken_first taken taken' out _ appends w.text) (λ o is deals. deals) (λ run plays deals. deals) (λ o is. is) (λ run plays. plays)
+      (λ out appends. Took-trans taken_first taken taken' out _ appends w.text) (λ o is deals. deals) (λ run plays deals. deals) (λ o is. is) (λ run plays. plays)
 
   -- or ends with it
-  module _ (was : IsSession disk directory chronicle old) (is : IsSession disk directory chronicle session) (source sink bay : Counts) where
+  module _ (was : IsSession disk directory chronicle old) (is : IsSession disk directory chronicle session) (bay_old bay_new : List BayCall) where
+    -- what the bay refused before and behind the line
+    abbrev bay : Refusals
+    bay = refusals (refusals_of bay_old) (refusals_of bay_new)
+
     written_ends : (Text : List ℕ → Type 0) (Sent : (before all : List ℕ) → Type 0) (Devices : Told → Type 0) (Behind : Outline → Type 0) (w : Written disk directory chronicle old step session ledger ledger' Text)
-        → ((out : List ℕ) → Appends taken_first taken out → Sent out (out ++ answer_line w.said)) → ((t : Told) → Owes ledger_first ledger' Reaches t → Devices t) → ((o : Outline) → Behind o)
-        → Story first unread' given' Sent Devices Behind (λ run. Unit {0})
+        → ((out : List ℕ) → Took taken_first taken out → Sent out (out ++ answer_line w.said)) → ((t : Told) → Owes ledger_first ledger' Reaches t → Devices t) → ((o : Outline) → Behind o)
+        → Story first now unread' given' Sent Devices Behind (λ run. Unit {0})
     written_ends Text Sent Devices Behind w sent owed behind =
-        step_more first taken_first taken ledger_first ledger unread unread' given given' _ _ story bytes known counted step asks w.said ledger' disk directory chronicle session
+        step_more first now taken_first taken ledger_first ledger unread unread' given given' _ _ story bytes known counted step asks w.said ledger' disk directory chronicle session
         Sent Devices Behind (λ run. Unit {0}) w.outlines (λ run plays. plays_outlined disk directory chronicle run old was plays) w.ends sent (λ o reached deals. owed (told_by o) (record { deals = deals; reached = reached }))
         (λ run plays deals. owed (told_in run) (record { deals = deals; reached = plays_reach disk directory chronicle session is run plays })) (λ o reached. behind o) (λ run plays. tt)
 
     -- what a line leaves that was not done
     left_ends : (why : Stopped) (Devices : Told → Type 0) → ((t : Told) → Deals ledger_first ledger t.ended t.names → IsLeft disk directory chronicle t.own step session ledger ledger' why → Devices t)
         → Leaves disk directory chronicle old step session ledger ledger' why → (Text : (before all : List ℕ) → Type 0) (Behind : Outline → Type 0) → Text (texts_before story.answers) (texts_of story.answers)
-        → ((o : Outline) → Before o → Behind o) → Story first unread given Text Devices Behind (λ run. Unit {0})
+        → ((o : Outline) → Before o → Behind o) → Story first now unread given Text Devices Behind (λ run. Unit {0})
     left_ends why Devices settle leaves Text Behind text behind =
         let left : (o : Outline) → Deals ledger_first ledger o.ended o.names → Before o → Devices (told_by o) = λ o deals is. settle (told_by o) deals (leaves (told_of o.session) is) in
         record {
+          reads = story.reads;
+          since = story.since;
           lines = story.lines;
           answers = story.answers;
           taken = story.taken;
@@ -170,12 +187,12 @@ module _ {D R C : Type 0} (disk : DiskGhosts D) (directory : DirectoryGhosts R) 
     not_ended by other t deals (stays reached same) = stays_owes t deals reached same
     not_ended by other t deals (ended name attaches none more wanting) = absurd (other wanting)
 
-    halted : (why : LastLine) (by : Stopped) → (by ≡ stop.Memory → ⊥) → Leaves disk directory chronicle old step session ledger ledger' by → Keeps taken taken' → ((o : Outline) → Before o → Because source bay unread given o why)
-        → Ends first taken_first taken' source sink bay (Owes ledger_first ledger' Reaches) Wanting (ending.Stopped why)
+    halted : (why : LastLine) (by : Stopped) → (by ≡ stop.Memory → ⊥) → Leaves disk directory chronicle old step session ledger ledger' by → taken' ≡ taken → ((o : Outline) → Before o → Because bay unread given o why)
+        → Ends first now taken_first taken' bay (Owes ledger_first ledger' Reaches) Wanting (ending.Stopped why)
     halted why by other leaves keeps because = record {
-      unread = unread;
+      held = unread;
       given = given;
-      story = left_ends by (Owes ledger_first ledger' Reaches) (not_ended by other) leaves (SendsAll taken_first taken') _ (Appends-kept taken_first taken taken' _ story.text keeps) because;
+      story = left_ends by (Owes ledger_first ledger' Reaches) (not_ended by other) leaves (SendsAll taken_first taken') _ (Took-kept taken_first taken taken' _ story.text keeps) because;
     }
 
     -- what is owed where memory was wanting
@@ -185,7 +202,7 @@ module _ {D R C : Type 0} (disk : DiskGhosts D) (directory : DirectoryGhosts R) 
       rw none refl,
       record {
         bytes = bytes;
-        next = IsNext-known given unread unread' bytes known;
+        next = (unread', known);
         step = step;
         asks = asks;
         name = name;
@@ -200,33 +217,33 @@ module _ {D R C : Type 0} (disk : DiskGhosts D) (directory : DirectoryGhosts R) 
     none_found (Some harm) None e h = absurd h
     none_found (Some harm) (Some part) e h = cc
 
-    halt_ends : (halt : Halt) → Halts disk directory chronicle old step session ledger ledger' taken taken' sink bay halt
-        → Ends first taken_first taken' source sink bay (Owes ledger_first ledger' Reaches) Wanting (ending_of given' halt)
+    halt_ends : (halt : Halt) → Halts disk directory chronicle old step session ledger ledger' taken taken' bay_old bay_new halt
+        → Ends first now taken_first taken' bay (Owes ledger_first ledger' Reaches) Wanting (ending_of given' halt)
     halt_ends (Stop stop.NoCache) h =
         halted (last.NoCache given') stop.NoCache (λ e. absurd cc) h.0 h.1
-        (λ o is. (counted, record { bytes = bytes; next = IsNext-known given unread unread' bytes known; step = step; asks = asks; needs = h.2.0; none = none_found o.session old.part h.2.1 is }))
+        (λ o is. (counted, record { bytes = bytes; next = (unread', known); step = step; asks = asks; needs = h.2.0; none = none_found o.session old.part h.2.1 is }))
     halt_ends (Stop stop.BayFault) h =
-        halted last.BayFault stop.BayFault (λ e. absurd cc) h.0 h.1 (λ o is. record { bytes = bytes; next = IsNext-known given unread unread' bytes known; step = step; asks = asks; attaches = h.2.0; rose = h.2.1 })
+        halted last.BayFault stop.BayFault (λ e. absurd cc) h.0 h.1 (λ o is. record { bytes = bytes; next = (unread', known); step = step; asks = asks; refusal = h.2.refusal; attaches = h.2.attaches; refused = ap refusals_of h.2.refuses.past })
     halt_ends (Stop stop.Memory) h = inl (record {
-      unread = unread;
+      held = unread;
       given = given;
-      story = left_ends stop.Memory (Wanting unread given) wants h.0 (SendsAll taken_first taken') _ (Appends-kept taken_first taken taken' _ story.text h.1) (λ o is. tt);
+      story = left_ends stop.Memory (Wanting unread given) wants h.0 (SendsAll taken_first taken') _ (Took-kept taken_first taken taken' _ story.text h.1) (λ o is. tt);
     })
     halt_ends WriteFault h = record {
-      unread = unread';
+      held = unread';
       given = given';
-      story = written_ends (SendsFront taken taken' []) (CutsLast taken_first taken') (Owes ledger_first ledger' Reaches) (λ o. Rose sink.before sink.now) h.0
-          (λ out appends. cuts_last taken_first taken taken' out h.0.said appends h.0.text) (λ t owes. owes) (λ o. h.1);
+      story = written_ends (SendsFront taken taken' []) (CutsLast taken_first taken') (Owes ledger_first ledger' Reaches) (λ o. Unit {0}) h
+          (λ out appends. cuts_last taken_first taken taken' out h.said appends h.text) (λ t owes. owes) (λ o. tt);
     }
     halt_ends Memory h = inr (record {
-      unread = unread';
+      held = unread';
       given = given';
-      story = written_ends (λ text. Keeps taken taken') (SendsBefore taken_first taken') (Owes ledger_first ledger' Reaches) (λ o. Unit {0}) h
-          (λ out appends. Appends-kept taken_first taken taken' out appends h.text) (λ t owes. owes) (λ o. tt);
+      story = written_ends (λ text. taken' ≡ taken) (SendsBefore taken_first taken') (Owes ledger_first ledger' Reaches) (λ o. Unit {0}) h
+          (λ out appends. Took-kept taken_first taken taken' out appends h.text) (λ t owes. owes) (λ o. tt);
     })
 
-    pub step_ends : (halt : Halt) → Halts disk directory chronicle old step session ledger ledger' taken taken' sink bay halt
-        → Ends first taken_first taken' source sink bay (Owes ledger_first ledger' Reaches) Wanting (ending_of given' halt)
+    pub step_ends : (halt : Halt) → Halts disk directory chronicle old step session ledger ledger' taken taken' bay_old bay_new halt
+        → Ends first now taken_first taken' bay (Owes ledger_first ledger' Reaches) Wanting (ending_of given' halt)
     step_ends halt h = halt_ends halt h
 
 -- no step ends the run with the last line for words that are no command
@@ -242,63 +259,91 @@ last_of-begun (fault.LineTooLong number) = tt
 last_of-begun fault.TooManyLines = tt
 last_of-begun (fault.ReadFault count) = tt
 
--- ---- counts that were seen earlier
+-- ---- refusals that were seen earlier
 
-pub Rose-earlier : (b c n : ℕ) → b ≤ c → Rose c n → Rose b n
-Rose-earlier b c n le rose = omega (arith, rose)
+module _ (bay bay' : Refusals) (bay_from : bay.before ≡ bay'.before) (bay_to : bay.now ≡ bay'.now) where
+  because_earlier : (held : List ℕ) (given : ℕ) (o : Outline) (why : LastLine) → Because bay held given o why → Because bay' held given o why
+  because_earlier held given o last.Usage b = b
+  because_earlier held given o (last.BadScript number bad) b = b
+  because_earlier held given o last.ReadFault b = b
+  because_earlier held given o last.BayFault b = record { bytes = b.bytes; next = b.next; step = b.step; asks = b.asks; refusal = b.refusal; attaches = b.attaches; refused = sym bay_to ∙ (b.refused ∙ ap (λ l. l ++ b.refusal ∷ []) bay_from) }
+  because_earlier held given o (last.LineTooLong number) b = b
+  because_earlier held given o last.TooManyLines b = b
+  because_earlier held given o (last.NoCache number) b = b
 
-module _ (source source' sink sink' bay bay' : Counts) (source_from : source'.before ≤ source.before) (source_to : source.now ≡ source'.now) (sink_from : sink'.before ≤ sink.before) (sink_to : sink.now ≡ sink'.now)
-    (bay_from : bay'.before ≤ bay.before) (bay_to : bay.now ≡ bay'.now) where
-  rose_in : (a b : Counts) → b.before ≤ a.before → a.now ≡ b.now → Rose a.before a.now → Rose b.before b.now
-  rose_in a b from to rose = Rose-earlier b.before a.before b.now from (rw to at rose)
+  pub Ends-earlier : (first now : List SourceRead) (old new : List SinkWrite) (Devices : Told → Type 0) (Wanting : List ℕ → ℕ → Told → Type 0) (e : Ending) → Ends first now old new bay Devices Wanting e → Ends first now old new bay' Devices Wanting e
+  Ends-earlier first now old new Devices Wanting ending.Done h = h
+  Ends-earlier first now old new Devices Wanting (ending.Stopped why) h = record { held = h.held; given = h.given; story = story_with first now h.held h.given (SendsAll old new) (SendsAll old new) Devices Devices _ _ _ (λ out all text. text) (λ t d. d) (λ o b. because_earlier h.held h.given o why b) h.story }
+  Ends-earlier first now old new Devices Wanting ending.WriteFault h = h
+  Ends-earlier first now old new Devices Wanting ending.OutOfMemory h = h
 
-  because_earlier : (unread : Option (List ℕ)) (given : ℕ) (o : Outline) (why : LastLine) → Because source bay unread given o why → Because source' bay' unread given o why
-  because_earlier unread given o last.Usage b = b
-  because_earlier unread given o (last.BadScript number bad) b = b
-  because_earlier unread given o last.ReadFault b = rose_in source source' source_from source_to b
-  because_earlier unread given o last.BayFault b = record { bytes = b.bytes; next = b.next; step = b.step; asks = b.asks; attaches = b.attaches; rose = rose_in bay bay' bay_from bay_to b.rose }
-  because_earlier unread given o (last.LineTooLong number) b = b
-  because_earlier unread given o last.TooManyLines b = b
-  because_earlier unread given o (last.NoCache number) b = b
+-- which reads failed in steps of a run, of which the first went on
+pub failed_earlier : (first before now : List SourceRead) (e : Ending) → NoReadFailed first before → FailedReads before now e → FailedReads first now e
+failed_earlier first before now ending.Done none h = h ∙ none
+failed_earlier first before now ending.WriteFault none h = h ∙ none
+failed_earlier first before now ending.OutOfMemory none h = h ∙ none
+failed_earlier first before now (ending.Stopped last.Usage) none h = h ∙ none
+failed_earlier first before now (ending.Stopped (last.BadScript number bad)) none h = h ∙ none
+failed_earlier first before now (ending.Stopped last.BayFault) none h = h ∙ none
+failed_earlier first before now (ending.Stopped (last.LineTooLong number)) none h = h ∙ none
+failed_earlier first before now (ending.Stopped last.TooManyLines) none h = h ∙ none
+failed_earlier first before now (ending.Stopped (last.NoCache number)) none h = h ∙ none
+failed_earlier first before now (ending.Stopped last.ReadFault) none h = (
+  h.0,
+  record {
+    older = h.1.older;
+    is = h.1.is;
+    counted = h.1.counted ∙ ap (λ failed. next_count (min (length failed) (2 ^ 64 - 1))) none;
+    others = h.1.others ∙ none;
+  },
+)
 
-  pub Ends-earlier : (first old new : Option (List ℕ)) (Devices : Told → Type 0) (Wanting : Option (List ℕ) → ℕ → Told → Type 0) (e : Ending) → Ends first old new source sink bay Devices Wanting e → Ends first old new source' sink' bay' Devices Wanting e
-  Ends-earlier first old new Devices Wanting ending.Done h = h
-  Ends-earlier first old new Devices Wanting (ending.Stopped why) h = record { unread = h.unread; given = h.given; story = story_with first h.unread h.given (SendsAll old new) (SendsAll old new) Devices Devices _ _ _ (λ out all text. text) (λ t d. d) (λ o b. because_earlier h.unread h.given o why b) h.story }
-  Ends-earlier first old new Devices Wanting ending.WriteFault h = record { unread = h.unread; given = h.given; story = story_with first h.unread h.given (CutsLast old new) (CutsLast old new) Devices Devices _ _ _ (λ out all text. text) (λ t d. d) (λ o b. rose_in sink sink' sink_from sink_to b) h.story }
-  Ends-earlier first old new Devices Wanting ending.OutOfMemory h = h
+-- a fault of the reader is the last read where it is one of a read
+pub fault_failed : (old new : List SourceRead) (f : LineFault) → Fails old new (Err f) → FailedReads old new (ending.Stopped (last_of f))
+fault_failed old new (fault.LineTooLong number) h = h
+fault_failed old new fault.TooManyLines h = h
+fault_failed old new (fault.ReadFault count) h = (count, h)
+
+pub halt_failed : (old new : List SourceRead) (number : ℕ) (halt : Halt) → NoReadFailed old new → FailedReads old new (ending_of number halt)
+halt_failed old new number (Stop stop.NoCache) h = h
+halt_failed old new number (Stop stop.BayFault) h = h
+halt_failed old new number (Stop stop.Memory) h = h
+halt_failed old new number WriteFault h = h
+halt_failed old new number Memory h = h
 
 -- ---- before the first line
 
-nothing_behind : (unread : Option (List ℕ)) → IsBehind unread [] unread
-nothing_behind None = tt
-nothing_behind (Some u) = record { all = refl; short = tt; within = lit≤ tt }
+nothing_taken : Taken [] [] []
+nothing_taken = record { all = refl; each = tt; within = lit≤ tt }
 
-pub begins : (unread taken : Option (List ℕ)) (ledger : Ledger) (given : ℕ) (Outlined : Outline → Type 0) (Plays' : Run → Type 0) → given ≡ 0 → Outlined blank → Plays' fresh → GoesOn unread taken ledger unread given taken ledger Outlined Plays'
-begins unread taken ledger given Outlined Plays' none outlined plays = record {
+pub begins : (now : List SourceRead) (taken : List SinkWrite) (ledger : Ledger) (held : List ℕ) (given : ℕ) (Outlined : Outline → Type 0) (Plays' : Run → Type 0) → held ≡ [] → given ≡ 0 → Outlined blank → Plays' fresh → GoesOn now taken ledger now held given taken ledger Outlined Plays'
+begins now taken ledger held given Outlined Plays' empty none outlined plays = record {
+  reads = [];
+  since = refl;
   lines = [];
   answers = [];
-  taken = nothing_behind unread;
+  taken = rw empty nothing_taken;
   counted = none;
-  text = Appends-nil taken;
+  text = Took-nothing taken;
   outline = record { each = tt; devices = Deals-nothing ledger; behind = outlined };
   records = inl (record { turns = []; legal = tt; says = refl; devices = Deals-nothing ledger; known = plays });
 }
 
 -- ---- once the run has ended
 
-module _ (source sink bay : Counts) (first old new : Option (List ℕ)) (Devices Devices' : Told → Type 0) (Wanting Wanting' : Option (List ℕ) → ℕ → Told → Type 0)
-    (settle : (t : Told) → Devices t → Devices' t) (settle_wanting : (unread : Option (List ℕ)) (given : ℕ) (t : Told) → Wanting unread given t → Wanting' unread given t) where
-  settled : (unread : Option (List ℕ)) (given : ℕ) (Text : (before all : List ℕ) → Type 0) (From To : Told → Type 0) (Behind : Outline → Type 0) (Known : Run → Type 0) → ((t : Told) → From t → To t)
-      → Story first unread given Text From Behind Known → Story first unread given Text To Behind Known
-  settled unread given Text From To Behind Known f s = story_with first unread given Text Text From To Behind Behind Known (λ out all text. text) f (λ o b. b) s
+module _ (bay : Refusals) (first now : List SourceRead) (old new : List SinkWrite) (Devices Devices' : Told → Type 0) (Wanting Wanting' : List ℕ → ℕ → Told → Type 0)
+    (settle : (t : Told) → Devices t → Devices' t) (settle_wanting : (held : List ℕ) (given : ℕ) (t : Told) → Wanting held given t → Wanting' held given t) where
+  settled : (held : List ℕ) (given : ℕ) (Text : (before all : List ℕ) → Type 0) (From To : Told → Type 0) (Behind : Outline → Type 0) (Known : Run → Type 0) → ((t : Told) → From t → To t)
+      → Story first now held given Text From Behind Known → Story first now held given Text To Behind Known
+  settled held given Text From To Behind Known f s = story_with first now held given Text Text From To Behind Behind Known (λ out all text. text) f (λ o b. b) s
 
-  pub Ends-settled : (e : Ending) → Ends first old new source sink bay Devices Wanting e → Ends first old new source sink bay Devices' Wanting' e
-  Ends-settled ending.Done h = record { unread = h.unread; given = h.given; story = settled h.unread h.given (SendsAll old new) Devices Devices' _ _ settle h.story }
-  Ends-settled (ending.Stopped why) h = record { unread = h.unread; given = h.given; story = settled h.unread h.given (SendsAll old new) Devices Devices' _ _ settle h.story }
-  Ends-settled ending.WriteFault h = record { unread = h.unread; given = h.given; story = settled h.unread h.given (CutsLast old new) Devices Devices' _ _ settle h.story }
+  pub Ends-settled : (e : Ending) → Ends first now old new bay Devices Wanting e → Ends first now old new bay Devices' Wanting' e
+  Ends-settled ending.Done h = record { held = h.held; given = h.given; story = settled h.held h.given (SendsAll old new) Devices Devices' _ _ settle h.story }
+  Ends-settled (ending.Stopped why) h = record { held = h.held; given = h.given; story = settled h.held h.given (SendsAll old new) Devices Devices' _ _ settle h.story }
+  Ends-settled ending.WriteFault h = record { held = h.held; given = h.given; story = settled h.held h.given (CutsLast old new) Devices Devices' _ _ settle h.story }
   Ends-settled ending.OutOfMemory h = elim h [
-    | inl n ↦ inl (record { unread = n.unread; given = n.given; story = settled n.unread n.given (SendsAll old new) (Wanting n.unread n.given) (Wanting' n.unread n.given) _ _ (settle_wanting n.unread n.given) n.story })
-    | inr l ↦ inr (record { unread = l.unread; given = l.given; story = settled l.unread l.given (SendsBefore old new) Devices Devices' _ _ settle l.story })
+    | inl n ↦ inl (record { held = n.held; given = n.given; story = settled n.held n.given (SendsAll old new) (Wanting n.held n.given) (Wanting' n.held n.given) _ _ (settle_wanting n.held n.given) n.story })
+    | inr l ↦ inr (record { held = l.held; given = l.given; story = settled l.held l.given (SendsBefore old new) Devices Devices' _ _ settle l.story })
   ]
 
 -- no device was attached
@@ -306,25 +351,23 @@ pub nothing_back : (ledger : Ledger) (t : Told) → t.ended ≡ [] → t.own ≡
 nothing_back ledger t none own names = rw (none, own, names) (Deals-nothing ledger)
 
 -- nothing was read for want of memory
-pub nothing_ends : (unread taken : Option (List ℕ)) (Devices : Told → Type 0) (Wanting : Option (List ℕ) → ℕ → Told → Type 0) → ((t : Told) → t.ended ≡ [] → t.own ≡ [] → t.names ≡ [] → Wanting unread 0 t) → (source sink bay : Counts)
-    → Ends unread taken taken source sink bay Devices Wanting ending.OutOfMemory
-nothing_ends unread taken Devices Wanting back source sink bay = inl (record {
-  unread = unread;
+pub nothing_ends : (now : List SourceRead) (taken : List SinkWrite) (Devices : Told → Type 0) (Wanting : List ℕ → ℕ → Told → Type 0) → ((t : Told) → t.ended ≡ [] → t.own ≡ [] → t.names ≡ [] → Wanting [] 0 t) → (bay : Refusals)
+    → Ends now now taken taken bay Devices Wanting ending.OutOfMemory
+nothing_ends now taken Devices Wanting back bay = inl (record {
+  held = [];
   given = 0;
   story = record {
+    reads = [];
+    since = refl;
     lines = [];
     answers = [];
-    taken = nothing_behind unread;
+    taken = nothing_taken;
     counted = refl;
-    text = Appends-nil taken;
+    text = Took-nothing taken;
     outline = record { each = tt; devices = back (told_by blank) refl refl refl; behind = tt };
     records = inl (record { turns = []; legal = tt; says = refl; devices = back (told_in fresh) refl refl refl; known = tt });
   };
 })
-
-pub prepend-nothing : (held : List ℕ) (left : Option (List ℕ)) → held ≡ [] → prepend_known held left ≡ left
-prepend-nothing held None e = refl
-prepend-nothing held (Some xs) e = rw e refl
 
 -- ---- the device of the session comes back
 
@@ -333,10 +376,15 @@ module _ {D R C : Type 0} (disk : DiskGhosts D) (directory : DirectoryGhosts R) 
   returns_none None e = tt
   returns_none (Some part) e = absurd cc
 
+  -- no device is its own
+  pub none_own : (part : Option (Part D R C)) → parts_of part ≡ 0 → return_of disk directory chronicle part ≡ []
+  none_own None e = refl
+  none_own (Some part) e = absurd cc
+
   -- with no session nothing more comes back
-  pub gave_settled : (session : Session D R C) (a b c : Ledger) (unread : Option (List ℕ)) (given : ℕ) (t : Told) → ((harms : List Harm) → AreReached harms (return_of disk directory chronicle session.part) → ComeBack b.returned c.returned harms)
-      → c.names ≡ b.names → devices_of session ≡ 0 → GaveBack a b unread given t → GaveBack a c unread given t
-  gave_settled session a b c unread given t back same none gave = record {
+  pub gave_settled : (session : Session D R C) (a b c : Ledger) (held : List ℕ) (given : ℕ) (t : Told) → ((harms : List Harm) → AreReached harms (return_of disk directory chronicle session.part) → ComeBack b.returned c.returned harms)
+      → c.names ≡ b.names → devices_of session ≡ 0 → GaveBack a b held given t → GaveBack a c held given t
+  gave_settled session a b c held given t back same none gave = record {
     bytes = gave.bytes;
     next = gave.next;
     step = gave.step;

@@ -1,11 +1,13 @@
 -- How a step that is not answered ends a run.
-use Rattle.std.proofs.Common.{ℕ, List, [], ◌++◌, Option, Some, None, Result, Ok, Err, refl, ◌∙◌, inl, inr, ◌⊎◌}
+use Rattle.std.proofs.Common.{◌≡◌, ℕ, ◌-◌, ◌^◌, min, List, [], ◌∷◌, ◌++◌, length, Result, Ok, Err, refl, sym, ◌∙◌, ap, subst, inl, inr, ◌⊎◌, append-nil, append_assoc}
 use Rattle.std.specs.Prelude.{OnOk, IfErr}
-use Rattle.std.specs.Io.KnownBytes.{Appends, Keeps}
-use Rattle.std.proofs.KnownBytes.{Appends-trans}
-use Rattle.ats_disk.specs.declared.device.Disk.{Ghosts as DiskGhosts}
+use Rattle.device_log.specs.Faults.{next_count}
+use Rattle.device_log.specs.Streams.{SinkWrite, TookBytes, RefusedWrite, taken_by, refused_writes}
+use Rattle.edge_io.specs.Sink.{FailsToWrite, Grows, NotesWrite}
+use Rattle.logged_disk.specs.declared.device.Disk.{Ghosts as DiskGhosts}
 use Rattle.dir_table.specs.declared.directory.Directory.{Ghosts as DirectoryGhosts}
 use Rattle.cache_chronicle.specs.declared.chronicle.Chronicle.{Ghosts as ChronicleGhosts}
+use Rattle.device_bay.specs.Calls.{BayCall}
 use Rattle.script_lang.specs.declared.step.Step.{Step}
 use Rattle.script_lang.specs.declared.answer.StepAnswer.{StepAnswer}
 use Rattle.script_lang.specs.Texts.{answer_line}
@@ -18,7 +20,7 @@ use Rattle.script_run.specs.Ledger.{Ledger}
 use Rattle.cache_replay.proofs.Unharming.{plays_reached}
 use Rattle.cache_tool.specs.declared.run.Halt.{Halt}
 use Rattle.cache_tool.specs.declared.run.Halt.TheVariants.{Stop, WriteFault, Memory}
-use Rattle.cache_tool.specs.Story.{SendsFront, CutsLast, Counts}
+use Rattle.cache_tool.specs.Story.{SendsFront, CutsLast, Took}
 use Rattle.cache_tool.specs.Halt.{Halts, IsUnwritten}
 
 pub OnOk-map : {T E : Type 0} (r : Result T E) (P Q : Type 0) → (P → Q) → OnOk r P → OnOk r Q
@@ -38,13 +40,13 @@ either-both f g (inl a) = inl (f a)
 either-both f g (inr s) = inr (g s)
 
 module _ {D R C : Type 0} (disk : DiskGhosts D) (directory : DirectoryGhosts R) (chronicle : ChronicleGhosts C) where
-  pub unwritten_halts : (session : Session D R C) (step : Step) (new : Session D R C) (said : StepAnswer) (before now : Ledger) (taken_old taken_new : Option (List ℕ)) (sink bay : Counts)
+  pub unwritten_halts : (session : Session D R C) (step : Step) (new : Session D R C) (said : StepAnswer) (before now : Ledger) (taken_old taken_new : List SinkWrite) (bay_old bay_new : List BayCall)
       → ((o : Outline) → IsOutlined disk directory chronicle o session → Outlines disk directory chronicle o step new said before now)
       → ((run : Run) → Plays disk directory chronicle run session → DeviceEnds disk directory chronicle run step new said before now)
-      → (halt : Halt) → IsUnwritten taken_old taken_new sink.before sink.now (answer_line said) halt → Halts disk directory chronicle session step new before now taken_old taken_new sink bay halt
-  unwritten_halts session step new said before now taken_old taken_new sink bay outlines ends WriteFault h = (record { said = said; outlines = outlines; ends = ends; text = h.0 }, h.1)
-  unwritten_halts session step new said before now taken_old taken_new sink bay outlines ends Memory h = record { said = said; outlines = outlines; ends = ends; text = h }
-  unwritten_halts session step new said before now taken_old taken_new sink bay outlines ends (Stop why) h = absurd h
+      → (halt : Halt) → IsUnwritten taken_old taken_new (answer_line said) halt → Halts disk directory chronicle session step new before now taken_old taken_new bay_old bay_new halt
+  unwritten_halts session step new said before now taken_old taken_new bay_old bay_new outlines ends WriteFault h = record { said = said; outlines = outlines; ends = ends; text = h }
+  unwritten_halts session step new said before now taken_old taken_new bay_old bay_new outlines ends Memory h = record { said = said; outlines = outlines; ends = ends; text = h }
+  unwritten_halts session step new said before now taken_old taken_new bay_old bay_new outlines ends (Stop why) h = absurd h
 
   -- the device of a session is as it was told
   pub plays_reach : (session : Session D R C) → IsSession disk directory chronicle session → (run : Run) → Plays disk directory chronicle run session → HasReached disk directory chronicle run session
@@ -52,14 +54,43 @@ module _ {D R C : Type 0} (disk : DiskGhosts D) (directory : DirectoryGhosts R) 
 
 -- ---- the text so far
 
-pub Appends-kept : (a b c : Option (List ℕ)) (bs : List ℕ) → Appends a b bs → Keeps b c → Appends a c bs
-Appends-kept None b c bs p q = tt
-Appends-kept (Some x) None c bs p q = absurd p
-Appends-kept (Some x) (Some y) None bs p q = absurd q
-Appends-kept (Some x) (Some y) (Some z) bs p q = q ∙ p
+pub Took-nothing : (a : List SinkWrite) → Took a a []
+Took-nothing a = record { taken = sym (append-nil (taken_by a)); unfailed = refl }
 
-pub front_more : (a b c : Option (List ℕ)) (bs text : List ℕ) → Appends a b bs → SendsFront b c [] text → SendsFront a c bs text
-front_more a b c bs text p q = record { front = q.front; rest = q.rest; split = q.split; appends = Appends-trans a b c bs q.front p q.appends }
+pub Took-trans : (a b c : List SinkWrite) (bs cs : List ℕ) → Took a b bs → Took b c cs → Took a c (bs ++ cs)
+Took-trans a b c bs cs p q = record {
+  taken = q.taken ∙ (ap (λ l. l ++ cs) p.taken ∙ append_assoc (taken_by a) bs cs);
+  unfailed = q.unfailed ∙ p.unfailed;
+}
 
-pub cuts_last : (a b c : Option (List ℕ)) (bs : List ℕ) (said : StepAnswer) → Appends a b bs → SendsFront b c [] (answer_line said) → CutsLast a c bs (bs ++ answer_line said)
+pub Took-kept : (a b c : List SinkWrite) (bs : List ℕ) → Took a b bs → c ≡ b → Took a c bs
+Took-kept a b c bs p same = subst (λ (w : List SinkWrite). Took a w bs) (sym same) p
+
+-- one write that went
+pub took_piece : (old new : List SinkWrite) (piece : List ℕ) → new ≡ TookBytes piece ∷ old → Took old new piece
+unfolding taken_by refused_writes
+took_piece old new piece is = record { taken = ap taken_by is; unfailed = ap refused_writes is }
+
+-- one that failed
+pub sends_piece : (old new : List SinkWrite) (piece : List ℕ) → FailsToWrite old new piece → SendsFront old new [] piece
+sends_piece old new piece fails = record { front = fails.front; rest = fails.rest; split = fails.split; older = old; sent = Took-nothing old; failed = fails.is }
+
+pub note_grows : {T E : Type 0} (old new : List SinkWrite) (piece : List ℕ) (r : Result T E) → NotesWrite old new r piece → Grows old new
+note_grows old new piece (Ok x) notes = (TookBytes piece ∷ [], notes)
+note_grows old new piece (Err e) notes = (RefusedWrite notes.front (next_count (min (length (refused_writes old)) (2 ^ 64 - 1))) ∷ [], notes.is)
+
+pub grows_more : (a b c : List SinkWrite) → Grows a b → Grows b c → Grows a c
+grows_more a b c p q = (q.0 ++ p.0, q.1 ∙ (ap (λ l. q.0 ++ l) p.1 ∙ sym (append_assoc q.0 p.0 a)))
+
+pub front_more : (a b c : List SinkWrite) (bs text : List ℕ) → Took a b bs → SendsFront b c [] text → SendsFront a c bs text
+front_more a b c bs text p q = record {
+  front = q.front;
+  rest = q.rest;
+  split = q.split;
+  older = q.older;
+  sent = record { taken = q.sent.taken ∙ (append-nil (taken_by b) ∙ p.taken); unfailed = q.sent.unfailed ∙ p.unfailed };
+  failed = q.failed ∙ ap (λ failed. RefusedWrite q.front (next_count (min (length failed) (2 ^ 64 - 1))) ∷ q.older) p.unfailed;
+}
+
+pub cuts_last : (a b c : List SinkWrite) (bs : List ℕ) (said : StepAnswer) → Took a b bs → SendsFront b c [] (answer_line said) → CutsLast a c bs (bs ++ answer_line said)
 cuts_last a b c bs said p q = record { said = said; split = refl; cut = front_more a b c bs (answer_line said) p q }

@@ -1,5 +1,4 @@
 pub mod Runs
-pub mod Faultless
 pub mod Stories
 pub mod Halts
 pub mod Ends

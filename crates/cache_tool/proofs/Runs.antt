@@ -2,7 +2,7 @@
 use Rattle.std.proofs.Common.{◌≡◌, ℕ, ◌-◌, List, [], ◌∷◌, ◌++◌, length, take, refl, sym, ◌∙◌, ap, append_assoc, append-nil, arith, length-append}
 use Rattle.std.specs.Prelude.{Option}
 use lib.Seq.{take-append_seam}
-use Rattle.ats_disk.specs.Bay.{Return}
+use Rattle.logged_disk.specs.Device.{State as Device}
 use Rattle.script_lang.specs.declared.answer.StepAnswer.{StepAnswer}
 use Rattle.script_lang.specs.Grammar.{reading_of}
 use Rattle.script_run.specs.Run.{Harm, Run}
@@ -64,7 +64,7 @@ texts_of-more (a ∷ answers) said = ap (λ rest. text_of a ++ rest) (texts_of-m
 pub texts_before-more : (answers : List (Option StepAnswer)) (said : Option StepAnswer) → texts_before (answers ++ said ∷ []) ≡ texts_of answers
 texts_before-more answers said = ap texts_of (take-last answers said)
 
-pub AreReached-append : (harms more : List Harm) (devices others : List Return) → AreReached harms devices → AreReached more others → AreReached (harms ++ more) (devices ++ others)
+pub AreReached-append : (harms more : List Harm) (devices others : List Device) → AreReached harms devices → AreReached more others → AreReached (harms ++ more) (devices ++ others)
 AreReached-append [] more [] others h k = k
 AreReached-append [] more (d ∷ devices) others h k = absurd h
 AreReached-append (harm ∷ harms) more [] others h k = absurd h

@@ -1,10 +1,10 @@
 -- What a line makes of the story of a run.
 use Rattle.std.proofs.Common.{◌≡◌, ℕ, ◌+◌, ◌≤◌, ◌⊎◌, List, [], ◌∷◌, ◌++◌, length, Option, Some, None, Ok, refl, sym, ◌∙◌, ap, subst, append_assoc, append-nil, arith, length-append, inl, inr}
-use Rattle.std.specs.Io.KnownBytes.{Appends}
-use Rattle.edge_io.specs.declared.reader.TheConstants.{MAX_LINE_BYTES}
-use Rattle.edge_io.specs.Lines.{lines_of}
-use Rattle.edge_io.specs.LineReader.{AnswersKnown}
-use Rattle.ats_disk.specs.Bay.{Return}
+use Rattle.device_log.specs.Streams.{SourceRead, SinkWrite}
+use Rattle.edge_io.specs.Lines.{AreLines, GivesLine, IsLine}
+use Rattle.edge_io.specs.Text.{spelled, text_after}
+use Rattle.edge_io.proofs.Texts.{spelled_more, text_behind, text_more}
+use Rattle.logged_disk.specs.Device.{State as Device}
 use Rattle.script_lang.specs.declared.line.LineAnswer.TheVariants as line
 use Rattle.script_lang.specs.declared.step.Step.{Step}
 use Rattle.script_lang.specs.declared.answer.StepAnswer.{StepAnswer}
@@ -14,7 +14,7 @@ use Rattle.script_run.specs.Run.{Harm, Run, fresh}
 use Rattle.script_run.specs.Turn.{Turn, no_turn}
 use Rattle.script_run.specs.Behind.{after_line, after_step}
 use Rattle.script_run.specs.Takes.{LineShows, LineTakes, run_after}
-use Rattle.ats_disk.specs.declared.device.Disk.{Ghosts as DiskGhosts}
+use Rattle.logged_disk.specs.declared.device.Disk.{Ghosts as DiskGhosts}
 use Rattle.dir_table.specs.declared.directory.Directory.{Ghosts as DirectoryGhosts}
 use Rattle.cache_chronicle.specs.declared.chronicle.Chronicle.{Ghosts as ChronicleGhosts}
 use Rattle.cache_replay.specs.declared.session.Session.{Session}
@@ -23,37 +23,53 @@ use Rattle.cache_replay.specs.Lines.{AreAnswered, answers_of, outline_of, outlin
 use Rattle.cache_replay.specs.Plays.{DeviceEnds, IsOutlined, Outlines}
 use Rattle.script_run.specs.Ledger.{ComeBack, Ledger, Deals}
 use Rattle.cache_replay.specs.Plays.{Plays as PlaysNow}
-use Rattle.cache_tool.specs.Story.{AnsweredFrom, Story, Told, Recorded, ShownAlong, AreShort, IsBehind, IsNext, GoesOn, SendsAll, told_by, told_in}
+use Rattle.cache_tool.specs.Story.{AnsweredFrom, Story, Told, Taken, Took, Recorded, ShownAlong, GoesOn, SendsAll, told_by, told_in}
 use Rattle.cache_tool.proofs.Runs.{AreAnswered-more, IsRun-more, answers_of-more, outline_of-more, run_after-more, texts_before-more, texts_of-more, AreReached-append}
 
 -- ---- the bytes of a line
 
-AreShort-more : (lines : List (List ℕ)) (bytes : List ℕ) → AreShort lines → length bytes ≤ MAX_LINE_BYTES → AreShort (lines ++ bytes ∷ [])
-AreShort-more [] bytes short last = (last, tt)
-AreShort-more (l ∷ lines) bytes short last = (short.0, AreShort-more lines bytes short.1 last)
+AreLines-more : (lines : List (List ℕ)) (bytes : List ℕ) → AreLines lines → IsLine bytes → AreLines (lines ++ bytes ∷ [])
+AreLines-more [] bytes each last = (last, tt)
+AreLines-more (l ∷ lines) bytes each last = (each.0, AreLines-more lines bytes each.1 last)
 
-pub IsBehind-more : (first : Option (List ℕ)) (lines : List (List ℕ)) (given : ℕ) (unread unread' : Option (List ℕ)) (bytes : List ℕ)
-    → given ≡ length lines → IsBehind first lines unread → AnswersKnown given unread unread' (Ok (Some bytes)) → IsBehind first (lines ++ bytes ∷ []) unread'
-IsBehind-more None lines given unread unread' bytes counted behind known = tt
-IsBehind-more (Some f) lines given None unread' bytes counted behind known = absurd behind
-IsBehind-more (Some f) lines given (Some u) None bytes counted behind known = absurd known
-IsBehind-more (Some f) lines given (Some u) (Some u') bytes counted behind known = record {
-  all = behind.all ∙ ap (λ rest. lines ++ rest) known.first ∙ sym (append_assoc lines (bytes ∷ []) (lines_of u'));
-  short = AreShort-more lines bytes behind.short known.short;
-  within = omega (arith, length-append lines (bytes ∷ []), known.within, counted);
+Taken-more : (text : List ℕ) (lines : List (List ℕ)) (given : ℕ) (unread unread' bytes : List ℕ) → given ≡ length lines → Taken text lines unread → GivesLine given unread bytes unread' → Taken text (lines ++ bytes ∷ []) unread'
+Taken-more text lines given unread unread' bytes counted taken next = record {
+  all = taken.all
+      ∙ (ap (λ l. spelled lines ++ l) (next.first ∙ sym (append_assoc bytes (10 ∷ []) unread'))
+      ∙ (sym (append_assoc (spelled lines) (bytes ++ 10 ∷ []) unread') ∙ ap (λ l. l ++ unread') (sym (spelled_more lines bytes))));
+  each = AreLines-more lines bytes taken.each next.is_line;
+  within = omega (arith, length-append lines (bytes ∷ []), next.within, counted);
 }
 
-pub IsNext-known : (given : ℕ) (unread unread' : Option (List ℕ)) (bytes : List ℕ) → AnswersKnown given unread unread' (Ok (Some bytes)) → IsNext given unread bytes
-IsNext-known given None unread' bytes known = tt
-IsNext-known given (Some u) None bytes known = absurd known
-IsNext-known given (Some u) (Some u') bytes known = (u', known)
+-- the same lines, where more was read
+Taken-read : (lines : List (List ℕ)) (held : List ℕ) (reads more : List SourceRead) → Taken (text_after [] reads) lines held → Taken (text_after [] (more ++ reads)) lines (text_after held more)
+Taken-read lines held reads more taken = record {
+  all = text_more [] more reads ∙ (ap (λ l. text_after l more) taken.all ∙ text_behind lines held more);
+  each = taken.each;
+  within = taken.within;
+}
+
+-- a story goes on through reads
+pub read_more : (first now now' more : List SourceRead) (held : List ℕ) (given : ℕ) (Text : (before all : List ℕ) → Type 0) (Devices : Told → Type 0) (Behind : Outline → Type 0) (Known : Run → Type 0)
+    → now' ≡ more ++ now → Story first now held given Text Devices Behind Known → Story first now' (text_after held more) given Text Devices Behind Known
+read_more first now now' more held given Text Devices Behind Known grew s = record {
+  reads = more ++ s.reads;
+  since = grew ∙ (ap (λ l. more ++ l) s.since ∙ sym (append_assoc more s.reads first));
+  lines = s.lines;
+  answers = s.answers;
+  taken = Taken-read s.lines held s.reads more s.taken;
+  counted = s.counted;
+  text = s.text;
+  outline = s.outline;
+  records = s.records;
+}
 
 -- ---- devices that came back
 
-pub ComeBack-nothing : (a : List Return) → ComeBack a a []
+pub ComeBack-nothing : (a : List Device) → ComeBack a a []
 ComeBack-nothing a = record { devices = []; returned = sym (append-nil a); reached = tt }
 
-pub ComeBack-trans : (a b c : List Return) (harms more : List Harm) → ComeBack a b harms → ComeBack b c more → ComeBack a c (harms ++ more)
+pub ComeBack-trans : (a b c : List Device) (harms more : List Harm) → ComeBack a b harms → ComeBack b c more → ComeBack a c (harms ++ more)
 ComeBack-trans a b c harms more first second = record {
   devices = first.devices ++ second.devices;
   returned = second.returned ∙ ap (λ l. l ++ second.devices) first.returned ∙ append_assoc a first.devices second.devices;
@@ -96,10 +112,12 @@ along_with lines answers From To Behind Behind' settle behind s = record {
 }
 
 -- the story, where what is told of its text, its devices and its outline gives something else
-pub story_with : (first unread : Option (List ℕ)) (given : ℕ) (Text Text' : (before all : List ℕ) → Type 0) (From To : Told → Type 0) (Behind Behind' : Outline → Type 0) (Known : Run → Type 0)
+pub story_with : (first now : List SourceRead) (held : List ℕ) (given : ℕ) (Text Text' : (before all : List ℕ) → Type 0) (From To : Told → Type 0) (Behind Behind' : Outline → Type 0) (Known : Run → Type 0)
     → ((out all : List ℕ) → Text out all → Text' out all) → ((t : Told) → From t → To t) → ((o : Outline) → Behind o → Behind' o)
-    → Story first unread given Text From Behind Known → Story first unread given Text' To Behind' Known
-story_with first unread given Text Text' From To Behind Behind' Known text settle behind s = record {
+    → Story first now held given Text From Behind Known → Story first now held given Text' To Behind' Known
+story_with first now held given Text Text' From To Behind Behind' Known text settle behind s = record {
+  reads = s.reads;
+  since = s.since;
   lines = s.lines;
   answers = s.answers;
   taken = s.taken;
@@ -159,8 +177,8 @@ shown_last lines answers From To Known Behind bytes said r turn shows outline = 
   outline = outline;
 }
 
-module _ (first taken_first taken : Option (List ℕ)) (ledger_first ledger : Ledger) (unread unread' : Option (List ℕ)) (given given' : ℕ) (Outlined : Outline → Type 0) (Plays : Run → Type 0)
-    (story : GoesOn first taken_first ledger_first unread given taken ledger Outlined Plays) (bytes : List ℕ) (known : AnswersKnown given unread unread' (Ok (Some bytes))) (counted : given' ≡ given + 1) where
+module _ (first now : List SourceRead) (taken_first taken : List SinkWrite) (ledger_first ledger : Ledger) (unread unread' : List ℕ) (given given' : ℕ) (Outlined : Outline → Type 0) (Plays : Run → Type 0)
+    (story : GoesOn first taken_first ledger_first now unread given taken ledger Outlined Plays) (bytes : List ℕ) (known : GivesLine given unread bytes unread') (counted : given' ≡ given + 1) where
   -- how the devices stand before the line
   abbrev Dealt : Told → Type 0
   Dealt = λ t. Deals ledger_first ledger t.ended t.names
@@ -185,12 +203,14 @@ module _ (first taken_first taken : Option (List ℕ)) (ledger_first ledger : Le
     EndsRecords = (r : Recorded story.lines story.answers Dealt Plays)
         → Recorded (story.lines ++ bytes ∷ []) (story.answers ++ said ∷ []) Devices Known ⊎ ((turn : Turn) × LineShows (run_after fresh story.lines r.turns) turn bytes × Outlined (outline_in (run_after fresh story.lines r.turns)))
 
-    pub line_more : ((o : Outline) → Dealt (told_by o) → Outlined o → AnsweredFrom o (bytes ∷ []) (said ∷ []) Devices Behind) → ((out : List ℕ) → Appends taken_first taken out → Text out (out ++ text_of said))
-        → EndsRecords → Story first unread' given' Text Devices Behind Known
+    pub line_more : ((o : Outline) → Dealt (told_by o) → Outlined o → AnsweredFrom o (bytes ∷ []) (said ∷ []) Devices Behind) → ((out : List ℕ) → Took taken_first taken out → Text out (out ++ text_of said))
+        → EndsRecords → Story first now unread' given' Text Devices Behind Known
     line_more follows text records = record {
+      reads = story.reads;
+      since = story.since;
       lines = story.lines ++ bytes ∷ [];
       answers = story.answers ++ said ∷ [];
-      taken = IsBehind-more first story.lines given unread unread' bytes story.counted story.taken known;
+      taken = Taken-more _ story.lines given unread unread' bytes story.counted story.taken known;
       counted = counted ∙ ap (λ n. n + 1) story.counted ∙ sym (length-append story.lines (bytes ∷ []));
       text = subst (λ (before : List ℕ). Text before (texts_of (story.answers ++ said ∷ []))) (sym (texts_before-more story.answers said))
           (subst (Text (texts_of story.answers)) (sym (texts_of-more story.answers said)) (text (texts_of story.answers) story.text));
@@ -205,7 +225,7 @@ module _ (first taken_first taken : Option (List ℕ)) (ledger_first ledger : Le
     }
 
   -- an empty line or a comment
-  pub passed_more : reading_of bytes ≡ line.Nothing → GoesOn first taken_first ledger_first unread' given' taken ledger Outlined Plays
+  pub passed_more : reading_of bytes ≡ line.Nothing → GoesOn first taken_first ledger_first now unread' given' taken ledger Outlined Plays
   passed_more e =
       line_more None (SendsAll taken_first taken) Dealt Outlined Plays
       (λ o deals is. record { each = (rw e tt, tt); devices = rw e deals; behind = rw e is }) (λ out appends. rw append-nil appends)
@@ -232,11 +252,11 @@ module _ (first taken_first taken : Option (List ℕ)) (ledger_first ledger : Le
       pub step_more : (Text : (before all : List ℕ) → Type 0) (Devices : Told → Type 0) (Behind : Outline → Type 0) (Known : Run → Type 0)
           → ((o : Outline) → Outlined o → Outlines disk directory chronicle o step new said ledger ledger') → ((run : Run) → Plays run → Outlined (outline_in run))
           → ((run : Run) → Plays run → DeviceEnds disk directory chronicle run step new said ledger ledger')
-          → ((out : List ℕ) → Appends taken_first taken out → Text out (out ++ answer_line said))
+          → ((out : List ℕ) → Took taken_first taken out → Text out (out ++ answer_line said))
           → ((o : Outline) → IsOutlined disk directory chronicle o new → Deals ledger_first ledger' o.ended o.names → Devices (told_by o))
           → ((run : Run) → PlaysNow disk directory chronicle run new → Deals ledger_first ledger' run.ended run.names → Devices (told_in run))
           → ((o : Outline) → IsOutlined disk directory chronicle o new → Behind o) → ((run : Run) → PlaysNow disk directory chronicle run new → Known run)
-          → Story first unread' given' Text Devices Behind Known
+          → Story first now unread' given' Text Devices Behind Known
       step_more Text Devices Behind Known outlined outlined_in ends text settle settle_run behind knows =
           line_more (Some said) Text Devices Behind Known (λ o deals is. step_follows Devices Behind o (outlined o is) settle behind deals) text
           (λ r. let run : Run = run_after fresh story.lines r.turns in elim (ends run r.known) [

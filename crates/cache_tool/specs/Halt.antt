@@ -1,12 +1,12 @@
 -- What a step of a run does to its session and its sink, and why it may end the run.
-use Rattle.std.specs.Prelude.{ℕ, List, [], Option}
-use Rattle.std.specs.Io.KnownBytes.{Keeps}
-use Rattle.edge_io.specs.Causes.{Rose}
+use Rattle.std.specs.Prelude.{◌≡◌, ℕ, List, [], Bool, true, false}
+use Rattle.device_log.specs.Streams.{SinkWrite}
 use Rattle.edge_io.specs.declared.reader.LineFault.{LineFault}
 use Rattle.edge_io.specs.declared.reader.LineFault.TheVariants as fault
-use Rattle.ats_disk.specs.declared.device.Disk.{Ghosts as DiskGhosts}
+use Rattle.logged_disk.specs.declared.device.Disk.{Ghosts as DiskGhosts}
 use Rattle.dir_table.specs.declared.directory.Directory.{Ghosts as DirectoryGhosts}
 use Rattle.cache_chronicle.specs.declared.chronicle.Chronicle.{Ghosts as ChronicleGhosts}
+use Rattle.device_bay.specs.Calls.{BayCall}
 use Rattle.script_lang.specs.declared.step.Step.{Step}
 use Rattle.script_lang.specs.declared.answer.StepAnswer.{StepAnswer}
 use Rattle.script_lang.specs.declared.last.LastLine.{LastLine}
@@ -20,12 +20,12 @@ use Rattle.cache_replay.specs.Outline.{Outline}
 use Rattle.cache_replay.specs.Session.{return_of}
 use Rattle.cache_replay.specs.Plays.{DeviceEnds, IsLeft, IsOutlined, Outlines, Plays}
 use Rattle.script_run.specs.Ledger.{AreReached, Ledger}
-use Rattle.cache_replay.specs.Stop.{StopsStep}
+use Rattle.cache_replay.specs.Stop.{StopsStep, is_bay_stop}
 use Rattle.cache_tool.specs.declared.run.Ending.{Ending}
 use Rattle.cache_tool.specs.declared.run.Ending.TheVariants as ending
 use Rattle.cache_tool.specs.declared.run.Halt.{Halt}
 use Rattle.cache_tool.specs.declared.run.Halt.TheVariants.{Stop, WriteFault, Memory}
-use Rattle.cache_tool.specs.Story.{Counts, SendsFront}
+use Rattle.cache_tool.specs.Story.{SendsFront}
 
 module _ {D R C : Type 0} (disk : DiskGhosts D) (directory : DirectoryGhosts R) (chronicle : ChronicleGhosts C) where
   -- A step was answered so: each outline goes on by the answer, and each run that the session plays, or two documents of one
@@ -42,10 +42,10 @@ module _ {D R C : Type 0} (disk : DiskGhosts D) (directory : DirectoryGhosts R) 
       (harms : List Harm) → AreReached harms (return_of disk directory chronicle old.part) → IsLeft disk directory chronicle harms step new before now why
 
   -- what a step that ends the run leaves
-  abbrev pub Halts : (old : Session D R C) → Step → (new : Session D R C) → (before now : Ledger) → (taken_old taken_new : Option (List ℕ)) → (sink bay : Counts) → Halt → Type 0
-  Halts old step new before now taken_old taken_new sink bay (Stop why) = Leaves old step new before now why × Keeps taken_old taken_new × StopsStep old step bay.before bay.now why
-  Halts old step new before now taken_old taken_new sink bay WriteFault = Written old step new before now (SendsFront taken_old taken_new []) × Rose sink.before sink.now
-  Halts old step new before now taken_old taken_new sink bay Memory = Written old step new before now (λ text. Keeps taken_old taken_new)
+  abbrev pub Halts : (old : Session D R C) → Step → (new : Session D R C) → (before now : Ledger) → (taken_old taken_new : List SinkWrite) → (bay_old bay_new : List BayCall) → Halt → Type 0
+  Halts old step new before now taken_old taken_new bay_old bay_new (Stop why) = Leaves old step new before now why × (taken_new ≡ taken_old) × StopsStep old step bay_old bay_new why
+  Halts old step new before now taken_old taken_new bay_old bay_new WriteFault = Written old step new before now (SendsFront taken_old taken_new [])
+  Halts old step new before now taken_old taken_new bay_old bay_new Memory = Written old step new before now (λ text. taken_new ≡ taken_old)
 
 -- how the run then ends, at this line
 abbrev pub ending_of : ℕ → Halt → Ending
@@ -62,7 +62,12 @@ last_of fault.TooManyLines = last.TooManyLines
 last_of (fault.ReadFault count) = last.ReadFault
 
 -- why an answer was not written
-abbrev pub IsUnwritten : (old new : Option (List ℕ)) → (before now : ℕ) → List ℕ → Halt → Type 0
-IsUnwritten old new before now text WriteFault = SendsFront old new [] text × Rose before now
-IsUnwritten old new before now text Memory = Keeps old new
-IsUnwritten old new before now text (Stop why) = ⊥
+abbrev pub IsUnwritten : (old new : List SinkWrite) → List ℕ → Halt → Type 0
+IsUnwritten old new text WriteFault = SendsFront old new [] text
+IsUnwritten old new text Memory = new ≡ old
+IsUnwritten old new text (Stop why) = ⊥
+
+-- an attach was refused, which ends a run
+abbrev pub is_bay_halt : Halt → Bool
+is_bay_halt (Stop why) = is_bay_stop why
+is_bay_halt _ = false

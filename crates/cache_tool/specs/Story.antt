@@ -1,9 +1,13 @@
 -- How far a run has come, and how it may end.
 use Rattle.std.specs.Prelude.{◌≡◌, ℕ, ◌+◌, ◌≤◌, ◌⊎◌, List, [], ◌∷◌, ◌++◌, length, Option, Some, None, ⊤}
-use Rattle.std.specs.Io.KnownBytes.{Appends}
+use Rattle.device_log.specs.Faults.{next_count}
+use Rattle.device_log.specs.Streams.{SourceRead, SinkWrite, RefusedWrite, taken_by, refused_writes, write_faults}
 use Rattle.edge_io.specs.Causes.{Rose}
-use Rattle.edge_io.specs.declared.reader.TheConstants.{MAX_LINE_BYTES, MAX_LINES}
-use Rattle.edge_io.specs.Lines.{lines_of, IsTooLong, IsTooMany, GivesLine}
+use Rattle.edge_io.specs.declared.reader.TheConstants.{MAX_LINES}
+use Rattle.edge_io.specs.Source.{IsEnded}
+use Rattle.edge_io.specs.Text.{spelled, text_read}
+use Rattle.edge_io.specs.Lines.{AreLines, IsTooLong, IsTooMany, GivesLine}
+use Rattle.edge_io.specs.LineReader.{IsDecided}
 use Rattle.script_lang.specs.declared.line.BadLine.{BadLine}
 use Rattle.script_lang.specs.declared.line.LineAnswer.TheVariants as line
 use Rattle.script_lang.specs.declared.step.Step.{Step}
@@ -19,24 +23,14 @@ use Rattle.script_run.specs.Takes.{IsRun, run_after, LineShows}
 use Rattle.cache_replay.specs.Outline.{Outline, blank, outline_in, told_of}
 use Rattle.cache_replay.specs.Lines.{AreAnswered, answers_of, outline_of, texts_before, texts_of}
 use Rattle.script_run.specs.Ledger.{Ledger, Deals}
-use Rattle.cache_replay.specs.Stop.{NeedsSession, Attaches, AttachesAs}
+use Rattle.device_bay.specs.Calls.{Refusal}
+use Rattle.cache_replay.specs.Stop.{NeedsSession, AttachesAs, AttachesWith}
 
--- no line is longer than a line may be
-abbrev pub AreShort : List (List ℕ) → Type 0
-AreShort [] = ⊤
-AreShort (bytes ∷ lines) = (length bytes ≤ MAX_LINE_BYTES) × AreShort lines
-
--- the lines that were taken from known bytes, no more and none longer than may be, and what is left of the bytes
-pub record Taken (first : List ℕ) (lines : List (List ℕ)) (now : List ℕ) : Type 0 where
-  pub all : lines_of first ≡ lines ++ lines_of now
-  pub short : AreShort lines
+-- A text is these lines, no more than may be, each with its newline, and then these bytes.
+pub record Taken (text : List ℕ) (lines : List (List ℕ)) (held : List ℕ) : Type 0 where
+  pub all : text ≡ spelled lines ++ held
+  pub each : AreLines lines
   pub within : length lines ≤ MAX_LINES
-
--- so it is of a source whose bytes are told; of another nothing is said
-abbrev pub IsBehind : Option (List ℕ) → List (List ℕ) → Option (List ℕ) → Type 0
-IsBehind None lines now = ⊤
-IsBehind (Some first) lines None = ⊥
-IsBehind (Some first) lines (Some now) = Taken first lines now
 
 -- ---- what was told of devices
 
@@ -91,13 +85,16 @@ pub record ShownAlong (lines : List (List ℕ)) (answers : List (Option StepAnsw
   pub shows : LineShows (run_after fresh before earlier) turn bytes
   pub outline : AnsweredFrom (outline_in (run_after fresh before earlier)) (bytes ∷ after) rest Devices Behind
 
--- Lines were taken, each step among them was answered, and this is what the text of their answers (of all but the last,
--- and of all), what was told of their devices, and the outline behind them keep. Where SHA-256 fails, only the records
--- are lost, and with them which answers follow.
-pub record Story (first now : Option (List ℕ)) (given : ℕ) (Text : (before all : List ℕ) → Type 0) (Devices : Told → Type 0) (Behind : Outline → Type 0) (Known : Run → Type 0) : Type 0 where
+-- Lines were taken from what the source gave since the first of these logs, and these bytes are in no line. Each step
+-- among them was answered, and this is what the text of their answers (of all but the last, and of all), what was told of
+-- their devices, and the outline behind them keep. Where SHA-256 fails, only the records are lost, and with them which
+-- answers follow.
+pub record Story (first now : List SourceRead) (held : List ℕ) (given : ℕ) (Text : (before all : List ℕ) → Type 0) (Devices : Told → Type 0) (Behind : Outline → Type 0) (Known : Run → Type 0) : Type 0 where
+  pub reads : List SourceRead
+  pub since : now ≡ reads ++ first
   pub lines : List (List ℕ)
   pub answers : List (Option StepAnswer)
-  pub taken : IsBehind first lines now
+  pub taken : Taken (text_read reads) lines held
   pub counted : given ≡ length lines
   pub text : Text (texts_before answers) (texts_of answers)
   pub outline : AnsweredFrom blank lines answers Devices Behind
@@ -106,80 +103,87 @@ pub record Story (first now : Option (List ℕ)) (given : ℕ) (Text : (before a
 -- ---- how a run ends
 
 -- these are the bytes of the next line, which is not too long nor one too many
-abbrev pub IsNext : ℕ → Option (List ℕ) → List ℕ → Type 0
-IsNext given None bytes = ⊤
-IsNext given (Some unread) bytes = (behind : List ℕ) × GivesLine given unread bytes behind
+abbrev pub IsNext : ℕ → List ℕ → List ℕ → Type 0
+IsNext given held bytes = (behind : List ℕ) × GivesLine given held bytes behind
 
--- the next line is too long, where the bytes that are left are told
-abbrev pub IsTooLongAt : ℕ → Option (List ℕ) → Type 0
-IsTooLongAt given None = ⊤
-IsTooLongAt given (Some unread) = IsTooLong given unread
+-- the source came to its end, and no byte is in no line
+pub record IsReadThrough (now : List SourceRead) (held : List ℕ) : Type 0 where
+  pub ended : IsEnded now
+  pub none : held ≡ []
 
--- the next line is one too many, where the bytes that are left are told
-abbrev pub IsTooManyAt : ℕ → Option (List ℕ) → Type 0
-IsTooManyAt given None = ⊤
-IsTooManyAt given (Some unread) = IsTooMany given unread
+-- The bytes in no line decide nothing: each whole line that the source gave is among those that were taken.
+pub record HoldsNoLine (given : ℕ) (held : List ℕ) : Type 0 where
+  pub undecided : IsDecided given held → ⊥
 
 -- a line is not in the grammar
-pub record IsBadLine (given : ℕ) (unread : Option (List ℕ)) (fault : BadLine) : Type 0 where
+pub record IsBadLine (given : ℕ) (held : List ℕ) (fault : BadLine) : Type 0 where
   pub bytes : List ℕ
-  pub next : IsNext given unread bytes
+  pub next : IsNext given held bytes
   pub bad : reading_of bytes ≡ line.Bad fault
 
 -- a line needs a session, and there is none
-pub record LacksCache (o : Outline) (given : ℕ) (unread : Option (List ℕ)) : Type 0 where
+pub record LacksCache (o : Outline) (given : ℕ) (held : List ℕ) : Type 0 where
   pub bytes : List ℕ
-  pub next : IsNext given unread bytes
+  pub next : IsNext given held bytes
   pub step : Step
   pub asks : reading_of bytes ≡ line.Step step
   pub needs : NeedsSession step
   pub none : o.session ≡ None
 
--- the next line is a format that attaches a device, and the bay's count rose
-pub record MeetsBayFault (given : ℕ) (unread : Option (List ℕ)) (before now : ℕ) : Type 0 where
+-- the next line is a format whose attach was refused, as the bay's log has it, and no other was
+pub record MeetsBayFault (given : ℕ) (held : List ℕ) (before now : List Refusal) : Type 0 where
   pub bytes : List ℕ
-  pub next : IsNext given unread bytes
+  pub next : IsNext given held bytes
   pub step : Step
   pub asks : reading_of bytes ≡ line.Step step
-  pub attaches : Attaches step
-  pub rose : Rose before now
+  pub refusal : Refusal
+  pub attaches : AttachesWith refusal.name refusal.blocks step
+  pub refused : now ≡ before ++ refusal ∷ []
 
--- a count of faults, before and now
-pub record Counts : Type 0 where
-  pub before : ℕ
-  pub now : ℕ
+-- the attaches that a bay refused, before and now
+pub record Refusals : Type 0 where
+  pub before : List Refusal
+  pub now : List Refusal
 
--- the two counts, the earlier one first
-abbrev pub counts : ℕ → ℕ → Counts
-counts before now = record { before = before; now = now }
+-- the two lists, the earlier one first
+abbrev pub refusals : List Refusal → List Refusal → Refusals
+refusals before now = record { before = before; now = now }
 
 -- why a run ends with this last line, behind so many lines
-abbrev pub Because : (source bay : Counts) → Option (List ℕ) → ℕ → Outline → LastLine → Type 0
-Because source bay unread given o last.Usage = ⊥
-Because source bay unread given o (last.BadScript number fault) = (number ≡ given + 1) × IsBadLine given unread fault
-Because source bay unread given o last.ReadFault = Rose source.before source.now
-Because source bay unread given o last.BayFault = MeetsBayFault given unread bay.before bay.now
-Because source bay unread given o (last.LineTooLong number) = (number ≡ given + 1) × IsTooLongAt given unread
-Because source bay unread given o last.TooManyLines = IsTooManyAt given unread
-Because source bay unread given o (last.NoCache number) = (number ≡ given + 1) × LacksCache o given unread
+abbrev pub Because : (bay : Refusals) → (held : List ℕ) → ℕ → Outline → LastLine → Type 0
+Because bay held given o last.Usage = ⊥
+Because bay held given o (last.BadScript number fault) = (number ≡ given + 1) × IsBadLine given held fault
+Because bay held given o last.ReadFault = HoldsNoLine given held
+Because bay held given o last.BayFault = MeetsBayFault given held bay.before bay.now
+Because bay held given o (last.LineTooLong number) = (number ≡ given + 1) × IsTooLong given held
+Because bay held given o last.TooManyLines = IsTooMany given held
+Because bay held given o (last.NoCache number) = (number ≡ given + 1) × LacksCache o given held
+
+-- the sink took these bytes, and no write failed
+pub record Took (old new : List SinkWrite) (bytes : List ℕ) : Type 0 where
+  pub taken : taken_by new ≡ taken_by old ++ bytes
+  pub unfailed : refused_writes new ≡ refused_writes old
 
 -- the answers of all lines went out
-abbrev pub SendsAll : (old new : Option (List ℕ)) → (before all : List ℕ) → Type 0
-SendsAll old new before all = Appends old new all
+abbrev pub SendsAll : (old new : List SinkWrite) → (before all : List ℕ) → Type 0
+SendsAll old new before all = Took old new all
 
 -- those of all lines but the last did
-abbrev pub SendsBefore : (old new : Option (List ℕ)) → (before all : List ℕ) → Type 0
-SendsBefore old new before all = Appends old new before
+abbrev pub SendsBefore : (old new : List SinkWrite) → (before all : List ℕ) → Type 0
+SendsBefore old new before all = Took old new before
 
--- these bytes went out, and behind them a front of a text
-pub record SendsFront (old new : Option (List ℕ)) (before text : List ℕ) : Type 0 where
+-- These bytes went out, and behind them a front of a text: the write of the text failed, the last one and no other, and
+-- it has the next count.
+pub record SendsFront (old new : List SinkWrite) (before text : List ℕ) : Type 0 where
   pub front : List ℕ
   pub rest : List ℕ
   pub split : text ≡ front ++ rest
-  pub appends : Appends old new (before ++ front)
+  pub older : List SinkWrite
+  pub sent : Took old older before
+  pub failed : new ≡ RefusedWrite front (next_count (write_faults old)) ∷ older
 
 -- the answers of all lines but the last went out, and behind them a front of that of the last
-pub record CutsLast (old new : Option (List ℕ)) (before all : List ℕ) : Type 0 where
+pub record CutsLast (old new : List SinkWrite) (before all : List ℕ) : Type 0 where
   pub said : StepAnswer
   pub split : all ≡ before ++ answer_line said
   pub cut : SendsFront old new before (answer_line said)
@@ -188,9 +192,9 @@ pub record CutsLast (old new : Option (List ℕ)) (before all : List ℕ) : Type
 
 -- The run goes on: it attached the devices of its lines, those that it ended came back, and the session is as its outline
 -- has it, and as the run.
-abbrev pub GoesOn : (first taken_first : Option (List ℕ)) → Ledger → (unread : Option (List ℕ)) → ℕ → (taken : Option (List ℕ)) → Ledger → (Outline → Type 0) → (Run → Type 0) → Type 0
-GoesOn first taken_first ledger_first unread given taken ledger Outlined Plays =
-    Story first unread given (SendsAll taken_first taken) (λ t. Deals ledger_first ledger t.ended t.names) Outlined Plays
+abbrev pub GoesOn : (first : List SourceRead) → (taken_first : List SinkWrite) → Ledger → (now : List SourceRead) → (held : List ℕ) → ℕ → (taken : List SinkWrite) → Ledger → (Outline → Type 0) → (Run → Type 0) → Type 0
+GoesOn first taken_first ledger_first now held given taken ledger Outlined Plays =
+    Story first now held given (SendsAll taken_first taken) (λ t. Deals ledger_first ledger t.ended t.names) Outlined Plays
 
 -- what a session owes once the run has ended: its devices were attached, those that it ended came back, and its own has
 -- counted as far as was told
@@ -199,9 +203,9 @@ pub record Owes (ledger_first ledger : Ledger) (Reached : List Harm → Type 0) 
   pub reached : Reached t.own
 
 -- the format of the next line wanted memory: it attached a device of its name, and gave it back behind that of the session
-pub record GaveBack (ledger_first ledger : Ledger) (unread : Option (List ℕ)) (given : ℕ) (t : Told) : Type 0 where
+pub record GaveBack (ledger_first ledger : Ledger) (held : List ℕ) (given : ℕ) (t : Told) : Type 0 where
   pub bytes : List ℕ
-  pub next : IsNext given unread bytes
+  pub next : IsNext given held bytes
   pub step : Step
   pub asks : reading_of bytes ≡ line.Step step
   pub name : List ℕ
@@ -209,5 +213,5 @@ pub record GaveBack (ledger_first ledger : Ledger) (unread : Option (List ℕ)) 
   pub deals : Deals ledger_first ledger (all_in t ++ no_harm ∷ []) (t.names ++ name ∷ [])
 
 -- what is owed where memory was wanting, by a session that has so many devices
-abbrev pub OwesOrGave : (ledger_first ledger : Ledger) → ℕ → (List Harm → Type 0) → Option (List ℕ) → ℕ → Told → Type 0
-OwesOrGave ledger_first ledger devices Reached unread given t = Owes ledger_first ledger Reached t ⊎ ((devices ≡ 0) × GaveBack ledger_first ledger unread given t)
+abbrev pub OwesOrGave : (ledger_first ledger : Ledger) → ℕ → (List Harm → Type 0) → (held : List ℕ) → ℕ → Told → Type 0
+OwesOrGave ledger_first ledger devices Reached held given t = Owes ledger_first ledger Reached t ⊎ ((devices ≡ 0) × GaveBack ledger_first ledger held given t)

@@ -1,15 +1,15 @@
 -- What the program promises of a run: its status, its output and its devices.
-use Rattle.std.specs.Prelude.{◌≡◌, ℕ, ◌⊎◌, Bool, IsTrue, List, [], ◌∷◌, ◌++◌, All, map, codes, Option, string_bytes}
+use Rattle.std.specs.Prelude.{◌≡◌, ℕ, ◌⊎◌, Bool, true, false, List, [], ◌∷◌, ◌++◌, map, codes, string_bytes, ⊤}
 use Rattle.std.specs.declared.string.String.{String}
-use Rattle.std.specs.Io.KnownBytes.{Appends, IsAtEnd}
-use Rattle.edge_io.specs.Causes.{Rose}
+use Rattle.device_log.specs.Streams.{SourceRead, SinkWrite}
+use Rattle.edge_io.specs.Source.{LastReadFailed, NoReadFailed}
 use Rattle.script_lang.specs.declared.last.LastLine.{LastLine}
 use Rattle.script_lang.specs.declared.last.LastLine.TheVariants as last
 use Rattle.script_lang.specs.Texts.{last_line}
 use Rattle.script_run.specs.Ledger.{Ledger, Deals}
 use Rattle.cache_tool.specs.declared.top.Status.{Status}
 use Rattle.cache_tool.specs.declared.top.Status.TheVariants as status
-use Rattle.cache_tool.specs.Story.{Because, Counts, SendsAll, SendsFront, CutsLast, GaveBack, Told, all_in}
+use Rattle.cache_tool.specs.Story.{Because, IsReadThrough, Refusals, SendsAll, SendsFront, CutsLast, GaveBack, Told, Took, all_in}
 use Rattle.cache_tool.specs.Ending.{StoryUpTo, WantsMemory}
 
 -- the one word `replay`
@@ -39,9 +39,9 @@ exit_code status.NoCache = 8
 exit_code status.OutOfMemory = 9
 exit_code status.TooManyLines = 10
 
--- The last line went out behind these bytes, or the sink's count rose and a front of that line did.
-abbrev pub WentOut : Option (List ℕ) → Option (List ℕ) → Counts → (before text : List ℕ) → Type 0
-WentOut old new sink before text = Appends old new (before ++ text) ⊎ (Rose sink.before sink.now × SendsFront old new before text)
+-- The last line went out behind these bytes, or its write failed and a front of it did.
+abbrev pub WentOut : (old new : List SinkWrite) → (before text : List ℕ) → Type 0
+WentOut old new before text = Took old new (before ++ text) ⊎ SendsFront old new before text
 
 -- the devices that were attached have the names of the lines that asked for them, in order, and as many came back, the
 -- n-th with a count that none told in the n-th session exceeds; where it told its content to the end no piece was told as
@@ -50,41 +50,36 @@ abbrev pub EachBack : Ledger → Ledger → Told → Type 0
 EachBack before now t = Deals before now (all_in t) t.names
 
 -- so it is, or the format of the next line, which wanted memory, gave back one device more
-abbrev pub EachBackOrMore : Ledger → Ledger → Option (List ℕ) → ℕ → Told → Type 0
-EachBackOrMore before now unread given t = EachBack before now t ⊎ GaveBack before now unread given t
-
--- no fault was told of any device by a count above 0
-abbrev pub NoneFaulted : Told → Type 0
-NoneFaulted t = All (λ harm. harm.fault ≡ 0) (all_in t)
-
--- the devices came back so; and where the bay's come back without faults, none was told
-pub record Settles (faultless : Bool) (Back : Told → Type 0) (t : Told) : Type 0 where
-  pub back : Back t
-  pub unfaulted : IsTrue faultless → NoneFaulted t
-
--- so they came back where memory was not wanting: each of them, and no other
-abbrev pub DevicesBack : Bool → Ledger → Ledger → Told → Type 0
-DevicesBack faultless before now = Settles faultless (EachBack before now)
-
--- so they came back where it was for the next line: there may be one more, of a format
-abbrev pub DevicesWanting : Bool → Ledger → Ledger → Option (List ℕ) → ℕ → Told → Type 0
-DevicesWanting faultless before now unread given = Settles faultless (EachBackOrMore before now unread given)
+abbrev pub EachBackOrMore : Ledger → Ledger → (held : List ℕ) → ℕ → Told → Type 0
+EachBackOrMore before now held given t = EachBack before now t ⊎ GaveBack before now held given t
 
 -- a run that ended early: the answers of the lines before went out, and behind them the last line or a front of it
-pub record EndsEarly (first old new : Option (List ℕ)) (source sink bay : Counts) (faultless : Bool) (before now : Ledger) (s : Status) : Type 0 where
+pub record EndsEarly (first read : List SourceRead) (old new : List SinkWrite) (bay : Refusals) (before now : Ledger) (s : Status) : Type 0 where
   pub why : LastLine
   pub said : s ≡ status_of why
-  pub upto : StoryUpTo first (λ _ all. WentOut old new sink all (last_line why)) (λ unread given. DevicesBack faultless before now) (λ unread given o. Because source bay unread given o why)
+  pub upto : StoryUpTo first read (λ _ all. WentOut old new all (last_line why)) (λ held given. EachBack before now) (λ held given o. Because bay held given o why)
 
--- What each status says. Done: the script was read to its end, and the output is the answers of all its lines. Usage: the
--- last line alone went out. WriteFault: the sink's count rose, and no line was taken behind the one whose answer was cut.
--- OutOfMemory: whole answers went out, of all lines that were taken, or of all but the last, for whose text memory was
--- wanting. The others name the cause that ended the run. All of that stands also where a line showed two documents of one
--- SHA-256 (`ShownAlong`): what is lost then is that the records are legal, and that the answers from that line on are
--- theirs (`Recorded`).
-abbrev pub Concludes : (first old new : Option (List ℕ)) → (source sink bay : Counts) → (faultless : Bool) → (before now : Ledger) → Status → Type 0
-Concludes first old new source sink bay faultless before now status.Done = StoryUpTo first (SendsAll old new) (λ unread given. DevicesBack faultless before now) (λ unread given o. IsAtEnd unread)
-Concludes first old new source sink bay faultless before now status.Usage = WentOut old new sink [] (last_line last.Usage) × (now ≡ before)
-Concludes first old new source sink bay faultless before now status.WriteFault = StoryUpTo first (CutsLast old new) (λ unread given. DevicesBack faultless before now) (λ unread given o. Rose sink.before sink.now)
-Concludes first old new source sink bay faultless before now status.OutOfMemory = WantsMemory first old new (DevicesBack faultless before now) (DevicesWanting faultless before now)
-Concludes first old new source sink bay faultless before now s = EndsEarly first old new source sink bay faultless before now s
+-- What each status says of a run, by the logs of the source and of the sink before it and behind it. Done: the script was
+-- read to its end, and the output is the answers of all its lines. Usage: nothing was read, and the last line alone went
+-- out. WriteFault: a write failed, and no line was taken behind the one whose answer was cut. OutOfMemory: whole answers
+-- went out, of all lines that were taken, or of all but the last, for whose text memory was wanting. The others name the
+-- cause that ended the run. All of that stands also where a line showed two documents of one SHA-256 (`ShownAlong`): what
+-- is lost then is that the records are legal, and that the answers from that line on are theirs (`Recorded`).
+abbrev pub Concludes : (first read : List SourceRead) → (old new : List SinkWrite) → (bay : Refusals) → (before now : Ledger) → Status → Type 0
+Concludes first read old new bay before now status.Done = StoryUpTo first read (SendsAll old new) (λ held given. EachBack before now) (λ held given o. IsReadThrough read held)
+Concludes first read old new bay before now status.Usage = WentOut old new [] (last_line last.Usage) × (read ≡ first) × (now ≡ before)
+Concludes first read old new bay before now status.WriteFault = StoryUpTo first read (CutsLast old new) (λ held given. EachBack before now) (λ held given o. ⊤)
+Concludes first read old new bay before now status.OutOfMemory = WantsMemory first read old new (EachBack before now) (EachBackOrMore before now)
+Concludes first read old new bay before now s = EndsEarly first read old new bay before now s
+
+-- Which reads failed in a run: with ReadFault the last one alone, by the next count; with OutOfMemory no other; else none.
+abbrev pub ReadsFailed : (first read : List SourceRead) → Status → Type 0
+ReadsFailed first read status.ReadFault = (count : ℕ) × LastReadFailed first read count
+ReadsFailed first read status.OutOfMemory = NoReadFailed first read ⊎ ((count : ℕ) × LastReadFailed first read count)
+ReadsFailed first read _ = NoReadFailed first read
+
+-- an attach was refused, or may have been where memory was wanting for the line that tells of it
+abbrev pub may_refuse : Status → Bool
+may_refuse status.BayFault = true
+may_refuse status.OutOfMemory = true
+may_refuse _ = false

@@ -15,7 +15,7 @@ pub(crate) enum Reading {
 }
 
 pub(crate) fn next_reading<S: Source>(alloc: Global, reader: &mut LineReader<'_, S>) -> Reading
-    ensures { Reads S.left S.faults reader.old reader.new result }
+    ensures { Reads S.reads S.left reader.old reader.new result }
 {
     match reader.next_line() {
         Ok(Some(line)) => match read_line(alloc, line) {

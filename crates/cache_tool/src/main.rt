@@ -1,15 +1,16 @@
 //! Runs the scripts of a disk cache: the top call, and the program over it.
 #![tactic(auto)]
 
-mod host;
+mod blank;
 mod lines;
 mod run;
 #[cfg(test)]
 mod tests;
 mod top;
 
+pub use blank::Blank;
+use device_bay::HostBay;
 use edge_io::{StdSink, StdSource};
-pub use host::HostBay;
 use std::process::ExitCode;
 use std::{env, io};
 pub use top::{Status, cache_main};
@@ -27,7 +28,7 @@ fn main(rt: HostRuntime) -> ExitCode {
     };
     let mut source = StdSource::new(rt.reader());
     let mut sink = StdSink::new(io::writer(&rt));
-    let mut bay = HostBay::new(alloc);
+    let mut bay: HostBay<&HostRuntime, Blank> = HostBay::new(&rt);
     let status = cache_main(alloc, &words, &mut source, &mut sink, &mut bay);
     ExitCode::from(status.code())
 }

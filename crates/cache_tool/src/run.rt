@@ -1,23 +1,28 @@
 // The lines of a script, one after the other.
-ghost use Rattle.std.specs.Prelude.{◌≡◌, ◌+◌, ◌<◌, ◌≤◌, ℕ, List, [], length, Option, OnOk, IfErr};
-ghost use Rattle.std.specs.Io.KnownBytes.{Appends};
-ghost use Rattle.edge_io.specs.LineReader.{unread, lines_given, source_of};
+ghost use Rattle.std.specs.Prelude.{◌≡◌, ◌+◌, ◌<◌, ◌≤◌, ℕ, false, List, [], length, OnOk, IfErr, MatchResult};
+ghost use Rattle.device_log.specs.Streams.{SourceRead, SinkWrite};
+ghost use Rattle.edge_io.specs.Source.{Draws, NoReadFailed};
+ghost use Rattle.edge_io.specs.Sink.{Grows};
+ghost use Rattle.edge_io.specs.LineReader.{held, lines_given, source_of};
+ghost use Rattle.device_bay.specs.Calls.{out_of, refusals_of};
 ghost use Rattle.script_lang.specs.Texts.{answer_line};
 ghost use Rattle.script_run.specs.Run.{fresh};
 ghost use Rattle.cache_replay.specs.Outline.{blank};
 ghost use Rattle.cache_replay.specs.Session.{IsSession, devices_of, names_in, return_of};
 ghost use Rattle.cache_replay.specs.Plays.{IsOutlined, Plays};
-ghost use Rattle.script_run.specs.Ledger.{AreReached, Ledger, ledger_of};
-ghost use Rattle.cache_tool.specs.Story.{GoesOn, Owes, OwesOrGave, counts};
-ghost use Rattle.cache_tool.specs.Halt.{IsUnwritten, Written, Halts, last_of, ending_of};
-ghost use Rattle.cache_tool.specs.Ending.{Ends, IsOfRun};
+ghost use Rattle.script_run.specs.Ledger.{AreReached, KeepsOrder, Ledger, ledger_of};
+ghost use Rattle.cache_replay.specs.Stop.{RefusesNone};
+ghost use Rattle.cache_tool.specs.Story.{GoesOn, Owes, OwesOrGave, Took, refusals};
+ghost use Rattle.cache_tool.specs.Halt.{IsUnwritten, Written, Halts, is_bay_halt, last_of, ending_of};
+ghost use Rattle.cache_tool.specs.Ending.{Ends, FailedReads, IsOfRun, is_bay_ending};
 
 use crate::lines::{Reading, next_reading};
-use ats_disk::{Bay, Disk};
 use cache_chronicle::{Chronicle, FullChronicle};
 use cache_replay::{Cache, Stop, step};
+use device_bay::Bay;
 use dir_table::{Directory, ListDirectory};
 use edge_io::{LineFault, LineReader, MAX_LINES, Sink, Source};
+use logged_disk::Disk;
 use script_lang::{LastLine, LineAnswer, Step, StepAnswer, answer_text};
 use std::alloc::Global;
 
@@ -42,9 +47,9 @@ pub(crate) enum Halt {
 
 /// Writes an answer out.
 fn write_answer<K: Sink>(alloc: Global, sink: &mut K, said: &StepAnswer) -> Result<(), Halt>
-    ensures written { OnOk result (Appends (K.taken sink.old) (K.taken sink.new) (answer_line said.now)) }
-    ensures failed { IfErr result (IsUnwritten (K.taken sink.old) (K.taken sink.new) (K.faults sink.old) (K.faults sink.new) (answer_line said.now)) }
-    ensures later { K.faults sink.old ≤ K.faults sink.new }
+    ensures written { OnOk result (Took (K.writes sink.old) (K.writes sink.new) (answer_line said.now)) }
+    ensures failed { IfErr result (IsUnwritten (K.writes sink.old) (K.writes sink.new) (answer_line said.now)) }
+    ensures grows { Grows (K.writes sink.old) (K.writes sink.new) }
 {
     let mut text = Vec::new(alloc);
     let Ok(()) = answer_text(said, &mut text) else {
@@ -65,18 +70,21 @@ fn take_step<K: Sink, B: Bay>(
     asked: Step,
 ) -> Result<(), Halt>
     requires session { IsSession B.Dev.Disk ⟦<ListDirectory as Directory>⟧ ⟦<FullChronicle as Chronicle>⟧ session.old }
-    requires held { devices_of session.old ≤ B.out bay.old }
+    requires held { devices_of session.old ≤ out_of (B.past bay.old) }
     requires few { length (names_in session.old) ≤ MAX_LINES }
     ensures done { OnOk result (Written B.Dev.Disk ⟦<ListDirectory as Directory>⟧ ⟦<FullChronicle as Chronicle>⟧ session.old asked session.new
-        (ledger_of B.Bay bay.old) (ledger_of B.Bay bay.new) (Appends (K.taken sink.old) (K.taken sink.new))) }
+        (ledger_of B.Bay bay.old) (ledger_of B.Bay bay.new) (Took (K.writes sink.old) (K.writes sink.new))) }
     ensures halted { IfErr result (Halts B.Dev.Disk ⟦<ListDirectory as Directory>⟧ ⟦<FullChronicle as Chronicle>⟧ session.old asked session.new
-        (ledger_of B.Bay bay.old) (ledger_of B.Bay bay.new) (K.taken sink.old) (K.taken sink.new)
-        (counts (K.faults sink.old) (K.faults sink.new)) (counts (B.faults bay.old) (B.faults bay.new))) }
+        (ledger_of B.Bay bay.old) (ledger_of B.Bay bay.new) (K.writes sink.old) (K.writes sink.new)
+        (B.past bay.old) (B.past bay.new)) }
     ensures session { IsSession B.Dev.Disk ⟦<ListDirectory as Directory>⟧ ⟦<FullChronicle as Chronicle>⟧ session.new }
     ensures names { length (names_in session.new) ≤ length (names_in session.old) + 1 }
-    ensures out { B.out bay.new + devices_of session.old ≡ B.out bay.old + devices_of session.new }
-    ensures sink_later { K.faults sink.old ≤ K.faults sink.new }
-    ensures bay_later { B.faults bay.old ≤ B.faults bay.new }
+    ensures out { out_of (B.past bay.new) + devices_of session.old ≡ out_of (B.past bay.old) + devices_of session.new }
+    ensures sink { Grows (K.writes sink.old) (K.writes sink.new) }
+    ensures order { KeepsOrder (return_of B.Dev.Disk ⟦<ListDirectory as Directory>⟧ ⟦<FullChronicle as Chronicle>⟧ session.old.part) (B.past bay.old)
+        (return_of B.Dev.Disk ⟦<ListDirectory as Directory>⟧ ⟦<FullChronicle as Chronicle>⟧ session.new.part) (B.past bay.new) }
+    ensures refusals { MatchResult result (λ _. RefusesNone (B.past bay.old) (B.past bay.new))
+        (λ halt. is_bay_halt halt ≡ false → RefusesNone (B.past bay.old) (B.past bay.new)) }
 {
     match step(session, bay, asked) {
         Ok(said) => write_answer(alloc, sink, &said),
@@ -116,33 +124,37 @@ fn line<S: Source, K: Sink, B: Bay>(
     session: &mut Cache<B::Dev>,
 ) -> Result<(), Ending>
     requires session { IsSession B.Dev.Disk ⟦<ListDirectory as Directory>⟧ ⟦<FullChronicle as Chronicle>⟧ session.old }
-    requires held { devices_of session.old ≤ B.out bay.old }
+    requires held { devices_of session.old ≤ out_of (B.past bay.old) }
     requires few { length (names_in session.old) ≤ lines_given reader.old }
-    ensures goes { OnOk result ((first told : Option (List ℕ)) (back : Ledger)
-        → GoesOn first told back (unread S.left reader.old) (lines_given reader.old) (K.taken sink.old) (ledger_of B.Bay bay.old)
+    ensures goes { OnOk result ((first : List SourceRead) (told : List SinkWrite) (back : Ledger)
+        → GoesOn first told back (S.reads (source_of reader.old).now) (held reader.old) (lines_given reader.old) (K.writes sink.old) (ledger_of B.Bay bay.old)
         (λ o. IsOutlined B.Dev.Disk ⟦<ListDirectory as Directory>⟧ ⟦<FullChronicle as Chronicle>⟧ o session.old)
         (λ run. Plays B.Dev.Disk ⟦<ListDirectory as Directory>⟧ ⟦<FullChronicle as Chronicle>⟧ run session.old)
-        → GoesOn first told back (unread S.left reader.new) (lines_given reader.new) (K.taken sink.new) (ledger_of B.Bay bay.new)
+        → GoesOn first told back (S.reads (source_of reader.new).now) (held reader.new) (lines_given reader.new) (K.writes sink.new) (ledger_of B.Bay bay.new)
         (λ o. IsOutlined B.Dev.Disk ⟦<ListDirectory as Directory>⟧ ⟦<FullChronicle as Chronicle>⟧ o session.new)
         (λ run. Plays B.Dev.Disk ⟦<ListDirectory as Directory>⟧ ⟦<FullChronicle as Chronicle>⟧ run session.new)) }
-    ensures ends { IfErr result (λ ending. (first told : Option (List ℕ)) (back : Ledger)
-        → GoesOn first told back (unread S.left reader.old) (lines_given reader.old) (K.taken sink.old) (ledger_of B.Bay bay.old)
+    ensures ends { IfErr result (λ ending. (first : List SourceRead) (told : List SinkWrite) (back : Ledger)
+        → GoesOn first told back (S.reads (source_of reader.old).now) (held reader.old) (lines_given reader.old) (K.writes sink.old) (ledger_of B.Bay bay.old)
         (λ o. IsOutlined B.Dev.Disk ⟦<ListDirectory as Directory>⟧ ⟦<FullChronicle as Chronicle>⟧ o session.old)
         (λ run. Plays B.Dev.Disk ⟦<ListDirectory as Directory>⟧ ⟦<FullChronicle as Chronicle>⟧ run session.old)
-        → Ends first told (K.taken sink.new) (counts (S.faults (source_of reader.old).now) (S.faults (source_of reader.new).now))
-        (counts (K.faults sink.old) (K.faults sink.new)) (counts (B.faults bay.old) (B.faults bay.new))
+        → Ends first (S.reads (source_of reader.new).now) told (K.writes sink.new) (refusals (refusals_of (B.past bay.old)) (refusals_of (B.past bay.new)))
         (Owes back (ledger_of B.Bay bay.new) (λ harms. AreReached harms (return_of B.Dev.Disk ⟦<ListDirectory as Directory>⟧ ⟦<FullChronicle as Chronicle>⟧ session.new.part)))
         (OwesOrGave back (ledger_of B.Bay bay.new) (devices_of session.new) (λ harms. AreReached harms (return_of B.Dev.Disk ⟦<ListDirectory as Directory>⟧ ⟦<FullChronicle as Chronicle>⟧ session.new.part)))
         ending) }
     ensures begun { IfErr result IsOfRun }
+    ensures reads { MatchResult result (λ _. NoReadFailed (S.reads (source_of reader.old).now) (S.reads (source_of reader.new).now))
+        (FailedReads (S.reads (source_of reader.old).now) (S.reads (source_of reader.new).now)) }
     ensures nearer { OnOk result ((lines_given reader.old < MAX_LINES) × (lines_given reader.new ≡ lines_given reader.old + 1)) }
     ensures session { IsSession B.Dev.Disk ⟦<ListDirectory as Directory>⟧ ⟦<FullChronicle as Chronicle>⟧ session.new }
     ensures few { OnOk result (length (names_in session.new) ≤ lines_given reader.new) }
     ensures source { (source_of reader.new).ghost_name ≡ (source_of reader.old).ghost_name }
-    ensures out { B.out bay.new + devices_of session.old ≡ B.out bay.old + devices_of session.new }
-    ensures source_later { S.faults (source_of reader.old).now ≤ S.faults (source_of reader.new).now }
-    ensures sink_later { K.faults sink.old ≤ K.faults sink.new }
-    ensures bay_later { B.faults bay.old ≤ B.faults bay.new }
+    ensures out { out_of (B.past bay.new) + devices_of session.old ≡ out_of (B.past bay.old) + devices_of session.new }
+    ensures draws { Draws S.reads S.left (source_of reader.old).now (source_of reader.new).now }
+    ensures sink { Grows (K.writes sink.old) (K.writes sink.new) }
+    ensures order { KeepsOrder (return_of B.Dev.Disk ⟦<ListDirectory as Directory>⟧ ⟦<FullChronicle as Chronicle>⟧ session.old.part) (B.past bay.old)
+        (return_of B.Dev.Disk ⟦<ListDirectory as Directory>⟧ ⟦<FullChronicle as Chronicle>⟧ session.new.part) (B.past bay.new) }
+    ensures refusals { MatchResult result (λ _. RefusesNone (B.past bay.old) (B.past bay.new))
+        (λ ending. is_bay_ending ending ≡ false → RefusesNone (B.past bay.old) (B.past bay.new)) }
 {
     match next_reading(alloc, reader) {
         Reading::End => Err(Ending::Done),
@@ -171,23 +183,26 @@ pub(crate) fn run_lines<S: Source, K: Sink, B: Bay>(
     session: &mut Cache<B::Dev>,
 ) -> Ending
     requires given { lines_given reader.old ≡ 0 }
+    requires held { held reader.old ≡ [] }
     requires session { IsSession B.Dev.Disk ⟦<ListDirectory as Directory>⟧ ⟦<FullChronicle as Chronicle>⟧ session.old }
     requires fresh { Plays B.Dev.Disk ⟦<ListDirectory as Directory>⟧ ⟦<FullChronicle as Chronicle>⟧ fresh session.old }
     requires blank { IsOutlined B.Dev.Disk ⟦<ListDirectory as Directory>⟧ ⟦<FullChronicle as Chronicle>⟧ blank session.old }
     requires none { devices_of session.old ≡ 0 }
     requires names { names_in session.old ≡ [] }
-    ensures ends { Ends (unread S.left reader.old) (K.taken sink.old) (K.taken sink.new)
-        (counts (S.faults (source_of reader.old).now) (S.faults (source_of reader.new).now))
-        (counts (K.faults sink.old) (K.faults sink.new)) (counts (B.faults bay.old) (B.faults bay.new))
+    ensures ends { Ends (S.reads (source_of reader.old).now) (S.reads (source_of reader.new).now) (K.writes sink.old) (K.writes sink.new)
+        (refusals (refusals_of (B.past bay.old)) (refusals_of (B.past bay.new)))
         (Owes (ledger_of B.Bay bay.old) (ledger_of B.Bay bay.new) (λ harms. AreReached harms (return_of B.Dev.Disk ⟦<ListDirectory as Directory>⟧ ⟦<FullChronicle as Chronicle>⟧ session.new.part)))
         (OwesOrGave (ledger_of B.Bay bay.old) (ledger_of B.Bay bay.new) (devices_of session.new) (λ harms. AreReached harms (return_of B.Dev.Disk ⟦<ListDirectory as Directory>⟧ ⟦<FullChronicle as Chronicle>⟧ session.new.part)))
         result }
     ensures begun { IsOfRun result }
+    ensures reads { FailedReads (S.reads (source_of reader.old).now) (S.reads (source_of reader.new).now) result }
     ensures source { (source_of reader.new).ghost_name ≡ (source_of reader.old).ghost_name }
-    ensures out { B.out bay.new ≡ B.out bay.old + devices_of session.new }
-    ensures source_later { S.faults (source_of reader.old).now ≤ S.faults (source_of reader.new).now }
-    ensures sink_later { K.faults sink.old ≤ K.faults sink.new }
-    ensures bay_later { B.faults bay.old ≤ B.faults bay.new }
+    ensures out { out_of (B.past bay.new) ≡ out_of (B.past bay.old) + devices_of session.new }
+    ensures draws { Draws S.reads S.left (source_of reader.old).now (source_of reader.new).now }
+    ensures sink { Grows (K.writes sink.old) (K.writes sink.new) }
+    ensures order { KeepsOrder (return_of B.Dev.Disk ⟦<ListDirectory as Directory>⟧ ⟦<FullChronicle as Chronicle>⟧ session.old.part) (B.past bay.old)
+        (return_of B.Dev.Disk ⟦<ListDirectory as Directory>⟧ ⟦<FullChronicle as Chronicle>⟧ session.new.part) (B.past bay.new) }
+    ensures refusals { is_bay_ending result ≡ false → RefusesNone (B.past bay.old) (B.past bay.new) }
 {
     'lines: loop {
         match line(alloc, reader, sink, bay, session) {

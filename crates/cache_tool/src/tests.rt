@@ -1,10 +1,18 @@
 // What no clause says: worked scripts over memory, and devices and streams that fail.
-ghost use Rattle.std.specs.Prelude.{◌≡◌, ◌+◌, ◌≤◌, vec_len, vec_capacity};
+ghost use Rattle.std.specs.Prelude.{◌≡◌};
+ghost use Rattle.device_log.specs.DeviceLog.{calls_of};
+ghost use Rattle.device_log.specs.Faults.{faults_of};
+ghost use Rattle.logged_disk.specs.MemDisk.{mem_state};
+ghost use Rattle.device_bay.specs.Register.{IsRegister};
 
-use crate::{HostBay, Status, cache_main};
-use ats_disk::{Bay, BayFault, Disk, MemBay, MemDisk, OWN_BLOCKS};
-use edge_io::{Failed, MemSink, MemSource};
+use crate::{Blank, Status, cache_main};
+use device_bay::{Bay, BayFault, HostBay, MemBay, OWN_BLOCKS, Register};
+use device_log::DeviceLog;
+use edge_io::{Failed, MemSink, MemSource, Sink, Source};
+use logged_disk::{BLOCK_BYTES, Disk, MemDisk, PowerDisk};
 use std::alloc::{AllocError, Global};
+use std::cell::Cell;
+use std::fs;
 use std::test::Fail;
 
 const SMALL: &str = "format mem:a 1 64 64 8 16 4 7\n";
@@ -254,6 +262,87 @@ fn a_run_that_cannot_go_on_says_so_in_its_last_line(rt: HostRuntime) -> Result<(
     Ok(())
 }
 
+/// A source that looks, at each read, whether the answers to the lines that it gave are out.
+#[derive(Drop)]
+struct Watching<'a> {
+    source: MemSource,
+    answered: &'a Cell<u64>,
+    lines: u64,
+    early: u64,
+}
+
+impl Source for Watching<'_> {
+    ghost reads = { λ watching. ⟦<MemSource as Source>⟧.reads watching.source };
+
+    ghost left = { λ watching. ⟦<MemSource as Source>⟧.left watching.source };
+
+    fn read(&mut self, into: &mut [u8]) -> Result<usize, Failed> {
+        if self.answered.get() < self.lines {
+            self.early = self.early.saturating_add(1);
+        }
+        let count = self.source.read(into)?;
+        if count > 0 {
+            self.lines = self.lines.saturating_add(1);
+        }
+        Ok(count)
+    }
+
+    fn faults(&self) -> u64 {
+        self.source.faults()
+    }
+
+    ghost are_bytes = { λ watching. watching.source.log.are_bytes };
+}
+
+/// A sink that shows how many answers it took.
+#[derive(Drop)]
+struct Showing<'a> {
+    sink: MemSink,
+    answered: &'a Cell<u64>,
+}
+
+impl Sink for Showing<'_> {
+    ghost writes = { λ showing. ⟦<MemSink as Sink>⟧.writes showing.sink };
+
+    fn write_all(&mut self, bytes: &[u8]) -> Result<(), Failed> {
+        self.sink.write_all(bytes)?;
+        self.answered.set(self.answered.get().saturating_add(1));
+        Ok(())
+    }
+
+    fn faults(&self) -> u64 {
+        self.sink.faults()
+    }
+
+    ghost are_bytes = { λ showing. showing.sink.log.are_bytes };
+}
+
+#[test]
+fn each_answer_is_out_before_the_next_line_is_read(rt: HostRuntime) -> Result<(), Fail> {
+    let answered = Cell::new(0);
+    let script = b"now 1\nnow 2\nnow 3\n".to_vec(rt.alloc())?;
+    // Each read gives one line.
+    let mut source = Watching {
+        source: MemSource::new(script, Vec::new(rt.alloc())).in_pieces_of(6),
+        answered: &answered,
+        lines: 0,
+        early: 0,
+    };
+    let mut sink = Showing {
+        sink: MemSink::new(rt.alloc(), 99)?,
+        answered: &answered,
+    };
+    let mut words = Vec::new(rt.alloc());
+    words.push(String::from_str(rt.alloc(), "replay")?)?;
+    let mut bay = MemBay::new(rt.alloc(), Vec::new(rt.alloc()));
+    let status = cache_main(rt.alloc(), &words, &mut source, &mut sink, &mut bay);
+    assert_eq!(rt; status, Status::Done);
+    assert_eq!(rt; sink.sink.taken(), b"now 1\nnow 2\nnow 3\n".as_slice());
+    assert_eq!(rt; source.lines, 3);
+    assert_eq!(rt; source.early, 0);
+    Ok(())
+}
+
 #[test]
 fn a_bay_that_fails_ends_the_run(rt: HostRuntime) -> Result<(), Fail> {
     let fail_at = vec![in rt.alloc(); 1]?;
@@ -265,13 +354,20 @@ fn a_bay_that_fails_ends_the_run(rt: HostRuntime) -> Result<(), Fail> {
 }
 
 #[test]
-fn the_bay_of_the_program_has_devices_in_memory_alone(rt: HostRuntime) -> Result<(), Fail> {
-    let mut bay = HostBay::new(rt.alloc());
-    let script = format!(in rt.alloc(); "{SMALL}format disk:b 1 64 64 8 16 4 7\n")?;
-    let answers = format!(in rt.alloc(); "{FORMATTED}error bay-fault\n")?;
+fn a_path_names_a_file_that_a_format_makes(rt: HostRuntime) -> Result<(), Fail> {
+    let mut bay: HostBay<&HostRuntime, Blank> = HostBay::new(&rt);
+    let path = "cache_tool_test.img";
+    let script = format!(in rt.alloc();
+        "{SMALL}format {path} 1 64 64 8 16 4 7\nput /a 61\nflush\nget /a\nformat word:c 1 64 64 8 16 4 7\n"
+    )?;
+    let answers = format!(in rt.alloc();
+        "{FORMATTED}{FORMATTED}put 1 length 1 fragments 1\nflushed 2 cursor 66 floor 10\ngot 1 length 1 61\nerror bay-fault\n"
+    )?;
     let (status, output) = outcome(rt.alloc(), &PLAIN, script.as_bytes(), &mut bay)?;
     assert_eq!(rt; status, Status::BayFault);
     assert_eq!(rt; output.as_slice(), answers.as_bytes());
+    assert_eq!(rt; fs::metadata(&rt, path)?.len(), 64 * 512);
+    fs::remove_file(&rt, path)?;
     Ok(())
 }
 
@@ -299,12 +395,15 @@ fn a_line_above_a_mebibyte_ends_the_run(rt: HostRuntime) -> Result<(), Fail> {
 struct Faulty {
     memory: MemDisk,
     flips: bool,
+    log: DeviceLog,
+    ghost counted: { (mem_state memory).faults ≡ faults_of (calls_of log) },
 }
 
+#[tactic(auto, unfolding(device_log::specs::Faults::faults_of))]
 impl Disk for Faulty {
-    ghost use Rattle.std.proofs.Common.{arith};
+    ghost use Rattle.device_log.proofs.Puts.{blank_is_image};
 
-    ghost state = { λ disk. record (⟦<MemDisk as Disk>⟧.state disk.memory) { trust = 0 } };
+    ghost state = { λ disk. record (mem_state disk.memory) { trust = 0; past = calls_of disk.log } };
 
     fn blocks(&self) -> u64 {
         self.memory.blocks()
@@ -319,18 +418,55 @@ impl Disk for Faulty {
     }
 
     fn read(&mut self, block: u64, into: &mut [u8]) -> Result<(), Failed> {
-        self.memory.read(block, into)?;
-        if self.flips {
-            into[0] ^= 1;
+        match self.memory.read(block, into) {
+            Ok(()) => {
+                if self.flips {
+                    into[0] ^= 1;
+                }
+                self.log.read(block, into);
+                Ok(())
+            }
+            Err(failed) => {
+                let blocks = (into.len() / BLOCK_BYTES) as u64;
+                self.log.refused_read(block, blocks, self.memory.faults());
+                Err(failed)
+            }
         }
-        Ok(())
     }
 
     fn write(&mut self, block: u64, bytes: &[u8]) -> Result<(), Failed> {
-        self.memory.write(block, bytes)
+        match self.memory.write(block, bytes) {
+            Ok(()) => {
+                self.log.wrote(block, bytes);
+                Ok(())
+            }
+            Err(failed) => {
+                let blocks = (bytes.len() / BLOCK_BYTES) as u64;
+                self.log
+                    .refused_write(block, blocks, &[], self.memory.faults());
+                Err(failed)
+            }
+        }
     }
 
-    ghost whole_blocks = { λ disk j told. absurd (Prim.omega (arith, told)) };
+    fn sync(&mut self) -> Result<(), Failed> {
+        match self.memory.sync() {
+            Ok(()) => {
+                self.log.synced();
+                Ok(())
+            }
+            Err(failed) => {
+                self.log.refused_sync(self.memory.faults());
+                Err(failed)
+            }
+        }
+    }
+
+    ghost is_log = { λ disk. disk.log.is_log };
+
+    ghost was_image = { λ disk. blank_is_image };
+
+    ghost counted = { λ disk. disk.counted };
 }
 
 /// A bay of such devices, whose call of this number fails, or none for 0.
@@ -338,32 +474,28 @@ impl Disk for Faulty {
 struct FaultyBay {
     flips: bool,
     nth: u64,
-    /// The names of the devices that were attached.
-    names: Vec<Vec<u8>>,
-    /// The counts of faults of the devices that were given back.
-    returned: Vec<u64>,
-    out: usize,
-    ghost room: { vec_len returned + out ≤ vec_capacity returned },
+    register: Register<Faulty>,
+    ghost is_register: { IsRegister (λ disk. record (mem_state disk.memory) { trust = 0; past = calls_of disk.log }) register },
 }
 
 impl FaultyBay {
-    fn new(alloc: Global, flips: bool, nth: u64) -> FaultyBay {
+    fn new(flips: bool, nth: u64) -> FaultyBay {
         FaultyBay {
             flips,
             nth,
-            names: Vec::new(alloc),
-            returned: Vec::new(alloc),
-            out: 0,
+            register: Register::new(),
         }
     }
 }
 
-/// The device, with its call of this number to fail.
-fn armed(memory: MemDisk, nth: u64) -> MemDisk
-    ensures size { (⟦<MemDisk as Disk>⟧.state result).size ≡ (⟦<MemDisk as Disk>⟧.state memory).size }
-    ensures faults { (⟦<MemDisk as Disk>⟧.state result).faults ≡ (⟦<MemDisk as Disk>⟧.state memory).faults }
+/// A device of which the call of this number is to fail.
+#[tactic(auto, using(logged_disk::specs::MemoryFacts::memory_counted), unfolding(device_log::specs::Faults::faults_of))]
+fn armed(alloc: Global, number: u64, blocks: u64, nth: u64) -> MemDisk
+    ensures size { (mem_state result).size ≡ blocks }
+    ensures number { (mem_state result).number ≡ number }
+    ensures faults { (mem_state result).faults ≡ 0 }
 {
-    let mut memory = memory;
+    let mut memory = MemDisk::new(alloc, number, blocks);
     if nth == 0 || memory.make_room(1, 0).is_err() {
         return memory;
     }
@@ -371,51 +503,34 @@ fn armed(memory: MemDisk, nth: u64) -> MemDisk
     memory
 }
 
+#[tactic(auto, unfolding(device_log::specs::Faults::faults_of))]
 impl Bay for FaultyBay {
-    ghost use Rattle.std.specs.Prelude.{ℕ, false, map, None};
-    ghost use Rattle.std.proofs.lemmas.Bool.{false≢true};
-    ghost use Rattle.ats_disk.specs.Bay.{Return};
+    ghost use Rattle.device_bay.specs.Register.{calls_in};
 
     type Dev = Faulty;
 
-    ghost names = { λ bay. map (λ name. name.items) bay.names.items };
-
-    ghost told = { λ bay. map (λ name. None) bay.names.items };
-
-    // No device could be trusted.
-    ghost returned = { λ bay. let back : ℕ → Return = λ count. record { faults = count; trust = 0 } in map back bay.returned.items };
-
-    ghost faultless = { false };
-
-    ghost out = { λ bay. bay.out };
-
-    ghost faults = { λ bay. 0 };
+    ghost past = { λ bay. calls_in (λ disk. record (mem_state disk.memory) { trust = 0; past = calls_of disk.log }) bay.register };
 
     fn attach(&mut self, alloc: Global, name: &[u8], blocks: u64) -> Result<Faulty, BayFault> {
-        let name = name.to_vec(alloc)?;
-        self.names.reserve(1)?;
-        self.returned.reserve(self.out + 1)?;
-        let memory = MemDisk::new(alloc, blocks.max(OWN_BLOCKS))?;
-        let kept: Result<_, _> = self.names.push(name);
-        kept.unwrap();
-        self.out += 1;
+        let number = self.register.number();
+        let memory = armed(alloc, number, blocks.max(OWN_BLOCKS), self.nth);
+        self.register.gave(name, blocks);
         Ok(Faulty {
-            memory: armed(memory, self.nth),
+            memory,
             flips: self.flips,
+            log: DeviceLog::new(),
         })
     }
 
     fn give_back(&mut self, device: Faulty) {
-        let kept: Result<_, _> = self.returned.push(device.faults());
-        kept.unwrap();
-        self.out -= 1;
+        self.register.took(&device);
     }
 
     fn faults(&self) -> u64 {
-        0
+        self.register.faults()
     }
 
-    ghost came_back = { λ bay always. absurd (false≢true always) };
+    ghost is_log = { λ bay. bay.is_register.is_log };
 }
 
 /// The outcome over devices that give other bytes, or of which the call of this number fails.
@@ -425,7 +540,7 @@ fn over_faulty(
     nth: u64,
     script: &str,
 ) -> Result<(Status, Vec<u8>), AllocError> {
-    let mut bay = FaultyBay::new(alloc, flips, nth);
+    let mut bay = FaultyBay::new(flips, nth);
     outcome(alloc, &PLAIN, script.as_bytes(), &mut bay)
 }
 

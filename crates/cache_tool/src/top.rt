@@ -1,15 +1,18 @@
 // The top call: words, a script, and what came of it.
-ghost use Rattle.std.specs.Prelude.{◌≡◌, ◌≤◌, ◌↔◌, ◌⊎◌, [], IsTrue};
-ghost use Rattle.std.specs.Io.KnownBytes.{Keeps};
+ghost use Rattle.std.specs.Prelude.{◌≡◌, ◌↔◌, ◌⊎◌, false, [], length, IsTrue};
+ghost use Rattle.edge_io.specs.Source.{Draws};
+ghost use Rattle.edge_io.specs.Sink.{Grows};
+ghost use Rattle.device_bay.specs.Calls.{IsBayLog, gifts_of, out_of, refusals_of};
 ghost use Rattle.script_lang.specs.Texts.{last_line};
-ghost use Rattle.script_run.specs.Ledger.{ledger_of};
-ghost use Rattle.cache_tool.specs.Story.{counts};
-ghost use Rattle.cache_tool.specs.Ending.{Ends, IsOfRun};
-ghost use Rattle.cache_tool.specs.Top.{IsReplay, WentOut, DevicesBack, DevicesWanting, status_of, exit_code, Concludes};
+ghost use Rattle.script_run.specs.Ledger.{InOrder, ledger_of};
+ghost use Rattle.cache_replay.specs.Stop.{RefusesNone};
+ghost use Rattle.cache_tool.specs.Story.{refusals};
+ghost use Rattle.cache_tool.specs.Ending.{Ends, FailedReads, IsOfRun, is_bay_ending};
+ghost use Rattle.cache_tool.specs.Top.{IsReplay, WentOut, EachBack, EachBackOrMore, ReadsFailed, status_of, exit_code, may_refuse, Concludes};
 
 use crate::run::{Ending, run_lines};
-use ats_disk::Bay;
 use cache_replay::{begin, close};
+use device_bay::Bay;
 use edge_io::{LineBuffer, LineReader, Sink, Source};
 use script_lang::{LastLine, last_line_text, usage_text};
 use std::alloc::Global;
@@ -74,17 +77,17 @@ fn status_of(last: LastLine) -> Status
 
 /// Writes bytes out; a fault in the last line of a run does not change its status.
 fn send<K: Sink>(sink: &mut K, text: &str)
-    ensures out { WentOut (K.taken sink.old) (K.taken sink.new) (counts (K.faults sink.old) (K.faults sink.new)) [] text.now }
-    ensures later { K.faults sink.old ≤ K.faults sink.new }
+    ensures out { WentOut (K.writes sink.old) (K.writes sink.new) [] text.now }
+    ensures grows { Grows (K.writes sink.old) (K.writes sink.new) }
 {
     let _ = sink.write_all(text.as_bytes());
 }
 
 /// Writes the last line of a run that ends early.
 fn conclude<K: Sink>(alloc: Global, sink: &mut K, last: LastLine) -> Status
-    ensures said { ((result ≡ Status.OutOfMemory) × Keeps (K.taken sink.old) (K.taken sink.new))
-        ⊎ ((result ≡ status_of last) × WentOut (K.taken sink.old) (K.taken sink.new) (counts (K.faults sink.old) (K.faults sink.new)) [] (last_line last)) }
-    ensures later { K.faults sink.old ≤ K.faults sink.new }
+    ensures said { ((result ≡ Status.OutOfMemory) × (K.writes sink.new ≡ K.writes sink.old))
+        ⊎ ((result ≡ status_of last) × WentOut (K.writes sink.old) (K.writes sink.new) [] (last_line last)) }
+    ensures grows { Grows (K.writes sink.old) (K.writes sink.new) }
 {
     match last_line_text(alloc, last) {
         Ok(text) => {
@@ -102,14 +105,15 @@ fn replay<S: Source, K: Sink, B: Bay>(
     sink: &mut K,
     bay: &mut B,
 ) -> Ending
-    ensures ends { Ends (S.left source.old) (K.taken sink.old) (K.taken sink.new) (counts (S.faults source.old) (S.faults source.new))
-        (counts (K.faults sink.old) (K.faults sink.new)) (counts (B.faults bay.old) (B.faults bay.new))
-        (DevicesBack B.faultless (ledger_of B.Bay bay.old) (ledger_of B.Bay bay.new)) (DevicesWanting B.faultless (ledger_of B.Bay bay.old) (ledger_of B.Bay bay.new)) result }
+    ensures ends { Ends (S.reads source.old) (S.reads source.new) (K.writes sink.old) (K.writes sink.new) (refusals (refusals_of (B.past bay.old)) (refusals_of (B.past bay.new)))
+        (EachBack (ledger_of B.Bay bay.old) (ledger_of B.Bay bay.new)) (EachBackOrMore (ledger_of B.Bay bay.old) (ledger_of B.Bay bay.new)) result }
     ensures begun { IsOfRun result }
-    ensures out { B.out bay.new ≡ B.out bay.old }
-    ensures source_later { S.faults source.old ≤ S.faults source.new }
-    ensures sink_later { K.faults sink.old ≤ K.faults sink.new }
-    ensures bay_later { B.faults bay.old ≤ B.faults bay.new }
+    ensures reads { FailedReads (S.reads source.old) (S.reads source.new) result }
+    ensures out { out_of (B.past bay.new) ≡ out_of (B.past bay.old) }
+    ensures source { Draws S.reads S.left source.old source.new }
+    ensures sink { Grows (K.writes sink.old) (K.writes sink.new) }
+    ensures order { InOrder (length (gifts_of (B.past bay.old))) [] (B.past bay.old) (B.past bay.new) }
+    ensures refusals { is_bay_ending result ≡ false → RefusesNone (B.past bay.old) (B.past bay.new) }
 {
     let Ok(buffer) = LineBuffer::new(alloc) else {
         return Ending::OutOfMemory;
@@ -130,17 +134,25 @@ pub fn cache_main<S: Source, K: Sink, B: Bay>(
     sink: &mut K,
     bay: &mut B,
 ) -> Status
-    ensures concludes { Concludes (S.left source.old) (K.taken sink.old) (K.taken sink.new) (counts (S.faults source.old) (S.faults source.new))
-        (counts (K.faults sink.old) (K.faults sink.new)) (counts (B.faults bay.old) (B.faults bay.new))
-        B.faultless (ledger_of B.Bay bay.old) (ledger_of B.Bay bay.new) result }
+    ensures concludes { Concludes (S.reads source.old) (S.reads source.new) (K.writes sink.old) (K.writes sink.new) (refusals (refusals_of (B.past bay.old)) (refusals_of (B.past bay.new)))
+        (ledger_of B.Bay bay.old) (ledger_of B.Bay bay.new) result }
     ensures usage { (result ≡ Status.Usage) ↔ (IsReplay words.now → ⊥) }
+    ensures reads { ReadsFailed (S.reads source.old) (S.reads source.new) result }
 
     // Every device was given back.
-    ensures out { B.out bay.new ≡ B.out bay.old }
+    ensures out { out_of (B.past bay.new) ≡ out_of (B.past bay.old) }
 
-    ensures source_later { S.faults source.old ≤ S.faults source.new }
-    ensures sink_later { K.faults sink.old ≤ K.faults sink.new }
-    ensures bay_later { B.faults bay.old ≤ B.faults bay.new }
+    ensures source { Draws S.reads S.left source.old source.new }
+    ensures sink { Grows (K.writes sink.old) (K.writes sink.new) }
+
+    // They came back in the order in which they were attached, each as a whole.
+    ensures order { InOrder (length (gifts_of (B.past bay.old))) [] (B.past bay.old) (B.past bay.new) }
+
+    // Each that came back has a log that a device can have, with as many faults as calls that failed.
+    ensures log { IsBayLog (B.past bay.new) }
+
+    // No attach was refused but the one that ended the run, if one did.
+    ensures refusals { may_refuse result ≡ false → RefusesNone (B.past bay.old) (B.past bay.new) }
 {
     if !is_replay(words) {
         send(sink, usage_text());

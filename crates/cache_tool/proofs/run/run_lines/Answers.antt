@@ -1,20 +1,26 @@
-use Rattle.std.proofs.Common.{refl, ◌∙◌, arith, length, ap}
-use Rattle.edge_io.specs.LineReader.{unread, source_of}
+use Rattle.std.proofs.Common.{[], refl, ◌∙◌, arith, length, ap}
+use Rattle.edge_io.specs.LineReader.{held, source_of}
+use Rattle.edge_io.proofs.Draws.{draws_more, draws_nothing}
 use Rattle.script_run.specs.Ledger.{ledger_of}
-use Rattle.cache_tool.specs.Story.{counts}
-use Rattle.cache_tool.proofs.Ends.{begins, Ends-earlier}
+use Rattle.device_bay.specs.Calls.{refusals_of}
+use Rattle.cache_replay.proofs.Order.{order_same, order_then}
+use Rattle.cache_tool.specs.Story.{refusals}
+use Rattle.cache_tool.proofs.Ends.{begins, failed_earlier, Ends-earlier}
+use Rattle.cache_tool.proofs.Halts.{grows_more}
 use Rattle.cache_tool.proofs.run.run_lines.Goals as goal
 
 pub lines-init : goal.lines-init
 lines-init g c = record {
-  goes = begins (unread g.S.Source.left c.args.reader.now) (g.K.Sink.taken c.args.sink.now) (ledger_of g.B.Bay c.args.bay.now) _ _ _ c.requires.given c.requires.blank c.requires.fresh;
+  goes = begins (g.S.Source.reads (source_of c.args.reader.now).now) (g.K.Sink.writes c.args.sink.now) (ledger_of g.B.Bay c.args.bay.now) _ _ _ _ c.requires.held c.requires.given c.requires.blank c.requires.fresh;
   session = c.requires.session;
   few = omega (arith, ap length c.requires.names);
   out = omega (arith, c.requires.none);
   source = refl;
-  source_later = omega arith;
-  sink_later = omega arith;
-  bay_later = omega arith;
+  draws = draws_nothing g.S.Source.reads g.S.Source.left (source_of c.args.reader.now).now;
+  failed = refl;
+  sink = ([], refl);
+  order = order_same _ _;
+  refusals = refl;
 }
 
 pub lines-preserved : goal.lines-preserved
@@ -26,18 +32,31 @@ lines-preserved g c =
       few = c.in-Ok.ensures.few;
       out = omega (arith, c.line.ensures.out, before.out);
       source = c.line.ensures.source ∙ before.source;
-      source_later = omega (arith, c.line.ensures.source_later, before.source_later);
-      sink_later = omega (arith, c.line.ensures.sink_later, before.sink_later);
-      bay_later = omega (arith, c.line.ensures.bay_later, before.bay_later);
+      draws = draws_more g.S.Source.reads g.S.Source.left _ _ _ before.draws c.line.ensures.draws;
+      failed = c.in-Ok.ensures.reads ∙ before.failed;
+      sink = grows_more _ _ _ before.sink c.line.ensures.sink;
+      order = order_then _ _ _ _ _ _ before.order c.line.ensures.order;
+      refusals = c.in-Ok.ensures.refusals ∙ before.refusals;
     }
 
 pub returns-in-Err-clause-ends : goal.returns-in-Err-clause-ends
 returns-in-Err-clause-ends g c =
     let before = c.lines.invariant in
-    let source = counts (g.S.Source.faults (source_of c.lines.reader).now) (g.S.Source.faults (source_of c.line.new.reader).now) in
-    let source' = counts (g.S.Source.faults (source_of c.args.reader.now).now) (g.S.Source.faults (source_of c.line.new.reader).now) in
-    let sink = counts (g.K.Sink.faults c.lines.sink) (g.K.Sink.faults c.line.new.sink) in
-    let sink' = counts (g.K.Sink.faults c.args.sink.now) (g.K.Sink.faults c.line.new.sink) in
-    let bay = counts (g.B.Bay.faults c.lines.bay) (g.B.Bay.faults c.line.new.bay) in
-    let bay' = counts (g.B.Bay.faults c.args.bay.now) (g.B.Bay.faults c.line.new.bay) in
-    Ends-earlier source source' sink sink' bay bay' before.source_later refl before.sink_later refl before.bay_later refl _ _ _ _ _ c.in-Err.ending (c.in-Err.ensures.ends _ _ _ before.goes)
+    let bay = refusals (refusals_of (g.B.Bay.past c.lines.bay)) (refusals_of (g.B.Bay.past c.line.new.bay)) in
+    let bay' = refusals (refusals_of (g.B.Bay.past c.args.bay.now)) (refusals_of (g.B.Bay.past c.line.new.bay)) in
+    Ends-earlier bay bay' before.refusals refl _ _ _ _ _ _ c.in-Err.ending (c.in-Err.ensures.ends _ _ _ before.goes)
+
+pub returns-in-Err-clause-reads : goal.returns-in-Err-clause-reads
+returns-in-Err-clause-reads g c = failed_earlier _ _ _ c.in-Err.ending c.lines.invariant.failed c.in-Err.ensures.reads
+
+pub returns-in-Err-clause-draws : goal.returns-in-Err-clause-draws
+returns-in-Err-clause-draws g c = draws_more g.S.Source.reads g.S.Source.left _ _ _ c.lines.invariant.draws c.line.ensures.draws
+
+pub returns-in-Err-clause-sink : goal.returns-in-Err-clause-sink
+returns-in-Err-clause-sink g c = grows_more _ _ _ c.lines.invariant.sink c.line.ensures.sink
+
+pub returns-in-Err-clause-order : goal.returns-in-Err-clause-order
+returns-in-Err-clause-order g c = order_then _ _ _ _ _ _ c.lines.invariant.order c.line.ensures.order
+
+pub returns-in-Err-clause-refusals : goal.returns-in-Err-clause-refusals
+returns-in-Err-clause-refusals g c = λ other. c.in-Err.ensures.refusals other ∙ c.lines.invariant.refusals

@@ -1,10 +1,9 @@
-use Rattle.std.proofs.KnownBytes.{Keeps-refl}
-use Rattle.cache_tool.specs.Story.{counts}
+use Rattle.std.proofs.Common.{[], refl}
 use Rattle.cache_tool.proofs.Halts.{OnOk-map, IfErr-map, unwritten_halts}
 use Rattle.cache_tool.proofs.run.take_step.Goals as goal
 
 pub returns-in-Err-clause-halted : goal.returns-in-Err-clause-halted
-returns-in-Err-clause-halted g c = (c.in-Err.ensures.left, Keeps-refl _, c.in-Err.ensures.stop)
+returns-in-Err-clause-halted g c = (c.in-Err.ensures.left, refl, c.in-Err.ensures.stop)
 
 pub returns-in-Ok-clause-done : goal.returns-in-Ok-clause-done
 returns-in-Ok-clause-done g c =
@@ -13,6 +12,9 @@ returns-in-Ok-clause-done g c =
 pub returns-in-Ok-clause-halted : goal.returns-in-Ok-clause-halted
 returns-in-Ok-clause-halted g c =
     IfErr-map c.write_answer.result _ _
-    (λ halt unwritten. unwritten_halts g.B.Dev.Disk _ _ c.args.session.now c.args.asked c.step.new.session c.in-Ok.said _ _ _ _ (counts (g.K.Sink.faults c.args.sink.now) (g.K.Sink.faults c.write_answer.new.sink))
-    (counts (g.B.Bay.faults c.args.bay.now) (g.B.Bay.faults c.step.new.bay)) c.in-Ok.ensures.outline c.in-Ok.ensures.ends halt unwritten)
+    (λ halt unwritten. unwritten_halts g.B.Dev.Disk _ _ c.args.session.now c.args.asked c.step.new.session c.in-Ok.said _ _ _ _
+    (g.B.Bay.past c.args.bay.now) (g.B.Bay.past c.step.new.bay) c.in-Ok.ensures.outline c.in-Ok.ensures.ends halt unwritten)
     c.write_answer.ensures.failed
+
+pub returns-in-Err-clause-sink : goal.returns-in-Err-clause-sink
+returns-in-Err-clause-sink g c = ([], refl)

@@ -1,12 +1,25 @@
-use Rattle.std.proofs.Common.{refl}
-use Rattle.cache_tool.specs.Story.{counts}
-use Rattle.cache_tool.proofs.Tops.{concludes_stopped}
+use Rattle.script_run.specs.Ledger.{ledger_of}
+use Rattle.std.proofs.Common.{[]}
+use Rattle.device_bay.specs.Calls.{refusals_of}
+use Rattle.cache_tool.specs.Story.{refusals}
+use Rattle.edge_io.proofs.Draws.{draws_nothing}
+use Rattle.cache_tool.proofs.Halts.{grows_more}
+use Rattle.cache_tool.proofs.Tops.{concludes_stopped, reads_stopped}
 use Rattle.cache_tool.proofs.top.cache_main.Goals as goal
 
 pub returns-in-Stopped-clause-concludes : goal.returns-in-Stopped-clause-concludes
 returns-in-Stopped-clause-concludes g c =
-    let source = counts (g.S.Source.faults c.args.source.now) (g.S.Source.faults c.replay.new.source) in
-    let sink = counts (g.K.Sink.faults c.args.sink.now) (g.K.Sink.faults c.conclude.new.sink) in
-    let sink_last = counts (g.K.Sink.faults c.replay.new.sink) (g.K.Sink.faults c.conclude.new.sink) in
-    let bay = counts (g.B.Bay.faults c.args.bay.now) (g.B.Bay.faults c.replay.new.bay) in
-    concludes_stopped _ _ (g.K.Sink.taken c.replay.new.sink) _ source sink sink_last bay _ _ _ c.replay.ensures.sink_later refl c.in-Stopped.last c.in-Stopped.ensures.begun c.in-Stopped.ensures.ends c.conclude.result c.conclude.ensures.said
+    let bay = refusals (refusals_of (g.B.Bay.past c.args.bay.now)) (refusals_of (g.B.Bay.past c.replay.new.bay)) in
+    concludes_stopped _ _ _ (g.K.Sink.writes c.replay.new.sink) _ bay _ _ c.in-Stopped.last c.in-Stopped.ensures.begun c.in-Stopped.ensures.ends c.conclude.result c.conclude.ensures.said
+
+pub returns-in-Stopped-clause-reads : goal.returns-in-Stopped-clause-reads
+returns-in-Stopped-clause-reads g c =
+    let ledger = ledger_of g.B.Bay c.args.bay.now in
+    let sink = g.K.Sink.writes c.replay.new.sink in
+    reads_stopped _ _ sink sink (g.K.Sink.writes c.conclude.new.sink) (refusals [] []) ledger ledger c.in-Stopped.last c.in-Stopped.ensures.reads c.conclude.result c.conclude.ensures.said
+
+pub returns-in-Stopped-clause-sink : goal.returns-in-Stopped-clause-sink
+returns-in-Stopped-clause-sink g c = grows_more _ _ _ c.replay.ensures.sink c.conclude.ensures.grows
+
+pub returns-then-not-is_replay-clause-source : goal.returns-then-not-is_replay-clause-source
+returns-then-not-is_replay-clause-source g c = draws_nothing g.S.Source.reads g.S.Source.left c.args.source.now

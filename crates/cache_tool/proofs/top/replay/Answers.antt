@@ -1,26 +1,25 @@
-use Rattle.std.proofs.Common.{◌≡◌, List, ℕ, Option, inl, sym, ◌∙◌, subst}
-use Rattle.std.specs.Prelude.{IsTrue}
-use Rattle.edge_io.specs.LineReader.{unread, held, source_of}
+use Rattle.std.proofs.Common.{◌≡◌, [], inl, refl, sym, ◌∙◌, List, length, subst}
+use Rattle.edge_io.proofs.Draws.{draws_nothing}
+use Rattle.edge_io.specs.LineReader.{source_of}
+use Rattle.device_bay.specs.Calls.{gifts_of, refusals_of}
 use Rattle.dir_table.specs.contracts.list.ListDirectoryDirectory.TheImpl.{ghosts as listed}
 use Rattle.cache_chronicle.specs.contracts.full.FullChronicleChronicle.TheImpl.{ghosts as chronicled}
 use Rattle.cache_replay.specs.Session.{return_of}
-use Rattle.script_run.specs.Ledger.{AreReached, ledger_of}
-use Rattle.cache_tool.specs.Story.{Owes, Told, counts}
-use Rattle.cache_tool.specs.Ending.{Ends}
-use Rattle.ats_disk.specs.Bay.{CameBackFaultless}
-use Rattle.cache_tool.specs.Top.{DevicesBack, DevicesWanting, EachBack}
-use Rattle.cache_tool.proofs.Faultless.{settles, settles_more}
+use Rattle.cache_replay.proofs.Order.{none_back, none_out, order_closed, order_then}
+use Rattle.logged_disk.specs.Device.{State as Device}
+use Rattle.script_run.specs.Ledger.{AreLast, AreReached, ledger_of}
+use Rattle.cache_tool.specs.Story.{Owes, Told, refusals}
+use Rattle.cache_tool.specs.Top.{EachBack, EachBackOrMore}
 use Rattle.cache_tool.proofs.Halts.{either-both}
 use Rattle.cache_tool.proofs.Stories.{Deals-settled}
-use Rattle.cache_tool.proofs.Ends.{nothing_back, nothing_ends, prepend-nothing, Ends-settled, gave_settled}
+use Rattle.cache_tool.proofs.Ends.{nothing_back, none_own, nothing_ends, Ends-settled, gave_settled}
 use Rattle.cache_tool.proofs.top.replay.Goals as goal
 
 pub returns-in_default-clause-ends : goal.returns-in_default-clause-ends
 returns-in_default-clause-ends g c =
     let ledger = ledger_of g.B.Bay c.args.bay.now in
-    let sure : IsTrue g.B.Bay.faultless → CameBackFaultless ledger.returned = λ t. g.met.B.Bay.came_back c.args.bay.now t in
-    nothing_ends (g.S.Source.left c.args.source.now) (g.K.Sink.taken c.args.sink.now) (DevicesBack g.B.Bay.faultless ledger ledger) (DevicesWanting g.B.Bay.faultless ledger ledger)
-    (λ t none own names. settles_more g.B.Bay.faultless ledger ledger sure t (g.S.Source.left c.args.source.now) 0 (inl (nothing_back ledger t none own names))) (counts 0 0) (counts 0 0) (counts 0 0)
+    nothing_ends (g.S.Source.reads c.args.source.now) (g.K.Sink.writes c.args.sink.now) (EachBack ledger ledger) (EachBackOrMore ledger ledger)
+    (λ t none own names. inl (nothing_back ledger t none own names)) (refusals [] [])
 
 pub returns-clause-ends : goal.returns-clause-ends
 returns-clause-ends g c =
@@ -28,18 +27,45 @@ returns-clause-ends g c =
     let after = c.run_lines-ending.new.reader in
     let back : c.source-1.given.0 ≡ (source_of after).now =
     c.source-1.given.1 (sym c.with_buffer-reader.ensures.source ∙ sym c.run_lines-ending.ensures.source ∙ sym c.into_source-source.ensures.source) ∙ c.into_source-source.ensures.now in
-    let source = counts (g.S.Source.faults (source_of reader).now) (g.S.Source.faults (source_of after).now) in
-    let sink = counts (g.K.Sink.faults c.args.sink.now) (g.K.Sink.faults c.run_lines-ending.new.sink) in
-    let bay = counts (g.B.Bay.faults c.args.bay.now) (g.B.Bay.faults c.run_lines-ending.new.bay) in
+    let bay = refusals (refusals_of (g.B.Bay.past c.args.bay.now)) (refusals_of (g.B.Bay.past c.run_lines-ending.new.bay)) in
     let ledger = ledger_of g.B.Bay c.args.bay.now in
     let closed = ledger_of g.B.Bay c.close.new.bay in
-    let sure : IsTrue g.B.Bay.faultless → CameBackFaultless closed.returned = λ t. g.met.B.Bay.came_back c.close.new.bay t in
     let settle : (t : Told) → Owes ledger (ledger_of g.B.Bay c.run_lines-ending.new.bay) (λ harms. AreReached harms (return_of g.B.Dev.Disk listed chronicled c.run_lines-ending.new.session.part)) t → EachBack ledger closed t =
     λ t owes. Deals-settled _ _ _ t.ended _ t.names owes.deals (c.close.ensures.back t.own owes.reached) c.close.ensures.names in
-    let ends = Ends-settled source sink bay (unread g.S.Source.left reader) (g.K.Sink.taken c.args.sink.now) (g.K.Sink.taken c.run_lines-ending.new.sink) _ (DevicesBack g.B.Bay.faultless ledger closed)
-    _ (DevicesWanting g.B.Bay.faultless ledger closed) (λ t owes. settles g.B.Bay.faultless ledger closed sure t (settle t owes))
-    (λ left given t wants. settles_more g.B.Bay.faultless ledger closed sure t left given
-    (either-both (settle t) (λ gave. gave_settled g.B.Dev.Disk listed chronicled c.run_lines-ending.new.session _ _ _ left given t c.close.ensures.back c.close.ensures.names gave.0 gave.1) wants)) c.run_lines-ending.result c.run_lines-ending.ensures.ends in
-    rw (back, c.close.ensures.faults, ← c.with_buffer-reader.ensures.now)
-    (subst (λ (first : Option (List ℕ)). Ends first (g.K.Sink.taken c.args.sink.now) (g.K.Sink.taken c.run_lines-ending.new.sink) source sink bay (DevicesBack g.B.Bay.faultless ledger closed) (DevicesWanting g.B.Bay.faultless ledger closed) c.run_lines-ending.result)
-    (prepend-nothing (held reader) _ (c.with_buffer-reader.ensures.held ∙ c.in-Ok.ensures)) ends)
+    let ends = Ends-settled bay (g.S.Source.reads (source_of reader).now) (g.S.Source.reads (source_of after).now) (g.K.Sink.writes c.args.sink.now) (g.K.Sink.writes c.run_lines-ending.new.sink) _ (EachBack ledger closed)
+    _ (EachBackOrMore ledger closed) settle
+    (λ held given t wants. either-both (settle t) (λ gave. gave_settled g.B.Dev.Disk listed chronicled c.run_lines-ending.new.session _ _ _ held given t c.close.ensures.back c.close.ensures.names gave.0 gave.1) wants) c.run_lines-ending.result c.run_lines-ending.ensures.ends in
+    rw (back, c.close.ensures.refusals, ← c.with_buffer-reader.ensures.now) ends
+
+pub returns-clause-reads : goal.returns-clause-reads
+returns-clause-reads g c =
+    let after = c.run_lines-ending.new.reader in
+    let back : c.source-1.given.0 ≡ (source_of after).now =
+    c.source-1.given.1 (sym c.with_buffer-reader.ensures.source ∙ sym c.run_lines-ending.ensures.source ∙ sym c.into_source-source.ensures.source) ∙ c.into_source-source.ensures.now in
+    rw (back, ← c.with_buffer-reader.ensures.now) c.run_lines-ending.ensures.reads
+
+pub returns-clause-source : goal.returns-clause-source
+returns-clause-source g c =
+    let after = c.run_lines-ending.new.reader in
+    let back : c.source-1.given.0 ≡ (source_of after).now =
+    c.source-1.given.1 (sym c.with_buffer-reader.ensures.source ∙ sym c.run_lines-ending.ensures.source ∙ sym c.into_source-source.ensures.source) ∙ c.into_source-source.ensures.now in
+    rw (back, ← c.with_buffer-reader.ensures.now) c.run_lines-ending.ensures.draws
+
+pub returns-in_default-clause-source : goal.returns-in_default-clause-source
+returns-in_default-clause-source g c = draws_nothing g.S.Source.reads g.S.Source.left c.args.source.now
+
+pub returns-in_default-clause-sink : goal.returns-in_default-clause-sink
+returns-in_default-clause-sink g c = ([], refl)
+
+pub returns-in_default-clause-order : goal.returns-in_default-clause-order
+returns-in_default-clause-order g c = none_back _ [] _ _ refl (none_out (g.B.Bay.past c.args.bay.now))
+
+pub returns-clause-order : goal.returns-clause-order
+returns-clause-order g c =
+    let past = g.B.Bay.past c.args.bay.now in
+    let none = none_own g.B.Dev.Disk listed chronicled c.begin-session.result.part c.begin-session.ensures.devices in
+    order_then _ _ _ _ _ _ c.run_lines-ending.ensures.order (order_closed _ [] _ _ (c.close.ensures.order [])) _
+    (subst (λ (own : List Device). AreLast (length (gifts_of past)) own past) (sym none) (none_out past))
+
+pub returns-clause-refusals : goal.returns-clause-refusals
+returns-clause-refusals g c = λ other. c.close.ensures.refusals ∙ c.run_lines-ending.ensures.refusals other

@@ -1,16 +1,16 @@
-use Rattle.std.proofs.Common.{List, [], ℕ, Option, Result, Ok, Err, inl, inr, sym, take, drop, take-append-drop}
-use Rattle.std.specs.Prelude.{OnErr}
-use Rattle.edge_io.specs.Causes.{Rose}
-use Rattle.edge_io.specs.Streams.{WritesAll}
-use Rattle.cache_tool.specs.Story.{Counts, counts}
+use Rattle.std.proofs.Common.{List, [], ℕ, Result, Ok, Err, inl, inr}
+use Rattle.device_log.specs.Streams.{SinkWrite}
+use Rattle.edge_io.specs.Sink.{NotesWrite}
 use Rattle.cache_tool.specs.Top.{WentOut}
+use Rattle.cache_tool.proofs.Halts.{note_grows, sends_piece, took_piece}
 use Rattle.cache_tool.proofs.top.send.Goals as goal
 
-went_out : {T E : Type 0} (old new : Option (List ℕ)) (sink : Counts) (piece : List ℕ) (r : Result T E) → WritesAll old new r piece → OnErr r (Rose sink.before sink.now) → WentOut old new sink [] piece
-went_out old new sink piece (Ok x) writes rose = inl writes
-went_out old new sink piece (Err e) writes rose = inr (rose, record { front = take writes.0 piece; rest = drop writes.0 piece; split = sym (take-append-drop writes.0 piece); appends = writes.2 })
+went_out : {T E : Type 0} (old new : List SinkWrite) (piece : List ℕ) (r : Result T E) → NotesWrite old new r piece → WentOut old new [] piece
+went_out old new piece (Ok x) notes = inl (took_piece old new piece notes)
+went_out old new piece (Err e) notes = inr (sends_piece old new piece notes)
 
 pub returns-clause-out : goal.returns-clause-out
-returns-clause-out g c =
-    let sink = counts (g.K.Sink.faults c.args.sink.now) (g.K.Sink.faults c.write_all.new.self) in
-    went_out _ _ sink c.args.text.now c.write_all.result (rw c.as_bytes.ensures.value at c.write_all.ensures.bytes) c.write_all.ensures.cause.failed
+returns-clause-out g c = went_out _ _ c.args.text.now c.write_all.result (rw c.as_bytes.ensures.value at c.write_all.ensures)
+
+pub returns-clause-grows : goal.returns-clause-grows
+returns-clause-grows g c = note_grows _ _ _ c.write_all.result c.write_all.ensures
