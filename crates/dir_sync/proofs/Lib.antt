@@ -3,3 +3,4 @@ pub mod Stages
 pub mod Passes
 pub mod Syncs
 pub mod Writings
+pub mod Others

@@ -29,7 +29,8 @@ past_put a side body p n old = past_behind (body_calls a side body p n) (past_sh
 abbrev pub past_done : Area → Side → List ℕ → Progress → ℕ → List Call → List Call
 past_done a side body p n old = past_behind (last_calls a side p n) (past_put a side body p n old)
 
--- the next blocks were written, or a call failed: of the gate that shuts, of the body, of the gate that opens
+-- the next blocks were written, or a call failed: of the gate that shuts, of the body, of the gate
+-- that opens
 abbrev pub IsWriting : Area → Side → List ℕ → Progress → ℕ → List Call → List Call → Type 0
 IsWriting a side body p n old new =
     MadeSome (first_calls side p) old new
@@ -75,8 +76,8 @@ ShutStands =
     → (shut ≡ true → IsShut side (seen_of first old))
     → Stands a side body begun_pass settled first (past_behind (shutting_calls side shut) old)
 
--- while the body is written and the gate opened, a cut leaves the copy shut or whole, and all beside
--- it as it could
+-- while the body is written and the gate opened, a cut leaves the copy shut or whole, and all
+-- beside it as it could
 abbrev pub WritingReplaces : Type 0
 WritingReplaces =
     (a : Area) (side : Side) (body : List ℕ) (p : Progress) (n : ℕ) (settled : Bool) (first : Image)

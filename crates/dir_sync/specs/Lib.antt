@@ -2,10 +2,15 @@ pub mod SyncCalls
 pub mod Moments
 pub mod Laws
 pub mod Passes
+pub mod RunState
 pub mod Runs
+pub mod RunLaws
 pub use Rattle.device_log.specs.Image
 pub use Rattle.device_log.specs.Calls
+pub use Rattle.device_log.specs.Seen
+pub use Rattle.device_log.specs.Faults
 pub use Rattle.device_log.specs.Along
 pub use Rattle.stripe_header.specs.Layout
 pub use Rattle.stripe_header.specs.Spelling
+pub use Rattle.stripe_header.specs.Reading
 pub use Rattle.logged_disk.specs.Device

@@ -8,6 +8,6 @@ mod run;
 #[cfg(test)]
 mod tests;
 
-pub use laws::a_copy_is_shut_or_whole;
+pub use laws::{a_copy_is_shut_or_whole, runs_go_on};
 pub use progress::Progress;
 pub use run::{SyncFault, SyncRun, SyncState};

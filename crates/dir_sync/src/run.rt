@@ -1,19 +1,19 @@
 // A sync of the directory into one of its copies.
-ghost use Rattle.std.specs.Prelude.{◌≡◌, ◌≤◌, ◌<◌, ◌+◌, ◌-◌, ◌*◌, ◌/◌, ◌⊎◌, length, true, false, min, OnOk, OnErr, IfOk, IfErr};
-ghost use Rattle.logged_disk.specs.Device.{Keeps, Leaves, Elapses, seen};
-ghost use Rattle.device_log.specs.Along.{ButFor, Stopped};
-ghost use Rattle.stripe_header.specs.Layout.{device_blocks, body_blocks, gate_of};
-ghost use Rattle.stripe_header.specs.Spelling.{numbers_of, copy_bytes};
-ghost use Rattle.stripe_header.specs.Reading.{bytes_at};
+ghost use Rattle.std.specs.Prelude.{◌≡◌, ◌≤◌, ◌<◌, ◌+◌, ◌*◌, length, true, min, OnOk, OnErr, IfOk, IfErr};
+ghost use Rattle.logged_disk.specs.Device.{Keeps, Leaves, Elapses};
+ghost use Rattle.device_log.specs.Along.{Stopped};
+ghost use Rattle.stripe_header.specs.Layout.{device_blocks, body_blocks};
 ghost use Rattle.dir_sync.specs.SyncCalls.{shutting_calls, past_behind};
-ghost use Rattle.dir_sync.specs.Moments.{IsShut, IsReplaced, Stands};
+ghost use Rattle.dir_sync.specs.Moments.{IsReplaced};
 ghost use Rattle.dir_sync.specs.Passes.{StandsOn, SparesBeside, OpenedOn, pass_after};
-ghost use Rattle.dir_sync.specs.Laws.{past_done, begun_pass, pass_behind, given_up, Halts};
+ghost use Rattle.dir_sync.specs.Laws.{past_done, begun_pass, Halts};
+ghost use Rattle.dir_sync.specs.Runs.{RunKeeps, BeginKeeps, RunStands, IsBegun, ComesBack, IsToldRight, WentOn, Halted, CanBeginAgain, IfRunning, left_of, answer_of};
 
 use crate::parts::{Halt, put_body, put_first, put_last, shut_gate};
 use crate::progress::Progress;
 use edge_io::Failed;
 use logged_disk::Disk;
+use std::marker::Model;
 use stripe_header::{Area, CopyState, Side, write_body};
 
 // The blocks that a step writes at most.
@@ -95,9 +95,8 @@ fn bar<D: Disk>(
         ≡ past_behind (shutting_calls side shut) (D.state disk.old).past) }
     ensures stopped { OnErr result (Stopped (shutting_calls side shut)
         (D.state disk.new).faults (D.state disk.old).past (D.state disk.new).past) }
-    ensures moments { Elapses (ButFor (gate_of side) 1 (Leaves (D.state disk.old)))
-        (D.state disk.old) (D.state disk.new) }
-    ensures stands { (shut ≡ true → IsShut side (seen (D.state disk.old)))
+    ensures holds { BeginKeeps area.now side shut (D.state disk.old) (D.state disk.new) }
+    ensures stands { IsToldRight side shut (D.state disk.old)
         → OnOk result (StandsOn area.now side body.now begun_pass (D.state disk.new)) }
 {
     shut_gate(disk, side, shut)
@@ -125,16 +124,27 @@ pub struct SyncRun {
     state: CopyState,
     body: Vec<u8>,
     progress: Progress,
-    ghost whole: { length body.items ≡ 512 * body_blocks area },
-    ghost begun: { progress.begun ≡ true → progress.shut ≡ true },
-    ghost within: { progress.written ≤ body_blocks area },
+}
+
+impl Model for SyncRun {
+    ghost use Rattle.dir_sync.specs.RunState.{RunState, IsRunState};
+
+    ghost Value = { RunState };
+
+    ghost view = { λ r. record {
+      area = r.area;
+      side = r.target;
+      state = r.state;
+      body = r.body.items;
+      progress = r.progress;
+    } };
+
+    ghost invariant = { λ r. IsRunState r.area r.body.items r.progress };
 }
 
 impl SyncRun {
-    ghost use Rattle.dir_sync.specs.Runs.{IsSameSync, RunStands, IsBegun, WentOn, Halted, left_of, answer_of};
-
     /// Spells the copy and shuts its gate. The body has its directory in place. After a failure it
-    /// comes back, and the gate is known to be shut where it was.
+    /// comes back, to begin again with it and with the same word on the gate.
     pub fn begin<D: Disk>(
         disk: &mut D,
         area: &Area,
@@ -148,19 +158,16 @@ impl SyncRun {
         requires calls { 2 ≤ (D.state disk.old).calls }
         requires blocks { 1 ≤ (D.state disk.old).blocks }
         ensures keeps { Keeps 2 1 (D.state disk.old) (D.state disk.new) }
+        ensures holds { BeginKeeps area.now target shut (D.state disk.old) (D.state disk.new) }
         ensures run { IfOk result (λ run. IsBegun area.now target state body.items run
             × ((D.state disk.new).past
             ≡ past_behind (shutting_calls target shut) (D.state disk.old).past)) }
-        ensures back { IfErr result (λ e. (e.1.items ≡ copy_bytes 2 (numbers_of area.now.geometry)
-            state (bytes_at 512 (length body.items - 1024) body.items))
-            × Stopped (shutting_calls target shut) e.0.count
+        ensures stands { IsToldRight target shut (D.state disk.old)
+            → IfOk result (λ run. RunStands run (D.state disk.new)) }
+        ensures halts { IfErr result (λ e. Stopped (shutting_calls target shut) e.0.count
             (D.state disk.old).past (D.state disk.new).past
             × (e.0.count ≡ (D.state disk.new).faults)) }
-        ensures moments { Elapses (ButFor (gate_of target) 1 (Leaves (D.state disk.old)))
-            (D.state disk.old) (D.state disk.new) }
-        // Where a gate that is told to be shut was seen shut.
-        ensures stands { (shut ≡ true → IsShut target (seen (D.state disk.old)))
-            → IfOk result (λ run. RunStands run (D.state disk.new)) }
+        ensures back { IfErr result (λ e. ComesBack area.now state body.items e.1.items) }
     {
         let mut body = body;
         write_body(&area.geometry, &state, &mut body);
@@ -193,21 +200,13 @@ impl SyncRun {
         requires calls { 6 ≤ (D.state disk.old).calls }
         requires blocks { n + 2 ≤ (D.state disk.old).blocks }
         ensures keeps { Keeps 6 (n + 2) (D.state disk.old) (D.state disk.new) }
-        ensures same { IsSameSync self.old self.new }
+        ensures holds { RunKeeps self.old self.new (D.state disk.old) (D.state disk.new) }
         ensures went { OnOk result (WentOn self.old self.new n
             (D.state disk.old).past (D.state disk.new).past) }
         ensures halts { IfErr result (λ f. Halted self.old self.new n f.count
             (D.state disk.old).past (D.state disk.new).past
             × (f.count ≡ (D.state disk.new).faults)) }
-        ensures moments { RunStands self.old (D.state disk.old)
-            → Elapses (IsReplaced self.old.area self.old.target self.old.body.items
-            (Leaves (D.state disk.old))) (D.state disk.old) (D.state disk.new) }
-        ensures stands { RunStands self.old (D.state disk.old)
-            → RunStands self.new (D.state disk.new) }
-        ensures spares { SparesBeside self.old.area self.old.target
-            (D.state disk.old) (D.state disk.new) }
-        ensures opens { n ≡ left_of self.old
-            → OnOk result (OpenedOn self.old.target (D.state disk.new)) }
+        ensures again { OnErr result (CanBeginAgain self.old self.new) }
     {
         match advance(disk, &self.area, self.target, &self.body, self.progress, n) {
             Ok(()) => {
@@ -239,23 +238,16 @@ impl SyncRun {
         requires blocks { min 64 (left_of self.old) + 2 ≤ (D.state disk.old).blocks }
         ensures keeps { Keeps 6 (min 64 (left_of self.old) + 2)
             (D.state disk.old) (D.state disk.new) }
-        ensures same { IsSameSync self.old self.new }
+        ensures holds { RunKeeps self.old self.new (D.state disk.old) (D.state disk.new) }
         ensures went { IfOk result (λ s. (s ≡ answer_of self.new)
             × WentOn self.old self.new (min 64 (left_of self.old))
             (D.state disk.old).past (D.state disk.new).past) }
+        ensures fewer { IfOk result (λ s. IfRunning s (λ left. left + 64 ≡ left_of self.old)) }
         ensures halts { IfErr result (λ f.
             Halted self.old self.new (min 64 (left_of self.old)) f.count
             (D.state disk.old).past (D.state disk.new).past
             × (f.count ≡ (D.state disk.new).faults)) }
-        ensures moments { RunStands self.old (D.state disk.old)
-            → Elapses (IsReplaced self.old.area self.old.target self.old.body.items
-            (Leaves (D.state disk.old))) (D.state disk.old) (D.state disk.new) }
-        ensures stands { RunStands self.old (D.state disk.old)
-            → RunStands self.new (D.state disk.new) }
-        ensures spares { SparesBeside self.old.area self.old.target
-            (D.state disk.old) (D.state disk.new) }
-        ensures opens { left_of self.old ≤ 64
-            → OnOk result (OpenedOn self.old.target (D.state disk.new)) }
+        ensures again { OnErr result (CanBeginAgain self.old self.new) }
     {
         let next = self.left().min(STEP);
         match self.go_on(disk, next) {
@@ -271,21 +263,15 @@ impl SyncRun {
         requires calls { 6 ≤ (D.state disk.old).calls }
         requires blocks { left_of self.old + 2 ≤ (D.state disk.old).blocks }
         ensures keeps { Keeps 6 (left_of self.old + 2) (D.state disk.old) (D.state disk.new) }
-        ensures same { IsSameSync self.old self.new }
+        ensures holds { RunKeeps self.old self.new (D.state disk.old) (D.state disk.new) }
         ensures went { IfOk result (λ serial. (serial ≡ self.old.state.serial)
             × WentOn self.old self.new (left_of self.old)
             (D.state disk.old).past (D.state disk.new).past) }
+        ensures done { OnOk result (left_of self.new ≡ 0) }
         ensures halts { IfErr result (λ f. Halted self.old self.new (left_of self.old) f.count
             (D.state disk.old).past (D.state disk.new).past
             × (f.count ≡ (D.state disk.new).faults)) }
-        ensures moments { RunStands self.old (D.state disk.old)
-            → Elapses (IsReplaced self.old.area self.old.target self.old.body.items
-            (Leaves (D.state disk.old))) (D.state disk.old) (D.state disk.new) }
-        ensures stands { RunStands self.old (D.state disk.old)
-            → RunStands self.new (D.state disk.new) }
-        ensures spares { SparesBeside self.old.area self.old.target
-            (D.state disk.old) (D.state disk.new) }
-        ensures opens { OnOk result (OpenedOn self.old.target (D.state disk.new)) }
+        ensures again { OnErr result (CanBeginAgain self.old self.new) }
     {
         let left = self.left();
         match self.go_on(disk, left) {
@@ -321,7 +307,7 @@ impl SyncRun {
     }
 
     pub fn into_body(self) -> Vec<u8>
-        ensures { result.items ≡ self.body.items }
+        ensures { result.items ≡ self.body }
     {
         self.body
     }

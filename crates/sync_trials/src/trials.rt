@@ -1,0 +1,166 @@
+// One sync, with a fault or without one, a stop behind so many calls, and a power cut.
+ghost use Rattle.std.specs.Prelude.{◌≡◌, ◌≤◌, ◌<◌, ◌*◌, length, IfOk};
+ghost use Rattle.stripe_header.specs.Layout.{body_blocks, device_blocks};
+ghost use Rattle.logged_disk.specs.MemDisk.{mem_state};
+
+use crate::devices::{CopyFound, find_copy, lay_copy};
+use crate::stripes::{Stripe, Way, bare_body};
+use crate::syncing::{begin_sync, go_on};
+use device_log::CutChoice;
+use dir_sync::SyncRun;
+use logged_disk::{Disk, MemDisk, PowerDisk};
+use std::alloc::{AllocError, Global};
+use stripe_header::Side;
+
+/// Which copy is replaced, in which way, behind how many calls all fail, and how the power is cut.
+#[derive(Clone, Copy)]
+pub struct Trial {
+    pub side: Side,
+    pub way: Way,
+    pub calls: u64,
+    pub choice: CutChoice,
+}
+
+/// Whether the sync came to its end, and what stands of its copy and of the other one.
+#[derive(Clone, Copy, PartialEq, Eq)]
+pub struct Report {
+    pub done: bool,
+    pub this: Option<CopyFound>,
+    pub other: Option<CopyFound>,
+}
+
+// A device with the two copies of the stripe.
+fn device_with(alloc: Global, stripe: &Stripe, side: Side) -> Result<MemDisk, AllocError>
+    ensures size { IfOk result (λ disk. (mem_state disk).size ≡ device_blocks stripe.now.area) }
+{
+    let mut disk = MemDisk::new(alloc, 0, stripe.area.blocks());
+    lay_copy(&mut disk, &stripe.area, side, &stripe.old)?;
+    lay_copy(&mut disk, &stripe.area, side.other(), &stripe.other)?;
+    Ok(disk)
+}
+
+// All calls behind so many fail.
+fn stop_behind(disk: &mut MemDisk, calls: u64) -> Result<(), AllocError>
+    ensures size { (mem_state disk.new).size ≡ (mem_state disk.old).size }
+{
+    disk.make_room(1, 0)?;
+    disk.stop_after(calls);
+    Ok(())
+}
+
+// The nth call from now on fails.
+fn fail_at(disk: &mut MemDisk, nth: u64) -> Result<(), AllocError>
+    requires { 0 < nth }
+    ensures size { (mem_state disk.new).size ≡ (mem_state disk.old).size }
+{
+    disk.make_room(1, 0)?;
+    disk.fail(nth);
+    Ok(())
+}
+
+// The power is cut, and both copies are looked at.
+fn look(
+    alloc: Global,
+    disk: &mut MemDisk,
+    stripe: &Stripe,
+    trial: &Trial,
+    done: bool,
+) -> Result<Report, AllocError>
+    requires within { device_blocks stripe.now.area ≤ (mem_state disk.old).size }
+{
+    disk.make_room(1, 0)?;
+    disk.cut(trial.choice);
+    let area = &stripe.area;
+    let other = trial.side.other();
+    Ok(Report {
+        done,
+        this: find_copy(alloc, disk, area, trial.side, &stripe.old, &stripe.new)?,
+        other: find_copy(alloc, disk, area, other, &stripe.other, &stripe.new)?,
+    })
+}
+
+// Begins a sync and goes on with it; whether it came to its end.
+fn sync_once(
+    disk: &mut MemDisk,
+    stripe: &Stripe,
+    trial: &Trial,
+    body: Vec<u8>,
+) -> Result<bool, AllocError>
+    requires whole { length body.items ≡ 512 * body_blocks stripe.now.area }
+    requires within { device_blocks stripe.now.area ≤ (mem_state disk.old).size }
+    ensures size { (mem_state disk.new).size ≡ (mem_state disk.old).size }
+{
+    match begin_sync(disk, &stripe.area, trial.side, body)? {
+        Err(_) => Ok(false),
+        Ok(run) => {
+            let mut run = run;
+            go_on(disk, &stripe.area, &mut run, trial.way)
+        }
+    }
+}
+
+/// A sync that stops behind so many calls, and a power cut.
+pub fn cut_behind(alloc: Global, stripe: &Stripe, trial: &Trial) -> Result<Report, AllocError> {
+    let mut disk = device_with(alloc, stripe, trial.side)?;
+    let body = bare_body(alloc, &stripe.area, 5)?;
+    stop_behind(&mut disk, trial.calls)?;
+    let done = sync_once(&mut disk, stripe, trial, body)?;
+    look(alloc, &mut disk, stripe, trial, done)
+}
+
+// Goes on with a sync that was begun, and once more where a call fails, but then stops behind so
+// many calls; whether it came to its end.
+fn go_on_twice(
+    disk: &mut MemDisk,
+    stripe: &Stripe,
+    trial: &Trial,
+    run: SyncRun,
+) -> Result<bool, AllocError>
+    requires area { run.area ≡ stripe.now.area }
+    requires within { device_blocks stripe.now.area ≤ (mem_state disk.old).size }
+    ensures size { (mem_state disk.new).size ≡ (mem_state disk.old).size }
+{
+    let mut run = run;
+    if go_on(disk, &stripe.area, &mut run, trial.way)? {
+        return Ok(true);
+    }
+    stop_behind(disk, trial.calls)?;
+    go_on(disk, &stripe.area, &mut run, trial.way)
+}
+
+// The same from the beginning on.
+fn sync_twice(
+    disk: &mut MemDisk,
+    stripe: &Stripe,
+    trial: &Trial,
+    body: Vec<u8>,
+) -> Result<bool, AllocError>
+    requires whole { length body.items ≡ 512 * body_blocks stripe.now.area }
+    requires within { device_blocks stripe.now.area ≤ (mem_state disk.old).size }
+    ensures size { (mem_state disk.new).size ≡ (mem_state disk.old).size }
+{
+    match begin_sync(disk, &stripe.area, trial.side, body)? {
+        Ok(run) => go_on_twice(disk, stripe, trial, run),
+        Err(back) => {
+            stop_behind(disk, trial.calls)?;
+            sync_once(disk, stripe, trial, back)
+        }
+    }
+}
+
+/// A sync of which the nth call fails, that is begun again and stops behind so many calls more, and
+/// a power cut.
+pub fn cut_behind_restart(
+    alloc: Global,
+    stripe: &Stripe,
+    trial: &Trial,
+    nth: u64,
+) -> Result<Report, AllocError>
+    requires { 0 < nth }
+{
+    let mut disk = device_with(alloc, stripe, trial.side)?;
+    let body = bare_body(alloc, &stripe.area, 5)?;
+    fail_at(&mut disk, nth)?;
+    let done = sync_twice(&mut disk, stripe, trial, body)?;
+    look(alloc, &mut disk, stripe, trial, done)
+}
