@@ -1,16 +1,22 @@
 -- An accepted span is spelled as one is written, and what is spelled so is accepted.
-use Rattle.std.proofs.Common.{◌≡◌, ◌≤◌, ◌<◌, ◌+◌, ◌^◌, ◌⊎◌, inl, inr, ℕ, Bool, true, false, List, ◌++◌, length, Option, None, Result, Ok, Err, refl, sym, ap, subst, ◌∙◌, append_assoc, arith}
-use Rattle.std.specs.Prelude.{codes, not, nat_lt, ◌==◌, ◌||◌, IfOk, replicate, if◌then◌else◌}
+use Rattle.std.proofs.Common.{◌≡◌, ◌≤◌, ◌<◌, ◌+◌, ◌-◌, ◌^◌, ◌⊎◌, inl, inr, ℕ, zero, suc, Bool, true, false, List, ◌++◌, length, Option, None, Result, Ok, Err, refl, sym, ap, subst, ◌∙◌, append_assoc, arith}
+use Rattle.std.specs.Prelude.{◌*◌, ◌/◌, codes, not, nat_lt, ◌==◌, ◌||◌, IfOk, replicate, if◌then◌else◌}
 use Rattle.std.specs.Int.{w32, w64, to_le_bytes}
 use Rattle.std.specs.Str.{bytes_eq}
 use Rattle.std.proofs.lemmas.Bool.{eqb-true, and_parts, ltb-false, le-ltb}
 use Rattle.std.proofs.lemmas.List.{take_at}
+use Rattle.std.proofs.Math.Dec.{eqb-suc-zero}
 use Rattle.sha2.specs.Sha256.{sha256}
 use Rattle.stripe_header.specs.declared.states.Span.{Span}
 use Rattle.stripe_header.specs.declared.states.SpanFault.{SpanFault}
 use Rattle.stripe_header.specs.Spelling.{Numbers, numbers_of, spelled_alternates, span_fields, span_bytes}
 use Rattle.stripe_header.specs.Reading.{bytes_at, is_version, version_in, span_numbers, span_blocks, are_accepted, is_laid, seal_fault, span_fault, SpanAnswers}
 use Rattle.stripe_header.specs.Accepted.{IsSpan, FitsFields}
+use Rattle.stripe_header.specs.Layout.{stripe_blocks}
+use Rattle.stripe_header.specs.declared.area.Area.{Area}
+use Rattle.tape_base.specs.declared.geometries.Geometry.{Geometry}
+use Rattle.tape_base.specs.Limits.{is_outside}
+use Rattle.tape_base.specs.Blocks.{blocks_of}
 use Rattle.stripe_header.proofs.CopyLaws.{not_none, neither, kept_none, same, equal, not_false, length-sha256, number_64_is, number_32_is}
 
 -- ---- what is accepted is spelled so
@@ -144,3 +150,51 @@ is_again bytes r given version n blocks f s =
     subst (λ (k : ℕ). SpanAnswers r None n k) read.blocks_read
     (subst (λ (m : Numbers). SpanAnswers r None m (span_blocks bytes)) read.numbers_read
     (subst (λ (x : Option SpanFault). SpanAnswers r x (span_numbers bytes) (span_blocks bytes)) read.faultless given))
+
+-- ---- what is written is a span
+
+-- a number from the least that may be to the most is inside
+inside : (least most n : ℕ) → least ≤ n → n ≤ most → is_outside least most n ≡ false
+inside least most n low high = rw (le-ltb n least low, le-ltb most n high) refl
+
+some_is_not_none : (n : ℕ) → 1 ≤ n → (n == 0) ≡ false
+some_is_not_none zero h = absurd (omega (arith, h))
+some_is_not_none (suc n) h = eqb-suc-zero n
+
+-- no number of a geometry is refused
+are_fit : (g : Geometry) → are_accepted (numbers_of g) ≡ true
+are_fit g = rw (
+  inside 1 4096 g.segments g.accepted.segments_fit.0 g.accepted.segments_fit.1,
+  inside 1 16383 g.buckets g.accepted.buckets_fit.0 g.accepted.buckets_fit.1,
+  inside 8 8192 g.agg g.accepted.agg_fits.0 g.accepted.agg_fits.1,
+  ap (λ k. k == 1) g.accepted.agg_fits.2,
+  inside (4 * g.agg) (2 ^ 40 - 1) g.content g.accepted.content_fits.0 (omega (arith, g.accepted.content_fits.1)),
+  inside g.agg (2 ^ 40 - 1) g.reach g.accepted.reach_fits.0 (omega (arith, g.accepted.reach_fits.1)),
+  some_is_not_none g.fragment g.accepted.fragment_fits.0,
+  le-ltb (g.agg / 2) (blocks_of g.fragment) g.accepted.fragment_fits.1,
+  inside 1 16 g.alternates g.keeps.some g.keeps.few,
+) refl
+
+pub written : (a : Area) (bytes : List ℕ) → bytes ≡ span_bytes 2 (numbers_of a.geometry) (stripe_blocks a) → IsSpan bytes 2 (numbers_of a.geometry) (stripe_blocks a)
+written a bytes h = record {
+  accepted = are_fit a.geometry;
+  room = omega arith;
+  of_version = inl refl;
+  spelled = h;
+}
+
+-- the numbers of a geometry have fields
+pub have_fields : (a : Area) → a.geometry.fragment < 2 ^ 32 → a.geometry.generation < 2 ^ 64 → stripe_blocks a < 2 ^ 64 → FitsFields (numbers_of a.geometry) (stripe_blocks a)
+have_fields a fragment generation count =
+    let g = a.geometry.accepted in
+    record {
+      segments = omega (arith, g.segments_fit.1);
+      buckets = omega (arith, g.buckets_fit.1);
+      agg = omega (arith, g.agg_fits.1);
+      fragment = fragment;
+      alternates = omega (arith, a.geometry.keeps.few);
+      content = omega (arith, g.content_fits.1);
+      reach = omega (arith, g.reach_fits.1);
+      generation = generation;
+      count = count;
+    }

@@ -74,10 +74,17 @@ fn put_span(into: &mut [u8], version: u32, g: &Geometry, blocks: u64)
 }
 
 /// Writes the span of a stripe.
+#[tactic(auto, using(crate::proofs::SpanLaws::have_fields))]
 pub fn write_span(area: &Area, into: &mut [u8; 512])
     ensures bytes { into.new ≡ span_bytes 2 (numbers_of area.now.geometry)
         (stripe_blocks area.now) }
+    // So `read_span` accepts it.
+    ensures span { IsSpan into.new 2 (numbers_of area.now.geometry) (stripe_blocks area.now) }
+    ensures fits { FitsFields (numbers_of area.now.geometry) (stripe_blocks area.now) }
 {
+    // Each of these has a field that can spell it.
+    let _fragment = area.geometry.fragment;
+    let _generation = area.geometry.generation;
     put_span(into, VERSION, &area.geometry, area.stripe_blocks());
 }
 
