@@ -1,5 +1,5 @@
 // One segment: what an entry pushes out.
-ghost use Rattle.std.specs.Prelude.{◌≡◌, ◌<◌, length};
+ghost use Rattle.std.specs.Prelude.{◌≡◌, ◌<◌, [], length};
 ghost use Rattle.dir_entry.specs.Layout.{IsEntry};
 ghost use Rattle.dir_segment.specs.Entries.{AreCounted};
 ghost use Rattle.dir_segment.specs.Lists.{unlinked};
@@ -9,6 +9,17 @@ ghost use Rattle.packed_directory.specs.Entering.{TakesIn};
 use crate::beside::Beside;
 use dir_entry::Entry;
 use dir_segment::{Inserted, PurgeList, Segment, clean_keeps, insert_enters};
+
+// Forgets the last purge. Where none took anything nothing is done: to clear the marks costs as much
+// as the segment has slots, and each insert comes here.
+fn forget(out: &mut PurgeList)
+    ensures empty { out.new.entries ≡ [] }
+    ensures buckets { out.new.buckets ≡ out.old.buckets }
+{
+    if out.len() > 0 {
+        out.clear();
+    }
+}
 
 /// Puts an entry into a segment, and says whether a tenth of the others had to go first.
 pub fn take_in(segment: &mut Segment, bucket: u32, entry: Entry, out: &mut PurgeList) -> bool
@@ -23,7 +34,7 @@ pub fn take_in(segment: &mut Segment, bucket: u32, entry: Entry, out: &mut Purge
 {
     insert_enters();
     segment.is_counted();
-    out.clear();
+    forget(out);
     match segment.insert(bucket, entry) {
         Inserted::Inserted => false,
         Inserted::Full => {

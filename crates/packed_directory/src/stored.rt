@@ -10,6 +10,7 @@ ghost use Rattle.packed_directory.specs.declared.fault.ImageFault.TheVariants.{S
 ghost use Rattle.packed_directory.specs.declared.walks.AllWalk.{AllWalk as AllWalkValue};
 ghost use Rattle.dir_table.specs.declared.rows.StoredRow.{StoredRow};
 ghost use Rattle.dir_table.specs.Candidates.{GivesFirst};
+ghost use Rattle.dir_table.specs.Displacement.{none_displaced};
 ghost use Rattle.dir_table.specs.Rows.{has_row, plain_rows, LosesPlain};
 ghost use Rattle.dir_table.specs.Wrap.{stored_from};
 ghost use Rattle.packed_directory.specs.Phases.{IsCursor, least_place};
@@ -78,6 +79,7 @@ pub trait StoredDirectory: Directory + Sized {
             IsPermutation (stored_from floor (means g.now cursor bytes.now)) (Self.rows d)) }
         ensures window { IfOk result (λ d. Self.window d
             ≡ record { geometry = g.now; cursor = cursor; floor = floor; end = cursor }) }
+        ensures displaced { IfOk result (λ d. Self.displaced d ≡ none_displaced) }
         ensures sound { OnOk result (is_image g.now bytes.now) }
         ensures fault { IfErr result (refuses g.now bytes.now) };
 
@@ -104,7 +106,9 @@ pub trait StoredDirectory: Directory + Sized {
         ensures found { result ≡ has_row row.now (plain_rows (Self.rows self.old)) }
         ensures gone { OnTrue result (LosesPlain row.now (Self.rows self.old) (Self.rows self.new)) }
         ensures none { result ≡ false → Self.rows self.new ≡ Self.rows self.old }
-        ensures window { Self.window self.new ≡ Self.window self.old };
+        ensures window { Self.window self.new ≡ Self.window self.old }
+        ensures displaced { Self.displaced self.new ≡ Self.displaced self.old }
+        ensures spare { Self.spare self.old ≤ Self.spare self.new };
 
     /// No image is refused.
     ghost accepted: { (g : GeometryValue) (bytes : List ℕ) (n : ℕ) (fault : SegmentFaultValue)

@@ -13,8 +13,8 @@ returns-in-Inserted-clause-takes c =
     let b = c.args.bucket in
     let e = c.args.entry in
     let room : IsFull before b → ⊥ = λ q. let no : answers.Inserted ≡ answers.Full = sym c.in-Inserted.is ∙ c.insert.ensures.full.1 q in cc no in
-    subst (λ (q : Lists). TakesIn (in_bucket b (unlinked e)) false c.clear.new.self.entries before q) (sym c.insert.ensures.lists)
-    (taken_in c.insert_enters.ensures.enters before b e c.requires.bucket room c.clear.new.self.entries c.clear.ensures.empty)
+    subst (λ (q : Lists). TakesIn (in_bucket b (unlinked e)) false c.forget.new.out.entries before q) (sym c.insert.ensures.lists)
+    (taken_in c.insert_enters.ensures.enters before b e c.requires.bucket room c.forget.new.out.entries c.forget.ensures.empty)
 
 pub returns-in-Full-clause-takes : goal.returns-in-Full-clause-takes
 returns-in-Full-clause-takes c =
