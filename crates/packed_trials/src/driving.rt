@@ -1,5 +1,5 @@
 // One list of calls, drawn by number, that drives both directories.
-ghost use Rattle.std.specs.Prelude.{◌≡◌, ◌<◌};
+ghost use Rattle.std.specs.Prelude.{◌≡◌};
 
 use crate::taped::{Taped, image_of, read_at};
 use crate::walks::all_rows;
@@ -9,7 +9,7 @@ use std::alloc::{AllocError, Global};
 use tape_base::{Geometry, Key};
 
 // So many keys are drawn from.
-const KEYS: u64 = 300;
+const KEYS: u32 = 300;
 
 /// What was done.
 #[derive(Clone, Copy, Debug, PartialEq, Eq)]
@@ -53,12 +53,12 @@ struct Known {
     number: u32,
 }
 
-// The key of a number: few tags, so that keys share a segment, a bucket and a tag.
-fn key_of(number: u32) -> Key {
-    let word = number as u128;
-    let bucket = (number / 2) as u128;
-    let tag = (number % 3) as u128;
-    Key::new((word | bucket << 32 | tag << 64 | word << 96).to_le_bytes())
+/// The key of a number: few tags, so that keys share a segment, a bucket and a tag.
+pub(crate) fn key_of(number: u32) -> Key {
+    let [a, b, c, d] = number.to_le_bytes();
+    let [e, f, g, h] = (number / 2).to_le_bytes();
+    let [tag, ..] = (number % 3).to_le_bytes();
+    Key::new([a, b, c, d, e, f, g, h, tag, 0, 0, 0, a, b, c, d])
 }
 
 // The next of a row of numbers (Knuth's multiplier for 64 bits).
@@ -67,16 +67,21 @@ fn next_draw(draw: u64) -> u64 {
         .wrapping_add(1_442_695_040_888_963_407)
 }
 
+// The high half of a draw, whose low bits repeat soon.
+fn high(draw: u64) -> u32 {
+    let [.., a, b, c, d] = draw.to_le_bytes();
+    u32::from_le_bytes([a, b, c, d])
+}
+
 // A key's number.
-fn number_of(draw: u64) -> u32
-    ensures { result < 300 }
-{
-    ((draw >> 33) % KEYS) as u32
+fn number_of(draw: u64) -> u32 {
+    high(draw) / 2 % KEYS
 }
 
 // Below a limit, by the high bits of a draw.
 fn below(draw: u64, limit: u64) -> u64 {
-    (draw >> 33).checked_rem(limit).unwrap_or(0)
+    let high = high(draw) as u64 / 2;
+    high.checked_rem(limit).unwrap_or(0)
 }
 
 fn remember(known: &mut Vec<Known>, row: Known) -> Result<(), AllocError> {

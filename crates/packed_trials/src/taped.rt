@@ -4,7 +4,7 @@ ghost use Rattle.dir_table.specs.Window.{IsNext};
 ghost use Rattle.dir_table.specs.Candidates.{candidates_of};
 ghost use Rattle.dir_table.specs.Rows.{plain_rows};
 
-use crate::images::read_image;
+use crate::images::{image_length, read_image};
 use crate::walks::places_of;
 use dir_table::Directory;
 use packed_directory::{ImageFault, PackedDirectory, StoredDirectory};
@@ -122,8 +122,7 @@ pub fn image_of(
     if taped.cursor >= LAST || taped.end > lap_end(g, taped.cursor) {
         return Ok(None);
     }
-    let blocks = PackedDirectory::image_blocks(g);
-    let mut bytes = vec![in alloc; 255; 512 * blocks as usize]?;
+    let mut bytes = vec![in alloc; 255; image_length(g)]?;
     taped.directory.image(taped.end, &mut bytes);
     Ok(Some(bytes))
 }
