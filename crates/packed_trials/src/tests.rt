@@ -140,14 +140,20 @@ fn fills(taped: &mut Taped<PackedDirectory>) -> Result<bool, AllocError> {
     Ok(true)
 }
 
+// One piece more displaces the first and the eleventh behind the root, and no other.
+fn purges(alloc: Global, taped: &mut Taped<PackedDirectory>) -> Result<bool, AllocError> {
+    if !fills(taped)? || !enters(taped, 77, &[65, 75], 13)? {
+        return Ok(false);
+    }
+    let left = [64, 77, 76, 74, 73, 72, 71, 70, 69, 68, 67, 66];
+    has_places(alloc, taped, &left)
+}
+
 #[test]
 fn a_purge_takes_the_first_and_the_eleventh(rt: HostRuntime) -> Result<(), Fail> {
     let g = geometry_of((1, 4, 64, 16, 16, 4))?;
     let mut taped: Taped<PackedDirectory> = Taped::new(rt.alloc(), &g)?;
-    assert!(rt; fills(&mut taped)?);
-    assert!(rt; enters(&mut taped, 77, &[65, 75], 13)?);
-    let left = [64, 77, 76, 74, 73, 72, 71, 70, 69, 68, 67, 66];
-    assert!(rt; has_places(rt.alloc(), &taped, &left)?);
+    assert!(rt; purges(rt.alloc(), &mut taped)?);
     Ok(())
 }
 
@@ -178,19 +184,38 @@ fn has_second(taped: &mut Taped<PackedDirectory>) -> bool {
     once && !others && !taped.delete(key, 128)
 }
 
+// Four buffers, the last of which ends the lap.
+fn goes_round(taped: &mut Taped<PackedDirectory>) -> Result<bool, AllocError> {
+    Ok(
+        turns(taped, 64, 78, 30)?
+            && turns(taped, 78, 92, 44)?
+            && turns(taped, 92, 106, 58)?
+            && turns(taped, 106, 128, 80)?,
+    )
+}
+
+// Behind the turn a piece stands where the first one stood, and goes again.
+fn comes_back(alloc: Global, taped: &mut Taped<PackedDirectory>) -> Result<bool, AllocError> {
+    if !has_places(alloc, taped, &[106, 92])? {
+        return Ok(false);
+    }
+    let again = taped.insert(key_of(0), 14, false, false)?;
+    if again != Some(128) || !has_places(alloc, taped, &[106, 128, 92])? {
+        return Ok(false);
+    }
+    Ok(has_second(taped) && has_places(alloc, taped, &[106, 92])?)
+}
+
+// The first of these, and then the other.
+fn is_turned(alloc: Global, taped: &mut Taped<PackedDirectory>) -> Result<bool, AllocError> {
+    Ok(goes_round(taped)? && comes_back(alloc, taped)?)
+}
+
 #[test]
 fn a_turn_takes_out_what_the_next_lap_would_take_for_its_own(rt: HostRuntime) -> Result<(), Fail> {
     let g = geometry_of((1, 4, 64, 16, 16, 4))?;
     let mut taped: Taped<PackedDirectory> = Taped::new(rt.alloc(), &g)?;
-    assert!(rt; turns(&mut taped, 64, 78, 30)?);
-    assert!(rt; turns(&mut taped, 78, 92, 44)?);
-    assert!(rt; turns(&mut taped, 92, 106, 58)?);
-    assert!(rt; turns(&mut taped, 106, 128, 80)?);
-    assert!(rt; has_places(rt.alloc(), &taped, &[106, 92])?);
-    assert_eq!(rt; taped.insert(key_of(0), 14, false, false)?, Some(128));
-    assert!(rt; has_places(rt.alloc(), &taped, &[106, 128, 92])?);
-    assert!(rt; has_second(&mut taped));
-    assert!(rt; has_places(rt.alloc(), &taped, &[106, 92])?);
+    assert!(rt; is_turned(rt.alloc(), &mut taped)?);
     Ok(())
 }
 
