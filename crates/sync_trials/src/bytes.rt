@@ -3,9 +3,10 @@ use std::alloc::Global;
 use std::test::Fail;
 use tape_base::{Digest, Geometry};
 
-// Bytes in hex, in which a dot is a byte 0.
+// Bytes in hex, in which a dot is a byte 0, and a dash are nine.
 fn bytes_of(alloc: Global, text: &str) -> Result<Vec<u8>, Fail> {
-    let digits = text.replace(alloc, ".", "00")?;
+    let dots = text.replace(alloc, "-", ".........")?;
+    let digits = dots.replace(alloc, ".", "00")?;
     Ok(hex::decode(alloc, digits.as_str())?)
 }
 
