@@ -1,0 +1,5 @@
+pub mod Slicing
+pub mod Bounds
+pub mod ToldRows
+pub mod Turns
+pub mod Whole

@@ -1,0 +1,14 @@
+//! What an image of a device opens to: definitions and laws over bytes, and a slow reader.
+#![tactic(auto)]
+
+mod device;
+mod later;
+mod newest;
+mod reader;
+mod rows;
+mod slices;
+mod standing;
+
+pub use device::read_area;
+pub use newest::Newest;
+pub use reader::{OpenFault, Opened, open_image};
