@@ -10,7 +10,7 @@ use Rattle.stripe_header.specs.Spelling.{is_within, has_cursor, has_counts, has_
 use Rattle.packed_directory.specs.Phases.{least_place}
 use Rattle.reopening.specs.Newest.{bound_of}
 
-within : (least most n : ℕ) → is_within least most n ≡ true → (least ≤ n) × (n ≤ most)
+pub within : (least most n : ℕ) → is_within least most n ≡ true → (least ≤ n) × (n ≤ most)
 within least most n h =
     let e = and_parts (not (nat_lt n least)) (not (nat_lt most n)) h in
     grind (arith, e)

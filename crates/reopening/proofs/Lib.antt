@@ -3,3 +3,4 @@ pub mod Bounds
 pub mod ToldRows
 pub mod Turns
 pub mod Whole
+pub mod Apart

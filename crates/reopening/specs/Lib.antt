@@ -5,3 +5,4 @@ pub mod Tests
 pub mod Later
 pub mod Opens
 pub mod Faults
+pub mod Windows

@@ -3,6 +3,7 @@
 
 mod device;
 mod later;
+mod laws;
 mod newest;
 mod reader;
 mod rows;
@@ -10,5 +11,6 @@ mod slices;
 mod standing;
 
 pub use device::read_area;
+pub use laws::windows_are_apart;
 pub use newest::Newest;
 pub use reader::{OpenFault, Opened, open_image};
