@@ -4,3 +4,4 @@ pub mod ToldRows
 pub mod Turns
 pub mod Whole
 pub mod Apart
+pub mod Alike

@@ -6,3 +6,4 @@ pub mod Later
 pub mod Opens
 pub mod Faults
 pub mod Windows
+pub mod Alike

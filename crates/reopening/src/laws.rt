@@ -1,8 +1,16 @@
 // Laws for proofs. These functions do nothing when they run.
+ghost use Rattle.reopening.specs.Alike.{AllEndByCursor, OpensAlike};
 ghost use Rattle.reopening.specs.Windows.{WindowsAreApart, CleanWindowsAreApart};
 
 /// What is written behind a sync spares the blocks that its copy names.
 pub fn windows_are_apart()
     ensures written { WindowsAreApart }
     ensures clean { CleanWindowsAreApart }
+{}
+
+/// What a cut may leave opens as an image does whose gates, bodies and documents it cannot lose.
+pub fn images_open_alike()
+    ensures alike { OpensAlike }
+    // So the cursor may be taken as the end.
+    ensures cursor { AllEndByCursor }
 {}
