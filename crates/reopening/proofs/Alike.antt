@@ -81,7 +81,7 @@ no_row test p (r ∷ rows) none =
     ap (λ b. (b && test r) || list_any (λ (s : StoredRow). s.place == p && test s) rows) e.0 ∙ no_row test p rows e.1
 
 -- nor does what no element names
-rowless_none : (g : Geometry) (told : CopyState) (rows : List StoredRow) (p : ℕ) (bytes : List ℕ) → has_place p rows ≡ false → judged g told rows p bytes ≡ None
+pub rowless_none : (g : Geometry) (told : CopyState) (rows : List StoredRow) (p : ℕ) (bytes : List ℕ) → has_place p rows ≡ false → judged g told rows p bytes ≡ None
 unfolding judged
 rowless_none g told rows p bytes none =
     let id = (doc_of bytes).id in

@@ -5,3 +5,4 @@ pub mod Turns
 pub mod Whole
 pub mod Apart
 pub mod Alike
+pub mod Keeping

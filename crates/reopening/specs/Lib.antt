@@ -7,3 +7,4 @@ pub mod Opens
 pub mod Faults
 pub mod Windows
 pub mod Alike
+pub mod Kept

@@ -1,5 +1,6 @@
 // Laws for proofs. These functions do nothing when they run.
 ghost use Rattle.reopening.specs.Alike.{AllEndByCursor, OpensAlike};
+ghost use Rattle.reopening.specs.Kept.{RowsAreKept};
 ghost use Rattle.reopening.specs.Windows.{WindowsAreApart, CleanWindowsAreApart};
 
 /// What is written behind a sync spares the blocks that its copy names.
@@ -13,4 +14,9 @@ pub fn images_open_alike()
     ensures alike { OpensAlike }
     // So the cursor may be taken as the end.
     ensures cursor { AllEndByCursor }
+{}
+
+/// Rows that stand as their documents open as themselves.
+pub fn rows_are_kept()
+    ensures { RowsAreKept }
 {}
