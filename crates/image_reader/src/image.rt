@@ -35,8 +35,11 @@ fn put_block(bytes: &mut [u8], line: &str) -> bool {
         return false;
     }
     let start = BLOCK * number as usize;
-    match bytes.get_mut(start..start + BLOCK) {
-        Some(block) => hex::decode_to_slice(digits.as_bytes(), block).is_ok(),
+    let Some(block) = bytes.get_mut(start..start + BLOCK) else {
+        return false;
+    };
+    match block.get_mut(..digits.len() / 2) {
+        Some(front) => hex::decode_to_slice(digits.as_bytes(), front).is_ok(),
         None => false,
     }
 }

@@ -1,10 +1,14 @@
 //! Prints what an image of a device opens to. Standard input has a line `blocks N`, and then a line
-//! for each block that is not all zeros: its number and its bytes in hex.
+//! for each block that is not all zeros: its number and its first bytes in hex. The others are zeros.
 #![tactic(auto)]
 
 mod faults;
 mod image;
+#[cfg(test)]
+mod known;
 mod pieces;
+#[cfg(test)]
+mod tests;
 
 use image::image_of;
 use reopening::{OpenFault, Opened, open_image, read_area};

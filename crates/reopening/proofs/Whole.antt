@@ -1,5 +1,5 @@
 -- What the newest copy opens to, also by its elements in another order.
-use Rattle.std.proofs.Common.{◌≡◌, ◌≤◌, ◌<◌, ◌+◌, ◌-◌, ℕ, zero, suc, Bool, true, false, List, [], ◌∷◌, length, Option, Some, None, refl, sym, ap, subst, ◌∙◌, arith}
+use Rattle.std.proofs.Common.{◌≡◌, ◌≤◌, ◌<◌, ◌+◌, ◌-◌, ℕ, zero, suc, Bool, true, false, List, [], ◌∷◌, length, Option, Some, None, inl, inr, refl, sym, ap, subst, ◌∙◌, arith}
 use Rattle.std.specs.Prelude.{◌&&◌, ◌==◌, if◌then◌else◌, Result, Ok, Err}
 use Rattle.std.specs.Result.{is_ok}
 use Rattle.std.specs.List.{list_all, list_any, range_with_len, filter_map, cons_option}
@@ -16,10 +16,14 @@ use Rattle.dir_segment.specs.Image.{Marks, image_walk, IsSound}
 use Rattle.dir_segment.specs.declared.fault.SegmentFault.{SegmentFault}
 use Rattle.dir_table.specs.declared.rows.StoredRow.{StoredRow}
 use Rattle.packed_directory.specs.StoredRows.{is_under}
-use Rattle.packed_directory.specs.PackedImage.{segment_image, IsImage}
+use Rattle.packed_directory.specs.PackedImage.{segment_image, IsFirstFault, IsImage}
+use Rattle.stripe_header.specs.declared.area.Side.TheVariants as sides
+use Rattle.stripe_header.specs.Reading.{copy_told}
+use Rattle.std.proofs.lemmas.Bool.{cases_lt}
+use Rattle.reopening.specs.Faults.{FaultsOpenNothing}
 use Rattle.reopening.specs.declared.newest.Newest.{Newest}
 use Rattle.reopening.specs.declared.standing.Standing.{Standing}
-use Rattle.reopening.specs.Newest.{bound_of, directory_at, newest_of}
+use Rattle.reopening.specs.Newest.{body_at, bound_of, copy_at, directory_at, newer, newest_of, unless_fault}
 use Rattle.reopening.specs.Documents.{document_at, standing_of}
 use Rattle.reopening.specs.Tests.{has_put, is_document, is_entered, is_inside, judged, lists_puts, standing_at, standing_from}
 use Rattle.reopening.specs.Later.{kept_rows}
@@ -35,6 +39,10 @@ all_in_range p from (suc n) each =
     ap (λ b. b && list_all p (range_with_len (from + 1) n)) (each from (omega arith) (omega arith))
     ∙ all_in_range p (from + 1) n (λ k low high. each k (omega (arith, low)) (omega (arith, high)))
 
+nothing : (b : Bool) → (b && false) ≡ false
+nothing true = refl
+nothing false = refl
+
 -- an image is sound
 pub image_is_sound : (g : Geometry) (bytes : List ℕ) → IsImage g bytes → is_sound g bytes ≡ true
 image_is_sound g bytes image =
@@ -45,6 +53,31 @@ image_is_sound g bytes image =
 pub opens_newest : (a : Area) (c : Image) (n : Newest) → newest_of a c ≡ Some n → is_sound a.geometry (directory_at a c n.side) ≡ true → opens_to a c ≡ Some (opening_at a c n)
 unfolding opens_to
 opens_newest a c n newest sound = ap (opened a c) newest ∙ ap (λ b. if b then Some (opening_at a c n) else None) sound
+
+one_stops : (p : ℕ → Bool) (from n k : ℕ) → from ≤ k → k < from + n → p k ≡ false → list_all p (range_with_len from n) ≡ false
+one_stops p from zero k low high fails = absurd (omega (arith, low, high))
+one_stops p from (suc n) k low high fails = elim (cases_lt from k) [
+  | inl less ↦ ap (λ b. p from && b) (one_stops p (from + 1) n k (omega (arith, less)) (omega (arith, high)) fails) ∙ nothing (p from)
+  | inr le ↦
+      let here : k ≡ from = omega (arith, le, low) in
+      ap (λ b. b && list_all p (range_with_len (from + 1) n)) (subst (λ j. p j ≡ false) here fails)
+]
+
+-- what has a first fault is not
+pub fault_is_unsound : (g : Geometry) (bytes : List ℕ) (number : ℕ) (fault : SegmentFault) → IsFirstFault g bytes number fault → is_sound g bytes ≡ false
+fault_is_unsound g bytes number fault first =
+    one_stops (λ n. is_ok (image_walk g.buckets (segment_image g n bytes))) 0 g.segments number (omega arith) (omega (arith, first.within)) (ap is_ok first.is)
+
+pub faults_open : FaultsOpenNothing
+unfolding opens_to
+faults_open a c = (
+  λ one other is. ap (λ x. opened a c (newer (unless_fault x (copy_told (body_at a c sides.A))) (copy_at a c sides.B))) is.0
+      ∙ ap (λ x. opened a c (newer None (unless_fault x (copy_told (body_at a c sides.B))))) is.1,
+  λ side number fault is.
+      let n = is.0 in
+      let first : IsFirstFault a.geometry (directory_at a c n.side) number fault = subst (λ s. IsFirstFault a.geometry (directory_at a c s) number fault) (sym is.2) is.3 in
+      ap (opened a c) is.1 ∙ ap (λ b. if b then Some (opening_at a c n) else None) (fault_is_unsound a.geometry (directory_at a c n.side) number fault first),
+)
 
 module _ (rows all : List StoredRow) (same : IsPermutation rows all) where
   entered_same : (g : Geometry) (told : CopyState) (place : ℕ) (bytes : List ℕ) → judged g told rows place bytes ≡ judged g told all place bytes

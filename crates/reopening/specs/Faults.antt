@@ -4,6 +4,8 @@ use Rattle.device_log.specs.Image.{Image}
 use Rattle.stripe_header.specs.declared.area.Area.{Area}
 use Rattle.stripe_header.specs.declared.area.Side.{Side}
 use Rattle.stripe_header.specs.declared.area.Side.TheVariants as sides
+use Rattle.stripe_header.specs.declared.states.CopyFault.{CopyFault}
+use Rattle.dir_segment.specs.declared.fault.SegmentFault.{SegmentFault}
 use Rattle.packed_directory.specs.PackedImage.{IsFirstFault}
 use Rattle.packed_directory.specs.declared.fault.ImageFault.{ImageFault}
 use Rattle.packed_directory.specs.declared.fault.ImageFault.TheVariants.{Segment, Memory as NoImage}
@@ -12,7 +14,7 @@ use Rattle.reopening.specs.declared.newest.Newest.{Newest}
 use Rattle.reopening.specs.declared.reader.Opened.{Opened}
 use Rattle.reopening.specs.declared.reader.OpenFault.{OpenFault}
 use Rattle.reopening.specs.declared.reader.OpenFault.TheVariants.{NoCopy, BadDirectory, Memory}
-use Rattle.reopening.specs.Opens.{dropped_at}
+use Rattle.reopening.specs.Opens.{dropped_at, opens_to}
 use Rattle.reopening.specs.Newest.{directory_at, fault_at, newest_of}
 
 -- an answer as an opening
@@ -44,3 +46,9 @@ pub record IsCounted (a : Area) (c : Image) (o : Opened) : Type 0 where
 abbrev pub fault_of : Side → ImageFault → OpenFault
 fault_of side (Segment number fault) = BadDirectory side number fault
 fault_of side (NoImage e) = Memory e
+
+-- what does not open for a fault opens to nothing
+abbrev pub FaultsOpenNothing : Type 0
+FaultsOpenNothing = (a : Area) (c : Image)
+    → ((one other : CopyFault) → IsOpenFault a c (NoCopy one other) → opens_to a c ≡ None)
+    × ((side : Side) (number : ℕ) (fault : SegmentFault) → IsOpenFault a c (BadDirectory side number fault) → opens_to a c ≡ None)

@@ -1,4 +1,5 @@
 pub mod Slices
+pub mod Device
 pub mod Newest
 pub mod Documents
 pub mod Tests

@@ -1,5 +1,6 @@
 // Laws for proofs. These functions do nothing when they run.
 ghost use Rattle.reopening.specs.Alike.{AllEndByCursor, OpensAlike};
+ghost use Rattle.reopening.specs.Faults.{FaultsOpenNothing};
 ghost use Rattle.reopening.specs.Kept.{RowsAreKept};
 ghost use Rattle.reopening.specs.Windows.{WindowsAreApart, CleanWindowsAreApart};
 
@@ -19,4 +20,9 @@ pub fn images_open_alike()
 /// Rows that stand as their documents open as themselves.
 pub fn rows_are_kept()
     ensures { RowsAreKept }
+{}
+
+/// So what opens is never answered by a fault.
+pub fn faults_open_nothing()
+    ensures { FaultsOpenNothing }
 {}
