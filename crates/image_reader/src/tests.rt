@@ -1,17 +1,54 @@
 // What no clause says: what images open to, as an independent model has it.
 use crate::answer;
 use crate::image::image_of;
-use crate::known::IMAGES;
+use crate::known::{COPIES, FAULTS, Known, PIECES, TWICE, VECTORS};
+use std::alloc::Global;
 use std::test::Fail;
 
+// Whether an image opens to what it should.
+fn opens_so(alloc: Global, known: &Known) -> Result<bool, Fail> {
+    let bytes = image_of(alloc, known.text)?.ok_or("no image")?;
+    let mut out = String::new(alloc);
+    answer(alloc, &bytes, &mut out)?;
+    Ok(out.as_str().starts_with(known.begins))
+}
+
 #[test]
-fn images_open_to_what_they_should(rt: HostRuntime) -> Result<(), Fail> {
-    let alloc = rt.alloc();
-    for known in IMAGES.iter() {
-        let bytes = image_of(alloc, known.text)?.ok_or("no image")?;
-        let mut out = String::new(alloc);
-        answer(alloc, &bytes, &mut out)?;
-        assert!(rt; out.as_str().starts_with(known.begins), "{}", known.name);
+fn the_newest_copy_opens(rt: HostRuntime) -> Result<(), Fail> {
+    for known in &COPIES {
+        assert!(rt; opens_so(rt.alloc(), known)?, "{}", known.name);
+    }
+    Ok(())
+}
+
+#[test]
+fn faults_are_named(rt: HostRuntime) -> Result<(), Fail> {
+    for known in &FAULTS {
+        assert!(rt; opens_so(rt.alloc(), known)?, "{}", known.name);
+    }
+    Ok(())
+}
+
+#[test]
+fn pieces_are_found_by_their_puts(rt: HostRuntime) -> Result<(), Fail> {
+    for known in &PIECES {
+        assert!(rt; opens_so(rt.alloc(), known)?, "{}", known.name);
+    }
+    Ok(())
+}
+
+#[test]
+fn of_equal_entries_one_is_kept(rt: HostRuntime) -> Result<(), Fail> {
+    for known in &TWICE {
+        assert!(rt; opens_so(rt.alloc(), known)?, "{}", known.name);
+    }
+    Ok(())
+}
+
+#[test]
+fn one_vector_of_an_object_is_kept(rt: HostRuntime) -> Result<(), Fail> {
+    for known in &VECTORS {
+        assert!(rt; opens_so(rt.alloc(), known)?, "{}", known.name);
     }
     Ok(())
 }
