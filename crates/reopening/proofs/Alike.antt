@@ -1,14 +1,12 @@
 -- What an opening looks at.
-use Rattle.std.proofs.Common.{◌≡◌, ◌≢◌, ◌≤◌, ◌<◌, ◌+◌, ◌-◌, ◌*◌, ◌/◌, ◌%◌, ◌⊎◌, inl, inr, ℕ, zero, suc, Bool, true, false, List, [], ◌∷◌, ◌++◌, length, take, drop, length-drop, Option, Some, None, refl, sym, ap, subst, ◌∙◌, arith}
-use Rattle.std.specs.Prelude.{min, not, nat_le, nat_lt, ◌&&◌, ◌||◌, ◌==◌, if◌then◌else◌}
+use Rattle.std.proofs.Common.{◌≡◌, ◌≤◌, ◌<◌, ◌+◌, ◌-◌, ◌*◌, ◌/◌, ◌%◌, inl, inr, ℕ, zero, suc, Bool, true, false, List, [], ◌∷◌, ◌++◌, length, take, drop, length-drop, Some, None, refl, sym, ap, subst, ◌∙◌, arith}
+use Rattle.std.specs.Prelude.{min, not, nat_le, ◌&&◌, ◌||◌, ◌==◌, if◌then◌else◌}
 use Rattle.std.specs.Int.{w32, from_le_bytes}
-use Rattle.std.specs.List.{list_any, range_with_len, filter_map, cons_option}
-use Rattle.std.proofs.lemmas.Bool.{cases_Bool, cases_lt, and_parts, or_cases}
-use Rattle.std.proofs.Math.Nat.{mod-add-div, mul-le-mul_left, mod-eq_of_lt, add-mul-mod_self_left, mod-lt, mul-suc}
+use Rattle.std.specs.List.{list_any, cons_option}
+use Rattle.std.proofs.lemmas.Bool.{cases_Bool, cases_lt, and_parts}
+use Rattle.std.proofs.Math.Nat.{mod-add-div, mul-le-mul_left, mod-eq_of_lt, add-mul-mod_self_left, mod-lt}
 use lib.Seq.{take-append-le, drop-append-le}
 use Rattle.device_log.specs.Image.{Image, IsImage, span}
-use Rattle.device_log.specs.Calls.{Call}
-use Rattle.device_log.specs.Seen.{MayLeave}
 use Rattle.device_log.proofs.Spans.{span_first, span_same}
 use Rattle.tape_base.specs.declared.geometries.Geometry.{Geometry}
 use Rattle.tape_base.specs.Blocks.{blocks_of}
@@ -25,13 +23,12 @@ use Rattle.doc_header.specs.Reading.{doc_of, field_at, length_of, number_at, pay
 use Rattle.dir_table.specs.declared.rows.StoredRow.{StoredRow}
 use Rattle.packed_directory.specs.StoredRows.{is_under}
 use Rattle.reopening.specs.declared.newest.Newest.{Newest}
-use Rattle.reopening.specs.declared.standing.Standing.{Standing}
 use Rattle.reopening.specs.Newest.{body_at, bound_of, copy_at, directory_at, newer, newest_of, unless_fault}
 use Rattle.reopening.specs.Documents.{blocks_read, document_at, standing_of}
 use Rattle.reopening.specs.Tests.{has_put, is_document, is_entered, is_inside, judged, lists_puts, standing_at, standing_from}
 use Rattle.reopening.specs.Later.{kept_rows}
-use Rattle.reopening.specs.Opens.{found_of, is_sound, opened, opening_at, opening_with, opens_to, rows_at, rows_told}
-use Rattle.reopening.specs.Alike.{AllEndByCursor, EndsBy, IsRestedOn, OpensAlike, StandsAs, blocks_told, has_place}
+use Rattle.reopening.specs.Opens.{found_of, is_sound, opened, opening_with, opens_to, rows_at, rows_told}
+use Rattle.reopening.specs.Alike.{AllEndByCursor, EndsBy, IsRestedOn, OpensAlike, blocks_told, has_place}
 use Rattle.reopening.proofs.Bounds.{some_content, in_lap}
 
 -- a number in front is that of the front

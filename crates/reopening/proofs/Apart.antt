@@ -1,17 +1,17 @@
 -- Places of a lap's length have blocks of their own.
-use Rattle.std.proofs.Common.{◌≡◌, ◌≢◌, ◌≤◌, ◌<◌, ◌+◌, ◌-◌, ◌*◌, ◌/◌, ◌%◌, ℕ, Bool, true, false, cond, inl, inr, ap, subst, sym, ◌∙◌, arith}
-use Rattle.std.specs.Prelude.{◌==◌, ◌&&◌, IsTrue}
+use Rattle.std.proofs.Common.{◌≡◌, ◌≢◌, ◌≤◌, ◌<◌, ◌+◌, ◌-◌, ◌*◌, ◌/◌, ◌%◌, ℕ, true, false, cond, inl, inr, subst, sym, arith}
+use Rattle.std.specs.Prelude.{◌==◌, ◌&&◌}
 use Rattle.std.proofs.lemmas.Bool.{cases_lt, and_parts}
-use Rattle.std.proofs.Math.Nat.{mod-add-div, mul-le-mul_left, mod-eq_of_lt, add-mul-mod_self_left, mod-lt}
+use Rattle.std.proofs.Math.Nat.{mod-add-div, mul-le-mul_left}
 use Rattle.tape_base.specs.declared.geometries.Geometry.{Geometry}
-use Rattle.tape_base.specs.Place.{lap_of, lap_end_of, reach_of, slot_of}
+use Rattle.tape_base.specs.Place.{reach_of}
 use Rattle.stripe_header.specs.declared.area.Area.{Area}
 use Rattle.stripe_header.specs.declared.states.CopyState.{CopyState}
 use Rattle.stripe_header.specs.Layout.{block_of}
-use Rattle.stripe_header.specs.Spelling.{has_cursor, has_counts, has_floor, is_within, may_say}
+use Rattle.stripe_header.specs.Spelling.{has_cursor, has_counts, has_floor, is_within}
 use Rattle.reopening.specs.Newest.{bound_of}
 use Rattle.reopening.specs.Windows.{WindowsAreApart, CleanWindowsAreApart}
-use Rattle.reopening.proofs.Bounds.{some_content, in_lap, within, cursor_fits}
+use Rattle.reopening.proofs.Bounds.{in_lap, within, cursor_fits}
 
 more : (n a b : ℕ) → a < b → n * a + n ≤ n * b
 more n a b low = let e : n * (a + 1) ≤ n * b = mul-le-mul_left n (omega (arith, low)) in omega (arith, e)

@@ -1,7 +1,7 @@
 -- The bound of an opening lies in the lap of its cursor or in the one before, and not above the cursor.
-use Rattle.std.proofs.Common.{◌≡◌, ◌≤◌, ◌<◌, ◌+◌, ◌-◌, ◌*◌, ◌/◌, ◌%◌, ◌^◌, ℕ, zero, suc, Bool, true, false, cond, sym, ap, subst, arith}
-use Rattle.std.specs.Prelude.{min, not, nat_lt, ◌==◌, ◌&&◌, if◌then◌else◌, IsTrue}
-use Rattle.std.proofs.lemmas.Bool.{and_parts, ltb-false}
+use Rattle.std.proofs.Common.{◌≡◌, ◌≤◌, ◌<◌, ◌+◌, ◌-◌, ◌*◌, ◌/◌, ◌%◌, ◌^◌, ℕ, zero, suc, Bool, true, false, cond, sym, subst, arith}
+use Rattle.std.specs.Prelude.{not, nat_lt, ◌==◌, ◌&&◌, IsTrue}
+use Rattle.std.proofs.lemmas.Bool.{and_parts}
 use Rattle.std.proofs.Math.Nat.{mod-add-div, mod-lt, mul-suc}
 use Rattle.tape_base.specs.declared.geometries.Geometry.{Geometry}
 use Rattle.tape_base.specs.Place.{lap_of, slot_of, reach_of}

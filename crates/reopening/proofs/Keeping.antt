@@ -1,19 +1,18 @@
 -- Rows that stand as their documents are kept.
-use Rattle.std.proofs.Common.{◌≡◌, ◌≤◌, ◌<◌, ◌+◌, ◌-◌, ◌⊎◌, inl, inr, ℕ, zero, suc, Bool, true, false, List, [], ◌∷◌, map, Option, Some, None, refl, sym, ap, subst, ◌∙◌, arith}
+use Rattle.std.proofs.Common.{◌≡◌, ◌≤◌, ◌<◌, ◌+◌, ◌-◌, ◌⊎◌, inl, inr, ℕ, zero, suc, Bool, true, false, List, [], ◌∷◌, map, Option, Some, None, refl, ap, subst, ◌∙◌, arith}
 use Rattle.std.specs.Prelude.{◌||◌, ◌==◌, if◌then◌else◌}
-use Rattle.std.specs.List.{AllByRecursion, list_any, range_with_len, filter_map, cons_option}
+use Rattle.std.specs.List.{AllByRecursion, range_with_len, filter_map, cons_option}
 use Rattle.std.proofs.lemmas.Bool.{cases_Bool, cases_lt}
 use Rattle.device_log.specs.Image.{Image}
 use Rattle.stripe_header.specs.declared.area.Area.{Area}
-use Rattle.cache_model.specs.declared.findings.FoundRow.{FoundRow}
 use Rattle.reopening.specs.declared.newest.Newest.{Newest}
 use Rattle.reopening.specs.declared.standing.Standing.{Standing}
 use Rattle.reopening.specs.declared.standing.Measure.{Measure}
-use Rattle.reopening.specs.Newest.{bound_of, directory_at, newest_of}
+use Rattle.reopening.specs.Newest.{bound_of, directory_at}
 use Rattle.reopening.specs.Documents.{document_at}
-use Rattle.reopening.specs.Tests.{standing_at, standing_from}
-use Rattle.reopening.specs.Later.{has_lengths, kept_rows, latest, measure_of, replaces, with_lengths}
-use Rattle.reopening.specs.Opens.{found_of, opening_with, opens_to, rows_at}
+use Rattle.reopening.specs.Tests.{standing_at}
+use Rattle.reopening.specs.Later.{has_lengths, kept_rows, latest, measure_of, with_lengths}
+use Rattle.reopening.specs.Opens.{found_of, opening_with, rows_at}
 use Rattle.reopening.specs.Alike.{has_place}
 use Rattle.reopening.specs.Kept.{AreAlone, AreRising, RowsAreKept, StandAll, is_place_of}
 use Rattle.reopening.proofs.Alike.{rowless_none}

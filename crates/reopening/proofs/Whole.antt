@@ -1,8 +1,8 @@
 -- What the newest copy opens to, also by its elements in another order.
-use Rattle.std.proofs.Common.{◌≡◌, ◌≤◌, ◌<◌, ◌+◌, ◌-◌, ℕ, zero, suc, Bool, true, false, List, [], ◌∷◌, length, Option, Some, None, inl, inr, refl, sym, ap, subst, ◌∙◌, arith}
+use Rattle.std.proofs.Common.{◌≡◌, ◌≤◌, ◌<◌, ◌+◌, ◌-◌, ℕ, zero, suc, Bool, true, false, List, length, Some, None, inl, inr, refl, sym, ap, subst, ◌∙◌, arith}
 use Rattle.std.specs.Prelude.{◌&&◌, ◌==◌, if◌then◌else◌, Result, Ok, Err}
 use Rattle.std.specs.Result.{is_ok}
-use Rattle.std.specs.List.{list_all, list_any, range_with_len, filter_map, cons_option}
+use Rattle.std.specs.List.{list_all, range_with_len, cons_option}
 use Rattle.std.specs.List.Sorted.{IsPermutation}
 use Rattle.std.proofs.lemmas.List.Sorted.{list_any-IsPermutation, length_permutation}
 use Rattle.device_log.specs.Image.{Image}
@@ -22,10 +22,9 @@ use Rattle.stripe_header.specs.Reading.{copy_told}
 use Rattle.std.proofs.lemmas.Bool.{cases_lt}
 use Rattle.reopening.specs.Faults.{FaultsOpenNothing}
 use Rattle.reopening.specs.declared.newest.Newest.{Newest}
-use Rattle.reopening.specs.declared.standing.Standing.{Standing}
 use Rattle.reopening.specs.Newest.{body_at, bound_of, copy_at, directory_at, newer, newest_of, unless_fault}
 use Rattle.reopening.specs.Documents.{document_at, standing_of}
-use Rattle.reopening.specs.Tests.{has_put, is_document, is_entered, is_inside, judged, lists_puts, standing_at, standing_from}
+use Rattle.reopening.specs.Tests.{has_put, is_document, is_inside, judged, lists_puts, standing_at, standing_from}
 use Rattle.reopening.specs.Later.{kept_rows}
 use Rattle.reopening.specs.Opens.{found_of, is_sound, opened, opening_at, opens_to}
 

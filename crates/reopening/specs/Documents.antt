@@ -1,5 +1,5 @@
 -- What stands at a place of the tape.
-use Rattle.std.specs.Prelude.{ℕ, ◌-◌, min, List, Option, Some, None, if◌then◌else◌}
+use Rattle.std.specs.Prelude.{ℕ, ◌-◌, min, List, Option, None, if◌then◌else◌}
 use Rattle.std.specs.Result.{result_ok}
 use Rattle.device_log.specs.Image.{Image, span}
 use Rattle.tape_base.specs.declared.pieces.PieceId.{PieceId}
@@ -11,7 +11,6 @@ use Rattle.stripe_header.specs.Layout.{block_of}
 use Rattle.doc_header.specs.Reading.{doc_of, document_digest, kept_of, length_of, payload_of}
 use Rattle.alternate_vector.specs.Alternates.{Stored}
 use Rattle.alternate_vector.specs.Reading.{read_vector}
-use Rattle.cache_model.specs.declared.findings.FoundRow.{FoundRow}
 use Rattle.reopening.specs.declared.standing.Standing.{Standing}
 
 -- how many blocks are read at a place: as many as its first block tells, at most to the end of the lap

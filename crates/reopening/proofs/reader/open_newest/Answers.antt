@@ -1,4 +1,4 @@
-use Rattle.std.proofs.Common.{◌≡◌, ◌-◌, List, length, sym, ap, subst, ◌∙◌}
+use Rattle.std.proofs.Common.{◌-◌, List, length, sym, ap, subst, ◌∙◌}
 use Rattle.std.specs.Prelude.{Some}
 use Rattle.std.specs.List.Sorted.{IsPermutation}
 use Rattle.dir_table.specs.declared.rows.StoredRow.{StoredRow}

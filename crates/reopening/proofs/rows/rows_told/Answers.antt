@@ -1,10 +1,5 @@
-use Rattle.std.proofs.Common.{◌≡◌, ◌≤◌, sym, subst}
-use Rattle.std.specs.List.Sorted.{IsPermutation}
-use Rattle.std.proofs.lemmas.List.Sorted.{IsPermutation-trans}
-use Rattle.dir_table.specs.declared.rows.StoredRow.{StoredRow}
-use Rattle.dir_table.specs.Wrap.{stored_from}
+use Rattle.std.proofs.Common.{◌≤◌, sym, subst}
 use Rattle.packed_directory.specs.Packed.{packed_rows}
-use Rattle.packed_directory.specs.PackedImage.{means}
 use Rattle.packed_directory.specs.Phases.{least_place}
 use Rattle.reopening.proofs.Bounds.{bound_fits}
 use Rattle.reopening.proofs.ToldRows.{told_rows}

@@ -1,4 +1,4 @@
-use Rattle.std.proofs.Common.{◌≡◌, ap, sym, ◌∙◌, arith}
+use Rattle.std.proofs.Common.{ap, ◌∙◌}
 use Rattle.device_log.specs.Image.{span}
 use Rattle.device_log.proofs.Spans.{span_one}
 use Rattle.stripe_header.specs.Layout.{gate_of}

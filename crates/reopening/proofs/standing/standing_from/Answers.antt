@@ -1,4 +1,4 @@
-use Rattle.std.proofs.Common.{◌≡◌, ◌<◌, ◌++◌, ◌+◌, ◌-◌, ap, ◌∙◌, arith}
+use Rattle.std.proofs.Common.{◌<◌, ◌++◌, ◌+◌, ◌-◌, ap, ◌∙◌, arith}
 use Rattle.reopening.specs.Slices.{image_of}
 use Rattle.reopening.specs.Tests.{standing_from}
 use Rattle.reopening.proofs.Turns.{standing_more}
