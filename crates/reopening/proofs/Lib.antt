@@ -6,3 +6,4 @@ pub mod Whole
 pub mod Apart
 pub mod Alike
 pub mod Keeping
+pub mod Passing

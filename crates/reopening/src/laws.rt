@@ -1,7 +1,7 @@
 // Laws for proofs. These functions do nothing when they run.
 ghost use Rattle.reopening.specs.Alike.{AllEndByCursor, OpensAlike};
 ghost use Rattle.reopening.specs.Faults.{FaultsOpenNothing};
-ghost use Rattle.reopening.specs.Kept.{RowsAreKept};
+ghost use Rattle.reopening.specs.Kept.{DocumentsPass, RowsAreKept};
 ghost use Rattle.reopening.specs.Windows.{WindowsAreApart, CleanWindowsAreApart};
 
 /// What is written behind a sync spares the blocks that its copy names.
@@ -19,7 +19,8 @@ pub fn images_open_alike()
 
 /// Rows that stand as their documents open as themselves.
 pub fn rows_are_kept()
-    ensures { RowsAreKept }
+    ensures rows { RowsAreKept }
+    ensures documents { DocumentsPass }
 {}
 
 /// So what opens is never answered by a fault.
