@@ -12,3 +12,4 @@ pub mod Kept
 pub mod Pair
 pub mod Tape
 pub mod Vectors
+pub mod Opening

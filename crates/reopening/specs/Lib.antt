@@ -1,0 +1,11 @@
+pub mod Slices
+pub mod Device
+pub mod Newest
+pub mod Documents
+pub mod Tests
+pub mod Later
+pub mod Opens
+pub mod Faults
+pub mod Windows
+pub mod Alike
+pub mod Kept
