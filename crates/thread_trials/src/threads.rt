@@ -1,5 +1,7 @@
 // Threads, and what `close` does: with one seat, and with two passes out.
-use super::*;
+use lock_trials::{
+    Tally, Tick, both_stand, is_refused, looked_at, there_and_back, tick_both, tick_once,
+};
 use std::test::Fail;
 use stripe_lock::SharedStripe;
 
