@@ -36,6 +36,20 @@ fn a_flush_plans_the_next_buffer(rt: HostRuntime) -> Result<(), Fail> {
     Ok(())
 }
 
+#[test]
+fn the_window_is_from_the_floor_to_the_end_of_the_buffer(rt: HostRuntime) -> Result<(), Fail> {
+    let g = small()?;
+    let at = Cursor {
+        cursor: 128,
+        synced: 120,
+    };
+    for (place, held) in [(71, false), (72, true), (135, true), (136, false)] {
+        assert!(rt; g.content <= at.cursor);
+        assert_eq!(rt; at.window_holds(&g, place), held, "at {place}");
+    }
+    Ok(())
+}
+
 // Fragments of one put, in rising place, with these blocks.
 fn candidate(index: u32, place: u64, blocks: u32) -> Candidate
     ensures { result.place ≡ place }
