@@ -5,6 +5,3 @@ mod slots;
 mod table;
 
 pub use table::Actors;
-
-#[cfg(test)]
-mod tests;

@@ -6,6 +6,3 @@ mod buffer;
 
 pub use answers::PutAnswer;
 pub use buffer::AggBuffer;
-
-#[cfg(test)]
-mod tests;

@@ -10,6 +10,3 @@ pub use bits::Bits;
 pub use codec::{decode, encode};
 pub use entry::Entry;
 pub use size::size_class;
-
-#[cfg(test)]
-mod tests;

@@ -13,6 +13,3 @@ pub use fault::SegmentFault;
 pub use laws::{clean_keeps, delete_takes, insert_enters};
 pub use purge::PurgeList;
 pub use segment::{Inserted, Segment};
-
-#[cfg(test)]
-mod tests;

@@ -16,6 +16,3 @@ pub use laws::rows_stay_apart;
 pub use list::ListDirectory;
 pub use rows::{DirRow, Spot, StoredRow, Walk};
 pub use window::Window;
-
-#[cfg(test)]
-mod tests;

@@ -14,6 +14,3 @@ pub use documents::{Doc, DocFault, DocRef};
 pub use moving::{move_document, moved_alike, moved_is_document, moved_is_same, moves_keep};
 pub use reading::{payload, read_doc};
 pub use writing::write_doc;
-
-#[cfg(test)]
-mod tests;

@@ -4,6 +4,3 @@
 mod choosing;
 
 pub use choosing::{Candidate, choose};
-
-#[cfg(test)]
-mod tests;

@@ -7,6 +7,3 @@ mod table;
 
 pub use fault::TableFault;
 pub use table::FragTable;
-
-#[cfg(test)]
-mod tests;

@@ -1,11 +1,9 @@
-//! Callers of the lock that are proved, and its tests: threads that share a tally.
+//! Callers of the lock that are proved: threads that share a tally.
 #![tactic(auto)]
 
 mod any;
 mod many;
 mod tally;
-#[cfg(test)]
-mod tests;
 mod ticking;
 
 pub use any::{Outcome, both_stand, once_each, there_and_back};

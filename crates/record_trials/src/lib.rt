@@ -1,14 +1,9 @@
-//! Tests of the crates of records that are slow to prove, a module of them for each crate.
+//! Tests of the crates of records and of the script language, a module of them for each crate.
 #![tactic(auto)]
 
 #[cfg(test)]
-mod actors;
+mod answers;
 #[cfg(test)]
 mod chronicles;
 #[cfg(test)]
-mod directories;
-mod making;
-#[cfg(test)]
 mod vectors;
-
-pub use making::{add, fields};

@@ -22,6 +22,3 @@ pub use line::{BadKind, BadLine, LineAnswer};
 pub use reader::read_line;
 pub use step::{ByteList, Step};
 pub use text::answer_text;
-
-#[cfg(test)]
-mod tests;

@@ -20,6 +20,3 @@ pub use pieces::PieceId;
 pub use places::{floor_of, lap, lap_end, next_cursor, phase, slot};
 pub use probes::Steps;
 pub use sizes::{BLOCK, HEADER, LIMIT, MAX_WRITERS};
-
-#[cfg(test)]
-mod tests;

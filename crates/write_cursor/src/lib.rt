@@ -4,6 +4,3 @@
 mod planning;
 
 pub use planning::{Cursor, Next};
-
-#[cfg(test)]
-mod tests;

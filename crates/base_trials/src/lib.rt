@@ -1,0 +1,17 @@
+//! Tests of the crates at the bottom, a module of them for each subject.
+#![tactic(auto)]
+
+#[cfg(test)]
+mod buffers;
+#[cfg(test)]
+mod documents;
+#[cfg(test)]
+mod entries;
+#[cfg(test)]
+mod keys;
+#[cfg(test)]
+mod making;
+#[cfg(test)]
+mod plans;
+#[cfg(test)]
+mod tables;
