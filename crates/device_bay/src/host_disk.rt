@@ -17,7 +17,7 @@ pub enum HostDisk<S> {
 }
 
 impl<S: FileStart> Disk for HostDisk<S> {
-    ghost use Rattle.device_bay.specs.HostDisk.{host_state, host_is_log, host_was_image, host_counted};
+    ghost use Rattle.device_bay.specs.HostDisk.{host_state, host_is_log, host_was_image, host_counted, host_obeys};
 
     ghost state = { λ disk. host_state S.first disk };
 
@@ -68,6 +68,8 @@ impl<S: FileStart> Disk for HostDisk<S> {
     ghost was_image = { host_was_image S.first S.is_image };
 
     ghost counted = { host_counted S.first };
+
+    ghost obeys = { host_obeys S.first };
 }
 
 // Each call but the first has a switch, so it is one of memory.
