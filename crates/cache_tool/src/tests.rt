@@ -1,7 +1,7 @@
 // What no clause says: worked scripts over memory, and devices and streams that fail.
-ghost use Rattle.std.specs.Prelude.{◌≡◌};
+ghost use Rattle.std.specs.Prelude.{◌≡◌, true, false};
 ghost use Rattle.device_log.specs.DeviceLog.{calls_of};
-ghost use Rattle.device_log.specs.Faults.{faults_of};
+ghost use Rattle.device_log.specs.Faults.{faults_of, obeys_switch};
 ghost use Rattle.logged_disk.specs.MemDisk.{mem_state};
 ghost use Rattle.device_bay.specs.Register.{IsRegister};
 
@@ -303,8 +303,9 @@ struct Faulty {
 #[tactic(auto, unfolding(device_log::specs::Faults::faults_of))]
 impl Disk for Faulty {
     ghost use Rattle.device_log.proofs.Puts.{blank_is_image};
+    ghost use Rattle.logged_disk.specs.Switchless.{asks_none};
 
-    ghost state = { λ disk. record (mem_state disk.memory) { trust = 0; past = calls_of disk.log } };
+    ghost state = { λ disk. record (mem_state disk.memory) { trust = 0; has_switch = false; past = calls_of disk.log } };
 
     fn blocks(&self) -> u64 {
         self.memory.blocks()
@@ -368,6 +369,8 @@ impl Disk for Faulty {
     ghost was_image = { λ disk. blank_is_image };
 
     ghost counted = { λ disk. disk.counted };
+
+    ghost obeys = { λ disk. asks_none (obeys_switch (calls_of disk.log) ≡ true) };
 }
 
 /// A bay of such devices, whose call of this number fails, or none for 0.
@@ -376,7 +379,7 @@ struct FaultyBay {
     flips: bool,
     nth: u64,
     register: Register<Faulty>,
-    ghost is_register: { IsRegister (λ disk. record (mem_state disk.memory) { trust = 0; past = calls_of disk.log }) register },
+    ghost is_register: { IsRegister (λ disk. record (mem_state disk.memory) { trust = 0; has_switch = false; past = calls_of disk.log }) register },
 }
 
 impl FaultyBay {
@@ -410,7 +413,7 @@ impl Bay for FaultyBay {
 
     type Dev = Faulty;
 
-    ghost past = { λ bay. calls_in (λ disk. record (mem_state disk.memory) { trust = 0; past = calls_of disk.log }) bay.register };
+    ghost past = { λ bay. calls_in (λ disk. record (mem_state disk.memory) { trust = 0; has_switch = false; past = calls_of disk.log }) bay.register };
 
     fn attach(&mut self, alloc: Global, name: &[u8], blocks: u64) -> Result<Faulty, BayFault> {
         let number = self.register.number();

@@ -1,5 +1,5 @@
 -- What the calls of a cyclone leave of its device.
-use Rattle.std.proofs.Common.{◌≡◌, ℕ, ◌<◌, ◌≤◌, ◌⊎◌, List, Result, inl, inr, sym, ap, subst, arith}
+use Rattle.std.proofs.Common.{ℕ, ◌<◌, ◌≤◌, ◌⊎◌, List, Result, inl, inr, sym, ap, subst, arith}
 use Rattle.edge_io.specs.declared.source.Failed.{Failed}
 use Rattle.tape_base.specs.Place.{slot_of}
 use Rattle.agg_buffer.specs.Buffer.{filled_of}
@@ -9,7 +9,7 @@ use Rattle.logged_disk.proofs.GoingOn.{goes_by_read, goes_by_write, stays_put}
 use Rattle.logged_disk.proofs.Moments.{read_same, write_others}
 use Rattle.cyclone.specs.Cyclone.{Seen, Reads, WritesBuffer}
 
-either_side : (a b : ℕ) → ((a < b) ⊎ (b ≤ a))
+pub either_side : (a b : ℕ) → ((a < b) ⊎ (b ≤ a))
 either_side a b = grind arith
 
 module _ (old new : Seen) (place blocks : ℕ) (result : Result (Unit {0}) Failed) (bytes : List ℕ) (read : Reads old new place blocks result bytes) where

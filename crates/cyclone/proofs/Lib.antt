@@ -1,2 +1,3 @@
+mod Behind
 mod Turning
 pub mod Calls

@@ -2,8 +2,10 @@
 #![tactic(auto)]
 
 mod cyclone;
+mod laws;
 
 pub use cyclone::{Cyclone, Put};
+pub use laws::buffers_stand_behind_writes;
 
 #[cfg(test)]
 mod tests;

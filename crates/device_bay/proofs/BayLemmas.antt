@@ -14,7 +14,7 @@ use Rattle.device_bay.specs.Entry.{Entry}
 use Rattle.device_bay.specs.Calls.{BayCall, Gave, RefusedAttach, TookBack, Gift, IsBayLog, IsDevice, are_bay_counts, bay_faults, gifts_of, number_behind, out_of, returned_by}
 use Rattle.device_bay.specs.Bay.{IsNewDevice}
 use Rattle.device_bay.specs.Register.{calls_of_entries}
-use Rattle.device_bay.specs.Returns.{IsMemReturn, has_refusal, ZeroHasNoRefusal}
+use Rattle.device_bay.specs.Returns.{IsMemReturn, has_refusal, ZeroHasNoRefusal, UntoldHasNoFault}
 
 -- ---- one more call
 
@@ -83,6 +83,10 @@ none_refused (Flipped at byte ∷ older) zero = none_refused older zero
 
 pub zero_has_no_refusal : ZeroHasNoRefusal
 zero_has_no_refusal s is zero = none_refused s.past (sym is.counted ∙ zero)
+
+pub untold_has_no_fault : UntoldHasNoFault
+untold_has_no_fault s is has none =
+    is.counted ∙ untold_has_none s.past none (is.obeys has)
 
 -- ---- a device as it is attached
 

@@ -34,3 +34,7 @@ pub record IsNewMemory (size : ℕ) (device : State) : Type 0 where
 -- the name of a device in memory
 abbrev pub is_memory_name : List ℕ → Bool
 is_memory_name name = starts_with nat_eq name (codes "mem:")
+
+-- a name that is kept for words that threads share
+abbrev pub is_word_name : List ℕ → Bool
+is_word_name name = starts_with nat_eq name (codes "word:")

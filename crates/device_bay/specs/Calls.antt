@@ -1,7 +1,7 @@
 -- The calls of a bay as its log has them, the newest first.
 use Rattle.std.specs.Prelude.{◌≡◌, ℕ, ◌+◌, ◌-◌, ◌^◌, ◌==◌, min, Bool, true, ◌&&◌, List, [], ◌∷◌, ◌++◌, All, length}
 use Rattle.device_log.specs.Image.{IsImage}
-use Rattle.device_log.specs.Faults.{IsLog, faults_of, next_count}
+use Rattle.device_log.specs.Faults.{IsLog, faults_of, next_count, obeys_switch}
 use Rattle.logged_disk.specs.Device.{State}
 
 -- one call of a bay
@@ -84,6 +84,8 @@ pub record IsDevice (s : State) : Type 0 where
   pub is_log : IsLog s.past
   pub was_image : IsImage s.first
   pub counted : s.faults ≡ faults_of s.past
+  -- where it has a switch, its calls failed where that was told to, and nowhere else
+  pub obeys : s.has_switch ≡ true → obeys_switch s.past ≡ true
 
 -- what a bay can have done
 pub record IsBayLog (past : List BayCall) : Type 0 where

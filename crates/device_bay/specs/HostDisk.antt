@@ -1,11 +1,11 @@
 -- What a contract sees of a `HostDisk`.
-use Rattle.std.specs.Prelude.{◌≡◌, ℕ}
+use Rattle.std.specs.Prelude.{◌≡◌, ℕ, true}
 use Rattle.device_log.specs.Image.{Image, IsImage}
-use Rattle.device_log.specs.Faults.{IsLog, faults_of}
+use Rattle.device_log.specs.Faults.{IsLog, faults_of, obeys_switch}
 use Rattle.logged_disk.specs.Device.{State}
 use Rattle.logged_disk.specs.MemDisk.{mem_state}
-use Rattle.logged_disk.specs.MemoryFacts.{memory_is_log, memory_was_image, memory_counted}
-use Rattle.logged_disk.specs.FileDisk.{file_state, file_is_log, file_counted}
+use Rattle.logged_disk.specs.MemoryFacts.{memory_is_log, memory_was_image, memory_counted, memory_obeys}
+use Rattle.logged_disk.specs.FileDisk.{file_state, file_is_log, file_counted, file_obeys}
 use Rattle.device_bay.specs.declared.host_disk.HostDisk.{HostDisk}
 use Rattle.device_bay.specs.declared.host_disk.HostDisk.TheVariants.{Memory, File}
 
@@ -28,3 +28,9 @@ pub host_counted : {S : Type 0} (first : ℕ → Image) (disk : HostDisk S)
     → (host_state first disk).faults ≡ faults_of (host_state first disk).past
 host_counted first (Memory disk) = memory_counted disk
 host_counted first (File disk) = file_counted first disk
+
+pub host_obeys : {S : Type 0} (first : ℕ → Image) (disk : HostDisk S)
+    → (host_state first disk).has_switch ≡ true
+    → obeys_switch (host_state first disk).past ≡ true
+host_obeys first (Memory disk) = memory_obeys disk
+host_obeys first (File disk) = file_obeys first disk

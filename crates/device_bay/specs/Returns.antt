@@ -24,3 +24,8 @@ has_refusal (Flipped at byte ∷ older) = has_refusal older
 -- of each device that came back with the count 0 no call was refused
 abbrev pub ZeroHasNoRefusal : Type 0
 ZeroHasNoRefusal = (s : State) → IsDevice s → s.faults ≡ 0 → has_refusal s.past ≡ false
+
+-- a device with a switch that was told nothing came back with the count 0
+abbrev pub UntoldHasNoFault : Type 0
+UntoldHasNoFault = (s : State) → IsDevice s
+    → s.has_switch ≡ true → is_untold s.past ≡ true → s.faults ≡ 0

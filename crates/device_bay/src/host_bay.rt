@@ -1,6 +1,7 @@
 // The bay of the host: devices in memory and in files.
-ghost use Rattle.std.specs.Prelude.{◌≡◌, ℕ, ◌≤◌, true, false, IfSome};
+ghost use Rattle.std.specs.Prelude.{◌≡◌, ℕ, ◌≤◌, true, false, None, IfSome};
 ghost use Rattle.logged_disk.specs.FileDisk.{file_state, IsAttached};
+ghost use Rattle.device_bay.specs.Bay.{is_word_name};
 ghost use Rattle.device_bay.specs.Register.{IsRegister};
 ghost use Rattle.device_bay.specs.HostDisk.{host_state};
 
@@ -47,6 +48,7 @@ fn open_device<R: Files<File = File>, S: FileStart>(
     number: u64,
     blocks: u64,
 ) -> Option<FileDisk<S>>
+    ensures kept { is_word_name name.now ≡ true → result ≡ None }
     ensures size { IfSome result (λ disk. blocks ≤ (file_state S.first disk).size) }
     ensures attached { IfSome result (λ disk. IsAttached number true (file_state S.first disk)) }
 {
@@ -103,6 +105,9 @@ impl<R: Files<File = File>, S: FileStart> Bay for HostBay<R, S> {
         ensures memory { (error : _) → IsErrOf result (BayFault.Memory error)
             → calls_in (host_state S.first) self.new.register
             ≡ calls_in (host_state S.first) self.old.register }
+        ensures wants_none { (error : _) → IsErrOf result (BayFault.Memory error) → ⊥ }
+        ensures of_word { is_word_name name.now ≡ true
+            → (count : ℕ) × IsErrOf result (BayFault.Failed count) }
         ensures of_memory { is_memory_name name.now ≡ true → IsOk result }
         ensures fresh { is_memory_name name.now ≡ true
             → IfOk result (λ device. IsNewMemory (size_for blocks) (host_state S.first device)) }

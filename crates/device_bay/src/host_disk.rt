@@ -1,6 +1,7 @@
 // A device of the host's bay.
 ghost use Rattle.std.specs.Prelude.{◌≡◌, ℕ, ◌+◌, ◌/◌, ◌<◌, ◌≤◌, List, length, IsTrue, OnOk, OnErr};
 ghost use Rattle.device_log.specs.Image.{span};
+ghost use Rattle.device_log.specs.Cuts.{left_by};
 ghost use Rattle.device_log.specs.Calls.{Read, Wrote, Synced, Told, Fail, StopAfter, PowerCut, Flipped};
 ghost use Rattle.logged_disk.specs.Device.{seen, IsTrusted, IsHonest, IsWhole, Keeps, Affords, Adds, Logs, Leaves};
 
@@ -17,7 +18,7 @@ pub enum HostDisk<S> {
 }
 
 impl<S: FileStart> Disk for HostDisk<S> {
-    ghost use Rattle.device_bay.specs.HostDisk.{host_state, host_is_log, host_was_image, host_counted};
+    ghost use Rattle.device_bay.specs.HostDisk.{host_state, host_is_log, host_was_image, host_counted, host_obeys};
 
     ghost state = { λ disk. host_state S.first disk };
 
@@ -68,6 +69,8 @@ impl<S: FileStart> Disk for HostDisk<S> {
     ghost was_image = { host_was_image S.first S.is_image };
 
     ghost counted = { host_counted S.first };
+
+    ghost obeys = { host_obeys S.first };
 }
 
 // Each call but the first has a switch, so it is one of memory.
@@ -81,7 +84,19 @@ impl<S: FileStart> PowerDisk for HostDisk<S> {
         }
     }
 
-    fn cut(&mut self, choice: CutChoice) {
+    fn cut(&mut self, choice: CutChoice)
+        requires switch { IsTrue (host_state S.first self.old).has_switch }
+        requires calls { 1 ≤ (host_state S.first self.old).calls }
+        ensures keeps { Keeps 1 0 (host_state S.first self.old) (host_state S.first self.new) }
+        ensures logs { (left : List ℕ) × Adds (PowerCut choice left)
+            (host_state S.first self.old) (host_state S.first self.new) }
+        ensures leaves { IsHonest (host_state S.first self.new)
+            → Leaves (host_state S.first self.old) (seen (host_state S.first self.new)) }
+        ensures exact { (j : ℕ) → j < (host_state S.first self.old).size
+            → seen (host_state S.first self.new) j
+            ≡ left_by choice (host_state S.first self.old).first
+            (host_state S.first self.old).past j }
+    {
         if let HostDisk::Memory(disk) = self {
             disk.cut(choice);
         }

@@ -74,6 +74,7 @@ impl Bay for MemBay {
             → Refuses name.now blocks count (mem_calls self.old) (mem_calls self.new) }
         ensures memory { (error : _) → IsErrOf result (BayFault.Memory error)
             → mem_calls self.new ≡ mem_calls self.old }
+        ensures wants_none { (error : _) → IsErrOf result (BayFault.Memory error) → ⊥ }
         ensures exactly { ((count : ℕ) × IsErrOf result (BayFault.Failed count))
             ↔ Contains (fail_numbers self.old) (one_more (attach_calls self.old)) }
         ensures calls { attach_calls self.new ≡ one_more (attach_calls self.old) }

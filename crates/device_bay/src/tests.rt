@@ -119,3 +119,61 @@ fn only_a_device_in_memory_has_a_switch(rt: HostRuntime) -> Result<(), Fail> {
     remove_file(&rt, path)?;
     Ok(())
 }
+
+/// Writes one block of that byte, or two where it is even, and says whether that went well.
+fn is_put<D: Disk>(disk: &mut D, block: u64, byte: u8) -> Result<bool, Fail> {
+    disk.make_room(1, 2)?;
+    if block >= 100 || block + 2 > disk.blocks() {
+        return Ok(false);
+    }
+    let put = if byte % 2 == 0 {
+        disk.write(block, &[byte; 1024])
+    } else {
+        disk.write(block, &[byte; 512])
+    };
+    Ok(put.is_ok())
+}
+
+/// Does the calls that are compared: writes over each other, a sync now and then, and reads.
+fn are_put<D: Disk>(disk: &mut D) -> Result<bool, Fail> {
+    let mut all = true;
+    for (turn, block) in [0u64, 3, 4, 3, 14, 9, 10, 2, 14, 0].into_iter().enumerate() {
+        all &= is_put(disk, block, turn as u8 + 7)?;
+        disk.make_room(1, 0)?;
+        if turn % 3 == 0 {
+            all &= disk.sync().is_ok();
+        }
+    }
+    Ok(all)
+}
+
+/// All blocks, one behind the other.
+fn all_blocks<D: Disk>(alloc: Global, disk: &mut D) -> Result<Vec<u8>, Fail> {
+    let mut all = Vec::new(alloc);
+    let mut into = [0; 512];
+    for block in 0..disk.blocks() {
+        if block < disk.blocks() && disk.read(block, &mut into).is_ok() {
+            all.extend_from_slice(&into)?;
+        }
+    }
+    Ok(all)
+}
+
+#[test]
+fn the_same_calls_leave_the_same_blocks_in_memory_and_in_a_file(
+    rt: HostRuntime,
+) -> Result<(), Fail> {
+    let alloc = rt.alloc();
+    let path = "device_bay_same.img";
+    let mut bay: HostBay<&HostRuntime, Blank> = HostBay::new(&rt);
+    let mut memory = bay.attach(alloc, b"mem:a", 17)?;
+    let mut file = bay.attach(alloc, path.as_bytes(), 17)?;
+    assert!(rt; are_put(&mut memory)? && are_put(&mut file)?);
+    let kept = all_blocks(alloc, &mut memory)?;
+    assert_eq!(rt; kept.len(), 17 * 512);
+    assert!(rt; kept.starts_with(&[16; 1024]));
+    assert!(rt; kept == all_blocks(alloc, &mut file)?);
+    assert!(rt; kept == fs::read(&rt, path)?);
+    remove_file(&rt, path)?;
+    Ok(())
+}

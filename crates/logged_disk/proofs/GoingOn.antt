@@ -1,10 +1,10 @@
 -- Which later moments of a device its calls lead to.
-use Rattle.std.proofs.Common.{◌≡◌, ℕ, ◌/◌, ◌-◌, ◌^◌, ◌≤◌, Bool, true, false, List, [], ◌∷◌, ◌++◌, ◌||◌, Result, Ok, Err, refl, sym, ◌∙◌, ap, subst, arith, append_assoc, length}
+use Rattle.std.proofs.Common.{◌≡◌, ℕ, ◌/◌, ◌-◌, ◌^◌, ◌≤◌, true, false, List, [], ◌∷◌, ◌++◌, ◌||◌, ◌&&◌, Result, Ok, Err, refl, sym, ◌∙◌, ap, subst, arith, append_assoc, length}
 use Rattle.edge_io.specs.Causes.{HasCause}
-use Rattle.device_log.specs.Calls.{ToRead, ToWrite, ToSync, Call, Read, Wrote, Synced, RefusedCall, Told, PowerCut, Flipped}
+use Rattle.device_log.specs.Calls.{ToRead, ToWrite, Call, Read, Wrote, Synced, RefusedCall, Told, PowerCut, Flipped}
 use Rattle.device_log.specs.Seen.{seen_of}
-use Rattle.device_log.specs.Faults.{faults_of, next_count}
-use Rattle.logged_disk.specs.Device.{State, has_flip, TellsAll, SeenStays, Keeps, Logs, IsAfter, IsAsked}
+use Rattle.device_log.specs.Faults.{faults_of, next_count, is_untold}
+use Rattle.logged_disk.specs.Device.{State, has_flip, has_cut, TellsAll, SeenStays, Keeps, Logs, IsAfter, IsAsked}
 
 -- of calls behind others
 flips_append : (later older : List Call) → has_flip (later ++ older) ≡ has_flip later || has_flip older
@@ -18,9 +18,39 @@ flips_append (Told act ∷ later) older = flips_append later older
 flips_append (PowerCut choice left ∷ later) older = flips_append later older
 flips_append (Flipped at byte ∷ later) older = refl
 
+cuts_append : (later older : List Call) → has_cut (later ++ older) ≡ has_cut later || has_cut older
+unfolding has_cut
+cuts_append [] older = refl
+cuts_append (Read at bytes ∷ later) older = cuts_append later older
+cuts_append (Wrote at bytes ∷ later) older = cuts_append later older
+cuts_append (Synced ∷ later) older = cuts_append later older
+cuts_append (RefusedCall what count ∷ later) older = cuts_append later older
+cuts_append (Told act ∷ later) older = cuts_append later older
+cuts_append (PowerCut choice left ∷ later) older = refl
+cuts_append (Flipped at byte ∷ later) older = cuts_append later older
+
+untold_append : (later older : List Call) → is_untold (later ++ older) ≡ is_untold later && is_untold older
+unfolding is_untold
+untold_append [] older = refl
+untold_append (Read at bytes ∷ later) older = untold_append later older
+untold_append (Wrote at bytes ∷ later) older = untold_append later older
+untold_append (Synced ∷ later) older = untold_append later older
+untold_append (RefusedCall what count ∷ later) older = untold_append later older
+untold_append (Told act ∷ later) older = refl
+untold_append (PowerCut choice left ∷ later) older = untold_append later older
+untold_append (Flipped at byte ∷ later) older = untold_append later older
+
 no_flip : has_flip [] ≡ false
 unfolding has_flip
 no_flip = refl
+
+no_cut : has_cut [] ≡ false
+unfolding has_cut
+no_cut = refl
+
+pub none_told : is_untold [] ≡ true
+unfolding is_untold
+none_told = refl
 
 module _ (call : Call) (older : List Call) where
   one_flip : has_flip (call ∷ []) ≡ false → has_flip (call ∷ older) ≡ has_flip older
@@ -40,6 +70,8 @@ stays_put s = record {
   made = [];
   past = refl;
   unturned = no_flip;
+  untold = none_told;
+  uncut = no_cut;
 }
 
 -- where it is the same
@@ -57,6 +89,8 @@ goes_further a b c front back = record {
   made = back.made ++ front.made;
   past = back.past ∙ (ap (λ l. back.made ++ l) front.past ∙ sym (append_assoc back.made front.made a.past));
   unturned = flips_append back.made front.made ∙ (ap (λ b. b || has_flip front.made) back.unturned ∙ front.unturned);
+  untold = untold_append back.made front.made ∙ (ap (λ b. b && is_untold front.made) back.untold ∙ front.untold);
+  uncut = cuts_append back.made front.made ∙ (ap (λ b. b || has_cut front.made) back.uncut ∙ front.uncut);
 }
 
 -- what is told then was told before
@@ -66,9 +100,15 @@ told_before old new on told = record {
   unturned = sym (ap (λ b. b || has_flip old.past) on.unturned) ∙ (sym (flips_append on.made old.past) ∙ (ap has_flip (sym on.past) ∙ told.unturned));
 }
 
+-- a switch that was told nothing before is told nothing still
+pub untold_still : (old new : State) → IsAfter old new → is_untold old.past ≡ true → is_untold new.past ≡ true
+untold_still old new on none =
+    ap is_untold on.past ∙ (untold_append on.made old.past ∙ (ap (λ b. b && is_untold old.past) on.untold ∙ none))
+
 module _ (calls blocks : ℕ) (old new : State) (keeps : Keeps calls blocks old new) where
-  by_calls : (made : List Call) → new.past ≡ made ++ old.past → has_flip made ≡ false → IsAfter old new
-  by_calls made past none = record {
+  by_calls : (made : List Call) → new.past ≡ made ++ old.past → has_flip made ≡ false → is_untold made ≡ true → has_cut made ≡ false
+      → IsAfter old new
+  by_calls made past unturned untold uncut = record {
     size = keeps.size;
     trust = keeps.trust;
     number = keeps.number;
@@ -77,27 +117,29 @@ module _ (calls blocks : ℕ) (old new : State) (keeps : Keeps calls blocks old 
     first = keeps.first;
     made = made;
     past = past;
-    unturned = none;
+    unturned = unturned;
+    untold = untold;
+    uncut = uncut;
   }
 
   pub goes_by_none : new.past ≡ old.past → IsAfter old new
-  goes_by_none past = by_calls [] past no_flip
+  goes_by_none past = by_calls [] past no_flip none_told no_cut
 
   module _ {T E : Type 0} (result : Result T E) where
     pub goes_by_read : (at : ℕ) (bytes : List ℕ) → Logs (Read at bytes) result old new → IsAfter old new
-    unfolding has_flip
+    unfolding has_flip is_untold has_cut
     goes_by_read at bytes logs =
         elim result as (λ r. Logs (Read at bytes) r old new → IsAfter old new) [
-          | Ok x ↦ λ went. by_calls (Read at bytes ∷ []) went.past refl
-          | Err e ↦ λ failed. by_calls (RefusedCall (ToRead at (length bytes / 512)) new.faults ∷ []) failed.0 refl
+          | Ok x ↦ λ went. by_calls (Read at bytes ∷ []) went.past refl refl refl
+          | Err e ↦ λ failed. by_calls (RefusedCall (ToRead at (length bytes / 512)) new.faults ∷ []) failed.0 refl refl refl
         ] logs
 
     pub goes_by_write : (at : ℕ) (bytes : List ℕ) → Logs (Wrote at bytes) result old new → IsAfter old new
-    unfolding has_flip
+    unfolding has_flip is_untold has_cut
     goes_by_write at bytes logs =
         elim result as (λ r. Logs (Wrote at bytes) r old new → IsAfter old new) [
-          | Ok x ↦ λ went. by_calls (Wrote at bytes ∷ []) went.past refl
-          | Err e ↦ λ failed. by_calls (RefusedCall (ToWrite at (length bytes / 512) failed.0.0) new.faults ∷ []) failed.0.1 refl
+          | Ok x ↦ λ went. by_calls (Wrote at bytes ∷ []) went.past refl refl refl
+          | Err e ↦ λ failed. by_calls (RefusedCall (ToWrite at (length bytes / 512) failed.0.0) new.faults ∷ []) failed.0.1 refl refl refl
         ] logs
 
 -- a count of faults fits its type

@@ -3,7 +3,7 @@ use Rattle.std.specs.Prelude.{◌≡◌, ℕ, ◌+◌, ◌%◌, ◌<◌, ◌≤�
 use Rattle.device_log.specs.Image.{Image}
 use Rattle.device_log.specs.Calls.{Call, Read, Wrote, Synced, RefusedCall, Told, PowerCut, Flipped}
 use Rattle.device_log.specs.Seen.{seen_of, MayLeave, is_flipped}
-use Rattle.device_log.specs.Faults.{next_count}
+use Rattle.device_log.specs.Faults.{next_count, is_untold}
 use Rattle.device_log.specs.Along.{Along, WasRefused}
 
 -- a device at one moment
@@ -50,6 +50,17 @@ has_flip (RefusedCall what count ∷ older) = has_flip older
 has_flip (Told act ∷ older) = has_flip older
 has_flip (PowerCut choice left ∷ older) = has_flip older
 has_flip (Flipped at byte ∷ older) = true
+
+-- the power was cut at some time
+unfoldable pub has_cut : List Call → Bool
+has_cut [] = false
+has_cut (Read at bytes ∷ older) = has_cut older
+has_cut (Wrote at bytes ∷ older) = has_cut older
+has_cut (Synced ∷ older) = has_cut older
+has_cut (RefusedCall what count ∷ older) = has_cut older
+has_cut (Told act ∷ older) = has_cut older
+has_cut (PowerCut choice left ∷ older) = true
+has_cut (Flipped at byte ∷ older) = has_cut older
 
 -- what was written anywhere stands: a read gives it, and no bit was ever turned
 pub record TellsAll (s : State) : Type 0 where
@@ -110,7 +121,8 @@ Logs call result old new = MatchResult result
     (λ _. Adds call old new)
     (λ _. WasRefused call new.faults old.past new.past × (new.faults ≡ next_count old.faults))
 
--- a device at a later moment: it made these calls meanwhile, and no bit was turned
+-- A device at a later moment: it made these calls meanwhile, and they are reads, writes and syncs
+-- alone. No bit was turned, its switch was told nothing, and its power was not cut.
 pub record IsAfter (old new : State) : Type 0 where
   pub size : new.size ≡ old.size
   pub trust : new.trust ≤ old.trust
@@ -121,6 +133,8 @@ pub record IsAfter (old new : State) : Type 0 where
   pub made : List Call
   pub past : new.past ≡ made ++ old.past
   pub unturned : has_flip made ≡ false
+  pub untold : is_untold made ≡ true
+  pub uncut : has_cut made ≡ false
 
 -- a device that was asked for what is there: nothing was written, and no room was used up
 pub record IsAsked (old new : State) : Type 0 where

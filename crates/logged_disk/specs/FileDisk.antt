@@ -1,10 +1,11 @@
 -- What a contract sees of a `FileDisk`.
-use Rattle.std.specs.Prelude.{◌≡◌, ℕ, Bool, false, []}
+use Rattle.std.specs.Prelude.{◌≡◌, ℕ, Bool, true, false, []}
 use Rattle.device_log.specs.Image.{Image}
-use Rattle.device_log.specs.Faults.{IsLog, faults_of}
+use Rattle.device_log.specs.Faults.{IsLog, faults_of, obeys_switch}
 use Rattle.device_log.specs.DeviceLog.{calls_of}
 use Rattle.logged_disk.specs.Device.{State, IsTrusted}
 use Rattle.logged_disk.specs.FileTrust.{file_trust}
+use Rattle.logged_disk.specs.Switchless.{asks_none}
 use Rattle.logged_disk.specs.declared.file_disk.FileDisk.{FileDisk}
 
 -- the device at this moment, where the file held the image of its number at its attach
@@ -37,3 +38,10 @@ file_is_log first disk = disk.log.is_log
 pub file_counted : {S : Type 0} (first : ℕ → Image) (disk : FileDisk S)
     → (file_state first disk).faults ≡ faults_of (file_state first disk).past
 file_counted first disk = disk.counted
+
+-- a file has no switch
+pub file_obeys : {S : Type 0} (first : ℕ → Image) (disk : FileDisk S)
+    → (file_state first disk).has_switch ≡ true
+    → obeys_switch (file_state first disk).past ≡ true
+file_obeys first disk has =
+    asks_none (obeys_switch (calls_of disk.log) ≡ true) has

@@ -12,4 +12,5 @@ pub mod Memory
 pub mod MemDisk
 pub mod MemoryFacts
 pub mod FileTrust
+pub mod Switchless
 pub mod FileDisk

@@ -1,7 +1,7 @@
 -- What holds of each `MemDisk`.
-use Rattle.std.specs.Prelude.{◌≡◌}
+use Rattle.std.specs.Prelude.{◌≡◌, true}
 use Rattle.device_log.specs.Image.{IsImage}
-use Rattle.device_log.specs.Faults.{IsLog, faults_of}
+use Rattle.device_log.specs.Faults.{IsLog, faults_of, obeys_switch}
 use Rattle.device_log.proofs.Puts.{blank_is_image}
 use Rattle.logged_disk.specs.MemDisk.{mem_state}
 use Rattle.logged_disk.specs.declared.mem_disk.MemDisk.{MemDisk}
@@ -14,3 +14,7 @@ memory_was_image disk = blank_is_image
 
 pub memory_counted : (disk : MemDisk) → (mem_state disk).faults ≡ faults_of (mem_state disk).past
 memory_counted disk = disk.is_memory.counted
+
+pub memory_obeys : (disk : MemDisk) → (mem_state disk).has_switch ≡ true
+    → obeys_switch (mem_state disk).past ≡ true
+memory_obeys disk has = disk.is_memory.obeys

@@ -1,8 +1,8 @@
 // What a block device does.
-ghost use Rattle.std.specs.Prelude.{◌≡◌, ℕ, ◌+◌, ◌/◌, ◌≤◌, ◌<◌, ◌∷◌, List, length, OnOk, OnErr, IsTrue};
+ghost use Rattle.std.specs.Prelude.{◌≡◌, ℕ, ◌+◌, ◌/◌, ◌≤◌, ◌<◌, ◌∷◌, List, length, OnOk, OnErr, IsTrue, true};
 ghost use Rattle.device_log.specs.Image.{IsImage, span};
 ghost use Rattle.device_log.specs.Calls.{Read, Wrote, Synced, Told, Fail, StopAfter, PowerCut, Flipped};
-ghost use Rattle.device_log.specs.Faults.{IsLog, faults_of};
+ghost use Rattle.device_log.specs.Faults.{IsLog, faults_of, obeys_switch};
 ghost use Rattle.logged_disk.specs.Device.{State, seen, IsTrusted, IsHonest, IsWhole, Keeps, Affords, Adds, Logs, Leaves};
 
 use device_log::CutChoice;
@@ -57,6 +57,9 @@ pub trait Disk {
     ghost was_image: { (disk : Self) → IsImage (state disk).first };
 
     ghost counted: { (disk : Self) → (state disk).faults ≡ faults_of (state disk).past };
+
+    ghost obeys: { (disk : Self)
+        → (state disk).has_switch ≡ true → obeys_switch (state disk).past ≡ true };
 }
 
 /// A device that may have a switch, by which its power is cut and its calls are made to fail.

@@ -86,7 +86,7 @@ fn fails(switch: &mut Switch, faults: &mut u64) -> bool
 #[tactic(auto, using(crate::proofs::MemoryLemmas::trust_falls))]
 impl Disk for MemDisk {
     ghost use Rattle.logged_disk.specs.MemDisk.{mem_state};
-    ghost use Rattle.logged_disk.specs.MemoryFacts.{memory_is_log, memory_was_image, memory_counted};
+    ghost use Rattle.logged_disk.specs.MemoryFacts.{memory_is_log, memory_was_image, memory_counted, memory_obeys};
 
     ghost state = { mem_state };
 
@@ -177,6 +177,8 @@ impl Disk for MemDisk {
     ghost was_image = { memory_was_image };
 
     ghost counted = { memory_counted };
+
+    ghost obeys = { memory_obeys };
 }
 
 #[tactic(auto, using(crate::proofs::MemoryLemmas::trust_falls))]

@@ -1,4 +1,4 @@
-use Rattle.std.proofs.Common.{◌≡◌, ◌+◌, ◌*◌, ◌/◌, ◌<◌, ◌≤◌, length, Ok, Err, subst, arith}
+use Rattle.std.proofs.Common.{◌≡◌, ◌/◌, ◌<◌, length, Ok, Err, subst, arith}
 use Rattle.std.specs.Prelude.{OnOk}
 use Rattle.tape_base.specs.Place.{slot_of}
 use Rattle.device_log.specs.Image.{span}
