@@ -13,3 +13,4 @@ pub mod Pair
 pub mod Tape
 pub mod Vectors
 pub mod Opening
+pub mod Openings

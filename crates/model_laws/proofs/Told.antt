@@ -28,7 +28,7 @@ pub listed_stays : (s t : State) → t.geometry ≡ s.geometry → (row : Row) �
 listed_stays s t same row listed vector =
     let l = listed vector in
     let v : IsVectorRow s row l.0 = l.1 in
-    (l.0, record { lists = v.lists; spelled = v.spelled; digest = rw same v.digest; blocks = v.blocks; small = rw same v.small; pin = v.pin })
+    (l.0, record { start = v.start; lists = v.lists; spelled = v.spelled; digest = rw same v.digest; blocks = v.blocks; small = rw same v.small })
 
 -- rows that stay list what they listed
 pub vectors_part : (s t : State) → t.geometry ≡ s.geometry → ArePart t.rows s.rows → AreVectors s → AreVectors t

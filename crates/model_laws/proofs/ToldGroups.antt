@@ -134,7 +134,7 @@ vector_placed p s put fragments added m told =
         digest = rw geometry refl;
         blocks = ap blocks_of (sym (length-vector list merged.spelled.stored.each));
         small = rw geometry merged.small;
-        pin = refl;
+        start = 0;
       },
     )))
 
