@@ -14,3 +14,4 @@ pub mod Tape
 pub mod Vectors
 pub mod Opening
 pub mod Openings
+pub mod Syncs

@@ -65,6 +65,10 @@ pub record IsOpening (packed : Bool) (g : Geometry) (o : Opening) : Type 0 where
   pub vectors : AreVectors (state_of_opening g o)
   pub fits : packed ≡ true → (segment : ℕ) → FitsSegment (state_of_opening g o) segment
 
--- a session begins with what an opening takes up, and the buffer behind it
+-- the record of what an opening takes up
+abbrev pub opened_record : Geometry → Opening → Rec
+opened_record g o = rec.Opened g o.serial o.cursor o.floor o.next_put o.clean o.found
+
+-- a session begins with it, and the buffer behind it
 abbrev pub opened_records : Geometry → Opening → List Rec
-opened_records g o = rec.Opened g o.serial o.cursor o.floor o.next_put o.clean o.found ∷ rec.Began o.cursor o.floor ∷ []
+opened_records g o = opened_record g o ∷ rec.Began o.cursor o.floor ∷ []

@@ -139,6 +139,7 @@ no_puts n w found = none_is found
 
 puts_left : (s : State) (r : Rec) → LeavesPuts r → AreFit s.puts → AreFit (state_after s r).puts
 puts_left s (rec.Formatted geometry) h each = no_puts
+puts_left s (rec.Opened geometry serial cursor floor next_put clean list) h each = no_puts
 puts_left s (rec.Displaced piece segment live) h each = absurd h
 puts_left s (rec.WriteOpened actor put key request response pin) h each = absurd h
 puts_left s (rec.Cut put index length digest) h each = absurd h
@@ -150,6 +151,7 @@ puts_left s _ h each = each
 
 nothing_displaced : (s : State) (r : Rec) → LeavesPuts r → s.displaced ≡ [] → (state_after s r).displaced ≡ []
 nothing_displaced s (rec.Formatted geometry) h none = refl
+nothing_displaced s (rec.Opened geometry serial cursor floor next_put clean list) h none = refl
 nothing_displaced s (rec.Placed piece place blocks digest pin) h none = refl
 nothing_displaced s (rec.Displaced piece segment live) h none = absurd h
 nothing_displaced s (rec.WriteOpened actor put key request response pin) h none = absurd h
