@@ -9,6 +9,7 @@ use Rattle.tape_base.proofs.NameLaws.{same_piece-true}
 use Rattle.tape_base.specs.declared.keys.Key.{Key}
 use Rattle.tape_base.specs.declared.digests.Digest.{Digest}
 use Rattle.tape_base.specs.declared.geometries.Geometry.{Geometry}
+use Rattle.cache_model.specs.declared.findings.FoundRow.{FoundRow}
 use Rattle.cache_model.specs.declared.record.Rec.{Rec}
 use Rattle.cache_model.specs.declared.record.Rec.TheVariants as rec
 use Rattle.cache_model.specs.State.{State, Row, PutRow, LastVector, Complete, TakenOut, floor_now, is_live, last_vector, list_among, list_of_row, live_row_of, only_live, merged_list, most_payload, moved_row, row_in, state_after, vector_piece, without, without_earlier}
@@ -221,26 +222,30 @@ listed-copied listed recs piece place digest rows has id row vector found =
 
 pub rows-kept : (listed : PieceId → List Listed) (recs : List Rec) (s : State) (r : Rec)
     → ((geometry : Geometry) → r ≡ rec.Formatted geometry → ⊥)
+    → ((geometry : Geometry) (serial cursor floor next_put : ℕ) (clean : Bool) (list : List FoundRow) → r ≡ rec.Opened geometry serial cursor floor next_put clean list → ⊥)
     → ((piece : PieceId) (place blocks : ℕ) (digest : Digest) (pin : ℕ) → r ≡ rec.Placed piece place blocks digest pin → ⊥)
     → HasListed listed recs s.rows → HasListed listed recs (state_after s r).rows
-rows-kept listed recs s (rec.Formatted geometry) formats places has = absurd (formats geometry refl)
-rows-kept listed recs s (rec.Placed piece place blocks digest pin) formats places has = absurd (places piece place blocks digest pin refl)
-rows-kept listed recs s (rec.Moved piece from place digest) formats places has = listed-copied listed recs piece place digest s.rows has
-rows-kept listed recs s (rec.Displaced piece segment live) formats places has = listed-without listed recs piece s.rows has
-rows-kept listed recs s (rec.Damaged piece place kept found) formats places has = listed-without listed recs piece s.rows has
-rows-kept listed recs s (rec.Committed put key length) formats places has = earlier-kept listed recs s.rows key put (last_vector s key) has
-rows-kept listed recs s (rec.Removed put key) formats places has = listed-without listed recs (vector_piece key put) s.rows has
-rows-kept listed recs s r formats places has = has
+rows-kept listed recs s (rec.Formatted geometry) formats found places has = absurd (formats geometry refl)
+rows-kept listed recs s (rec.Opened geometry serial cursor floor next_put clean list) formats found places has = absurd (found geometry serial cursor floor next_put clean list refl)
+rows-kept listed recs s (rec.Placed piece place blocks digest pin) formats found places has = absurd (places piece place blocks digest pin refl)
+rows-kept listed recs s (rec.Moved piece from place digest) formats found places has = listed-copied listed recs piece place digest s.rows has
+rows-kept listed recs s (rec.Displaced piece segment live) formats found places has = listed-without listed recs piece s.rows has
+rows-kept listed recs s (rec.Damaged piece place kept digest) formats found places has = listed-without listed recs piece s.rows has
+rows-kept listed recs s (rec.Committed put key length) formats found places has = earlier-kept listed recs s.rows key put (last_vector s key) has
+rows-kept listed recs s (rec.Removed put key) formats found places has = listed-without listed recs (vector_piece key put) s.rows has
+rows-kept listed recs s r formats found places has = has
 
 pub moved-kept : (listed : PieceId → List Listed) (recs : List Rec) (s : State) (r : Rec)
     → ((geometry : Geometry) → r ≡ rec.Formatted geometry → ⊥)
+    → ((geometry : Geometry) (serial cursor floor next_put : ℕ) (clean : Bool) (list : List FoundRow) → r ≡ rec.Opened geometry serial cursor floor next_put clean list → ⊥)
     → ((piece : PieceId) (place blocks : ℕ) (digest : Digest) (pin : ℕ) → r ≡ rec.Placed piece place blocks digest pin → ⊥)
     → HasListed listed recs s.rows → HasListed listed recs s.displaced → HasListed listed recs (state_after s r).displaced
-moved-kept listed recs s (rec.Formatted geometry) formats places has before = absurd (formats geometry refl)
-moved-kept listed recs s (rec.Placed piece place blocks digest pin) formats places has before = absurd (places piece place blocks digest pin refl)
-moved-kept listed recs s (rec.Displaced piece segment live) formats places has before =
+moved-kept listed recs s (rec.Formatted geometry) formats found places has before = absurd (formats geometry refl)
+moved-kept listed recs s (rec.Opened geometry serial cursor floor next_put clean list) formats found places has before = absurd (found geometry serial cursor floor next_put clean list refl)
+moved-kept listed recs s (rec.Placed piece place blocks digest pin) formats found places has before = absurd (places piece place blocks digest pin refl)
+moved-kept listed recs s (rec.Displaced piece segment live) formats found places has before =
     listed-both listed recs s.displaced (option_to_list (row_in s.rows piece)) before (listed-one listed recs s.rows piece has)
-moved-kept listed recs s r formats places has before = before
+moved-kept listed recs s r formats found places has before = before
 
 items_anew : (b : Bool) (here : ArrayVec Listed) (there : Option (ArrayVec Listed))
     → unwrap_or (option_map (λ (l : ArrayVec Listed). l.items) (cond b (Some here) there)) [] ≡ cond b here.items (unwrap_or (option_map (λ (l : ArrayVec Listed). l.items) there) [])

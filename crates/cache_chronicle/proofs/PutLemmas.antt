@@ -8,6 +8,7 @@ use Rattle.tape_base.specs.declared.digests.Digest.{Digest}
 use Rattle.tape_base.specs.declared.actors.Actor.{Actor}
 use Rattle.tape_base.specs.declared.geometries.Geometry.{Geometry}
 use Rattle.alternate_vector.specs.Field.{Field}
+use Rattle.cache_model.specs.declared.findings.FoundRow.{FoundRow}
 use Rattle.cache_model.specs.declared.record.Rec.{Rec}
 use Rattle.cache_model.specs.declared.record.Rec.TheVariants as rec
 use Rattle.cache_model.specs.State.{PutRow, State, Writing, Closed, GivenUp, change_put, state_after, with_cut, with_writing}
@@ -126,17 +127,19 @@ written-noted recs r opened_as found other has writing false = opened-more recs 
 -- the other records neither open nor cut a put
 pub puts-kept : (recs : List Rec) (s : State) (r : Rec) (opened_as : ℕ → Option Opened)
     → ((geometry : Geometry) → r ≡ rec.Formatted geometry → ⊥)
+    → ((geometry : Geometry) (serial cursor floor next_put : ℕ) (clean : Bool) (list : List FoundRow) → r ≡ rec.Opened geometry serial cursor floor next_put clean list → ⊥)
     → ((actor : Actor) (put : ℕ) (key : Key) (request response : List Field) (pin : ℕ) → r ≡ rec.WriteOpened actor put key request response pin → ⊥)
     → ((put index length : ℕ) (digest : Digest) → r ≡ rec.Cut put index length digest → ⊥)
     → ((q : ℕ) → AreOpened recs (opened_as q) (found_put q s.puts))
     → (q : ℕ) → AreOpened (recs ++ r ∷ []) (opened_as q) (found_put q (state_after s r).puts)
-puts-kept recs s (rec.Formatted geometry) opened_as formats opens cuts has q = absurd (formats geometry refl)
-puts-kept recs s (rec.WriteOpened actor put key request response pin) opened_as formats opens cuts has q = absurd (opens actor put key request response pin refl)
-puts-kept recs s (rec.Cut put index length digest) opened_as formats opens cuts has q = absurd (cuts put index length digest refl)
-puts-kept recs s (rec.Committed put key length) opened_as formats opens cuts has q =
+puts-kept recs s (rec.Formatted geometry) opened_as formats found opens cuts has q = absurd (formats geometry refl)
+puts-kept recs s (rec.Opened geometry serial cursor floor next_put clean list) opened_as formats found opens cuts has q = absurd (found geometry serial cursor floor next_put clean list refl)
+puts-kept recs s (rec.WriteOpened actor put key request response pin) opened_as formats found opens cuts has q = absurd (opens actor put key request response pin refl)
+puts-kept recs s (rec.Cut put index length digest) opened_as formats found opens cuts has q = absurd (cuts put index length digest refl)
+puts-kept recs s (rec.Committed put key length) opened_as formats found opens cuts has q =
     rw (found_put-changed put q (with_writing Closed) s.puts (λ p. refl))
     (written-noted recs (rec.Committed put key length) opened_as (λ n. found_put n s.puts) q has Closed (put == q))
-puts-kept recs s (rec.Aborted put key) opened_as formats opens cuts has q =
+puts-kept recs s (rec.Aborted put key) opened_as formats found opens cuts has q =
     rw (found_put-changed put q (with_writing GivenUp) s.puts (λ p. refl))
     (written-noted recs (rec.Aborted put key) opened_as (λ n. found_put n s.puts) q has GivenUp (put == q))
-puts-kept recs s r opened_as formats opens cuts has q = opened-more recs r (opened_as q) (found_put q s.puts) (has q)
+puts-kept recs s r opened_as formats found opens cuts has q = opened-more recs r (opened_as q) (found_put q s.puts) (has q)

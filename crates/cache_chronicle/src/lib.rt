@@ -6,6 +6,7 @@ mod full;
 mod listing;
 mod lists;
 mod losses;
+mod opened;
 mod pieces;
 mod puts;
 mod tables;

@@ -1,5 +1,5 @@
 // What each vector lists, and what a new list is made of.
-ghost use Rattle.std.specs.Prelude.{◌≡◌, ◌+◌, ◌-◌, ◌≤◌, ◌<◌, ◌∷◌, ◌++◌, [], List, length, true, map, find, option_map, unwrap_or, OnOk, vec_len, vec_capacity};
+ghost use Rattle.std.specs.Prelude.{◌≡◌, ◌+◌, ◌-◌, ◌≤◌, ◌<◌, ◌∷◌, ◌++◌, [], List, length, true, false, map, find, option_map, unwrap_or, OnOk, vec_len, vec_capacity};
 ghost use Rattle.std.specs.HashMap.{spare};
 ghost use Rattle.tape_base.specs.Piece.{is_vector, same_piece};
 ghost use Rattle.cache_model.specs.declared.record.Rec.{Rec as Rec'};
@@ -10,6 +10,7 @@ ghost use Rattle.cache_chronicle.specs.Listing.{Tells};
 ghost use Rattle.cache_chronicle.specs.Lists.{HasListings, listing_at, moved_of};
 ghost use Rattle.cache_chronicle.specs.Listings.{HasLists, spare_of_lists};
 ghost use Rattle.cache_chronicle.specs.Tables.{HasRows};
+ghost use Rattle.cache_chronicle.specs.Weight.{is_opening, weight_of};
 
 use crate::listing::{Listed, Listing, merged};
 use crate::pieces::{Pieces, vector_piece};
@@ -61,9 +62,10 @@ impl Lists {
 
     /// Notes what a record says that comes behind others. The tables have what those say.
     pub(crate) fn note(&mut self, records: &[Rec], tables: &Tables, rec: &Rec)
-        requires { 0 < spare_of_lists self.old }
+        requires weight { weight_of rec.now ≤ spare_of_lists self.old }
+        requires stub { is_opening rec.now ≡ false }
         ensures has { (s : State) → HasTables tables.now s → HasLists self.old records.now s → HasLists self.new (records.now ++ rec.now ∷ []) (state_after s rec.now) }
-        ensures spare { spare_of_lists self.old ≤ spare_of_lists self.new + 1 }
+        ensures spare { spare_of_lists self.old ≤ spare_of_lists self.new + weight_of rec.now }
     {
         self.note_listing(records, tables, rec);
         note_displaced(&mut self.displaced, &tables.pieces, rec);
@@ -71,14 +73,15 @@ impl Lists {
     }
 
     fn note_listing(&mut self, records: &[Rec], tables: &Tables, rec: &Rec)
-        requires { 0 < spare self.old.listings }
+        requires some { 0 < spare self.old.listings }
+        requires stub { is_opening rec.now ≡ false }
         ensures standing { (s : State) → HasTables tables.now s → HasLists self.old records.now s → HasListings self.new.listings records.now (state_after s rec.now).rows }
         ensures moved { (s : State) → HasTables tables.now s → HasLists self.old records.now s → HasListings self.new.listings records.now (state_after s rec.now).displaced }
         ensures others { self.new ≡ record self.old { listings = self.new.listings } }
         ensures spare { spare self.old.listings ≤ spare self.new.listings + 1 }
     {
         match *rec {
-            Rec::Formatted { .. } => self.listings.clear(),
+            Rec::Formatted { .. } | Rec::Opened { .. } => self.listings.clear(),
             Rec::Placed { piece, .. } => {
                 if piece.index == 0 {
                     let listing = self.list_of_put(records, tables, piece.put);
@@ -164,7 +167,7 @@ fn note_displaced(displaced: &mut Vec<Moved>, pieces: &Pieces, rec: &Rec)
     ensures spare { vec_capacity displaced.old - vec_len displaced.old ≤ vec_capacity displaced.new - vec_len displaced.new + 1 }
 {
     match *rec {
-        Rec::Formatted { .. } | Rec::Placed { .. } => displaced.clear(),
+        Rec::Formatted { .. } | Rec::Opened { .. } | Rec::Placed { .. } => displaced.clear(),
         Rec::Displaced { piece, .. } => {
             if let Some(standing) = pieces.get(&piece) {
                 let place = standing.place;

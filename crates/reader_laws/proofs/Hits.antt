@@ -62,6 +62,8 @@ miss_names_none (cause.Passed place floor unsaved) = refl
 miss_names_none (cause.NoMatch count) = refl
 miss_names_none (cause.Displaced segment live) = refl
 miss_names_none (cause.Aborted writer) = refl
+miss_names_none (cause.BeforeOpening serial) = refl
+miss_names_none (cause.Unrecorded dropped) = refl
 miss_names_none (cause.DeviceFault count) = refl
 miss_names_none (cause.Damaged place kept found) = refl
 
@@ -72,6 +74,8 @@ broken_names_none (cause.Passed place floor unsaved) = refl
 broken_names_none (cause.NoMatch count) = refl
 broken_names_none (cause.Displaced segment live) = refl
 broken_names_none (cause.Aborted writer) = refl
+broken_names_none (cause.BeforeOpening serial) = refl
+broken_names_none (cause.Unrecorded dropped) = refl
 broken_names_none (cause.DeviceFault count) = refl
 broken_names_none (cause.Damaged place kept found) = refl
 

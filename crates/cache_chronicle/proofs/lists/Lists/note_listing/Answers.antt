@@ -32,8 +32,8 @@ returns-else-piece-eq0-clause-standing c = λ s tables lists.
 
 pub returns-in_default : goal.returns-in_default
 returns-in_default c = record {
-  standing = λ s tables lists. rows-kept (listing_at c.args.self.now.listings) c.args.records.now s c.args.rec.now c.in_default.not-Formatted c.in_default.not-Placed lists.standing;
-  moved = λ s tables lists. moved-kept (listing_at c.args.self.now.listings) c.args.records.now s c.args.rec.now c.in_default.not-Formatted c.in_default.not-Placed lists.standing lists.moved;
+  standing = λ s tables lists. rows-kept (listing_at c.args.self.now.listings) c.args.records.now s c.args.rec.now c.in_default.not-Formatted c.in_default.not-Opened c.in_default.not-Placed lists.standing;
+  moved = λ s tables lists. moved-kept (listing_at c.args.self.now.listings) c.args.records.now s c.args.rec.now c.in_default.not-Formatted c.in_default.not-Opened c.in_default.not-Placed lists.standing lists.moved;
   others = refl;
   spare = omega arith;
 }
