@@ -21,7 +21,8 @@ use Rattle.cache_chronicle.specs.declared.listing.Listed.{Listed}
 use Rattle.cache_chronicle.specs.declared.lists.Moved.{Moved}
 use Rattle.cache_chronicle.specs.declared.pieces.Standing.{Standing}
 use Rattle.cache_chronicle.specs.declared.puts.Opened.{Opened}
-use Rattle.cache_chronicle.specs.Listing.{Tells, merged_listed, told_by, told_of}
+use Rattle.cache_chronicle.specs.Listing.{Tells, lines_at, lines_in, merged_listed, told_by, told_of}
+use Rattle.cache_chronicle.specs.Weight.{is_opening}
 use Rattle.std.specs.HashMap.{HashMap, get}
 use Rattle.arrayvec.specs.ArrayVec.{ArrayVec}
 use Rattle.cache_chronicle.specs.Lists.{AreOpened, listing_at, moved_of}
@@ -187,10 +188,10 @@ listed-absent s (Some row) at = let t : None ≡ Some row.place = at in cc
 -- the list of a put
 pub listed-put : (recs : List Rec) (s : State) (opened : Opened) (p : Option PutRow) (before : List Listed) → AreOpened recs (Some opened) p
     → Tells recs before (list_among s (s.displaced ++ s.rows) opened.key)
-    → Tells recs (merged_listed recs s.geometry.alternates (most_payload s.geometry) before (record { at = opened.at; cuts = opened.cuts })) (unwrap_or (option_map (merged_list s) p) [])
+    → Tells recs (merged_listed recs s.geometry.alternates (most_payload s.geometry) before (record { at = opened.at; row = 0; alternate = 0; cuts = opened.cuts })) (unwrap_or (option_map (merged_list s) p) [])
 listed-put recs s opened None before h tells = absurd h
 listed-put recs s opened (Some p) before h tells =
-    merged-told recs s.geometry.alternates (most_payload s.geometry) (record { at = opened.at; cuts = opened.cuts }) _ before (list_among s (s.displaced ++ s.rows) p.key)
+    merged-told recs s.geometry.alternates (most_payload s.geometry) (record { at = opened.at; row = 0; alternate = 0; cuts = opened.cuts }) _ before (list_among s (s.displaced ++ s.rows) p.key)
     (λ i. record { lines = h.lines i; cuts = h.cuts i })
     (rw h.key at tells)
 
@@ -285,3 +286,39 @@ listed-count listed recs s id standing has v live = by_row (live_row_of s id) re
     by_row None e live = let t : None ≡ Some standing = live in cc
     by_row (Some row) e live =
         ap (λ n. cause.NoMatch n) (length-told recs (listed id) (unwrap_or row.alternates []) (has id row v (live_found s (row_in s.rows id) row e)))
+
+-- ---- what an opening found
+
+-- behind an opening nothing is displaced
+pub none_displaced : (s : State) (r : Rec) → is_opening r ≡ true → (state_after s r).displaced ≡ []
+none_displaced s (rec.Opened geometry serial cursor floor next_put clean list) h = refl
+none_displaced s _ h = cc
+
+first_listed : (listed : PieceId → List Listed) (recs : List Rec) (row : Row) (rows : List Row) (id : PieceId) (there : Row) (b : Bool) → same_piece row.id id ≡ b
+    → (b ≡ true → Tells recs (listed id) (unwrap_or row.alternates [])) → (b ≡ false → row_in rows id ≡ Some there → Tells recs (listed id) (unwrap_or there.alternates []))
+    → cond b (Some row) (row_in rows id) ≡ Some there → Tells recs (listed id) (unwrap_or there.alternates [])
+first_listed listed recs row rows id there true e here rest found = let same : row ≡ there = cc in subst (λ (r : Row). Tells recs (listed id) (unwrap_or r.alternates [])) same (here refl)
+first_listed listed recs row rows id there false e here rest found = rest refl found
+
+-- a vector in front of others tells its own list
+pub listed-first : (listed others : PieceId → List Listed) (recs : List Rec) (row : Row) (rows : List Row) (entries : List Listed)
+    → ((id : PieceId) → others id ≡ cond (same_piece row.id id) entries (listed id)) → Tells recs entries (unwrap_or row.alternates [])
+    → HasListed listed recs rows → HasListed others recs (row ∷ rows)
+listed-first listed others recs row rows entries known tells has id there v found =
+    first_listed others recs row rows id there (same_piece row.id id) refl
+    (λ e. ap (map (told_by recs)) (known id ∙ ap (λ b. cond b entries (listed id)) e) ∙ tells)
+    (λ e f. ap (map (told_by recs)) (known id ∙ ap (λ b. cond b entries (listed id)) e) ∙ has id there v f)
+    found
+
+-- a fragment in front of others lists nothing
+pub listed-fragment : (listed : PieceId → List Listed) (recs : List Rec) (row : Row) (rows : List Row) → is_vector row.id ≡ false → HasListed listed recs rows → HasListed listed recs (row ∷ rows)
+listed-fragment listed recs row rows fragment has id there v found =
+    first_listed listed recs row rows id there (same_piece row.id id) refl
+    (λ e. let never : false ≡ true = sym fragment ∙ (ap is_vector (same_piece-true row.id id e) ∙ v) in cc)
+    (λ e f. has id there v f)
+    found
+
+-- what the record tells at its place
+pub found_at_end : (recs : List Rec) (r : Rec) (row alternate : ℕ) → lines_at (recs ++ r ∷ []) (length recs) row alternate ≡ lines_in row alternate r
+found_at_end [] r row alternate = refl
+found_at_end (x ∷ recs) r row alternate = found_at_end recs r row alternate

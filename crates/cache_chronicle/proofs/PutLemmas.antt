@@ -62,10 +62,10 @@ found_put-changed put other f (p ∷ puts) keeps =
 -- ---- more records
 
 -- what a record told, it tells in a longer list
-pub lines_at-more : (recs more : List Rec) (i : ℕ) (q : Lines) → lines_at recs i ≡ Some q → lines_at (recs ++ more) i ≡ Some q
-lines_at-more [] more i q h = let t : None ≡ Some q = h in cc
-lines_at-more (r ∷ recs) more zero q h = h
-lines_at-more (r ∷ recs) more (suc i) q h = lines_at-more recs more i q h
+pub lines_at-more : (recs more : List Rec) (i row alternate : ℕ) (q : Lines) → lines_at recs i row alternate ≡ Some q → lines_at (recs ++ more) i row alternate ≡ Some q
+lines_at-more [] more i row alternate q h = let t : None ≡ Some q = h in cc
+lines_at-more (r ∷ recs) more zero row alternate q h = h
+lines_at-more (r ∷ recs) more (suc i) row alternate q h = lines_at-more recs more i row alternate q h
 
 pub opened-more : (recs : List Rec) (r : Rec) (opened : Option Opened) (p : Option PutRow) → AreOpened recs opened p → AreOpened (recs ++ r ∷ []) opened p
 opened-more recs r None None h = tt
@@ -73,7 +73,7 @@ opened-more recs r None (Some p) h = h
 opened-more recs r (Some opened) None h = h
 opened-more recs r (Some opened) (Some p) h = record {
   key = h.key;
-  lines = lines_at-more recs (r ∷ []) opened.at (lines_of p) h.lines;
+  lines = lines_at-more recs (r ∷ []) opened.at 0 0 (lines_of p) h.lines;
   cuts = h.cuts;
   behind = rw length-append (omega (arith, h.behind));
 }
@@ -92,7 +92,7 @@ cut_opened : (recs : List Rec) (r : Rec) (row : TableRow) (opened : Opened) (cut
 cut_opened recs r row opened cuts None few is h = h
 cut_opened recs r row opened cuts (Some p) few is h = record {
   key = h.key;
-  lines = lines_at-more recs (r ∷ []) opened.at (lines_of p) h.lines;
+  lines = lines_at-more recs (r ∷ []) opened.at 0 0 (lines_of p) h.lines;
   cuts = rw length-append (omega (arith, h.cuts, h.behind));
   behind = rw length-append (omega (arith, h.behind));
 }

@@ -7,3 +7,4 @@ pub mod Lists
 pub mod Tables
 pub mod TapeTable
 pub mod Weight
+pub mod Shown

@@ -1,10 +1,10 @@
 // What a chronicle answers.
-ghost use Rattle.std.specs.Prelude.{◌≡◌, false, ◌+◌, ◌≤◌, ◌<◌, ℕ, None, length, OnOk};
+ghost use Rattle.std.specs.Prelude.{◌≡◌, ◌+◌, ◌≤◌, ◌<◌, ℕ, None, length, OnOk};
 ghost use Rattle.cache_model.specs.Kept.{Kept, state_of, with_record};
 ghost use Rattle.cache_model.specs.State.{live_row_of};
 ghost use Rattle.cache_model.specs.Verdict.{cause_of_miss, cause_of_piece, vector_of, piece_at, digest_of_piece, size_of, pin_of};
 
-ghost use Rattle.cache_chronicle.specs.Weight.{is_opening, weight_of};
+ghost use Rattle.cache_chronicle.specs.Weight.{weight_of};
 
 use cache_model::{Cause, Rec};
 use std::alloc::AllocError;
@@ -24,8 +24,7 @@ pub trait Chronicle {
         ensures same { room self.old ≤ room self.new };
 
     fn push(&mut self, rec: Rec)
-        requires weight { weight_of rec ≤ room self.old }
-        requires stub { is_opening rec ≡ false }
+        requires { weight_of rec ≤ room self.old }
         ensures kept { kept self.new ≡ with_record (kept self.old) rec }
         ensures room { room self.old ≤ room self.new + weight_of rec };
 

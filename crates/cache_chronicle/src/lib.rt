@@ -2,6 +2,7 @@
 #![tactic(auto)]
 
 mod chronicle;
+mod found;
 mod full;
 mod listing;
 mod lists;

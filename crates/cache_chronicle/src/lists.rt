@@ -12,6 +12,7 @@ ghost use Rattle.cache_chronicle.specs.Listings.{HasLists, spare_of_lists};
 ghost use Rattle.cache_chronicle.specs.Tables.{HasRows};
 ghost use Rattle.cache_chronicle.specs.Weight.{is_opening, weight_of};
 
+use crate::found::note_found;
 use crate::listing::{Listed, Listing, merged};
 use crate::pieces::{Pieces, vector_piece};
 use crate::puts::{Puts, note_put};
@@ -30,7 +31,7 @@ struct Moved {
     place: u64,
 }
 
-type Listings = HashMap<PieceId, Listing>;
+pub(crate) type Listings = HashMap<PieceId, Listing>;
 
 #[derive(Drop)]
 pub(crate) struct Lists {
@@ -62,21 +63,21 @@ impl Lists {
 
     /// Notes what a record says that comes behind others. The tables have what those say.
     pub(crate) fn note(&mut self, records: &[Rec], tables: &Tables, rec: &Rec)
-        requires weight { weight_of rec.now ≤ spare_of_lists self.old }
-        requires stub { is_opening rec.now ≡ false }
+        requires { weight_of rec.now ≤ spare_of_lists self.old }
         ensures has { (s : State) → HasTables tables.now s → HasLists self.old records.now s → HasLists self.new (records.now ++ rec.now ∷ []) (state_after s rec.now) }
         ensures spare { spare_of_lists self.old ≤ spare_of_lists self.new + weight_of rec.now }
     {
         self.note_listing(records, tables, rec);
+        note_found(&mut self.listings, records.len(), rec);
         note_displaced(&mut self.displaced, &tables.pieces, rec);
         note_put(&mut self.puts, records.len(), rec);
     }
 
+    // What an opening found comes behind that.
     fn note_listing(&mut self, records: &[Rec], tables: &Tables, rec: &Rec)
-        requires some { 0 < spare self.old.listings }
-        requires stub { is_opening rec.now ≡ false }
-        ensures standing { (s : State) → HasTables tables.now s → HasLists self.old records.now s → HasListings self.new.listings records.now (state_after s rec.now).rows }
-        ensures moved { (s : State) → HasTables tables.now s → HasLists self.old records.now s → HasListings self.new.listings records.now (state_after s rec.now).displaced }
+        requires { 0 < spare self.old.listings }
+        ensures standing { (s : State) → is_opening rec.now ≡ false → HasTables tables.now s → HasLists self.old records.now s → HasListings self.new.listings records.now (state_after s rec.now).rows }
+        ensures moved { (s : State) → is_opening rec.now ≡ false → HasTables tables.now s → HasLists self.old records.now s → HasListings self.new.listings records.now (state_after s rec.now).displaced }
         ensures others { self.new ≡ record self.old { listings = self.new.listings } }
         ensures spare { spare self.old.listings ≤ spare self.new.listings + 1 }
     {
@@ -102,6 +103,8 @@ impl Lists {
         };
         let new = Listed {
             at: opened.at,
+            row: 0,
+            alternate: 0,
             cuts: opened.cuts,
         };
         let before = self.list_among(tables, opened.key);
