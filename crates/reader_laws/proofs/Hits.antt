@@ -92,6 +92,7 @@ end_says put given None = names_none refl
 end_says put given (Some (rec.Ended reader last)) = ends reader last
 end_says put given (Some (rec.Broke reader why)) = names_none (broken_names_none why)
 end_says put given (Some (rec.Formatted geometry)) = names_none refl
+end_says put given (Some (rec.Opened geometry serial cursor floor next_put clean list)) = names_none refl
 end_says put given (Some (rec.Began cursor floor)) = names_none refl
 end_says put given (Some (rec.Placed piece place blocks digest pin)) = names_none refl
 end_says put given (Some (rec.Moved piece from place digest)) = names_none refl
@@ -107,6 +108,8 @@ end_says put given (Some (rec.ReadOpened reader actor key request found)) = name
 end_says put given (Some (rec.Gave reader index length)) = names_none refl
 end_says put given (Some (rec.Waited reader cut)) = names_none refl
 end_says put given (Some (rec.ReadClosed reader)) = names_none refl
+end_says put given (Some (rec.SyncBegun serial cursor clean in_parts)) = names_none refl
+end_says put given (Some (rec.SyncDone serial)) = names_none refl
 end_says put given (Some (rec.Fault count)) = names_none refl
 
 -- a whole read hit the put, and was told the end

@@ -131,6 +131,8 @@ own_cause reader row (cause.Passed place floor unsaved) = tt
 own_cause reader row (cause.NoMatch count) = tt
 own_cause reader row (cause.Displaced segment live) = tt
 own_cause reader row (cause.Aborted writer) = tt
+own_cause reader row (cause.BeforeOpening serial) = tt
+own_cause reader row (cause.Unrecorded dropped) = tt
 own_cause reader row (cause.DeviceFault count) = (tt, tt)
 own_cause reader row (cause.Damaged place kept other) = (tt, tt)
 
