@@ -2,3 +2,4 @@ pub mod RowLemmas
 pub mod PutLemmas
 pub mod ListingLemmas
 pub mod ListLemmas
+mod Behind

@@ -9,6 +9,7 @@ use Rattle.tape_base.proofs.NameLaws.{same_piece-true}
 use Rattle.tape_base.specs.declared.keys.Key.{Key}
 use Rattle.tape_base.specs.declared.digests.Digest.{Digest}
 use Rattle.tape_base.specs.declared.geometries.Geometry.{Geometry}
+use Rattle.cache_model.specs.declared.findings.FoundRow.{FoundRow}
 use Rattle.cache_model.specs.declared.record.Rec.{Rec}
 use Rattle.cache_model.specs.declared.record.Rec.TheVariants as rec
 use Rattle.cache_model.specs.State.{State, Row, PutRow, LastVector, Complete, TakenOut, floor_now, is_live, last_vector, list_among, list_of_row, live_row_of, only_live, merged_list, most_payload, moved_row, row_in, state_after, vector_piece, without, without_earlier}
@@ -20,7 +21,8 @@ use Rattle.cache_chronicle.specs.declared.listing.Listed.{Listed}
 use Rattle.cache_chronicle.specs.declared.lists.Moved.{Moved}
 use Rattle.cache_chronicle.specs.declared.pieces.Standing.{Standing}
 use Rattle.cache_chronicle.specs.declared.puts.Opened.{Opened}
-use Rattle.cache_chronicle.specs.Listing.{Tells, merged_listed, told_by, told_of}
+use Rattle.cache_chronicle.specs.Listing.{Tells, lines_at, lines_in, merged_listed, told_by, told_of}
+use Rattle.cache_chronicle.specs.Weight.{is_opening}
 use Rattle.std.specs.HashMap.{HashMap, get}
 use Rattle.arrayvec.specs.ArrayVec.{ArrayVec}
 use Rattle.cache_chronicle.specs.Lists.{AreOpened, listing_at, moved_of}
@@ -186,10 +188,10 @@ listed-absent s (Some row) at = let t : None ≡ Some row.place = at in cc
 -- the list of a put
 pub listed-put : (recs : List Rec) (s : State) (opened : Opened) (p : Option PutRow) (before : List Listed) → AreOpened recs (Some opened) p
     → Tells recs before (list_among s (s.displaced ++ s.rows) opened.key)
-    → Tells recs (merged_listed recs s.geometry.alternates (most_payload s.geometry) before (record { at = opened.at; cuts = opened.cuts })) (unwrap_or (option_map (merged_list s) p) [])
+    → Tells recs (merged_listed recs s.geometry.alternates (most_payload s.geometry) before (record { at = opened.at; row = 0; alternate = 0; cuts = opened.cuts })) (unwrap_or (option_map (merged_list s) p) [])
 listed-put recs s opened None before h tells = absurd h
 listed-put recs s opened (Some p) before h tells =
-    merged-told recs s.geometry.alternates (most_payload s.geometry) (record { at = opened.at; cuts = opened.cuts }) _ before (list_among s (s.displaced ++ s.rows) p.key)
+    merged-told recs s.geometry.alternates (most_payload s.geometry) (record { at = opened.at; row = 0; alternate = 0; cuts = opened.cuts }) _ before (list_among s (s.displaced ++ s.rows) p.key)
     (λ i. record { lines = h.lines i; cuts = h.cuts i })
     (rw h.key at tells)
 
@@ -221,26 +223,30 @@ listed-copied listed recs piece place digest rows has id row vector found =
 
 pub rows-kept : (listed : PieceId → List Listed) (recs : List Rec) (s : State) (r : Rec)
     → ((geometry : Geometry) → r ≡ rec.Formatted geometry → ⊥)
+    → ((geometry : Geometry) (serial cursor floor next_put : ℕ) (clean : Bool) (list : List FoundRow) → r ≡ rec.Opened geometry serial cursor floor next_put clean list → ⊥)
     → ((piece : PieceId) (place blocks : ℕ) (digest : Digest) (pin : ℕ) → r ≡ rec.Placed piece place blocks digest pin → ⊥)
     → HasListed listed recs s.rows → HasListed listed recs (state_after s r).rows
-rows-kept listed recs s (rec.Formatted geometry) formats places has = absurd (formats geometry refl)
-rows-kept listed recs s (rec.Placed piece place blocks digest pin) formats places has = absurd (places piece place blocks digest pin refl)
-rows-kept listed recs s (rec.Moved piece from place digest) formats places has = listed-copied listed recs piece place digest s.rows has
-rows-kept listed recs s (rec.Displaced piece segment live) formats places has = listed-without listed recs piece s.rows has
-rows-kept listed recs s (rec.Damaged piece place kept found) formats places has = listed-without listed recs piece s.rows has
-rows-kept listed recs s (rec.Committed put key length) formats places has = earlier-kept listed recs s.rows key put (last_vector s key) has
-rows-kept listed recs s (rec.Removed put key) formats places has = listed-without listed recs (vector_piece key put) s.rows has
-rows-kept listed recs s r formats places has = has
+rows-kept listed recs s (rec.Formatted geometry) formats found places has = absurd (formats geometry refl)
+rows-kept listed recs s (rec.Opened geometry serial cursor floor next_put clean list) formats found places has = absurd (found geometry serial cursor floor next_put clean list refl)
+rows-kept listed recs s (rec.Placed piece place blocks digest pin) formats found places has = absurd (places piece place blocks digest pin refl)
+rows-kept listed recs s (rec.Moved piece from place digest) formats found places has = listed-copied listed recs piece place digest s.rows has
+rows-kept listed recs s (rec.Displaced piece segment live) formats found places has = listed-without listed recs piece s.rows has
+rows-kept listed recs s (rec.Damaged piece place kept digest) formats found places has = listed-without listed recs piece s.rows has
+rows-kept listed recs s (rec.Committed put key length) formats found places has = earlier-kept listed recs s.rows key put (last_vector s key) has
+rows-kept listed recs s (rec.Removed put key) formats found places has = listed-without listed recs (vector_piece key put) s.rows has
+rows-kept listed recs s r formats found places has = has
 
 pub moved-kept : (listed : PieceId → List Listed) (recs : List Rec) (s : State) (r : Rec)
     → ((geometry : Geometry) → r ≡ rec.Formatted geometry → ⊥)
+    → ((geometry : Geometry) (serial cursor floor next_put : ℕ) (clean : Bool) (list : List FoundRow) → r ≡ rec.Opened geometry serial cursor floor next_put clean list → ⊥)
     → ((piece : PieceId) (place blocks : ℕ) (digest : Digest) (pin : ℕ) → r ≡ rec.Placed piece place blocks digest pin → ⊥)
     → HasListed listed recs s.rows → HasListed listed recs s.displaced → HasListed listed recs (state_after s r).displaced
-moved-kept listed recs s (rec.Formatted geometry) formats places has before = absurd (formats geometry refl)
-moved-kept listed recs s (rec.Placed piece place blocks digest pin) formats places has before = absurd (places piece place blocks digest pin refl)
-moved-kept listed recs s (rec.Displaced piece segment live) formats places has before =
+moved-kept listed recs s (rec.Formatted geometry) formats found places has before = absurd (formats geometry refl)
+moved-kept listed recs s (rec.Opened geometry serial cursor floor next_put clean list) formats found places has before = absurd (found geometry serial cursor floor next_put clean list refl)
+moved-kept listed recs s (rec.Placed piece place blocks digest pin) formats found places has before = absurd (places piece place blocks digest pin refl)
+moved-kept listed recs s (rec.Displaced piece segment live) formats found places has before =
     listed-both listed recs s.displaced (option_to_list (row_in s.rows piece)) before (listed-one listed recs s.rows piece has)
-moved-kept listed recs s r formats places has before = before
+moved-kept listed recs s r formats found places has before = before
 
 items_anew : (b : Bool) (here : ArrayVec Listed) (there : Option (ArrayVec Listed))
     → unwrap_or (option_map (λ (l : ArrayVec Listed). l.items) (cond b (Some here) there)) [] ≡ cond b here.items (unwrap_or (option_map (λ (l : ArrayVec Listed). l.items) there) [])
@@ -280,3 +286,39 @@ listed-count listed recs s id standing has v live = by_row (live_row_of s id) re
     by_row None e live = let t : None ≡ Some standing = live in cc
     by_row (Some row) e live =
         ap (λ n. cause.NoMatch n) (length-told recs (listed id) (unwrap_or row.alternates []) (has id row v (live_found s (row_in s.rows id) row e)))
+
+-- ---- what an opening found
+
+-- behind an opening nothing is displaced
+pub none_displaced : (s : State) (r : Rec) → is_opening r ≡ true → (state_after s r).displaced ≡ []
+none_displaced s (rec.Opened geometry serial cursor floor next_put clean list) h = refl
+none_displaced s _ h = cc
+
+first_listed : (listed : PieceId → List Listed) (recs : List Rec) (row : Row) (rows : List Row) (id : PieceId) (there : Row) (b : Bool) → same_piece row.id id ≡ b
+    → (b ≡ true → Tells recs (listed id) (unwrap_or row.alternates [])) → (b ≡ false → row_in rows id ≡ Some there → Tells recs (listed id) (unwrap_or there.alternates []))
+    → cond b (Some row) (row_in rows id) ≡ Some there → Tells recs (listed id) (unwrap_or there.alternates [])
+first_listed listed recs row rows id there true e here rest found = let same : row ≡ there = cc in subst (λ (r : Row). Tells recs (listed id) (unwrap_or r.alternates [])) same (here refl)
+first_listed listed recs row rows id there false e here rest found = rest refl found
+
+-- a vector in front of others tells its own list
+pub listed-first : (listed others : PieceId → List Listed) (recs : List Rec) (row : Row) (rows : List Row) (entries : List Listed)
+    → ((id : PieceId) → others id ≡ cond (same_piece row.id id) entries (listed id)) → Tells recs entries (unwrap_or row.alternates [])
+    → HasListed listed recs rows → HasListed others recs (row ∷ rows)
+listed-first listed others recs row rows entries known tells has id there v found =
+    first_listed others recs row rows id there (same_piece row.id id) refl
+    (λ e. ap (map (told_by recs)) (known id ∙ ap (λ b. cond b entries (listed id)) e) ∙ tells)
+    (λ e f. ap (map (told_by recs)) (known id ∙ ap (λ b. cond b entries (listed id)) e) ∙ has id there v f)
+    found
+
+-- a fragment in front of others lists nothing
+pub listed-fragment : (listed : PieceId → List Listed) (recs : List Rec) (row : Row) (rows : List Row) → is_vector row.id ≡ false → HasListed listed recs rows → HasListed listed recs (row ∷ rows)
+listed-fragment listed recs row rows fragment has id there v found =
+    first_listed listed recs row rows id there (same_piece row.id id) refl
+    (λ e. let never : false ≡ true = sym fragment ∙ (ap is_vector (same_piece-true row.id id e) ∙ v) in cc)
+    (λ e f. has id there v f)
+    found
+
+-- what the record tells at its place
+pub found_at_end : (recs : List Rec) (r : Rec) (row alternate : ℕ) → lines_at (recs ++ r ∷ []) (length recs) row alternate ≡ lines_in row alternate r
+found_at_end [] r row alternate = refl
+found_at_end (x ∷ recs) r row alternate = found_at_end recs r row alternate

@@ -1,12 +1,12 @@
 -- Lists told by records: what merging makes of them, and that more records tell the same.
-use Rattle.std.proofs.Common.{◌≡◌, ◌∙◌, ℕ, ◌+◌, refl, sym, ap, Bool, true, false, cond, List, [], ◌∷◌, ◌++◌, length}
-use Rattle.std.specs.Prelude.{nat_le, ◌&&◌, not, map, filter, sum_by}
+use Rattle.std.proofs.Common.{◌≡◌, ◌∙◌, ℕ, zero, suc, ◌+◌, Some, arith, take, slice_get, refl, sym, ap, Bool, true, false, cond, List, [], ◌∷◌, ◌++◌, length}
+use Rattle.std.specs.Prelude.{nat_le, ◌&&◌, not, map, filter, option_map, sum_by}
 use Rattle.std.proofs.lemmas.List.{map-append, length-map}
 use Rattle.std.proofs.lemmas.List.Sums.{sum_by-cons}
 use Rattle.alternate_vector.specs.Alternates.{Stored, alternate_size, is_match, is_within, longest_within, merged, vector_size, with_new}
 use Rattle.cache_model.specs.declared.record.Rec.{Rec}
 use Rattle.cache_chronicle.specs.declared.listing.Listed.{Listed}
-use Rattle.cache_chronicle.specs.Listing.{Told, Tells, fits_listed, fits_told, longest_listed, merged_listed, replaces, size_of_all, size_of_told, stays_beside, told_by, told_of, with_listed}
+use Rattle.cache_chronicle.specs.Listing.{Told, Tells, fits_listed, fits_told, lines_at, lines_listed, lines_of_stored, longest_listed, merged_listed, replaces, size_of_all, size_of_told, stays_beside, told_by, told_of, with_listed}
 use Rattle.cache_chronicle.proofs.PutLemmas.{lines_at-more}
 
 sizes_told : (alternates : List Stored) → sum_by size_of_told (map told_of alternates) ≡ sum_by alternate_size alternates
@@ -78,7 +78,7 @@ merged-told recs most bytes new put entries alternates h k =
 
 told-more : (recs more : List Rec) (e : Listed) (a : Stored) → told_by recs e ≡ told_of a → told_by (recs ++ more) e ≡ told_of a
 told-more recs more e a h =
-    let lines = lines_at-more recs more e.at (record { request = a.request; response = a.response }) (ap (λ (t : Told). t.lines) h) in
+    let lines = lines_at-more recs more e.at e.row e.alternate (record { request = a.request; response = a.response }) (ap (λ (t : Told). t.lines) h) in
     let cuts = ap (λ (t : Told). t.cuts) h in
     λ i. record { lines = lines i; cuts = cuts i }
 
@@ -93,3 +93,25 @@ tells-more recs more (e ∷ entries) (a ∷ alternates) h =
 -- as many entries as alternates
 pub length-told : (recs : List Rec) (entries : List Listed) (alternates : List Stored) → Tells recs entries alternates → length entries ≡ length alternates
 length-told recs entries alternates h = sym (length-map entries (told_by recs)) ∙ ap length h ∙ length-map alternates told_of
+
+-- ---- what an opening found
+
+take_next : {X : Type 0} (i : ℕ) (list : List X) (x : X) → slice_get list i ≡ Some x → take (suc i) list ≡ take i list ++ x ∷ []
+take_next i [] x h = cc
+take_next zero (y ∷ ys) x h = let same : y ≡ x = cc in ap (λ z. z ∷ []) same
+take_next (suc i) (y ∷ ys) x h = ap (λ zs. y ∷ zs) (take_next i ys x h)
+
+-- one alternate more of a row that was found
+pub tells-next : (recs : List Rec) (at row i cuts : ℕ) (entries : List Listed) (list : List Stored) (a : Stored) → lines_at recs at row i ≡ lines_listed (Some list) i
+    → slice_get list i ≡ Some a → cuts ≡ length a.table → map (told_by recs) entries ≡ map told_of (take i list)
+    → map (told_by recs) (entries ++ record { at = at; row = row; alternate = i; cuts = cuts } ∷ []) ≡ map told_of (take (i + 1) list)
+tells-next recs at row i cuts entries list a found here count h =
+    let lines : lines_at recs at row i ≡ Some (lines_of_stored a) = found ∙ ap (option_map lines_of_stored) here in
+    let next : suc i ≡ i + 1 = omega arith in
+    let new : Listed = record { at = at; row = row; alternate = i; cuts = cuts } in
+    let told : told_by recs new ≡ told_of a = λ k. record { lines = lines k; cuts = count k } in
+    map-append (told_by recs) entries (new ∷ [])
+    ∙ (ap (λ front. front ++ told_by recs new ∷ []) h
+    ∙ (ap (λ t. map told_of (take i list) ++ t ∷ []) told
+    ∙ (sym (map-append told_of (take i list) (a ∷ []))
+    ∙ (ap (map told_of) (sym (take_next i list a here)) ∙ ap (λ (n : ℕ). map told_of (take n list)) next))))

@@ -8,6 +8,7 @@ use Rattle.tape_base.specs.declared.digests.Digest.{Digest}
 use Rattle.tape_base.specs.declared.actors.Actor.{Actor}
 use Rattle.tape_base.specs.declared.geometries.Geometry.{Geometry}
 use Rattle.alternate_vector.specs.Field.{Field}
+use Rattle.cache_model.specs.declared.findings.FoundRow.{FoundRow}
 use Rattle.cache_model.specs.declared.record.Rec.{Rec}
 use Rattle.cache_model.specs.declared.record.Rec.TheVariants as rec
 use Rattle.cache_model.specs.State.{PutRow, State, Writing, Closed, GivenUp, change_put, state_after, with_cut, with_writing}
@@ -61,10 +62,10 @@ found_put-changed put other f (p ∷ puts) keeps =
 -- ---- more records
 
 -- what a record told, it tells in a longer list
-pub lines_at-more : (recs more : List Rec) (i : ℕ) (q : Lines) → lines_at recs i ≡ Some q → lines_at (recs ++ more) i ≡ Some q
-lines_at-more [] more i q h = let t : None ≡ Some q = h in cc
-lines_at-more (r ∷ recs) more zero q h = h
-lines_at-more (r ∷ recs) more (suc i) q h = lines_at-more recs more i q h
+pub lines_at-more : (recs more : List Rec) (i row alternate : ℕ) (q : Lines) → lines_at recs i row alternate ≡ Some q → lines_at (recs ++ more) i row alternate ≡ Some q
+lines_at-more [] more i row alternate q h = let t : None ≡ Some q = h in cc
+lines_at-more (r ∷ recs) more zero row alternate q h = h
+lines_at-more (r ∷ recs) more (suc i) row alternate q h = lines_at-more recs more i row alternate q h
 
 pub opened-more : (recs : List Rec) (r : Rec) (opened : Option Opened) (p : Option PutRow) → AreOpened recs opened p → AreOpened (recs ++ r ∷ []) opened p
 opened-more recs r None None h = tt
@@ -72,7 +73,7 @@ opened-more recs r None (Some p) h = h
 opened-more recs r (Some opened) None h = h
 opened-more recs r (Some opened) (Some p) h = record {
   key = h.key;
-  lines = lines_at-more recs (r ∷ []) opened.at (lines_of p) h.lines;
+  lines = lines_at-more recs (r ∷ []) opened.at 0 0 (lines_of p) h.lines;
   cuts = h.cuts;
   behind = rw length-append (omega (arith, h.behind));
 }
@@ -91,7 +92,7 @@ cut_opened : (recs : List Rec) (r : Rec) (row : TableRow) (opened : Opened) (cut
 cut_opened recs r row opened cuts None few is h = h
 cut_opened recs r row opened cuts (Some p) few is h = record {
   key = h.key;
-  lines = lines_at-more recs (r ∷ []) opened.at (lines_of p) h.lines;
+  lines = lines_at-more recs (r ∷ []) opened.at 0 0 (lines_of p) h.lines;
   cuts = rw length-append (omega (arith, h.cuts, h.behind));
   behind = rw length-append (omega (arith, h.behind));
 }
@@ -126,17 +127,19 @@ written-noted recs r opened_as found other has writing false = opened-more recs 
 -- the other records neither open nor cut a put
 pub puts-kept : (recs : List Rec) (s : State) (r : Rec) (opened_as : ℕ → Option Opened)
     → ((geometry : Geometry) → r ≡ rec.Formatted geometry → ⊥)
+    → ((geometry : Geometry) (serial cursor floor next_put : ℕ) (clean : Bool) (list : List FoundRow) → r ≡ rec.Opened geometry serial cursor floor next_put clean list → ⊥)
     → ((actor : Actor) (put : ℕ) (key : Key) (request response : List Field) (pin : ℕ) → r ≡ rec.WriteOpened actor put key request response pin → ⊥)
     → ((put index length : ℕ) (digest : Digest) → r ≡ rec.Cut put index length digest → ⊥)
     → ((q : ℕ) → AreOpened recs (opened_as q) (found_put q s.puts))
     → (q : ℕ) → AreOpened (recs ++ r ∷ []) (opened_as q) (found_put q (state_after s r).puts)
-puts-kept recs s (rec.Formatted geometry) opened_as formats opens cuts has q = absurd (formats geometry refl)
-puts-kept recs s (rec.WriteOpened actor put key request response pin) opened_as formats opens cuts has q = absurd (opens actor put key request response pin refl)
-puts-kept recs s (rec.Cut put index length digest) opened_as formats opens cuts has q = absurd (cuts put index length digest refl)
-puts-kept recs s (rec.Committed put key length) opened_as formats opens cuts has q =
+puts-kept recs s (rec.Formatted geometry) opened_as formats found opens cuts has q = absurd (formats geometry refl)
+puts-kept recs s (rec.Opened geometry serial cursor floor next_put clean list) opened_as formats found opens cuts has q = absurd (found geometry serial cursor floor next_put clean list refl)
+puts-kept recs s (rec.WriteOpened actor put key request response pin) opened_as formats found opens cuts has q = absurd (opens actor put key request response pin refl)
+puts-kept recs s (rec.Cut put index length digest) opened_as formats found opens cuts has q = absurd (cuts put index length digest refl)
+puts-kept recs s (rec.Committed put key length) opened_as formats found opens cuts has q =
     rw (found_put-changed put q (with_writing Closed) s.puts (λ p. refl))
     (written-noted recs (rec.Committed put key length) opened_as (λ n. found_put n s.puts) q has Closed (put == q))
-puts-kept recs s (rec.Aborted put key) opened_as formats opens cuts has q =
+puts-kept recs s (rec.Aborted put key) opened_as formats found opens cuts has q =
     rw (found_put-changed put q (with_writing GivenUp) s.puts (λ p. refl))
     (written-noted recs (rec.Aborted put key) opened_as (λ n. found_put n s.puts) q has GivenUp (put == q))
-puts-kept recs s r opened_as formats opens cuts has q = opened-more recs r (opened_as q) (found_put q s.puts) (has q)
+puts-kept recs s r opened_as formats found opens cuts has q = opened-more recs r (opened_as q) (found_put q s.puts) (has q)

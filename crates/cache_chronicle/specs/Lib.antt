@@ -6,3 +6,5 @@ pub mod Listings
 pub mod Lists
 pub mod Tables
 pub mod TapeTable
+pub mod Weight
+pub mod Shown

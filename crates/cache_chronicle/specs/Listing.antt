@@ -1,9 +1,10 @@
--- What a vector lists, told by places among the records: the record that opened each put, and how far
--- the put was cut.
-use Rattle.std.specs.Prelude.{ℕ, ◌≡◌, ◌+◌, ◌*◌, nat_le, Bool, false, not, ◌&&◌, if◌then◌else◌, List, [], ◌∷◌, ◌++◌, length, map, filter, sum_by, Option, Some, None, option_and_then, slice_get}
+-- What a vector lists, told by places among the records: the record that opened each put or that found
+-- its alternate, and how many fragments it has.
+use Rattle.std.specs.Prelude.{ℕ, ◌≡◌, ◌+◌, ◌*◌, nat_le, Bool, false, not, ◌&&◌, if◌then◌else◌, List, [], ◌∷◌, ◌++◌, length, map, filter, sum_by, Option, Some, None, option_and_then, option_map, slice_get}
 use Rattle.alternate_vector.specs.Field.{Field}
 use Rattle.alternate_vector.specs.Vary.{request_matches}
 use Rattle.alternate_vector.specs.Alternates.{Stored, fields_size}
+use Rattle.cache_model.specs.declared.findings.FoundRow.{FoundRow}
 use Rattle.cache_model.specs.declared.record.Rec.{Rec}
 use Rattle.cache_model.specs.declared.record.Rec.TheVariants as rec
 use Rattle.cache_chronicle.specs.declared.listing.Listed.{Listed}
@@ -18,18 +19,35 @@ pub record Told : Type 0 where
   pub lines : Option Lines
   pub cuts : ℕ
 
--- of a record that opens a put
-abbrev pub lines_in : Rec → Option Lines
-lines_in (rec.WriteOpened actor put key request response pin) = Some (record { request = request; response = response })
-lines_in _ = None
+-- those of an alternate
+abbrev pub lines_of_stored : Stored → Lines
+lines_of_stored a = record { request = a.request; response = a.response }
 
--- of the record at a place
-abbrev pub lines_at : List Rec → ℕ → Option Lines
-lines_at recs at = option_and_then lines_in (slice_get recs at)
+-- those of one alternate of a row, where it lists so many
+abbrev pub lines_listed : Option (List Stored) → ℕ → Option Lines
+lines_listed list alternate = option_map lines_of_stored (option_and_then (λ (l : List Stored). slice_get l alternate) list)
+
+-- what a found row lists
+abbrev pub list_found : List FoundRow → ℕ → Option (List Stored)
+list_found found row = option_and_then (λ (f : FoundRow). f.alternates) (slice_get found row)
+
+-- those of a record that opens a put, or of one alternate of one piece that an opening found
+abbrev pub lines_in : ℕ → ℕ → Rec → Option Lines
+lines_in row alternate (rec.WriteOpened actor put key request response pin) = Some (record { request = request; response = response })
+lines_in row alternate (rec.Opened geometry serial cursor floor next_put clean list) = lines_listed (list_found list row) alternate
+lines_in row alternate _ = None
+
+-- those that the record at a place tells
+abbrev pub lines_at : List Rec → ℕ → ℕ → ℕ → Option Lines
+lines_at recs at row alternate = option_and_then (lines_in row alternate) (slice_get recs at)
+
+-- the record at a place is an opening that found these pieces
+abbrev pub IsFoundBy : List Rec → ℕ → List FoundRow → Type 0
+IsFoundBy recs at found = (row alternate : ℕ) → lines_at recs at row alternate ≡ lines_listed (list_found found row) alternate
 
 -- what an entry tells by the records
 abbrev pub told_by : List Rec → Listed → Told
-told_by recs e = record { lines = lines_at recs e.at; cuts = e.cuts }
+told_by recs e = record { lines = lines_at recs e.at e.row e.alternate; cuts = e.cuts }
 
 -- what is told of an alternate
 abbrev pub told_of : Stored → Told

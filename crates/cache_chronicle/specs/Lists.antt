@@ -18,7 +18,7 @@ lines_of p = record { request = p.request; response = p.response }
 -- the put was opened by the record at its place, and cut so many times behind that
 pub record IsOpened (recs : List Rec) (opened : Opened) (p : PutRow) : Type 0 where
   pub key : opened.key ≡ p.key
-  pub lines : lines_at recs opened.at ≡ Some (lines_of p)
+  pub lines : lines_at recs opened.at 0 0 ≡ Some (lines_of p)
   pub cuts : opened.cuts ≡ length p.cuts
   pub behind : opened.at + opened.cuts < length recs
 

@@ -4,6 +4,8 @@ ghost use Rattle.cache_model.specs.Kept.{Kept, state_of, with_record};
 ghost use Rattle.cache_model.specs.State.{live_row_of};
 ghost use Rattle.cache_model.specs.Verdict.{cause_of_miss, cause_of_piece, vector_of, piece_at, digest_of_piece, size_of, pin_of};
 
+ghost use Rattle.cache_chronicle.specs.Weight.{weight_of};
+
 use cache_model::{Cause, Rec};
 use std::alloc::AllocError;
 use tape_base::{Digest, Key, PieceId};
@@ -13,7 +15,7 @@ pub trait Chronicle {
     /// The values at its beginning, and the records since.
     ghost kept: { Self → Kept };
 
-    /// How many records can be pushed without more memory.
+    /// How many records can be pushed without more memory, the pieces of an opening counted too.
     ghost room: { Self → ℕ };
 
     fn reserve(&mut self, more: usize) -> Result<(), AllocError>
@@ -22,9 +24,9 @@ pub trait Chronicle {
         ensures same { room self.old ≤ room self.new };
 
     fn push(&mut self, rec: Rec)
-        requires { 0 < room self.old }
+        requires { weight_of rec ≤ room self.old }
         ensures kept { kept self.new ≡ with_record (kept self.old) rec }
-        ensures room { room self.old ≤ room self.new + 1 };
+        ensures room { room self.old ≤ room self.new + weight_of rec };
 
     /// How many records there are.
     fn count(&self) -> u64
@@ -59,7 +61,7 @@ pub trait Chronicle {
     fn pin_of(&self, id: PieceId) -> Option<u64>
         ensures { result ≡ pin_of (state_of (kept self.now)) id };
 
-    /// How many records were dropped.
+    /// How many puts were forgotten.
     fn dropped(&self) -> u64
-        ensures { result ≡ 0 };
+        ensures { result ≡ (state_of (kept self.now)).dropped };
 }

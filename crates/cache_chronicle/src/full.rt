@@ -98,7 +98,7 @@ impl FullChronicle {
                 floor: self.floor(),
                 unsaved: self.tables.unsaved.contains(&standing.place),
             },
-            None => Cause::NeverPut,
+            None => self.tables.tape.no_record(),
         }
     }
 
@@ -119,7 +119,7 @@ impl FullChronicle {
     {
         match self.tables.aborts.get(&key).copied() {
             Some(writer) => Cause::Aborted { writer },
-            None => Cause::NeverPut,
+            None => self.tables.tape.no_record(),
         }
     }
 }
@@ -192,6 +192,6 @@ impl Chronicle for FullChronicle {
     }
 
     fn dropped(&self) -> u64 {
-        0
+        self.tables.tape.dropped()
     }
 }

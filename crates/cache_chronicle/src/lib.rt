@@ -2,10 +2,12 @@
 #![tactic(auto)]
 
 mod chronicle;
+mod found;
 mod full;
 mod listing;
 mod lists;
 mod losses;
+mod opened;
 mod pieces;
 mod puts;
 mod tables;

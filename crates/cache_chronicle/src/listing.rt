@@ -1,15 +1,19 @@
 // What a vector lists, told by places among the records, so that no line is copied.
-ghost use Rattle.std.specs.Prelude.{◌≡◌, ◌+◌, ◌*◌, ◌^◌, ◌≤◌, length, map};
-ghost use Rattle.cache_chronicle.specs.Listing.{fits_listed, longest_listed, merged_listed, replaces, size_of_all, size_of_told, told_by, with_listed};
+ghost use Rattle.std.specs.Prelude.{◌≡◌, ◌+◌, ◌*◌, ◌^◌, ◌≤◌, length, map, option_map};
+ghost use Rattle.cache_chronicle.specs.Listing.{fits_listed, lines_at, lines_listed, list_found, longest_listed, merged_listed, replaces, size_of_all, size_of_told, told_by, with_listed};
+ghost use Rattle.cache_chronicle.specs.Shown.{shown};
 
-use alternate_vector::{fields_size, request_matches};
+use alternate_vector::{Fields, fields_size, request_matches};
 use arrayvec::ArrayVec;
-use cache_model::Rec;
+use cache_model::{FoundList, Rec};
 
-/// An alternate: which record opened its put, and how many fragments were cut.
+/// An alternate: the record that opened its put, or that found it as one alternate of one row, and how many
+/// fragments it has.
 #[derive(Clone, Copy, Default)]
 pub(crate) struct Listed {
     pub(crate) at: usize,
+    pub(crate) row: usize,
+    pub(crate) alternate: usize,
     pub(crate) cuts: u64,
 }
 
@@ -60,19 +64,48 @@ fn with_listed(records: &[Rec], before: &[Listed], new: Listed) -> ArrayVec<List
 fn replaces(records: &[Rec], new: &Listed, old: &Listed) -> bool
     ensures { result ≡ replaces (told_by records.now new.now) (told_by records.now old.now) }
 {
-    match (records.get(new.at), records.get(old.at)) {
-        (
-            Some(Rec::WriteOpened { request, .. }),
-            Some(
-                Rec::WriteOpened {
-                    request: stored,
-                    response,
-                    ..
-                },
-            ),
-        ) => request_matches(request, stored, response),
+    match (lines_of(records, new), lines_of(records, old)) {
+        (Some(new), Some(old)) => request_matches(new.request, old.request, old.response),
         _ => false,
     }
+}
+
+// The lines of an alternate.
+#[derive(Clone, Copy)]
+struct Lines<'a> {
+    request: &'a Fields,
+    response: &'a Fields,
+}
+
+fn lines_of<'a>(records: &'a [Rec], entry: &Listed) -> Option<Lines<'a>>
+    ensures { option_map shown result ≡ lines_at records.now entry.now.at entry.now.row entry.now.alternate }
+{
+    match records.get(entry.at)? {
+        Rec::WriteOpened {
+            request,
+            response,
+            ..
+        } => Some(Lines { request, response }),
+        Rec::Opened { list, .. } => lines_found(list, entry.row, entry.alternate),
+        _ => None,
+    }
+}
+
+fn lines_found(list: &FoundList, row: usize, alternate: usize) -> Option<Lines<'_>>
+    ensures { option_map shown result ≡ lines_listed (list_found list.now row) alternate }
+{
+    if row >= list.len() {
+        return None;
+    }
+    let vector = list.get(row).alternates.as_ref()?;
+    if alternate >= vector.len() {
+        return None;
+    }
+    let stored = vector.get(alternate);
+    Some(Lines {
+        request: &stored.request,
+        response: &stored.response,
+    })
 }
 
 fn longest_listed<'a>(
@@ -115,16 +148,9 @@ fn size_of(records: &[Rec], entry: &Listed) -> u128
     ensures size { result ≡ size_of_told (told_by records.now entry.now) }
     ensures bound { result ≤ 2 ^ 72 }
 {
-    let Some(
-        Rec::WriteOpened {
-            request,
-            response,
-            ..
-        },
-    ) = records.get(entry.at)
-    else {
+    let Some(found) = lines_of(records, entry) else {
         return 0;
     };
-    let lines = (fields_size(request) + fields_size(response)) as u128;
+    let lines = (fields_size(found.request) + fields_size(found.response)) as u128;
     28 + lines + 36 * entry.cuts as u128
 }

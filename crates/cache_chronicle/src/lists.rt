@@ -1,5 +1,5 @@
 // What each vector lists, and what a new list is made of.
-ghost use Rattle.std.specs.Prelude.{◌≡◌, ◌+◌, ◌-◌, ◌≤◌, ◌<◌, ◌∷◌, ◌++◌, [], List, length, true, map, find, option_map, unwrap_or, OnOk, vec_len, vec_capacity};
+ghost use Rattle.std.specs.Prelude.{◌≡◌, ◌+◌, ◌-◌, ◌≤◌, ◌<◌, ◌∷◌, ◌++◌, [], List, length, true, false, map, find, option_map, unwrap_or, OnOk, vec_len, vec_capacity};
 ghost use Rattle.std.specs.HashMap.{spare};
 ghost use Rattle.tape_base.specs.Piece.{is_vector, same_piece};
 ghost use Rattle.cache_model.specs.declared.record.Rec.{Rec as Rec'};
@@ -10,7 +10,9 @@ ghost use Rattle.cache_chronicle.specs.Listing.{Tells};
 ghost use Rattle.cache_chronicle.specs.Lists.{HasListings, listing_at, moved_of};
 ghost use Rattle.cache_chronicle.specs.Listings.{HasLists, spare_of_lists};
 ghost use Rattle.cache_chronicle.specs.Tables.{HasRows};
+ghost use Rattle.cache_chronicle.specs.Weight.{is_opening, weight_of};
 
+use crate::found::note_found;
 use crate::listing::{Listed, Listing, merged};
 use crate::pieces::{Pieces, vector_piece};
 use crate::puts::{Puts, note_put};
@@ -29,7 +31,7 @@ struct Moved {
     place: u64,
 }
 
-type Listings = HashMap<PieceId, Listing>;
+pub(crate) type Listings = HashMap<PieceId, Listing>;
 
 #[derive(Drop)]
 pub(crate) struct Lists {
@@ -61,24 +63,26 @@ impl Lists {
 
     /// Notes what a record says that comes behind others. The tables have what those say.
     pub(crate) fn note(&mut self, records: &[Rec], tables: &Tables, rec: &Rec)
-        requires { 0 < spare_of_lists self.old }
+        requires { weight_of rec.now ≤ spare_of_lists self.old }
         ensures has { (s : State) → HasTables tables.now s → HasLists self.old records.now s → HasLists self.new (records.now ++ rec.now ∷ []) (state_after s rec.now) }
-        ensures spare { spare_of_lists self.old ≤ spare_of_lists self.new + 1 }
+        ensures spare { spare_of_lists self.old ≤ spare_of_lists self.new + weight_of rec.now }
     {
         self.note_listing(records, tables, rec);
+        note_found(&mut self.listings, records.len(), rec);
         note_displaced(&mut self.displaced, &tables.pieces, rec);
         note_put(&mut self.puts, records.len(), rec);
     }
 
+    // What an opening found comes behind that.
     fn note_listing(&mut self, records: &[Rec], tables: &Tables, rec: &Rec)
         requires { 0 < spare self.old.listings }
-        ensures standing { (s : State) → HasTables tables.now s → HasLists self.old records.now s → HasListings self.new.listings records.now (state_after s rec.now).rows }
-        ensures moved { (s : State) → HasTables tables.now s → HasLists self.old records.now s → HasListings self.new.listings records.now (state_after s rec.now).displaced }
+        ensures standing { (s : State) → is_opening rec.now ≡ false → HasTables tables.now s → HasLists self.old records.now s → HasListings self.new.listings records.now (state_after s rec.now).rows }
+        ensures moved { (s : State) → is_opening rec.now ≡ false → HasTables tables.now s → HasLists self.old records.now s → HasListings self.new.listings records.now (state_after s rec.now).displaced }
         ensures others { self.new ≡ record self.old { listings = self.new.listings } }
         ensures spare { spare self.old.listings ≤ spare self.new.listings + 1 }
     {
         match *rec {
-            Rec::Formatted { .. } => self.listings.clear(),
+            Rec::Formatted { .. } | Rec::Opened { .. } => self.listings.clear(),
             Rec::Placed { piece, .. } => {
                 if piece.index == 0 {
                     let listing = self.list_of_put(records, tables, piece.put);
@@ -99,6 +103,8 @@ impl Lists {
         };
         let new = Listed {
             at: opened.at,
+            row: 0,
+            alternate: 0,
             cuts: opened.cuts,
         };
         let before = self.list_among(tables, opened.key);
@@ -164,7 +170,7 @@ fn note_displaced(displaced: &mut Vec<Moved>, pieces: &Pieces, rec: &Rec)
     ensures spare { vec_capacity displaced.old - vec_len displaced.old ≤ vec_capacity displaced.new - vec_len displaced.new + 1 }
 {
     match *rec {
-        Rec::Formatted { .. } | Rec::Placed { .. } => displaced.clear(),
+        Rec::Formatted { .. } | Rec::Opened { .. } | Rec::Placed { .. } => displaced.clear(),
         Rec::Displaced { piece, .. } => {
             if let Some(standing) = pieces.get(&piece) {
                 let place = standing.place;

@@ -4,7 +4,9 @@ ghost use Rattle.std.specs.HashMap.{spare};
 ghost use Rattle.alternate_vector.specs.Alternates.{Stored};
 ghost use Rattle.cache_model.specs.State.{State, Row, moved_row, row_in, state_after, vector_piece, without, without_earlier};
 ghost use Rattle.cache_chronicle.specs.Tables.{HasRows, HasVectors, row_as, told_vector};
+ghost use Rattle.cache_chronicle.specs.Weight.{weight_of};
 
+use crate::opened::note_found_pieces;
 use crate::vectors::{LastVector, Vectors, last_of};
 use cache_model::Rec;
 use std::collections::HashMap;
@@ -33,12 +35,16 @@ pub(crate) fn vector_piece(key: Key, put: u64) -> PieceId
 
 /// Notes what a record says of a piece.
 pub(crate) fn note_piece(pieces: &mut Pieces, vectors: &Vectors, rec: &Rec)
-    requires { 0 < spare pieces.old }
+    requires { weight_of rec.now ≤ spare pieces.old }
     ensures has { (s : State) → HasVectors vectors.now s.vectors → HasRows pieces.old s.rows → HasRows pieces.new (state_after s rec.now).rows }
-    ensures spare { spare pieces.old ≤ spare pieces.new + 1 }
+    ensures spare { spare pieces.old ≤ spare pieces.new + weight_of rec.now }
 {
     match *rec {
         Rec::Formatted { .. } => pieces.clear(),
+        Rec::Opened { ref list, .. } => {
+            pieces.clear();
+            note_found_pieces(pieces, list);
+        }
         Rec::Placed {
             piece,
             place,

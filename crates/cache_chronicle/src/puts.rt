@@ -5,6 +5,7 @@ ghost use Rattle.fragment_table.specs.Table.{TableRow};
 ghost use Rattle.cache_model.specs.declared.record.Rec.{Rec as Rec'};
 ghost use Rattle.cache_model.specs.State.{PutRow, State, change_put, state_after, with_cut};
 ghost use Rattle.cache_chronicle.specs.Lists.{HasPuts};
+ghost use Rattle.cache_chronicle.specs.Weight.{weight_of};
 
 use cache_model::Rec;
 use std::collections::HashMap;
@@ -22,12 +23,12 @@ pub(crate) type Puts = HashMap<u64, Opened>;
 
 /// Notes what a record that comes behind so many others says of a put.
 pub(crate) fn note_put(puts: &mut Puts, count: usize, rec: &Rec)
-    requires { 0 < spare puts.old }
+    requires { weight_of rec.now ≤ spare puts.old }
     ensures has { (s : State) (recs : List Rec') → length recs ≡ count → HasPuts puts.old recs s.puts → HasPuts puts.new (recs ++ rec.now ∷ []) (state_after s rec.now).puts }
-    ensures spare { spare puts.old ≤ spare puts.new + 1 }
+    ensures spare { spare puts.old ≤ spare puts.new + weight_of rec.now }
 {
     match *rec {
-        Rec::Formatted { .. } => puts.clear(),
+        Rec::Formatted { .. } | Rec::Opened { .. } => puts.clear(),
         Rec::WriteOpened { put, key, .. } => {
             let noted: Result<_, _> = puts.insert(
                 put,

@@ -2,6 +2,7 @@
 ghost use Rattle.std.specs.Prelude.{◌≡◌, ◌+◌, ◌≤◌, ◌<◌, OnOk};
 ghost use Rattle.cache_model.specs.State.{State, nothing_yet, place_of, state_after};
 ghost use Rattle.cache_chronicle.specs.Indexed.{HasTables, spare_of};
+ghost use Rattle.cache_chronicle.specs.Weight.{weight_of};
 
 use crate::losses::{
     Aborts, Losses, Places, Unsaved, note_abort, note_loss, note_place, note_unsaved,
@@ -62,9 +63,9 @@ impl Tables {
 
     /// Notes what a record says.
     pub(crate) fn note(&mut self, rec: &Rec)
-        requires { 0 < spare_of self.old }
+        requires { weight_of rec.now ≤ spare_of self.old }
         ensures has { (s : State) → HasTables self.old s → HasTables self.new (state_after s rec.now) }
-        ensures spare { spare_of self.old ≤ spare_of self.new + 1 }
+        ensures spare { spare_of self.old ≤ spare_of self.new + weight_of rec.now }
     {
         note_piece(&mut self.pieces, &self.vectors, rec);
         note_loss(&mut self.losses, rec);

@@ -1,8 +1,9 @@
 // Where the buffer begins, and what a vector may hold.
 ghost use Rattle.std.specs.Prelude.{◌≡◌, ◌+◌, ◌-◌, ◌≤◌};
-ghost use Rattle.cache_model.specs.State.{State, most_payload, nothing_yet, state_after};
+ghost use Rattle.cache_model.specs.Verdict.{no_record};
+ghost use Rattle.cache_model.specs.State.{State, floor_now, most_payload, nothing_yet, state_after};
 
-use cache_model::Rec;
+use cache_model::{Cause, Rec};
 
 /// Where the buffer begins, and what a floor is reckoned from.
 #[derive(Clone, Copy)]
@@ -11,6 +12,9 @@ pub(crate) struct Tape {
     content: u64,
     agg: u32,
     alternates: u32,
+    // The floor and the serial of the opening with which the session began; 0 and none behind a format.
+    least: u64,
+    opened: Option<u64>,
     ghost narrow: { agg ≤ content },
     ghost few: { alternates ≤ 16 },
 }
@@ -27,13 +31,33 @@ impl Tape {
             content: 32,
             agg: 8,
             alternates: 5,
+            least: 0,
+            opened: None,
         }
     }
 
     pub(crate) fn floor(&self) -> u64
-        ensures { result ≡ self.now.cursor + self.now.agg - self.now.content }
+        ensures { (s : State) → HasTape self.now s → result ≡ floor_now s }
     {
-        self.cursor.saturating_sub(self.content - self.agg as u64)
+        let passed = self.cursor.saturating_sub(self.content - self.agg as u64);
+        passed.max(self.least)
+    }
+
+    /// The cause of what no record speaks of.
+    pub(crate) fn no_record(&self) -> Cause
+        ensures { (s : State) → HasTape self.now s → result ≡ no_record s }
+    {
+        match self.opened {
+            Some(serial) => Cause::BeforeOpening { serial },
+            None => Cause::NeverPut,
+        }
+    }
+
+    /// How many puts were forgotten, of which there are none.
+    pub(crate) fn dropped(&self) -> u64
+        ensures { (s : State) → HasTape self.now s → result ≡ s.dropped }
+    {
+        0
     }
 
     /// The most bytes of payload that one piece may have.
@@ -61,12 +85,30 @@ impl Tape {
                 content: geometry.content,
                 agg: geometry.agg,
                 alternates: geometry.alternates,
+                least: 0,
+                opened: None,
+            },
+            Rec::Opened {
+                geometry,
+                serial,
+                cursor,
+                floor,
+                ..
+            } => Tape {
+                cursor,
+                content: geometry.content,
+                agg: geometry.agg,
+                alternates: geometry.alternates,
+                least: floor,
+                opened: Some(serial),
             },
             Rec::Began { cursor, .. } => Tape {
                 cursor,
                 content: self.content,
                 agg: self.agg,
                 alternates: self.alternates,
+                least: self.least,
+                opened: self.opened,
             },
             _ => self,
         }

@@ -54,6 +54,7 @@ later_copied u row digest some room h =
     record {
       sound = record {
         from = h.from;
+        least = h.least;
         lap = h.lap;
         room = room;
         rising = rising-append u.geometry.content (without row.id u.rows) (place_now u) (moved_row (place_now u) digest row) (u.cursor + (u.filled + row.blocks)) (omega arith) some (omega arith) low;

@@ -1,19 +1,23 @@
 -- Each group of records, each step and each legal chronicle is sound.
-use Rattle.std.proofs.Common.{◌≡◌, ℕ, ◌+◌, ◌≤◌, List, [], ◌∷◌, sym, subst, arith, Bool}
-use Rattle.std.specs.Prelude.{Option, length}
-use Rattle.std.proofs.lemmas.Bool.{leb-true}
+use Rattle.std.proofs.Common.{◌≡◌, ℕ, ◌+◌, ◌-◌, ◌≤◌, List, [], ◌∷◌, refl, sym, subst, arith, Bool, true, false}
+use Rattle.std.specs.Prelude.{Option, length, map, max}
+use Rattle.std.proofs.lemmas.Bool.{leb-true, eq-eqb}
 use Rattle.tape_base.specs.declared.geometries.Geometry.{Geometry}
 use Rattle.tape_base.specs.Blocks.{blocks_of}
 use Rattle.tape_base.specs.Digest.{digest_of}
 use Rattle.cache_model.specs.declared.answer.NextAnswer.{NextAnswer}
 use Rattle.cache_model.specs.declared.record.Rec.{Rec}
 use Rattle.cache_model.specs.declared.record.Rec.TheVariants as rec
-use Rattle.cache_model.specs.State.{State, after_all, nothing_yet, floor_now}
+use Rattle.cache_model.specs.declared.findings.FoundRow.{FoundRow}
+use Rattle.cache_model.specs.Opening.{Opening}
+use Rattle.cache_model.specs.Openings.{IsFloorOfCopy, IsOpening, opened_records}
+use Rattle.cache_model.specs.State.{State, after_all, nothing_yet, floor_now, low_of, place_of_found, row_of_found}
 use Rattle.cache_model.specs.Permit.{Permit, Intent, Flush, Write, Fragment, Overflow, Weigh, Finish, Commit, GiveUp, Remove, Look, ReadOn, ReadAll, StopReading, End, Work, Reason}
 use Rattle.cache_model.specs.Legal
 use Rattle.cache_model.specs.Legal.{Does, Advances, MayGrow, nothing, more, IsStep, IsLegal, Course, format_records}
-use Rattle.cache_model.specs.Tape.{IsSound}
+use Rattle.cache_model.specs.Tape.{AreKnown, AreRising, IsSound}
 use Rattle.cache_model.specs.Due.{due_pieces}
+use Rattle.cache_model.proofs.Rows.{known-behind, rising-high, rising-low}
 use Rattle.cache_model.proofs.Steps.{after_all-append, all_append}
 use Rattle.cache_model.proofs.Aside.{IsAside, aside_leaves, lookup_aside, one_aside, reading_on_aside}
 use Rattle.cache_model.proofs.Sound.{AllLeaveTape, IsLater, later_self, later_trans, later_leaves, later_insert, displaced_leave}
@@ -90,6 +94,7 @@ steps_are_sound p s intents added why h step = let l = later_grown step.grows h 
 fresh : (geometry : Geometry) → IsSound (after_all nothing_yet (format_records geometry))
 fresh geometry = record {
   from = omega arith;
+  least = omega arith;
   lap = lap_fits geometry;
   room = omega arith;
   rising = omega arith;
@@ -102,7 +107,32 @@ fresh geometry = record {
         let one : Rattle.tape_base.specs.Place.lap_of g g.content ≡ 1 = Rattle.cache_model.proofs.Laps.lap-is g.content 1 g.content (omega arith) (omega arith) in
         rw one (omega arith)
 
+-- where an opening finds pieces whose places rise, each is known by its place
+known_found : (low : ℕ) (found : List FoundRow) (high : ℕ) → AreRising low (map row_of_found found) high → AreKnown (map place_of_found found) (map row_of_found found)
+known_found low [] high h = tt
+known_found low (f ∷ found) high h =
+    (rw (eq-eqb f.place f.place refl) refl, known-behind (map place_of_found found) f.place f.id (f.place + 1) (map row_of_found found) high (omega arith) h.3 (known_found (f.place + 1) found high h.3))
+
+floor_by : (g : Geometry) (o : Opening) (b : Bool) → o.clean ≡ b → IsFloorOfCopy g o → o.floor ≤ low_of g o.cursor
+floor_by g o true e h = (h.clean e).1
+floor_by g o false e h = let same = h.other e in omega (arith, same)
+
+floor_below_cursor : (g : Geometry) (o : Opening) → g.content ≤ o.cursor → IsFloorOfCopy g o → o.floor ≤ o.cursor
+floor_below_cursor g o from h = let low = floor_by g o o.clean refl h in omega (arith, low, from)
+
+pub opening_is_sound : (packed : Bool) (g : Geometry) (o : Opening) → IsOpening packed g o → IsSound (after_all nothing_yet (opened_records g o))
+opening_is_sound packed g o h = record {
+  from = h.copy.from;
+  least = floor_below_cursor g o h.copy.from h.copy.floor;
+  lap = h.copy.lap;
+  room = omega arith;
+  rising = rising-high g.content _ o.cursor (o.cursor + 0) (omega arith) (rising-low (max g.content o.floor) g.content _ o.cursor (omega arith) h.rising);
+  apart = h.apart;
+  known = known_found (max g.content o.floor) o.found o.cursor h.rising;
+}
+
 pub legal_is_sound : (packed : Bool) (courses : List Course) (recs : List Rec) → IsLegal packed courses recs → IsSound (after_all nothing_yet recs)
 legal_is_sound packed courses recs (Legal.IsLegal.begins geometry) = fresh geometry
+legal_is_sound packed courses recs (Legal.IsLegal.opens geometry o opening) = opening_is_sound packed geometry o opening
 legal_is_sound packed courses recs (Legal.IsLegal.steps {before = before} {added = added} course e legal step) =
     subst IsSound (sym (after_all-append nothing_yet before added)) (later_grown step.grows (legal_is_sound packed _ before legal)).sound

@@ -14,23 +14,23 @@ pub data ArePart : List Row → List Row → Type 0 where
   keep : {row : Row} {some all : List Row} → ArePart some all → ArePart (row ∷ some) (row ∷ all)
   skip : {row : Row} {some all : List Row} → ArePart some all → ArePart some (row ∷ all)
 
-rising-low : (low low' : ℕ) (rows : List Row) (high : ℕ) → low' ≤ low → AreRising low rows high → AreRising low' rows high
+pub rising-low : (low low' : ℕ) (rows : List Row) (high : ℕ) → low' ≤ low → AreRising low rows high → AreRising low' rows high
 rising-low low low' [] high h k = omega arith
-rising-low low low' (row ∷ rows) high h k = (omega arith, k.1, k.2)
+rising-low low low' (row ∷ rows) high h k = (omega arith, k.1, k.2, k.3)
 
 pub rising-high : (low : ℕ) (rows : List Row) (high high' : ℕ) → high ≤ high' → AreRising low rows high → AreRising low rows high'
 rising-high low [] high high' h k = omega arith
-rising-high low (row ∷ rows) high high' h k = (k.0, k.1, rising-high (row.place + row.blocks) rows high high' h k.2)
+rising-high low (row ∷ rows) high high' h k = (k.0, k.1, omega arith, rising-high (row.place + 1) rows high high' h k.3)
 
 pub rising-part : (low : ℕ) {some all : List Row} (high : ℕ) → ArePart some all → AreRising low all high → AreRising low some high
 rising-part low high done k = k
-rising-part low high (keep {row = row} p) k = (k.0, k.1, rising-part (row.place + row.blocks) high p k.2)
-rising-part low high (skip {row = row} {some = some} p) k = rising-low (row.place + row.blocks) low some high (omega arith) (rising-part (row.place + row.blocks) high p k.2)
+rising-part low high (keep {row = row} p) k = (k.0, k.1, k.2, rising-part (row.place + 1) high p k.3)
+rising-part low high (skip {row = row} {some = some} p) k = rising-low (row.place + 1) low some high (omega arith) (rising-part (row.place + 1) high p k.3)
 
 pub rising-append : (low : ℕ) (rows : List Row) (mid : ℕ) (row : Row) (high : ℕ) → mid ≤ row.place → 0 < row.blocks → row.place + row.blocks ≤ high
     → AreRising low rows mid → AreRising low (rows ++ row ∷ []) high
-rising-append low [] mid row high h b k r = (omega arith, b, k)
-rising-append low (x ∷ rows) mid row high h b k r = (r.0, r.1, rising-append (x.place + x.blocks) rows mid row high h b k r.2)
+rising-append low [] mid row high h b k r = (omega arith, b, k, omega arith)
+rising-append low (x ∷ rows) mid row high h b k r = (r.0, r.1, omega arith, rising-append (x.place + 1) rows mid row high h b k r.3)
 
 pub part_all : (rows : List Row) → ArePart rows rows
 part_all [] = done
@@ -84,17 +84,28 @@ below : (a b : ℕ) (t : Bool) → (a == b) ≡ t → b < a → t ≡ false
 below a b false e h = refl
 below a b true e h = let same : a ≡ b = Rattle.std.proofs.lemmas.Bool.eqb-true a b e in absurd (omega arith)
 
+above : (a b : ℕ) (t : Bool) → (a == b) ≡ t → a < b → t ≡ false
+above a b false e h = refl
+above a b true e h = let same : a ≡ b = Rattle.std.proofs.lemmas.Bool.eqb-true a b e in absurd (omega arith)
+
 pub rising_ends : (low : ℕ) (rows : List Row) (high : ℕ) → AreRising low rows high → low ≤ high
 rising_ends low [] high h = h
-rising_ends low (row ∷ rows) high h = let above : row.place + row.blocks ≤ high = rising_ends (row.place + row.blocks) rows high h.2 in let from : low ≤ row.place = h.0 in omega arith
+rising_ends low (row ∷ rows) high h = let above : row.place + row.blocks ≤ high = h.2 in let from : low ≤ row.place = h.0 in omega arith
 
 -- a place above all of them changes nothing
 pub known-more : (places : List (ℕ × PieceId)) (place : ℕ) (id : PieceId) (low : ℕ) (rows : List Row) → AreRising low rows place → AreKnown places rows → AreKnown ((place, id) ∷ places) rows
 known-more places place id low [] r h = tt
 known-more places place id low (row ∷ rows) r h =
-    let above : row.place + row.blocks ≤ place = rising_ends (row.place + row.blocks) rows place r.2 in
+    let above : row.place + row.blocks ≤ place = r.2 in
     let some : 0 < row.blocks = r.1 in
-    (rw (below place row.place (place == row.place) refl (omega arith)) h.0, known-more places place id (row.place + row.blocks) rows r.2 h.1)
+    (rw (below place row.place (place == row.place) refl (omega arith)) h.0, known-more places place id (row.place + 1) rows r.3 h.1)
+
+-- nor does a place below all of them
+pub known-behind : (places : List (ℕ × PieceId)) (place : ℕ) (id : PieceId) (low : ℕ) (rows : List Row) (high : ℕ) → place < low → AreRising low rows high → AreKnown places rows → AreKnown ((place, id) ∷ places) rows
+known-behind places place id low [] high under r h = tt
+known-behind places place id low (row ∷ rows) high under r h =
+    let from : low ≤ row.place = r.0 in
+    (rw (above place row.place (place == row.place) refl (omega arith)) h.0, known-behind places place id (row.place + 1) rows high (omega arith) r.3 h.1)
 
 pub known-append : (places : List (ℕ × PieceId)) (rows : List Row) (row : Row) → AreKnown places rows → lookup (λ p. p == row.place) places ≡ Some row.id → AreKnown places (rows ++ row ∷ [])
 known-append places [] row h e = (e, tt)

@@ -17,9 +17,10 @@ use Rattle.cache_model.proofs.Laps.{next_fits, next_above}
 use Rattle.cache_model.proofs.Rows.{ArePart, part_all, part-filter, rising-part, rising-high, rising-append, apart-part, apart-placed, known-part, known-more, known-append}
 use Rattle.cache_model.proofs.Steps.{after_all-append}
 
--- the record begins no buffer and places nothing
+-- the record begins no session and no buffer, and places nothing
 abbrev pub LeavesTape : Rec → Type 0
 LeavesTape (rec.Formatted geometry) = ⊥
+LeavesTape (rec.Opened geometry serial cursor floor next_put clean list) = ⊥
 LeavesTape (rec.Began cursor floor) = ⊥
 LeavesTape (rec.Placed piece place blocks digest pin) = ⊥
 LeavesTape (rec.Moved piece from place digest) = ⊥
@@ -45,6 +46,7 @@ later_trans s t u a b = record { sound = b.sound; geometry = b.geometry ∙ a.ge
 pub record SameTape (s t : State) : Type 0 where
   pub geometry : t.geometry ≡ s.geometry
   pub cursor : t.cursor ≡ s.cursor
+  pub least : t.least ≡ s.least
   pub filled : t.filled ≡ s.filled
   pub places : t.places ≡ s.places
   pub rows : ArePart t.rows s.rows
@@ -53,6 +55,7 @@ same_sound : (s t : State) → SameTape s t → IsSound s → IsLater s t
 same_sound s t same h = record {
   sound = record {
     from = rw (same.geometry, same.cursor) h.from;
+    least = rw (same.least, same.cursor) h.least;
     lap = rw (same.geometry, same.cursor) h.lap;
     room = rw (same.geometry, same.filled) h.room;
     rising = rw (same.geometry, same.cursor, same.filled) (rising-part s.geometry.content (place_now s) same.rows h.rising);
@@ -60,11 +63,11 @@ same_sound s t same h = record {
     known = rw same.places (known-part s.places same.rows h.known);
   };
   geometry = same.geometry;
-  floor = rw (same.geometry, same.cursor) (omega arith);
+  floor = rw (same.geometry, same.cursor, same.least) (omega arith);
 }
 
-same_with : (s t : State) → t.geometry ≡ s.geometry → t.cursor ≡ s.cursor → t.filled ≡ s.filled → t.places ≡ s.places → ArePart t.rows s.rows → SameTape s t
-same_with s t g c f p r = record { geometry = g; cursor = c; filled = f; places = p; rows = r }
+same_with : (s t : State) → t.geometry ≡ s.geometry → t.cursor ≡ s.cursor → t.least ≡ s.least → t.filled ≡ s.filled → t.places ≡ s.places → ArePart t.rows s.rows → SameTape s t
+same_with s t g c l f p r = record { geometry = g; cursor = c; least = l; filled = f; places = p; rows = r }
 
 earlier_part : (key : Key) (put : ℕ) (last : Option LastVector) (rows : List Row) → ArePart (without_earlier key put last rows) rows
 earlier_part key put (Some (Complete old)) rows = by (old == put)
@@ -77,20 +80,26 @@ earlier_part key put None rows = part_all rows
 
 pub leaves_one : (s : State) (r : Rec) → LeavesTape r → SameTape s (state_after s r)
 leaves_one s (rec.Formatted geometry) h = absurd h
+leaves_one s (rec.Opened geometry serial cursor floor next_put clean list) h = absurd h
 leaves_one s (rec.Began cursor floor) h = absurd h
 leaves_one s (rec.Placed piece place blocks digest pin) h = absurd h
 leaves_one s (rec.Moved piece from place digest) h = absurd h
-leaves_one s (rec.Displaced piece segment live) h = same_with s _ refl refl refl refl (part-filter _ s.rows)
-leaves_one s (rec.Damaged piece place kept found) h = same_with s _ refl refl refl refl (part-filter _ s.rows)
-leaves_one s (rec.Committed put key length) h = same_with s _ refl refl refl refl (earlier_part key put (last_vector s key) s.rows)
-leaves_one s (rec.Removed put key) h = same_with s _ refl refl refl refl (part-filter _ s.rows)
-leaves_one s _ h = same_with s _ refl refl refl refl (part_all s.rows)
+leaves_one s (rec.Displaced piece segment live) h = same_with s _ refl refl refl refl refl (part-filter _ s.rows)
+leaves_one s (rec.Damaged piece place kept found) h = same_with s _ refl refl refl refl refl (part-filter _ s.rows)
+leaves_one s (rec.Committed put key length) h = same_with s _ refl refl refl refl refl (earlier_part key put (last_vector s key) s.rows)
+leaves_one s (rec.Removed put key) h = same_with s _ refl refl refl refl refl (part-filter _ s.rows)
+leaves_one s _ h = same_with s _ refl refl refl refl refl (part_all s.rows)
 
 pub later_leaves : (s : State) (recs : List Rec) → AllLeaveTape recs → IsSound s → IsLater s (after_all s recs)
 later_leaves s [] h sound = later_self s sound
 later_leaves s (r ∷ recs) h sound =
     let one : IsLater s (state_after s r) = same_sound s (state_after s r) (leaves_one s r h.0) sound in
     later_trans s (state_after s r) (after_all (state_after s r) recs) one (later_leaves (state_after s r) recs h.1 one.sound)
+
+-- the bound of the opening stays behind records that leave the tape
+pub least_left : (s : State) (recs : List Rec) → AllLeaveTape recs → (after_all s recs).least ≡ s.least
+least_left s [] h = refl
+least_left s (r ∷ recs) h = least_left (state_after s r) recs h.1 ∙ (leaves_one s r h.0).least
 
 -- the buffer is as it was behind records that leave the tape
 pub buffer_left : (s : State) (recs : List Rec) → AllLeaveTape recs
@@ -111,6 +120,7 @@ later_placed s piece blocks digest pin some room h =
     record {
       sound = record {
         from = h.from;
+        least = h.least;
         lap = h.lap;
         room = room;
         rising = rising-append s.geometry.content _ (place_now s) _ (s.cursor + (s.filled + blocks)) (omega arith) some (omega arith) low;
@@ -128,6 +138,7 @@ later_began s h =
     record {
       sound = record {
         from = let from : s.geometry.content ≤ s.cursor = h.from in omega arith;
+        least = let least : s.least ≤ s.cursor = h.least in omega arith;
         lap = next_fits s.geometry s.cursor s.filled (omega arith) (omega arith) h.room h.lap;
         room = omega arith;
         rising = rising-high s.geometry.content s.rows (place_now s) (cursor_next s + 0) (omega arith) h.rising;

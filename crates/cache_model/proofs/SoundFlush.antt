@@ -1,6 +1,6 @@
 -- A flush that copies pieces ahead leaves a sound tape.
 use Rattle.std.proofs.Common.{◌≡◌, ℕ, ◌+◌, ◌-◌, ◌<◌, ◌≤◌, List, [], ◌∷◌, refl, sym, ◌∙◌, ap, subst, arith, Bool, true, false, inl, inr}
-use Rattle.std.specs.Prelude.{if◌then◌else◌, None}
+use Rattle.std.specs.Prelude.{max, if◌then◌else◌, None}
 use Rattle.tape_base.specs.declared.pieces.PieceId.{PieceId}
 use Rattle.tape_base.specs.declared.geometries.Geometry.{Geometry}
 use Rattle.tape_base.specs.Piece.{same_piece}
@@ -17,7 +17,7 @@ use Rattle.cache_model.proofs.Lists.{row_in-without}
 use Rattle.cache_model.proofs.Rows.{ArePart, done, keep, skip, apart-part, part-filter, part-trans}
 use Rattle.cache_model.proofs.Steps.{after_all-append, all_append}
 use Rattle.cache_model.proofs.Aside.{AllAside, IsAside, aside_leaves, one_aside}
-use Rattle.cache_model.proofs.Sound.{AllLeaveTape, IsLater, buffer_left, later_began, later_leaves, later_trans}
+use Rattle.cache_model.proofs.Sound.{AllLeaveTape, IsLater, buffer_left, least_left, later_began, later_leaves, later_trans}
 use Rattle.cache_model.specs.Due.{due_pieces}
 use Rattle.cache_model.specs.Outcomes.{AreOutcomes, Copied, Copy, NoRoom, Outcome, Refused, Spoiled, began_record, copies_of, flush_records, front_of, moved_records, records_of, stopped_front_of, stopped_records, stopped_records_of}
 use Rattle.cache_model.proofs.Walks.{all_among, among_found}
@@ -112,7 +112,7 @@ not_empty : (low : ℕ) (rows : List Row) (high : ℕ) (row : Row) → AreRising
 not_empty low [] high row r m = absurd m
 not_empty low (x ∷ rows) high row r m = elim m [
   | inl e ↦ subst (λ (y : Row). 0 < y.blocks) (sym e) r.1
-  | inr k ↦ not_empty (x.place + x.blocks) rows high row r.2 k
+  | inr k ↦ not_empty (x.place + 1) rows high row r.3 k
 ]
 
 pub part_ready : (s : State) (rows : List Row) → IsSound s → ArePart rows s.rows → AreReady s.rows rows
@@ -122,12 +122,13 @@ part_ready s rows h p = all_among (IsReady s.rows) rows (λ row m.
 pub due_part : (s : State) (now : ℕ) → ArePart (due_pieces s now) s.rows
 due_part s now = part-trans (part-filter _ _) (part-filter _ s.rows)
 
-abbrev began_of : Geometry → ℕ → ℕ → Rec
-began_of g cursor filled = rec.Began (next_cursor_of g cursor filled) (floor_of g (next_cursor_of g cursor filled))
+abbrev began_of : ℕ → Geometry → ℕ → ℕ → Rec
+began_of least g cursor filled = rec.Began (next_cursor_of g cursor filled) (max least (floor_of g (next_cursor_of g cursor filled)))
 
-same_began : (s m : State) → (m.geometry ≡ s.geometry) × (m.cursor ≡ s.cursor) × (m.filled ≡ s.filled) → began_record m ≡ began_record s
-same_began s m h =
-    ap (λ g. began_of g m.cursor m.filled) h.0 ∙ (ap (λ c. began_of s.geometry c m.filled) h.1 ∙ ap (λ f. began_of s.geometry s.cursor f) h.2)
+same_began : (s m : State) → m.least ≡ s.least → (m.geometry ≡ s.geometry) × (m.cursor ≡ s.cursor) × (m.filled ≡ s.filled) → began_record m ≡ began_record s
+same_began s m least h =
+    ap (λ n. began_of n m.geometry m.cursor m.filled) least
+    ∙ (ap (λ g. began_of s.least g m.cursor m.filled) h.0 ∙ (ap (λ c. began_of s.least s.geometry c m.filled) h.1 ∙ ap (λ f. began_of s.least s.geometry s.cursor f) h.2))
 
 -- the state behind a flush of these rows
 pub record IsFlushed (s t : State) : Type 0 where
@@ -143,7 +144,7 @@ behind_front p s rows outcomes h part o =
     let u : State = state_after m (began_record s) in
     let apart : AreApart rows = apart-part part h.apart in
     let first : IsLater s m = later_leaves s front (front_leaves rows outcomes) h in
-    let began : IsLater m u = subst (λ r. IsLater m (state_after m r)) (same_began s m (buffer_left s front (front_leaves rows outcomes))) (later_began m first.sound) in
+    let began : IsLater m u = subst (λ r. IsLater m (state_after m r)) (same_began s m (least_left s front (front_leaves rows outcomes)) (buffer_left s front (front_leaves rows outcomes))) (later_began m first.sound) in
     let opened : IsLater s u = later_trans s m u first began in
     let geometry : u.geometry ≡ s.geometry = opened.geometry in
     let sum : blocks_of_copies copies ≤ budget_of s.geometry = copies_within p s (budget_of s.geometry) rows outcomes o in

@@ -72,12 +72,12 @@ live_vector_stands s key row h = stands_last s key row (last_vector s key) h
 
 -- ---- its bytes
 
-pub vector_is_read_back : (s : State) (row : Row) (list : List Stored) (bytes : List ℕ) → IsVectorRow s row list → IsBytes bytes → row.digest ≡ document_digest bytes
-    → (payload_of bytes ≡ vector_bytes list) ⊎ Collide (take (extent_of bytes) bytes) (vector_document s row list)
+pub vector_is_read_back : (s : State) (row : Row) (list : List Stored) (bytes : List ℕ) (v : IsVectorRow s row list) → IsBytes bytes → row.digest ≡ document_digest bytes
+    → (payload_of bytes ≡ vector_bytes list) ⊎ Collide (take (extent_of bytes) bytes) (vector_document s row v.start list)
 vector_is_read_back s row list bytes v small h =
-    elim (digests_tell_lem (take (extent_of bytes) bytes) (vector_document s row list) (IsBytes-take (extent_of bytes) bytes small)
-    (document_small (vector_doc s row) (vector_bytes list) (vector_small list v.spelled.stored)) (sym h ∙ v.digest)) [
-      | inl same ↦ inl (payload_told bytes (vector_doc s row) (vector_bytes list) same)
+    elim (digests_tell_lem (take (extent_of bytes) bytes) (vector_document s row v.start list) (IsBytes-take (extent_of bytes) bytes small)
+    (document_small (vector_doc s row v.start) (vector_bytes list) (vector_small list v.spelled.stored)) (sym h ∙ v.digest)) [
+      | inl same ↦ inl (payload_told bytes (vector_doc s row v.start) (vector_bytes list) same)
       | inr collide ↦ inr collide
     ]
 

@@ -102,36 +102,34 @@ all_above a b high mid [] end h k r = refl
 all_above a b high mid (row ∷ rows) end h k r =
     let low : mid ≤ row.place = r.0 in
     rw (le-leb a row.place (omega arith), le-leb b row.place (omega arith))
-    (ap (λ xs. cond (nat_lt row.place high) (row ∷ xs) xs) (all_above a b high (row.place + row.blocks) rows end (omega arith) (omega arith) r.2))
+    (ap (λ xs. cond (nat_lt row.place high) (row ∷ xs) xs) (all_above a b high (row.place + 1) rows end (omega arith) (omega arith) r.3))
 
 -- a row of the list stands from the low place on
 from_low : (low : ℕ) (rows : List Row) (end : ℕ) (row : Row) → AreRising low rows end → IsAmong row rows → low ≤ row.place
 from_low low [] end row r m = absurd m
 from_low low (x ∷ rows) end row r m = elim m [
   | inl e ↦ ap-le x row e r.0
-  | inr k ↦ let behind : x.place + x.blocks ≤ row.place = from_low (x.place + x.blocks) rows end row r.2 k in let first : low ≤ x.place = r.0 in omega arith
+  | inr k ↦ let behind : x.place + 1 ≤ row.place = from_low (x.place + 1) rows end row r.3 k in let first : low ≤ x.place = r.0 in omega arith
 ]
   where
     ap-le : (x row : Row) → row ≡ x → low ≤ x.place → low ≤ row.place
     ap-le x row e h = subst (λ (r : Row). low ≤ r.place) (sym e) h
 
 begins_first : (high low : ℕ) (row : Row) (rows : List Row) (end : ℕ) → row.place < high → AreRising low (row ∷ rows) end
-    → filter (Within row.place high) (row ∷ rows) ≡ row ∷ filter (Within (row.place + row.blocks) high) (row ∷ rows)
+    → filter (Within row.place high) (row ∷ rows) ≡ row ∷ filter (Within (row.place + 1) high) (row ∷ rows)
 begins_first high low row rows end h r =
-    let some : 0 < row.blocks = r.1 in
-    rw (le-leb row.place row.place (omega arith), lt-ltb row.place high h, lt-leb (row.place + row.blocks) row.place (omega arith))
-    (ap (λ xs. row ∷ xs) (all_above row.place (row.place + row.blocks) high (row.place + row.blocks) rows end (omega arith) (omega arith) r.2))
+    rw (le-leb row.place row.place (omega arith), lt-ltb row.place high h, lt-leb (row.place + 1) row.place (omega arith))
+    (ap (λ xs. row ∷ xs) (all_above row.place (row.place + 1) high (row.place + 1) rows end (omega arith) (omega arith) r.3))
 
 begins : (high low : ℕ) (row : Row) (rows : List Row) (end : ℕ) → row.place < high → AreRising low rows end → IsAmong row rows
-    → filter (Within row.place high) rows ≡ row ∷ filter (Within (row.place + row.blocks) high) rows
+    → filter (Within row.place high) rows ≡ row ∷ filter (Within (row.place + 1) high) rows
 begins high low row [] end h r m = absurd m
 begins high low row (x ∷ rows) end h r m = elim m [
-  | inl e ↦ subst (λ (y : Row). filter (Within row.place high) (y ∷ rows) ≡ row ∷ filter (Within (row.place + row.blocks) high) (y ∷ rows)) e
+  | inl e ↦ subst (λ (y : Row). filter (Within row.place high) (y ∷ rows) ≡ row ∷ filter (Within (row.place + 1) high) (y ∷ rows)) e
       (begins_first high low row rows end h (subst (λ (y : Row). AreRising low (y ∷ rows) end) (sym e) r))
   | inr k ↦
-      let behind : x.place + x.blocks ≤ row.place = from_low (x.place + x.blocks) rows end row r.2 k in
-      let some : 0 < x.blocks = r.1 in
-      rw (lt-leb row.place x.place (omega arith), lt-leb (row.place + row.blocks) x.place (omega arith)) (begins high (x.place + x.blocks) row rows end h r.2 k)
+      let behind : x.place + 1 ≤ row.place = from_low (x.place + 1) rows end row r.3 k in
+      rw (lt-leb row.place x.place (omega arith), lt-leb (row.place + 1) x.place (omega arith)) (begins high (x.place + 1) row rows end h r.3 k)
 ]
 
 stood_by : (s : State) (other row : Row) (b : Bool) → (if b then Some other else None) ≡ Some row → other ≡ row
@@ -160,9 +158,9 @@ stands_there s place id row (Some other) h live =
     at.1 row (ap (live_row_of s) at.0 ∙ live)
 
 pub walk_finds : (s : State) (place high : ℕ) (id : PieceId) (row : Row) → IsSound s → floor_now s ≤ place → place < high
-    → piece_at s place ≡ Some id → live_row_of s id ≡ Some row → rows_from s place high ≡ row ∷ rows_from s (place + row.blocks) high
+    → piece_at s place ≡ Some id → live_row_of s id ≡ Some row → rows_from s place high ≡ row ∷ rows_from s (place + 1) high
 walk_finds s place high id row h from below found live =
     let at : row.place ≡ place = stands_there s place id row (lookup (λ p. p == place) s.places) found live in
     let m : IsAmong row s.rows = found_among id s.rows row (stood s (row_in s.rows id) row live) in
-    subst (λ n. rows_from s n high ≡ row ∷ rows_from s (n + row.blocks) high) at
+    subst (λ n. rows_from s n high ≡ row ∷ rows_from s (n + 1) high) at
     (begins high s.geometry.content row s.rows (place_now s) (omega arith) h.rising m)

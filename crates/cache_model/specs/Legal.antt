@@ -30,6 +30,8 @@ use Rattle.cache_model.specs.Permit.{Permit, Intent, Flush, Write, Fragment, Ove
 use Rattle.cache_model.specs.Given.{IsDamaged, IsGiven, IsReadWhereLive, IsWritten, MayCount, Trouble, damage_cause, damage_record}
 use Rattle.cache_model.specs.Due.{due_pieces}
 use Rattle.cache_model.specs.Outcomes.{AreOutcomes, Outcome, flush_records, stopped_front_of, stopped_records}
+use Rattle.cache_model.specs.Opening.{Opening}
+use Rattle.cache_model.specs.Openings.{IsOpening, opened_records}
 use Rattle.cache_model.specs.Room.{limit, placed_record, greatest_pin, has_room, is_flush_exhausted, HasPlace, MayDisplace}
 
 -- no vector was placed that is not committed yet
@@ -382,10 +384,11 @@ pub record Course : Type 0 where
   pub intents : List Intent
   pub refused : Option Reason
 
--- the records of a session up to the end of a step, by its steps, with a directory that displaces or
--- does not
+-- the records of a session up to the end of a step, from a format or an opening on and by its steps, with a
+-- directory that displaces or does not
 pub data IsLegal (packed : Bool) : List Course → List Rec → Type 0 where
   begins : (geometry : Geometry) → IsLegal packed [] (format_records geometry)
+  opens : (geometry : Geometry) (o : Opening) → IsOpening packed geometry o → IsLegal packed [] (opened_records geometry o)
   steps : {courses : List Course} {before added : List Rec} (course : Course) → course.permit.packed ≡ packed
       → IsLegal packed courses before → IsStep course.permit (after_all nothing_yet before) course.intents added course.refused
       → IsLegal packed (courses ++ course ∷ []) (before ++ added)

@@ -13,3 +13,5 @@ pub mod Pair
 pub mod Tape
 pub mod Vectors
 pub mod Opening
+pub mod Openings
+pub mod Syncs

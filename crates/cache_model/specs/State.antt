@@ -1,6 +1,7 @@
 -- What the records of a session stand for: one record of values, and what each record makes of it.
-use Rattle.std.specs.Prelude.{ℕ, ◌+◌, ◌-◌, ◌*◌, ◌==◌, nat_le, Bool, not, if◌then◌else◌, List, [], ◌∷◌, ◌++◌, map, filter, find, fold, Option, Some, None, option_map, option_and_then, option_to_list, slice_get, unwrap_or}
+use Rattle.std.specs.Prelude.{ℕ, max, ◌+◌, ◌-◌, ◌*◌, ◌==◌, nat_le, Bool, true, false, not, if◌then◌else◌, List, [], ◌∷◌, ◌++◌, map, filter, find, fold, Option, Some, None, option_map, option_and_then, option_to_list, slice_get, unwrap_or}
 use Rattle.std.specs.Map.{lookup}
+use Rattle.std.specs.List.{flat_map}
 use Rattle.std.proofs.Math.Dec.{lit≤, lit<}
 use Rattle.std.specs.Prelude.{refl}
 use Rattle.tape_base.specs.declared.keys.Key.{Key}
@@ -10,7 +11,7 @@ use Rattle.tape_base.specs.declared.geometries.Geometry.{Geometry}
 use Rattle.tape_base.specs.Key.{same_key}
 use Rattle.tape_base.specs.Piece.{is_vector, same_piece}
 use Rattle.tape_base.specs.Geometry.{budget_of}
-use Rattle.tape_base.specs.Place.{floor_of, next_cursor_of}
+use Rattle.tape_base.specs.Place.{floor_of, next_cursor_of, reach_of}
 use Rattle.fragment_table.specs.Table.{TableRow, made_row, total_length}
 use Rattle.alternate_vector.specs.Field.{Field}
 use Rattle.alternate_vector.specs.Alternates.{Stored, chosen, merged}
@@ -18,6 +19,8 @@ use Rattle.cache_model.specs.declared.cause.Cause.{Cause}
 use Rattle.cache_model.specs.declared.cause.Cause.TheVariants as cause
 use Rattle.cache_model.specs.declared.answer.ReadAnswer.{ReadAnswer}
 use Rattle.cache_model.specs.declared.answer.ReadAnswer.TheVariants as read
+use Rattle.cache_model.specs.declared.findings.FoundRow.{FoundRow}
+use Rattle.cache_model.specs.Opening.{Opening}
 use Rattle.cache_model.specs.declared.record.Rec.{Rec}
 use Rattle.cache_model.specs.declared.record.Rec.TheVariants as rec
 
@@ -29,6 +32,17 @@ pub record Row : Type 0 where
   pub digest : Digest
   pub pin : ℕ
   pub alternates : Option (List Stored)
+
+-- what a sync holds: its serial, the cursor of the buffer behind it, the place below which it names nothing, where the
+-- last of its pieces may end, the next put number, whether it is clean, and the pieces that it names
+pub record Mark : Type 0 where
+  pub serial : ℕ
+  pub cursor : ℕ
+  pub low : ℕ
+  pub end : ℕ
+  pub next_put : ℕ
+  pub clean : Bool
+  pub rows : List Row
 
 -- the last of a key's commits and removals, by the put of its vector
 pub data LastVector : Type 0 where
@@ -94,6 +108,20 @@ pub record State : Type 0 where
   pub next_reader : ℕ
   -- the device's count at its last fault
   pub fault : ℕ
+  -- the floor of the opening with which the session began; 0 behind a format
+  pub least : ℕ
+  -- the serial of that opening
+  pub opened : Option ℕ
+  -- what the syncs of the session hold, the last first; the first of all is that with which it began
+  pub marks : List Mark
+  -- the serial of the last sync that finished
+  pub finished : ℕ
+  -- the serial of the sync in parts that goes on
+  pub running : Option ℕ
+  -- a clean copy may be found: nothing is placed before a sync that is not clean
+  pub marked : Bool
+  -- how many puts were forgotten
+  pub dropped : ℕ
 
 -- a geometry that stands where no session began yet
 abbrev pub least_geometry : Geometry
@@ -117,6 +145,15 @@ least_geometry = record {
   keeps = record { some = lit≤ tt; few = lit≤ tt };
 }
 
+-- the place below which a copy that is not clean names nothing: what stands there the cursor may have come to
+abbrev pub low_of : Geometry → ℕ → ℕ
+low_of g cursor = reach_of g cursor - g.content
+
+-- what the copy holds that a format makes
+abbrev pub mark_of_format : Geometry → Mark
+mark_of_format g =
+    record { serial = 1; cursor = g.content; low = low_of g g.content; end = g.content; next_put = 1; clean = false; rows = [] }
+
 -- at the beginning of a session that a format began
 abbrev pub formatted : Geometry → State
 formatted geometry = record {
@@ -136,6 +173,13 @@ formatted geometry = record {
   readers = [];
   next_reader = 1;
   fault = 0;
+  least = 0;
+  opened = None;
+  marks = mark_of_format geometry ∷ [];
+  finished = 1;
+  running = None;
+  marked = false;
+  dropped = 0;
 }
 
 -- before the first record
@@ -144,9 +188,9 @@ nothing_yet = formatted least_geometry
 
 -- ---- places (aggregation buffer: Apache Traffic Server guide, Cache Architecture)
 
--- the least place that may be read
+-- the least place that may be read: that of the buffer, or that of the opening
 abbrev pub floor_now : State → ℕ
-floor_now s = floor_of s.geometry s.cursor
+floor_now s = max s.least (floor_of s.geometry s.cursor)
 
 -- where the next piece is placed
 abbrev pub place_now : State → ℕ
@@ -158,7 +202,7 @@ cursor_next s = next_cursor_of s.geometry s.cursor s.filled
 
 -- the floor once that buffer begins: what is below it then is passed
 abbrev pub floor_next : State → ℕ
-floor_next s = floor_of s.geometry (cursor_next s)
+floor_next s = max s.least (floor_of s.geometry (cursor_next s))
 
 -- ---- pieces
 
@@ -197,6 +241,68 @@ live_row_of s id = option_and_then (only_live s) (row_of s id)
 -- all pieces that may be read, in the order in which they were placed
 abbrev pub live_rows : State → List Row
 live_rows s = filter (is_live s) s.rows
+
+-- ---- what is found, and what syncs hold
+
+-- a piece that an opening found
+abbrev pub row_of_found : FoundRow → Row
+row_of_found f = record { id = f.id; place = f.place; blocks = f.blocks; digest = f.digest; pin = f.pin; alternates = f.alternates }
+
+-- its place
+abbrev pub place_of_found : FoundRow → ℕ × PieceId
+place_of_found f = (f.place, f.id)
+
+-- where it is a vector, that is its key's last
+abbrev pub vector_of_found : FoundRow → List (Key × LastVector)
+vector_of_found f = if is_vector f.id then (f.id.first, Complete f.id.put) ∷ [] else []
+
+-- what the copy holds that an opening took
+abbrev pub mark_of_opening : Opening → Mark
+mark_of_opening o =
+    record { serial = o.serial; cursor = o.cursor; low = o.floor; end = o.cursor; next_put = o.next_put; clean = o.clean; rows = map row_of_found o.found }
+
+-- at the beginning of a session that an opening began
+abbrev pub state_of_opening : Geometry → Opening → State
+state_of_opening geometry o = record (formatted geometry) {
+  cursor = o.cursor;
+  rows = map row_of_found o.found;
+  places = map place_of_found o.found;
+  vectors = flat_map vector_of_found o.found;
+  next_put = o.next_put;
+  least = o.floor;
+  opened = Some o.serial;
+  marks = mark_of_opening o ∷ [];
+  finished = o.serial;
+  marked = o.clean;
+}
+
+-- a clean sync names from the floor on, another one from the place up to which the cursor may come before the next
+abbrev pub low_of_sync : State → ℕ → Bool → ℕ
+low_of_sync s cursor clean = if clean then floor_now s else low_of s.geometry cursor
+
+-- the live pieces that a sync with this cursor names
+abbrev pub synced_rows : State → ℕ → Bool → List Row
+synced_rows s cursor clean = filter (λ row. nat_le (low_of_sync s cursor clean) row.place) (live_rows s)
+
+-- what a sync that begins now holds
+abbrev pub mark_now : State → ℕ → ℕ → Bool → Mark
+mark_now s serial cursor clean = record {
+  serial = serial;
+  cursor = cursor;
+  low = low_of_sync s cursor clean;
+  end = place_now s;
+  next_put = s.next_put;
+  clean = clean;
+  rows = synced_rows s cursor clean;
+}
+
+-- the sync of this serial
+abbrev pub mark_of : State → ℕ → Option Mark
+mark_of s serial = find (λ m. m.serial == serial) s.marks
+
+-- it is known as a clean one
+abbrev pub is_clean_sync : State → ℕ → Bool
+is_clean_sync s serial = unwrap_or (option_map (λ (m : Mark). m.clean) (mark_of s serial)) false
 
 -- ---- puts and readers
 
@@ -321,9 +427,11 @@ abbrev pub opened_put : ℕ → ℕ → Key → List Field → List Field → �
 opened_put actor put key request response pin =
     record { actor = actor; put = put; key = key; request = request; response = response; pin = pin; cuts = []; writing = Open }
 
--- the state behind one record; a format leaves nothing of the session before it
+-- the state behind one record; a format or an opening leaves nothing of the session before it
 abbrev pub state_after : State → Rec → State
 state_after s (rec.Formatted geometry) = formatted geometry
+state_after s (rec.Opened geometry serial cursor floor next_put clean list) =
+    state_of_opening geometry (record { serial = serial; cursor = cursor; floor = floor; next_put = next_put; clean = clean; found = list })
 state_after s (rec.Began cursor floor) = record s { cursor = cursor; filled = 0 }
 state_after s (rec.Placed piece place blocks digest pin) = record s {
   filled = s.filled + blocks;
@@ -375,6 +483,16 @@ state_after s (rec.Ended reader length) = s
 state_after s (rec.Waited reader cut) = s
 state_after s (rec.Broke reader why) = s
 state_after s (rec.ReadClosed reader) = record s { readers = without_reader reader s.readers }
+state_after s (rec.SyncBegun serial cursor clean in_parts) = record s {
+  marks = mark_now s serial cursor clean ∷ s.marks;
+  running = if in_parts then Some serial else s.running;
+  marked = if clean then true else s.marked;
+}
+state_after s (rec.SyncDone serial) = record s {
+  finished = serial;
+  running = None;
+  marked = if is_clean_sync s serial then s.marked else false;
+}
 state_after s (rec.Fault count) = record s { fault = count }
 
 -- the state behind records, one after the other

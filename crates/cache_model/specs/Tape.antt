@@ -6,10 +6,11 @@ use Rattle.tape_base.specs.Piece.{same_piece}
 use Rattle.tape_base.specs.Place.{lap_end_of}
 use Rattle.cache_model.specs.State.{State, Row, place_now}
 
--- pieces one behind the other, none of them empty, from a low place on and up to a high one
+-- pieces that begin one behind the other from a low place on, none of them empty, each of which ends at a high
+-- place or below it; pieces that an opening found may overlap
 abbrev pub AreRising : ℕ → List Row → ℕ → Type 0
 AreRising low [] high = low ≤ high
-AreRising low (row ∷ rows) high = (low ≤ row.place) × (0 < row.blocks) × AreRising (row.place + row.blocks) rows high
+AreRising low (row ∷ rows) high = (low ≤ row.place) × (0 < row.blocks) × (row.place + row.blocks ≤ high) × AreRising (row.place + 1) rows high
 
 -- no row has this piece
 abbrev pub NotAmong : PieceId → List Row → Type 0
@@ -26,10 +27,11 @@ abbrev pub AreKnown : List (ℕ × PieceId) → List Row → Type 0
 AreKnown places [] = Unit {0}
 AreKnown places (row ∷ rows) = (lookup (λ p. p == row.place) places ≡ Some row.id) × AreKnown places rows
 
--- the buffer lies in one lap and is not overfull, and the pieces stand one behind the other below
--- its end
+-- the buffer lies in one lap, behind the bound of the opening, and is not overfull, and the pieces begin one behind the other and end
+-- where it ends, or below
 pub record IsSound (s : State) : Type 0 where
   pub from : s.geometry.content ≤ s.cursor
+  pub least : s.least ≤ s.cursor
   pub lap : s.cursor + s.geometry.agg ≤ lap_end_of s.geometry s.cursor
   pub room : s.filled ≤ s.geometry.agg
   pub rising : AreRising s.geometry.content s.rows (place_now s)

@@ -14,24 +14,24 @@ use Rattle.alternate_vector.specs.Alternates.{Stored, IsStored}
 use Rattle.alternate_vector.specs.Spelling.{IsSpelling, vector_bytes}
 use Rattle.cache_model.specs.State.{State, Row, PutRow, alternate_of, alternates_of, put_of}
 use Rattle.cache_model.specs.Verdict.{live_vector_of}
-use Rattle.cache_model.specs.Room.{greatest_pin}
 
--- the document as which a vector was placed
-abbrev pub vector_doc : State → Row → Doc
-vector_doc s row = record { id = row.id; place = row.place; generation = s.geometry.generation; pin = row.pin; start = 0 }
+
+-- the document as which a vector stands; this program places it with the start 0, an opening finds it with any
+abbrev pub vector_doc : State → Row → ℕ → Doc
+vector_doc s row start = record { id = row.id; place = row.place; generation = s.geometry.generation; pin = row.pin; start = start }
 
 -- the bytes of that document up to the end of its payload, where it spells these alternates
-abbrev pub vector_document : State → Row → List Stored → List ℕ
-vector_document s row list = header_bytes (vector_doc s row) (vector_bytes list) ++ vector_bytes list
+abbrev pub vector_document : State → Row → ℕ → List Stored → List ℕ
+vector_document s row start list = header_bytes (vector_doc s row start) (vector_bytes list) ++ vector_bytes list
 
--- the row lists these alternates, and was placed as the document that spells them
+-- the row lists these alternates, and stands as a document that spells them
 pub record IsVectorRow (s : State) (row : Row) (list : List Stored) : Type 0 where
+  pub start : ℕ
   pub lists : row.alternates ≡ Some list
   pub spelled : IsSpelling (vector_bytes list) list
-  pub digest : row.digest ≡ digest_of_document (vector_doc s row) (vector_bytes list)
+  pub digest : row.digest ≡ digest_of_document (vector_doc s row start) (vector_bytes list)
   pub blocks : row.blocks ≡ blocks_of (length (vector_bytes list))
   pub small : row.blocks ≤ budget_of s.geometry
-  pub pin : row.pin ≡ greatest_pin list
 
 -- a row, where it is that of a vector, lists some alternates so
 abbrev pub IsListed : State → Row → Type 0
@@ -53,12 +53,12 @@ pub record AreTold (s : State) : Type 0 where
 
 -- ---- what may be shown
 
--- the document as which a vector was placed
+-- the document as which a vector stands
 pub record IsVectorAs (s : State) (row : Row) (document : List ℕ) : Type 0 where
   pub list : List Stored
   pub vector : is_vector row.id ≡ true
   pub lists : IsVectorRow s row list
-  pub is : document ≡ vector_document s row list
+  pub is : document ≡ vector_document s row lists.start list
 
 -- ---- laws
 
@@ -68,7 +68,7 @@ LiveVectorIsListed = (s : State) (key : Key) (row : Row) → AreVectors s → li
     → (list : List Stored) × IsVectorRow s row list × (alternates_of s key ≡ list)
 
 -- what bytes of a vector's digest tell as their payload spells its alternates, or the bytes collide
--- with the document as which the vector was placed
+-- with the document as which the vector stands
 abbrev pub VectorIsReadBack : Type 0
-VectorIsReadBack = (s : State) (row : Row) (list : List Stored) (bytes : List ℕ) → IsVectorRow s row list → IsBytes bytes → row.digest ≡ document_digest bytes
-    → (payload_of bytes ≡ vector_bytes list) ⊎ Collide (take (extent_of bytes) bytes) (vector_document s row list)
+VectorIsReadBack = (s : State) (row : Row) (list : List Stored) (bytes : List ℕ) (v : IsVectorRow s row list) → IsBytes bytes → row.digest ≡ document_digest bytes
+    → (payload_of bytes ≡ vector_bytes list) ⊎ Collide (take (extent_of bytes) bytes) (vector_document s row v.start list)

@@ -21,9 +21,14 @@ use Rattle.cache_model.specs.State.{State, Row, PutRow, ReaderRow, LastVector, C
 
 -- ---- causes
 
--- of what no record of the session speaks
+-- of what no record of the session speaks, by how it began
+abbrev pub cause_of_beginning : Option ℕ → Cause
+cause_of_beginning None = cause.NeverPut
+cause_of_beginning (Some serial) = cause.BeforeOpening serial
+
+-- of what no record speaks: puts were forgotten, or it is from before the session
 abbrev pub no_record : State → Cause
-no_record s = cause.NeverPut
+no_record s = if s.dropped == 0 then cause_of_beginning s.opened else cause.Unrecorded s.dropped
 
 -- the last displacement or damage of a piece, if there was one
 abbrev pub cause_of_loss : State → PieceId → Option Cause

@@ -33,6 +33,14 @@ pub enum Cause {
     DeviceFault {
         count: u64,
     },
+    /// No record of this session speaks of it, which began by the opening of this serial.
+    BeforeOpening {
+        serial: u64,
+    },
+    /// No record that was kept speaks of it, and so many puts were forgotten.
+    Unrecorded {
+        dropped: u64,
+    },
     /// The bytes at the piece's place do not have the digest that was kept.
     Damaged {
         place: u64,

@@ -2,6 +2,7 @@
 
 use crate::answer::ReadAnswer;
 use crate::cause::Cause;
+use crate::findings::FoundList;
 use alternate_vector::Fields;
 use tape_base::{Actor, Digest, Geometry, Key, PieceId};
 
@@ -11,6 +12,16 @@ pub enum Rec {
     /// A session begins on an empty device.
     Formatted {
         geometry: Geometry,
+    },
+    /// A session begins on a device that an earlier one left, by a copy of its directory.
+    Opened {
+        geometry: Geometry,
+        serial: u64,
+        cursor: u64,
+        floor: u64,
+        next_put: u64,
+        clean: bool,
+        list: FoundList,
     },
     /// A buffer begins.
     Began {
@@ -116,6 +127,18 @@ pub enum Rec {
     /// A reader was closed.
     ReadClosed {
         reader: u64,
+    },
+    /// A sync takes its image of the directory. A clean one promises that nothing is placed before the next
+    /// sync; one in parts is written by later calls. The cursor is that of the buffer behind it.
+    SyncBegun {
+        serial: u64,
+        cursor: u64,
+        clean: bool,
+        in_parts: bool,
+    },
+    /// The copy of a sync stands, and no cut takes it back.
+    SyncDone {
+        serial: u64,
     },
     /// The device refused a call, and its count of faults then stood at `count`.
     Fault {

@@ -1,6 +1,6 @@
 -- The counts of device faults that answers tell.
 use Rattle.std.proofs.Common.{◌≡◌, ℕ, ◌≤◌, ◌⊎◌, List, [], ◌∷◌, refl, sym, ◌∙◌, ap, subst, Bool, true, false, inl, inr, arith, cond, Result, Ok, Err}
-use Rattle.std.specs.Prelude.{Option, Some, None, IfErr, IfOk, IfSome, option_map, unwrap_or}
+use Rattle.std.specs.Prelude.{Option, Some, None, ◌==◌, if◌then◌else◌, IfErr, IfOk, IfSome, option_map, unwrap_or}
 use Rattle.std.specs.List.{AllByRecursion}
 use Rattle.std.specs.Map.{lookup}
 use Rattle.logged_disk.specs.Device.{State as Device}
@@ -14,7 +14,7 @@ use Rattle.cache_model.specs.declared.cause.Cause.TheVariants as cause
 use Rattle.cache_model.specs.declared.record.Rec.{Rec}
 use Rattle.cache_model.specs.State.{Complete, LastVector, Row, State, TakenOut, last_abort, last_vector, live_row_of, row_of, vector_piece}
 use Rattle.cache_model.specs.Kept.{Kept, state_of}
-use Rattle.cache_model.specs.Verdict.{cause_of_last, cause_of_miss, cause_of_piece, cause_without_vector, next_piece, no_match, no_record, passed}
+use Rattle.cache_model.specs.Verdict.{cause_of_beginning, cause_of_last, cause_of_miss, cause_of_piece, cause_without_vector, next_piece, no_match, no_record, passed}
 use Rattle.cache_model.specs.Permit.{Commit, Done, End, Exhausted, Fails, Faulted, Finish, Flush, Fragment, GiveUp, Intent, Look, Lost, Overflow, Permit, ReadAll, ReadOn, Reason, Remove, Stays, StopReading, Weigh, Work, Write}
 use Rattle.cache_model.specs.Given.{MayCount}
 use Rattle.cache_model.specs.Legal
@@ -70,8 +70,14 @@ lost_counts : (test : PieceId → Bool) (lost : List (PieceId × Cause)) (other 
 lost_counts test [] other none rest = rest
 lost_counts test (l ∷ lost) other none rest = found_counts (test l.0) l.1 (lookup test lost) other none.0 (lost_counts test lost other none.1 rest)
 
+-- nor is that of what no record speaks of
+beginning_counts : (b : Bool) (opened : Option ℕ) (dropped : ℕ) → count_of (if b then cause_of_beginning opened else cause.Unrecorded dropped) ≡ 0
+beginning_counts true None dropped = refl
+beginning_counts true (Some serial) dropped = refl
+beginning_counts false opened dropped = refl
+
 passed_counts : (s : State) (o : Option Row) → count_of (unwrap_or (option_map (passed s) o) (no_record s)) ≡ 0
-passed_counts s None = refl
+passed_counts s None = beginning_counts (s.dropped == 0) s.opened s.dropped
 passed_counts s (Some row) = refl
 
 -- why a piece is not live is no fault
@@ -87,7 +93,7 @@ last_counts s key (Complete put) none = vector_counts s (vector_piece key put) (
 last_counts s key (TakenOut put) none = refl
 
 none_counts : (s : State) (o : Option ℕ) → count_of (unwrap_or (option_map cause.Aborted o) (no_record s)) ≡ 0
-none_counts s None = refl
+none_counts s None = beginning_counts (s.dropped == 0) s.opened s.dropped
 none_counts s (Some put) = refl
 
 missed_counts : (s : State) (key : Key) (o : Option LastVector) → NoLossIsAFault s → count_of (unwrap_or (option_map (cause_of_last s key) o) (cause_without_vector s key)) ≡ 0
@@ -285,6 +291,8 @@ miss_said_counts (cause.Passed place floor unsaved) = refl
 miss_said_counts (cause.NoMatch count) = refl
 miss_said_counts (cause.Displaced segment live) = refl
 miss_said_counts (cause.Aborted writer) = refl
+miss_said_counts (cause.BeforeOpening serial) = refl
+miss_said_counts (cause.Unrecorded dropped) = refl
 miss_said_counts (cause.Damaged place kept found) = refl
 
 broken_said_counts : (why : Cause) → count_in (broken_said why) ≡ count_of why
@@ -295,6 +303,8 @@ broken_said_counts (cause.Passed place floor unsaved) = refl
 broken_said_counts (cause.NoMatch count) = refl
 broken_said_counts (cause.Displaced segment live) = refl
 broken_said_counts (cause.Aborted writer) = refl
+broken_said_counts (cause.BeforeOpening serial) = refl
+broken_said_counts (cause.Unrecorded dropped) = refl
 broken_said_counts (cause.Damaged place kept found) = refl
 
 pub miss_tells : (why : Cause) (n : ℕ) → count_of why ≤ n → count_in (miss_said why) ≤ n

@@ -66,6 +66,8 @@ cause_leaves reader s row (cause.Passed place floor unsaved) = record { puts = �
 cause_leaves reader s row (cause.NoMatch count) = record { puts = λ q h. refl; readers = λ n h. refl; geometry = refl; losses = losses_stay s (cause_records row (cause.NoMatch count)) }
 cause_leaves reader s row (cause.Displaced segment live) = record { puts = λ q h. refl; readers = λ n h. refl; geometry = refl; losses = losses_stay s (cause_records row (cause.Displaced segment live)) }
 cause_leaves reader s row (cause.Aborted writer) = record { puts = λ q h. refl; readers = λ n h. refl; geometry = refl; losses = losses_stay s (cause_records row (cause.Aborted writer)) }
+cause_leaves reader s row (cause.BeforeOpening serial) = record { puts = λ q h. refl; readers = λ n h. refl; geometry = refl; losses = losses_stay s (cause_records row (cause.BeforeOpening serial)) }
+cause_leaves reader s row (cause.Unrecorded dropped) = record { puts = λ q h. refl; readers = λ n h. refl; geometry = refl; losses = losses_stay s (cause_records row (cause.Unrecorded dropped)) }
 cause_leaves reader s row (cause.DeviceFault count) = record { puts = λ q h. refl; readers = λ n h. refl; geometry = refl; losses = losses_stay s (cause_records row (cause.DeviceFault count)) }
 cause_leaves reader s row (cause.Damaged place kept other) = record { puts = λ q h. refl; readers = λ n h. refl; geometry = refl; losses = losses_stay s (cause_records row (cause.Damaged place kept other)) }
 

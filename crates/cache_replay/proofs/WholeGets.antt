@@ -53,6 +53,8 @@ cause_finds row (cause.Passed place floor unsaved) = refl
 cause_finds row (cause.NoMatch count) = refl
 cause_finds row (cause.Displaced segment live) = refl
 cause_finds row (cause.Aborted writer) = refl
+cause_finds row (cause.BeforeOpening serial) = refl
+cause_finds row (cause.Unrecorded dropped) = refl
 cause_finds row (cause.DeviceFault count) = refl
 cause_finds row (cause.Damaged place kept other) = refl
 
@@ -63,6 +65,8 @@ cause_tells row (cause.Passed place floor unsaved) = refl
 cause_tells row (cause.NoMatch count) = refl
 cause_tells row (cause.Displaced segment live) = refl
 cause_tells row (cause.Aborted writer) = refl
+cause_tells row (cause.BeforeOpening serial) = refl
+cause_tells row (cause.Unrecorded dropped) = refl
 cause_tells row (cause.DeviceFault count) = refl
 cause_tells row (cause.Damaged place kept other) = refl
 

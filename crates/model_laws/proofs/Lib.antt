@@ -23,3 +23,4 @@ pub mod TriedFlush
 pub mod ToldFlush
 mod WorkedFlush
 mod ReadPairs
+mod Syncs

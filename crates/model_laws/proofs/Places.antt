@@ -1,6 +1,6 @@
 -- What a record makes of the place of one piece, and records that leave it.
 use Rattle.std.proofs.Common.{◌≡◌, ℕ, ◌<◌, ◌≤◌, List, [], ◌∷◌, ◌++◌, Bool, true, false, Option, Some, None, refl, sym, ◌∙◌, ap, arith}
-use Rattle.std.specs.Prelude.{not, ◌&&◌, ◌==◌, if◌then◌else◌, map, option_map, option_to_list}
+use Rattle.std.specs.Prelude.{max, not, ◌&&◌, ◌==◌, if◌then◌else◌, map, option_map, option_to_list}
 use Rattle.std.specs.List.{AllByRecursion}
 use Rattle.tape_base.specs.declared.keys.Key.{Key}
 use Rattle.tape_base.specs.declared.pieces.PieceId.{PieceId}
@@ -12,7 +12,10 @@ use Rattle.tape_base.proofs.NameLaws.{same_piece-true, same_piece-same, same_key
 use Rattle.cache_model.specs.declared.record.Rec.{Rec}
 use Rattle.cache_model.specs.declared.record.Rec.TheVariants as rec
 use Rattle.cache_model.specs.State.{State, Row, LastVector, Complete, TakenOut, after_all, state_after, last_vector, place_of, row_in, row_of, without, without_earlier, vector_piece, placed_row, moved_row, is_live, only_live, live_row_of, floor_now}
-use Rattle.model_laws.specs.PlaceLaws.{place_after, is_replaced, Leaves, takes_away, is_about, NotAbout, vector_said, begins_buffer, NoBuffer}
+use Rattle.tape_base.specs.declared.geometries.Geometry.{Geometry}
+use Rattle.cache_model.specs.Opening.{Opening}
+use Rattle.cache_model.specs.Openings.{opened_record}
+use Rattle.model_laws.specs.PlaceLaws.{place_after, place_found, is_replaced, Leaves, takes_away, is_about, NotAbout, vector_said, begins_buffer, NoBuffer}
 use Rattle.tape_base.specs.Place.{floor_of}
 use Rattle.cache_model.proofs.Lists.{row_in-without, row_in-placed, row_in-copied}
 use Rattle.cache_model.proofs.Found.{no_truth}
@@ -101,6 +104,7 @@ commit_leaves None key put id h = refl
 
 record_leaves : (s : State) (r : Rec) (id : PieceId) (before : Option ℕ) → Leaves id r → place_after s r id before ≡ before
 record_leaves s (rec.Formatted geometry) id before h = no_truth h
+record_leaves s (rec.Opened geometry serial cursor floor next_put clean list) id before h = no_truth h
 record_leaves s (rec.Placed piece place blocks digest pin) id before h = rw h refl
 record_leaves s (rec.Displaced piece segment live) id before h = rw h refl
 record_leaves s (rec.Damaged piece place kept found) id before h = rw h refl
@@ -125,6 +129,10 @@ pub moved_is_there : (s : State) (id : PieceId) (before from place : ℕ) (diges
 moved_is_there s id before from place digest behind there h =
     place-left (state_after s (rec.Moved id from place digest)) id behind h
     ∙ (place_follows s (rec.Moved id from place digest) id ∙ rw (same_piece-same id, there) refl)
+
+pub found_is_there : (s : State) (id : PieceId) (geometry : Geometry) (o : Opening) (behind : List Rec) → AllByRecursion (Leaves id) behind
+    → place_of (after_all s (opened_record geometry o ∷ behind)) id ≡ place_found o.found id
+found_is_there s id geometry o behind h = place-left (state_after s (opened_record geometry o)) id behind h
 
 gone_at : (s : State) (id : PieceId) (gone : Rec) → takes_away id gone ≡ true → place_of (state_after s gone) id ≡ None
 gone_at s id (rec.Displaced piece segment live) h = place_follows s (rec.Displaced piece segment live) id ∙ rw h refl
@@ -152,6 +160,7 @@ passed_is_not_live s id row e h = rw e (below_by s row (is_live s row) refl h)
 
 vector_stays : (s : State) (key : Key) (r : Rec) → is_about key r ≡ false → last_vector (state_after s r) key ≡ last_vector s key
 vector_stays s key (rec.Formatted geometry) h = no_truth h
+vector_stays s key (rec.Opened geometry serial cursor floor next_put clean list) h = no_truth h
 vector_stays s key (rec.Committed put k length) h = rw h refl
 vector_stays s key (rec.Removed put k) h = rw h refl
 vector_stays s key _ h = refl
@@ -160,18 +169,20 @@ pub vector-left : (s : State) (key : Key) (recs : List Rec) → AllByRecursion (
 vector-left s key [] h = refl
 vector-left s key (r ∷ recs) h = vector-left (state_after s r) key recs h.1 ∙ vector_stays s key r h.0
 
-vector_is : (s : State) (key : Key) (said : Rec) → is_about key said ≡ true → last_vector (state_after s said) key ≡ vector_said said
+vector_is : (s : State) (key : Key) (said : Rec) → is_about key said ≡ true → last_vector (state_after s said) key ≡ vector_said key said
 vector_is s key (rec.Formatted geometry) h = refl
+vector_is s key (rec.Opened geometry serial cursor floor next_put clean list) h = refl
 vector_is s key (rec.Committed put k length) h = rw h refl
 vector_is s key (rec.Removed put k) h = rw h refl
 vector_is s key _ h = cc
 
 pub vector_is_last : (s : State) (key : Key) (said : Rec) (behind : List Rec) → is_about key said ≡ true → AllByRecursion (NotAbout key) behind
-    → last_vector (after_all s (said ∷ behind)) key ≡ vector_said said
+    → last_vector (after_all s (said ∷ behind)) key ≡ vector_said key said
 vector_is_last s key said behind h k = vector-left (state_after s said) key behind k ∙ vector_is s key said h
 
 floor_stays : (s : State) (r : Rec) → begins_buffer r ≡ false → floor_now (state_after s r) ≡ floor_now s
 floor_stays s (rec.Formatted geometry) h = no_truth h
+floor_stays s (rec.Opened geometry serial cursor floor next_put clean list) h = no_truth h
 floor_stays s (rec.Began cursor floor) h = no_truth h
 floor_stays s _ h = refl
 
@@ -180,5 +191,5 @@ floor-left s [] h = refl
 floor-left s (r ∷ recs) h = floor-left (state_after s r) recs h.1 ∙ floor_stays s r h.0
 
 pub floor_is_last : (s : State) (cursor floor : ℕ) (behind : List Rec) → AllByRecursion NoBuffer behind
-    → floor_now (after_all s (rec.Began cursor floor ∷ behind)) ≡ floor_of s.geometry cursor
+    → floor_now (after_all s (rec.Began cursor floor ∷ behind)) ≡ max s.least (floor_of s.geometry cursor)
 floor_is_last s cursor floor behind h = floor-left (state_after s (rec.Began cursor floor)) behind h

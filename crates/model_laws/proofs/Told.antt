@@ -28,7 +28,7 @@ pub listed_stays : (s t : State) → t.geometry ≡ s.geometry → (row : Row) �
 listed_stays s t same row listed vector =
     let l = listed vector in
     let v : IsVectorRow s row l.0 = l.1 in
-    (l.0, record { lists = v.lists; spelled = v.spelled; digest = rw same v.digest; blocks = v.blocks; small = rw same v.small; pin = v.pin })
+    (l.0, record { start = v.start; lists = v.lists; spelled = v.spelled; digest = rw same v.digest; blocks = v.blocks; small = rw same v.small })
 
 -- rows that stay list what they listed
 pub vectors_part : (s t : State) → t.geometry ≡ s.geometry → ArePart t.rows s.rows → AreVectors s → AreVectors t
@@ -139,6 +139,7 @@ no_puts n w found = none_is found
 
 puts_left : (s : State) (r : Rec) → LeavesPuts r → AreFit s.puts → AreFit (state_after s r).puts
 puts_left s (rec.Formatted geometry) h each = no_puts
+puts_left s (rec.Opened geometry serial cursor floor next_put clean list) h each = no_puts
 puts_left s (rec.Displaced piece segment live) h each = absurd h
 puts_left s (rec.WriteOpened actor put key request response pin) h each = absurd h
 puts_left s (rec.Cut put index length digest) h each = absurd h
@@ -150,6 +151,7 @@ puts_left s _ h each = each
 
 nothing_displaced : (s : State) (r : Rec) → LeavesPuts r → s.displaced ≡ [] → (state_after s r).displaced ≡ []
 nothing_displaced s (rec.Formatted geometry) h none = refl
+nothing_displaced s (rec.Opened geometry serial cursor floor next_put clean list) h none = refl
 nothing_displaced s (rec.Placed piece place blocks digest pin) h none = refl
 nothing_displaced s (rec.Displaced piece segment live) h none = absurd h
 nothing_displaced s (rec.WriteOpened actor put key request response pin) h none = absurd h

@@ -79,10 +79,10 @@ moved_vector : (p : Permit) (s : State) (now left place : ℕ) (c : Copy) (list 
     → IsVectorRow s (moved place c) list ⊎ IsPairOf IsVectorAs p s c.row
 moved_vector p s now left place c list vector v saved =
     let fits : length (vector_bytes list) < 2 ^ 32 = short_enough s.geometry (length (vector_bytes list)) (let small = v.small in let blocks = v.blocks in omega (arith, small, blocks)) in
-    elim (moved_is_same_lem place c.bytes (vector_doc s c.row) (vector_bytes list) saved.given.of_bytes (vector_small list v.spelled.stored) fits (sym saved.digest ∙ v.digest)) [
-      | inl same ↦ inl (record { lists = v.lists; spelled = v.spelled; digest = same; blocks = v.blocks; small = v.small; pin = v.pin })
+    elim (moved_is_same_lem place c.bytes (vector_doc s c.row v.start) (vector_bytes list) saved.given.of_bytes (vector_small list v.spelled.stored) fits (sym saved.digest ∙ v.digest)) [
+      | inl same ↦ inl (record { start = v.start; lists = v.lists; spelled = v.spelled; digest = same; blocks = v.blocks; small = v.small })
       | inr collide ↦ inr (record {
-        document = vector_document s c.row list;
+        document = vector_document s c.row v.start list;
         bytes = c.bytes;
         live = saved.live;
         placed = record { list = list; vector = vector; lists = v; is = refl };

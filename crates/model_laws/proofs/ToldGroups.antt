@@ -18,7 +18,9 @@ use Rattle.alternate_vector.specs.Alternates.{Stored}
 use Rattle.alternate_vector.proofs.Lengths.{length-vector}
 use Rattle.cache_model.specs.declared.record.Rec.{Rec}
 use Rattle.cache_model.specs.declared.record.Rec.TheVariants as rec
-use Rattle.cache_model.specs.State.{State, after_all, list_of_put, nothing_yet, opened_put, place_now, placed_row, state_after, vector_piece}
+use Rattle.cache_model.specs.Opening.{Opening}
+use Rattle.cache_model.specs.Openings.{IsOpening, opened_records}
+use Rattle.cache_model.specs.State.{State, after_all, list_of_put, nothing_yet, opened_put, place_now, placed_row, state_after, state_of_opening, vector_piece}
 use Rattle.cache_model.specs.Permit.{Permit, IsAmong, Intent, Flush, Write, Fragment, Overflow, Weigh, Finish, Commit, GiveUp, Remove, Look, ReadOn, ReadAll, StopReading, End, Work, Reason}
 use Rattle.cache_model.specs.Room.{MayDisplace, greatest_pin, has_room}
 use Rattle.cache_model.specs.Legal
@@ -134,7 +136,7 @@ vector_placed p s put fragments added m told =
         digest = rw geometry refl;
         blocks = ap blocks_of (sym (length-vector list merged.spelled.stored.each));
         small = rw geometry merged.small;
-        pin = refl;
+        start = 0;
       },
     )))
 
@@ -249,8 +251,18 @@ shown_last courses course before added v = record {
   shows = v;
 }
 
+-- what an opening takes up tells its alternates
+told_opening : (s : State) (geometry : Geometry) (o : Opening) → AreVectors (state_of_opening geometry o) → AreTold (after_all s (opened_records geometry o))
+told_opening s geometry o vectors =
+    let t : State = after_all s (opened_records geometry o) in
+    record { vectors = vectors_part (state_of_opening geometry o) t refl (part_all t.rows) vectors; puts = no_puts; displaced = refl }
+
+pub openings_tell : (packed : Bool) (s : State) (geometry : Geometry) (o : Opening) → IsOpening packed geometry o → AreTold (after_all s (opened_records geometry o))
+openings_tell packed s geometry o opening = told_opening s geometry o opening.vectors
+
 told_legal : (packed : Bool) (courses : List Course) (recs : List Rec) → IsLegal packed courses recs → AreTold (after_all nothing_yet recs) ⊎ IsShownIn courses recs
 told_legal packed courses recs (Legal.IsLegal.begins geometry) = inl (told_format nothing_yet geometry)
+told_legal packed courses recs (Legal.IsLegal.opens geometry o opening) = inl (told_opening nothing_yet geometry o opening.vectors)
 told_legal packed courses recs (Legal.IsLegal.steps {courses = earlier} {before = before} {added = added} course e legal step) =
     elim (told_legal packed earlier before legal) [
       | inr v ↦ inr (shown_before earlier course before added v)

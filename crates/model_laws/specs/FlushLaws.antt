@@ -32,10 +32,10 @@ KeptAreChosen = (p : Permit) (s : State) (left : ℕ) (rows : List Row) (outcome
 abbrev pub DueAreFound : Type 0
 DueAreFound = (s : State) (now : ℕ) → due_pieces s now ≡ filter (is_due s now) (rows_from s (floor_now s) (floor_next s))
 
--- where a piece begins it is the next one, and the others stand behind it
+-- where a piece begins it is the next one, and the others begin behind that place; they may overlap it
 abbrev pub WalkFinds : Type 0
 WalkFinds = (s : State) (place high : ℕ) (id : PieceId) (row : Row) → IsSound s → floor_now s ≤ place → place < high
-    → piece_at s place ≡ Some id → live_row_of s id ≡ Some row → rows_from s place high ≡ row ∷ rows_from s (place + row.blocks) high
+    → piece_at s place ≡ Some id → live_row_of s id ≡ Some row → rows_from s place high ≡ row ∷ rows_from s (place + 1) high
 
 -- where none begins the walk goes on
 abbrev pub WalkGoesOn : Type 0

@@ -7,3 +7,4 @@ pub mod TapeLaws
 pub mod VectorLaws
 pub mod FlushLaws
 pub mod Agreeing
+pub mod SyncLaws

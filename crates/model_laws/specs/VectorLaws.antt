@@ -6,6 +6,8 @@ use Rattle.tape_base.specs.Geometry.{budget_of}
 use Rattle.alternate_vector.specs.Alternates.{vector_size}
 use Rattle.alternate_vector.specs.Spelling.{IsSpelling, vector_bytes}
 use Rattle.cache_model.specs.declared.record.Rec.{Rec}
+use Rattle.cache_model.specs.Opening.{Opening}
+use Rattle.cache_model.specs.Openings.{IsOpening, opened_records}
 use Rattle.cache_model.specs.State.{State, Row, PutRow, after_all, list_of_put, nothing_yet, put_of}
 use Rattle.cache_model.specs.Permit.{Permit, IsAmong, Intent, Reason, End}
 use Rattle.cache_model.specs.Due.{due_pieces}
@@ -18,6 +20,10 @@ use Rattle.cache_model.specs.Vectors.{AreTold, AreVectors, IsVectorAs}
 -- a session begins so
 abbrev pub FormatsTell : Type 0
 FormatsTell = (s : State) (geometry : Geometry) → AreTold (after_all s (format_records geometry))
+
+-- so does one that an opening begins, whose vectors list their alternates
+abbrev pub OpeningsTell : Type 0
+OpeningsTell = (packed : Bool) (s : State) (geometry : Geometry) (o : Opening) → IsOpening packed geometry o → AreTold (after_all s (opened_records geometry o))
 
 -- a flush that copies what is due leaves it so, or two documents of one SHA-256 are shown
 abbrev pub FlushTells : Type 0

@@ -1,14 +1,15 @@
 // Laws of the definitions over records, in the subject's sentences. These functions do nothing when
 // they run.
-ghost use Rattle.model_laws.specs.PlaceLaws.{PlaceFollows, PlaceIsLast, MovedIsThere, TakenIsNowhere, ReplacedIsNowhere, PassedIsNotLive, VectorIsLast, FloorIsLast};
+ghost use Rattle.model_laws.specs.PlaceLaws.{PlaceFollows, PlaceIsLast, MovedIsThere, FoundIsThere, TakenIsNowhere, ReplacedIsNowhere, PassedIsNotLive, VectorIsLast, FloorIsLast};
 ghost use Rattle.model_laws.specs.Choices.{GroupIsFixed, AskedIsAnswered, AnsweredIsTried, HitIsRead, GivenIsRead};
 ghost use Rattle.model_laws.specs.StepLaws.{RefusalEnds, NumbersFollow, FaultsRise, OneGroup, NothingAsked, FragmentIsCut, LiveIsRemoved, EmptyFlush, LookupIsOne, TooLargeIsNotPlaced, AllIsCutFirst, ReaderIsClosed, WriterIsEnded, TroubleIsBacked};
 ghost use Rattle.model_laws.specs.VerdictLaws.{HitMatches, CompleteIsHit, RemovedIsMissed, PassedIsMissed, FormattedIsEmpty, GivenIsOwn, EndIsWhole, FollowedIsClosed, WaitsForOpen};
-ghost use Rattle.model_laws.specs.TapeLaws.{StepsAreSound, LegalIsSound, LiveIsKnown};
+ghost use Rattle.model_laws.specs.TapeLaws.{OpeningsAreSound, StepsAreSound, LegalIsSound, LiveIsKnown};
 ghost use Rattle.model_laws.specs.FlushLaws.{DueAreFound, FlushIsSound, FrontIsBacked, GivenAreTried, KeptAreChosen, OutcomesAreFixed, OutcomesAreFound, OutcomesAreTried, StoppedIsBacked, StoppedIsSound, WalkFinds, WalkGoesOn};
 ghost use Rattle.model_laws.specs.Agreeing.{GroupsAgree, OtherCopiesAreBytes, StepsAgree};
 ghost use Rattle.model_laws.specs.PairLaws.{CopiedIsDueAndFits, LookupReadsItsKey, NothingAskedReadsNone, PairsAreBytes, PairsAreGiven, ReaderReadsItsNext};
-ghost use Rattle.model_laws.specs.VectorLaws.{FlushTells, StoppedTells, FormatsTell, GroupsTell, StepsTell, VectorsAreKept, MergedIsSpelled};
+ghost use Rattle.model_laws.specs.VectorLaws.{FlushTells, StoppedTells, FormatsTell, OpeningsTell, GroupsTell, StepsTell, VectorsAreKept, MergedIsSpelled};
+ghost use Rattle.model_laws.specs.SyncLaws.{FinishedIsLast, FollowerAllowsSync, FollowerHasSync, MarksStay, OnlyLaterAreAllowed, SyncIsHeld};
 ghost use Rattle.cache_model.specs.Vectors.{IsVectorAs, LiveVectorIsListed, VectorIsReadBack};
 
 /// What each record makes of the place of each piece.
@@ -332,4 +333,46 @@ pub fn pairs_are_read()
     ensures lookup { LookupReadsItsKey }
     ensures reader { ReaderReadsItsNext }
     ensures copied { CopiedIsDueAndFits }
+{}
+
+/// A piece stands where the opening of its session found it, unless something behind that moved it or took it away.
+pub fn found_is_there()
+    ensures { FoundIsThere }
+{}
+
+/// What an opening takes up lies soundly on the tape.
+pub fn openings_are_sound()
+    ensures { OpeningsAreSound }
+{}
+
+/// The vectors that an opening found list their alternates.
+pub fn openings_tell()
+    ensures { OpeningsTell }
+{}
+
+/// What a sync holds is how things stood when it began.
+pub fn sync_is_held()
+    ensures { SyncIsHeld }
+{}
+
+/// Nothing that is recorded later changes what a sync holds.
+pub fn marks_stay()
+    ensures { MarksStay }
+{}
+
+/// The sync that finished last is the last of which that is recorded.
+pub fn finished_is_last()
+    ensures { FinishedIsLast }
+{}
+
+/// Once a sync finished it may be found, and what was begun later, and nothing earlier.
+pub fn only_later_are_allowed()
+    ensures { OnlyLaterAreAllowed }
+{}
+
+/// An opening that follows a session has the pieces of the sync that it took up, and its number of the next put; and that
+/// sync may be found again.
+pub fn followers_take_up()
+    ensures has { FollowerHasSync }
+    ensures allows { FollowerAllowsSync }
 {}

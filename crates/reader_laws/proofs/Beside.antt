@@ -35,6 +35,7 @@ AnyNumber k = Unit {0}
 -- alone
 abbrev pub IsBeside : (ℕ → Type 0) → (ℕ → Type 0) → Rec → Type 0
 IsBeside R P (rec.Formatted geometry) = ⊥
+IsBeside R P (rec.Opened geometry serial cursor floor next_put clean list) = ⊥
 IsBeside R P (rec.Gave reader index length) = R reader
 IsBeside R P (rec.ReadClosed reader) = R reader
 IsBeside R P (rec.Committed put key length) = P put

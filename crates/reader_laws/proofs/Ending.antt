@@ -44,6 +44,8 @@ broken_ends_none (cause.Passed place floor unsaved) size h = cc
 broken_ends_none (cause.NoMatch count) size h = cc
 broken_ends_none (cause.Displaced segment live) size h = cc
 broken_ends_none (cause.Aborted writer) size h = cc
+broken_ends_none (cause.BeforeOpening serial) size h = cc
+broken_ends_none (cause.Unrecorded dropped) size h = cc
 broken_ends_none (cause.DeviceFault count) size h = cc
 broken_ends_none (cause.Damaged place kept found) size h = cc
 

@@ -62,6 +62,8 @@ miss_names_none (cause.Passed place floor unsaved) = refl
 miss_names_none (cause.NoMatch count) = refl
 miss_names_none (cause.Displaced segment live) = refl
 miss_names_none (cause.Aborted writer) = refl
+miss_names_none (cause.BeforeOpening serial) = refl
+miss_names_none (cause.Unrecorded dropped) = refl
 miss_names_none (cause.DeviceFault count) = refl
 miss_names_none (cause.Damaged place kept found) = refl
 
@@ -72,6 +74,8 @@ broken_names_none (cause.Passed place floor unsaved) = refl
 broken_names_none (cause.NoMatch count) = refl
 broken_names_none (cause.Displaced segment live) = refl
 broken_names_none (cause.Aborted writer) = refl
+broken_names_none (cause.BeforeOpening serial) = refl
+broken_names_none (cause.Unrecorded dropped) = refl
 broken_names_none (cause.DeviceFault count) = refl
 broken_names_none (cause.Damaged place kept found) = refl
 
@@ -88,6 +92,7 @@ end_says put given None = names_none refl
 end_says put given (Some (rec.Ended reader last)) = ends reader last
 end_says put given (Some (rec.Broke reader why)) = names_none (broken_names_none why)
 end_says put given (Some (rec.Formatted geometry)) = names_none refl
+end_says put given (Some (rec.Opened geometry serial cursor floor next_put clean list)) = names_none refl
 end_says put given (Some (rec.Began cursor floor)) = names_none refl
 end_says put given (Some (rec.Placed piece place blocks digest pin)) = names_none refl
 end_says put given (Some (rec.Moved piece from place digest)) = names_none refl
@@ -103,6 +108,8 @@ end_says put given (Some (rec.ReadOpened reader actor key request found)) = name
 end_says put given (Some (rec.Gave reader index length)) = names_none refl
 end_says put given (Some (rec.Waited reader cut)) = names_none refl
 end_says put given (Some (rec.ReadClosed reader)) = names_none refl
+end_says put given (Some (rec.SyncBegun serial cursor clean in_parts)) = names_none refl
+end_says put given (Some (rec.SyncDone serial)) = names_none refl
 end_says put given (Some (rec.Fault count)) = names_none refl
 
 -- a whole read hit the put, and was told the end

@@ -89,6 +89,7 @@ closed_reader n reader rs = find-without (λ (x : ReaderRow). x.reader) reader n
 
 pub keeps_one : (n m : ℕ) (s : State) (r : Rec) → IsNumbered s r → IsBeside (OtherThan n) AnyNumber r → KeepsReader n m s (state_after s r)
 keeps_one n m s (rec.Formatted geometry) numbered beside = absurd beside
+keeps_one n m s (rec.Opened geometry serial cursor floor next_put clean list) numbered beside = absurd beside
 keeps_one n m s (rec.WriteOpened actor put key request response pin) numbered beside =
     let is : put ≡ s.next_put = numbered.0 in
     record {

@@ -79,6 +79,7 @@ module _ (P : ℕ → Key → List Field → List Field → ℕ → Type 0) wher
   -- a record leaves it, where it is said of the put that it opens
   record_puts : (s : State) (r : Rec) → AllByRecursion OfPut s.puts → OfRecord r → AllByRecursion OfPut (state_after s r).puts
   record_puts s (rec.Formatted geometry) each said = tt
+  record_puts s (rec.Opened geometry serial cursor floor next_put clean list) each said = tt
   record_puts s (rec.WriteOpened who put key request response pin) each said = (said, each)
   record_puts s (rec.Cut put index length digest) each said = changed_puts put (with_cut (made_row length digest.0)) (λ p h. h) s.puts each
   record_puts s (rec.Committed put key length) each said = changed_puts put (with_writing Closed) (λ p h. h) s.puts each

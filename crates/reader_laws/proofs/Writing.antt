@@ -60,6 +60,7 @@ ended_beside m s put f other w found = ap is_open (other_stays put f w (λ here.
 
 keeps_one : (m : ℕ) (s : State) (r : Rec) → IsNumbered s r → IsBeside AnyNumber (OtherThan m) r → KeepsPut m s (state_after s r)
 keeps_one m s (rec.Formatted geometry) numbered beside = absurd beside
+keeps_one m s (rec.Opened geometry serial cursor floor next_put clean list) numbered beside = absurd beside
 keeps_one m s (rec.WriteOpened actor put key request response pin) numbered beside =
     let is : put ≡ s.next_put = numbered.0 in
     record {

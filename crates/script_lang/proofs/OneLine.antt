@@ -107,6 +107,8 @@ cause_plain (cause.NoMatch count) = numbered_plain (codes "no-match") count refl
 cause_plain (cause.Displaced segment live) = with_word (codes "displaced ") _ refl (with (decimal segment) _ (number segment) (with_word (codes " ") _ refl (number live)))
 cause_plain (cause.Aborted writer) = numbered_plain (codes "aborted") writer refl
 cause_plain (cause.DeviceFault count) = numbered_plain (codes "device-fault") count refl
+cause_plain (cause.BeforeOpening serial) = numbered_plain (codes "before-opening") serial refl
+cause_plain (cause.Unrecorded dropped) = numbered_plain (codes "unrecorded") dropped refl
 cause_plain (cause.Damaged place kept found) =
     with_word (codes "damaged ") _ refl
     (with (decimal place) _ (number place) (with_word (codes " ") _ refl (with (encode_lower kept.0) _ (hex kept.0) (with_word (codes " ") _ refl (hex found.0)))))

@@ -58,6 +58,8 @@ cause_text (cause.NoMatch count) = numbered (codes "no-match") count
 cause_text (cause.Displaced segment live) = displaced_text segment live
 cause_text (cause.Aborted writer) = numbered (codes "aborted") writer
 cause_text (cause.DeviceFault count) = numbered (codes "device-fault") count
+cause_text (cause.BeforeOpening serial) = numbered (codes "before-opening") serial
+cause_text (cause.Unrecorded dropped) = numbered (codes "unrecorded") dropped
 cause_text (cause.Damaged place kept found) = damaged_text place kept found
 
 -- the index, from 1, of the fragment that is not live any more, and why

@@ -71,6 +71,8 @@ fn cause(alloc: Global, why: Cause) -> Result<String, AllocError>
         Cause::Displaced { segment, live } => displaced(alloc, segment, live),
         Cause::Aborted { writer } => numbered(alloc, "aborted", writer),
         Cause::DeviceFault { count } => numbered(alloc, "device-fault", count),
+        Cause::BeforeOpening { serial } => numbered(alloc, "before-opening", serial),
+        Cause::Unrecorded { dropped } => numbered(alloc, "unrecorded", dropped),
         Cause::Damaged { place, kept, found } => damaged(alloc, place, kept, found),
     }
 }

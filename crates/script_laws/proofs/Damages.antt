@@ -28,6 +28,7 @@ use Rattle.script_laws.proofs.Said.{answers_are_traced}
 
 damage_kept : (p : Permit) (s : State) (r : Rec) → IsKept p r → has_damage s ≡ true → has_damage (state_after s r) ≡ true
 damage_kept p s (rec.Formatted geometry) k h = absurd k
+damage_kept p s (rec.Opened geometry serial cursor floor next_put clean list) k h = absurd k
 damage_kept p s (rec.Damaged piece place kept found) k h = refl
 damage_kept p s _ k h = h
 

@@ -46,6 +46,7 @@ module _ (p : Permit) where
   -- the record begins no session, and the device counted a fault in the step
   abbrev pub IsKept : Rec → Type 0
   IsKept (rec.Formatted geometry) = ⊥
+  IsKept (rec.Opened geometry serial cursor floor next_put clean list) = ⊥
   IsKept (rec.Fault count) = IsCounted p count
   IsKept _ = Unit {0}
 

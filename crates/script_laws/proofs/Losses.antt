@@ -15,6 +15,7 @@ use Rattle.script_laws.proofs.Among.{among_left, among_right}
 
 loss_by : (s : State) (r : Rec) (piece : PieceId) (why : Cause) → IsAmong (piece, why) (state_after s r).lost → IsAmong (piece, why) s.lost ⊎ (cause_given r ≡ Some why)
 loss_by s (rec.Formatted geometry) piece why h = absurd h
+loss_by s (rec.Opened geometry serial cursor floor next_put clean list) piece why h = absurd h
 loss_by s (rec.Displaced id segment live) piece why h = elim h [ inl same ↦ inr (ap (λ (x : PieceId × Cause). Some x.1) (sym same)) | inr before ↦ inl before ]
 loss_by s (rec.Damaged id place kept found) piece why h = elim h [ inl same ↦ inr (ap (λ (x : PieceId × Cause). Some x.1) (sym same)) | inr before ↦ inl before ]
 loss_by s _ piece why h = inl h

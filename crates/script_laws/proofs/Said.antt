@@ -49,6 +49,7 @@ look_told (rec.ReadOpened reader actor key request answer ∷ recs) why h =
     let same : answer ≡ read.Miss why = cc in
     told_first (rec.ReadOpened reader actor key request answer) recs why (rw same refl)
 look_told (rec.Formatted geometry ∷ recs) why h = told_later _ recs why (look_told recs why h)
+look_told (rec.Opened geometry serial cursor floor next_put clean list ∷ recs) why h = told_later _ recs why (look_told recs why h)
 look_told (rec.Began cursor floor ∷ recs) why h = told_later _ recs why (look_told recs why h)
 look_told (rec.Placed piece place blocks digest pin ∷ recs) why h = told_later _ recs why (look_told recs why h)
 look_told (rec.Moved piece from place digest ∷ recs) why h = told_later _ recs why (look_told recs why h)
@@ -65,6 +66,8 @@ look_told (rec.Ended reader length ∷ recs) why h = told_later _ recs why (look
 look_told (rec.Waited reader cut ∷ recs) why h = told_later _ recs why (look_told recs why h)
 look_told (rec.Broke reader cause ∷ recs) why h = told_later _ recs why (look_told recs why h)
 look_told (rec.ReadClosed reader ∷ recs) why h = told_later _ recs why (look_told recs why h)
+look_told (rec.SyncBegun serial cursor clean in_parts ∷ recs) why h = told_later _ recs why (look_told recs why h)
+look_told (rec.SyncDone serial ∷ recs) why h = told_later _ recs why (look_told recs why h)
 look_told (rec.Fault count ∷ recs) why h = told_later _ recs why (look_told recs why h)
 
 -- ---- readers
@@ -136,6 +139,7 @@ module _ (s t : State) (turn : Turn) (told_traced : (why : Cause) → IsToldBy t
   next given None e = tt
   next given (Some (rec.Broke reader why)) e = broken why (told_traced why (next_told turn.added reader why e))
   next given (Some (rec.Formatted geometry)) e = tt
+  next given (Some (rec.Opened geometry serial cursor floor next_put clean list)) e = tt
   next given (Some (rec.Began cursor floor)) e = tt
   next given (Some (rec.Placed piece place blocks digest pin)) e = tt
   next given (Some (rec.Moved piece from place digest)) e = tt
@@ -152,12 +156,15 @@ module _ (s t : State) (turn : Turn) (told_traced : (why : Cause) → IsToldBy t
   next given (Some (rec.Ended reader length)) e = tt
   next given (Some (rec.Waited reader cut)) e = tt
   next given (Some (rec.ReadClosed reader)) e = tt
+  next given (Some (rec.SyncBegun serial cursor clean in_parts)) e = tt
+  next given (Some (rec.SyncDone serial)) e = tt
   next given (Some (rec.Fault count)) e = tt
 
   at_end : (put : ℕ) (given : List ℕ) (o : Option Rec) → told_in turn.added ≡ o → Says (end_said put given o)
   at_end n given None e = tt
   at_end n given (Some (rec.Broke reader why)) e = broken why (told_traced why (next_told turn.added reader why e))
   at_end n given (Some (rec.Formatted geometry)) e = tt
+  at_end n given (Some (rec.Opened geometry serial cursor floor next_put clean list)) e = tt
   at_end n given (Some (rec.Began cursor floor)) e = tt
   at_end n given (Some (rec.Placed piece place blocks digest pin)) e = tt
   at_end n given (Some (rec.Moved piece from place digest)) e = tt
@@ -174,6 +181,8 @@ module _ (s t : State) (turn : Turn) (told_traced : (why : Cause) → IsToldBy t
   at_end n given (Some (rec.Ended reader length)) e = tt
   at_end n given (Some (rec.Waited reader cut)) e = tt
   at_end n given (Some (rec.ReadClosed reader)) e = tt
+  at_end n given (Some (rec.SyncBegun serial cursor clean in_parts)) e = tt
+  at_end n given (Some (rec.SyncDone serial)) e = tt
   at_end n given (Some (rec.Fault count)) e = tt
 
   get : (given : List ℕ) (o : Option ReadAnswer) → lookup_in turn.added ≡ o → Says (get_said given (told_in turn.added) o)

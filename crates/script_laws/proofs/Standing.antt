@@ -1,6 +1,6 @@
 -- What lookups and readers are told by how things stand.
 use Rattle.std.proofs.Common.{◌≡◌, ℕ, List, [], ◌∷◌, Bool, true, false, refl, inl, inr}
-use Rattle.std.specs.Prelude.{Option, Some, None, cond, option_map, unwrap_or}
+use Rattle.std.specs.Prelude.{Option, Some, None, cond, ◌==◌, if◌then◌else◌, option_map, unwrap_or}
 use Rattle.std.specs.Map.{lookup}
 use Rattle.tape_base.specs.declared.keys.Key.{Key}
 use Rattle.tape_base.specs.declared.pieces.PieceId.{PieceId}
@@ -16,11 +16,11 @@ use Rattle.cache_model.specs.declared.answer.NextAnswer.{NextAnswer}
 use Rattle.cache_model.specs.declared.answer.NextAnswer.TheVariants as next
 use Rattle.cache_model.specs.declared.record.Rec.{Rec}
 use Rattle.cache_model.specs.State.{State, Row, PutRow, ReaderRow, LastVector, Complete, TakenOut, Writing, Open, Closed, GivenUp, last_abort, last_vector, live_row_of, put_of, row_of, vector_piece}
-use Rattle.cache_model.specs.Verdict.{cause_of_last, cause_of_loss, cause_of_miss, cause_of_piece, cause_without_vector, follow_answer, followed, hit, hit_answer, lookup_verdict, next_piece, next_row, no_match, no_record, passed, reader_verdict, verdict_at_end, verdict_of_followed, verdict_of_fragment, verdict_of_writing}
+use Rattle.cache_model.specs.Verdict.{cause_of_beginning, cause_of_last, cause_of_loss, cause_of_miss, cause_of_piece, cause_without_vector, follow_answer, followed, hit, hit_answer, lookup_verdict, next_piece, next_row, no_match, no_record, passed, reader_verdict, verdict_at_end, verdict_of_followed, verdict_of_fragment, verdict_of_writing}
 use Rattle.cache_model.specs.Permit.{IsAmong}
 use Rattle.cache_model.proofs.Found.{none_is}
 use Rattle.script_laws.specs.Causes
-use Rattle.script_laws.specs.Causes.{IsTraced}
+use Rattle.script_laws.specs.Causes.{IsTraced, is_standing}
 
 -- the cause of a miss or of a break is traced
 abbrev pub LookIsTraced : State → List Rec → ReadAnswer → Type 0
@@ -48,9 +48,15 @@ found_loss id (first ∷ losses) why h = lost_by first losses why (same_piece fi
 
 -- ---- causes
 
+-- of what no record speaks
+beginning_stands : (b : Bool) (opened : Option ℕ) (dropped : ℕ) → is_standing (if b then cause_of_beginning opened else cause.Unrecorded dropped) ≡ true
+beginning_stands true None dropped = refl
+beginning_stands true (Some serial) dropped = refl
+beginning_stands false opened dropped = refl
+
 module _ (s : State) (all : List Rec) where
   by_row : (o : Option Row) → IsTraced s all (unwrap_or (option_map (passed s) o) (no_record s))
-  by_row None = Causes.IsTraced.stands refl
+  by_row None = Causes.IsTraced.stands (beginning_stands (s.dropped == 0) s.opened s.dropped)
   by_row (Some row) = Causes.IsTraced.stands refl
 
   by_loss : (id : PieceId) (o : Option Cause) → cause_of_loss s id ≡ o → IsTraced s all (unwrap_or o (unwrap_or (option_map (passed s) (row_of s id)) (no_record s)))
@@ -65,7 +71,7 @@ module _ (s : State) (all : List Rec) where
   of_vector id (Some row) = Causes.IsTraced.stands refl
 
   by_abort : (o : Option ℕ) → IsTraced s all (unwrap_or (option_map cause.Aborted o) (no_record s))
-  by_abort None = Causes.IsTraced.stands refl
+  by_abort None = Causes.IsTraced.stands (beginning_stands (s.dropped == 0) s.opened s.dropped)
   by_abort (Some put) = Causes.IsTraced.stands refl
 
   by_last : (key : Key) (o : Option LastVector) → IsTraced s all (unwrap_or (option_map (cause_of_last s key) o) (cause_without_vector s key))

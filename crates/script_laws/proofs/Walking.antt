@@ -89,6 +89,7 @@ above p count c =
 
 fault_kept : (p : Permit) (s : State) (r : Rec) → IsKept p r → 0 < s.fault → 0 < (state_after s r).fault
 fault_kept p s (rec.Formatted geometry) k h = absurd k
+fault_kept p s (rec.Opened geometry serial cursor floor next_put clean list) k h = absurd k
 fault_kept p s (rec.Fault count) k h = above p count k
 fault_kept p s _ k h = h
 

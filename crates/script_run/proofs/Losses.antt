@@ -9,6 +9,7 @@ use Rattle.script_run.specs.Losses.{NoLossIsAFault}
 
 record_stays : (s : State) (r : Rec) → NoLossIsAFault s → NoLossIsAFault (state_after s r)
 record_stays s (rec.Formatted geometry) h = tt
+record_stays s (rec.Opened geometry serial cursor floor next_put clean list) h = tt
 record_stays s (rec.Displaced piece segment live) h = (refl, h)
 record_stays s (rec.Damaged piece place kept found) h = (refl, h)
 record_stays s _ h = h

@@ -25,6 +25,7 @@ use Rattle.stripe_actors.proofs.Rows.{followed-writers}
 
 pub others : (s : State) (a : Seen) (r : Rec) → speaks_of_actors r ≡ false → AreActors s a → AreActors (state_after s r) a
 others s a (rec.Formatted geometry) e h = absurd (cc)
+others s a (rec.Opened geometry serial cursor floor next_put clean list) e h = absurd (cc)
 others s a (rec.Began cursor floor) e h = alike_in_step s (state_after s (rec.Began cursor floor)) a refl refl refl refl h
 others s a (rec.Placed piece place blocks digest pin) e h = alike_in_step s (state_after s (rec.Placed piece place blocks digest pin)) a refl refl refl refl h
 others s a (rec.Moved piece from place digest) e h = alike_in_step s (state_after s (rec.Moved piece from place digest)) a refl refl refl refl h
@@ -42,6 +43,8 @@ others s a (rec.Ended reader n) e h = h
 others s a (rec.Waited reader cut) e h = h
 others s a (rec.Broke reader why) e h = h
 others s a (rec.ReadClosed reader) e h = absurd (cc)
+others s a (rec.SyncBegun serial cursor clean in_parts) e h = alike_in_step s (state_after s (rec.SyncBegun serial cursor clean in_parts)) a refl refl refl refl h
+others s a (rec.SyncDone serial) e h = alike_in_step s (state_after s (rec.SyncDone serial)) a refl refl refl refl h
 others s a (rec.Fault count) e h = alike_in_step s (state_after s (rec.Fault count)) a refl refl refl refl h
 
 pub writing_is_open : (s : State) (a : Seen) → AreActors s a → (put : ℕ) → is_open put a.held.puts ≡ is_writing s put

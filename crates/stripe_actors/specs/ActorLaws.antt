@@ -28,6 +28,7 @@ AlikeStayInStep = (s t : State) (a : Seen) → IsAlikeForActors s t → AreActor
 -- a record that changes a put or a reader, or begins a session
 abbrev pub speaks_of_actors : Rec → Bool
 speaks_of_actors (rec.Formatted geometry) = true
+speaks_of_actors (rec.Opened geometry serial cursor floor next_put clean list) = true
 speaks_of_actors (rec.Began cursor floor) = false
 speaks_of_actors (rec.Placed piece place blocks digest pin) = false
 speaks_of_actors (rec.Moved piece from place digest) = false
@@ -45,6 +46,8 @@ speaks_of_actors (rec.Ended reader length) = false
 speaks_of_actors (rec.Waited reader cut) = false
 speaks_of_actors (rec.Broke reader why) = false
 speaks_of_actors (rec.ReadClosed reader) = true
+speaks_of_actors (rec.SyncBegun serial cursor clean in_parts) = false
+speaks_of_actors (rec.SyncDone serial) = false
 speaks_of_actors (rec.Fault count) = false
 
 -- any other record leaves actors in step, as they are

@@ -22,15 +22,15 @@ use Rattle.stripe_core.proofs.Intact.{written_intact}
 use Rattle.stripe_core.specs.Held.{IsBufferedWhereNew, IsHeld, IsIntactWhereWritten, entry_of, times}
 use Rattle.stripe_core.proofs.Entries.{kept, times-filter, times-permutation}
 use Rattle.stripe_core.proofs.Counts.{is_between, later_between}
-use Rattle.stripe_core.proofs.Holding.{AreCounted, counted, end_is, entered, floor_is, next_is, none_behind}
+use Rattle.stripe_core.proofs.Holding.{AreCounted, counted, end_is, entered, floor_is, next_is, none_behind, unbounded}
 
 -- no piece stands at or behind the next buffer
 none_new : (b : Buffer) (low high : ℕ) (rows : List Row) → AreRising low rows high → high ≤ b.cursor → AllByRecursion (IsBufferedWhereNew b) rows
 none_new b low high [] r h = tt
 none_new b low high (row ∷ rows) r h =
-    let ends : row.place + row.blocks ≤ high = rising_ends (row.place + row.blocks) rows high r.2 in
+    let ends : row.place + row.blocks ≤ high = r.2 in
     let some : 0 < row.blocks = r.1 in
-    (λ above. absurd (omega (arith, ends, some, h, above)), none_new b (row.place + row.blocks) high rows r.2 h)
+    (λ above. absurd (omega (arith, ends, some, h, above)), none_new b (row.place + 1) high rows r.3 h)
 
 module _ (s : State) (c new : Seen) (held : IsHeld s c) (out : IsWrittenOut c) (begins : BeginsNext c new) (turning : IsTurning new) where
   abbrev after : State
@@ -49,7 +49,8 @@ module _ (s : State) (c new : Seen) (held : IsHeld s c) (out : IsWrittenOut c) (
   new_filled = ap filled_of begins.buffer
 
   new_floor : new.window.floor ≡ floor_next s
-  new_floor = ap (λ (w : Window). w.floor) begins.window ∙ (ap (λ g. floor_of g (cursor_behind c)) held.geometry ∙ ap (floor_of s.geometry) cursor_is)
+  new_floor = ap (λ (w : Window). w.floor) begins.window
+      ∙ (ap (λ g. floor_of g (cursor_behind c)) held.geometry ∙ (ap (floor_of s.geometry) cursor_is ∙ sym (unbounded s.least (floor_of s.geometry (cursor_next s)) held.least)))
 
   new_end : new.window.end ≡ cursor_next s
   new_end = ap (λ (w : Window). w.end) begins.window ∙ cursor_is
@@ -93,12 +94,12 @@ module _ (s : State) (c new : Seen) (held : IsHeld s c) (out : IsWrittenOut c) (
       → AllByRecursion (IsBufferedWhereNew c.buffer) rows → AllByRecursion (IsIntactWhereWritten after (content_of c.device)) rows
   all_intact low [] rising written buffered = tt
   all_intact low (row ∷ rows) rising written buffered =
-      let ends : row.place + row.blocks ≤ place_now s = rising_ends (row.place + row.blocks) rows (place_now s) rising.2 in (
+      let ends : row.place + row.blocks ≤ place_now s = rising.2 in (
         λ from below. record {
           ends = omega (arith, ends, behind);
           digest = was_intact row ends rising.1 written.0 buffered.0 from (either_side s.cursor row.place);
         },
-        all_intact (row.place + row.blocks) rows rising.2 written.1 buffered.1,
+        all_intact (row.place + 1) rows rising.3 written.1 buffered.1,
       )
 
   begun_is_held_here : IsHeld after new
@@ -114,6 +115,7 @@ module _ (s : State) (c new : Seen) (held : IsHeld s c) (out : IsWrittenOut c) (
         (λ told. all_intact s.geometry.content s.rows held.sound.rising (held.intact told) held.buffered);
     laps = held.laps;
     faults = subst (λ n. s.fault ≤ n) (sym (ap (λ (d : Device). d.faults) begins.device)) held.faults;
+    least = held.least;
   }
 
 pub begun_is_held : (s : State) (c new : Seen) → IsHeld s c → IsWrittenOut c → BeginsNext c new → IsTurning new

@@ -17,7 +17,7 @@ use Rattle.cache_model.specs.Kept.{Kept, state_of, with_records}
 use Rattle.cache_model.specs.Permit.{Commit, Done, Exhausted, Fails, GiveUp, ManyWriters, Permit, Remove, Write}
 use Rattle.cache_model.specs.Legal.{Does, DoesCommit, DoesGiveUp, DoesRemove, DoesWrite, IsQuiet, answer_record, most_writers, open_writers}
 use Rattle.cache_model.specs.Room.{limit}
-use Rattle.cache_model.proofs.Sound.{LeavesTape, later_leaves}
+use Rattle.cache_model.proofs.Sound.{LeavesTape, later_leaves, leaves_one}
 use Rattle.cache_model.proofs.Lists.{own_piece}
 use Rattle.cache_model.proofs.Found.{cuts_found, number_of}
 use Rattle.stripe_core.specs.declared.refusal.Refusal.{Refusal}
@@ -46,6 +46,7 @@ telling_is_held s c r tape leaves held =
     alike_is_held s (state_after s r) c held (record {
       geometry = leaves.geometry;
       cursor = leaves.cursor;
+      least = (leaves_one s r tape).least;
       filled = leaves.filled;
       rows = leaves.rows;
       sound = (later_leaves s (r ∷ []) (tape, tt) held.sound).sound;

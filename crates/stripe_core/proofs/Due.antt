@@ -38,7 +38,7 @@ due_rows s now candidates sound are = record { each = each_may s (due_pieces s n
 in_order : (low : ℕ) (rows : List Row) (high : ℕ) → AreRising low rows high → AreInOrder (map candidate_of rows)
 in_order low [] high r = tt
 in_order low (row ∷ []) high r = tt
-in_order low (row ∷ next ∷ rows) high r = (let ends : row.place + row.blocks ≤ next.place = r.2.0 in omega arith, in_order (row.place + row.blocks) (next ∷ rows) high r.2)
+in_order low (row ∷ next ∷ rows) high r = (let behind : row.place + 1 ≤ next.place = r.3.0 in omega arith, in_order (row.place + 1) (next ∷ rows) high r.3)
 
 due_rising : (s : State) (now : ℕ) → IsSound s → AreRising s.geometry.content (due_pieces s now) (place_now s)
 due_rising s now sound = rising-part s.geometry.content (place_now s) (due_part s now) sound.rising
@@ -52,13 +52,12 @@ due_in_order s now candidates sound are = subst AreInOrder (sym are) (in_order s
 abbrev BeginsWithin : ℕ → ℕ → Row → Type 0
 BeginsWithin from end row = (from ≤ row.place) × (row.place < end)
 
--- pieces one behind the other, which begin below a place, are no more than the places up to it
+-- pieces that begin one behind the other, and below a place, are no more than the places up to it
 few_behind : (end low : ℕ) (rows : List Row) (high : ℕ) → AreRising low rows high → AllByRecursion (λ (row : Row). row.place < end) rows → length rows + low ≤ max low end
 few_behind end low [] high r all = omega arith
 few_behind end low (row ∷ rows) high r all =
-    let rest : length rows + (row.place + row.blocks) ≤ max (row.place + row.blocks) end = few_behind end (row.place + row.blocks) rows high r.2 all.1 in
+    let rest : length rows + (row.place + 1) ≤ max (row.place + 1) end = few_behind end (row.place + 1) rows high r.3 all.1 in
     let from : low ≤ row.place = r.0 in
-    let some : 0 < row.blocks = r.1 in
     let below : row.place < end = all.0 in
     omega arith
 
@@ -69,10 +68,9 @@ all_below from end (row ∷ rows) all = (all.0.1, all_below from end rows all.1)
 few_within : (from end low : ℕ) (rows : List Row) (high : ℕ) → AreRising low rows high → AllByRecursion (BeginsWithin from end) rows → length rows + from ≤ max from end
 few_within from end low [] high r all = omega arith
 few_within from end low (row ∷ rows) high r all =
-    let rest : length rows + (row.place + row.blocks) ≤ max (row.place + row.blocks) end = few_behind end (row.place + row.blocks) rows high r.2 (all_below from end rows all.1) in
+    let rest : length rows + (row.place + 1) ≤ max (row.place + 1) end = few_behind end (row.place + 1) rows high r.3 (all_below from end rows all.1) in
     let above : from ≤ row.place = all.0.0 in
     let below : row.place < end = all.0.1 in
-    let some : 0 < row.blocks = r.1 in
     omega arith
 
 due_within : (s : State) (now : ℕ) → AllByRecursion (BeginsWithin (floor_now s) (floor_next s)) (due_pieces s now)
@@ -89,7 +87,8 @@ pub due_are_few : (s : State) (now : ℕ) (candidates : List Candidate) → IsSo
 due_are_few s now candidates sound are =
     let count : length (due_pieces s now) + floor_now s ≤ max (floor_now s) (floor_next s) =
     few_within (floor_now s) (floor_next s) s.geometry.content (due_pieces s now) (place_now s) (due_rising s now sound) (due_within s now) in
-    let moves : floor_next s ≤ floor_now s + 2 * s.geometry.agg = floor_moves s.geometry s.cursor s.filled sound.room sound.lap in
+    let buffers = floor_moves s.geometry s.cursor s.filled sound.room sound.lap in
+    let moves : floor_next s ≤ floor_now s + 2 * s.geometry.agg = omega (arith, buffers) in
     let same : length candidates ≡ length (due_pieces s now) = ap (λ (ds : List Candidate). length ds) are ∙ length-map (due_pieces s now) candidate_of in
     omega arith
 

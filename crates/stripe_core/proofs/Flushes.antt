@@ -53,7 +53,7 @@ fault_is_sound s count h = (later_leaves s (rec.Fault count ∷ []) (tt, tt) h).
 pub counted_is_held : (s : State) (c : Seen) (count : ℕ) → IsHeld s c → count ≤ c.device.faults → IsHeld (state_after s (rec.Fault count)) c
 counted_is_held s c count held low =
     alike_is_held s (state_after s (rec.Fault count)) c held
-    (record { geometry = refl; cursor = refl; filled = refl; rows = refl; sound = fault_is_sound s count held.sound }) low
+    (record { geometry = refl; cursor = refl; least = refl; filled = refl; rows = refl; sound = fault_is_sound s count held.sound }) low
 
 pub fault_is_held : (s : State) (c new : Seen) (count : ℕ) → IsHeld s c → SameTape c new → IsTurning new → SparesPieces c new.device → count ≡ new.device.faults
     → IsHeld (state_after s (rec.Fault count)) new

@@ -47,9 +47,9 @@ below_by id first row rows high false e at rest h = rest h
 below : (id : PieceId) (low high : ℕ) (rows : List Row) (row : Row) → AreRising low rows high → row_in rows id ≡ Some row → row.place < high
 below id low high [] row r h = cc
 below id low high (first ∷ rows) row r h =
-    let ends : first.place + first.blocks ≤ high = Rattle.cache_model.proofs.Rows.rising_ends (first.place + first.blocks) rows high r.2 in
+    let ends : first.place + first.blocks ≤ high = r.2 in
     let some : 0 < first.blocks = r.1 in
-    below_by id first row rows high (same_piece first.id id) refl (omega arith) (below id (first.place + first.blocks) high rows row r.2) h
+    below_by id first row rows high (same_piece first.id id) refl (omega arith) (below id (first.place + 1) high rows row r.3) h
 
 -- ---- what is left of what is buffered
 
@@ -66,7 +66,7 @@ left_intact : {P : Type 0} (s t : State) (content : Image) (id : PieceId) → Is
     → P → AllByRecursion (IsIntactWhereWritten t content) t.rows
 left_intact s t content id gone all p =
     subst (λ rs. AllByRecursion (IsIntactWhereWritten t content) rs) (sym gone.rows)
-    (each_same_intact s t content (without id s.rows) (sym gone.geometry) (sym gone.cursor) (all_left (IsIntactWhereWritten s content) id s.rows (all p)))
+    (each_same_intact s t content (without id s.rows) (sym gone.geometry) (sym gone.cursor) (sym gone.least) (all_left (IsIntactWhereWritten s content) id s.rows (all p)))
 
 -- ---- a live piece goes
 
@@ -99,7 +99,7 @@ module _ (s t : State) (c new : Seen) (id : PieceId) (row : Row) (held : IsHeld 
       let old : kept (is_between c.window.floor c.window.end x.place) (one_more it (times x new.rows)) ≡ kept (nat_le c.window.floor x.place) (one_more it left) =
       ap (kept (is_between c.window.floor c.window.end x.place)) (sym (entries_are x))
       ∙ ((counted s c held.entered).each x ∙ (ap (λ f. kept (nat_le f x.place) (times x (map (entry_of s.geometry) s.rows))) (sym start) ∙ ap (kept (nat_le c.window.floor x.place)) pieces)) in
-      rw (same_window, gone.geometry, gone.cursor, gone.rows, sym start) (fewer_between c.window.floor c.window.end x.place (times x new.rows) left it (in_range x) old)
+      rw (same_window, gone.geometry, gone.cursor, gone.least, gone.rows, sym start) (fewer_between c.window.floor c.window.end x.place (times x new.rows) left it (in_range x) old)
 
   taken_is_held_here : IsHeld t new
   taken_is_held_here = record {
@@ -113,6 +113,7 @@ module _ (s t : State) (c new : Seen) (id : PieceId) (row : Row) (held : IsHeld 
     intact = subst (λ (d : Device). TellsAll d → AllByRecursion (IsIntactWhereWritten t (content_of d)) t.rows) (sym (ap (λ (y : Seen). y.device) rest.same)) (left_intact s t (content_of c.device) id gone held.intact);
     laps = rw (gone.geometry, gone.rows) (all_left (IsInLap s.geometry) id s.rows held.laps);
     faults = rw (gone.fault, ap (λ (y : Seen). y.device) rest.same) held.faults;
+    least = gone.least ∙ held.least;
   }
 
 pub taken_is_held : (s t : State) (c new : Seen) (id : PieceId) (row : Row) → IsHeld s c → live_row_of s id ≡ Some row → IsWithout s t id
@@ -152,12 +153,13 @@ passed_is_held s t c id held none gone = record {
   filled = held.filled ∙ sym gone.filled;
   entered = entered t c (record {
     each = λ x.
-        rw (gone.geometry, gone.cursor, gone.rows) ((counted s c held.entered).each x ∙ sym (same_live s id x (row_in s.rows id) refl held.sound.apart none));
+        rw (gone.geometry, gone.cursor, gone.least, gone.rows) ((counted s c held.entered).each x ∙ sym (same_live s id x (row_in s.rows id) refl held.sound.apart none));
   });
   buffered = rw gone.rows (all_left (IsBufferedWhereNew c.buffer) id s.rows held.buffered);
   intact = left_intact s t (content_of c.device) id gone held.intact;
   laps = rw (gone.geometry, gone.rows) (all_left (IsInLap s.geometry) id s.rows held.laps);
   faults = rw gone.fault held.faults;
+  least = gone.least ∙ held.least;
 }
 
 -- ---- records that speak of no piece, and a device that changes
@@ -169,13 +171,14 @@ alike_is_held s t c held alike faults = record {
   geometry = held.geometry ∙ sym alike.geometry;
   cursor = held.cursor ∙ sym alike.cursor;
   filled = held.filled ∙ sym alike.filled;
-  entered = entered t c (record { each = λ x. rw (alike.geometry, alike.cursor, alike.rows) ((counted s c held.entered).each x) });
+  entered = entered t c (record { each = λ x. rw (alike.geometry, alike.cursor, alike.least, alike.rows) ((counted s c held.entered).each x) });
   buffered = rw alike.rows held.buffered;
   intact = λ told.
       subst (λ rs. AllByRecursion (IsIntactWhereWritten t (content_of c.device)) rs) (sym alike.rows)
-      (each_same_intact s t (content_of c.device) s.rows (sym alike.geometry) (sym alike.cursor) (held.intact told));
+      (each_same_intact s t (content_of c.device) s.rows (sym alike.geometry) (sym alike.cursor) (sym alike.least) (held.intact told));
   laps = rw (alike.geometry, alike.rows) held.laps;
   faults = faults;
+  least = alike.least ∙ held.least;
 }
 
 -- what was written out stays intact on a device that changes no more than where the buffer is written
@@ -199,6 +202,7 @@ device_may_change s c new held same turning spares = record {
   intact = spared_intact s c new.device held spares;
   laps = held.laps;
   faults = let low : s.fault ≤ c.device.faults = held.faults in omega (arith, low, spares.later);
+  least = held.least;
 }
 
 pub room_may_grow : (s : State) (c new : Seen) → IsHeld s c → SameButRoom c new → IsTurning new → SparesPieces c new.device → IsHeld s new
@@ -213,6 +217,7 @@ room_may_grow s c new held same turning spares = record {
   intact = spared_intact s c new.device held spares;
   laps = held.laps;
   faults = let low : s.fault ≤ c.device.faults = held.faults in omega (arith, low, spares.later);
+  least = held.least;
 }
 
 -- a device that shows what it showed spares all pieces

@@ -1,6 +1,6 @@
 -- What a cyclone holds stays what the records say, record by record.
-use Rattle.std.proofs.Common.{◌≡◌, ℕ, ◌+◌, ◌≤◌, sym, ◌∙◌, ap, subst}
-use Rattle.std.specs.Prelude.{map, nat_le}
+use Rattle.std.proofs.Common.{◌≡◌, ℕ, ◌+◌, ◌≤◌, arith, sym, ◌∙◌, ap, subst}
+use Rattle.std.specs.Prelude.{map, max, nat_le}
 use Rattle.tape_base.specs.declared.geometries.Geometry.{Geometry}
 use Rattle.tape_base.specs.Place.{floor_of, next_cursor_of}
 use Rattle.dir_table.specs.declared.rows.DirRow.{DirRow}
@@ -36,9 +36,13 @@ counted s c h = record { each = λ x. sym (in_range_count c x) ∙ (h x ∙ live
 pub entered : (s : State) (c : Seen) → AreCounted s c → SameRows (rows_in_range c) (map (entry_of s.geometry) (live_rows s))
 entered s c h = λ x. in_range_count c x ∙ (h.each x ∙ sym (live_count s s.geometry x))
 
+-- where no opening bounds the floor it is that of a buffer
+pub unbounded : (least floor : ℕ) → least ≡ 0 → max least floor ≡ floor
+unbounded least floor none = omega (arith, none)
+
 -- the range of a cyclone that holds the records
 pub floor_is : (s : State) (c : Seen) → IsHeld s c → c.window.floor ≡ floor_now s
-floor_is s c h = h.turning.floor ∙ (ap (λ g. floor_of g c.buffer.cursor) h.geometry ∙ ap (floor_of s.geometry) h.cursor)
+floor_is s c h = h.turning.floor ∙ (ap (λ g. floor_of g c.buffer.cursor) h.geometry ∙ (ap (floor_of s.geometry) h.cursor ∙ sym (unbounded s.least (floor_of s.geometry s.cursor) h.least)))
 
 pub end_is : (s : State) (c : Seen) → IsHeld s c → c.window.end ≡ place_now s
 end_is s c h = h.turning.end ∙ (ap (λ n. n + filled_of c.buffer) h.cursor ∙ ap (λ n. s.cursor + n) h.filled)

@@ -49,7 +49,7 @@ stays_intact s filled old new row few same h = λ low below.
     record {
       ends = i.ends;
       digest = ap document_digest (span_apart old new (slot_of s.geometry row.place) row.blocks (slot_of s.geometry s.cursor) filled same
-          (slots_apart s.geometry s.cursor filled row.place row.blocks low i.ends few)) ∙ i.digest;
+          (slots_apart s.geometry s.cursor filled row.place row.blocks (omega (arith, low)) i.ends few)) ∙ i.digest;
     }
 
 pub each_stays_intact : (s : State) (filled : ℕ) (old new : Image) (rows : List Row) → filled ≤ s.geometry.agg → SameBut (slot_of s.geometry s.cursor) filled old new
@@ -97,16 +97,17 @@ written_intact g b content row few lap whole written some h =
 
 -- ---- states that are alike
 
--- what is intact for one state is for another with the same geometry and cursor
-same_intact : (s t : State) (content : Image) (row : Row) → s.geometry ≡ t.geometry → s.cursor ≡ t.cursor → IsIntactWhereWritten s content row → IsIntactWhereWritten t content row
-same_intact s t content row geometry cursor h = λ low below.
-    let i : IsIntact s content row = h (rw (geometry, cursor) low) (rw cursor below) in
+-- what is intact for one state is for another with the same geometry, cursor and bound
+same_intact : (s t : State) (content : Image) (row : Row) → s.geometry ≡ t.geometry → s.cursor ≡ t.cursor → s.least ≡ t.least → IsIntactWhereWritten s content row → IsIntactWhereWritten t content row
+same_intact s t content row geometry cursor least h = λ low below.
+    let i : IsIntact s content row = h (rw (geometry, cursor, least) low) (rw cursor below) in
     record {
       ends = subst (λ n. row.place + row.blocks ≤ n) cursor i.ends;
       digest = subst (λ g. document_digest (span content (slot_of g row.place) row.blocks) ≡ row.digest) geometry i.digest;
     }
 
-pub each_same_intact : (s t : State) (content : Image) (rows : List Row) → s.geometry ≡ t.geometry → s.cursor ≡ t.cursor → AllByRecursion (IsIntactWhereWritten s content) rows
+pub each_same_intact : (s t : State) (content : Image) (rows : List Row) → s.geometry ≡ t.geometry → s.cursor ≡ t.cursor → s.least ≡ t.least → AllByRecursion (IsIntactWhereWritten s content) rows
     → AllByRecursion (IsIntactWhereWritten t content) rows
-each_same_intact s t content [] geometry cursor all = tt
-each_same_intact s t content (row ∷ rows) geometry cursor all = (same_intact s t content row geometry cursor all.0, each_same_intact s t content rows geometry cursor all.1)
+each_same_intact s t content [] geometry cursor least all = tt
+each_same_intact s t content (row ∷ rows) geometry cursor least all =
+    (same_intact s t content row geometry cursor least all.0, each_same_intact s t content rows geometry cursor least all.1)

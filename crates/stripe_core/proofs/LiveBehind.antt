@@ -20,7 +20,7 @@ use Rattle.cache_model.proofs.Copies.{AreReady, IsReady, others_stand, rows_of, 
 use Rattle.cache_model.proofs.Lists.{row_in-copied, row_in-without}
 use Rattle.cache_model.proofs.Live.{IsFound, due_are_live}
 use Rattle.cache_model.proofs.Rows.{apart-part, each_part}
-use Rattle.cache_model.proofs.Sound.{AllLeaveTape, buffer_left}
+use Rattle.cache_model.proofs.Sound.{AllLeaveTape, buffer_left, least_left}
 use Rattle.cache_model.proofs.SoundFlush.{copies_part, copies_ready, due_part, front_leaves, part_ready}
 use Rattle.cache_model.proofs.Steps.{after_all-append, all_append}
 use Rattle.stripe_core.specs.Flush.{AreOfFlush, IsOfFlush, IsSamePiece, LiveBefore}
@@ -182,7 +182,8 @@ flush_before s now outcomes sound up =
         → (floor_now (after_all s front) ≡ floor_now s) × (floor_now (state_after (after_all s front) (began_record s)) ≡ floor_next s)
     floors s front leave =
         let buffer = buffer_left s front leave in
-        (rw (buffer.0, buffer.1) refl, rw buffer.0 refl)
+        let least = least_left s front leave in
+        (rw (buffer.0, buffer.1, least) refl, rw (buffer.0, least) refl)
 
 pub stopped_before : (s : State) (rows : List Row) (outcomes : List Outcome) (count : ℕ) → LiveBefore s (after_all s (stopped_records rows outcomes count))
 stopped_before s rows outcomes count = all_beside s s (stopped_records rows outcomes count) (stopped_beside rows outcomes count) (live_same s)

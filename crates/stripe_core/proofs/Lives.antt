@@ -12,7 +12,6 @@ use Rattle.dir_table.specs.Rows.{has_row, row_of_key, same_row}
 use Rattle.cyclone.specs.Cyclone.{IsStored, Seen, row_of_piece}
 use Rattle.cache_model.specs.State.{State, Row, live_row_of, place_now, row_in}
 use Rattle.cache_model.specs.Tape.{AreRising}
-use Rattle.cache_model.proofs.Rows.{rising_ends}
 use Rattle.cache_model.proofs.Lists.{found_row, own_piece}
 use Rattle.stripe_core.specs.Held.{IsHeld, IsInLap, entry_of, rows_in_range, same_entry, times}
 use Rattle.stripe_core.specs.Pieces.{live_place_of}
@@ -38,7 +37,7 @@ blocks_of_live s id row blocks live h = let same : Some blocks ≡ Some row.bloc
 -- each row has blocks, and ends at the end of all or below it
 pub within : (id : PieceId) (low high : ℕ) (rows : List Row) → AreRising low rows high → AllByRecursion (λ (row : Row). (0 < row.blocks) × (row.place + row.blocks ≤ high)) rows
 within id low high [] r = tt
-within id low high (row ∷ rows) r = ((r.1, rising_ends (row.place + row.blocks) rows high r.2), within id (row.place + row.blocks) high rows r.2)
+within id low high (row ∷ rows) r = ((r.1, r.2), within id (row.place + 1) high rows r.3)
 
 pub live_within : (s : State) (c : Seen) (id : PieceId) (row : Row) → IsHeld s c → live_row_of s id ≡ Some row → (0 < row.blocks) × (row.place + row.blocks ≤ place_now s)
 live_within s c id row held live =

@@ -25,7 +25,7 @@ use Rattle.cache_model.specs.Tape.{AreApart, IsSound}
 use Rattle.cache_model.proofs.Copies.{AreReady, blocks_of_copies, rows_of}
 use Rattle.cache_model.proofs.Live.{due_are_live}
 use Rattle.cache_model.proofs.Rows.{apart-part}
-use Rattle.cache_model.proofs.Sound.{buffer_left, later_began}
+use Rattle.cache_model.proofs.Sound.{buffer_left, later_began, least_left}
 use Rattle.cache_model.proofs.SoundFlush.{copies_part, copies_ready, due_part, flush_is_sound, front_leaves, part_ready}
 use Rattle.cache_model.proofs.Walks.{all_among}
 use Rattle.cache_model.proofs.Written.{passes}
@@ -109,7 +109,7 @@ module _ (now : ℕ) (s : State) (before : ℕ) (mid : Device) (a : Ahead) (soun
   buffer = buffer_left s (front_of due_rows looks.outcomes) (front_leaves due_rows looks.outcomes)
 
   passed : AllByRecursion (IsPassed begun) due_rows
-  passed = rw buffer.0 (due_are_passed s now)
+  passed = rw (buffer.0, least_left s (front_of due_rows looks.outcomes) (front_leaves due_rows looks.outcomes)) (due_are_passed s now)
 
   sum : blocks_of_copies (copies_of due_rows looks.outcomes) ≤ budget_of s.geometry
   sum = copies_within permit s (budget_of s.geometry) all are

@@ -226,9 +226,10 @@ module _ (s : State) (c new : Seen) (id : PieceId) (row : Row) (bytes : List ℕ
         own_buffered;
     intact = subst (λ (d : Device). TellsAll d → AllByRecursion (IsIntactWhereWritten after (content_of d)) after.rows) (sym moved.device)
         (λ told. each_push (IsIntactWhereWritten after (content_of c.device)) others copy
-        (each_same_intact s after (content_of c.device) others refl refl (all_left (IsIntactWhereWritten s (content_of c.device)) id s.rows (held.intact told))) not_written);
+        (each_same_intact s after (content_of c.device) others refl refl refl (all_left (IsIntactWhereWritten s (content_of c.device)) id s.rows (held.intact told))) not_written);
     laps = each_push (IsInLap s.geometry) others copy (all_left (IsInLap s.geometry) id s.rows held.laps) in_lap;
     faults = subst (λ n. s.fault ≤ n) (sym (ap (λ (d : Device). d.faults) moved.device)) held.faults;
+    least = held.least;
   }
 
   pub moved_is_held_here : IsHeld (state_after s (moved_to_here s id row bytes)) new

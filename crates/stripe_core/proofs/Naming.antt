@@ -42,6 +42,7 @@ use Rattle.stripe_core.proofs.Going.{all_left}
 
 abbrev pub leaves_names : Rec → Bool
 leaves_names (rec.Formatted geometry) = false
+leaves_names (rec.Opened geometry serial cursor floor next_put clean list) = false
 leaves_names (rec.Placed piece place blocks digest pin) = false
 leaves_names (rec.WriteOpened actor put key request response pin) = false
 leaves_names (rec.Cut put index length digest) = false
@@ -87,6 +88,8 @@ name_left s (rec.Ended reader length) h named = named
 name_left s (rec.Waited reader cut) h named = named
 name_left s (rec.Broke reader why) h named = named
 name_left s (rec.ReadClosed reader) h named = named_same s _ refl refl refl refl named
+name_left s (rec.SyncBegun serial cursor clean in_parts) h named = named_same s _ refl refl refl refl named
+name_left s (rec.SyncDone serial) h named = named_same s _ refl refl refl refl named
 name_left s (rec.Fault count) h named = named_same s _ refl refl refl refl named
 name_left s _ h named = cc
 

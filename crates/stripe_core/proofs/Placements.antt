@@ -193,9 +193,10 @@ module _ (s : State) (c new : Seen) (doc : Doc) (payload : List ℕ) (digest : D
     buffered = subst (AllByRecursion (IsBufferedWhereNew new.buffer)) (sym rows_are)
         (each_push (IsBufferedWhereNew new.buffer) s.rows row (still_buffered c.buffer new.buffer (document_bytes doc payload) s.rows put.buffer same_cursor held.buffered) own_buffered);
     intact = subst (λ (d : Device). TellsAll d → AllByRecursion (IsIntactWhereWritten after (content_of d)) after.rows) (sym put.device)
-        (λ told. subst (AllByRecursion (IsIntactWhereWritten after (content_of c.device))) (sym rows_are) (each_push (IsIntactWhereWritten after (content_of c.device)) s.rows row (each_same_intact s after (content_of c.device) s.rows refl refl (held.intact told)) not_written));
+        (λ told. subst (AllByRecursion (IsIntactWhereWritten after (content_of c.device))) (sym rows_are) (each_push (IsIntactWhereWritten after (content_of c.device)) s.rows row (each_same_intact s after (content_of c.device) s.rows refl refl refl (held.intact told)) not_written));
     laps = subst (AllByRecursion (IsInLap s.geometry)) (sym rows_are) (each_push (IsInLap s.geometry) s.rows row held.laps in_lap);
     faults = subst (λ n. s.fault ≤ n) (sym (ap (λ (d : Device). d.faults) put.device)) held.faults;
+    least = held.least;
   }
 
 pub placed_is_held : (s : State) (c new : Seen) (doc : Doc) (payload : List ℕ) (digest : Digest) (pin : ℕ) → IsHeld s c → IsPlacedAs s doc payload digest

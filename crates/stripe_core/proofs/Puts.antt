@@ -41,12 +41,12 @@ vector_is_held s c new doc payload digest held fresh at room put =
     }) put.put put.turning)
 
 cut_is_sound : (s : State) (put index length : ℕ) (digest : Digest) → IsSound s → IsSound (state_after s (rec.Cut put index length digest))
-cut_is_sound s put index length digest h = record { from = h.from; lap = h.lap; room = h.room; rising = h.rising; apart = h.apart; known = h.known }
+cut_is_sound s put index length digest h = record { from = h.from; least = h.least; lap = h.lap; room = h.room; rising = h.rising; apart = h.apart; known = h.known }
 
 cut_is_held : (s : State) (c : Seen) (put index length : ℕ) (digest : Digest) → IsHeld s c → IsHeld (state_after s (rec.Cut put index length digest)) c
 cut_is_held s c put index length digest held =
     alike_is_held s (state_after s (rec.Cut put index length digest)) c held
-    (record { geometry = refl; cursor = refl; filled = refl; rows = refl; sound = cut_is_sound s put index length digest held.sound }) held.faults
+    (record { geometry = refl; cursor = refl; least = refl; filled = refl; rows = refl; sound = cut_is_sound s put index length digest held.sound }) held.faults
 
 put_by : (s : State) (c new : Seen) (doc : Doc) (payload : List ℕ) (cut digest : Digest) (b : Bool) → IsHeld s c → IsNew s doc.id payload → doc.place ≡ place_now s
     → has_room s (length payload) ≡ true → IsPutAs c new doc payload digest

@@ -55,6 +55,7 @@ others_keep s a (r ∷ recs) all h = others_keep (state_after s r) a recs all.1 
 
 reader_stays : (s : State) (r : Rec) → speaks_of_actors r ≡ false → (state_after s r).next_reader ≡ s.next_reader
 reader_stays s (rec.Formatted geometry) h = cc
+reader_stays s (rec.Opened geometry serial cursor floor next_put clean list) h = cc
 reader_stays s (rec.WriteOpened actor put key request response pin) h = cc
 reader_stays s (rec.Cut put index length digest) h = cc
 reader_stays s (rec.Committed put key length) h = cc

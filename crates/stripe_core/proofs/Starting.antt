@@ -1,5 +1,5 @@
 -- A fresh cyclone holds what a format begins with.
-use Rattle.std.proofs.Common.{[], ap, arith, false}
+use Rattle.std.proofs.Common.{[], ap, arith, false, refl}
 use Rattle.tape_base.specs.declared.geometries.Geometry.{Geometry}
 use Rattle.logged_disk.specs.Device.{State as Device}
 use Rattle.agg_buffer.specs.Buffer.{Buffer, filled_of}
@@ -25,4 +25,5 @@ fresh_is_held g c device fresh turning = record {
   intact = λ told. tt;
   laps = tt;
   faults = omega arith;
+  least = refl;
 }

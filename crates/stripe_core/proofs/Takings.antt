@@ -42,7 +42,7 @@ damaged_is_held s c new id place kept other found held h out =
     let live : IsLiveAt s id place = live_at s id place h in
     let t : State = state_after s (rec.Damaged id place kept other) in
     let sound : IsSound t = (later_leaves s (rec.Damaged id place kept other ∷ []) (tt, tt) held.sound).sound in
-    taken_is_held s t c new id live.row held live.live (record { geometry = refl; cursor = refl; filled = refl; rows = refl; fault = refl; sound = sound })
+    taken_is_held s t c new id live.row held live.live (record { geometry = refl; cursor = refl; least = refl; filled = refl; rows = refl; fault = refl; sound = sound })
     out.same (entry_goes s c new id place found live held out) out.turning
 
 -- ---- whatever state has the pieces without one
@@ -79,6 +79,7 @@ pub committed_without : (s : State) (put length : ℕ) (key : Key) (id : PieceId
 committed_without s put length key id sound h other = record {
   geometry = refl;
   cursor = refl;
+  least = refl;
   filled = refl;
   rows = earlier_is key put (last_vector s key) s.rows id h other;
   fault = refl;
@@ -110,7 +111,7 @@ pub committed_is_held : (s : State) (c : Seen) (put length : ℕ) (key : Key) �
     → IsHeld (state_after s (rec.Committed put key length)) c
 committed_is_held s c put length key held rows =
     alike_is_held s (state_after s (rec.Committed put key length)) c held
-    (record { geometry = refl; cursor = refl; filled = refl; rows = rows; sound = committed_sound s put length key held.sound }) held.faults
+    (record { geometry = refl; cursor = refl; least = refl; filled = refl; rows = rows; sound = committed_sound s put length key held.sound }) held.faults
 
 pub other_put : (a b : ℕ) → (a ≡ b → ⊥) → (a == b) ≡ false
 other_put a b h = by (a == b) refl
@@ -133,6 +134,7 @@ pub removed_without : (s : State) (key : Key) (id : PieceId) → IsSound s → v
 removed_without s key id sound h = record {
   geometry = refl;
   cursor = refl;
+  least = refl;
   filled = refl;
   rows = ap (λ i. without i s.rows) (sym (vector_named s key id h));
   fault = refl;

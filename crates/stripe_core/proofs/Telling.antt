@@ -18,7 +18,7 @@ use Rattle.stripe_core.proofs.Going.{alike_is_held}
 pub unsaved_is_held : (s : State) (c : Seen) (piece : PieceId) (place : ℕ) (fault : Bool) → IsHeld s c → IsHeld (state_after s (rec.Unsaved piece place fault)) c
 unsaved_is_held s c piece place fault held =
     alike_is_held s (state_after s (rec.Unsaved piece place fault)) c held
-    (record { geometry = refl; cursor = refl; filled = refl; rows = refl; sound = (later_leaves s (rec.Unsaved piece place fault ∷ []) (tt, tt) held.sound).sound }) held.faults
+    (record { geometry = refl; cursor = refl; least = refl; filled = refl; rows = refl; sound = (later_leaves s (rec.Unsaved piece place fault ∷ []) (tt, tt) held.sound).sound }) held.faults
 
 -- the state behind records that a chronicle has
 pub state_behind : (k new : Kept) (recs : List Rec) → new ≡ with_records k recs → state_of new ≡ after_all (state_of k) recs

@@ -23,6 +23,7 @@ stays_unharmed-trans a b c s t u first next =
 -- a record that tells no damage leaves none told where none was
 after_record : (s : State) (r : Rec) → tells_damage r ≡ false → has_damage s ≡ false → has_damage (state_after s r) ≡ false
 after_record s (rec.Formatted geometry) none h = refl
+after_record s (rec.Opened geometry serial cursor floor next_put clean list) none h = refl
 after_record s (rec.Damaged piece place kept found) none h = cc
 after_record s _ none h = h
 

@@ -65,6 +65,7 @@ BegunIsHeld = (s : State) (c new : Seen) → IsHeld s c → IsWrittenOut c → B
 -- a later state whose pieces are those before without one, with the same buffer
 pub record IsWithout (s t : State) (id : PieceId) : Type 0 where
   pub geometry : t.geometry ≡ s.geometry
+  pub least : t.least ≡ s.least
   pub cursor : t.cursor ≡ s.cursor
   pub filled : t.filled ≡ s.filled
   pub rows : t.rows ≡ without id s.rows
@@ -74,6 +75,7 @@ pub record IsWithout (s t : State) (id : PieceId) : Type 0 where
 -- a later state with the same pieces and the same buffer
 pub record IsAlike (s t : State) : Type 0 where
   pub geometry : t.geometry ≡ s.geometry
+  pub least : t.least ≡ s.least
   pub cursor : t.cursor ≡ s.cursor
   pub filled : t.filled ≡ s.filled
   pub rows : t.rows ≡ s.rows

@@ -35,14 +35,6 @@ live_is : (s : State) (o : Option Row) (row : Row) → option_and_then (only_liv
 live_is s None row h = cc
 live_is s (Some x) row h = ap Some (live_is_by s x row (is_live s x) h)
 
-rising_filled : (low : ℕ) (rows : List Row) (high : ℕ) → AreRising low rows high → AllByRecursion (λ (row : Row). 0 < row.blocks) rows
-rising_filled low [] high h = tt
-rising_filled low (row ∷ rows) high h = (h.1, rising_filled (row.place + row.blocks) rows high h.2)
-
-live_is_filled : (s : State) (id : PieceId) (row : Row) → IsSound s → live_row_of s id ≡ Some row → 0 < row.blocks
-live_is_filled s id row h live =
-    found_row (λ (r : Row). 0 < r.blocks) id s.rows row (rising_filled s.geometry.content s.rows (place_now s) h.rising) (live_is s (row_of s id) row live)
-
 live_is_own : (s : State) (id : PieceId) (row : Row) → live_row_of s id ≡ Some row → row.id ≡ id
 live_is_own s id row live = own_piece id s.rows row (live_is s (row_of s id) row live)
 
@@ -90,17 +82,10 @@ found_at s place id blocks pin here f g =
 
 -- ---- one step
 
--- behind a piece the walk goes on as from the place behind it, also where that is beyond what a number can be
-behind : (s : State) (place blocks next : ℕ) → next < 2 ^ 64 → rows_from s (min (place + blocks) (2 ^ 64 - 1)) next ≡ rows_from s (place + blocks) next
-behind s place blocks next h = elim (cases_lt (place + blocks) (2 ^ 64)) [
-  | inl k ↦ let same : min (place + blocks) (2 ^ 64 - 1) ≡ place + blocks = omega arith in ap (λ n. rows_from s n next) same
-  | inr k ↦ none_from s (min (place + blocks) (2 ^ 64 - 1)) next (omega arith) ∙ sym (none_from s (place + blocks) next (omega arith))
-]
-
 found_from : (s : State) (place next : ℕ) (o : Option PieceId) (row : Row) → IsSound s → floor_now s ≤ place → place < next → piece_at s place ≡ o
-    → option_and_then (live_row_of s) o ≡ Some row → (rows_from s place next ≡ row ∷ rows_from s (place + row.blocks) next) × (0 < row.blocks)
+    → option_and_then (live_row_of s) o ≡ Some row → rows_from s place next ≡ row ∷ rows_from s (place + 1) next
 found_from s place next None row sound live below e h = cc
-found_from s place next (Some id) row sound live below e h = (walk_finds s place next id row sound live below e h, live_is_filled s id row sound h)
+found_from s place next (Some id) row sound live below e h = walk_finds s place next id row sound live below e h
 
 -- with the piece where it is due, and with those behind it
 with_first : (s : State) (now : ℕ) (items : List Candidate) (row : Row) (rows : List Row) (b : Bool) → is_due s now row ≡ b
@@ -109,35 +94,25 @@ with_first s now items row rows true e = rw e (append_assoc items (candidate_of 
 with_first s now items row rows false e = rw e refl
 
 -- where a piece begins
-passes_piece : (s : State) (now place next : ℕ) (items : List Candidate) (row : Row) (b : Bool) → IsSound s → floor_now s ≤ place → place < next → next < 2 ^ 64
+passes_piece : (s : State) (now place next : ℕ) (items : List Candidate) (row : Row) (b : Bool) → IsSound s → floor_now s ≤ place → place < next
     → row_at s place ≡ Some row → is_due s now row ≡ b
-    → (if b then items ++ candidate_of row ∷ [] else items) ++ candidates_from s now (min (place + row.blocks) (2 ^ 64 - 1)) next ≡ items ++ candidates_from s now place next
-passes_piece s now place next items row b sound live below fits here e =
+    → (if b then items ++ candidate_of row ∷ [] else items) ++ candidates_from s now (place + 1) next ≡ items ++ candidates_from s now place next
+passes_piece s now place next items row b sound live below here e =
     let found = found_from s place next (piece_at s place) row sound live below refl here in
-    ap (λ rows. (if b then items ++ candidate_of row ∷ [] else items) ++ map candidate_of (filter (is_due s now) rows)) (behind s place row.blocks next fits)
-    ∙ with_first s now items row (rows_from s (place + row.blocks) next) b e
-    ∙ ap (λ rows. items ++ map candidate_of (filter (is_due s now) rows)) (sym found.0)
+    with_first s now items row (rows_from s (place + 1) next) b e
+    ∙ ap (λ rows. items ++ map candidate_of (filter (is_due s now) rows)) (sym found)
 
 -- the same, for the piece as it was asked for
 pub passes_found : (s : State) (now place next : ℕ) (items : List Candidate) (piece : Candidate) (pin : ℕ) (due : Bool) (o : Option Row)
-    → IsSound s → floor_now s ≤ place → place < next → next < 2 ^ 64 → row_at s place ≡ o → Some (piece, pin) ≡ option_map pinned o → due ≡ (nat_lt now pin || is_awaited s piece.id)
-    → (if due then items ++ piece ∷ [] else items) ++ candidates_from s now (min (place + piece.blocks) (2 ^ 64 - 1)) next ≡ items ++ candidates_from s now place next
-passes_found s now place next items piece pin due None sound live below fits here f e = cc
-passes_found s now place next items piece pin due (Some row) sound live below fits here f e =
+    → IsSound s → floor_now s ≤ place → place < next → row_at s place ≡ o → Some (piece, pin) ≡ option_map pinned o → due ≡ (nat_lt now pin || is_awaited s piece.id)
+    → (if due then items ++ piece ∷ [] else items) ++ candidates_from s now (place + 1) next ≡ items ++ candidates_from s now place next
+passes_found s now place next items piece pin due None sound live below here f e = cc
+passes_found s now place next items piece pin due (Some row) sound live below here f e =
     let pair : (piece, pin) ≡ pinned row = cc in
     let same : piece ≡ candidate_of row = ap (λ (p : Candidate × ℕ). p.0) pair in
     let pins : pin ≡ row.pin = ap (λ (p : Candidate × ℕ). p.1) pair in
     let test : is_due s now row ≡ due = sym (e ∙ (ap (λ n. nat_lt now n || is_awaited s piece.id) pins ∙ ap (λ (p : Candidate). nat_lt now row.pin || is_awaited s p.id) same)) in
-    rw same (passes_piece s now place next items row due sound live below fits here test)
-
-pub goes_onward : (s : State) (place next : ℕ) (piece : Candidate) (pin : ℕ) (o : Option Row)
-    → IsSound s → floor_now s ≤ place → place < next → next < 2 ^ 64 → row_at s place ≡ o → Some (piece, pin) ≡ option_map pinned o → place < min (place + piece.blocks) (2 ^ 64 - 1)
-goes_onward s place next piece pin None sound live below fits here f = cc
-goes_onward s place next piece pin (Some row) sound live below fits here f =
-    let pair : (piece, pin) ≡ pinned row = cc in
-    let same : piece.blocks ≡ row.blocks = ap (λ (p : Candidate × ℕ). p.0.blocks) pair in
-    let some : 0 < row.blocks = (found_from s place next (piece_at s place) row sound live below refl here).1 in
-    omega arith
+    rw same (passes_piece s now place next items row due sound live below here test)
 
 no_row : (o : Option Row) → None ≡ option_map pinned o → o ≡ None
 no_row None h = refl

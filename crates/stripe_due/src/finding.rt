@@ -1,5 +1,5 @@
 // The walk over the places that the next floor passes.
-ghost use Rattle.std.specs.Prelude.{◌≡◌, ◌≤◌, ◌<◌, ◌+◌, ◌++◌, ◌||◌, ◌∷◌, [], if◌then◌else◌, nat_lt, option_map, vec_capacity, vec_len};
+ghost use Rattle.std.specs.Prelude.{ℕ, ◌≡◌, ◌≤◌, ◌<◌, ◌+◌, ◌++◌, ◌||◌, ◌∷◌, [], if◌then◌else◌, nat_lt, option_map, vec_capacity, vec_len};
 ghost use Rattle.cache_model.specs.Due.{is_awaited};
 ghost use Rattle.cache_model.specs.Kept.{state_of};
 ghost use Rattle.cache_model.specs.State.{State, floor_next, floor_now};
@@ -34,28 +34,26 @@ pub fn find_due<C: Chronicle>(
     into.clear();
     let mut place = floor;
     'walk: while place < next {
-        place = pass(chronicle, actors, place, next, now, into);
+        pass(chronicle, actors, place, now, into);
+        place += 1;
     }
 }
 
-// Brings the piece that begins at a place to `into` where it is due, and says where the walk to
-// `next` goes on: behind the piece, or one place further where none begins.
+// Brings the piece that begins at a place to `into` where it is due. Pieces that an opening found may
+// overlap, so the walk goes on at the next place.
 fn pass<C: Chronicle>(
     chronicle: &C,
     actors: &Actors,
     place: u64,
-    next: u64,
     now: u64,
     into: &mut Vec<Candidate>,
-) -> u64
+)
     requires sound { IsSound (state_of (C.kept chronicle.now)) }
     requires actors { AreActors (state_of (C.kept chronicle.now)) actors.now }
     requires live { floor_now (state_of (C.kept chronicle.now)) ≤ place }
-    requires below { place < next }
     requires room { vec_len into.old < vec_capacity into.old }
-    ensures onward { place < result }
-    ensures due { let s = state_of (C.kept chronicle.now) in
-        into.new.items ++ candidates_from s now result next ≡ into.old.items ++ candidates_from s now place next }
+    ensures due { let s = state_of (C.kept chronicle.now) in (next : ℕ) → place < next
+        → into.new.items ++ candidates_from s now (place + 1) next ≡ into.old.items ++ candidates_from s now place next }
     ensures few { vec_len into.new ≤ vec_len into.old + 1 }
     ensures room { vec_capacity into.old ≤ vec_capacity into.new }
 {
@@ -63,9 +61,8 @@ fn pass<C: Chronicle>(
         Some((piece, pin)) => {
             let due = is_due(actors, piece.id, pin, now);
             bring(piece, due, into);
-            place.saturating_add(piece.blocks as u64)
         }
-        None => place + 1,
+        None => {}
     }
 }
 

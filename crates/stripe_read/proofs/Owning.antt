@@ -68,6 +68,9 @@ module _ (reader : ℕ) (s : State) where
 
   one_record : (r : Rec) → IsOfReader reader r → LeavesOtherReaders reader s (state_after s r)
   one_record (rec.Formatted geometry) h = absurd h
+  one_record (rec.Opened geometry serial cursor floor next_put clean list) h = absurd h
+  one_record (rec.SyncBegun serial cursor clean in_parts) h = absurd h
+  one_record (rec.SyncDone serial) h = absurd h
   one_record (rec.Began cursor floor) h = absurd h
   one_record (rec.Placed piece place blocks digest pin) h = absurd h
   one_record (rec.Moved piece from place digest) h = absurd h
@@ -128,6 +131,8 @@ own_cause reader row (cause.Passed place floor unsaved) = tt
 own_cause reader row (cause.NoMatch count) = tt
 own_cause reader row (cause.Displaced segment live) = tt
 own_cause reader row (cause.Aborted writer) = tt
+own_cause reader row (cause.BeforeOpening serial) = tt
+own_cause reader row (cause.Unrecorded dropped) = tt
 own_cause reader row (cause.DeviceFault count) = (tt, tt)
 own_cause reader row (cause.Damaged place kept other) = (tt, tt)
 

@@ -44,6 +44,8 @@ cause_leaves s row (cause.Passed place floor unsaved) = record { readers = refl;
 cause_leaves s row (cause.NoMatch count) = record { readers = refl; pending = refl; number = refl }
 cause_leaves s row (cause.Displaced segment live) = record { readers = refl; pending = refl; number = refl }
 cause_leaves s row (cause.Aborted writer) = record { readers = refl; pending = refl; number = refl }
+cause_leaves s row (cause.BeforeOpening serial) = record { readers = refl; pending = refl; number = refl }
+cause_leaves s row (cause.Unrecorded dropped) = record { readers = refl; pending = refl; number = refl }
 cause_leaves s row (cause.DeviceFault count) = record { readers = refl; pending = refl; number = refl }
 cause_leaves s row (cause.Damaged place kept other) = record { readers = refl; pending = refl; number = refl }
 

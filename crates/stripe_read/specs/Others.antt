@@ -12,6 +12,7 @@ use Rattle.stripe_read.specs.Readers.{IsOpenReader, IsReaderOf}
 -- a damaged piece may have been met on the way
 abbrev pub IsOfReader : ℕ → Rec → Type 0
 IsOfReader reader (rec.Formatted geometry) = ⊥
+IsOfReader reader (rec.Opened geometry serial cursor floor next_put clean list) = ⊥
 IsOfReader reader (rec.Began cursor floor) = ⊥
 IsOfReader reader (rec.Placed piece place blocks digest pin) = ⊥
 IsOfReader reader (rec.Moved piece from place digest) = ⊥
@@ -29,6 +30,8 @@ IsOfReader reader (rec.Ended n length) = n ≡ reader
 IsOfReader reader (rec.Waited n cut) = n ≡ reader
 IsOfReader reader (rec.Broke n why) = n ≡ reader
 IsOfReader reader (rec.ReadClosed n) = n ≡ reader
+IsOfReader reader (rec.SyncBegun serial cursor clean in_parts) = ⊥
+IsOfReader reader (rec.SyncDone serial) = ⊥
 IsOfReader reader (rec.Fault count) = Unit {0}
 
 -- records of one reader alone were added

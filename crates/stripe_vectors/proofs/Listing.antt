@@ -23,7 +23,7 @@ read_is_listed listed back p s key row list each live read =
         row = row;
         vector = live;
         pair = record {
-          document = vector_document s row l.0;
+          document = vector_document s row l.1.start l.0;
           bytes = read.bytes;
           live = stands.live;
           placed = record { list = l.0; vector = stands.vector; lists = l.1; is = refl };

@@ -38,6 +38,8 @@ cause_leaves s row (cause.Passed place floor unsaved) = record { puts = refl; ge
 cause_leaves s row (cause.NoMatch count) = record { puts = refl; geometry = refl }
 cause_leaves s row (cause.Displaced segment live) = record { puts = refl; geometry = refl }
 cause_leaves s row (cause.Aborted writer) = record { puts = refl; geometry = refl }
+cause_leaves s row (cause.BeforeOpening serial) = record { puts = refl; geometry = refl }
+cause_leaves s row (cause.Unrecorded dropped) = record { puts = refl; geometry = refl }
 cause_leaves s row (cause.DeviceFault count) = record { puts = refl; geometry = refl }
 cause_leaves s row (cause.Damaged place kept found) = record { puts = refl; geometry = refl }
 
@@ -58,6 +60,8 @@ none_pending s row (cause.Passed place floor unsaved) = refl
 none_pending s row (cause.NoMatch count) = refl
 none_pending s row (cause.Displaced segment live) = refl
 none_pending s row (cause.Aborted writer) = refl
+none_pending s row (cause.BeforeOpening serial) = refl
+none_pending s row (cause.Unrecorded dropped) = refl
 none_pending s row (cause.DeviceFault count) = refl
 none_pending s row (cause.Damaged place kept found) = refl
 
@@ -78,6 +82,8 @@ none_displaced s row (cause.Passed place floor unsaved) = refl
 none_displaced s row (cause.NoMatch count) = refl
 none_displaced s row (cause.Displaced segment live) = refl
 none_displaced s row (cause.Aborted writer) = refl
+none_displaced s row (cause.BeforeOpening serial) = refl
+none_displaced s row (cause.Unrecorded dropped) = refl
 none_displaced s row (cause.DeviceFault count) = refl
 none_displaced s row (cause.Damaged place kept found) = refl
 

@@ -11,6 +11,7 @@ use Rattle.stripe_write.specs.Writers.{IsWriterOf}
 -- the record speaks of no other put and of no reader, and begins no session
 abbrev pub IsOfPut : ℕ → Rec → Type 0
 IsOfPut put (rec.Formatted geometry) = ⊥
+IsOfPut put (rec.Opened geometry serial cursor floor next_put clean list) = ⊥
 IsOfPut put (rec.Began cursor floor) = Unit {0}
 IsOfPut put (rec.Placed piece place blocks digest pin) = Unit {0}
 IsOfPut put (rec.Moved piece from place digest) = Unit {0}
@@ -28,6 +29,8 @@ IsOfPut put (rec.Ended reader length) = ⊥
 IsOfPut put (rec.Waited reader cut) = ⊥
 IsOfPut put (rec.Broke reader why) = ⊥
 IsOfPut put (rec.ReadClosed reader) = ⊥
+IsOfPut put (rec.SyncBegun serial cursor clean in_parts) = Unit {0}
+IsOfPut put (rec.SyncDone serial) = Unit {0}
 IsOfPut put (rec.Fault count) = Unit {0}
 
 -- records of one put alone were added

@@ -10,7 +10,7 @@ use Rattle.cache_chronicle.proofs.ListLemmas.{listed-anew, listed-beside, listed
 use Rattle.cache_chronicle.proofs.lists.Lists.note_listing.Goals as goal
 
 pub returns-then-piece-eq0-clause-standing : goal.returns-then-piece-eq0-clause-standing
-returns-then-piece-eq0-clause-standing c = λ s tables lists.
+returns-then-piece-eq0-clause-standing c = λ s other tables lists.
     let piece = c.in-Placed.piece in
     let recs = c.args.records.now in
     let before = listing_at c.args.self.now.listings in
@@ -24,7 +24,7 @@ returns-then-piece-eq0-clause-standing c = λ s tables lists.
     rw c.in-Placed.is (listed-same (listed_anew piece entries before) (listing_at c.insert-noted.new.self) recs (without piece s.rows ++ row ∷ []) same anew)
 
 pub returns-else-piece-eq0-clause-standing : goal.returns-else-piece-eq0-clause-standing
-returns-else-piece-eq0-clause-standing c = λ s tables lists.
+returns-else-piece-eq0-clause-standing c = λ s other tables lists.
     let piece = c.in-Placed.piece in
     let row = placed_row s piece c.in-Placed.place c.in-Placed.blocks c.in-Placed.digest c.in-Placed.pin in
     rw c.in-Placed.is
@@ -32,8 +32,8 @@ returns-else-piece-eq0-clause-standing c = λ s tables lists.
 
 pub returns-in_default : goal.returns-in_default
 returns-in_default c = record {
-  standing = λ s tables lists. rows-kept (listing_at c.args.self.now.listings) c.args.records.now s c.args.rec.now c.in_default.not-Formatted c.in_default.not-Placed lists.standing;
-  moved = λ s tables lists. moved-kept (listing_at c.args.self.now.listings) c.args.records.now s c.args.rec.now c.in_default.not-Formatted c.in_default.not-Placed lists.standing lists.moved;
+  standing = λ s other tables lists. rows-kept (listing_at c.args.self.now.listings) c.args.records.now s c.args.rec.now c.in_default.not-Formatted c.in_default.not-Opened c.in_default.not-Placed lists.standing;
+  moved = λ s other tables lists. moved-kept (listing_at c.args.self.now.listings) c.args.records.now s c.args.rec.now c.in_default.not-Formatted c.in_default.not-Opened c.in_default.not-Placed lists.standing lists.moved;
   others = refl;
   spare = omega arith;
 }

@@ -1,0 +1,14 @@
+-- A list from one place on.
+use Rattle.std.proofs.Common.{◌≡◌, ℕ, ◌-◌, ◌<◌, zero, suc, List, [], ◌∷◌, Option, Some, drop, ap, sym, subst, arith}
+use Rattle.std.specs.List.{slice_get}
+
+first_of : {X : Type 0} (n : ℕ) (list : List X) (x : X) → slice_get list n ≡ Some x → drop n list ≡ x ∷ drop (suc n) list
+first_of n [] x h = cc
+first_of zero (y ∷ ys) x h = let same : y ≡ x = cc in ap (λ z. z ∷ ys) same
+first_of (suc n) (y ∷ ys) x h = first_of n ys x h
+
+-- what stands in front of a place comes first from there on
+pub drop_front : {X : Type 0} (n : ℕ) (list : List X) (x : X) → 0 < n → slice_get list (n - 1) ≡ Some x → drop (n - 1) list ≡ x ∷ drop n list
+drop_front n list x some h =
+    let next : suc (n - 1) ≡ n = omega arith in
+    subst (λ (m : ℕ). drop (n - 1) list ≡ x ∷ drop m list) next (first_of (n - 1) list x h)
