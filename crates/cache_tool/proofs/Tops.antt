@@ -1,16 +1,17 @@
 -- What the last line makes of a run that ended early.
-use Rattle.std.proofs.Common.{◌≡◌, ℕ, List, [], refl, sym, subst, inl, inr, ◌⊎◌}
+use Rattle.std.proofs.Common.{◌≡◌, ℕ, List, [], false, refl, sym, subst, inl, inr, ◌⊎◌}
 use Rattle.device_log.specs.Streams.{SourceRead, SinkWrite}
 use Rattle.script_lang.specs.declared.last.LastLine.{LastLine}
 use Rattle.script_lang.specs.declared.last.LastLine.TheVariants as last
 use Rattle.script_lang.specs.Texts.{last_line}
 use Rattle.script_run.specs.Ledger.{Ledger}
+use Rattle.cache_replay.specs.Outline.{Outline}
 use Rattle.cache_tool.specs.declared.top.Status.{Status}
 use Rattle.cache_tool.specs.declared.top.Status.TheVariants as status
 use Rattle.cache_tool.specs.declared.run.Ending.TheVariants as ending
 use Rattle.cache_tool.specs.Story.{Because, Refusals, SendsAll, Took}
-use Rattle.cache_tool.specs.Ending.{FailedReads, IsOfRun, StoryUpTo}
-use Rattle.cache_tool.specs.Top.{WentOut, EachBack, ReadsFailed, status_of, EndsEarly, Concludes}
+use Rattle.cache_tool.specs.Ending.{FailedReads, IsOfRun, StoryUpTo, is_bay_ending}
+use Rattle.cache_tool.specs.Top.{WentOut, EachBack, ReadsFailed, AttachesRefused, RefusedOne, status_of, EndsEarly, Concludes}
 use Rattle.cache_tool.proofs.Halts.{Took-kept, Took-trans, front_more}
 use Rattle.cache_tool.proofs.Stories.{story_with}
 
@@ -77,3 +78,36 @@ module _ (first read : List SourceRead) (old mid new : List SinkWrite) (bay : Re
   pub reads_stopped : (why : LastLine) → FailedReads first read (ending.Stopped why) → (s : Status) → Said why s → ReadsFailed first read s
   reads_stopped why h s (inl lost) = subst (λ (t : Status). ReadsFailed first read t) (sym lost.0) (reads_lost why h)
   reads_stopped why h s (inr said) = subst (λ (t : Status). ReadsFailed first read t) (sym said.0) (reads_told why h)
+
+  -- ---- the attaches that were refused
+
+  abbrev NoneRefused : LastLine → Type 0
+  NoneRefused why = is_bay_ending (ending.Stopped why) ≡ false → bay.now ≡ bay.before
+
+  refused_here : (held : List ℕ) (given : ℕ) (o : Outline) → Because bay held given o last.BayFault → RefusedOne bay.before bay.now
+  refused_here held given o met = (met.refusal, met.refused)
+
+  refused_last : Upto last.BayFault → RefusedOne bay.before bay.now
+  refused_last upto = refused_here upto.held upto.given _ upto.story.outline.behind
+
+  refused_told : (why : LastLine) → NoneRefused why → Upto why → AttachesRefused bay.before bay.now (status_of why)
+  refused_told last.Usage none upto = none refl
+  refused_told (last.BadScript line fault) none upto = none refl
+  refused_told last.ReadFault none upto = none refl
+  refused_told last.BayFault none upto = refused_last upto
+  refused_told (last.LineTooLong line) none upto = none refl
+  refused_told last.TooManyLines none upto = none refl
+  refused_told (last.NoCache line) none upto = none refl
+
+  refused_lost : (why : LastLine) → NoneRefused why → Upto why → AttachesRefused bay.before bay.now status.OutOfMemory
+  refused_lost last.Usage none upto = inl (none refl)
+  refused_lost (last.BadScript line fault) none upto = inl (none refl)
+  refused_lost last.ReadFault none upto = inl (none refl)
+  refused_lost last.BayFault none upto = inr (refused_last upto)
+  refused_lost (last.LineTooLong line) none upto = inl (none refl)
+  refused_lost last.TooManyLines none upto = inl (none refl)
+  refused_lost (last.NoCache line) none upto = inl (none refl)
+
+  pub refusals_stopped : (why : LastLine) → NoneRefused why → Upto why → (s : Status) → Said why s → AttachesRefused bay.before bay.now s
+  refusals_stopped why none upto s (inl lost) = subst (λ (t : Status). AttachesRefused bay.before bay.now t) (sym lost.0) (refused_lost why none upto)
+  refusals_stopped why none upto s (inr said) = subst (λ (t : Status). AttachesRefused bay.before bay.now t) (sym said.0) (refused_told why none upto)

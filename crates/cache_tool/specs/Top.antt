@@ -1,8 +1,10 @@
 -- What the program promises of a run: its status, its output and its devices.
-use Rattle.std.specs.Prelude.{◌≡◌, ℕ, ◌⊎◌, Bool, true, false, List, [], ◌∷◌, ◌++◌, map, codes, string_bytes, ⊤}
+use Rattle.std.specs.Prelude.{◌≡◌, ℕ, ◌⊎◌, true, List, [], ◌∷◌, ◌++◌, map, codes, string_bytes, ⊤}
 use Rattle.std.specs.declared.string.String.{String}
 use Rattle.device_log.specs.Streams.{SourceRead, SinkWrite}
 use Rattle.edge_io.specs.Source.{LastReadFailed, NoReadFailed}
+use Rattle.logged_disk.specs.Device.{State as Device}
+use Rattle.device_bay.specs.Calls.{Refusal}
 use Rattle.script_lang.specs.declared.last.LastLine.{LastLine}
 use Rattle.script_lang.specs.declared.last.LastLine.TheVariants as last
 use Rattle.script_lang.specs.Texts.{last_line}
@@ -78,8 +80,23 @@ ReadsFailed first read status.ReadFault = (count : ℕ) × LastReadFailed first 
 ReadsFailed first read status.OutOfMemory = NoReadFailed first read ⊎ ((count : ℕ) × LastReadFailed first read count)
 ReadsFailed first read _ = NoReadFailed first read
 
--- an attach was refused, or may have been where memory was wanting for the line that tells of it
-abbrev pub may_refuse : Status → Bool
-may_refuse status.BayFault = true
-may_refuse status.OutOfMemory = true
-may_refuse _ = false
+-- one attach more was refused
+abbrev pub RefusedOne : (before now : List Refusal) → Type 0
+RefusedOne before now = (refusal : Refusal) × (now ≡ before ++ refusal ∷ [])
+
+-- Which attaches were refused in a run: with BayFault the one that ended it; with OutOfMemory no other; else none.
+abbrev pub AttachesRefused : (before now : List Refusal) → Status → Type 0
+AttachesRefused before now status.BayFault = RefusedOne before now
+AttachesRefused before now status.OutOfMemory = (now ≡ before) ⊎ RefusedOne before now
+AttachesRefused before now _ = now ≡ before
+
+-- each of these devices that has a switch counts no fault
+abbrev pub AreUnfailed : List Device → Type 0
+AreUnfailed [] = ⊤
+AreUnfailed (device ∷ devices) = (device.has_switch ≡ true → device.faults ≡ 0) × AreUnfailed devices
+
+-- so it is of those that came back since
+pub record ComeBackUnfailed (old new : List Device) : Type 0 where
+  pub devices : List Device
+  pub returned : new ≡ old ++ devices
+  pub unfailed : AreUnfailed devices

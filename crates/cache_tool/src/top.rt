@@ -2,13 +2,13 @@
 ghost use Rattle.std.specs.Prelude.{◌≡◌, ◌↔◌, ◌⊎◌, false, [], length, IsTrue};
 ghost use Rattle.edge_io.specs.Source.{Draws};
 ghost use Rattle.edge_io.specs.Sink.{Grows};
-ghost use Rattle.device_bay.specs.Calls.{IsBayLog, gifts_of, out_of, refusals_of};
+ghost use Rattle.device_bay.specs.Calls.{IsBayLog, gifts_of, out_of, refusals_of, returned_by};
 ghost use Rattle.script_lang.specs.Texts.{last_line};
 ghost use Rattle.script_run.specs.Ledger.{InOrder, ledger_of};
 ghost use Rattle.cache_replay.specs.Stop.{RefusesNone};
 ghost use Rattle.cache_tool.specs.Story.{refusals};
 ghost use Rattle.cache_tool.specs.Ending.{Ends, FailedReads, IsOfRun, is_bay_ending};
-ghost use Rattle.cache_tool.specs.Top.{IsReplay, WentOut, EachBack, EachBackOrMore, ReadsFailed, status_of, exit_code, may_refuse, Concludes};
+ghost use Rattle.cache_tool.specs.Top.{IsReplay, WentOut, EachBack, EachBackOrMore, ReadsFailed, status_of, exit_code, AttachesRefused, ComeBackUnfailed, Concludes};
 
 use crate::run::{Ending, run_lines};
 use cache_replay::{begin, close};
@@ -114,6 +114,7 @@ fn replay<S: Source, K: Sink, B: Bay>(
     ensures sink { Grows (K.writes sink.old) (K.writes sink.new) }
     ensures order { InOrder (length (gifts_of (B.past bay.old))) [] (B.past bay.old) (B.past bay.new) }
     ensures refusals { is_bay_ending result ≡ false → RefusesNone (B.past bay.old) (B.past bay.new) }
+    ensures unfailed { ComeBackUnfailed (returned_by (B.past bay.old)) (returned_by (B.past bay.new)) }
 {
     let Ok(buffer) = LineBuffer::new(alloc) else {
         return Ending::OutOfMemory;
@@ -152,7 +153,10 @@ pub fn cache_main<S: Source, K: Sink, B: Bay>(
     ensures log { IsBayLog (B.past bay.new) }
 
     // No attach was refused but the one that ended the run, if one did.
-    ensures refusals { may_refuse result ≡ false → RefusesNone (B.past bay.old) (B.past bay.new) }
+    ensures refusals { AttachesRefused (refusals_of (B.past bay.old)) (refusals_of (B.past bay.new)) result }
+
+    // No switch was told anything, so each device that has one came back with the count 0.
+    ensures unfailed { ComeBackUnfailed (returned_by (B.past bay.old)) (returned_by (B.past bay.new)) }
 {
     if !is_replay(words) {
         send(sink, usage_text());

@@ -1,5 +1,6 @@
 -- What a bay tells of its devices, and how that fits what the lines of a script told of them.
-use Rattle.std.specs.Prelude.{ℕ, ◌≡◌, ◌+◌, ◌≤◌, false, List, [], ◌∷◌, ◌++◌, length}
+use Rattle.std.specs.Prelude.{ℕ, ◌≡◌, ◌+◌, ◌≤◌, true, false, List, [], ◌∷◌, ◌++◌, length}
+use Rattle.device_log.specs.Faults.{is_untold}
 use Rattle.logged_disk.specs.Device.{State as Device, TellsAll}
 use Rattle.device_bay.specs.Calls.{BayCall, gifts_of, names_of, number_behind, returned_by}
 use Rattle.device_bay.specs.declared.bay.Bay.{Ghosts as BayGhosts}
@@ -50,17 +51,24 @@ AreNumbered given [] = Unit {0}
 AreNumbered given (device ∷ devices) =
     (device.number ≡ number_behind given) × AreNumbered (given + 1) devices
 
+-- their switches were told nothing
+abbrev pub AreUntold : List Device → Type 0
+AreUntold [] = Unit {0}
+AreUntold (device ∷ devices) = (is_untold device.past ≡ true) × AreUntold devices
+
 -- behind so many devices the bay gave these alone
 pub record AreLast (given : ℕ) (own : List Device) (past : List BayCall) : Type 0 where
   pub numbered : AreNumbered given own
+  pub untold : AreUntold own
   pub all : length (gifts_of past) ≡ given + length own
 
 -- Behind so many devices these came back, in the order in which they were attached, and those that
--- are out now were attached behind them.
+-- are out now were attached behind them. The switch of none was told anything.
 pub record InOrder (given : ℕ) (own : List Device) (old new : List BayCall) : Type 0 where
   pub devices : List Device
   pub returned : returned_by new ≡ returned_by old ++ devices
   pub numbered : AreNumbered given devices
+  pub untold : AreUntold devices
   pub rest : AreLast (given + length devices) own new
 
 -- so it stays, where it was so of the devices that were out

@@ -4,7 +4,7 @@ use Rattle.device_bay.specs.Calls.{refusals_of}
 use Rattle.cache_tool.specs.Story.{refusals}
 use Rattle.edge_io.proofs.Draws.{draws_nothing}
 use Rattle.cache_tool.proofs.Halts.{grows_more}
-use Rattle.cache_tool.proofs.Tops.{concludes_stopped, reads_stopped}
+use Rattle.cache_tool.proofs.Tops.{concludes_stopped, reads_stopped, refusals_stopped}
 use Rattle.cache_tool.proofs.top.cache_main.Goals as goal
 
 pub returns-in-Stopped-clause-concludes : goal.returns-in-Stopped-clause-concludes
@@ -23,3 +23,8 @@ returns-in-Stopped-clause-sink g c = grows_more _ _ _ c.replay.ensures.sink c.co
 
 pub returns-then-not-is_replay-clause-source : goal.returns-then-not-is_replay-clause-source
 returns-then-not-is_replay-clause-source g c = draws_nothing g.S.Source.reads g.S.Source.left c.args.source.now
+
+pub returns-in-Stopped-clause-refusals : goal.returns-in-Stopped-clause-refusals
+returns-in-Stopped-clause-refusals g c =
+    let bay = refusals (refusals_of (g.B.Bay.past c.args.bay.now)) (refusals_of (g.B.Bay.past c.replay.new.bay)) in
+    refusals_stopped _ _ _ (g.K.Sink.writes c.replay.new.sink) _ bay _ _ c.in-Stopped.last c.in-Stopped.ensures.refusals c.in-Stopped.ensures.ends c.conclude.result c.conclude.ensures.said

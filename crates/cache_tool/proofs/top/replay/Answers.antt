@@ -13,6 +13,7 @@ use Rattle.cache_tool.specs.Top.{EachBack, EachBackOrMore}
 use Rattle.cache_tool.proofs.Halts.{either-both}
 use Rattle.cache_tool.proofs.Stories.{Deals-settled}
 use Rattle.cache_tool.proofs.Ends.{nothing_back, none_own, nothing_ends, Ends-settled, gave_settled}
+use Rattle.cache_tool.proofs.Unfailed.{unfailed_in_order}
 use Rattle.cache_tool.proofs.top.replay.Goals as goal
 
 pub returns-in_default-clause-ends : goal.returns-in_default-clause-ends
@@ -69,3 +70,9 @@ returns-clause-order g c =
 
 pub returns-clause-refusals : goal.returns-clause-refusals
 returns-clause-refusals g c = λ other. c.close.ensures.refusals ∙ c.run_lines-ending.ensures.refusals other
+
+pub returns-in_default-clause-unfailed : goal.returns-in_default-clause-unfailed
+returns-in_default-clause-unfailed g c = unfailed_in_order _ [] _ _ (returns-in_default-clause-order g c) (g.met.B.Bay.is_log c.args.bay.now)
+
+pub returns-clause-unfailed : goal.returns-clause-unfailed
+returns-clause-unfailed g c = unfailed_in_order _ [] _ _ (returns-clause-order g c) (g.met.B.Bay.is_log c.close.new.bay)
