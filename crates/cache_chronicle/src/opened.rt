@@ -86,7 +86,10 @@ fn note_first_vector(vectors: &mut Vectors, found: &FoundRow)
     ensures spare { spare vectors.old ≤ spare vectors.new + 1 }
 {
     if found.id.index == 0 {
-        let noted: Result<_, _> = vectors.insert(found.id.first, LastVector::Complete(found.id.put));
+        let noted: Result<_, _> = vectors.insert(
+            found.id.first,
+            LastVector::Complete(found.id.put),
+        );
         let _ = noted.unwrap();
     }
 }

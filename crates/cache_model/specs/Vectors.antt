@@ -15,7 +15,6 @@ use Rattle.alternate_vector.specs.Spelling.{IsSpelling, vector_bytes}
 use Rattle.cache_model.specs.State.{State, Row, PutRow, alternate_of, alternates_of, put_of}
 use Rattle.cache_model.specs.Verdict.{live_vector_of}
 
-
 -- the document as which a vector stands; this program places it with the start 0, an opening finds it with any
 abbrev pub vector_doc : State → Row → ℕ → Doc
 vector_doc s row start = record { id = row.id; place = row.place; generation = s.geometry.generation; pin = row.pin; start = start }
