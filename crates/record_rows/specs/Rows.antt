@@ -1,0 +1,133 @@
+-- Sessions with syncs and openings, each worked by hand.
+use Rattle.std.specs.Prelude.{ℕ, ◌≡◌, true, false, List, [], ◌∷◌, ◌++◌, Some, None, length, codes}
+use Rattle.tape_base.specs.declared.keys.Key.{Key}
+use Rattle.fragment_table.specs.Table.{made_row}
+use Rattle.alternate_vector.specs.Alternates.{Stored}
+use Rattle.alternate_vector.specs.Field.{Field}
+use Rattle.cache_model.specs.declared.answer.ReadAnswer.TheVariants as read
+use Rattle.cache_model.specs.declared.cause.Cause.TheVariants as cause
+use Rattle.cache_model.specs.declared.findings.FoundRow.{FoundRow}
+use Rattle.cache_model.specs.declared.record.Rec.{Rec}
+use Rattle.cache_model.specs.declared.record.Rec.TheVariants as rec
+use Rattle.cache_model.specs.Opening.{Opening}
+use Rattle.cache_model.specs.State.{State, fragment_piece, list_of_put, mark_now, vector_piece}
+use Rattle.cache_model.specs.Verdict.{lookup_verdict, vector_of}
+use Rattle.record_rows.specs.Worked.{Told, a, allowed, b, behind_format, behind_opening, language, no_digest, other, put_at, put_with, small, synced, taking, told, varies}
+
+-- ---- a sync, and what comes behind it
+
+-- one object, a sync, and another object
+abbrev pub with_later_put : State
+with_later_put = behind_format (put_at 64 1 a ++ (synced 2 66 false ++ (rec.Began 66 10 ∷ put_at 66 2 b)))
+
+-- what the sync held when it began
+abbrev pub second_sync : Opening
+second_sync = taking (mark_now (behind_format (put_at 64 1 a)) 2 66 false)
+
+-- the sync alone may be found, with both pieces of the first object; the second object is lost
+abbrev pub LaterPutsAreLost : Type 0
+LaterPutsAreLost = (told with_later_put ≡ record { serial = 2; cursor = 66; floor = 18; found = 2; clean = false } ∷ [])
+    × (lookup_verdict (behind_opening second_sync []) a [] ≡ read.Hit 1)
+    × (lookup_verdict (behind_opening second_sync []) b [] ≡ read.Miss (cause.BeforeOpening 2))
+
+-- a removal behind it
+abbrev pub with_removal : State
+with_removal = behind_format (put_at 64 1 a ++ (synced 2 66 false ++ (rec.Began 66 10 ∷ rec.Removed 1 a ∷ [])))
+
+-- leaves what the sync holds, so the object comes back
+abbrev pub ARemovalComesBack : Type 0
+ARemovalComesBack = (told with_removal ≡ record { serial = 2; cursor = 66; floor = 18; found = 2; clean = false } ∷ [])
+    × (lookup_verdict with_removal a [] ≡ read.Miss cause.Removed)
+    × (lookup_verdict (behind_opening second_sync []) a [] ≡ read.Hit 1)
+
+-- ---- a sync in parts
+
+-- it was begun behind one object, and is not finished
+abbrev pub while_it_runs : State
+while_it_runs = behind_format (put_at 64 1 a ++ rec.SyncBegun 2 66 false true ∷ rec.Began 66 10 ∷ [])
+
+-- it may be found, and so may the format; behind that nothing is known
+abbrev pub ARunningSyncMayBeTaken : Type 0
+ARunningSyncMayBeTaken = (while_it_runs.running ≡ Some 2)
+    × (told while_it_runs
+    ≡ record { serial = 2; cursor = 66; floor = 18; found = 2; clean = false } ∷ record { serial = 1; cursor = 64; floor = 16; found = 0; clean = false } ∷ [])
+    × (lookup_verdict (behind_opening (taking (mark_now (behind_format []) 1 64 false)) []) a [] ≡ read.Miss (cause.BeforeOpening 1))
+
+-- another object, and then its last part
+abbrev pub once_it_ended : State
+once_it_ended = behind_format (put_at 64 1 a ++ (rec.SyncBegun 2 66 false true ∷ rec.Began 66 10 ∷ put_at 66 2 b) ++ rec.SyncDone 2 ∷ [])
+
+-- it alone may be found, without that object
+abbrev pub AFinishedSyncIsTaken : Type 0
+AFinishedSyncIsTaken = (once_it_ended.running ≡ None)
+    × (told once_it_ended ≡ record { serial = 2; cursor = 66; floor = 18; found = 2; clean = false } ∷ [])
+
+-- ---- a stripe that is closed
+
+-- the buffer is synced, and then a clean copy is written
+abbrev pub once_closed : State
+once_closed = behind_format (put_at 64 1 a ++ (synced 2 66 false ++ (rec.Began 66 10 ∷ synced 3 66 true)))
+
+-- what it holds
+abbrev pub clean_sync : Opening
+clean_sync = taking (mark_now (behind_format (put_at 64 1 a ++ (synced 2 66 false ++ rec.Began 66 10 ∷ []))) 3 66 true)
+
+-- it is marked, and the opening finds all from the floor on that it had
+abbrev pub AClosedStripeOpensClean : Type 0
+AClosedStripeOpensClean = (once_closed.marked ≡ true)
+    × (told once_closed ≡ record { serial = 3; cursor = 66; floor = 10; found = 2; clean = true } ∷ [])
+    × ((behind_opening clean_sync []).marked ≡ true)
+    × (lookup_verdict (behind_opening clean_sync []) a [] ≡ read.Hit 1)
+
+-- behind that opening a sync that is not clean comes before an object is put
+abbrev pub once_written : State
+once_written = behind_opening clean_sync (synced 4 66 false ++ put_at 66 2 b)
+
+-- the mark is gone, and the bound is that of the cursor again
+abbrev pub WhatIsWrittenUnmarks : Type 0
+WhatIsWrittenUnmarks = (once_written.marked ≡ false)
+    × (told once_written ≡ record { serial = 4; cursor = 66; floor = 18; found = 2; clean = false } ∷ [])
+    × (lookup_verdict once_written b [] ≡ read.Hit 2)
+
+-- ---- found vectors
+
+-- an alternate of one fragment, for one language
+abbrev pub stored_in : ℕ → List ℕ → Stored
+stored_in put value = record { put = put; pin = 0; length = 1; request = language value; response = varies; table = made_row 1 [] ∷ [] }
+
+-- a vector that an opening finds
+abbrev pub vector_at : ℕ → ℕ → Key → List Stored → FoundRow
+vector_at place put key list =
+    record { id = vector_piece key put; place = place; blocks = 1; digest = no_digest; payload = no_digest; pin = 0; alternates = Some list }
+
+-- one with two alternates, and one with a single alternate, which no line varies
+abbrev pub two_vectors : Opening
+two_vectors = record {
+  serial = 9;
+  cursor = 70;
+  floor = 22;
+  next_put = 6;
+  clean = false;
+  found = vector_at 64 4 a (stored_in 3 (codes "de") ∷ stored_in 4 (codes "fr") ∷ [])
+      ∷ vector_at 65 5 b (record { put = 5; pin = 0; length = 0; request = []; response = []; table = [] } ∷ []) ∷ [];
+}
+
+-- each is its key's last; a request that none matches is told how many there are, and of a third key it is told that
+-- the session began with the opening
+abbrev pub AFoundVectorIsKnown : Type 0
+AFoundVectorIsKnown = (vector_of (behind_opening two_vectors []) a ≡ Some (vector_piece a 4))
+    × (lookup_verdict (behind_opening two_vectors []) a (language (codes "fr")) ≡ read.Hit 4)
+    × (lookup_verdict (behind_opening two_vectors []) a (language (codes "it")) ≡ read.Miss (cause.NoMatch 2))
+    × (lookup_verdict (behind_opening two_vectors []) b [] ≡ read.Hit 5)
+    × (lookup_verdict (behind_opening two_vectors []) other [] ≡ read.Miss (cause.BeforeOpening 9))
+
+-- an object of one more language
+abbrev pub once_merged : State
+once_merged = behind_opening two_vectors (put_with (language (codes "it")) varies 70 6 a)
+
+-- stands beside those that were found, whose vector goes
+abbrev pub AnotherPutMerges : Type 0
+AnotherPutMerges = (lookup_verdict once_merged a (language (codes "it")) ≡ read.Hit 6)
+    × (lookup_verdict once_merged a (language (codes "de")) ≡ read.Hit 3)
+    × (lookup_verdict once_merged a (language (codes "es")) ≡ read.Miss (cause.NoMatch 3))
+    × (length once_merged.rows ≡ 3)
