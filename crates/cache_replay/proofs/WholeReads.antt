@@ -73,6 +73,7 @@ pub lookup_append : (a b : List Rec) → lookup_in (a ++ b) ≡ first_of (lookup
 lookup_append [] b = refl
 lookup_append (rec.ReadOpened reader actor key request answer ∷ a) b = refl
 lookup_append (rec.Formatted geometry ∷ a) b = lookup_append a b
+lookup_append (rec.Opened geometry serial cursor floor next_put clean list ∷ a) b = lookup_append a b
 lookup_append (rec.Began cursor floor ∷ a) b = lookup_append a b
 lookup_append (rec.Placed piece place blocks digest pin ∷ a) b = lookup_append a b
 lookup_append (rec.Moved piece from place digest ∷ a) b = lookup_append a b
@@ -89,6 +90,8 @@ lookup_append (rec.Ended reader size ∷ a) b = lookup_append a b
 lookup_append (rec.Waited reader cut ∷ a) b = lookup_append a b
 lookup_append (rec.Broke reader why ∷ a) b = lookup_append a b
 lookup_append (rec.ReadClosed reader ∷ a) b = lookup_append a b
+lookup_append (rec.SyncBegun serial cursor clean in_parts ∷ a) b = lookup_append a b
+lookup_append (rec.SyncDone serial ∷ a) b = lookup_append a b
 lookup_append (rec.Fault count ∷ a) b = lookup_append a b
 
 pub lookup_first : (a b : List Rec) (x : ReadAnswer) → lookup_in a ≡ Some x → lookup_in (a ++ b) ≡ Some x
