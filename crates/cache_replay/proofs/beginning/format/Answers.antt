@@ -30,3 +30,15 @@ returns-in-Err-clause-order g c =
     (order_then own (own ++ device ∷ []) [] old given new
     (order_gave device own c.args.name.now c.args.geometry.content old given c.in_ok-disk.ensures.gave c.in_ok-disk.ensures.device)
     (order_then (own ++ device ∷ []) (device ∷ []) [] given ended new (c.end.ensures.order (device ∷ [])) (order_took device [] ended new took)))
+
+pub returns-in-Ok-clause-order : goal.returns-in-Ok-clause-order
+returns-in-Ok-clause-order g c =
+    let own = return_of g.B.Dev.Disk listed chronicled c.args.session.now.part in
+    let device = g.B.Dev.Disk.state c.in_ok-disk.disk in
+    let old = g.B.Bay.past c.args.bay.now in
+    let given = g.B.Bay.past c.attach.new.bay in
+    let begun = return_of g.B.Dev.Disk listed chronicled c.start.new.session.part in
+    let new = g.B.Bay.past c.start.new.bay in
+    order_then own (own ++ device ∷ []) begun old given new
+    (order_gave device own c.args.name.now c.args.geometry.content old given c.in_ok-disk.ensures.gave c.in_ok-disk.ensures.device)
+    (subst (λ d. KeepsOrder (own ++ d ∷ []) given begun new) c.in-Ok.ensures.device c.start.ensures.order)
