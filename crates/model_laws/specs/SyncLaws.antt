@@ -1,13 +1,21 @@
 -- What syncs hold, which of them may be found, and what an opening takes up: the definitions in the subject's sentences.
-use Rattle.std.specs.Prelude.{ℕ, ◌≡◌, ◌≤◌, ◌==◌, Bool, true, false, List, ◌∷◌, Some, map}
+use Rattle.std.specs.Prelude.{ℕ, ◌≡◌, ◌≤◌, ◌==◌, ◌-◌, nat_le, Bool, true, false, List, ◌∷◌, Some, None, filter}
 use Rattle.std.specs.List.{AllByRecursion}
 use Rattle.tape_base.specs.declared.geometries.Geometry.{Geometry}
 use Rattle.tape_base.specs.declared.pieces.PieceId.{PieceId}
 use Rattle.cache_model.specs.declared.record.Rec.{Rec}
 use Rattle.cache_model.specs.declared.record.Rec.TheVariants as rec
 use Rattle.cache_model.specs.Opening.{Opening}
+use Rattle.cache_model.specs.Openings.{opened_records}
+use Rattle.cache_model.specs.Verdict.{lookup_verdict}
+use Rattle.cache_model.specs.declared.answer.ReadAnswer.TheVariants as read
+use Rattle.cache_model.specs.declared.cause.Cause.TheVariants as cause
+use Rattle.alternate_vector.specs.Field.{Field}
+use Rattle.tape_base.specs.declared.keys.Key.{Key}
+use Rattle.tape_base.specs.Place.{reach_of}
+use Rattle.model_laws.specs.PlaceLaws.{vector_found}
 use Rattle.cache_model.specs.Permit.{IsAmong}
-use Rattle.cache_model.specs.State.{State, Mark, after_all, mark_now, mark_of, row_in, row_of, state_of_opening}
+use Rattle.cache_model.specs.State.{State, Mark, Row, after_all, floor_now, live_rows, mark_of, row_in, row_of}
 use Rattle.cache_model.specs.Syncs.{Follows, IsAllowed}
 
 -- the record begins a session, or a sync of this serial
@@ -21,10 +29,20 @@ begins_sync serial _ = false
 abbrev pub LeavesSync : ℕ → Rec → Type 0
 LeavesSync serial r = begins_sync serial r ≡ false
 
--- what a sync holds is how things stood when it began: the pieces that were live then, at or above its bound
+-- what is known of a sync that began in this state: its cursor, the next put number of then, and the pieces that were
+-- live then, at or above a bound, which is the floor where it is clean
+pub record HoldsWhatStood (s : State) (cursor : ℕ) (clean : Bool) (m : Mark) : Type 0 where
+  pub cursor_is : m.cursor ≡ cursor
+  pub clean_is : m.clean ≡ clean
+  pub number : m.next_put ≡ s.next_put
+  pub floor : clean ≡ true → m.low ≡ floor_now s
+  pub bound : clean ≡ false → m.low ≡ reach_of s.geometry cursor - s.geometry.content
+  pub rows : m.rows ≡ filter (λ (row : Row). nat_le m.low row.place) (live_rows s)
+
+-- what a sync holds is how things stood when it began, whatever came since
 abbrev pub SyncIsHeld : Type 0
 SyncIsHeld = (s : State) (serial cursor : ℕ) (clean in_parts : Bool) (behind : List Rec) → AllByRecursion (LeavesSync serial) behind
-    → mark_of (after_all s (rec.SyncBegun serial cursor clean in_parts ∷ behind)) serial ≡ Some (mark_now s serial cursor clean)
+    → (m : Mark) × (mark_of (after_all s (rec.SyncBegun serial cursor clean in_parts ∷ behind)) serial ≡ Some m) × HoldsWhatStood s cursor clean m
 
 -- the record begins no session
 abbrev pub begins_session : Rec → Bool
@@ -61,13 +79,27 @@ abbrev pub OnlyLaterAreAllowed : Type 0
 OnlyLaterAreAllowed = (s : State) (serial : ℕ) (behind : List Rec) (m : Mark) → AllByRecursion FinishesNone behind
     → IsAllowed (after_all s (rec.SyncDone serial ∷ behind)) m → serial ≤ m.serial
 
--- where an opening follows a session, each piece stands as the sync holds it that was taken up, and the numbers of puts go
--- on from that sync's
+-- a session begins as this sync holds it: each piece stands, the numbers of puts go on, and nothing below its bound is read
+pub record BeginsWith (m : Mark) (s : State) : Type 0 where
+  pub pieces : (id : PieceId) → row_of s id ≡ row_in m.rows id
+  pub number : s.next_put ≡ m.next_put
+  pub least : s.least ≡ m.low
+  pub cursor : s.cursor ≡ m.cursor
+  pub finished : s.finished ≡ m.serial
+  pub marked : s.marked ≡ m.clean
+  pub serial : s.opened ≡ Some m.serial
+  pub quiet : s.running ≡ None
+
+-- where an opening follows a session, the next one begins as the sync holds it that was taken up
 abbrev pub FollowerHasSync : Type 0
-FollowerHasSync = (s : State) (geometry : Geometry) (o : Opening) (f : Follows s o) (id : PieceId)
-    → (row_of (state_of_opening geometry o) id ≡ row_in f.mark.rows id) × ((state_of_opening geometry o).next_put ≡ f.mark.next_put)
+FollowerHasSync = (s t : State) (geometry : Geometry) (o : Opening) (f : Follows s o) → BeginsWith f.mark (after_all t (opened_records geometry o))
 
 -- and that sync may be found behind it again, until another one finished
 abbrev pub FollowerAllowsSync : Type 0
-FollowerAllowsSync = (s : State) (geometry : Geometry) (o : Opening) (f : Follows s o)
-    → IsAllowed (state_of_opening geometry o) (record f.mark { end = o.cursor })
+FollowerAllowsSync = (s t : State) (geometry : Geometry) (o : Opening) (f : Follows s o)
+    → IsAllowed (after_all t (opened_records geometry o)) (record f.mark { end = o.cursor })
+
+-- a lookup of a key of which no record of the session speaks, and no found vector, tells the serial of its opening
+abbrev pub OpenedIsTold : Type 0
+OpenedIsTold = (t : State) (geometry : Geometry) (o : Opening) (key : Key) (request : List Field) → vector_found o.found key ≡ None
+    → lookup_verdict (after_all t (opened_records geometry o)) key request ≡ read.Miss (cause.BeforeOpening o.serial)

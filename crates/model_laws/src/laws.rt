@@ -9,7 +9,7 @@ ghost use Rattle.model_laws.specs.FlushLaws.{DueAreFound, FlushIsSound, FrontIsB
 ghost use Rattle.model_laws.specs.Agreeing.{GroupsAgree, OtherCopiesAreBytes, StepsAgree};
 ghost use Rattle.model_laws.specs.PairLaws.{CopiedIsDueAndFits, LookupReadsItsKey, NothingAskedReadsNone, PairsAreBytes, PairsAreGiven, ReaderReadsItsNext};
 ghost use Rattle.model_laws.specs.VectorLaws.{FlushTells, StoppedTells, FormatsTell, OpeningsTell, GroupsTell, StepsTell, VectorsAreKept, MergedIsSpelled};
-ghost use Rattle.model_laws.specs.SyncLaws.{FinishedIsLast, FollowerAllowsSync, FollowerHasSync, MarksStay, OnlyLaterAreAllowed, SyncIsHeld};
+ghost use Rattle.model_laws.specs.SyncLaws.{FinishedIsLast, FollowerAllowsSync, FollowerHasSync, MarksStay, OnlyLaterAreAllowed, OpenedIsTold, SyncIsHeld};
 ghost use Rattle.cache_model.specs.Vectors.{IsVectorAs, LiveVectorIsListed, VectorIsReadBack};
 
 /// What each record makes of the place of each piece.
@@ -375,4 +375,9 @@ pub fn only_later_are_allowed()
 pub fn followers_take_up()
     ensures has { FollowerHasSync }
     ensures allows { FollowerAllowsSync }
+{}
+
+/// A lookup of what neither the session nor its opening knows tells the opening's serial.
+pub fn opened_is_told()
+    ensures { OpenedIsTold }
 {}
