@@ -10,7 +10,9 @@ use Rattle.cache_model.specs.declared.findings.FoundRow.{FoundRow}
 use Rattle.cache_model.specs.declared.record.Rec.{Rec}
 use Rattle.cache_model.specs.declared.record.Rec.TheVariants as rec
 use Rattle.cache_model.specs.Opening.{Opening}
-use Rattle.cache_model.specs.State.{State, fragment_piece, list_of_put, mark_now, vector_piece}
+use Rattle.cache_model.specs.Openings.{IsOpening}
+use Rattle.cache_model.specs.Syncs.{Follows}
+use Rattle.cache_model.specs.State.{State, mark_of_format, fragment_piece, list_of_put, mark_now, vector_piece}
 use Rattle.cache_model.specs.Verdict.{lookup_verdict, vector_of}
 use Rattle.record_rows.specs.Worked.{Told, a, allowed, b, behind_format, behind_opening, language, no_digest, other, put_at, put_with, small, synced, taking, told, varies}
 
@@ -29,6 +31,14 @@ abbrev pub LaterPutsAreLost : Type 0
 LaterPutsAreLost = (told with_later_put ≡ record { serial = 2; cursor = 66; floor = 18; found = 2; clean = false } ∷ [])
     × (lookup_verdict (behind_opening second_sync []) a [] ≡ read.Hit 1)
     × (lookup_verdict (behind_opening second_sync []) b [] ≡ read.Miss (cause.BeforeOpening 2))
+
+-- so an opening that takes it up follows that session
+abbrev pub AnOpeningFollows : Type 0
+AnOpeningFollows = Follows with_later_put second_sync
+
+-- and what a format leaves may be opened: nothing is found
+abbrev pub AFormatMayBeOpened : Type 0
+AFormatMayBeOpened = IsOpening true small (taking (mark_of_format small))
 
 -- a removal behind it
 abbrev pub with_removal : State

@@ -1,11 +1,21 @@
 //! Sessions with openings and syncs, worked by hand and computed by the definitions over records.
 #![tactic(auto)]
 
-ghost use Rattle.record_rows.specs.Rows.{AClosedStripeOpensClean, AFinishedSyncIsTaken, AFoundVectorIsKnown, AnotherPutMerges, ARemovalComesBack, ARunningSyncMayBeTaken, LaterPutsAreLost, WhatIsWrittenUnmarks};
+ghost use Rattle.record_rows.specs.Rows.{AClosedStripeOpensClean, AFinishedSyncIsTaken, AFormatMayBeOpened, AFoundVectorIsKnown, AnOpeningFollows, AnotherPutMerges, ARemovalComesBack, ARunningSyncMayBeTaken, LaterPutsAreLost, WhatIsWrittenUnmarks};
 
 /// What was put behind the last sync is lost, and told by the serial of the opening.
 pub fn later_puts_are_lost()
     ensures { LaterPutsAreLost }
+{}
+
+/// An opening that takes that sync up follows the session.
+pub fn an_opening_follows()
+    ensures { AnOpeningFollows }
+{}
+
+/// What a format leaves may be opened, by a directory that displaces too.
+pub fn a_format_may_be_opened()
+    ensures { AFormatMayBeOpened }
 {}
 
 /// A removal behind the last sync comes back.
