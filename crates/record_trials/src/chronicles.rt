@@ -1,5 +1,8 @@
 // What no clause of `cache_chronicle` says, and no script shows: what a live piece is told, and a
 // list that was displaced.
+ghost use Rattle.std.specs.Prelude.{◌≤◌};
+ghost use Rattle.cache_chronicle.specs.Weight.{weight_of};
+
 use alternate_vector::{FieldFault, Fields};
 use cache_chronicle::{Cause, Chronicle, FullChronicle, Rec};
 use std::alloc::AllocError;
@@ -15,7 +18,9 @@ fn piece(put: u64, index: u32) -> PieceId {
 }
 
 /// Makes room for a record and adds it.
-fn add(chronicle: &mut FullChronicle, rec: Rec) -> Result<(), AllocError> {
+fn add(chronicle: &mut FullChronicle, rec: Rec) -> Result<(), AllocError>
+    requires { weight_of rec ≤ 1 }
+{
     chronicle.reserve(1)?;
     chronicle.push(rec);
     Ok(())
