@@ -6,6 +6,7 @@ use Rattle.cache_replay.specs.Outline.{told_of}
 use Rattle.cache_replay.proofs.Formats.{first_floor_is, format_done, format_refused}
 use Rattle.cache_replay.proofs.Outlines.{format_outlines, refused_outlines}
 use Rattle.cache_replay.proofs.Unharming.{plays_reached}
+use Rattle.cache_replay.proofs.Order.{order_same}
 use Rattle.cache_replay.proofs.beginning.format_line.Goals as goal
 
 pub returns-in-Err-clause-ends : goal.returns-in-Err-clause-ends
@@ -29,3 +30,6 @@ pub returns-in_err-format-in-Ok-clause-left : goal.returns-in_err-format-in-Ok-c
 returns-in_err-format-in-Ok-clause-left g c =
     let stopped = err_from_is_err_and c.from_residual.result c.from_residual.ensures.1 in
     rw (stopped.1, stopped.2) (λ harms reached. c.in_err-format-in-Ok.ensures.left harms _ (refl, sym c.in-Ok.ensures.refused) reached)
+
+pub returns-in-Err-clause-order : goal.returns-in-Err-clause-order
+returns-in-Err-clause-order g c = order_same _ _
