@@ -5,11 +5,10 @@ use Rattle.script_lang.specs.declared.last.LastLine.{LastLine}
 use Rattle.script_lang.specs.declared.last.LastLine.TheVariants as last
 use Rattle.script_lang.specs.Texts.{last_line}
 use Rattle.script_run.specs.Ledger.{Ledger}
-use Rattle.cache_replay.specs.Outline.{Outline}
 use Rattle.cache_tool.specs.declared.top.Status.{Status}
 use Rattle.cache_tool.specs.declared.top.Status.TheVariants as status
 use Rattle.cache_tool.specs.declared.run.Ending.TheVariants as ending
-use Rattle.cache_tool.specs.Story.{Because, Refusals, SendsAll, Took}
+use Rattle.cache_tool.specs.Story.{Because, MeetsBayFault, Refusals, SendsAll, Took}
 use Rattle.cache_tool.specs.Ending.{FailedReads, IsOfRun, StoryUpTo, is_bay_ending}
 use Rattle.cache_tool.specs.Top.{WentOut, EachBack, ReadsFailed, AttachesRefused, RefusedOne, status_of, EndsEarly, Concludes}
 use Rattle.cache_tool.proofs.Halts.{Took-kept, Took-trans, front_more}
@@ -84,11 +83,10 @@ module _ (first read : List SourceRead) (old mid new : List SinkWrite) (bay : Re
   abbrev NoneRefused : LastLine → Type 0
   NoneRefused why = is_bay_ending (ending.Stopped why) ≡ false → bay.now ≡ bay.before
 
-  refused_here : (held : List ℕ) (given : ℕ) (o : Outline) → Because bay held given o last.BayFault → RefusedOne bay.before bay.now
-  refused_here held given o met = (met.refusal, met.refused)
-
   refused_last : Upto last.BayFault → RefusedOne bay.before bay.now
-  refused_last upto = refused_here upto.held upto.given _ upto.story.outline.behind
+  refused_last upto =
+      let met : MeetsBayFault upto.given upto.held bay.before bay.now = upto.story.outline.behind in
+      (met.refusal, met.refused)
 
   refused_told : (why : LastLine) → NoneRefused why → Upto why → AttachesRefused bay.before bay.now (status_of why)
   refused_told last.Usage none upto = none refl
