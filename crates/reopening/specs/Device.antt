@@ -1,5 +1,5 @@
 -- Where the stripe of a device lies, by its first block and its size.
-use Rattle.std.specs.Prelude.{◌≡◌, ◌≤◌, ◌*◌, ◌⊎◌, ℕ, List, length, take, Some, None}
+use Rattle.std.specs.Prelude.{◌≡◌, ◌<◌, ◌≤◌, ◌*◌, ℕ, List, length, take, Some, None}
 use Rattle.stripe_header.specs.declared.area.Area.{Area}
 use Rattle.stripe_header.specs.declared.states.SpanFault.{SpanFault}
 use Rattle.stripe_header.specs.declared.states.SpanFault.TheVariants.{Geometry}
@@ -17,8 +17,9 @@ pub record IsArea (bytes : List ℕ) (a : Area) : Type 0 where
   pub blocks : span_blocks (take 512 bytes) ≡ stripe_blocks a
   pub room : 512 * device_blocks a ≤ length bytes
 
--- the first fault of its span; or the span is accepted, and no stripe of its numbers has its blocks or has
--- room; a device without a first block has no room for any
-abbrev pub IsDeviceFault : List ℕ → SpanFault → Type 0
-IsDeviceFault bytes fault =
-    (span_fault (take 512 bytes) ≡ Some fault) ⊎ ((fault ≡ Geometry) × ((a : Area) → IsArea bytes a → ⊥))
+-- which fault a device has: the first one of its span; where the span is accepted, that no stripe of its numbers has its
+-- blocks or has room; a device without a whole first block has no room for any
+pub record IsDeviceFault (bytes : List ℕ) (fault : SpanFault) : Type 0 where
+  pub short : length bytes < 512 → fault ≡ Geometry
+  pub faulty : (first : SpanFault) → 512 ≤ length bytes → span_fault (take 512 bytes) ≡ Some first → fault ≡ first
+  pub unlaid : 512 ≤ length bytes → span_fault (take 512 bytes) ≡ None → (fault ≡ Geometry) × ((a : Area) → IsArea bytes a → ⊥)
