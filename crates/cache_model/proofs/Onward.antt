@@ -1,5 +1,5 @@
 -- Each group of records, each step and each legal chronicle is sound.
-use Rattle.std.proofs.Common.{◌≡◌, ℕ, ◌+◌, ◌-◌, ◌≤◌, List, [], ◌∷◌, refl, sym, subst, arith, Bool, true, false}
+use Rattle.std.proofs.Common.{◌≡◌, ℕ, ◌+◌, ◌≤◌, List, [], ◌∷◌, refl, sym, subst, arith, Bool, true, false}
 use Rattle.std.specs.Prelude.{Option, length, map, max}
 use Rattle.std.proofs.lemmas.Bool.{leb-true, eq-eqb}
 use Rattle.tape_base.specs.declared.geometries.Geometry.{Geometry}

@@ -1,9 +1,12 @@
--- What the device gave for a piece in a step, or that it refused: what was read, what is damaged, and
+-- What the device did in a step, by the calls in its log: what it gave for a piece, took or refused; what is damaged, and
 -- the trouble with a piece that is asked for.
-use Rattle.std.specs.Prelude.{ℕ, ◌≡◌, ◌≢◌, ◌*◌, ◌<◌, ◌≤◌, List, [], ◌∷◌, length, take, Option, Some, None, max}
+use Rattle.std.specs.Prelude.{ℕ, ◌≡◌, ◌≢◌, ◌+◌, ◌-◌, ◌*◌, ◌<◌, ◌≤◌, List, [], ◌∷◌, ◌++◌, length, take, drop, Option, Some, None}
+use Rattle.std.specs.List.{AllByRecursion}
 use Rattle.hex.specs.Hex.{IsBytes}
 use Rattle.edge_io.specs.Causes.{Rose}
+use Rattle.device_log.specs.Calls.{Asked, ToRead, ToWrite, Call, Read, Wrote, RefusedCall}
 use Rattle.tape_base.specs.declared.digests.Digest.{Digest}
+use Rattle.tape_base.specs.Place.{slot_of}
 use Rattle.doc_header.specs.Reading.{document_digest, payload_of}
 use Rattle.cache_model.specs.declared.cause.Cause.{Cause}
 use Rattle.cache_model.specs.declared.cause.Cause.TheVariants as cause
@@ -12,11 +15,52 @@ use Rattle.cache_model.specs.declared.record.Rec.TheVariants as rec
 use Rattle.cache_model.specs.State.{State, Row}
 use Rattle.cache_model.specs.Permit.{Permit, IsAmong}
 
--- the count rose above that before the step and that of the last fault, and the device had counted as
--- far at the step's end
-pub record MayCount (p : Permit) (s : State) (count : ℕ) : Type 0 where
-  pub rose : Rose (max p.faults_before s.fault) count
-  pub reached : count ≤ p.faults
+-- ---- the calls of a step
+
+-- the device's block for a place
+abbrev pub block_at : Permit → State → ℕ → ℕ
+block_at p s place = slot_of s.geometry place + p.area
+
+-- the device refused this in the step; its count behind it is above that of the last fault
+pub record MayCount (p : Permit) (s : State) (asked : Asked) (count : ℕ) : Type 0 where
+  pub rose : Rose s.fault count
+  pub refused : IsAmong (RefusedCall asked count) p.events
+
+-- it refused to give the blocks of a piece
+abbrev pub CountsRead : Permit → State → Row → ℕ → Type 0
+CountsRead p s row count = MayCount p s (ToRead (block_at p s row.place) row.blocks) count
+
+-- it refused to take the buffer
+pub record CountsWrite (p : Permit) (s : State) (count : ℕ) : Type 0 where
+  pub left : List ℕ
+  pub counts : MayCount p s (ToWrite (block_at p s s.cursor) s.filled left) count
+
+-- so many blocks of the buffer from a place on, where these are the buffer's bytes
+abbrev pub bytes_from : State → List ℕ → Row → List ℕ
+bytes_from s bytes row = take (512 * row.blocks) (drop (512 * (row.place - s.cursor)) bytes)
+
+-- it took the buffer in one write, in which each piece of the buffer stands with its recorded digest
+pub record TakesBuffer (p : Permit) (s : State) : Type 0 where
+  pub bytes : List ℕ
+  pub written : IsAmong (Wrote (block_at p s s.cursor) bytes) p.events
+  pub whole : length bytes ≡ 512 * s.filled
+  pub holds : AllByRecursion (λ (row : Row). s.cursor ≤ row.place → document_digest (bytes_from s bytes row) ≡ row.digest) s.rows
+
+-- ---- one fault record for each call that failed
+
+-- the counts behind the calls that failed, the oldest first
+abbrev pub counts_in : List Call → List ℕ
+counts_in [] = []
+counts_in (RefusedCall asked count ∷ older) = counts_in older ++ count ∷ []
+counts_in (call ∷ older) = counts_in older
+
+-- the counts that records tell
+abbrev pub counts_told : List Rec → List ℕ
+counts_told [] = []
+counts_told (rec.Fault count ∷ recs) = count ∷ counts_told recs
+counts_told (r ∷ recs) = counts_told recs
+
+-- ---- pieces
 
 -- the piece is written out, and is not in the buffer any more
 abbrev pub IsWritten : State → Row → Type 0
@@ -25,7 +69,7 @@ IsWritten s row = row.place < s.cursor
 -- the device gave these bytes for the piece in this step, in one read of its blocks
 pub record IsGiven (p : Permit) (s : State) (row : Row) (bytes : List ℕ) : Type 0 where
   pub written : IsWritten s row
-  pub given : IsAmong (record { place = row.place; bytes = bytes }) p.reads
+  pub given : IsAmong (Read (block_at p s row.place) bytes) p.events
   pub whole : length bytes ≡ 512 * row.blocks
   pub of_bytes : IsBytes bytes
 
@@ -56,7 +100,7 @@ damage_cause row kept found = cause.Damaged row.place kept found
 
 -- the piece that is asked for cannot be read: the record of that, and the cause
 pub data Trouble (p : Permit) (s : State) (row : Row) : List Rec → Cause → Type 0 where
-  faulted : (count : ℕ) → IsWritten s row → MayCount p s count
+  faulted : (count : ℕ) → IsWritten s row → CountsRead p s row count
       → Trouble p s row (rec.Fault count ∷ []) (cause.DeviceFault count)
   damaged : (found : Digest) → IsDamaged p s row found
       → Trouble p s row (damage_record row row.digest found ∷ []) (damage_cause row row.digest found)

@@ -27,7 +27,7 @@ use Rattle.cache_model.specs.declared.record.Rec.TheVariants as rec
 use Rattle.cache_model.specs.State.{State, Row, PutRow, ReaderRow, Open, after_all, nothing_yet, alternate_of, fragment_piece, place_now, list_of_put, live_row_of, put_of, reader_of, vector_piece, with_cut}
 use Rattle.cache_model.specs.Verdict.{is_open, live_vector_of, lookup_verdict, next_piece, next_row, reader_verdict}
 use Rattle.cache_model.specs.Permit.{Permit, Intent, Flush, Write, Fragment, Overflow, Weigh, Finish, Commit, GiveUp, Remove, Look, ReadOn, ReadAll, StopReading, Reason, ManyWriters, Exhausted, ManyFragments, TooLarge, Lost, Faulted, End, Stays, Done, Fails, Work, to_do, work_after}
-use Rattle.cache_model.specs.Given.{IsDamaged, IsGiven, IsReadWhereLive, IsWritten, MayCount, Trouble, damage_cause, damage_record}
+use Rattle.cache_model.specs.Given.{CountsRead, CountsWrite, IsDamaged, IsGiven, IsReadWhereLive, IsWritten, TakesBuffer, Trouble, counts_in, counts_told, damage_cause, damage_record}
 use Rattle.cache_model.specs.Due.{due_pieces}
 use Rattle.cache_model.specs.Outcomes.{AreOutcomes, Outcome, flush_records, stopped_front_of, stopped_records}
 use Rattle.cache_model.specs.Opening.{Opening}
@@ -68,10 +68,11 @@ pub record CanFlush (s : State) : Type 0 where
   pub filled : 0 < s.filled
   pub below : is_flush_exhausted s ≡ false
 
--- the buffer is written out, the next one begins, and what is due is copied into it within its budget
+-- the device takes the buffer, the next one begins, and what is due is copied into it within its budget
 pub record MayFlush (p : Permit) (s : State) (added : List Rec) : Type 0 where
   pub outcomes : List Outcome
   pub can : CanFlush s
+  pub takes : TakesBuffer p s
   pub are : AreOutcomes p s (budget_of s.geometry) (due_pieces s p.now) outcomes
   pub is : added ≡ flush_records s (due_pieces s p.now) outcomes
 
@@ -80,7 +81,7 @@ pub record MayStop (p : Permit) (s : State) (count : ℕ) (added : List Rec) : T
   pub outcomes : List Outcome
   pub can : CanFlush s
   pub are : AreOutcomes p s (budget_of s.geometry) (due_pieces s p.now) outcomes
-  pub counts : MayCount p (after_all s (stopped_front_of (due_pieces s p.now) outcomes)) count
+  pub counts : CountsWrite p (after_all s (stopped_front_of (due_pieces s p.now) outcomes)) count
   pub is : added ≡ stopped_records (due_pieces s p.now) outcomes count
 
 -- an empty buffer is left, also at the limit; else it is written out, or the device or the limit stops that
@@ -180,7 +181,7 @@ pub data DoesWeigh (p : Permit) (s : State) (put rest : ℕ) (added : List Rec) 
   -- the key's vector is read: a damaged one counts as none from here on
   damaged : (w : PutRow) (row : Row) (found : Digest) → IsWriting s put w → live_vector_of s w.key ≡ Some row → IsDamaged p s row found
       → added ≡ damage_record row row.digest found ∷ [] → DoesWeigh p s put rest added Stays
-  faulted : (w : PutRow) (row : Row) (count : ℕ) → IsWriting s put w → live_vector_of s w.key ≡ Some row → IsWritten s row → MayCount p s count
+  faulted : (w : PutRow) (row : Row) (count : ℕ) → IsWriting s put w → live_vector_of s w.key ≡ Some row → IsWritten s row → CountsRead p s row count
       → added ≡ rec.Fault count ∷ [] → DoesWeigh p s put rest added (Fails (Faulted count))
 
 -- the fragment of a put is live
@@ -367,10 +368,12 @@ pub data MayGrow (p : Permit) : State → Work → List Rec → Work → Type 0 
       → Advances p s w.intents w.refused added between
       → MayGrow p (after_all s added) between rest after → MayGrow p s w (added ++ rest) after
 
--- a whole step: nothing is left but what a refusal excused, and no vector is pending
+-- a whole step: nothing is left but what a refusal excused, no vector is pending, and each call that the device refused
+-- has its record, in order, and no other
 pub record IsStep (p : Permit) (s : State) (intents : List Intent) (added : List Rec) (refused : Option Reason) : Type 0 where
   pub grows : MayGrow p s (to_do intents) added (record { intents = []; refused = refused })
   pub quiet : IsQuiet (after_all s added)
+  pub faults : counts_told added ≡ counts_in p.events
 
 -- ---- a chronicle
 

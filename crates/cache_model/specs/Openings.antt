@@ -6,7 +6,7 @@ use Rattle.tape_base.specs.declared.geometries.Geometry.{Geometry}
 use Rattle.tape_base.specs.Geometry.{budget_of}
 use Rattle.tape_base.specs.Key.{same_key}
 use Rattle.tape_base.specs.Piece.{is_vector}
-use Rattle.tape_base.specs.Place.{lap_end_of, reach_of}
+use Rattle.tape_base.specs.Place.{lap_end_of}
 use Rattle.alternate_vector.specs.Alternates.{Stored}
 use Rattle.cache_model.specs.declared.findings.FoundRow.{FoundRow}
 use Rattle.cache_model.specs.declared.record.Rec.{Rec}

@@ -8,7 +8,7 @@ use Rattle.cache_model.specs.declared.record.Rec.{Rec}
 use Rattle.cache_model.specs.declared.record.Rec.TheVariants as rec
 use Rattle.cache_model.specs.State.{State, Row, after_all, cursor_next, floor_next, place_now, state_after}
 use Rattle.cache_model.specs.Permit.{Permit}
-use Rattle.cache_model.specs.Given.{IsDamaged, IsGiven, IsWritten, MayCount, damage_record}
+use Rattle.cache_model.specs.Given.{CountsRead, IsDamaged, IsGiven, IsWritten, damage_record}
 
 -- what comes of one piece that is due: it is copied, or why not
 pub data Outcome : Type 0 where
@@ -44,7 +44,7 @@ abbrev pub IsOutcome : Permit → State → ℕ → Row → Outcome → Type 0
 IsOutcome p s left row NoRoom = left < row.blocks
 IsOutcome p s left row (Copied bytes) = (row.blocks ≤ left) × IsGiven p s row bytes × (row.digest ≡ document_digest bytes)
 IsOutcome p s left row (Spoiled found) = (row.blocks ≤ left) × IsDamaged p s row found
-IsOutcome p s left row (Refused count) = (row.blocks ≤ left) × IsWritten s row × MayCount p s count
+IsOutcome p s left row (Refused count) = (row.blocks ≤ left) × IsWritten s row × CountsRead p s row count
 
 -- one behind the other, each behind the records of those before it
 abbrev pub AreOutcomes : Permit → State → ℕ → List Row → List Outcome → Type 0

@@ -1,6 +1,7 @@
 -- What a step is about: what it is asked to do, how each ask ends, and what the device did in it.
 use Rattle.std.specs.Prelude.{ℕ, ◌≡◌, ◌⊎◌, Bool, true, false, List, [], ◌∷◌, filter, Option, Some, None}
 use Rattle.tape_base.specs.declared.keys.Key.{Key}
+use Rattle.device_log.specs.Calls.{Call}
 use Rattle.alternate_vector.specs.Field.{Field}
 
 -- what a step is asked to do, one after the other
@@ -73,19 +74,13 @@ work_after i rest why Stays = record { intents = i ∷ rest; refused = why }
 work_after i rest why Done = record { intents = rest; refused = why }
 work_after i rest why (Fails reason) = record { intents = filter is_cleanup rest; refused = Some reason }
 
--- bytes that the device gave at a place
-pub record DeviceRead : Type 0 where
-  pub place : ℕ
-  pub bytes : List ℕ
-
--- whether the directory displaces entries, the moment that pins are weighed by, the device's count of faults
--- before the step and at its end, and what the device gave in it
+-- whether the directory displaces entries, the moment that pins are weighed by, the block at which the device's content
+-- area begins, and the calls that the device made in the step, the newest first
 pub record Permit : Type 0 where
   pub packed : Bool
   pub now : ℕ
-  pub faults_before : ℕ
-  pub faults : ℕ
-  pub reads : List DeviceRead
+  pub area : ℕ
+  pub events : List Call
 
 -- the value stands in the list, once or more often
 abbrev pub IsAmong : {X : Type 0} → X → List X → Type 0

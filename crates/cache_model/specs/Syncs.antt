@@ -1,5 +1,5 @@
 -- Which syncs of a session may be found behind it, and what an opening takes up of them.
-use Rattle.std.specs.Prelude.{ℕ, ◌≡◌, ◌≤◌}
+use Rattle.std.specs.Prelude.{◌≡◌, ◌≤◌}
 use Rattle.cache_model.specs.Opening.{Opening}
 use Rattle.cache_model.specs.Permit.{IsAmong}
 use Rattle.cache_model.specs.State.{State, Mark, mark_of_opening}
