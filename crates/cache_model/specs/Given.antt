@@ -1,6 +1,6 @@
 -- What the device did in a step, by the calls in its log: what it gave for a piece, took or refused; what is damaged, and
 -- the trouble with a piece that is asked for.
-use Rattle.std.specs.Prelude.{ℕ, ◌≡◌, ◌≢◌, ◌+◌, ◌-◌, ◌*◌, ◌<◌, ◌≤◌, List, [], ◌∷◌, ◌++◌, length, take, drop, Option, Some, None}
+use Rattle.std.specs.Prelude.{ℕ, ◌≡◌, ◌≢◌, ◌+◌, ◌-◌, ◌*◌, ◌/◌, ◌<◌, ◌≤◌, List, [], ◌∷◌, ◌++◌, length, take, drop, Option, Some, None}
 use Rattle.std.specs.List.{AllByRecursion}
 use Rattle.hex.specs.Hex.{IsBytes}
 use Rattle.edge_io.specs.Causes.{Rose}
@@ -43,7 +43,7 @@ bytes_from s bytes row = take (512 * row.blocks) (drop (512 * (row.place - s.cur
 pub record TakesBuffer (p : Permit) (s : State) : Type 0 where
   pub bytes : List ℕ
   pub written : IsAmong (Wrote (block_at p s s.cursor) bytes) p.events
-  pub whole : length bytes ≡ 512 * s.filled
+  pub whole : length bytes / 512 ≡ s.filled
   pub holds : AllByRecursion (λ (row : Row). s.cursor ≤ row.place → document_digest (bytes_from s bytes row) ≡ row.digest) s.rows
 
 -- ---- one fault record for each call that failed

@@ -11,8 +11,8 @@ use Rattle.cache_model.specs.Legal.{IsQuiet, is_writing}
 use Rattle.stripe_core.specs.declared.stripe.Stripe.{Stripe}
 use Rattle.stripe_core.specs.declared.refusal.Refusal.{Refusal}
 use Rattle.stripe_core.specs.Stripe.{IsStripe, kept_in, seen_in, state_in}
-use Rattle.stripe_core.specs.Unharmed.{StaysUnharmed}
-use Rattle.stripe_core.proofs.Unharmed.{stays_unharmed-trans}
+use Rattle.stripe_core.specs.Between.{Between}
+use Rattle.stripe_core.proofs.Between.{between-trans}
 use Rattle.stripe_write.specs.declared.writer.Writer.{Writer}
 use Rattle.stripe_write.specs.Writers.{IsWriterOf}
 use Rattle.stripe_write.specs.Writes.{SameWriter, WritesAsAsked, WritesWhere}
@@ -34,7 +34,7 @@ pub record Turned {D R C : Type 0} (disk : DiskGhosts D) (directory : DirectoryG
   pub writing : is_writing (state_in chronicle now) v.put ≡ true
   pub within : taken ≤ length bytes
   pub later : (seen_in disk directory first).device.faults ≤ (seen_in disk directory now).device.faults
-  pub unharmed : StaysUnharmed disk directory chronicle first now
+  pub unharmed : Between disk directory chronicle first now
   pub onward : Onward moment (seen_in disk directory first).device.faults (seen_in disk directory now).device.faults (kept_in chronicle first) (kept_in chronicle now) w v bytes taken
 
 -- a write that left bytes over
@@ -118,7 +118,7 @@ module _ {D R C : Type 0} (disk : DiskGhosts D) (directory : DirectoryGhosts R) 
       no_more k = omega arith
 
   pub goes_on : (n : ℕ) → Writes n → (taken + n ≡ length bytes → ⊥) → IsStripe disk directory chronicle next → IsQuiet (state_in chronicle next) → mid ≤ after.faults
-      → StaysUnharmed disk directory chronicle now next → Turned disk directory chronicle moment first next w u bytes (taken + n)
+      → Between disk directory chronicle now next → Turned disk directory chronicle moment first next w u bytes (taken + n)
   goes_on n h other stripe quiet later stays =
       let some : n < length left = leaves_some n h other in
       let cut = cut_or_all moment mid after (kept_in chronicle now) (kept_in chronicle next) v u left n h some in
@@ -130,6 +130,6 @@ module _ {D R C : Type 0} (disk : DiskGhosts D) (directory : DirectoryGhosts R) 
         writing = subst (λ q. is_writing (state_in chronicle next) q ≡ true) (sym h.gathers.put) c.stands.writing;
         within = bounds n h;
         later = let earlier : before ≤ mid = turned.later in omega (arith, earlier, later);
-        unharmed = stays_unharmed-trans _ _ _ _ _ _ turned.unharmed stays;
+        unharmed = between-trans _ _ _ _ _ _ turned.unharmed stays;
         onward = one_more moment before mid after (kept_in chronicle first) (kept_in chronicle now) (kept_in chronicle next) w v u bytes taken n later some h turned.onward;
       }

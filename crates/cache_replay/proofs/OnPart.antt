@@ -7,7 +7,7 @@ use Rattle.dir_table.specs.declared.directory.Directory.{Ghosts as DirectoryGhos
 use Rattle.cache_chronicle.specs.declared.chronicle.Chronicle.{Ghosts as ChronicleGhosts}
 use Rattle.cache_model.specs.State.{State, after_all}
 use Rattle.stripe_core.specs.Stripe.{seen_in, state_in}
-use Rattle.stripe_core.specs.Unharmed.{StaysUnharmed}
+use Rattle.stripe_core.specs.Between.{Between}
 use Rattle.script_lang.specs.declared.step.Step.{Step}
 use Rattle.script_lang.specs.declared.answer.StepAnswer.{StepAnswer}
 use Rattle.script_run.specs.Run.{Run}
@@ -35,7 +35,7 @@ module _ {D R C : Type 0} (disk : DiskGhosts D) (directory : DirectoryGhosts R) 
 
   -- it did what it must, and no more pieces were told as damaged
   pub line_moved : (run : Run) (old new : Session D R C) (before after : Part D R C) (step : Step) (said : StepAnswer) (turn : Turn) → IsOnSession step
-      → old.part ≡ Some before → new.part ≡ Some after → new.now ≡ old.now → Plays disk directory chronicle run old → StaysUnharmed disk directory chronicle before.stripe after.stripe
+      → old.part ≡ Some before → new.part ≡ Some after → new.now ≡ old.now → Plays disk directory chronicle run old → Between disk directory chronicle before.stripe after.stripe
       → SessionTakes run (state_in chronicle before.stripe) turn step
       → PlaysPart chronicle (in_session run (state_in chronicle before.stripe) (after_all (state_in chronicle before.stripe) turn.added) turn step) after new.actors
       → session_said run (state_in chronicle before.stripe) (after_all (state_in chronicle before.stripe) turn.added) turn step ≡ said
@@ -64,7 +64,7 @@ module _ {D R C : Type 0} (disk : DiskGhosts D) (directory : DirectoryGhosts R) 
   line_shows run old before step was plays shown = subst (λ o. ShowsIn run o step) (sym (part_plays run old before was plays).at.state) shown
 
   line_ends : (run : Run) (old new : Session D R C) (before after : Part D R C) (step : Step) (said : StepAnswer) → IsOnSession step → old.part ≡ Some before → new.part ≡ Some after → new.now ≡ old.now → Plays disk directory chronicle run old
-      → StaysUnharmed disk directory chronicle before.stripe after.stripe ⊎ ShowsIn run (Some (state_in chronicle before.stripe)) step
+      → Between disk directory chronicle before.stripe after.stripe ⊎ ShowsIn run (Some (state_in chronicle before.stripe)) step
       → PartEnds chronicle run (state_in chronicle before.stripe) step after new.actors said → StepEnds disk directory chronicle run step new said
   line_ends run old new before after step said on was is kept plays (inr shown) ends = inr (line_shows run old before step was plays shown)
   line_ends run old new before after step said on was is kept plays (inl stays) (inr shown) = inr (line_shows run old before step was plays shown)
@@ -73,7 +73,7 @@ module _ {D R C : Type 0} (disk : DiskGhosts D) (directory : DirectoryGhosts R) 
   -- whatever it answers
   pub line_answers : (old new : Session D R C) (before after : Part D R C) (step : Step) (result : Result StepAnswer Stop) → IsOnSession step → old.part ≡ Some before → new.part ≡ Some after → new.now ≡ old.now
       → ((run : Run) → PlaysPart chronicle run before old.actors
-      → StaysUnharmed disk directory chronicle before.stripe after.stripe ⊎ ShowsIn run (Some (state_in chronicle before.stripe)) step)
+      → Between disk directory chronicle before.stripe after.stripe ⊎ ShowsIn run (Some (state_in chronicle before.stripe)) step)
       → IfOk result (λ said. (run : Run) → PlaysPart chronicle run before old.actors → PartEnds chronicle run (state_in chronicle before.stripe) step after new.actors said)
       → IfOk result (λ said. (run : Run) → Plays disk directory chronicle run old → StepEnds disk directory chronicle run step new said)
   line_answers old new before after step (Ok said) on was is kept harms ends = λ run plays.
@@ -83,7 +83,7 @@ module _ {D R C : Type 0} (disk : DiskGhosts D) (directory : DirectoryGhosts R) 
 
   -- one that does so at the session's moment
   pub moment_answers : (old new : Session D R C) (before after : Part D R C) (step : Step) (result : Result StepAnswer Stop) → IsOnSession step → old.part ≡ Some before → new.part ≡ Some after → new.now ≡ old.now
-      → StaysUnharmed disk directory chronicle before.stripe after.stripe
+      → Between disk directory chronicle before.stripe after.stripe
       → IfOk result (λ said. (run : Run) → run.now ≡ old.now → PlaysPart chronicle run before old.actors → PartEnds chronicle run (state_in chronicle before.stripe) step after new.actors said)
       → IfOk result (λ said. (run : Run) → Plays disk directory chronicle run old → StepEnds disk directory chronicle run step new said)
   moment_answers old new before after step (Ok said) on was is kept stays ends = λ run plays.

@@ -11,7 +11,7 @@ use Rattle.cache_model.specs.Tape.{IsSound}
 use Rattle.cache_model.specs.Vectors.{AreTold}
 use Rattle.model_laws.specs.VectorLaws.{StepsTell}
 use Rattle.stripe_core.specs.Stripe.{state_in}
-use Rattle.stripe_core.specs.Unharmed.{StaysUnharmed}
+use Rattle.stripe_core.specs.Between.{Between}
 use Rattle.script_lang.specs.declared.step.Step.{Step}
 use Rattle.script_lang.specs.declared.step.Step.TheVariants as step
 use Rattle.script_lang.specs.declared.answer.StepAnswer.{StepAnswer}
@@ -133,7 +133,7 @@ module _ {D R C : Type 0} (disk : DiskGhosts D) (directory : DirectoryGhosts R) 
   -- what a removal or a flush is for a session
   pub line_plays : (run : Run) (session new : Session D R C) (old part : Part D R C) → session.part ≡ Some old → new.part ≡ Some part
       → names_in new ≡ names_in session → new.now ≡ session.now → ((n : ℕ) → slots_in new n ≡ slots_in session n)
-      → LeavesBut None None (state_in chronicle old.stripe) (state_in chronicle part.stripe) → StaysUnharmed disk directory chronicle old.stripe part.stripe → Plays disk directory chronicle run session
+      → LeavesBut None None (state_in chronicle old.stripe) (state_in chronicle part.stripe) → Between disk directory chronicle old.stripe part.stripe → Plays disk directory chronicle run session
       → (later : Run) → later.actors ≡ run.actors → later.now ≡ run.now → later.streams ≡ run.streams → later.held ≡ run.held → later.state ≡ Some (state_in chronicle part.stripe)
       → AreTold (state_in chronicle part.stripe) → AreOwn (state_in chronicle part.stripe) run.streams → Plays disk directory chronicle later new
   line_plays run session new old part is now names kept slots leaves stays plays later actors moment streams held state told owned =
@@ -197,7 +197,7 @@ at_moment step s t moment (Err why) ends = tt
 module _ {D R C : Type 0} (disk : DiskGhosts D) (directory : DirectoryGhosts R) (chronicle : ChronicleGhosts C) where
   plain_ends : (tell : StepsTell) (owns : StepsOwn) (session new : Session D R C) (old part : Part D R C) (step : Step) (said : StepAnswer) → IsPlain step → session.part ≡ Some old → new.part ≡ Some part
       → names_in new ≡ names_in session → new.now ≡ session.now → ((n : ℕ) → slots_in new n ≡ slots_in session n) → LeavesBut None None (state_in chronicle old.stripe) (state_in chronicle part.stripe)
-      → StaysUnharmed disk directory chronicle old.stripe part.stripe → IsSession disk directory chronicle session
+      → Between disk directory chronicle old.stripe part.stripe → IsSession disk directory chronicle session
       → ((run : Run) → run.now ≡ session.now → Plainly run step (state_in chronicle old.stripe) (state_in chronicle part.stripe) said)
       → (run : Run) → Plays disk directory chronicle run session → StepEnds disk directory chronicle run step new said
   plain_ends tell owns session new old part step said plain is now names kept slots leaves stays h ends run plays =
@@ -218,7 +218,7 @@ module _ {D R C : Type 0} (disk : DiskGhosts D) (directory : DirectoryGhosts R) 
 
   pub line_ends : (tell : StepsTell) (owns : StepsOwn) (session new : Session D R C) (old part : Part D R C) (step : Step) (result : Result StepAnswer Stop) → IsPlain step → session.part ≡ Some old → new.part ≡ Some part
       → names_in new ≡ names_in session → new.now ≡ session.now → ((n : ℕ) → slots_in new n ≡ slots_in session n) → LeavesBut None None (state_in chronicle old.stripe) (state_in chronicle part.stripe)
-      → StaysUnharmed disk directory chronicle old.stripe part.stripe → IsSession disk directory chronicle session
+      → Between disk directory chronicle old.stripe part.stripe → IsSession disk directory chronicle session
       → IfOk result (λ said. (run : Run) → run.now ≡ session.now → Plainly run step (state_in chronicle old.stripe) (state_in chronicle part.stripe) said)
       → IfOk result (λ said. (run : Run) → Plays disk directory chronicle run session → StepEnds disk directory chronicle run step new said)
   line_ends tell owns session new old part step (Ok said) plain is now names kept slots leaves stays h ends = plain_ends tell owns session new old part step said plain is now names kept slots leaves stays h ends

@@ -12,8 +12,8 @@ use Rattle.cache_model.specs.ToRead.{to_read, IsToRead}
 use Rattle.cache_model.specs.Pair.{IsPairOf}
 use Rattle.cache_model.specs.Vectors.{AreTold}
 use Rattle.stripe_core.specs.Covers.{Covers}
-use Rattle.stripe_core.specs.Unharmed.{StayUnharmed}
-use Rattle.stripe_core.proofs.Unharmed.{stays_unharmed-trans}
+use Rattle.stripe_core.specs.Between.{IsBetween}
+use Rattle.stripe_core.proofs.Between.{between-trans}
 use Rattle.stripe_read.specs.declared.reader.Reader.{Reader}
 use Rattle.stripe_read.specs.Readers.{IsReaderOf, row_by}
 use Rattle.stripe_read.specs.Nexts.{IsOtherNext}
@@ -30,8 +30,8 @@ use Rattle.cache_replay.proofs.Frames.{some_is}
 -- ---- one call behind another
 
 -- behind both no more pieces are told as damaged, or one of them shows
-pub stays_then : {X : Type 0} {a b c : Device} {s t u : State} → StayUnharmed a b s t ⊎ X → StayUnharmed b c t u ⊎ X → StayUnharmed a c s u ⊎ X
-stays_then {a = a} {b = b} {c = c} {s = s} {t = t} {u = u} (inl first) (inl next) = inl (stays_unharmed-trans a b c s t u first next)
+pub stays_then : {X : Type 0} {a b c : Device} {s t u : State} → IsBetween a b s t ⊎ X → IsBetween b c t u ⊎ X → IsBetween a c s u ⊎ X
+stays_then {a = a} {b = b} {c = c} {s = s} {t = t} {u = u} (inl first) (inl next) = inl (between-trans a b c s t u first next)
 stays_then (inl first) (inr shows) = inr shows
 stays_then (inr shows) next = inr shows
 

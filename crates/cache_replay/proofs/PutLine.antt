@@ -15,7 +15,7 @@ use Rattle.model_laws.specs.VectorLaws.{StepsTell}
 use Rattle.stripe_core.specs.declared.refusal.Refusal.{Refusal}
 use Rattle.stripe_core.specs.declared.refusal.Refusal.TheVariants as refusal
 use Rattle.stripe_core.specs.Stripe.{state_in}
-use Rattle.stripe_core.specs.Unharmed.{StaysUnharmed}
+use Rattle.stripe_core.specs.Between.{Between}
 use Rattle.stripe_write.specs.declared.finishing.Receipt.{Receipt}
 use Rattle.stripe_write.proofs.Spending.{state_behind}
 use Rattle.script_lang.specs.declared.step.Step.TheVariants as step
@@ -120,7 +120,7 @@ module _ {D R C : Type 0} (disk : DiskGhosts D) (directory : DirectoryGhosts R) 
 
   put_moves : (tell : StepsTell) (owns : StepsOwn) (session new : Session D R C) (old part : Part D R C) (key : Key) (body : List ℕ) (request response : List Field) (said : StepAnswer) → session.part ≡ Some old → new.part ≡ Some part
       → names_in new ≡ names_in session → new.now ≡ session.now → slots_in new ≡ slots_in session → LeavesBut (Some (state_in chronicle old.stripe).next_put) None (state_in chronicle old.stripe) (state_in chronicle part.stripe)
-      → StaysUnharmed disk directory chronicle old.stripe part.stripe → IsSession disk directory chronicle session
+      → Between disk directory chronicle old.stripe part.stripe → IsSession disk directory chronicle session
       → ((run : Run) → run.now ≡ session.now → AreTold (state_in chronicle old.stripe) → Ends run (state_in chronicle old.stripe) (state_in chronicle part.stripe) key body request response said)
       → (run : Run) → Plays disk directory chronicle run session → StepEnds disk directory chronicle run (step.Put key body request response) new said
   put_moves tell owns session new old part key body request response said is now names kept slots leaves stays h ends run plays =
@@ -147,7 +147,7 @@ module _ {D R C : Type 0} (disk : DiskGhosts D) (directory : DirectoryGhosts R) 
 
   pub put_ends : (tell : StepsTell) (owns : StepsOwn) (session new : Session D R C) (old part : Part D R C) (key : Key) (body : List ℕ) (request response : List Field) (result : Result StepAnswer Stop) → session.part ≡ Some old → new.part ≡ Some part
       → names_in new ≡ names_in session → new.now ≡ session.now → slots_in new ≡ slots_in session → LeavesBut (Some (state_in chronicle old.stripe).next_put) None (state_in chronicle old.stripe) (state_in chronicle part.stripe)
-      → StaysUnharmed disk directory chronicle old.stripe part.stripe → IsSession disk directory chronicle session
+      → Between disk directory chronicle old.stripe part.stripe → IsSession disk directory chronicle session
       → IfOk result (λ said. (run : Run) → run.now ≡ session.now → AreTold (state_in chronicle old.stripe) → Ends run (state_in chronicle old.stripe) (state_in chronicle part.stripe) key body request response said)
       → IfOk result (λ said. (run : Run) → Plays disk directory chronicle run session → StepEnds disk directory chronicle run (step.Put key body request response) new said)
   put_ends tell owns session new old part key body request response (Ok said) is now names kept slots leaves stays h ends = put_moves tell owns session new old part key body request response said is now names kept slots leaves stays h ends

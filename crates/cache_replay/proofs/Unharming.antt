@@ -8,7 +8,8 @@ use Rattle.dir_table.specs.declared.directory.Directory.{Ghosts as DirectoryGhos
 use Rattle.cache_chronicle.specs.declared.chronicle.Chronicle.{Ghosts as ChronicleGhosts}
 use Rattle.cache_model.specs.State.{State}
 use Rattle.stripe_core.specs.Stripe.{seen_in, state_in}
-use Rattle.stripe_core.specs.Unharmed.{IsUnharmed, StaysUnharmed}
+use Rattle.stripe_core.specs.Unharmed.{IsUnharmed}
+use Rattle.stripe_core.specs.Between.{Between}
 use Rattle.script_run.specs.Run.{Run}
 use Rattle.script_run.specs.Behind.{harm_in, harm_of}
 use Rattle.cache_replay.specs.declared.session.Session.{Session}
@@ -40,7 +41,7 @@ module _ {D R C : Type 0} (disk : DiskGhosts D) (directory : DirectoryGhosts R) 
   -- ---- the device of a part
 
   -- behind a call on it
-  pub part_unharmed : (old new : Part D R C) → StaysUnharmed disk directory chronicle old.stripe new.stripe → IsUnharmedAt disk directory chronicle (Some old) → IsUnharmedAt disk directory chronicle (Some new)
+  pub part_unharmed : (old new : Part D R C) → Between disk directory chronicle old.stripe new.stripe → IsUnharmedAt disk directory chronicle (Some old) → IsUnharmedAt disk directory chronicle (Some new)
   part_unharmed old new stays h = stays.unharmed h
 
   -- behind a call on it of which nothing is told
@@ -56,7 +57,7 @@ module _ {D R C : Type 0} (disk : DiskGhosts D) (directory : DirectoryGhosts R) 
   unharmed_in session part is h = subst (λ o. IsUnharmedAt disk directory chronicle o) is h
 
   -- behind a line that is one call on its part
-  pub session_unharmed : (old new : Session D R C) (before after : Part D R C) → old.part ≡ Some before → new.part ≡ Some after → StaysUnharmed disk directory chronicle before.stripe after.stripe
+  pub session_unharmed : (old new : Session D R C) (before after : Part D R C) → old.part ≡ Some before → new.part ≡ Some after → Between disk directory chronicle before.stripe after.stripe
       → IsUnharmedAt disk directory chronicle old.part → IsUnharmedAt disk directory chronicle new.part
   session_unharmed old new before after was is stays h =
       subst (λ o. IsUnharmedAt disk directory chronicle o) (sym is) (part_unharmed before after stays (unharmed_in old before was h))

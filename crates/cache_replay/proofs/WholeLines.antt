@@ -20,7 +20,7 @@ use Rattle.cache_model.proofs.Steps.{after_all-append}
 use Rattle.std.specs.Vec.{with_items}
 use Rattle.stripe_core.specs.declared.stripe.Stripe.{Stripe}
 use Rattle.stripe_core.specs.Stripe.{IsStripe, state_in}
-use Rattle.stripe_core.specs.Unharmed.{StaysUnharmed}
+use Rattle.stripe_core.specs.Between.{Between}
 use Rattle.stripe_read.specs.Readers.{IsOpenReader}
 use Rattle.stripe_write.proofs.Spending.{state_behind}
 use Rattle.script_lang.specs.declared.step.Step.{Step}
@@ -178,7 +178,7 @@ module _ {D R C : Type 0} (disk : DiskGhosts D) (directory : DirectoryGhosts R) 
   pub session_ends : (run : Run) (old new : Session D R C) (part part2 : Part D R C) (key : Key) (request : List Field) (said : StepAnswer) → old.part ≡ Some part → new.part ≡ Some part2 → names_in new ≡ names_in old → new.now ≡ old.now
       → ((m : ℕ) → slots_in new m ≡ slots_in old m) → Plays disk directory chronicle run old → IsActive disk directory chronicle part (slots_in old)
       → ((run : Run) → AreTold (state_in chronicle part.stripe) → AreOwn (state_in chronicle part.stripe) run.streams
-      → StaysUnharmed disk directory chronicle part.stripe part2.stripe ⊎ ShowsAt (IsPlacedAs run.streams) run.now (state_in chronicle part.stripe) (get_intents (state_in chronicle part.stripe) key request))
+      → Between disk directory chronicle part.stripe part2.stripe ⊎ ShowsAt (IsPlacedAs run.streams) run.now (state_in chronicle part.stripe) (get_intents (state_in chronicle part.stripe) key request))
       → ((slots : ℕ → Option Holding) → AreHeld (state_in chronicle part.stripe) slots → PlaysIn run (state_in chronicle part.stripe) slots → LineEnds run (state_in chronicle part.stripe) (state_in chronicle part2.stripe) key request slots said)
       → StepEnds disk directory chronicle run (step.Get key request) new said
   session_ends run old new part part2 key request said was is names kept slots plays active harms ends =

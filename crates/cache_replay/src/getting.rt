@@ -7,7 +7,7 @@ ghost use Rattle.cache_model.specs.Permit.{StopReading};
 ghost use Rattle.cache_model.specs.Vectors.{AreTold};
 ghost use Rattle.logged_disk.specs.Device.{IsAfter};
 ghost use Rattle.stripe_core.specs.Stripe.{IsStripe, kept_in, seen_in, state_in};
-ghost use Rattle.stripe_core.specs.Unharmed.{StaysUnharmed};
+ghost use Rattle.stripe_core.specs.Between.{Between};
 ghost use Rattle.stripe_read.specs.Readers.{IsOpenReader};
 ghost use Rattle.script_lang.specs.declared.answer.StepAnswer.{StepAnswer};
 ghost use Rattle.script_lang.specs.declared.step.Step.TheVariants as step;
@@ -74,7 +74,7 @@ pub(crate) fn get<D: Disk, R: Directory + Drop, C: Chronicle>(
         → count_in (got_answer got) ≤ (seen_in D.Disk R.Directory stripe.new).device.faults) }
     ensures later { (seen_in D.Disk R.Directory stripe.old).device.faults ≤ (seen_in D.Disk R.Directory stripe.new).device.faults }
     ensures unharmed { (run : Run) → AreTold (state_in C.Chronicle stripe.old) → AreOwn (state_in C.Chronicle stripe.old) run.streams
-        → StaysUnharmed D.Disk R.Directory C.Chronicle stripe.old stripe.new ⊎ ShowsAt (IsPlacedAs run.streams) run.now (state_in C.Chronicle stripe.old) (get_intents (state_in C.Chronicle stripe.old) key request) }
+        → Between D.Disk R.Directory C.Chronicle stripe.old stripe.new ⊎ ShowsAt (IsPlacedAs run.streams) run.now (state_in C.Chronicle stripe.old) (get_intents (state_in C.Chronicle stripe.old) key request) }
     ensures goes { IsAfter (seen_in D.Disk R.Directory stripe.old).device (seen_in D.Disk R.Directory stripe.new).device }
 {
     reads_own();
@@ -111,7 +111,7 @@ fn read_whole<D: Disk, R: Directory + Drop, C: Chronicle>(
         → count_in (got_answer got) ≤ (seen_in D.Disk R.Directory stripe.new).device.faults) }
     ensures later { (seen_in D.Disk R.Directory stripe.old).device.faults ≤ (seen_in D.Disk R.Directory stripe.new).device.faults }
     ensures unharmed { (b : Began) (run : Run) → IsUnderway b (seen_in D.Disk R.Directory stripe.old).device.faults (kept_in C.Chronicle stripe.old) reader []
-        → AreTold (state_of b.kept) → AreOwn (state_of b.kept) run.streams → StaysUnharmed D.Disk R.Directory C.Chronicle stripe.old stripe.new ⊎ ShowsAt (IsPlacedAs run.streams) run.now (state_of b.kept) b.asks }
+        → AreTold (state_of b.kept) → AreOwn (state_of b.kept) run.streams → Between D.Disk R.Directory C.Chronicle stripe.old stripe.new ⊎ ShowsAt (IsPlacedAs run.streams) run.now (state_of b.kept) b.asks }
     ensures goes { IsAfter (seen_in D.Disk R.Directory stripe.old).device (seen_in D.Disk R.Directory stripe.new).device }
 {
     let mut reader = reader;
@@ -149,7 +149,7 @@ fn read_to_end<D: Disk, R: Directory + Drop, C: Chronicle>(
         → count_in (got_answer got) ≤ (seen_in D.Disk R.Directory stripe.new).device.faults) }
     ensures later { (seen_in D.Disk R.Directory stripe.old).device.faults ≤ (seen_in D.Disk R.Directory stripe.new).device.faults }
     ensures unharmed { (b : Began) (run : Run) → IsUnderway b (seen_in D.Disk R.Directory stripe.old).device.faults (kept_in C.Chronicle stripe.old) reader.old []
-        → AreTold (state_of b.kept) → AreOwn (state_of b.kept) run.streams → StaysUnharmed D.Disk R.Directory C.Chronicle stripe.old stripe.new ⊎ ShowsAt (IsPlacedAs run.streams) run.now (state_of b.kept) b.asks }
+        → AreTold (state_of b.kept) → AreOwn (state_of b.kept) run.streams → Between D.Disk R.Directory C.Chronicle stripe.old stripe.new ⊎ ShowsAt (IsPlacedAs run.streams) run.now (state_of b.kept) b.asks }
     ensures goes { IsAfter (seen_in D.Disk R.Directory stripe.old).device (seen_in D.Disk R.Directory stripe.new).device }
 {
     let mut body = Vec::new(alloc);
@@ -189,7 +189,7 @@ fn read_more<D: Disk, R: Directory + Drop, C: Chronicle>(
         → count_in_piece next ≤ (seen_in D.Disk R.Directory stripe.new).device.faults) }
     ensures later { (seen_in D.Disk R.Directory stripe.old).device.faults ≤ (seen_in D.Disk R.Directory stripe.new).device.faults }
     ensures unharmed { (b : Began) (run : Run) → IsUnderway b (seen_in D.Disk R.Directory stripe.old).device.faults (kept_in C.Chronicle stripe.old) reader.old body.old.items
-        → AreTold (state_of b.kept) → AreOwn (state_of b.kept) run.streams → StaysUnharmed D.Disk R.Directory C.Chronicle stripe.old stripe.new ⊎ ShowsAt (IsPlacedAs run.streams) run.now (state_of b.kept) b.asks }
+        → AreTold (state_of b.kept) → AreOwn (state_of b.kept) run.streams → Between D.Disk R.Directory C.Chronicle stripe.old stripe.new ⊎ ShowsAt (IsPlacedAs run.streams) run.now (state_of b.kept) b.asks }
     ensures goes { IsAfter (seen_in D.Disk R.Directory stripe.old).device (seen_in D.Disk R.Directory stripe.new).device }
 {
     read_is_own();
@@ -222,7 +222,7 @@ fn close<D: Disk, R: Directory + Drop, C: Chronicle>(
         → IsAnswered b (seen_in D.Disk R.Directory stripe.new).device.faults (kept_in C.Chronicle stripe.new) [] given said) }
     ensures leaves { LeavesBut None (Some reader.reader) (state_in C.Chronicle stripe.old) (state_in C.Chronicle stripe.new) }
     ensures later { (seen_in D.Disk R.Directory stripe.old).device.faults ≤ (seen_in D.Disk R.Directory stripe.new).device.faults }
-    ensures unharmed { StaysUnharmed D.Disk R.Directory C.Chronicle stripe.old stripe.new }
+    ensures unharmed { Between D.Disk R.Directory C.Chronicle stripe.old stripe.new }
 {
     match close_read(stripe, reader) {
         Ok(()) => Ok(()),
@@ -270,7 +270,7 @@ fn get_in_part<D: Disk, R: Directory + Drop, C: Chronicle>(
     ensures counts { IfOk result (TellsCount D.Disk R.Directory C.Chronicle (Some part.new)) }
     ensures later { (seen_in D.Disk R.Directory part.old.stripe).device.faults ≤ (seen_in D.Disk R.Directory part.new.stripe).device.faults }
     ensures unharmed { (run : Run) → AreTold (state_in C.Chronicle part.old.stripe) → AreOwn (state_in C.Chronicle part.old.stripe) run.streams
-        → StaysUnharmed D.Disk R.Directory C.Chronicle part.old.stripe part.new.stripe ⊎ ShowsAt (IsPlacedAs run.streams) run.now (state_in C.Chronicle part.old.stripe) (get_intents (state_in C.Chronicle part.old.stripe) key request) }
+        → Between D.Disk R.Directory C.Chronicle part.old.stripe part.new.stripe ⊎ ShowsAt (IsPlacedAs run.streams) run.now (state_in C.Chronicle part.old.stripe) (get_intents (state_in C.Chronicle part.old.stripe) key request) }
     ensures goes { IsAfter (seen_in D.Disk R.Directory part.old.stripe).device (seen_in D.Disk R.Directory part.new.stripe).device }
 {
     reads_own();

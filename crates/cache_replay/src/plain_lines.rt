@@ -2,7 +2,7 @@
 ghost use Rattle.std.specs.Prelude.{◌≡◌, ◌≤◌, Some, None, IfOk, IfErr};
 ghost use Rattle.script_lang.specs.declared.step.Step.TheVariants as step;
 ghost use Rattle.stripe_core.specs.Stripe.{seen_in, state_in};
-ghost use Rattle.stripe_core.specs.Unharmed.{StaysUnharmed};
+ghost use Rattle.stripe_core.specs.Between.{Between};
 ghost use Rattle.script_run.specs.Run.{Run};
 ghost use Rattle.cache_replay.specs.Session.{AreLater, IsPart, IsSession, LeavesBut, TellsCount, devices_of, names_in, return_of};
 ghost use Rattle.cache_replay.specs.Plays.{Plays, StepEnds};
@@ -56,7 +56,7 @@ fn remove_from<D: Disk, R: Directory + Drop, C: Chronicle>(
     ensures stop { IfErr result (λ stop. stop ≡ Stop.Memory) }
     ensures counts { IfOk result (TellsCount D.Disk R.Directory C.Chronicle (Some part.new)) }
     ensures later { (seen_in D.Disk R.Directory part.old.stripe).device.faults ≤ (seen_in D.Disk R.Directory part.new.stripe).device.faults }
-    ensures unharmed { StaysUnharmed D.Disk R.Directory C.Chronicle part.old.stripe part.new.stripe }
+    ensures unharmed { Between D.Disk R.Directory C.Chronicle part.old.stripe part.new.stripe }
 {
     match remove(&mut part.stripe, key) {
         Ok(Removal::Removed { put }) => Ok(StepAnswer::Removed { put }),
@@ -99,7 +99,7 @@ fn flush<D: Disk, R: Directory + Drop, C: Chronicle>(
     ensures stop { IfErr result (λ stop. stop ≡ Stop.Memory) }
     ensures counts { IfOk result (TellsCount D.Disk R.Directory C.Chronicle (Some part.new)) }
     ensures later { (seen_in D.Disk R.Directory part.old.stripe).device.faults ≤ (seen_in D.Disk R.Directory part.new.stripe).device.faults }
-    ensures unharmed { StaysUnharmed D.Disk R.Directory C.Chronicle part.old.stripe part.new.stripe }
+    ensures unharmed { Between D.Disk R.Directory C.Chronicle part.old.stripe part.new.stripe }
 {
     match part.stripe.flush(now) {
         Ok(flushed) => Ok(StepAnswer::Flushed {

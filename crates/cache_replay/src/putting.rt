@@ -2,7 +2,7 @@
 ghost use Rattle.std.specs.Prelude.{◌≡◌, ◌≤◌, Some, None, true, IfErr};
 ghost use Rattle.cache_model.specs.Legal.{IsQuiet, is_writing};
 ghost use Rattle.stripe_core.specs.Stripe.{IsStripe, kept_in, seen_in, state_in};
-ghost use Rattle.stripe_core.specs.Unharmed.{StaysUnharmed};
+ghost use Rattle.stripe_core.specs.Between.{Between};
 ghost use Rattle.stripe_write.specs.Others.{AddsOfPut};
 ghost use Rattle.stripe_write.specs.Writers.{IsWriterOf};
 ghost use Rattle.script_run.specs.Losses.{NoLossIsAFault};
@@ -39,7 +39,7 @@ pub(crate) fn put<D: Disk, R: Directory + Drop, C: Chronicle>(
     ensures counts { IfErr result (λ why. NoLossIsAFault (state_in C.Chronicle stripe.old)
         → count_of_refusal why ≤ (seen_in D.Disk R.Directory stripe.new).device.faults) }
     ensures later { (seen_in D.Disk R.Directory stripe.old).device.faults ≤ (seen_in D.Disk R.Directory stripe.new).device.faults }
-    ensures unharmed { StaysUnharmed D.Disk R.Directory C.Chronicle stripe.old stripe.new }
+    ensures unharmed { Between D.Disk R.Directory C.Chronicle stripe.old stripe.new }
 {
     // The laws tell that other puts and all readers stay, and that what the records keep may be kept when the
     // put is open.
@@ -71,7 +71,7 @@ fn put_open<D: Disk, R: Directory + Drop, C: Chronicle>(
     ensures counts { IfErr result (λ why. NoLossIsAFault (state_in C.Chronicle stripe.old)
         → count_of_refusal why ≤ (seen_in D.Disk R.Directory stripe.new).device.faults) }
     ensures later { (seen_in D.Disk R.Directory stripe.old).device.faults ≤ (seen_in D.Disk R.Directory stripe.new).device.faults }
-    ensures unharmed { StaysUnharmed D.Disk R.Directory C.Chronicle stripe.old stripe.new }
+    ensures unharmed { Between D.Disk R.Directory C.Chronicle stripe.old stripe.new }
 {
     let result = fill(stripe, writer, body, now);
     let end = abort_write(stripe, writer);
@@ -113,7 +113,7 @@ fn fill<D: Disk, R: Directory + Drop, C: Chronicle>(
     ensures counts { IfErr result (λ why. NoLossIsAFault (state_in C.Chronicle stripe.old)
         → count_of_refusal why ≤ (seen_in D.Disk R.Directory stripe.new).device.faults) }
     ensures later { (seen_in D.Disk R.Directory stripe.old).device.faults ≤ (seen_in D.Disk R.Directory stripe.new).device.faults }
-    ensures unharmed { StaysUnharmed D.Disk R.Directory C.Chronicle stripe.old stripe.new }
+    ensures unharmed { Between D.Disk R.Directory C.Chronicle stripe.old stripe.new }
 {
     match feed(stripe, writer, body, now).refused {
         None => close_write(stripe, writer, now),

@@ -5,7 +5,7 @@ ghost use Rattle.cache_model.specs.Legal.{IsQuiet};
 ghost use Rattle.cache_model.specs.Permit.{ReadOn};
 ghost use Rattle.logged_disk.specs.Device.{IsAfter};
 ghost use Rattle.stripe_core.specs.Stripe.{IsStripe, seen_in, state_in};
-ghost use Rattle.stripe_core.specs.Unharmed.{StaysUnharmed};
+ghost use Rattle.stripe_core.specs.Between.{Between};
 ghost use Rattle.stripe_read.specs.Readers.{IsOpenReader, IsReaderOf};
 ghost use Rattle.script_lang.specs.declared.step.Step.TheVariants as step;
 ghost use Rattle.script_lang.specs.declared.answer.StepAnswer.TheVariants as answer;
@@ -73,7 +73,7 @@ fn open_reader<D: Disk, R: Directory + Drop, C: Chronicle>(
     ensures active { IsActive D.Disk R.Directory C.Chronicle part.new (slots_of actors.new) }
     ensures ends { IfOk result (λ said. (run : Run) → PlaysPart C.Chronicle run part.old actors.old
         → PartEnds C.Chronicle run (state_in C.Chronicle part.old.stripe) (step.OpenRead actor.now key request) part.new actors.new said) }
-    ensures unharmed { StaysUnharmed D.Disk R.Directory C.Chronicle part.old.stripe part.new.stripe }
+    ensures unharmed { Between D.Disk R.Directory C.Chronicle part.old.stripe part.new.stripe }
     ensures stop { IfErr result (λ why. why ≡ stop.Memory) }
     ensures names { length actors.new.names ≤ length actors.old.names + 1 }
     ensures counts { IfOk result (TellsCount D.Disk R.Directory C.Chronicle (Some part.new)) }
@@ -156,7 +156,7 @@ fn next<D: Disk, R: Directory + Drop, C: Chronicle>(
     ensures ends { IfOk result (λ said. (run : Run) → PlaysPart C.Chronicle run part.old actors.old
         → PartEnds C.Chronicle run (state_in C.Chronicle part.old.stripe) (step.Next actor.now) part.new actors.new said) }
     ensures unharmed { (run : Run) → PlaysPart C.Chronicle run part.old actors.old
-        → StaysUnharmed D.Disk R.Directory C.Chronicle part.old.stripe part.new.stripe ⊎ ShowsIn run (Some (state_in C.Chronicle part.old.stripe)) (step.Next actor.now) }
+        → Between D.Disk R.Directory C.Chronicle part.old.stripe part.new.stripe ⊎ ShowsIn run (Some (state_in C.Chronicle part.old.stripe)) (step.Next actor.now) }
     ensures goes { IsAfter (seen_in D.Disk R.Directory part.old.stripe).device (seen_in D.Disk R.Directory part.new.stripe).device }
     ensures stop { IfErr result (λ why. why ≡ stop.Memory) }
     ensures names { length actors.new.names ≤ length actors.old.names + 1 }
@@ -191,7 +191,7 @@ fn read_on<D: Disk, R: Directory + Drop, C: Chronicle>(
     ensures ends { IfOk result (λ said. (run : Run) → AreOwn (state_in C.Chronicle part.old.stripe) run.streams → IsReaderOf (state_in C.Chronicle part.old.stripe) reader.old
         → NextEnds run (state_in C.Chronicle part.old.stripe) (state_in C.Chronicle part.new.stripe) reader.old reader.new said) }
     ensures unharmed { (run : Run) → AreOwn (state_in C.Chronicle part.old.stripe) run.streams → IsReaderOf (state_in C.Chronicle part.old.stripe) reader.old
-        → StaysUnharmed D.Disk R.Directory C.Chronicle part.old.stripe part.new.stripe ⊎ ShowsAt (IsPlacedAs run.streams) run.now (state_in C.Chronicle part.old.stripe) (ReadOn reader.old.reader ∷ []) }
+        → Between D.Disk R.Directory C.Chronicle part.old.stripe part.new.stripe ⊎ ShowsAt (IsPlacedAs run.streams) run.now (state_in C.Chronicle part.old.stripe) (ReadOn reader.old.reader ∷ []) }
     ensures goes { IsAfter (seen_in D.Disk R.Directory part.old.stripe).device (seen_in D.Disk R.Directory part.new.stripe).device }
     ensures stop { IfErr result (λ why. why ≡ stop.Memory) }
     ensures counts { IfOk result (TellsCount D.Disk R.Directory C.Chronicle (Some part.new)) }
@@ -218,7 +218,7 @@ fn read_to<D: Disk, R: Directory + Drop, C: Chronicle>(
     ensures ends { IfOk result (λ said. (run : Run) → AreOwn (state_in C.Chronicle stripe.old) run.streams → IsReaderOf (state_in C.Chronicle stripe.old) reader.old
         → NextEnds run (state_in C.Chronicle stripe.old) (state_in C.Chronicle stripe.new) reader.old reader.new said) }
     ensures unharmed { (run : Run) → AreOwn (state_in C.Chronicle stripe.old) run.streams → IsReaderOf (state_in C.Chronicle stripe.old) reader.old
-        → StaysUnharmed D.Disk R.Directory C.Chronicle stripe.old stripe.new ⊎ ShowsAt (IsPlacedAs run.streams) run.now (state_in C.Chronicle stripe.old) (ReadOn reader.old.reader ∷ []) }
+        → Between D.Disk R.Directory C.Chronicle stripe.old stripe.new ⊎ ShowsAt (IsPlacedAs run.streams) run.now (state_in C.Chronicle stripe.old) (ReadOn reader.old.reader ∷ []) }
     ensures goes { IsAfter (seen_in D.Disk R.Directory stripe.old).device (seen_in D.Disk R.Directory stripe.new).device }
     ensures stop { IfErr result (λ why. why ≡ stop.Memory) }
     ensures counts { IfOk result (λ said. NoLossIsAFault (state_in C.Chronicle stripe.old)
@@ -284,7 +284,7 @@ fn done<D: Disk, R: Directory + Drop, C: Chronicle>(
     ensures active { IsActive D.Disk R.Directory C.Chronicle part.new (slots_of actors.new) }
     ensures ends { IfOk result (λ said. (run : Run) → PlaysPart C.Chronicle run part.old actors.old
         → PartEnds C.Chronicle run (state_in C.Chronicle part.old.stripe) (step.Done actor.now) part.new actors.new said) }
-    ensures unharmed { StaysUnharmed D.Disk R.Directory C.Chronicle part.old.stripe part.new.stripe }
+    ensures unharmed { Between D.Disk R.Directory C.Chronicle part.old.stripe part.new.stripe }
     ensures stop { IfErr result (λ why. why ≡ stop.Memory) }
     ensures names { length actors.new.names ≤ length actors.old.names + 1 }
     ensures counts { IfOk result (TellsCount D.Disk R.Directory C.Chronicle (Some part.new)) }

@@ -2,7 +2,7 @@
 ghost use Rattle.std.specs.Prelude.{ℕ, ◌≡◌, ◌==◌, ◌+◌, ◌-◌, ◌^◌, ◌<◌, ◌≤◌, true, Some, None, length, if◌then◌else◌, IfOk, IfErr, IfSome};
 ghost use Rattle.cache_model.specs.Legal.{IsQuiet, is_writing};
 ghost use Rattle.stripe_core.specs.Stripe.{IsStripe, kept_in, seen_in, state_in};
-ghost use Rattle.stripe_core.specs.Unharmed.{StaysUnharmed};
+ghost use Rattle.stripe_core.specs.Between.{Between};
 ghost use Rattle.stripe_write.specs.Others.{AddsOfPut};
 ghost use Rattle.stripe_write.specs.Writers.{IsWriterOf};
 ghost use Rattle.script_lang.specs.declared.step.Step.TheVariants as step;
@@ -187,7 +187,7 @@ fn open_write_in<D: Disk, R: Directory + Drop, C: Chronicle>(
     ensures stop { IfErr result (λ why. why ≡ stop.Memory) }
     ensures counts { IfOk result (TellsCount D.Disk R.Directory C.Chronicle (Some part.new)) }
     ensures later { (seen_in D.Disk R.Directory part.old.stripe).device.faults ≤ (seen_in D.Disk R.Directory part.new.stripe).device.faults }
-    ensures unharmed { StaysUnharmed D.Disk R.Directory C.Chronicle part.old.stripe part.new.stripe }
+    ensures unharmed { Between D.Disk R.Directory C.Chronicle part.old.stripe part.new.stripe }
     ensures names { length actors.new.names ≤ length actors.old.names + 1 }
 {
     steps_own();
@@ -222,7 +222,7 @@ fn begin<D: Disk, R: Directory + Drop, C: Chronicle>(
     ensures counts { IfSome result.answer (λ said. NoLossIsAFault (state_in C.Chronicle stripe.old)
         → count_in said ≤ (seen_in D.Disk R.Directory stripe.new).device.faults) }
     ensures later { (seen_in D.Disk R.Directory stripe.old).device.faults ≤ (seen_in D.Disk R.Directory stripe.new).device.faults }
-    ensures unharmed { StaysUnharmed D.Disk R.Directory C.Chronicle stripe.old stripe.new }
+    ensures unharmed { Between D.Disk R.Directory C.Chronicle stripe.old stripe.new }
     ensures own { AddsOfPut (state_in C.Chronicle stripe.old).next_put (kept_in C.Chronicle stripe.old) (kept_in C.Chronicle stripe.new) }
     ensures left { IsLeft (state_in C.Chronicle stripe.new) (state_in C.Chronicle stripe.old).next_put result.left }
     ensures does { OpenDoes (state_in C.Chronicle stripe.old) (state_in C.Chronicle stripe.new) actor.0 (Opens key pin request response) result.left result.answer }
@@ -279,7 +279,7 @@ fn data_in<D: Disk, R: Directory + Drop, C: Chronicle>(
     ensures stop { IfErr result (λ why. why ≡ stop.Memory) }
     ensures counts { IfOk result (TellsCount D.Disk R.Directory C.Chronicle (Some part.new)) }
     ensures later { (seen_in D.Disk R.Directory part.old.stripe).device.faults ≤ (seen_in D.Disk R.Directory part.new.stripe).device.faults }
-    ensures unharmed { StaysUnharmed D.Disk R.Directory C.Chronicle part.old.stripe part.new.stripe }
+    ensures unharmed { Between D.Disk R.Directory C.Chronicle part.old.stripe part.new.stripe }
     ensures names { length actors.new.names ≤ length actors.old.names + 1 }
 {
     steps_own();
@@ -314,7 +314,7 @@ fn give_bytes<D: Disk, R: Directory + Drop, C: Chronicle>(
     ensures counts { IfSome result.answer (λ said. NoLossIsAFault (state_in C.Chronicle stripe.old)
         → count_in said ≤ (seen_in D.Disk R.Directory stripe.new).device.faults) }
     ensures later { (seen_in D.Disk R.Directory stripe.old).device.faults ≤ (seen_in D.Disk R.Directory stripe.new).device.faults }
-    ensures unharmed { StaysUnharmed D.Disk R.Directory C.Chronicle stripe.old stripe.new }
+    ensures unharmed { Between D.Disk R.Directory C.Chronicle stripe.old stripe.new }
     ensures own { AddsOfPut writer.put (kept_in C.Chronicle stripe.old) (kept_in C.Chronicle stripe.new) }
     ensures left { IsLeft (state_in C.Chronicle stripe.new) writer.put result.left }
     ensures does { WriterDoes now (state_in C.Chronicle stripe.old) (state_in C.Chronicle stripe.new) (Feeds body.now) writer result.left result.answer }
@@ -373,7 +373,7 @@ fn close_in<D: Disk, R: Directory + Drop, C: Chronicle>(
     ensures stop { IfErr result (λ why. why ≡ stop.Memory) }
     ensures counts { IfOk result (TellsCount D.Disk R.Directory C.Chronicle (Some part.new)) }
     ensures later { (seen_in D.Disk R.Directory part.old.stripe).device.faults ≤ (seen_in D.Disk R.Directory part.new.stripe).device.faults }
-    ensures unharmed { StaysUnharmed D.Disk R.Directory C.Chronicle part.old.stripe part.new.stripe }
+    ensures unharmed { Between D.Disk R.Directory C.Chronicle part.old.stripe part.new.stripe }
     ensures names { length actors.new.names ≤ length actors.old.names + 1 }
 {
     steps_own();
@@ -407,7 +407,7 @@ fn finish<D: Disk, R: Directory + Drop, C: Chronicle>(
     ensures counts { IfSome result.answer (λ said. NoLossIsAFault (state_in C.Chronicle stripe.old)
         → count_in said ≤ (seen_in D.Disk R.Directory stripe.new).device.faults) }
     ensures later { (seen_in D.Disk R.Directory stripe.old).device.faults ≤ (seen_in D.Disk R.Directory stripe.new).device.faults }
-    ensures unharmed { StaysUnharmed D.Disk R.Directory C.Chronicle stripe.old stripe.new }
+    ensures unharmed { Between D.Disk R.Directory C.Chronicle stripe.old stripe.new }
     ensures own { AddsOfPut writer.put (kept_in C.Chronicle stripe.old) (kept_in C.Chronicle stripe.new) }
     ensures left { IsLeft (state_in C.Chronicle stripe.new) writer.put result.left }
     ensures does { WriterDoes now (state_in C.Chronicle stripe.old) (state_in C.Chronicle stripe.new) Closes writer result.left result.answer }
@@ -456,7 +456,7 @@ fn abort_in<D: Disk, R: Directory + Drop, C: Chronicle>(
     ensures stop { IfErr result (λ why. why ≡ stop.Memory) }
     ensures counts { IfOk result (TellsCount D.Disk R.Directory C.Chronicle (Some part.new)) }
     ensures later { (seen_in D.Disk R.Directory part.old.stripe).device.faults ≤ (seen_in D.Disk R.Directory part.new.stripe).device.faults }
-    ensures unharmed { StaysUnharmed D.Disk R.Directory C.Chronicle part.old.stripe part.new.stripe }
+    ensures unharmed { Between D.Disk R.Directory C.Chronicle part.old.stripe part.new.stripe }
     ensures names { length actors.new.names ≤ length actors.old.names + 1 }
 {
     steps_own();
@@ -489,7 +489,7 @@ fn give_up<D: Disk, R: Directory + Drop, C: Chronicle>(
     ensures counts { IfSome result.answer (λ said. NoLossIsAFault (state_in C.Chronicle stripe.old)
         → count_in said ≤ (seen_in D.Disk R.Directory stripe.new).device.faults) }
     ensures later { (seen_in D.Disk R.Directory stripe.old).device.faults ≤ (seen_in D.Disk R.Directory stripe.new).device.faults }
-    ensures unharmed { StaysUnharmed D.Disk R.Directory C.Chronicle stripe.old stripe.new }
+    ensures unharmed { Between D.Disk R.Directory C.Chronicle stripe.old stripe.new }
     ensures own { AddsOfPut writer.put (kept_in C.Chronicle stripe.old) (kept_in C.Chronicle stripe.new) }
     ensures left { IsLeft (state_in C.Chronicle stripe.new) writer.put result.left }
     ensures does { (now : ℕ) → WriterDoes now (state_in C.Chronicle stripe.old) (state_in C.Chronicle stripe.new) GivesUp writer result.left result.answer }

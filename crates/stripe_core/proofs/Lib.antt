@@ -30,7 +30,7 @@ mod Doings
 mod Naming
 mod Asked
 mod Making
-pub mod Unharmed
+pub mod Between
 mod ReadAhead
 mod Noting
 pub mod OneMore

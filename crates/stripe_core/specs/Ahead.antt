@@ -4,13 +4,14 @@ use Rattle.tape_base.specs.declared.geometries.Geometry.{Geometry}
 use Rattle.tape_base.specs.Geometry.{budget_of}
 use Rattle.logged_disk.specs.Device.{State as Device, TellsAll}
 use Rattle.cache_model.specs.State.{Row, State}
-use Rattle.cache_model.specs.Permit.{DeviceRead, Permit}
+use Rattle.cache_model.specs.Permit.{Permit}
 use Rattle.cache_model.specs.Due.{due_pieces}
 use Rattle.cache_model.specs.Outcomes.{AreOutcomes, Copied, NoRoom, Outcome, Refused, Spoiled, front_of}
 use Rattle.stripe_due.specs.Finding.{candidates_of, most_passed}
 use Rattle.stripe_core.specs.declared.ahead.Ahead.{Ahead}
 use Rattle.stripe_core.specs.declared.ahead.Fate.{Fate}
 use Rattle.stripe_core.specs.declared.ahead.Fate.TheVariants as fate
+use Rattle.stripe_core.specs.Faults.{Refuses, counts_among}
 use Rattle.stripe_core.specs.Covers.{Covers}
 use Rattle.cache_model.specs.Damage.{TellNoDamage}
 
@@ -57,15 +58,14 @@ StandFrom at [] outcomes memory = Unit {0}
 StandFrom at (row ∷ rows) [] memory = Unit {0}
 StandFrom at (row ∷ rows) (o ∷ outcomes) memory = StandsAt at row o memory × StandFrom (at + taken_by row o) rows outcomes memory
 
--- what is due at a moment was looked at within the budget, over a device whose count stood at `before`,
--- and that stands so then
-pub record LooksAhead (now : ℕ) (s : State) (before : ℕ) (after : Device) (a : Ahead) : Type 0 where
+-- what is due at a moment was looked at within the budget, over a device at these two moments
+pub record LooksAhead (now : ℕ) (s : State) (before after : Device) (a : Ahead) : Type 0 where
   pub outcomes : List Outcome
-  pub reads : List DeviceRead
   pub due : a.due.items ≡ candidates_of s now
   pub few : length a.due.items ≤ most_passed s.geometry
   pub fates : AreFates (due_pieces s now) outcomes a.fates.items
   pub stand : StandFrom 0 (due_pieces s now) outcomes a.bytes.items
   -- a device that tells its content shows each piece as it was placed
   pub unharmed : TellsAll after → TellNoDamage (front_of (due_pieces s now) outcomes)
-  pub are : (p : Permit) → Covers p before after.faults reads → AreOutcomes p s (budget_of s.geometry) (due_pieces s now) outcomes
+  pub faults : Refuses before.past after.past (counts_among outcomes)
+  pub are : (p : Permit) → Covers p before.past after.past → AreOutcomes p s (budget_of s.geometry) (due_pieces s now) outcomes

@@ -1,28 +1,30 @@
 -- The steps in which a call may stand, and what a call uses up.
-use Rattle.std.specs.Prelude.{ℕ, ◌≡◌, ◌+◌, ◌/◌, ◌≤◌, false, List, ◌∷◌, length, Option}
+use Rattle.std.specs.Prelude.{ℕ, ◌≡◌, ◌+◌, ◌/◌, ◌≤◌, false, List, ◌∷◌, ◌++◌, length, Option}
 use Rattle.std.specs.List.{AllByRecursion}
-use Rattle.tape_base.specs.declared.geometries.Geometry.{Geometry}
-use Rattle.tape_base.specs.Place.{slot_of}
 use Rattle.device_log.specs.Image.{span}
+use Rattle.device_log.specs.Calls.{ToRead, ToWrite, ToSync, Call, Read, Wrote, Synced, RefusedCall, Told, PowerCut, Flipped}
 use Rattle.logged_disk.specs.Device.{State as Device, IsAfter, IsTrusted, Keeps, seen as content_of}
 use Rattle.cyclone.specs.Cyclone.{Seen}
 use Rattle.cache_model.specs.declared.record.Rec.{Rec}
 use Rattle.cache_model.specs.State.{State}
-use Rattle.cache_model.specs.Permit.{DeviceRead, End, Intent, IsAmong, Permit, Reason, work_after}
+use Rattle.cache_model.specs.Permit.{End, Intent, IsAmong, Permit, Reason, work_after}
 use Rattle.cache_model.specs.Legal.{MayGrow}
 
--- the step's counts reach around those of the call, it knows what the device gave in the call, and
--- the directory displaces nothing
-pub record Covers (p : Permit) (before after : ℕ) (reads : List DeviceRead) : Type 0 where
+-- the step knows each call that the device made between these two moments of its log, the directory displaces nothing, and
+-- the content area begins at the first block
+pub record Covers (p : Permit) (before after : List Call) : Type 0 where
   pub plain : p.packed ≡ false
-  pub from : p.faults_before ≤ before
-  pub upto : after ≤ p.faults
-  pub knows : AllByRecursion (λ r. IsAmong r p.reads) reads
+  pub content : p.area ≡ 0
+  pub knows : (made : List Call) → after ≡ made ++ before → AllByRecursion (λ call. IsAmong call p.events) made
 
--- what was read is what is seen there, where the device is trusted
-abbrev pub AreSeen : Geometry → Device → List DeviceRead → Type 0
-AreSeen g device reads =
-    AllByRecursion (λ (r : DeviceRead). IsTrusted device → r.bytes ≡ span (content_of device) (slot_of g r.place) (length r.bytes / 512)) reads
+-- a read gave what is seen there
+abbrev pub IsSeenOn : Device → Call → Type 0
+IsSeenOn device (Read at bytes) = bytes ≡ span (content_of device) at (length bytes / 512)
+IsSeenOn device _ = Unit {0}
+
+-- what was read between two moments is what is seen there, where the device is trusted
+abbrev pub AreSeen : Device → Device → Type 0
+AreSeen old new = (made : List Call) → new.past ≡ made ++ old.past → IsTrusted new → AllByRecursion (IsSeenOn new) made
 
 -- what is asked first comes to this end, by one group of records or more
 abbrev pub Spends : Permit → State → Intent → List Rec → End → Type 0

@@ -10,10 +10,11 @@ use Rattle.cache_model.specs.declared.record.Rec.{Rec}
 use Rattle.cache_model.specs.declared.record.Rec.TheVariants as rec
 use Rattle.cache_model.specs.State.{Row, State, live_row_of}
 use Rattle.cache_model.specs.Verdict.{cause_of_piece, size_of}
-use Rattle.cache_model.specs.Permit.{DeviceRead, Permit}
-use Rattle.cache_model.specs.Given.{IsDocumentOf, Trouble}
+use Rattle.cache_model.specs.Permit.{Permit}
+use Rattle.cache_model.specs.Given.{IsDocumentOf, Trouble, counts_told}
 use Rattle.stripe_core.specs.declared.refusal.Found.{Found}
 use Rattle.stripe_core.specs.declared.refusal.Found.TheVariants as found
+use Rattle.stripe_core.specs.Faults.{Refuses}
 use Rattle.stripe_core.specs.Covers.{AreSeen, Covers}
 
 -- the record of what kept a live piece from being read
@@ -62,8 +63,8 @@ IsFoundAs p s id None answer into = answer ≡ found.Missing (cause_of_piece s i
 IsFoundAs p s id (Some row) (found.Found size) into = IsDocumentOf p s row size into
 IsFoundAs p s id (Some row) (found.Missing why) into = Trouble p s row (cause_records row why) why
 
--- what the device gave, and what came of it in any step that covers the call
+-- what was found, in any step that covers the call; what was read is what is seen, and what was refused is recorded
 pub record Finds (s : State) (old new : Device) (id : PieceId) (answer : Found) (into : List ℕ) : Type 0 where
-  pub reads : List DeviceRead
-  pub seen : AreSeen s.geometry new reads
-  pub answers : (p : Permit) → Covers p old.faults new.faults reads → IsFoundAs p s id (live_row_of s id) answer into
+  pub seen : AreSeen old new
+  pub faults : Refuses old.past new.past (counts_told (find_adds s id answer))
+  pub answers : (p : Permit) → Covers p old.past new.past → IsFoundAs p s id (live_row_of s id) answer into

@@ -2,17 +2,20 @@
 use Rattle.std.specs.Prelude.{ℕ, ◌≡◌, ◌≤◌, List, Some, Result, Ok, Err}
 use Rattle.std.specs.List.{AllByRecursion}
 use Rattle.tape_base.specs.declared.pieces.PieceId.{PieceId}
+use Rattle.device_log.specs.Calls.{Call}
 use Rattle.logged_disk.specs.Device.{State as Device, TellsAll}
 use Rattle.cache_model.specs.declared.record.Rec.{Rec}
 use Rattle.cache_model.specs.declared.record.Rec.TheVariants as rec
 use Rattle.cache_model.specs.State.{Row, State, cursor_next, floor_now, live_row_of}
 use Rattle.cache_model.specs.Kept.{Kept, state_of, with_records}
-use Rattle.cache_model.specs.Permit.{DeviceRead, Permit, End, Done, Fails, Exhausted, Faulted, Flush}
+use Rattle.cache_model.specs.Permit.{Permit, End, Done, Fails, Exhausted, Faulted, Flush}
 use Rattle.cache_model.specs.Room.{limit}
+use Rattle.cache_model.specs.Given.{counts_told}
 use Rattle.cache_model.specs.Legal.{Does}
 use Rattle.stripe_core.specs.declared.refusal.Flushed.{Flushed}
 use Rattle.stripe_core.specs.declared.refusal.Stop.{Stop}
 use Rattle.stripe_core.specs.declared.refusal.Stop.TheVariants as stop
+use Rattle.stripe_core.specs.Faults.{Refuses}
 use Rattle.stripe_core.specs.Covers.{Covers}
 use Rattle.cache_model.specs.Damage.{TellNoDamage}
 
@@ -65,15 +68,14 @@ abbrev pub StopsWith : State → ℕ → Stop → Type 0
 StopsWith s faults (stop.DeviceFault count) = count ≡ faults
 StopsWith s faults (stop.Exhausted number) = (number ≡ cursor_next s) × (limit ≤ number)
 
--- a flush at a moment, over a device whose count stood at `before`, and that stands so then: the records
--- that it added and what the device gave, and that in any step at that moment that covers it these are
--- the records of a flush
-pub record FlushesAsAsked (now : ℕ) (old new : Kept) (before : ℕ) (after : Device) (result : Result Flushed Stop) : Type 0 where
+-- a flush at a moment, over a device that had made these calls before, and that stands so then: the records that it
+-- added, and that in any step at that moment that covers it these are the records of a flush
+pub record FlushesAsAsked (now : ℕ) (old new : Kept) (before : List Call) (after : Device) (result : Result Flushed Stop) : Type 0 where
   pub added : List Rec
-  pub reads : List DeviceRead
   pub adds : new ≡ with_records old added
   pub kinds : AreOfFlush added
   pub live : LiveBefore (state_of old) (state_of new)
   -- a device that tells its content shows each piece as it was placed
   pub unharmed : TellsAll after → TellNoDamage added
-  pub does : (p : Permit) → p.now ≡ now → Covers p before after.faults reads → Does p (state_of old) Flush added (flush_end result)
+  pub faults : Refuses before after.past (counts_told added)
+  pub does : (p : Permit) → p.now ≡ now → Covers p before after.past → Does p (state_of old) Flush added (flush_end result)

@@ -2,6 +2,7 @@ pub mod Held
 pub mod Records
 pub mod Pieces
 pub mod This
+pub mod Faults
 pub mod Covers
 pub mod Ahead
 pub mod Copying
@@ -15,3 +16,4 @@ pub mod Units
 pub mod Stripe
 pub mod Acts
 pub mod Unharmed
+pub mod Between

@@ -2,12 +2,12 @@
 use Rattle.std.specs.Prelude.{ℕ, ◌≡◌, ◌≢◌, ◌+◌, ◌-◌, ◌*◌, ◌≤◌, ◌==◌, Bool, false, not, if◌then◌else◌, List, [], ◌∷◌, ◌++◌, map, slice_index, slice_index_or, take, Some}
 use Rattle.std.specs.List.{AllByRecursion}
 use Rattle.tape_base.specs.Geometry.{budget_of}
-use Rattle.logged_disk.specs.Device.{State as Device, TellsAll}
+use Rattle.logged_disk.specs.Device.{State as Device, IsAfter, TellsAll}
 use Rattle.doc_header.specs.Reading.{document_digest}
 use Rattle.evacuator.specs.declared.choosing.Candidate.{Candidate}
 use Rattle.evacuator.specs.Choice.{blocks_of_all}
 use Rattle.cache_model.specs.State.{Row, State, after_all, live_row_of}
-use Rattle.cache_model.specs.Permit.{DeviceRead, Permit}
+use Rattle.cache_model.specs.Permit.{Permit}
 use Rattle.cache_model.specs.Given.{IsWritten}
 use Rattle.cache_model.specs.Outcomes.{AreOutcomes, Copied, IsOutcome, Outcome, Refused, front_of, records_of}
 use Rattle.stripe_due.specs.Finding.{candidate_of}
@@ -15,6 +15,7 @@ use Rattle.stripe_core.specs.declared.ahead.Ahead.{Ahead}
 use Rattle.stripe_core.specs.declared.ahead.Fate.{Fate}
 use Rattle.stripe_core.specs.declared.ahead.Fate.TheVariants as fate
 use Rattle.stripe_core.specs.Ahead.{AreFates, IsFate, StandFrom, StandsAt, taken_by, taken_by_all}
+use Rattle.stripe_core.specs.Faults.{Refuses, counts_among, counts_of}
 use Rattle.stripe_core.specs.Covers.{Covers}
 use Rattle.cache_model.specs.Damage.{TellNoDamage}
 
@@ -59,24 +60,28 @@ abbrev pub CountsUpTo : ℕ → Outcome → Type 0
 CountsUpTo faults (Refused count) = count ≤ faults
 CountsUpTo faults _ = Unit {0}
 
--- what came of a read of a piece into these bytes, over a device whose count stood at `before`, and that
--- stands so then: in any state that has the same buffer, and whose last fault is no later
-pub record Comes (s : State) (before : ℕ) (after : Device) (row : Row) (f : Fate) (bytes : List ℕ) : Type 0 where
+-- the same geometry and buffer, and no fault later than the device's
+pub record IsBeside (s : State) (device : Device) (t : State) : Type 0 where
+  pub geometry : t.geometry ≡ s.geometry
+  pub cursor : t.cursor ≡ s.cursor
+  pub fault : t.fault ≤ device.faults
+
+-- what came of a read of a piece into these bytes, over a device at these two moments: in any such state
+pub record Comes (s : State) (before after : Device) (row : Row) (f : Fate) (bytes : List ℕ) : Type 0 where
   pub outcome : Outcome
-  pub reads : List DeviceRead
   pub fate : IsFate row outcome f
   pub copy : IsCopyOf bytes outcome
   pub taken : taken_by row outcome ≡ row.blocks
   pub count : CountsUpTo after.faults outcome
   pub unharmed : TellsAll after → TellNoDamage (records_of row outcome)
-  pub is : (p : Permit) (t : State) (left : ℕ) → Covers p before after.faults reads → t.cursor ≡ s.cursor → t.fault ≤ before → row.blocks ≤ left
+  pub faults : Refuses before.past after.past (counts_of outcome)
+  pub is : (p : Permit) (t : State) (left : ℕ) → Covers p before.past after.past → IsBeside s before t → row.blocks ≤ left
       → IsOutcome p t left row outcome
 
 -- one piece more was looked at: so many blocks of memory are taken before it, and so many behind it
-pub record LooksOn (s : State) (before : ℕ) (after : Device) (row : Row) (at end : ℕ) (old new : Ahead) : Type 0 where
+pub record LooksOn (s : State) (before after : Device) (row : Row) (at end : ℕ) (old new : Ahead) : Type 0 where
   pub outcome : Outcome
   pub note : Fate
-  pub reads : List DeviceRead
   pub notes : new.fates.items ≡ old.fates.items ++ note ∷ []
   pub fate : IsFate row outcome note
   pub stands : StandsAt at row outcome new.bytes.items
@@ -84,18 +89,19 @@ pub record LooksOn (s : State) (before : ℕ) (after : Device) (row : Row) (at e
   pub taken : end ≡ at + taken_by row outcome
   pub count : CountsUpTo after.faults outcome
   pub unharmed : TellsAll after → TellNoDamage (records_of row outcome)
-  pub is : (p : Permit) (t : State) → Covers p before after.faults reads → t.cursor ≡ s.cursor → t.fault ≤ before
+  pub faults : Refuses before.past after.past (counts_of outcome)
+  pub is : (p : Permit) (t : State) → Covers p before.past after.past → IsBeside s before t
       → IsOutcome p t (budget_of s.geometry - at) row outcome
 
 -- the pieces of these rows were looked at within the budget, and so many blocks of memory are taken
-pub record Looked (s : State) (before : ℕ) (after : Device) (rows : List Row) (end : ℕ) (a : Ahead) : Type 0 where
+pub record Looked (s : State) (before after : Device) (rows : List Row) (end : ℕ) (a : Ahead) : Type 0 where
   pub outcomes : List Outcome
-  pub reads : List DeviceRead
   pub fates : AreFates rows outcomes a.fates.items
   pub stand : StandFrom 0 rows outcomes a.bytes.items
   pub taken : end ≡ taken_by_all rows outcomes
   pub unharmed : TellsAll after → TellNoDamage (front_of rows outcomes)
-  pub are : (p : Permit) → Covers p before after.faults reads → AreOutcomes p s (budget_of s.geometry) rows outcomes
+  pub goes : IsAfter before after
+  pub faults : Refuses before.past after.past (counts_among outcomes)
+  pub are : (p : Permit) → Covers p before.past after.past → AreOutcomes p s (budget_of s.geometry) rows outcomes
   -- behind their records the buffer stands where it stood, and no fault is later than the device's
-  pub cursor : (after_all s (front_of rows outcomes)).cursor ≡ s.cursor
-  pub fault : (after_all s (front_of rows outcomes)).fault ≤ after.faults
+  pub beside : IsBeside s after (after_all s (front_of rows outcomes))

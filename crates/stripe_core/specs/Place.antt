@@ -9,16 +9,19 @@ use Rattle.tape_base.specs.Piece.{is_vector}
 use Rattle.fragment_table.specs.Table.{total_length}
 use Rattle.cache_model.specs.declared.record.Rec.{Rec}
 use Rattle.cache_model.specs.declared.record.Rec.TheVariants as rec
+use Rattle.device_log.specs.Calls.{Call}
 use Rattle.logged_disk.specs.Device.{State as Device, TellsAll}
 use Rattle.cache_model.specs.State.{PutRow, State, after_all, cursor_next, list_of_put, place_now, row_of, vector_piece}
 use Rattle.cache_model.specs.Kept.{Kept, state_of, with_records}
 use Rattle.cache_model.specs.Verdict.{cuts_of}
-use Rattle.cache_model.specs.Permit.{DeviceRead, Done, End, Finish, Fragment, Permit, Stays}
+use Rattle.cache_model.specs.Permit.{Done, End, Finish, Fragment, Permit, Stays}
+use Rattle.cache_model.specs.Given.{counts_told}
 use Rattle.cache_model.specs.Room.{greatest_pin, has_room, limit, placed_record}
 use Rattle.cache_model.specs.Legal.{AreLiveTo, Does, IsCut, IsNext, IsWriting, MakesRoom, next_fragment_of, vector_length, vector_payload}
 use Rattle.stripe_core.specs.declared.refusal.Placed.{Placed}
 use Rattle.stripe_core.specs.declared.refusal.Stop.{Stop}
 use Rattle.stripe_core.specs.declared.refusal.Stop.TheVariants as stop
+use Rattle.stripe_core.specs.Faults.{Refuses}
 use Rattle.stripe_core.specs.Covers.{Covers, Spends}
 use Rattle.cache_model.specs.Damage.{TellNoDamage}
 use Rattle.stripe_core.specs.Flush.{AreOfFlush, LiveBefore, stop_end}
@@ -31,14 +34,14 @@ RoomIsMade p s bytes added (Ok u) = MatchBool (has_room s bytes) (added ≡ []) 
 RoomIsMade p s bytes added (Err why) = MakesRoom p s bytes added (stop_end why)
 
 -- as `FlushesAsAsked`, of the flush that a piece of so many bytes needs
-pub record RoomsAsAsked (now : ℕ) (old new : Kept) (before : ℕ) (after : Device) (bytes : ℕ) (result : Result (Unit {0}) Stop) : Type 0 where
+pub record RoomsAsAsked (now : ℕ) (old new : Kept) (before : List Call) (after : Device) (bytes : ℕ) (result : Result (Unit {0}) Stop) : Type 0 where
   pub added : List Rec
-  pub reads : List DeviceRead
   pub adds : new ≡ with_records old added
   pub kinds : AreOfFlush added
   pub live : LiveBefore (state_of old) (state_of new)
   pub unharmed : TellsAll after → TellNoDamage added
-  pub does : (p : Permit) → p.now ≡ now → Covers p before after.faults reads → RoomIsMade p (state_of old) bytes added result
+  pub faults : Refuses before after.past (counts_told added)
+  pub does : (p : Permit) → p.now ≡ now → Covers p before after.past → RoomIsMade p (state_of old) bytes added result
 
 -- where a piece of so many bytes would end; or where it has no room, where the next buffer would begin
 abbrev pub number_over : State → ℕ → ℕ
@@ -124,13 +127,13 @@ IsFragmentAs s faults id pin start payload added (Ok placed) = IsCutAs s id pin 
 IsFragmentAs s faults id pin start payload added (Err why) = IsStoppedAs s faults payload added why
 
 -- as `FlushesAsAsked`, of a fragment that is cut
-pub record CutsAsAsked (now : ℕ) (old new : Kept) (before : ℕ) (after : Device) (id : PieceId) (pin start : ℕ) (payload : List ℕ) (result : Result Placed Stop) : Type 0 where
+pub record CutsAsAsked (now : ℕ) (old new : Kept) (before : List Call) (after : Device) (id : PieceId) (pin start : ℕ) (payload : List ℕ) (result : Result Placed Stop) : Type 0 where
   pub added : List Rec
-  pub reads : List DeviceRead
   pub adds : new ≡ with_records old added
   pub shape : IsFragmentAs (state_of old) after.faults id pin start payload added result
   pub unharmed : TellsAll after → TellNoDamage added
-  pub does : (p : Permit) → p.now ≡ now → Covers p before after.faults reads
+  pub faults : Refuses before after.past (counts_told added)
+  pub does : (p : Permit) → p.now ≡ now → Covers p before after.past
       → Spends p (state_of old) (Fragment id.put id.index payload) added (place_end result)
 
 -- ---- a vector
@@ -157,9 +160,9 @@ pub record IsVectorOf (s : State) (id : PieceId) (pin start : ℕ) (payload : Li
   pub room : has_room s (length payload) ≡ true
 
 -- such a vector finishes the put
-abbrev pub FinishesAsAsked : State → ℕ → ℕ → PieceId → ℕ → ℕ → List ℕ → ℕ → Result Placed Stop → Type 0
+abbrev pub FinishesAsAsked : State → List Call → List Call → PieceId → ℕ → ℕ → List ℕ → ℕ → Result Placed Stop → Type 0
 FinishesAsAsked s before after id pin start payload fragments result = IsVectorOf s id pin start payload
-    → (p : Permit) → Covers p before after [] → Does p s (Finish id.put fragments) (place_adds s id pin start payload result) (place_end result)
+    → (p : Permit) → Covers p before after → Does p s (Finish id.put fragments) (place_adds s id pin start payload result) (place_end result)
 
 -- ---- a piece of either kind
 
@@ -168,12 +171,12 @@ abbrev pub IsPlacing : State → PieceId → ℕ → ℕ → List ℕ → Type 0
 IsPlacing s id pin start payload = MatchBool (is_vector id) (IsVectorFor s id start payload) (IsFragmentOf s id pin start payload)
 
 -- as `CutsAsAsked`, of a vector, which needs no flush
-pub record PlacesVector (old new : Kept) (before after : ℕ) (id : PieceId) (pin start : ℕ) (payload : List ℕ) (result : Result Placed Stop) : Type 0 where
+pub record PlacesVector (old new : Kept) (before after : List Call) (id : PieceId) (pin start : ℕ) (payload : List ℕ) (result : Result Placed Stop) : Type 0 where
   pub adds : new ≡ with_records old (place_adds (state_of old) id pin start payload result)
   pub at : PlacesAt (state_of old) payload result
   pub does : FinishesAsAsked (state_of old) before after id pin start payload (length (cuts_of (state_of old) id.put)) result
 
 -- as `PlacesVector` of a vector, and as `CutsAsAsked` of a fragment
-abbrev pub PlacesAsAsked : ℕ → Kept → Kept → ℕ → Device → PieceId → ℕ → ℕ → List ℕ → Result Placed Stop → Type 0
+abbrev pub PlacesAsAsked : ℕ → Kept → Kept → List Call → Device → PieceId → ℕ → ℕ → List ℕ → Result Placed Stop → Type 0
 PlacesAsAsked now old new before after id pin start payload result = MatchBool (is_vector id)
-    (PlacesVector old new before after.faults id pin start payload result) (CutsAsAsked now old new before after id pin start payload result)
+    (PlacesVector old new before after.past id pin start payload result) (CutsAsAsked now old new before after id pin start payload result)

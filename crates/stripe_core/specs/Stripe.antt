@@ -55,9 +55,10 @@ pub record IsSpared (units flushes room : ℕ) (c : Seen) : Type 0 where
   pub calls : flushes ≤ c.device.calls
   pub blocks : flushes * c.geometry.agg ≤ c.device.blocks
 
--- the device shows what it showed, and counts no fault more
+-- the device made no call
 pub record IsStill (old new : Device) : Type 0 where
   pub goes : IsAfter old new
+  pub past : new.past ≡ old.past
   pub seen : SeenStays old new
   pub faults : new.faults ≡ old.faults
 

@@ -25,7 +25,7 @@ use tape_base::{Actor, Digest, Key, LIMIT, MAX_WRITERS, PieceId};
 impl<D: Disk, R: Directory + Drop, C: Chronicle> Stripe<D, R, C> {
     ghost use Rattle.stripe_core.specs.Pieces.{live_place_of};
     ghost use Rattle.stripe_core.specs.Stripe.{IsStill, IsStripe, kept_in, seen_in, state_in, units_in};
-    ghost use Rattle.stripe_core.specs.Unharmed.{StaysUnharmed};
+    ghost use Rattle.stripe_core.specs.Between.{Between};
 
     /// Commits a put, whose vector is the piece that was placed last. The key's vector before it
     /// goes.
@@ -34,7 +34,7 @@ impl<D: Disk, R: Directory + Drop, C: Chronicle> Stripe<D, R, C> {
         requires unit { 1 ≤ units_in self.old }
         requires committing { IsCommitting (state_in C.Chronicle self.old) put key }
         ensures stripe { IsStripe D.Disk R.Directory C.Chronicle self.new }
-        ensures unharmed { StaysUnharmed D.Disk R.Directory C.Chronicle self.old self.new }
+        ensures unharmed { Between D.Disk R.Directory C.Chronicle self.old self.new }
         ensures adds { kept_in C.Chronicle self.new
             ≡ with_records (kept_in C.Chronicle self.old) (committed_record (state_in C.Chronicle self.old) put key ∷ []) }
         ensures does { CommitsAsAsked (state_in C.Chronicle self.old) put key }
@@ -53,7 +53,7 @@ impl<D: Disk, R: Directory + Drop, C: Chronicle> Stripe<D, R, C> {
         requires unit { 1 ≤ units_in self.old }
         requires writing { IsGivingUp (state_in C.Chronicle self.old) put key }
         ensures stripe { IsStripe D.Disk R.Directory C.Chronicle self.new }
-        ensures unharmed { StaysUnharmed D.Disk R.Directory C.Chronicle self.old self.new }
+        ensures unharmed { Between D.Disk R.Directory C.Chronicle self.old self.new }
         ensures adds { kept_in C.Chronicle self.new ≡ with_records (kept_in C.Chronicle self.old) (rec.Aborted put key ∷ []) }
         ensures does { GivesUpAsAsked (state_in C.Chronicle self.old) put key }
         ensures still { (seen_in D.Disk R.Directory self.new).device ≡ (seen_in D.Disk R.Directory self.old).device }
@@ -71,7 +71,7 @@ impl<D: Disk, R: Directory + Drop, C: Chronicle> Stripe<D, R, C> {
         requires quiet { IsQuiet (state_in C.Chronicle self.old) }
         requires live { IsSome (live_vector_of (state_in C.Chronicle self.old) key) }
         ensures stripe { IsStripe D.Disk R.Directory C.Chronicle self.new }
-        ensures unharmed { StaysUnharmed D.Disk R.Directory C.Chronicle self.old self.new }
+        ensures unharmed { Between D.Disk R.Directory C.Chronicle self.old self.new }
         ensures adds { kept_in C.Chronicle self.new ≡ with_records (kept_in C.Chronicle self.old) (rec.Removed result key ∷ []) }
         ensures does { RemovesAsAsked (state_in C.Chronicle self.old) key result }
         ensures still { (seen_in D.Disk R.Directory self.new).device ≡ (seen_in D.Disk R.Directory self.old).device }
@@ -105,7 +105,7 @@ impl<D: Disk, R: Directory + Drop, C: Chronicle> Stripe<D, R, C> {
         requires unit { 1 ≤ units_in self.old }
         requires few { IsGivable answer }
         ensures stripe { IsStripe D.Disk R.Directory C.Chronicle self.new }
-        ensures unharmed { StaysUnharmed D.Disk R.Directory C.Chronicle self.old self.new }
+        ensures unharmed { Between D.Disk R.Directory C.Chronicle self.old self.new }
         ensures adds { kept_in C.Chronicle self.new ≡ with_records (kept_in C.Chronicle self.old) (answer_record reader answer ∷ []) }
         ensures still { (seen_in D.Disk R.Directory self.new).device ≡ (seen_in D.Disk R.Directory self.old).device }
         ensures unit { units_in self.new + 1 ≡ units_in self.old }
@@ -120,7 +120,7 @@ impl<D: Disk, R: Directory + Drop, C: Chronicle> Stripe<D, R, C> {
         requires stripe { IsStripe D.Disk R.Directory C.Chronicle self.old }
         requires unit { 1 ≤ units_in self.old }
         ensures stripe { IsStripe D.Disk R.Directory C.Chronicle self.new }
-        ensures unharmed { StaysUnharmed D.Disk R.Directory C.Chronicle self.old self.new }
+        ensures unharmed { Between D.Disk R.Directory C.Chronicle self.old self.new }
         ensures adds { kept_in C.Chronicle self.new ≡ with_records (kept_in C.Chronicle self.old) (rec.ReadClosed reader ∷ []) }
         ensures still { (seen_in D.Disk R.Directory self.new).device ≡ (seen_in D.Disk R.Directory self.old).device }
         ensures unit { units_in self.new + 1 ≡ units_in self.old }
@@ -141,7 +141,7 @@ impl<D: Disk, R: Directory + Drop, C: Chronicle> Stripe<D, R, C> {
         requires stripe { IsStripe D.Disk R.Directory C.Chronicle self.old }
         requires follows { IsFollowable (state_in C.Chronicle self.old) answer }
         ensures stripe { IsStripe D.Disk R.Directory C.Chronicle self.new }
-        ensures unharmed { StaysUnharmed D.Disk R.Directory C.Chronicle self.old self.new }
+        ensures unharmed { Between D.Disk R.Directory C.Chronicle self.old self.new }
         ensures adds { IfOk result (λ reader. kept_in C.Chronicle self.new
             ≡ with_records (kept_in C.Chronicle self.old) (rec.ReadOpened reader actor key request answer ∷ [])) }
         ensures reader { IfOk result (λ reader. reader ≡ (state_in C.Chronicle self.old).next_reader) }
@@ -186,7 +186,7 @@ impl<D: Disk, R: Directory + Drop, C: Chronicle> Stripe<D, R, C> {
         requires stripe { IsStripe D.Disk R.Directory C.Chronicle self.old }
         requires quiet { IsQuiet (state_in C.Chronicle self.old) }
         ensures stripe { IsStripe D.Disk R.Directory C.Chronicle self.new }
-        ensures unharmed { StaysUnharmed D.Disk R.Directory C.Chronicle self.old self.new }
+        ensures unharmed { Between D.Disk R.Directory C.Chronicle self.old self.new }
         ensures adds { OnOk result (kept_in C.Chronicle self.new
             ≡ with_records (kept_in C.Chronicle self.old) (opened_record (state_in C.Chronicle self.old) actor key request response pin ∷ [])) }
         ensures err { OnErr result (kept_in C.Chronicle self.new ≡ kept_in C.Chronicle self.old) }
@@ -212,7 +212,7 @@ impl<D: Disk, R: Directory + Drop, C: Chronicle> Stripe<D, R, C> {
         requires quiet { IsQuiet (state_in C.Chronicle self.old) }
         requires number { HasNumber (state_in C.Chronicle self.old) }
         ensures stripe { IsStripe D.Disk R.Directory C.Chronicle self.new }
-        ensures unharmed { StaysUnharmed D.Disk R.Directory C.Chronicle self.old self.new }
+        ensures unharmed { Between D.Disk R.Directory C.Chronicle self.old self.new }
         ensures adds { OnOk result (kept_in C.Chronicle self.new
             ≡ with_records (kept_in C.Chronicle self.old) (opened_record (state_in C.Chronicle self.old) actor key request response pin ∷ [])) }
         ensures err { OnErr result (kept_in C.Chronicle self.new ≡ kept_in C.Chronicle self.old) }

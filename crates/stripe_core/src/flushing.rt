@@ -38,7 +38,7 @@ impl<D: Disk, R: Directory + Drop, C: Chronicle> Pieces<D, R, C> {
         requires calls { 1 ≤ (seen_of D.Disk R.Directory self.old).device.calls }
         requires blocks { (seen_of D.Disk R.Directory self.old).geometry.agg ≤ (seen_of D.Disk R.Directory self.old).device.blocks }
         ensures pieces { ArePieces D.Disk R.Directory C.Chronicle self.new }
-        ensures does { FlushesAsAsked now (kept_of C.Chronicle self.old) (kept_of C.Chronicle self.new) (seen_of D.Disk R.Directory self.old).device.faults
+        ensures does { FlushesAsAsked now (kept_of C.Chronicle self.old) (kept_of C.Chronicle self.new) (seen_of D.Disk R.Directory self.old).device.past
             (seen_of D.Disk R.Directory self.new).device result }
         ensures tells { IfOk result (Tells (state_now C.Chronicle self.old) (state_now C.Chronicle self.new)) }
         ensures stops { IfErr result (StopsWith (state_now C.Chronicle self.old) (seen_of D.Disk R.Directory self.new).device.faults) }
@@ -105,7 +105,7 @@ impl<D: Disk, R: Directory + Drop, C: Chronicle> Pieces<D, R, C> {
         requires calls { 1 ≤ (seen_of D.Disk R.Directory self.old).device.calls }
         requires blocks { (seen_of D.Disk R.Directory self.old).geometry.agg ≤ (seen_of D.Disk R.Directory self.old).device.blocks }
         ensures pieces { ArePieces D.Disk R.Directory C.Chronicle self.new }
-        ensures does { RoomsAsAsked now (kept_of C.Chronicle self.old) (kept_of C.Chronicle self.new) (seen_of D.Disk R.Directory self.old).device.faults
+        ensures does { RoomsAsAsked now (kept_of C.Chronicle self.old) (kept_of C.Chronicle self.new) (seen_of D.Disk R.Directory self.old).device.past
             (seen_of D.Disk R.Directory self.new).device bytes result }
         ensures room { OnOk result (has_room (state_now C.Chronicle self.new) bytes ≡ true) }
         ensures full { OnErr result (has_room (state_now C.Chronicle self.old) bytes ≡ false) }

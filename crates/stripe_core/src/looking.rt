@@ -36,7 +36,7 @@ impl<D: Disk, R: Directory + Drop, C: Chronicle> Pieces<D, R, C> {
         ensures same { SameTape (seen_of D.Disk R.Directory self.old) (seen_of D.Disk R.Directory self.new) }
         ensures asked { IsAsked (seen_of D.Disk R.Directory self.old).device (seen_of D.Disk R.Directory self.new).device }
         ensures ahead { IsMadeFor (state_now C.Chronicle self.old).geometry ahead.new }
-        ensures looks { LooksAhead now (state_now C.Chronicle self.old) (seen_of D.Disk R.Directory self.old).device.faults
+        ensures looks { LooksAhead now (state_now C.Chronicle self.old) (seen_of D.Disk R.Directory self.old).device
             (seen_of D.Disk R.Directory self.new).device ahead.new }
     {
         let g = self.cyclone.geometry();
@@ -69,7 +69,7 @@ impl<D: Disk, R: Directory + Drop, C: Chronicle> Pieces<D, R, C> {
         ensures ahead { IsMadeFor (state_now C.Chronicle self.old).geometry ahead.new }
         ensures due { ahead.new.due.items ≡ ahead.old.due.items }
         ensures looked { (rows : List Row) → AreOfRows (state_now C.Chronicle self.old) ahead.old.due.items rows
-            → (end : ℕ) × Looked (state_now C.Chronicle self.old) (seen_of D.Disk R.Directory self.old).device.faults
+            → (end : ℕ) × Looked (state_now C.Chronicle self.old) (seen_of D.Disk R.Directory self.old).device
             (seen_of D.Disk R.Directory self.new).device rows end ahead.new }
     {
         ahead.fates.clear();
@@ -101,7 +101,7 @@ impl<D: Disk, R: Directory + Drop, C: Chronicle> Pieces<D, R, C> {
         ensures taken { result ≡ at + blocks_kept ahead.old.due.items ahead.old.kept.items i }
         ensures room { result ≤ budget_of (state_now C.Chronicle self.old).geometry }
         ensures looks { (row : Row) → slice_get ahead.old.due.items i ≡ Some (candidate_of row) → MayBeCopied (state_now C.Chronicle self.old) row
-            → LooksOn (state_now C.Chronicle self.old) (seen_of D.Disk R.Directory self.old).device.faults
+            → LooksOn (state_now C.Chronicle self.old) (seen_of D.Disk R.Directory self.old).device
             (seen_of D.Disk R.Directory self.new).device row at result ahead.old ahead.new }
     {
         if !ahead.kept[i] {
@@ -125,7 +125,7 @@ impl<D: Disk, R: Directory + Drop, C: Chronicle> Pieces<D, R, C> {
         ensures same { SameTape (seen_of D.Disk R.Directory self.old) (seen_of D.Disk R.Directory self.new) }
         ensures asked { IsAsked (seen_of D.Disk R.Directory self.old).device (seen_of D.Disk R.Directory self.new).device }
         ensures comes { (row : Row) → candidate ≡ candidate_of row → MayBeCopied (state_now C.Chronicle self.old) row
-            → Comes (state_now C.Chronicle self.old) (seen_of D.Disk R.Directory self.old).device.faults
+            → Comes (state_now C.Chronicle self.old) (seen_of D.Disk R.Directory self.old).device
             (seen_of D.Disk R.Directory self.new).device row result into.new }
     {
         match load(&mut self.cyclone, candidate.place, candidate.blocks, into) {

@@ -46,7 +46,7 @@ impl<D: Disk, R: Directory + Drop, C: Chronicle> Pieces<D, R, C> {
         requires calls { 1 ≤ (seen_of D.Disk R.Directory self.old).device.calls }
         requires blocks { (seen_of D.Disk R.Directory self.old).geometry.agg ≤ (seen_of D.Disk R.Directory self.old).device.blocks }
         ensures pieces { ArePieces D.Disk R.Directory C.Chronicle self.new }
-        ensures does { CutsAsAsked now (kept_of C.Chronicle self.old) (kept_of C.Chronicle self.new) (seen_of D.Disk R.Directory self.old).device.faults
+        ensures does { CutsAsAsked now (kept_of C.Chronicle self.old) (kept_of C.Chronicle self.new) (seen_of D.Disk R.Directory self.old).device.past
             (seen_of D.Disk R.Directory self.new).device id pin start payload.now result }
         ensures ahead { IsMadeFor (state_now C.Chronicle self.old).geometry ahead.new }
         ensures still { has_room (state_now C.Chronicle self.old) (length payload.now) ≡ true

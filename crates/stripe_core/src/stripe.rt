@@ -38,7 +38,7 @@ pub struct Stripe<D: Disk, R: Directory + Drop, C: Chronicle> {
 impl<D: Disk, R: Directory + Drop, C: Chronicle> Stripe<D, R, C> {
     ghost use Rattle.stripe_core.specs.Pieces.{live_place_of};
     ghost use Rattle.stripe_core.specs.Stripe.{Answers, HasMemory, IsSpared, IsStill, IsStripe, IsUnwritten, RowIsMade, Wanting, alloc_in, flushes_in, kept_in, room_for, seen_in, state_in, units_in};
-    ghost use Rattle.stripe_core.specs.Unharmed.{StaysUnharmed};
+    ghost use Rattle.stripe_core.specs.Between.{Between};
 
     /// Begins a session on an empty content area. A refusal gives back the device and the chronicle.
     pub fn format(
@@ -153,9 +153,9 @@ impl<D: Disk, R: Directory + Drop, C: Chronicle> Stripe<D, R, C> {
         requires stripe { IsStripe D.Disk R.Directory C.Chronicle self.old }
         requires quiet { IsQuiet (state_in C.Chronicle self.old) }
         ensures stripe { IsStripe D.Disk R.Directory C.Chronicle self.new }
-        ensures unharmed { StaysUnharmed D.Disk R.Directory C.Chronicle self.old self.new }
+        ensures unharmed { Between D.Disk R.Directory C.Chronicle self.old self.new }
         ensures does { Answers result (FlushesAsAsked now (kept_in C.Chronicle self.old) (kept_in C.Chronicle self.new)
-            (seen_in D.Disk R.Directory self.old).device.faults (seen_in D.Disk R.Directory self.new).device) (kept_in C.Chronicle self.new ≡ kept_in C.Chronicle self.old) }
+            (seen_in D.Disk R.Directory self.old).device.past (seen_in D.Disk R.Directory self.new).device) (kept_in C.Chronicle self.new ≡ kept_in C.Chronicle self.old) }
         ensures row { (put : ℕ) → room_for put self.new.actors ≡ room_for put self.old.actors }
         ensures tells { IfOk result (Tells (state_in C.Chronicle self.old) (state_in C.Chronicle self.new)) }
         ensures room { OnOk result ((state_in C.Chronicle self.new).filled ≤ budget_of (state_in C.Chronicle self.new).geometry) }
@@ -185,9 +185,9 @@ impl<D: Disk, R: Directory + Drop, C: Chronicle> Stripe<D, R, C> {
         requires quiet { IsQuiet (state_in C.Chronicle self.old) }
         requires small { blocks_of bytes ≤ budget_of (state_in C.Chronicle self.old).geometry }
         ensures stripe { IsStripe D.Disk R.Directory C.Chronicle self.new }
-        ensures unharmed { StaysUnharmed D.Disk R.Directory C.Chronicle self.old self.new }
+        ensures unharmed { Between D.Disk R.Directory C.Chronicle self.old self.new }
         ensures does { Answers result (RoomsAsAsked now (kept_in C.Chronicle self.old) (kept_in C.Chronicle self.new)
-            (seen_in D.Disk R.Directory self.old).device.faults (seen_in D.Disk R.Directory self.new).device bytes) (kept_in C.Chronicle self.new ≡ kept_in C.Chronicle self.old) }
+            (seen_in D.Disk R.Directory self.old).device.past (seen_in D.Disk R.Directory self.new).device bytes) (kept_in C.Chronicle self.new ≡ kept_in C.Chronicle self.old) }
         ensures room { OnOk result (has_room (state_in C.Chronicle self.new) bytes ≡ true) }
         ensures full { OnErr result (has_room (state_in C.Chronicle self.old) bytes ≡ false) }
         ensures stops { Answers result (λ r. IfErr r (StopsWith (state_in C.Chronicle self.old) (seen_in D.Disk R.Directory self.new).device.faults)) (Unit {0}) }
@@ -214,7 +214,7 @@ impl<D: Disk, R: Directory + Drop, C: Chronicle> Stripe<D, R, C> {
         requires stripe { IsStripe D.Disk R.Directory C.Chronicle self.old }
         requires into { HasRoomFor (state_in C.Chronicle self.old) id into.old }
         ensures stripe { IsStripe D.Disk R.Directory C.Chronicle self.new }
-        ensures unharmed { StaysUnharmed D.Disk R.Directory C.Chronicle self.old self.new }
+        ensures unharmed { Between D.Disk R.Directory C.Chronicle self.old self.new }
         ensures adds { IfOk result (λ found. kept_in C.Chronicle self.new
             ≡ with_records (kept_in C.Chronicle self.old) (find_adds (state_in C.Chronicle self.old) id found)) }
         ensures finds { IfOk result (λ found. Finds (state_in C.Chronicle self.old) (seen_in D.Disk R.Directory self.old).device
@@ -237,7 +237,7 @@ impl<D: Disk, R: Directory + Drop, C: Chronicle> Stripe<D, R, C> {
         requires stripe { IsStripe D.Disk R.Directory C.Chronicle self.old }
         requires open { IfSome put (λ n. is_writing (state_in C.Chronicle self.old) n ≡ true) }
         ensures stripe { IsStripe D.Disk R.Directory C.Chronicle self.new }
-        ensures unharmed { StaysUnharmed D.Disk R.Directory C.Chronicle self.old self.new }
+        ensures unharmed { Between D.Disk R.Directory C.Chronicle self.old self.new }
         ensures records { kept_in C.Chronicle self.new ≡ kept_in C.Chronicle self.old }
         ensures units { OnOk result (units ≤ units_in self.new) }
         ensures row { OnOk result (IfSome put (λ n. 0 < room_for n self.new.actors)) }
@@ -253,7 +253,7 @@ impl<D: Disk, R: Directory + Drop, C: Chronicle> Stripe<D, R, C> {
         requires stripe { IsStripe D.Disk R.Directory C.Chronicle self.old }
         requires open { IfSome put (λ n. is_writing (state_in C.Chronicle self.old) n ≡ true) }
         ensures stripe { IsStripe D.Disk R.Directory C.Chronicle self.new }
-        ensures unharmed { StaysUnharmed D.Disk R.Directory C.Chronicle self.old self.new }
+        ensures unharmed { Between D.Disk R.Directory C.Chronicle self.old self.new }
         ensures records { kept_in C.Chronicle self.new ≡ kept_in C.Chronicle self.old }
         ensures row { OnOk result (IfSome put (λ n. 0 < room_for n self.new.actors)) }
         ensures units { units_in self.new ≡ units_in self.old }
@@ -278,8 +278,8 @@ impl<D: Disk, R: Directory + Drop, C: Chronicle> Stripe<D, R, C> {
         requires stripe { IsStripe D.Disk R.Directory C.Chronicle self.old }
         requires placing { IsPlacing (state_in C.Chronicle self.old) id pin start payload.now }
         ensures stripe { IsStripe D.Disk R.Directory C.Chronicle self.new }
-        ensures unharmed { StaysUnharmed D.Disk R.Directory C.Chronicle self.old self.new }
-        ensures does { Answers result (PlacesAsAsked now (kept_in C.Chronicle self.old) (kept_in C.Chronicle self.new) (seen_in D.Disk R.Directory self.old).device.faults
+        ensures unharmed { Between D.Disk R.Directory C.Chronicle self.old self.new }
+        ensures does { Answers result (PlacesAsAsked now (kept_in C.Chronicle self.old) (kept_in C.Chronicle self.new) (seen_in D.Disk R.Directory self.old).device.past
             (seen_in D.Disk R.Directory self.new).device id pin start payload.now) (kept_in C.Chronicle self.new ≡ kept_in C.Chronicle self.old) }
         // Without a flush the device stays as it is, but for the memory of its calls.
         ensures still { has_room (state_in C.Chronicle self.old) (length payload.now) ≡ true
@@ -310,9 +310,9 @@ impl<D: Disk, R: Directory + Drop, C: Chronicle> Stripe<D, R, C> {
         requires kind { id.index ≡ 0 }
         requires vector { IsVectorFor (state_in C.Chronicle self.old) id start payload.now }
         ensures stripe { IsStripe D.Disk R.Directory C.Chronicle self.new }
-        ensures unharmed { StaysUnharmed D.Disk R.Directory C.Chronicle self.old self.new }
-        ensures does { Answers result (PlacesVector (kept_in C.Chronicle self.old) (kept_in C.Chronicle self.new) (seen_in D.Disk R.Directory self.old).device.faults
-            (seen_in D.Disk R.Directory self.new).device.faults id pin start payload.now) ⊥ }
+        ensures unharmed { Between D.Disk R.Directory C.Chronicle self.old self.new }
+        ensures does { Answers result (PlacesVector (kept_in C.Chronicle self.old) (kept_in C.Chronicle self.new) (seen_in D.Disk R.Directory self.old).device.past
+            (seen_in D.Disk R.Directory self.new).device.past id pin start payload.now) ⊥ }
         ensures still { (seen_in D.Disk R.Directory self.new).device ≡ (seen_in D.Disk R.Directory self.old).device }
         ensures unit { units_in self.new ≡ units_in self.old }
     {
@@ -334,8 +334,8 @@ impl<D: Disk, R: Directory + Drop, C: Chronicle> Stripe<D, R, C> {
         requires spared { IsSpared (units_in self.old + 1) (flushes_in self.old) (C.room self.old.pieces.chronicle) (seen_in D.Disk R.Directory self.old) }
         requires fragment { IsFragmentOf (state_in C.Chronicle self.old) id pin start payload.now }
         ensures stripe { IsStripe D.Disk R.Directory C.Chronicle self.new }
-        ensures unharmed { StaysUnharmed D.Disk R.Directory C.Chronicle self.old self.new }
-        ensures does { Answers result (CutsAsAsked now (kept_in C.Chronicle self.old) (kept_in C.Chronicle self.new) (seen_in D.Disk R.Directory self.old).device.faults
+        ensures unharmed { Between D.Disk R.Directory C.Chronicle self.old self.new }
+        ensures does { Answers result (CutsAsAsked now (kept_in C.Chronicle self.old) (kept_in C.Chronicle self.new) (seen_in D.Disk R.Directory self.old).device.past
             (seen_in D.Disk R.Directory self.new).device id pin start payload.now) (kept_in C.Chronicle self.new ≡ kept_in C.Chronicle self.old) }
         ensures still { has_room (state_in C.Chronicle self.old) (length payload.now) ≡ true
             → (seen_in D.Disk R.Directory self.new).device ≡ (seen_in D.Disk R.Directory self.old).device }
@@ -362,7 +362,7 @@ impl<D: Disk, R: Directory + Drop, C: Chronicle> Stripe<D, R, C> {
     pub(crate) fn take_unit(&mut self) -> Result<(), AllocError>
         requires { IsStripe D.Disk R.Directory C.Chronicle self.old }
         ensures stripe { IsStripe D.Disk R.Directory C.Chronicle self.new }
-        ensures unharmed { StaysUnharmed D.Disk R.Directory C.Chronicle self.old self.new }
+        ensures unharmed { Between D.Disk R.Directory C.Chronicle self.old self.new }
         ensures records { kept_in C.Chronicle self.new ≡ kept_in C.Chronicle self.old }
         ensures spared { OnOk result (IsSpared (units_in self.new + 1) (flushes_in self.new) (C.room self.new.pieces.chronicle) (seen_in D.Disk R.Directory self.new)) }
         ensures actors { self.new.actors ≡ with_room_of_readers (reader_room_of self.new.actors) self.old.actors }
@@ -380,7 +380,7 @@ impl<D: Disk, R: Directory + Drop, C: Chronicle> Stripe<D, R, C> {
     fn make_units(&mut self, units: u32) -> Result<(), AllocError>
         requires { IsStripe D.Disk R.Directory C.Chronicle self.old }
         ensures stripe { IsStripe D.Disk R.Directory C.Chronicle self.new }
-        ensures unharmed { StaysUnharmed D.Disk R.Directory C.Chronicle self.old self.new }
+        ensures unharmed { Between D.Disk R.Directory C.Chronicle self.old self.new }
         ensures records { kept_in C.Chronicle self.new ≡ kept_in C.Chronicle self.old }
         ensures units { OnOk result (units ≤ units_in self.new) }
         ensures actors { self.new.actors ≡ with_room_of_readers (reader_room_of self.new.actors) self.old.actors }

@@ -4,7 +4,7 @@ ghost use Rattle.cache_model.specs.declared.record.Rec.TheVariants as rec;
 ghost use Rattle.cache_model.specs.Kept.{with_records};
 ghost use Rattle.cache_model.specs.Legal.{IsQuiet};
 ghost use Rattle.stripe_core.specs.Stripe.{IsStripe, kept_in, seen_in, state_in};
-ghost use Rattle.stripe_core.specs.Unharmed.{StaysUnharmed};
+ghost use Rattle.stripe_core.specs.Between.{Between};
 ghost use Rattle.stripe_read.specs.Readers.{ClosesAsAsked, IsOpenReader};
 ghost use Rattle.stripe_read.specs.Others.{AddsOfReader};
 
@@ -24,7 +24,7 @@ pub fn close_read<D: Disk, R: Directory + Drop, C: Chronicle>(
     requires quiet { IsQuiet (state_in C.Chronicle stripe.old) }
     requires reader { IsOpenReader (state_in C.Chronicle stripe.old) reader }
     ensures stripe { IsStripe D.Disk R.Directory C.Chronicle stripe.new }
-    ensures unharmed { StaysUnharmed D.Disk R.Directory C.Chronicle stripe.old stripe.new }
+    ensures unharmed { Between D.Disk R.Directory C.Chronicle stripe.old stripe.new }
     ensures quiet { IsQuiet (state_in C.Chronicle stripe.new) }
     ensures adds { OnOk result (kept_in C.Chronicle stripe.new ≡ with_records (kept_in C.Chronicle stripe.old) (rec.ReadClosed reader.reader ∷ [])) }
     ensures own { AddsOfReader reader.reader (kept_in C.Chronicle stripe.old) (kept_in C.Chronicle stripe.new) }

@@ -6,7 +6,7 @@ ghost use Rattle.cache_model.specs.Legal.{IsQuiet};
 ghost use Rattle.cache_model.specs.State.{last_match};
 ghost use Rattle.stripe_core.specs.Acts.{IsFollowable};
 ghost use Rattle.stripe_core.specs.Stripe.{IsStill, IsStripe, kept_in, seen_in, state_in, units_in};
-ghost use Rattle.stripe_core.specs.Unharmed.{StaysUnharmed};
+ghost use Rattle.stripe_core.specs.Between.{Between};
 ghost use Rattle.stripe_read.specs.Readers.{IsOpenReader};
 ghost use Rattle.stripe_read.specs.Lookups.{HasTable, IfReader, IsChosen, LooksUp, Opens, Tells, answer_in, answer_of, lookup_adds, open_adds, opened_as, otherwise};
 ghost use Rattle.stripe_read.specs.Others.{AddsOfReader};
@@ -68,7 +68,7 @@ pub fn open_read<D: Disk, R: Directory + Drop, C: Chronicle>(
     requires stripe { IsStripe D.Disk R.Directory C.Chronicle stripe.old }
     requires quiet { IsQuiet (state_in C.Chronicle stripe.old) }
     ensures stripe { IsStripe D.Disk R.Directory C.Chronicle stripe.new }
-    ensures unharmed { StaysUnharmed D.Disk R.Directory C.Chronicle stripe.old stripe.new }
+    ensures unharmed { Between D.Disk R.Directory C.Chronicle stripe.old stripe.new }
     ensures quiet { IsQuiet (state_in C.Chronicle stripe.new) }
     ensures adds { IfOk result (λ opened. kept_in C.Chronicle stripe.new
         ≡ with_records (kept_in C.Chronicle stripe.old) (open_adds (state_in C.Chronicle stripe.old) actor key request (answer_in opened))) }
@@ -93,7 +93,7 @@ fn look_up<D: Disk, R: Directory + Drop, C: Chronicle>(
 ) -> Result<Looked, AllocError>
     requires { IsStripe D.Disk R.Directory C.Chronicle stripe.old }
     ensures stripe { IsStripe D.Disk R.Directory C.Chronicle stripe.new }
-    ensures unharmed { StaysUnharmed D.Disk R.Directory C.Chronicle stripe.old stripe.new }
+    ensures unharmed { Between D.Disk R.Directory C.Chronicle stripe.old stripe.new }
     ensures adds { IfOk result (λ looked. kept_in C.Chronicle stripe.new
         ≡ with_records (kept_in C.Chronicle stripe.old) (lookup_adds (state_in C.Chronicle stripe.old) key (answer_of looked))) }
     ensures looks { IfOk result (LooksUp (state_in C.Chronicle stripe.old) (seen_in D.Disk R.Directory stripe.old).device
@@ -161,7 +161,7 @@ fn begin<D: Disk, R: Directory + Drop, C: Chronicle>(
     requires unit { 1 ≤ units_in stripe.old }
     requires follows { IsFollowable (state_in C.Chronicle stripe.old) (answer_of looked) }
     ensures stripe { IsStripe D.Disk R.Directory C.Chronicle stripe.new }
-    ensures unharmed { StaysUnharmed D.Disk R.Directory C.Chronicle stripe.old stripe.new }
+    ensures unharmed { Between D.Disk R.Directory C.Chronicle stripe.old stripe.new }
     ensures adds { IfOk result (λ opened. kept_in C.Chronicle stripe.new ≡ with_records (kept_in C.Chronicle stripe.old)
         (rec.ReadOpened (state_in C.Chronicle stripe.old).next_reader actor key request (answer_of looked) ∷ [])) }
     ensures opens { IfOk result (λ opened. opened ≡ opened_as (state_in C.Chronicle stripe.old).next_reader key looked) }

@@ -6,7 +6,7 @@ ghost use Rattle.cache_model.specs.Legal.{IsQuiet, most_fragments};
 ghost use Rattle.cache_model.specs.Verdict.{next_piece, next_row, verdict_at_end};
 ghost use Rattle.logged_disk.specs.Device.{IsAfter};
 ghost use Rattle.stripe_core.specs.Stripe.{IsStripe, kept_in, seen_in, state_in, units_in};
-ghost use Rattle.stripe_core.specs.Unharmed.{StaysUnharmed};
+ghost use Rattle.stripe_core.specs.Between.{Between};
 ghost use Rattle.stripe_read.specs.Readers.{IsOpenReader, IsReaderOf, as_row, rows_in};
 ghost use Rattle.stripe_read.specs.Nexts.{GoesOn, HasNext, IsOtherNext, ReadsOn, listed_in, noted, read_adds};
 ghost use Rattle.stripe_read.specs.Others.{AddsOfReader};
@@ -45,7 +45,7 @@ pub fn read_next<D: Disk, R: Directory + Drop, C: Chronicle>(
     requires reader { IsOpenReader (state_in C.Chronicle stripe.old) reader.old }
     requires into { length into.old ≡ 512 * budget_of (state_in C.Chronicle stripe.old).geometry }
     ensures stripe { IsStripe D.Disk R.Directory C.Chronicle stripe.new }
-    ensures unharmed { StaysUnharmed D.Disk R.Directory C.Chronicle stripe.old stripe.new ⊎ IsOtherNext (state_in C.Chronicle stripe.old) reader.old }
+    ensures unharmed { Between D.Disk R.Directory C.Chronicle stripe.old stripe.new ⊎ IsOtherNext (state_in C.Chronicle stripe.old) reader.old }
     ensures device { IsAfter (seen_in D.Disk R.Directory stripe.old).device (seen_in D.Disk R.Directory stripe.new).device }
     ensures quiet { IsQuiet (state_in C.Chronicle stripe.new) }
     ensures adds { IfOk result (λ answer. kept_in C.Chronicle stripe.new
@@ -83,7 +83,7 @@ fn give<D: Disk, R: Directory + Drop, C: Chronicle>(
     requires few { reader.old.next ≤ most_fragments }
     requires into { length into.old ≡ 512 * budget_of (state_in C.Chronicle stripe.old).geometry }
     ensures stripe { IsStripe D.Disk R.Directory C.Chronicle stripe.new }
-    ensures unharmed { StaysUnharmed D.Disk R.Directory C.Chronicle stripe.old stripe.new ⊎ IsOtherNext (state_in C.Chronicle stripe.old) reader.old }
+    ensures unharmed { Between D.Disk R.Directory C.Chronicle stripe.old stripe.new ⊎ IsOtherNext (state_in C.Chronicle stripe.old) reader.old }
     ensures device { IsAfter (seen_in D.Disk R.Directory stripe.old).device (seen_in D.Disk R.Directory stripe.new).device }
     ensures quiet { IsQuiet (state_in C.Chronicle stripe.new) }
     ensures adds { IfOk result (λ answer. kept_in C.Chronicle stripe.new
@@ -126,7 +126,7 @@ fn stop<D: Disk, R: Directory + Drop, C: Chronicle>(
     requires reader { IsOpenReader (state_in C.Chronicle stripe.old) reader.now }
     requires none { next_row (state_in C.Chronicle stripe.old) (as_row reader.now) ≡ None }
     ensures stripe { IsStripe D.Disk R.Directory C.Chronicle stripe.new }
-    ensures unharmed { StaysUnharmed D.Disk R.Directory C.Chronicle stripe.old stripe.new }
+    ensures unharmed { Between D.Disk R.Directory C.Chronicle stripe.old stripe.new }
     ensures quiet { IsQuiet (state_in C.Chronicle stripe.new) }
     ensures adds { kept_in C.Chronicle stripe.new
         ≡ with_records (kept_in C.Chronicle stripe.old) (read_adds (state_in C.Chronicle stripe.old) reader.now result) }

@@ -6,7 +6,7 @@ ghost use Rattle.cache_model.specs.State.{live_row_of};
 ghost use Rattle.cache_model.specs.Verdict.{live_vector_of, vector_of};
 ghost use Rattle.stripe_core.specs.Find.{HasRoomFor};
 ghost use Rattle.stripe_core.specs.Stripe.{IsStripe, kept_in, room_for, seen_in, state_in, units_in};
-ghost use Rattle.stripe_core.specs.Unharmed.{StaysUnharmed};
+ghost use Rattle.stripe_core.specs.Between.{Between};
 ghost use Rattle.stripe_vectors.specs.Reading.{FindsVector, listed_in, vector_adds};
 
 use alternate_vector::{Vector, VectorFault};
@@ -36,7 +36,7 @@ pub fn read_vector<D: Disk, R: Directory + Drop, C: Chronicle>(
 ) -> Result<KeyVector, AllocError>
     requires { IsStripe D.Disk R.Directory C.Chronicle stripe.old }
     ensures stripe { IsStripe D.Disk R.Directory C.Chronicle stripe.new }
-    ensures unharmed { StaysUnharmed D.Disk R.Directory C.Chronicle stripe.old stripe.new }
+    ensures unharmed { Between D.Disk R.Directory C.Chronicle stripe.old stripe.new }
     ensures adds { IfOk result (λ answer. kept_in C.Chronicle stripe.new
         ≡ with_records (kept_in C.Chronicle stripe.old) (vector_adds (state_in C.Chronicle stripe.old) key answer)) }
     ensures finds { IfOk result (FindsVector (state_in C.Chronicle stripe.old) (seen_in D.Disk R.Directory stripe.old).device
@@ -77,7 +77,7 @@ fn read_live<D: Disk, R: Directory + Drop, C: Chronicle>(
     requires vector { vector_of (state_in C.Chronicle stripe.old) key ≡ Some vector }
     requires live { IsSome (live_row_of (state_in C.Chronicle stripe.old) vector) }
     ensures stripe { IsStripe D.Disk R.Directory C.Chronicle stripe.new }
-    ensures unharmed { StaysUnharmed D.Disk R.Directory C.Chronicle stripe.old stripe.new }
+    ensures unharmed { Between D.Disk R.Directory C.Chronicle stripe.old stripe.new }
     ensures adds { IfOk result (λ answer. kept_in C.Chronicle stripe.new
         ≡ with_records (kept_in C.Chronicle stripe.old) (vector_adds (state_in C.Chronicle stripe.old) key answer)) }
     ensures finds { IfOk result (FindsVector (state_in C.Chronicle stripe.old) (seen_in D.Disk R.Directory stripe.old).device
@@ -105,7 +105,7 @@ fn read_through<D: Disk, R: Directory + Drop, C: Chronicle>(
     requires into { HasRoomFor (state_in C.Chronicle stripe.old) vector into.old }
     requires live { IsSome (live_row_of (state_in C.Chronicle stripe.old) vector) }
     ensures stripe { IsStripe D.Disk R.Directory C.Chronicle stripe.new }
-    ensures unharmed { StaysUnharmed D.Disk R.Directory C.Chronicle stripe.old stripe.new }
+    ensures unharmed { Between D.Disk R.Directory C.Chronicle stripe.old stripe.new }
     ensures adds { IfOk result (λ answer. kept_in C.Chronicle stripe.new
         ≡ with_records (kept_in C.Chronicle stripe.old) (vector_adds (state_in C.Chronicle stripe.old) key answer)) }
     ensures finds { IfOk result (FindsVector (state_in C.Chronicle stripe.old) (seen_in D.Disk R.Directory stripe.old).device

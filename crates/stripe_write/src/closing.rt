@@ -3,7 +3,7 @@ ghost use Rattle.std.specs.Prelude.{◌≡◌, ◌+◌, ◌≤◌, ◌<◌, true
 ghost use Rattle.cache_model.specs.Legal.{IsQuiet, is_writing};
 ghost use Rattle.stripe_core.specs.Counts.{IsCounted};
 ghost use Rattle.stripe_core.specs.Stripe.{IsStill, IsStripe, kept_in, room_for, seen_in, state_in, units_in};
-ghost use Rattle.stripe_core.specs.Unharmed.{StaysUnharmed};
+ghost use Rattle.stripe_core.specs.Between.{Between};
 ghost use Rattle.stripe_write.specs.Others.{AddsOfPut};
 ghost use Rattle.stripe_write.specs.Writers.{IsWriterOf};
 ghost use Rattle.stripe_write.specs.Writes.{SameWriter};
@@ -38,7 +38,7 @@ pub fn close_write<D: Disk, R: Directory + Drop, C: Chronicle>(
     requires quiet { IsQuiet (state_in C.Chronicle stripe.old) }
     requires writer { IsWriterOf (state_in C.Chronicle stripe.old) writer.old }
     ensures stripe { IsStripe D.Disk R.Directory C.Chronicle stripe.new }
-    ensures unharmed { StaysUnharmed D.Disk R.Directory C.Chronicle stripe.old stripe.new }
+    ensures unharmed { Between D.Disk R.Directory C.Chronicle stripe.old stripe.new }
     ensures quiet { IsQuiet (state_in C.Chronicle stripe.new) }
     ensures closes { ClosesWhere (state_in C.Chronicle stripe.old) (state_in C.Chronicle stripe.new) writer.old result }
     ensures does { ClosesAsAsked now (seen_in D.Disk R.Directory stripe.old).device.faults (seen_in D.Disk R.Directory stripe.new).device.faults
@@ -67,7 +67,7 @@ fn make_memory<D: Disk, R: Directory + Drop, C: Chronicle>(
     requires stripe { IsStripe D.Disk R.Directory C.Chronicle stripe.old }
     requires open { is_writing (state_in C.Chronicle stripe.old) writer.old.put ≡ true }
     ensures stripe { IsStripe D.Disk R.Directory C.Chronicle stripe.new }
-    ensures unharmed { StaysUnharmed D.Disk R.Directory C.Chronicle stripe.old stripe.new }
+    ensures unharmed { Between D.Disk R.Directory C.Chronicle stripe.old stripe.new }
     ensures records { kept_in C.Chronicle stripe.new ≡ kept_in C.Chronicle stripe.old }
     ensures still { IsStill (seen_in D.Disk R.Directory stripe.old).device (seen_in D.Disk R.Directory stripe.new).device }
     ensures units { OnOk result (5 ≤ units_in stripe.new) }
@@ -93,7 +93,7 @@ fn close_open<D: Disk, R: Directory + Drop, C: Chronicle>(
     requires row { 0 < room_for writer.old.put stripe.old.actors }
     requires table { 0 < writer.old.table.room }
     ensures stripe { IsStripe D.Disk R.Directory C.Chronicle stripe.new }
-    ensures unharmed { StaysUnharmed D.Disk R.Directory C.Chronicle stripe.old stripe.new }
+    ensures unharmed { Between D.Disk R.Directory C.Chronicle stripe.old stripe.new }
     ensures quiet { IsQuiet (state_in C.Chronicle stripe.new) }
     ensures closes { ClosesWhere (state_in C.Chronicle stripe.old) (state_in C.Chronicle stripe.new) writer.old result }
     ensures does { ClosesAsAsked now (seen_in D.Disk R.Directory stripe.old).device.faults (seen_in D.Disk R.Directory stripe.new).device.faults
@@ -140,7 +140,7 @@ fn end<D: Disk, R: Directory + Drop, C: Chronicle>(
     requires row { 0 < room_for writer.old.put stripe.old.actors }
     requires table { 0 < writer.old.table.room }
     ensures stripe { IsStripe D.Disk R.Directory C.Chronicle stripe.new }
-    ensures unharmed { StaysUnharmed D.Disk R.Directory C.Chronicle stripe.old stripe.new }
+    ensures unharmed { Between D.Disk R.Directory C.Chronicle stripe.old stripe.new }
     ensures quiet { IsQuiet (state_in C.Chronicle stripe.new) }
     ensures ends { EndsWhere (state_in C.Chronicle stripe.new) writer.old result }
     ensures does { EndsAsAsked now (seen_in D.Disk R.Directory stripe.old).device.faults (seen_in D.Disk R.Directory stripe.new).device.faults

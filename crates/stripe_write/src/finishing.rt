@@ -12,7 +12,7 @@ ghost use Rattle.stripe_core.specs.Flush.{StopsWith};
 ghost use Rattle.stripe_core.specs.Place.{RoomsAsAsked};
 ghost use Rattle.stripe_core.specs.Counts.{IsCounted};
 ghost use Rattle.stripe_core.specs.Stripe.{Answers, IsStripe, kept_in, seen_in, state_in, units_in};
-ghost use Rattle.stripe_core.specs.Unharmed.{StaysUnharmed};
+ghost use Rattle.stripe_core.specs.Between.{Between};
 ghost use Rattle.stripe_write.specs.Others.{AddsOfPut};
 ghost use Rattle.stripe_write.specs.Writers.{IsWriterOf};
 ghost use Rattle.stripe_write.specs.Closing.{AreSpelled};
@@ -75,7 +75,7 @@ pub(crate) fn finish<D: Disk, R: Directory + Drop, C: Chronicle>(
     requires spelled { AreSpelled (state_in C.Chronicle stripe.old).geometry writer.now vectors.now }
     requires units { 3 ≤ units_in stripe.old }
     ensures stripe { IsStripe D.Disk R.Directory C.Chronicle stripe.new }
-    ensures unharmed { StaysUnharmed D.Disk R.Directory C.Chronicle stripe.old stripe.new }
+    ensures unharmed { Between D.Disk R.Directory C.Chronicle stripe.old stripe.new }
     ensures quiet { IsQuiet (state_in C.Chronicle stripe.new) }
     ensures finishes { FinishesWhere (state_in C.Chronicle stripe.new) writer.now result }
     ensures does { FinishesAsRead now (seen_in D.Disk R.Directory stripe.old).device.faults (seen_in D.Disk R.Directory stripe.new).device.faults
@@ -107,7 +107,7 @@ fn end<D: Disk, R: Directory + Drop, C: Chronicle>(
     requires room { has_room (state_in C.Chronicle stripe.old) (bytes_now (state_in C.Chronicle stripe.old) writer.now vectors.now) ≡ true }
     requires units { 2 ≤ units_in stripe.old }
     ensures stripe { IsStripe D.Disk R.Directory C.Chronicle stripe.new }
-    ensures unharmed { StaysUnharmed D.Disk R.Directory C.Chronicle stripe.old stripe.new }
+    ensures unharmed { Between D.Disk R.Directory C.Chronicle stripe.old stripe.new }
     ensures quiet { IsQuiet (state_in C.Chronicle stripe.new) }
     ensures finishes { FinishesWhere (state_in C.Chronicle stripe.new) writer.now result }
     ensures does { FinishesAsRead now (seen_in D.Disk R.Directory stripe.old).device.faults (seen_in D.Disk R.Directory stripe.new).device.faults
@@ -135,7 +135,7 @@ fn make_room<D: Disk, R: Directory + Drop, C: Chronicle>(
     requires spelled { AreSpelled (state_in C.Chronicle stripe.old).geometry writer.now vectors.now }
     requires units { 1 ≤ units_in stripe.old }
     ensures stripe { IsStripe D.Disk R.Directory C.Chronicle stripe.new }
-    ensures unharmed { StaysUnharmed D.Disk R.Directory C.Chronicle stripe.old stripe.new }
+    ensures unharmed { Between D.Disk R.Directory C.Chronicle stripe.old stripe.new }
     ensures full { OnErr result (has_room (state_in C.Chronicle stripe.old) (bytes_now (state_in C.Chronicle stripe.old) writer.now vectors.now) ≡ false) }
     ensures does { Answers result (RoomsAsAsked now (kept_in C.Chronicle stripe.old) (kept_in C.Chronicle stripe.new) (seen_in D.Disk R.Directory stripe.old).device.faults
         (seen_in D.Disk R.Directory stripe.new).device (bytes_now (state_in C.Chronicle stripe.old) writer.now vectors.now)) ⊥ }
@@ -183,7 +183,7 @@ fn lose<D: Disk, R: Directory + Drop, C: Chronicle>(
     requires lost { live_row_of (state_in C.Chronicle stripe.old) (fragment_piece writer.now.key writer.now.put index) ≡ None }
     requires units { 1 ≤ units_in stripe.old }
     ensures stripe { IsStripe D.Disk R.Directory C.Chronicle stripe.new }
-    ensures unharmed { StaysUnharmed D.Disk R.Directory C.Chronicle stripe.old stripe.new }
+    ensures unharmed { Between D.Disk R.Directory C.Chronicle stripe.old stripe.new }
     ensures quiet { IsQuiet (state_in C.Chronicle stripe.new) }
     ensures lost { result ≡ refusal.Lost index (cause_of_piece (state_in C.Chronicle stripe.new) (fragment_piece writer.now.key writer.now.put index)) }
     ensures adds { kept_in C.Chronicle stripe.new ≡ with_records (kept_in C.Chronicle stripe.old) (rec.Aborted writer.now.put writer.now.key ∷ []) }
@@ -217,7 +217,7 @@ fn complete<D: Disk, R: Directory + Drop, C: Chronicle>(
     requires whole { AreLive (state_in C.Chronicle stripe.old) writer.now (length writer.now.table.rows) }
     requires units { 2 ≤ units_in stripe.old }
     ensures stripe { IsStripe D.Disk R.Directory C.Chronicle stripe.new }
-    ensures unharmed { StaysUnharmed D.Disk R.Directory C.Chronicle stripe.old stripe.new }
+    ensures unharmed { Between D.Disk R.Directory C.Chronicle stripe.old stripe.new }
     ensures quiet { IsQuiet (state_in C.Chronicle stripe.new) }
     ensures finishes { FinishesWhere (state_in C.Chronicle stripe.new) writer.now result }
     ensures does { FinishesAsRead now (seen_in D.Disk R.Directory stripe.old).device.faults (seen_in D.Disk R.Directory stripe.new).device.faults
@@ -248,7 +248,7 @@ fn commit<D: Disk, R: Directory + Drop, C: Chronicle>(
     requires committing { IsCommitting (state_in C.Chronicle stripe.old) writer.now.put writer.now.key }
     requires unit { 1 ≤ units_in stripe.old }
     ensures stripe { IsStripe D.Disk R.Directory C.Chronicle stripe.new }
-    ensures unharmed { StaysUnharmed D.Disk R.Directory C.Chronicle stripe.old stripe.new }
+    ensures unharmed { Between D.Disk R.Directory C.Chronicle stripe.old stripe.new }
     ensures quiet { IsQuiet (state_in C.Chronicle stripe.new) }
     ensures adds { kept_in C.Chronicle stripe.new
         ≡ with_records (kept_in C.Chronicle stripe.old) (committed_record (state_in C.Chronicle stripe.old) writer.now.put writer.now.key ∷ []) }

@@ -8,7 +8,7 @@ ghost use Rattle.cache_model.specs.Kept.{with_records};
 ghost use Rattle.cache_model.specs.Legal.{IsQuiet, is_writing, most_fragments};
 ghost use Rattle.stripe_core.specs.Counts.{IsCounted};
 ghost use Rattle.stripe_core.specs.Stripe.{IsStripe, kept_in, room_for, seen_in, state_in, units_in};
-ghost use Rattle.stripe_core.specs.Unharmed.{StaysUnharmed};
+ghost use Rattle.stripe_core.specs.Between.{Between};
 ghost use Rattle.stripe_vectors.specs.Spelled.{IsSpelled};
 ghost use Rattle.stripe_write.specs.Others.{AddsOfPut};
 ghost use Rattle.stripe_write.specs.Writers.{IsWriterOf};
@@ -46,7 +46,7 @@ pub(crate) fn weigh<D: Disk, R: Directory + Drop, C: Chronicle>(
     requires open { is_writing (state_in C.Chronicle stripe.old) writer.now.put ≡ true }
     requires units { 2 ≤ units_in stripe.old }
     ensures stripe { IsStripe D.Disk R.Directory C.Chronicle stripe.new }
-    ensures unharmed { StaysUnharmed D.Disk R.Directory C.Chronicle stripe.old stripe.new }
+    ensures unharmed { Between D.Disk R.Directory C.Chronicle stripe.old stripe.new }
     ensures quiet { IsQuiet (state_in C.Chronicle stripe.new) }
     ensures weighs { WeighsWhere (state_in C.Chronicle stripe.old) writer.now result }
     ensures does { WeighsAsAsked (seen_in D.Disk R.Directory stripe.old).device (seen_in D.Disk R.Directory stripe.new).device
@@ -100,7 +100,7 @@ fn fit<D: Disk, R: Directory + Drop, C: Chronicle>(
     requires open { is_writing (state_in C.Chronicle stripe.old) writer.now.put ≡ true }
     requires units { 1 ≤ units_in stripe.old }
     ensures stripe { IsStripe D.Disk R.Directory C.Chronicle stripe.new }
-    ensures unharmed { StaysUnharmed D.Disk R.Directory C.Chronicle stripe.old stripe.new }
+    ensures unharmed { Between D.Disk R.Directory C.Chronicle stripe.old stripe.new }
     ensures quiet { IsQuiet (state_in C.Chronicle stripe.new) }
     ensures fits { FitsWhere (state_in C.Chronicle stripe.old) list writer.now result }
     ensures adds { kept_in C.Chronicle stripe.new ≡ with_records (kept_in C.Chronicle stripe.old) (fit_adds writer.now result) }

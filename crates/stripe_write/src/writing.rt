@@ -9,7 +9,7 @@ ghost use Rattle.stripe_core.specs.Acts.{OpensAsAsked, opened_record};
 ghost use Rattle.stripe_core.specs.Place.{CutsAsAsked};
 ghost use Rattle.stripe_core.specs.Counts.{IsCounted};
 ghost use Rattle.stripe_core.specs.Stripe.{Answers, HasMemory, IsStripe, kept_in, room_for, seen_in, state_in, units_in};
-ghost use Rattle.stripe_core.specs.Unharmed.{StaysUnharmed};
+ghost use Rattle.stripe_core.specs.Between.{Between};
 ghost use Rattle.stripe_write.specs.Numbers.{StopsAtLimit};
 ghost use Rattle.stripe_write.specs.Writers.{IsWriterOf};
 ghost use Rattle.stripe_write.specs.Writes.{AbortsAsAsked, AbortsWhere, GathersAsAsked, IsOverflow, IsReady, OverflowsAsAsked, SameButBytes, SameWriter, WritesAsAsked, WritesWhere, abort_adds, next_id, next_start, number_of, overflow_adds};
@@ -39,7 +39,7 @@ pub fn open_write<D: Disk, R: Directory + Drop, C: Chronicle>(
     requires stripe { IsStripe D.Disk R.Directory C.Chronicle stripe.old }
     requires quiet { IsQuiet (state_in C.Chronicle stripe.old) }
     ensures stripe { IsStripe D.Disk R.Directory C.Chronicle stripe.new }
-    ensures unharmed { StaysUnharmed D.Disk R.Directory C.Chronicle stripe.old stripe.new }
+    ensures unharmed { Between D.Disk R.Directory C.Chronicle stripe.old stripe.new }
     ensures quiet { IsQuiet (state_in C.Chronicle stripe.new) }
     ensures adds { OnOk result (kept_in C.Chronicle stripe.new
         ≡ with_records (kept_in C.Chronicle stripe.old) (opened_record (state_in C.Chronicle stripe.old) actor key request response pin ∷ [])) }
@@ -70,7 +70,7 @@ pub fn write<D: Disk, R: Directory + Drop, C: Chronicle>(
     requires quiet { IsQuiet (state_in C.Chronicle stripe.old) }
     requires writer { IsWriterOf (state_in C.Chronicle stripe.old) writer.old }
     ensures stripe { IsStripe D.Disk R.Directory C.Chronicle stripe.new }
-    ensures unharmed { StaysUnharmed D.Disk R.Directory C.Chronicle stripe.old stripe.new }
+    ensures unharmed { Between D.Disk R.Directory C.Chronicle stripe.old stripe.new }
     ensures quiet { IsQuiet (state_in C.Chronicle stripe.new) }
     ensures writes { WritesWhere (state_in C.Chronicle stripe.old) writer.old bytes.now result }
     ensures number { IfErr result (StopsAtLimit (state_in C.Chronicle stripe.new) (state_in C.Chronicle stripe.old).geometry.fragment) }
@@ -105,7 +105,7 @@ pub fn abort_write<D: Disk, R: Directory + Drop, C: Chronicle>(
     requires quiet { IsQuiet (state_in C.Chronicle stripe.old) }
     requires writer { IsWriterOf (state_in C.Chronicle stripe.old) writer.old }
     ensures stripe { IsStripe D.Disk R.Directory C.Chronicle stripe.new }
-    ensures unharmed { StaysUnharmed D.Disk R.Directory C.Chronicle stripe.old stripe.new }
+    ensures unharmed { Between D.Disk R.Directory C.Chronicle stripe.old stripe.new }
     ensures quiet { IsQuiet (state_in C.Chronicle stripe.new) }
     ensures adds { kept_in C.Chronicle stripe.new ≡ with_records (kept_in C.Chronicle stripe.old) (abort_adds writer.old.key result) }
     ensures aborts { AbortsWhere (state_in C.Chronicle stripe.old) writer.old.put result }
@@ -147,7 +147,7 @@ fn begin<D: Disk, R: Directory + Drop, C: Chronicle>(
     requires quiet { IsQuiet (state_in C.Chronicle stripe.old) }
     requires number { HasNumber (state_in C.Chronicle stripe.old) }
     ensures stripe { IsStripe D.Disk R.Directory C.Chronicle stripe.new }
-    ensures unharmed { StaysUnharmed D.Disk R.Directory C.Chronicle stripe.old stripe.new }
+    ensures unharmed { Between D.Disk R.Directory C.Chronicle stripe.old stripe.new }
     ensures quiet { IsQuiet (state_in C.Chronicle stripe.new) }
     ensures adds { OnOk result (kept_in C.Chronicle stripe.new
         ≡ with_records (kept_in C.Chronicle stripe.old) (opened_record (state_in C.Chronicle stripe.old) actor key request response pin ∷ [])) }
@@ -185,7 +185,7 @@ fn overflow<D: Disk, R: Directory + Drop, C: Chronicle>(
     requires open { is_writing (state_in C.Chronicle stripe.old) writer.now.put ≡ true }
     requires full { length writer.now.table.rows ≡ most_fragments }
     ensures stripe { IsStripe D.Disk R.Directory C.Chronicle stripe.new }
-    ensures unharmed { StaysUnharmed D.Disk R.Directory C.Chronicle stripe.old stripe.new }
+    ensures unharmed { Between D.Disk R.Directory C.Chronicle stripe.old stripe.new }
     ensures quiet { IsQuiet (state_in C.Chronicle stripe.new) }
     ensures refused { IsOverflow result }
     ensures adds { kept_in C.Chronicle stripe.new ≡ with_records (kept_in C.Chronicle stripe.old) (overflow_adds writer.now result) }
@@ -212,7 +212,7 @@ fn take<D: Disk, R: Directory + Drop, C: Chronicle>(
     requires unsealed { writer.old.sealed ≡ false }
     requires few { length writer.old.table.rows < most_fragments }
     ensures stripe { IsStripe D.Disk R.Directory C.Chronicle stripe.new }
-    ensures unharmed { StaysUnharmed D.Disk R.Directory C.Chronicle stripe.old stripe.new }
+    ensures unharmed { Between D.Disk R.Directory C.Chronicle stripe.old stripe.new }
     ensures quiet { IsQuiet (state_in C.Chronicle stripe.new) }
     ensures writes { WritesWhere (state_in C.Chronicle stripe.old) writer.old bytes.now result }
     ensures number { IfErr result (StopsAtLimit (state_in C.Chronicle stripe.new) (state_in C.Chronicle stripe.old).geometry.fragment) }
@@ -251,7 +251,7 @@ pub(crate) fn cut<D: Disk, R: Directory + Drop, C: Chronicle>(
     requires quiet { IsQuiet (state_in C.Chronicle stripe.old) }
     requires ready { IsReady (state_in C.Chronicle stripe.old) writer.old }
     ensures stripe { IsStripe D.Disk R.Directory C.Chronicle stripe.new }
-    ensures unharmed { StaysUnharmed D.Disk R.Directory C.Chronicle stripe.old stripe.new }
+    ensures unharmed { Between D.Disk R.Directory C.Chronicle stripe.old stripe.new }
     ensures quiet { IsQuiet (state_in C.Chronicle stripe.new) }
     ensures does { let w = writer.old in Answers result (CutsAsAsked now (kept_in C.Chronicle stripe.old) (kept_in C.Chronicle stripe.new)
         (seen_in D.Disk R.Directory stripe.old).device.faults (seen_in D.Disk R.Directory stripe.new).device (next_id w) w.pin (next_start w) w.gathered.items)

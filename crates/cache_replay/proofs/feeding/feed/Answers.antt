@@ -1,7 +1,7 @@
 use Rattle.std.proofs.Common.{ℕ, ◌+◌, ◌-◌, ◌<◌, ◌≤◌, arith}
 use Rattle.std.specs.Prelude.{Some, None}
 use Rattle.stripe_core.specs.Stripe.{kept_in, seen_in}
-use Rattle.stripe_core.proofs.Unharmed.{stays_unharmed-trans}
+use Rattle.stripe_core.proofs.Between.{between-trans}
 use Rattle.cache_replay.proofs.FeedEnds.{Ends}
 use Rattle.cache_replay.proofs.FeedTurns.{all_ends, bounds, fails_ends, goes_on, some_taken, wrote}
 use Rattle.cache_replay.proofs.feeding.feed.Given.{Over}
@@ -75,7 +75,7 @@ feed-preserved g c =
     c.if-taken-bytes.false c.write.ensures.stripe c.write.ensures.quiet c.write.ensures.later c.write.ensures.unharmed
 
 pub returns-in-Err-clause-unharmed : goal.returns-in-Err-clause-unharmed
-returns-in-Err-clause-unharmed g c = stays_unharmed-trans _ _ _ _ _ _ c.feed.invariant.unharmed c.write.ensures.unharmed
+returns-in-Err-clause-unharmed g c = between-trans _ _ _ _ _ _ c.feed.invariant.unharmed c.write.ensures.unharmed
 
 pub returns-then-taken-bytes-clause-unharmed : goal.returns-then-taken-bytes-clause-unharmed
-returns-then-taken-bytes-clause-unharmed g c = stays_unharmed-trans _ _ _ _ _ _ c.feed.invariant.unharmed c.write.ensures.unharmed
+returns-then-taken-bytes-clause-unharmed g c = between-trans _ _ _ _ _ _ c.feed.invariant.unharmed c.write.ensures.unharmed

@@ -8,7 +8,7 @@ use Rattle.cache_replay.proofs.PutEnds.{closes_fill, refused_fill}
 use Rattle.std.proofs.Common.{◌≤◌}
 use Rattle.cache_replay.specs.Outline.{count_of_refusal}
 use Rattle.cache_replay.proofs.Counts.{close_counts, err_when, feed_counts, losses_own}
-use Rattle.stripe_core.proofs.Unharmed.{stays_unharmed-trans}
+use Rattle.stripe_core.proofs.Between.{between-trans}
 use Rattle.cache_replay.proofs.putting.fill.Goals as goal
 
 pub returns-in-None-clause-fills : goal.returns-in-None-clause-fills
@@ -53,4 +53,4 @@ returns-in-Some-clause-counts g c = λ none.
     (subst (FeedsWhere c.args.now b m (kept_in g.C.Chronicle c.args.stripe.now) (kept_in g.C.Chronicle c.feed.new.stripe) c.args.writer.now c.args.body.now) c.in-Some.is c.feed.ensures.feeds)
 
 pub returns-in-None-clause-unharmed : goal.returns-in-None-clause-unharmed
-returns-in-None-clause-unharmed g c = stays_unharmed-trans _ _ _ _ _ _ c.feed.ensures.unharmed c.close_write.ensures.unharmed
+returns-in-None-clause-unharmed g c = between-trans _ _ _ _ _ _ c.feed.ensures.unharmed c.close_write.ensures.unharmed

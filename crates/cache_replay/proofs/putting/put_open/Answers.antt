@@ -4,7 +4,7 @@ use Rattle.std.proofs.Common.{◌≤◌, sym, subst}
 use Rattle.std.specs.Prelude.{IfErr}
 use Rattle.cache_replay.specs.Outline.{count_of_refusal}
 use Rattle.cache_replay.proofs.Counts.{err_now, err_when, unless_counts}
-use Rattle.stripe_core.proofs.Unharmed.{stays_unharmed-trans}
+use Rattle.stripe_core.proofs.Between.{between-trans}
 use Rattle.cache_replay.proofs.putting.put_open.Goals as goal
 
 pub returns-clause-ends : goal.returns-clause-ends
@@ -24,4 +24,4 @@ returns-clause-counts g c =
     (unless_counts mid faults c.abort_write-end.result c.fill-result.result c.abort_write-end.ensures.later (err_now (λ why. count_of_refusal why ≤ mid) c.fill-result.result none c.fill-result.ensures.counts)))
 
 pub returns-clause-unharmed : goal.returns-clause-unharmed
-returns-clause-unharmed g c = stays_unharmed-trans _ _ _ _ _ _ c.fill-result.ensures.unharmed c.abort_write-end.ensures.unharmed
+returns-clause-unharmed g c = between-trans _ _ _ _ _ _ c.fill-result.ensures.unharmed c.abort_write-end.ensures.unharmed

@@ -1,7 +1,7 @@
 use Rattle.stripe_core.specs.Stripe.{kept_in, seen_in}
 use Rattle.stripe_read.proofs.Beginning.{adds_then, never_fails, opens_then, quiet_then, reader_then, tells_then}
 use Rattle.stripe_read.proofs.Owning.{owns_open}
-use Rattle.stripe_core.proofs.Unharmed.{stays_unharmed-trans}
+use Rattle.stripe_core.proofs.Between.{between-trans}
 use Rattle.stripe_read.proofs.opening.open_read.Goals as goal
 
 pub returns-clause-quiet : goal.returns-clause-quiet
@@ -37,11 +37,11 @@ returns-clause-own g c =
     c.begin.result c.begin.ensures.adds c.begin.ensures.opens) c.begin.ensures.memory
 
 pub returns-in_err-looked-clause-unharmed : goal.returns-in_err-looked-clause-unharmed
-returns-in_err-looked-clause-unharmed g c = stays_unharmed-trans _ _ _ _ _ _ c.prepare.ensures.unharmed c.look_up.ensures.unharmed
+returns-in_err-looked-clause-unharmed g c = between-trans _ _ _ _ _ _ c.prepare.ensures.unharmed c.look_up.ensures.unharmed
 
 pub returns-clause-unharmed : goal.returns-clause-unharmed
 returns-clause-unharmed g c =
-    stays_unharmed-trans _ _ _ _ _ _ c.prepare.ensures.unharmed (stays_unharmed-trans _ _ _ _ _ _ c.look_up.ensures.unharmed c.begin.ensures.unharmed)
+    between-trans _ _ _ _ _ _ c.prepare.ensures.unharmed (between-trans _ _ _ _ _ _ c.look_up.ensures.unharmed c.begin.ensures.unharmed)
 
 pub returns-clause-tells : goal.returns-clause-tells
 returns-clause-tells g c =

@@ -1,6 +1,6 @@
 use Rattle.std.proofs.Common.{Bool, Err, sym, subst, refl, inl}
 use Rattle.stripe_core.specs.Stripe.{kept_in, seen_in, state_in}
-use Rattle.stripe_core.proofs.Unharmed.{stays_unharmed-trans}
+use Rattle.stripe_core.proofs.Between.{between-trans}
 use Rattle.stripe_write.specs.declared.writer.Writer.{Writer}
 use Rattle.stripe_write.specs.Writers.{IsWriterOf}
 use Rattle.stripe_write.specs.Closes.{SealsWhere}
@@ -47,4 +47,4 @@ pub returns-in-Err-clause-rested : goal.returns-in-Err-clause-rested
 returns-in-Err-clause-rested g c = inl (record { put = refl; gathered = refl; rows = refl })
 
 pub returns-in-Ok-clause-unharmed : goal.returns-in-Ok-clause-unharmed
-returns-in-Ok-clause-unharmed g c = stays_unharmed-trans _ _ _ _ _ _ c.weigh.ensures.unharmed c.end.ensures.unharmed
+returns-in-Ok-clause-unharmed g c = between-trans _ _ _ _ _ _ c.weigh.ensures.unharmed c.end.ensures.unharmed

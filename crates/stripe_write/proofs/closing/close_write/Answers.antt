@@ -2,7 +2,7 @@ use Rattle.std.proofs.Common.{sym, subst, refl, inl}
 use Rattle.cache_model.specs.Kept.{state_of}
 use Rattle.stripe_core.specs.declared.refusal.Refusal.TheVariants as refusal
 use Rattle.stripe_core.specs.Stripe.{kept_in, state_in}
-use Rattle.stripe_core.proofs.Unharmed.{stays_unharmed-trans}
+use Rattle.stripe_core.proofs.Between.{between-trans}
 use Rattle.stripe_write.specs.Writers.{IsWriterOf}
 use Rattle.stripe_write.specs.Others.{AddsOfPut}
 use Rattle.stripe_write.proofs.Owning.{owns_none}
@@ -51,4 +51,4 @@ pub returns-in-Ok-clause-rested : goal.returns-in-Ok-clause-rested
 returns-in-Ok-clause-rested g c = rested_same c.args.writer.now c.make_memory.new.writer c.close_open.new.writer c.make_memory.ensures.same c.close_open.ensures.rested
 
 pub returns-in-Ok-clause-unharmed : goal.returns-in-Ok-clause-unharmed
-returns-in-Ok-clause-unharmed g c = stays_unharmed-trans _ _ _ _ _ _ c.make_memory.ensures.unharmed c.close_open.ensures.unharmed
+returns-in-Ok-clause-unharmed g c = between-trans _ _ _ _ _ _ c.make_memory.ensures.unharmed c.close_open.ensures.unharmed

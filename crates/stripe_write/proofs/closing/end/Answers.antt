@@ -10,7 +10,7 @@ use Rattle.stripe_write.proofs.LastCut.{rest_own}
 use Rattle.stripe_write.proofs.Owning.{then_owns}
 use Rattle.stripe_write.proofs.LastSteps.{no_rest_ends, rest_then_finish}
 use Rattle.stripe_write.proofs.Sealing.{IsSealed, cut_same, sealed_same, sealed_writer, spelled_same, then_same}
-use Rattle.stripe_core.proofs.Unharmed.{stays_unharmed-trans}
+use Rattle.stripe_core.proofs.Between.{between-trans}
 use Rattle.stripe_write.proofs.closing.end.Goals as goal
 
 pub cut_rest-requires-clause-writer : goal.cut_rest-requires-clause-writer
@@ -66,4 +66,4 @@ pub returns-in-Err-clause-rested : goal.returns-in-Err-clause-rested
 returns-in-Err-clause-rested g c = let same = c.in-Err.ensures.same in inl (record { put = same.put; gathered = same.gathered; rows = same.rows })
 
 pub returns-in-Ok-clause-unharmed : goal.returns-in-Ok-clause-unharmed
-returns-in-Ok-clause-unharmed g c = stays_unharmed-trans _ _ _ _ _ _ c.cut_rest.ensures.unharmed c.finish.ensures.unharmed
+returns-in-Ok-clause-unharmed g c = between-trans _ _ _ _ _ _ c.cut_rest.ensures.unharmed c.finish.ensures.unharmed

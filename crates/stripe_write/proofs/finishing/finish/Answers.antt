@@ -1,5 +1,5 @@
 use Rattle.std.proofs.Common.{sym, ◌∙◌, subst}
-use Rattle.stripe_core.proofs.Unharmed.{stays_unharmed-trans}
+use Rattle.stripe_core.proofs.Between.{between-trans}
 use Rattle.stripe_core.specs.Place.{RoomsAsAsked}
 use Rattle.stripe_core.specs.Stripe.{kept_in, seen_in, state_in}
 use Rattle.stripe_write.specs.Closing.{AreSpelled}
@@ -32,7 +32,7 @@ end-requires-clause-room g c =
     c.in-Ok.ensures.does c.in-Ok.ensures.room
 
 pub returns-in-Ok-clause-unharmed : goal.returns-in-Ok-clause-unharmed
-returns-in-Ok-clause-unharmed g c = stays_unharmed-trans _ _ _ _ _ _ c.make_room.ensures.unharmed c.end.ensures.unharmed
+returns-in-Ok-clause-unharmed g c = between-trans _ _ _ _ _ _ c.make_room.ensures.unharmed c.end.ensures.unharmed
 
 pub end-requires-clause-writer : goal.end-requires-clause-writer
 end-requires-clause-writer g c =

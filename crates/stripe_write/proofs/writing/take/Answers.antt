@@ -2,7 +2,7 @@ use Rattle.std.proofs.Common.{◌≡◌, ◌+◌, ◌<◌, ℕ, refl, sym, ◌�
 use Rattle.std.proofs.lemmas.Result.{err_from_is_err_and}
 use Rattle.cache_model.specs.Kept.{state_of}
 use Rattle.cache_model.specs.Legal.{is_writing}
-use Rattle.stripe_core.proofs.Unharmed.{stays_unharmed-trans}
+use Rattle.stripe_core.proofs.Between.{between-trans}
 use Rattle.stripe_core.specs.Stripe.{kept_in, state_in}
 use Rattle.stripe_write.specs.Writers.{IsWriterOf}
 use Rattle.stripe_write.specs.declared.writer.Writer.{Writer}
@@ -88,10 +88,10 @@ returns-in_err-extend_from_slice-clause-does g c =
     writes_wanting c.args.now (kept_in g.C.Chronicle c.args.stripe.now) (kept_in g.C.Chronicle c.prepare.new.self) _ _ c.args.writer.now c.args.bytes.now _ _ (wanting.1 ∙ ap Err wanting.2) c.prepare.ensures.records
 
 pub returns-in-Ok-clause-unharmed : goal.returns-in-Ok-clause-unharmed
-returns-in-Ok-clause-unharmed g c = stays_unharmed-trans _ _ _ _ _ _ c.prepare.ensures.unharmed c.cut.ensures.unharmed
+returns-in-Ok-clause-unharmed g c = between-trans _ _ _ _ _ _ c.prepare.ensures.unharmed c.cut.ensures.unharmed
 
 pub returns-in-Err-clause-unharmed : goal.returns-in-Err-clause-unharmed
-returns-in-Err-clause-unharmed g c = stays_unharmed-trans _ _ _ _ _ _ c.prepare.ensures.unharmed c.cut.ensures.unharmed
+returns-in-Err-clause-unharmed g c = between-trans _ _ _ _ _ _ c.prepare.ensures.unharmed c.cut.ensures.unharmed
 
 pub returns-then-taken-room-clause-does : goal.returns-then-taken-room-clause-does
 returns-then-taken-room-clause-does g c =

@@ -8,7 +8,7 @@ use Rattle.stripe_core.proofs.Doings.{held_behind, one_record, reader_behind}
 use Rattle.stripe_core.proofs.Sparing.{made_behind, numbered_by}
 use Rattle.stripe_core.proofs.Naming.{name_left, named_behind}
 use Rattle.logged_disk.proofs.GoingOn.{stays_put}
-use Rattle.stripe_core.proofs.Unharmed.{stays_unharmed-adds}
+use Rattle.stripe_core.proofs.Between.{between-adds}
 use Rattle.stripe_core.proofs.stripe.Stripe.end_read.Goals as goal
 
 pub returns-clause-stripe : goal.returns-clause-stripe
@@ -30,4 +30,4 @@ returns-clause-stripe g c =
 
 pub returns-clause-unharmed : goal.returns-clause-unharmed
 returns-clause-unharmed g c =
-    stays_unharmed-adds _ _ (kept_in g.C.Chronicle c.args.self.now) (g.C.Chronicle.kept c.read_closed.new.chronicle) (rec.ReadClosed c.args.reader ∷ []) c.read_closed.ensures.kept (stays_put _) (λ told. (refl, tt))
+    between-adds _ _ (kept_in g.C.Chronicle c.args.self.now) (g.C.Chronicle.kept c.read_closed.new.chronicle) (rec.ReadClosed c.args.reader ∷ []) c.read_closed.ensures.kept (stays_put _) (λ told. (refl, tt))

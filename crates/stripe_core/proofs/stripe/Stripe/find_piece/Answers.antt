@@ -6,7 +6,7 @@ use Rattle.stripe_core.specs.Stripe.{flushes_in, kept_in, seen_in, state_in, uni
 use Rattle.stripe_core.proofs.Sparing.{actors_with, find_are_others, made_still, numbered_others, spent_calm}
 use Rattle.stripe_core.proofs.Naming.{find_leaves, named_with}
 use Rattle.logged_disk.proofs.GoingOn.{goes_further}
-use Rattle.stripe_core.proofs.Unharmed.{stays_unharmed-adds, stays_unharmed-trans}
+use Rattle.stripe_core.proofs.Between.{between-adds, between-trans}
 use Rattle.stripe_core.proofs.stripe.Stripe.find_piece.Goals as goal
 
 pub returns-clause-stripe : goal.returns-clause-stripe
@@ -43,8 +43,8 @@ returns-clause-finds g c =
 pub returns-clause-unharmed : goal.returns-clause-unharmed
 returns-clause-unharmed g c =
     let kept = kept_in g.C.Chronicle c.take_unit.new.self in
-    stays_unharmed-trans _ _ _ _ _ _ c.take_unit.ensures.unharmed
-    (stays_unharmed-adds _ _ kept _ (find_adds (state_in g.C.Chronicle c.take_unit.new.self) c.args.id c.find.result) c.find.ensures.adds c.find.ensures.uses.goes c.find.ensures.unharmed)
+    between-trans _ _ _ _ _ _ c.take_unit.ensures.unharmed
+    (between-adds _ _ kept _ (find_adds (state_in g.C.Chronicle c.take_unit.new.self) c.args.id c.find.result) c.find.ensures.adds c.find.ensures.uses.goes c.find.ensures.unharmed)
 
 pub returns-clause-unwritten : goal.returns-clause-unwritten
 returns-clause-unwritten g c = record {

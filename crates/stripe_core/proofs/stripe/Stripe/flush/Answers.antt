@@ -8,7 +8,7 @@ use Rattle.stripe_core.specs.Stripe.{Answers, HasMemory, flushes_in, kept_in, se
 use Rattle.stripe_core.proofs.Asked.{behind_unit, stop_has_memory}
 use Rattle.stripe_core.proofs.Naming.{flush_leaves, named_with}
 use Rattle.stripe_core.proofs.Sparing.{actors_with, answers_stop, flush_is_others, made_still, nothing_in_buffer, numbered_others, spent_by}
-use Rattle.stripe_core.proofs.Unharmed.{stays_unharmed-adds, stays_unharmed-trans}
+use Rattle.stripe_core.proofs.Between.{between-adds, between-trans}
 use Rattle.stripe_core.proofs.stripe.Stripe.flush.Goals as goal
 
 pub returns-in-Err-clause-does : goal.returns-in-Err-clause-does
@@ -69,14 +69,14 @@ returns-in-Err-clause-stripe g c =
 pub returns-in-Ok-clause-unharmed : goal.returns-in-Ok-clause-unharmed
 returns-in-Ok-clause-unharmed g c =
     let does = c.in-Ok.ensures.does in
-    stays_unharmed-trans _ _ _ _ _ _ c.take_unit.ensures.unharmed
-    (stays_unharmed-adds _ _ (kept_in g.C.Chronicle c.take_unit.new.self) _ does.added does.adds c.flush.ensures.uses.goes does.unharmed)
+    between-trans _ _ _ _ _ _ c.take_unit.ensures.unharmed
+    (between-adds _ _ (kept_in g.C.Chronicle c.take_unit.new.self) _ does.added does.adds c.flush.ensures.uses.goes does.unharmed)
 
 pub returns-in-Err-clause-unharmed : goal.returns-in-Err-clause-unharmed
 returns-in-Err-clause-unharmed g c =
     let does = c.in-Err.ensures.does in
-    stays_unharmed-trans _ _ _ _ _ _ c.take_unit.ensures.unharmed
-    (stays_unharmed-adds _ _ (kept_in g.C.Chronicle c.take_unit.new.self) _ does.added does.adds c.flush.ensures.uses.goes does.unharmed)
+    between-trans _ _ _ _ _ _ c.take_unit.ensures.unharmed
+    (between-adds _ _ (kept_in g.C.Chronicle c.take_unit.new.self) _ does.added does.adds c.flush.ensures.uses.goes does.unharmed)
 
 pub returns-in-Err-clause-stops : goal.returns-in-Err-clause-stops
 returns-in-Err-clause-stops g c =

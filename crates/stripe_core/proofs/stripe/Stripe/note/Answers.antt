@@ -8,7 +8,7 @@ use Rattle.stripe_core.proofs.Doings.{answer_keeps_readers, answer_leaves, answe
 use Rattle.stripe_core.proofs.Sparing.{made_behind, numbered_by}
 use Rattle.stripe_core.proofs.Naming.{answer_leaves_names, named_behind}
 use Rattle.logged_disk.proofs.GoingOn.{stays_put}
-use Rattle.stripe_core.proofs.Unharmed.{answer_tells_none, stays_unharmed-adds}
+use Rattle.stripe_core.proofs.Between.{answer_tells_none, between-adds}
 use Rattle.stripe_core.proofs.stripe.Stripe.note.Goals as goal
 
 pub returns-clause-stripe : goal.returns-clause-stripe
@@ -32,5 +32,5 @@ returns-clause-stripe g c =
 
 pub returns-clause-unharmed : goal.returns-clause-unharmed
 returns-clause-unharmed g c =
-    stays_unharmed-adds _ _ (kept_in g.C.Chronicle c.args.self.now) (g.C.Chronicle.kept c.answered.new.chronicle) (answer_record c.args.reader c.args.answer ∷ []) c.answered.ensures.kept (stays_put _)
+    between-adds _ _ (kept_in g.C.Chronicle c.args.self.now) (g.C.Chronicle.kept c.answered.new.chronicle) (answer_record c.args.reader c.args.answer ∷ []) c.answered.ensures.kept (stays_put _)
     (λ told. (answer_tells_none c.args.reader c.args.answer, tt))

@@ -11,7 +11,7 @@ use Rattle.stripe_core.proofs.Asked.{stop_has_memory}
 use Rattle.stripe_core.proofs.Flushes.{state_of-with_records}
 use Rattle.stripe_core.proofs.Sparing.{actors_with, answers_stop, flush_is_others, fragment_actors, fragment_readers, made_still, no_vector_id, numbered_by, numbered_others, placed_state, room_for_it, spent_by}
 use Rattle.stripe_core.proofs.Naming.{begun_put, flush_leaves, fragment_named, fragment_new, named_with, small_size}
-use Rattle.stripe_core.proofs.Unharmed.{stays_unharmed-adds}
+use Rattle.stripe_core.proofs.Between.{between-adds}
 use Rattle.stripe_core.proofs.stripe.Stripe.place_fragment.Goals as goal
 
 pub returns-in-Ok-clause-stripe : goal.returns-in-Ok-clause-stripe
@@ -87,12 +87,12 @@ returns-in-Err-clause-memory g c = λ some. subst (λ r. HasMemory {X = Placed} 
 pub returns-in-Ok-clause-unharmed : goal.returns-in-Ok-clause-unharmed
 returns-in-Ok-clause-unharmed g c =
     let does = c.in-Ok.ensures.does in
-    stays_unharmed-adds _ _ (kept_in g.C.Chronicle c.args.self.now) _ does.added does.adds c.place_fragment.ensures.uses.goes does.unharmed
+    between-adds _ _ (kept_in g.C.Chronicle c.args.self.now) _ does.added does.adds c.place_fragment.ensures.uses.goes does.unharmed
 
 pub returns-in-Err-clause-unharmed : goal.returns-in-Err-clause-unharmed
 returns-in-Err-clause-unharmed g c =
     let does = c.in-Err.ensures.does in
-    stays_unharmed-adds _ _ (kept_in g.C.Chronicle c.args.self.now) _ does.added does.adds c.place_fragment.ensures.uses.goes does.unharmed
+    between-adds _ _ (kept_in g.C.Chronicle c.args.self.now) _ does.added does.adds c.place_fragment.ensures.uses.goes does.unharmed
 
 pub place_fragment-requires-clause-new : goal.place_fragment-requires-clause-new
 place_fragment-requires-clause-new g c =

@@ -6,7 +6,7 @@ use Rattle.stripe_core.specs.Place.{CutsAsAsked, PlacesAsAsked, PlacesVector}
 use Rattle.stripe_core.specs.Stripe.{kept_in, room_for, seen_in}
 use Rattle.stripe_core.proofs.Asked.{behind_unit}
 use Rattle.stripe_core.proofs.Sparing.{answers_map}
-use Rattle.stripe_core.proofs.Unharmed.{stays_unharmed-trans}
+use Rattle.stripe_core.proofs.Between.{between-trans}
 use Rattle.stripe_core.proofs.stripe.Stripe.place_piece.Goals as goal
 
 pub returns-then-id-eq0-clause-does : goal.returns-then-id-eq0-clause-does
@@ -44,10 +44,10 @@ returns-else-id-eq0-clause-does g c =
     (λ same. subst (λ k. new ≡ k) c.take_unit.ensures.records same) c.place_fragment.ensures.does
 
 pub returns-then-id-eq0-clause-unharmed : goal.returns-then-id-eq0-clause-unharmed
-returns-then-id-eq0-clause-unharmed g c = stays_unharmed-trans _ _ _ _ _ _ c.take_unit.ensures.unharmed c.place_vector.ensures.unharmed
+returns-then-id-eq0-clause-unharmed g c = between-trans _ _ _ _ _ _ c.take_unit.ensures.unharmed c.place_vector.ensures.unharmed
 
 pub returns-else-id-eq0-clause-unharmed : goal.returns-else-id-eq0-clause-unharmed
-returns-else-id-eq0-clause-unharmed g c = stays_unharmed-trans _ _ _ _ _ _ c.take_unit.ensures.unharmed c.place_fragment.ensures.unharmed
+returns-else-id-eq0-clause-unharmed g c = between-trans _ _ _ _ _ _ c.take_unit.ensures.unharmed c.place_fragment.ensures.unharmed
 
 pub returns-else-id-eq0-clause-memory : goal.returns-else-id-eq0-clause-memory
 returns-else-id-eq0-clause-memory g c = λ some made.

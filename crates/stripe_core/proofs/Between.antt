@@ -11,11 +11,12 @@ use Rattle.cache_model.specs.Legal.{answer_record}
 use Rattle.cache_model.specs.Kept.{Kept, state_of, with_records}
 use Rattle.cache_model.proofs.Steps.{after_all-append}
 use Rattle.cache_model.specs.Damage.{TellNoDamage, tells_damage, has_damage}
-use Rattle.stripe_core.specs.Unharmed.{IsUnharmed, StayUnharmed}
+use Rattle.stripe_core.specs.Unharmed.{IsUnharmed}
+use Rattle.stripe_core.specs.Between.{IsBetween}
 
 -- one call behind another
-pub stays_unharmed-trans : (a b c : Device) (s t u : State) → StayUnharmed a b s t → StayUnharmed b c t u → StayUnharmed a c s u
-stays_unharmed-trans a b c s t u first next =
+pub between-trans : (a b c : Device) (s t u : State) → IsBetween a b s t → IsBetween b c t u → IsBetween a c s u
+between-trans a b c s t u first next =
     record { goes = goes_further a b c first.goes next.goes; unharmed = λ (h : IsUnharmed a s). next.unharmed (first.unharmed h) }
 
 -- ---- records that tell no damage
@@ -32,9 +33,9 @@ after_records s [] none h = h
 after_records s (r ∷ recs) none h = after_records (state_after s r) recs none.1 (after_record s r none.0 h)
 
 -- a call that adds records which tell no damage, where its device tells its content
-pub stays_unharmed-adds : (a b : Device) (old new : Kept) (recs : List Rec) → new ≡ with_records old recs → IsAfter a b → (TellsAll b → TellNoDamage recs)
-    → StayUnharmed a b (state_of old) (state_of new)
-stays_unharmed-adds a b old new recs is goes none = record {
+pub between-adds : (a b : Device) (old new : Kept) (recs : List Rec) → new ≡ with_records old recs → IsAfter a b → (TellsAll b → TellNoDamage recs)
+    → IsBetween a b (state_of old) (state_of new)
+between-adds a b old new recs is goes none = record {
   goes = goes;
   unharmed = λ (h : IsUnharmed a (state_of old)). record {
     unharmed = λ told.
@@ -44,9 +45,9 @@ stays_unharmed-adds a b old new recs is goes none = record {
 }
 
 -- a call that adds no record
-pub stays_unharmed-none : (a b : Device) (old new : Kept) → new ≡ old → IsAfter a b → StayUnharmed a b (state_of old) (state_of new)
-stays_unharmed-none a b old new same goes =
-    stays_unharmed-adds a b old new [] (same ∙ sym (ap (λ recs. record { base = old.base; since = recs }) (append-nil old.since))) goes (λ told. tt)
+pub between-none : (a b : Device) (old new : Kept) → new ≡ old → IsAfter a b → IsBetween a b (state_of old) (state_of new)
+between-none a b old new same goes =
+    between-adds a b old new [] (same ∙ sym (ap (λ recs. record { base = old.base; since = recs }) (append-nil old.since))) goes (λ told. tt)
 
 -- what a reader was answered tells no damage
 pub answer_tells_none : (reader : ℕ) (answer : NextAnswer) → tells_damage (answer_record reader answer) ≡ false
@@ -56,8 +57,8 @@ answer_tells_none reader (next.Waited cut) = refl
 answer_tells_none reader (next.Broke why) = refl
 
 -- where nothing changed
-pub unharmed_same : (a b : Device) (s t : State) → b ≡ a → t ≡ s → StayUnharmed a b s t
-unharmed_same a b s t device state = record {
+pub between_same : (a b : Device) (s t : State) → b ≡ a → t ≡ s → IsBetween a b s t
+between_same a b s t device state = record {
   goes = stays_as a b device;
   unharmed = λ (h : IsUnharmed a s). subst (λ x. IsUnharmed b x) (sym state) (subst (λ d. IsUnharmed d s) (sym device) h);
 }
