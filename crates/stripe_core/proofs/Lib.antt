@@ -8,6 +8,7 @@ pub mod Going
 mod Starting
 pub mod Candidates
 pub mod Counting
+pub mod Covering
 mod Flushes
 mod Telling
 mod Told

@@ -1,5 +1,5 @@
 -- The steps in which a call may stand, and what a call uses up.
-use Rattle.std.specs.Prelude.{ℕ, ◌≡◌, ◌+◌, ◌/◌, ◌≤◌, false, List, ◌∷◌, ◌++◌, length, Option}
+use Rattle.std.specs.Prelude.{ℕ, ◌≡◌, ◌+◌, ◌-◌, ◌/◌, ◌≤◌, false, List, ◌∷◌, ◌++◌, length, take, Option}
 use Rattle.std.specs.List.{AllByRecursion}
 use Rattle.device_log.specs.Image.{span}
 use Rattle.device_log.specs.Calls.{ToRead, ToWrite, ToSync, Call, Read, Wrote, Synced, RefusedCall, Told, PowerCut, Flipped}
@@ -9,6 +9,10 @@ use Rattle.cache_model.specs.declared.record.Rec.{Rec}
 use Rattle.cache_model.specs.State.{State}
 use Rattle.cache_model.specs.Permit.{End, Intent, IsAmong, Permit, Reason, work_after}
 use Rattle.cache_model.specs.Legal.{MayGrow}
+
+-- the calls between two moments of a log, the newest first
+abbrev pub calls_since : (before after : List Call) → List Call
+calls_since before after = take (length after - length before) after
 
 -- the step knows each call that the device made between these two moments of its log, the directory displaces nothing, and
 -- the content area begins at the first block

@@ -1,0 +1,57 @@
+-- A step that one call alone makes, and what covers the parts of a step.
+use Rattle.std.proofs.Common.{◌≡◌, ℕ, ◌+◌, ◌-◌, false, List, [], ◌∷◌, ◌++◌, refl, sym, ◌∙◌, ap, subst, arith, inl, inr, length, take, append_assoc}
+use Rattle.std.specs.List.{AllByRecursion}
+use Rattle.device_log.specs.Calls.{Call}
+use Rattle.cache_model.specs.Permit.{IsAmong, Permit}
+use Rattle.cache_model.proofs.Steps.{all_parts}
+use Rattle.stripe_core.specs.Covers.{Covers, calls_since}
+
+-- ---- the calls between two moments
+
+taken_front : (made before : List Call) (n : ℕ) → n ≡ length made → take n (made ++ before) ≡ made
+taken_front [] before n is = rw is refl
+taken_front (call ∷ made) before n is = rw is (ap (λ rest. call ∷ rest) (taken_front made before (length made) refl))
+
+pub since_is : (before after made : List Call) → after ≡ made ++ before → calls_since before after ≡ made
+since_is before after made is =
+    rw is (taken_front made before (length (made ++ before) - length before) (let sum : length (made ++ before) ≡ length made + length before = length-append made before in omega arith))
+
+-- ---- a step of one call
+
+among_more : (x : Call) (ys xs : List Call) → AllByRecursion (λ r. IsAmong r ys) xs → AllByRecursion (λ r. IsAmong r (x ∷ ys)) xs
+among_more x ys [] all = tt
+among_more x ys (r ∷ xs) all = (inr all.0, among_more x ys xs all.1)
+
+all_own : (xs : List Call) → AllByRecursion (λ r. IsAmong r xs) xs
+all_own [] = tt
+all_own (x ∷ xs) = (inl refl, among_more x xs xs (all_own xs))
+
+abbrev pub own_permit : (now : ℕ) (before after : List Call) → Permit
+own_permit now before after = record { packed = false; now = now; area = 0; events = calls_since before after }
+
+pub own_covers : (now : ℕ) (before after : List Call) → Covers (own_permit now before after) before after
+own_covers now before after = record {
+  plain = refl;
+  content = refl;
+  knows = λ made is. subst (λ calls. AllByRecursion (λ call. IsAmong call calls) made) (sym (since_is before after made is)) (all_own made);
+}
+
+-- ---- what covers the whole covers each part
+
+pub covers_first : (p : Permit) (before mid after more : List Call) → after ≡ more ++ mid → Covers p before after → Covers p before mid
+covers_first p before mid after more later c = record {
+  plain = c.plain;
+  content = c.content;
+  knows = λ made is.
+      let whole : after ≡ (more ++ made) ++ before = later ∙ (ap (λ calls. more ++ calls) is ∙ sym (append_assoc more made before)) in
+      (all_parts (λ (call : Call). IsAmong call p.events) more made (c.knows (more ++ made) whole)).1;
+}
+
+pub covers_last : (p : Permit) (before mid after more : List Call) → mid ≡ more ++ before → Covers p before after → Covers p mid after
+covers_last p before mid after more later c = record {
+  plain = c.plain;
+  content = c.content;
+  knows = λ made is.
+      let whole : after ≡ (made ++ more) ++ before = is ∙ (ap (λ calls. made ++ calls) later ∙ sym (append_assoc made more before)) in
+      (all_parts (λ (call : Call). IsAmong call p.events) made more (c.knows (made ++ more) whole)).0;
+}
