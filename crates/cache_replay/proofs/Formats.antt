@@ -30,7 +30,7 @@ use Rattle.cache_replay.proofs.Dispatch.{no_deals}
 
 -- one device more, of which nothing was told
 pub reach_more : (harms : List Harm) (devices : List Device) (d : Device) → AreReached harms devices → AreReached (harms ++ no_harm ∷ []) (devices ++ d ∷ [])
-reach_more [] [] d h = (record { counted = omega arith; unharmed = λ trusted. refl }, tt)
+reach_more [] [] d h = (record { made = record { later = d.past; is = sym (append-nil d.past) }; counted = omega arith; unharmed = λ trusted. refl }, tt)
 reach_more [] (x ∷ devices) d h = absurd h
 reach_more (harm ∷ harms) [] d h = absurd h
 reach_more (harm ∷ harms) (x ∷ devices) d h = (h.0, reach_more harms devices d h.1)
@@ -70,7 +70,7 @@ module _ {D R C : Type 0} (disk : DiskGhosts D) (directory : DirectoryGhosts R) 
   -- a session begins with the geometry of its line
   pub format_done : (run : Run) (name : List ℕ) (segments buckets content agg reach fragment generation alternates : ℕ) (g : Geometry) (floor : ℕ) (new : Session D R C) (before now : Ledger)
       → first_refusal segments buckets content agg reach fragment alternates ≡ None → floor ≡ floor_of g g.content → HasNumbers g segments buckets content agg reach fragment generation alternates
-      → Plays disk directory chronicle (formatted run name (format_records g)) new → Deals before now (harm_of run.state) (name ∷ [])
+      → Plays disk directory chronicle (formatted run name (format_records g)) new → Deals before now (harm_of run.calls run.state) (name ∷ [])
       → DeviceMoves disk directory chronicle run (step.Format name segments buckets content agg reach fragment generation alternates) new (answer.Formatted 1 g.content floor) before now
   format_done run name segments buckets content agg reach fragment generation alternates g floor new before now is floored numbers plays deals = record {
     moves = record {
@@ -79,7 +79,7 @@ module _ {D R C : Type 0} (disk : DiskGhosts D) (directory : DirectoryGhosts R) 
       plays = subst (λ o. Plays disk directory chronicle (after_format run name (format_records g) o) new) (sym is) plays;
       says = ap (format_said (format_records g)) is ∙ ap (λ n. answer.Formatted 1 g.content n) (sym floored);
     };
-    harms = harm_of run.state;
+    harms = harm_of run.calls run.state;
     ended = ap (λ o. (after_format run name (format_records g) o).ended) is;
     names = name ∷ [];
     named = ap (λ o. (after_format run name (format_records g) o).names) is;

@@ -1,8 +1,9 @@
 -- What a line makes of an outline.
-use Rattle.std.proofs.Common.{◌≡◌, ℕ, List, [], ◌∷◌, refl, sym, ◌∙◌, ap, subst, arith, Result, Ok, Err}
+use Rattle.std.proofs.Common.{◌≡◌, ℕ, List, [], ◌∷◌, ◌++◌, refl, sym, ◌∙◌, ap, subst, arith, Result, Ok, Err}
 use Rattle.std.specs.Prelude.{Option, Some, None, IfOk, IfErr, IsSome, option_map}
-use Rattle.std.proofs.lemmas.List.{append-nil}
-use Rattle.logged_disk.specs.Device.{State as Device}
+use Rattle.std.proofs.lemmas.List.{append-nil, append_assoc}
+use Rattle.device_log.specs.Calls.{Call}
+use Rattle.logged_disk.specs.Device.{State as Device, IsAfter}
 use Rattle.logged_disk.proofs.GoingOn.{told_before}
 use Rattle.logged_disk.specs.declared.device.Disk.{Ghosts as DiskGhosts}
 use Rattle.dir_table.specs.declared.directory.Directory.{Ghosts as DirectoryGhosts}
@@ -23,10 +24,17 @@ use Rattle.cache_replay.specs.Outline.{IsAnswerOf, Outline, begun, begun_by, cou
 use Rattle.cache_replay.specs.Session.{AreLater, TellsCount, return_of}
 use Rattle.cache_replay.specs.Stop.{NeedsSession}
 use Rattle.cache_replay.specs.Plays.{IsLeft, IsOutlined, Outlines, stays}
-use Rattle.script_run.specs.Ledger.{AreReached, Deals, Ledger}
+use Rattle.script_run.specs.Ledger.{AreReached, Deals, GoesOnFrom, Ledger}
 use Rattle.cache_replay.proofs.Dispatch.{no_deals}
 
 -- ---- devices that go on
+
+-- the calls with which its log begins are those with which it begins as it goes on
+from_later : (calls : List Call) (old new : Device) → IsAfter old new → GoesOnFrom calls old.past → GoesOnFrom calls new.past
+from_later calls old new goes h = record {
+  later = goes.made ++ h.later;
+  is = goes.past ∙ (ap (λ made. goes.made ++ made) h.is ∙ sym (append_assoc goes.made h.later calls));
+}
 
 -- what was told of a device is told of it as it goes on
 pub reached_later : (harms : List Harm) (old new : List Device) → AreLater old new → AreReached harms old → AreReached harms new
@@ -36,7 +44,11 @@ reached_later [] (d ∷ old) new later h = absurd h
 reached_later (harm ∷ harms) [] new later h = absurd h
 reached_later (harm ∷ harms) (d ∷ old) [] later h = absurd later
 reached_later (harm ∷ harms) (d ∷ old) (e ∷ new) later h = (
-  record { counted = omega (arith, h.0.counted, later.0.faults); unharmed = λ told. h.0.unharmed (told_before d e later.0.goes told) },
+  record {
+    made = from_later harm.calls d e later.0.goes h.0.made;
+    counted = omega (arith, h.0.counted, later.0.faults);
+    unharmed = λ told. h.0.unharmed (told_before d e later.0.goes told);
+  },
   reached_later harms old new later.1 h.1,
 )
 
@@ -63,7 +75,7 @@ module _ {D R C : Type 0} (disk : DiskGhosts D) (directory : DirectoryGhosts R) 
   joins None count (Some a) (Some b) said is later tells h = absurd h
   joins (Some harm) count None (Some b) said is later tells h = absurd h
   joins (Some harm) count (Some a) (Some b) said is later tells h =
-      (record { counted = omega (arith, h.0.counted, later.0.faults, tells, is); unharmed = λ told. h.0.unharmed (told_before _ _ later.0.goes told) }, tt)
+      (record { made = from_later harm.calls _ _ later.0.goes h.0.made; counted = omega (arith, h.0.counted, later.0.faults, tells, is); unharmed = λ told. h.0.unharmed (told_before _ _ later.0.goes told) }, tt)
 
   has_session : (session : Option Harm) (old new : Option (Part D R C)) (said : StepAnswer) → AreLater (Returns old) (Returns new) → TellsCount disk directory chronicle new said → AreReached (told_of session) (Returns old) → IsSome session
   has_session session old None said later tells h = absurd tells
@@ -107,7 +119,7 @@ module _ {D R C : Type 0} (disk : DiskGhosts D) (directory : DirectoryGhosts R) 
   joins_none : (session : Option Harm) (returns : List Device) → AreReached (told_of session) returns → AreReached (told_of (option_map (raised 0) session)) returns
   joins_none None returns h = h
   joins_none (Some harm) [] h = absurd h
-  joins_none (Some harm) (d ∷ returns) h = (record { counted = omega (arith, h.0.counted); unharmed = h.0.unharmed }, h.1)
+  joins_none (Some harm) (d ∷ returns) h = (record { made = h.0.made; counted = omega (arith, h.0.counted); unharmed = h.0.unharmed }, h.1)
 
   -- a line that begins no session and tells no count
   still_outlines : (o : Outline) (s : Step) (new : Session D R C) (said : StepAnswer) (ledger : Ledger) → (NeedsSession s → ⊥) → begun_by o s ≡ o → count_in said ≡ 0 → IsAnswerOf s said

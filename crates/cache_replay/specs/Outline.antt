@@ -60,11 +60,11 @@ blank = record { session = None; ended = []; names = [] }
 
 -- what a run tells of its devices
 abbrev pub outline_in : Run → Outline
-outline_in run = record { session = option_map harm_in run.state; ended = run.ended; names = run.names }
+outline_in run = record { session = option_map (harm_in run.calls) run.state; ended = run.ended; names = run.names }
 
--- a count that is told raises what was told; of damage it tells nothing
+-- a count that is told raises what was told; of damage it tells nothing, nor of calls
 abbrev pub raised : ℕ → Harm → Harm
-raised count harm = record { fault = max count harm.fault; damaged = harm.damaged }
+raised count harm = record { fault = max count harm.fault; damaged = harm.damaged; calls = harm.calls }
 
 -- of the device of a session, where there is one
 abbrev pub told_of : Option Harm → List Harm

@@ -6,6 +6,7 @@ use Rattle.cache_chronicle.specs.declared.chronicle.Chronicle.{Ghosts as Chronic
 use Rattle.fragment_table.specs.Table.{total_length}
 use Rattle.cache_model.specs.State.{State, after_all}
 use Rattle.cache_model.specs.Vectors.{AreTold}
+use Rattle.stripe_core.specs.Covers.{calls_since}
 use Rattle.stripe_core.specs.Stripe.{seen_in, state_in}
 use Rattle.stripe_core.specs.Unharmed.{IsUnharmed}
 use Rattle.stripe_write.specs.declared.writer.Writer.{Writer}
@@ -29,7 +30,7 @@ use Rattle.cache_replay.specs.declared.stop.Stop.TheVariants.{Memory}
 use Rattle.cache_replay.specs.Stop.{AttachesAs}
 use Rattle.cache_replay.specs.Outline.{IsAnswered, Outline, outline_after, told_of}
 use Rattle.cache_replay.specs.Shown.{ShowsIn}
-use Rattle.cache_replay.specs.Session.{IsSession, names_in, return_of, slots_in, slots_of}
+use Rattle.cache_replay.specs.Session.{IsSession, names_in, past_of, return_of, slots_in, slots_of}
 
 -- ---- a session beside a run
 
@@ -68,6 +69,11 @@ module _ {D R C : Type 0} (disk : DiskGhosts D) (directory : DirectoryGhosts R) 
   IsUnharmedAt None = Unit {0}
   IsUnharmedAt (Some part) = IsUnharmed (seen_in disk directory part.stripe).device (state_in chronicle part.stripe)
 
+  -- its device made the calls of the run, and no others
+  abbrev pub CallsAt : Run → Option (Part D R C) → Type 0
+  CallsAt run None = Unit {0}
+  CallsAt run (Some part) = past_of disk directory part ≡ run.calls
+
   -- a session as the run has it, as long as no two documents of one SHA-256 were shown
   pub record Plays (run : Run) (session : Session D R C) : Type 0 where
     pub names : run.actors ≡ names_in session
@@ -75,10 +81,12 @@ module _ {D R C : Type 0} (disk : DiskGhosts D) (directory : DirectoryGhosts R) 
     pub at : PlaysAt run session.part (slots_in session)
     -- of a device that tells its content no piece was told as damaged
     pub unharmed : IsUnharmedAt session.part
+    -- all calls of its device are those of the lines since its attach
+    pub calls : CallsAt run session.part
 
   -- its device is as it was told
   abbrev pub HasReached : Run → Session D R C → Type 0
-  HasReached run session = AreReached (harm_of run.state) (return_of disk directory chronicle session.part)
+  HasReached run session = AreReached (harm_of run.calls run.state) (return_of disk directory chronicle session.part)
 
   -- a session as the run has it has a device that is as it was told
   abbrev pub PlaysReach : Type 0
@@ -99,22 +107,23 @@ module _ {D R C : Type 0} (disk : DiskGhosts D) (directory : DirectoryGhosts R) 
 
 -- ---- a line on a part
 
-module _ {D R C : Type 0} (chronicle : ChronicleGhosts C) where
-  -- a part and the actors as the run has them
-  pub record PlaysPart (run : Run) (part : Part D R C) (actors : Seen Holding) : Type 0 where
-    pub names : run.actors ≡ actors.names
-    pub at : PlaysIn run (state_in chronicle part.stripe) (slots_of actors)
+-- a part and the actors as the run has them
+pub record PlaysPart {D R C : Type 0} (chronicle : ChronicleGhosts C) (run : Run) (part : Part D R C) (actors : Seen Holding) : Type 0 where
+  pub names : run.actors ≡ actors.names
+  pub at : PlaysIn run (state_in chronicle part.stripe) (slots_of actors)
 
-  -- a line on a session with these records did what it must, and this is its answer
-  pub record PartMoves (run : Run) (s : State) (step : Step) (part : Part D R C) (actors : Seen Holding) (said : StepAnswer) : Type 0 where
+module _ {D R C : Type 0} (disk : DiskGhosts D) (directory : DirectoryGhosts R) (chronicle : ChronicleGhosts C) where
+  -- a line on a session did what it must, by the calls that its device made meanwhile, and this is its answer
+  pub record PartMoves (run : Run) (old : Part D R C) (step : Step) (part : Part D R C) (actors : Seen Holding) (said : StepAnswer) : Type 0 where
     pub turn : Turn
-    pub takes : SessionTakes run s turn step
-    pub plays : PlaysPart (in_session run s (after_all s turn.added) turn step) part actors
-    pub says : session_said run s (after_all s turn.added) turn step ≡ said
+    pub takes : SessionTakes run (state_in chronicle old.stripe) turn step
+    pub calls : turn.device.events ≡ calls_since (past_of disk directory old) (past_of disk directory part)
+    pub plays : PlaysPart chronicle (in_session run (state_in chronicle old.stripe) (after_all (state_in chronicle old.stripe) turn.added) turn step) part actors
+    pub says : session_said run (state_in chronicle old.stripe) (after_all (state_in chronicle old.stripe) turn.added) turn step ≡ said
 
   -- so it is, or two documents of one SHA-256 are shown
-  abbrev pub PartEnds : Run → State → Step → Part D R C → Seen Holding → StepAnswer → Type 0
-  PartEnds run s step part actors said = PartMoves run s step part actors said ⊎ ShowsIn run (Some s) step
+  abbrev pub PartEnds : Run → Part D R C → Step → Part D R C → Seen Holding → StepAnswer → Type 0
+  PartEnds run old step part actors said = PartMoves run old step part actors said ⊎ ShowsIn run (Some (state_in chronicle old.stripe)) step
 
 -- ---- devices
 

@@ -63,7 +63,7 @@ holds_none given before (CameToEnd ∷ more) old now count grew failed needed = 
 holds_none given before (RefusedRead k ∷ more) old now count grew failed needed = needed.0
 
 module _ (first now : List SourceRead) (taken_first taken : List SinkWrite) (ledger_first ledger : Ledger) (unread : List ℕ) (given : ℕ) (Outlined : Outline → Type 0) (Plays' : Run → Type 0)
-    (Reached : List Harm → Type 0) (devices : ℕ) (reach : (o : Outline) → Outlined o → Reached (told_of o.session)) (reach_run : (run : Run) → Plays' run → Reached (harm_of run.state))
+    (Reached : List Harm → Type 0) (devices : ℕ) (reach : (o : Outline) → Outlined o → Reached (told_of o.session)) (reach_run : (run : Run) → Plays' run → Reached (harm_of run.calls run.state))
     (story : GoesOn first taken_first ledger_first now unread given taken ledger Outlined Plays') where
   -- what the records are worth as they stand
   still_recorded : (Devices : Told → Type 0) (Behind : Outline → Type 0) → ((t : Told) → Deals ledger_first ledger t.ended t.names → Reached t.own → Devices t) → ((o : Outline) → Outlined o → Behind o)
@@ -175,7 +175,7 @@ module _ {D R C : Type 0} (disk : DiskGhosts D) (directory : DirectoryGhosts R) 
           records = elim story.records [
             | inl r ↦
                 let run : Run = run_after fresh story.lines r.turns in
-                inl (record { turns = r.turns; legal = r.legal; says = r.says; devices = settle (told_in run) r.devices (leaves (harm_of run.state) (plays_reach disk directory chronicle old was run r.known)); known = tt })
+                inl (record { turns = r.turns; legal = r.legal; says = r.says; devices = settle (told_in run) r.devices (leaves (harm_of run.calls run.state) (plays_reach disk directory chronicle old was run r.known)); known = tt })
             | inr along ↦ inr (along_with story.lines story.answers (λ t. Deals ledger_first ledger t.ended t.names) Devices Before Behind left behind along)
           ];
         }

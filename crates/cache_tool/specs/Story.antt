@@ -40,13 +40,13 @@ pub record Told : Type 0 where
   pub own : List Harm
   pub names : List (List ℕ)
 
--- by an outline: of answers alone, counts of faults
+-- by an outline: of answers alone, counts of faults, and what the records told before it, as they did
 abbrev pub told_by : Outline → Told
 told_by o = record { ended = o.ended; own = told_of o.session; names = o.names }
 
--- by the records: counts of faults, and damage
+-- by the records: counts of faults, damage, and of each session all calls that its lines made
 abbrev pub told_in : Run → Told
-told_in run = record { ended = run.ended; own = harm_of run.state; names = run.names }
+told_in run = record { ended = run.ended; own = harm_of run.calls run.state; names = run.names }
 
 -- of all devices, once the last one is given back
 abbrev pub all_in : Told → List Harm
@@ -197,7 +197,7 @@ GoesOn first taken_first ledger_first now held given taken ledger Outlined Plays
     Story first now held given (SendsAll taken_first taken) (λ t. Deals ledger_first ledger t.ended t.names) Outlined Plays
 
 -- what a session owes once the run has ended: its devices were attached, those that it ended came back, and its own has
--- counted as far as was told
+-- counted as far as was told, and begins its log with the calls that were told
 pub record Owes (ledger_first ledger : Ledger) (Reached : List Harm → Type 0) (t : Told) : Type 0 where
   pub deals : Deals ledger_first ledger t.ended t.names
   pub reached : Reached t.own

@@ -4,6 +4,7 @@ use Rattle.std.specs.Prelude.{is_some}
 use Rattle.logged_disk.proofs.GoingOn.{goes_further}
 use Rattle.cache_model.specs.Permit.{StopReading}
 use Rattle.stripe_core.specs.Stripe.{kept_in, seen_in}
+use Rattle.stripe_core.proofs.Between.{blamed_then}
 use Rattle.script_run.specs.Answers.{broken_said}
 use Rattle.script_lang.specs.declared.answer.StepAnswer.TheVariants as answer
 use Rattle.cache_replay.specs.Getting.{IsAnswered}
@@ -14,21 +15,21 @@ use Rattle.cache_replay.proofs.getting.read_to_end.Goals as goal
 
 pub returns-in-End-clause-answers : goal.returns-in-End-clause-answers
 returns-in-End-clause-answers g c = λ b under.
-    answered_as b (seen_in g.D.Disk g.R.Directory c.read_more.new.stripe).device.faults (kept_in g.C.Chronicle c.read_more.new.stripe) _ c.args.reader.now.reader c.read_more.new.body.items
+    answered_as b (seen_in g.D.Disk g.R.Directory c.read_more.new.stripe).device.past (kept_in g.C.Chronicle c.read_more.new.stripe) _ c.args.reader.now.reader c.read_more.new.body.items
     (answer.Got c.loop-body.reader.put c.in-End.length c.read_more.new.body.items) (answer.Got c.args.put c.in-End.length c.read_more.new.body.items)
     (c.read_more.ensures.number ∙ c.loop-body.invariant.number) (ap (λ n. answer.Got n c.in-End.length c.read_more.new.body.items) (c.loop-body.invariant.put ∙ sym c.requires.put))
     ((rw c.in-End.is at c.in_ok-read_more.ensures.comes) b (c.loop-body.invariant.under b under))
 
 pub returns-in-NotYet-clause-answers : goal.returns-in-NotYet-clause-answers
 returns-in-NotYet-clause-answers g c = λ b under.
-    answered_as b (seen_in g.D.Disk g.R.Directory c.read_more.new.stripe).device.faults (kept_in g.C.Chronicle c.read_more.new.stripe) _ c.args.reader.now.reader []
+    answered_as b (seen_in g.D.Disk g.R.Directory c.read_more.new.stripe).device.past (kept_in g.C.Chronicle c.read_more.new.stripe) _ c.args.reader.now.reader []
     (answer.Follow c.loop-body.reader.put) (answer.Follow c.args.put)
     (c.read_more.ensures.number ∙ c.loop-body.invariant.number) (ap (λ n. answer.Follow n) (c.loop-body.invariant.put ∙ sym c.requires.put))
     ((rw c.in-NotYet.is at c.in_ok-read_more.ensures.comes) b (c.loop-body.invariant.under b under))
 
 pub returns-in-Broken-clause-answers : goal.returns-in-Broken-clause-answers
 returns-in-Broken-clause-answers g c = λ b under.
-    subst (λ n. IsAnswered b (seen_in g.D.Disk g.R.Directory c.read_more.new.stripe).device.faults (kept_in g.C.Chronicle c.read_more.new.stripe) (StopReading n ∷ []) [] (broken_said c.in-Broken.why))
+    subst (λ n. IsAnswered b (seen_in g.D.Disk g.R.Directory c.read_more.new.stripe).device.past (kept_in g.C.Chronicle c.read_more.new.stripe) (StopReading n ∷ []) [] (broken_said c.in-Broken.why))
     (c.read_more.ensures.number ∙ c.loop-body.invariant.number)
     ((rw c.in-Broken.is at c.in_ok-read_more.ensures.comes) b (c.loop-body.invariant.under b under))
 
@@ -45,6 +46,7 @@ loop-body-preserved g c = record {
   leaves = grind (arith, common_steps);
   harms = λ b run under told owned. stays_then (c.loop-body.invariant.harms b run under told owned) (c.read_more.ensures.unharmed b run (c.loop-body.invariant.under b under) told owned);
   goes = goes_further _ _ _ c.loop-body.invariant.goes c.read_more.ensures.goes;
+  blamed = blamed_then _ _ _ _ _ _ c.loop-body.invariant.blamed c.read_more.ensures.blamed;
   later = omega (arith, c.read_more.ensures.later, c.loop-body.invariant.later);
 }
 
@@ -79,3 +81,15 @@ returns-in-NotYet-clause-goes g c = goes_further _ _ _ c.loop-body.invariant.goe
 
 pub returns-in-Broken-clause-goes : goal.returns-in-Broken-clause-goes
 returns-in-Broken-clause-goes g c = goes_further _ _ _ c.loop-body.invariant.goes c.read_more.ensures.goes
+
+pub returns-in_err-read_more-clause-blamed : goal.returns-in_err-read_more-clause-blamed
+returns-in_err-read_more-clause-blamed g c = blamed_then _ _ _ _ _ _ c.loop-body.invariant.blamed c.read_more.ensures.blamed
+
+pub returns-in-End-clause-blamed : goal.returns-in-End-clause-blamed
+returns-in-End-clause-blamed g c = blamed_then _ _ _ _ _ _ c.loop-body.invariant.blamed c.read_more.ensures.blamed
+
+pub returns-in-NotYet-clause-blamed : goal.returns-in-NotYet-clause-blamed
+returns-in-NotYet-clause-blamed g c = blamed_then _ _ _ _ _ _ c.loop-body.invariant.blamed c.read_more.ensures.blamed
+
+pub returns-in-Broken-clause-blamed : goal.returns-in-Broken-clause-blamed
+returns-in-Broken-clause-blamed g c = blamed_then _ _ _ _ _ _ c.loop-body.invariant.blamed c.read_more.ensures.blamed

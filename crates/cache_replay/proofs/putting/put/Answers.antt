@@ -20,8 +20,8 @@ pub returns-in-Ok-clause-puts : goal.returns-in-Ok-clause-puts
 returns-in-Ok-clause-puts g c =
     let opened = c.in-Ok.ensures in
     puts_opened (kept_in g.C.Chronicle c.args.stripe.now) (kept_in g.C.Chronicle c.open_write.new.stripe) nobody c.args.key c.args.request c.args.response c.in-Ok.writer opened.adds
-    c.args.now (seen_in g.D.Disk g.R.Directory c.args.stripe.now).device.faults (seen_in g.D.Disk g.R.Directory c.open_write.new.stripe).device.faults (seen_in g.D.Disk g.R.Directory c.put_open.new.stripe).device.faults
-    (kept_in g.C.Chronicle c.put_open.new.stripe) c.args.body.now c.groups_tell.ensures c.requires.stripe.pieces.sound refl c.put_open.ensures.quiet opened.does c.open_write.ensures.later c.put_open.result c.put_open.ensures.ends
+    c.args.now (seen_in g.D.Disk g.R.Directory c.args.stripe.now).device.past (seen_in g.D.Disk g.R.Directory c.open_write.new.stripe).device.past (seen_in g.D.Disk g.R.Directory c.put_open.new.stripe).device.past
+    (kept_in g.C.Chronicle c.put_open.new.stripe) c.args.body.now c.groups_tell.ensures c.requires.stripe.pieces.sound refl opened.does c.open_write.ensures.unharmed.goes.made c.open_write.ensures.unharmed.goes.past c.put_open.result c.put_open.ensures.ends
 
 pub returns-in-Ok-clause-leaves : goal.returns-in-Ok-clause-leaves
 returns-in-Ok-clause-leaves g c =
@@ -32,7 +32,7 @@ returns-in-Ok-clause-leaves g c =
 pub returns-in-Err-clause-puts : goal.returns-in-Err-clause-puts
 returns-in-Err-clause-puts g c =
     let refused = c.in-Err.ensures in
-    puts_refused c.args.now (seen_in g.D.Disk g.R.Directory c.args.stripe.now).device.faults (seen_in g.D.Disk g.R.Directory c.open_write.new.stripe).device.faults
+    puts_refused c.args.now (seen_in g.D.Disk g.R.Directory c.args.stripe.now).device.past (seen_in g.D.Disk g.R.Directory c.open_write.new.stripe).device.past
     (kept_in g.C.Chronicle c.args.stripe.now) (kept_in g.C.Chronicle c.open_write.new.stripe) nobody c.args.key c.args.body.now c.args.request c.args.response refl
     refused.err c.open_write.ensures.quiet c.requires.stripe.actors.puts_fall c.in-Err.why refused.does
 

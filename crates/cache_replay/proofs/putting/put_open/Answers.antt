@@ -11,9 +11,9 @@ pub returns-clause-ends : goal.returns-clause-ends
 returns-clause-ends g c =
     let fed = c.fill-result in
     let given = c.abort_write-end in
-    body_ends_at c.args.now (seen_in g.D.Disk g.R.Directory c.args.stripe.now).device.faults (seen_in g.D.Disk g.R.Directory fed.new.stripe).device.faults (seen_in g.D.Disk g.R.Directory given.new.stripe).device.faults
+    body_ends_at c.args.now (seen_in g.D.Disk g.R.Directory c.args.stripe.now).device.past (seen_in g.D.Disk g.R.Directory fed.new.stripe).device.past (seen_in g.D.Disk g.R.Directory given.new.stripe).device.past
     (kept_in g.C.Chronicle c.args.stripe.now) (kept_in g.C.Chronicle fed.new.stripe) (kept_in g.C.Chronicle given.new.stripe) c.args.writer.now fed.new.writer c.args.body.now given.result fed.result c.unless_memory.result
-    given.ensures.later fed.ensures.put fed.ensures.fills given.ensures.adds given.ensures.aborts given.ensures.does c.unless_memory.ensures
+    given.ensures.unharmed.goes.made given.ensures.unharmed.goes.past fed.ensures.put fed.ensures.fills given.ensures.adds given.ensures.aborts given.ensures.does c.unless_memory.ensures
 
 pub returns-clause-counts : goal.returns-clause-counts
 returns-clause-counts g c =

@@ -16,7 +16,7 @@ returns-in-Ok-clause-ends g c =
     done_ends g.D.Disk g.R.Directory g.C.Chronicle c.groups_tell.ensures c.steps_own.ensures c.args.part.now _ c.args.actors.now c.take_reader.new.actors c.args.actor.now c.in_ok-number.number c.in-Some.reader
     c.in_ok-number.ensures.number (c.in-Some.ensures.names ∙ c.in_ok-number.ensures.names)
     (took (slots_of c.args.actors.now) (slots_of c.number.new.self) (slots_of c.take_reader.new.actors) c.in_ok-number.number c.in-Some.reader c.in_ok-number.ensures.slots c.in-Some.ensures.slots c.in-Some.ensures.reader)
-    c.in-Ok.ensures.adds c.in-Ok.ensures.does c.in-Ok.ensures.quiet c.requires.active
+    c.in-Ok.ensures.adds c.in-Ok.ensures.unharmed c.in-Ok.ensures.does c.in-Ok.ensures.quiet c.requires.active
 
 pub returns-in-None-clause-ends : goal.returns-in-None-clause-ends
 returns-in-None-clause-ends g c = λ run plays. inl (
