@@ -114,26 +114,23 @@ pub line_ends : (owns : ReadsOwn) (tell : StepsTell) (run : Run) (before after :
     → GetsAsAsked before after k k2 key request got → IsBlamed before after k k2 → IsQuiet (state_of k2) → said ≡ got_answer got → IsSound (state_of k) → LeavesBut None (Some n) (state_of k) (state_of k2) → reader_of (state_of k) n ≡ None → AreHeld (state_of k) slots
     → PlaysIn run (state_of k) slots → LineEnds run before after (state_of k) (state_of k2) key request slots said
 line_ends owns tell run before after n k k2 key request slots got said gets blamed quiet is sound leaves none held plays =
-    elim (gets.does p run (own_covers run.now before after) plays.told plays.own) [
+    elim (gets.does (own_permit run.now before after) run (own_covers run.now before after) plays.told plays.own) [
       | inl x ↦
           let takes = takes_by x in
           elim (told_behind tell run (state_of k) (after_all (state_of k) x.added) (turn_by x) (step.Get key request) takes refl sound plays.told) [
             | inl told ↦ inl (moves x takes told)
             | inr shows ↦ inr (shown_at (step.Get key request) shows)
           ]
-      | inr shows ↦ inr (record { device = p; plain = refl; moment = refl; content = refl; shows = shows })
+      | inr shows ↦ inr (record { device = own_permit run.now before after; plain = refl; moment = refl; content = refl; shows = shows })
     ]
   where
-    p : Permit
-    p = own_permit run.now before after
-
     shown_at : (line : Step) → ShowsIn run (Some (state_of k)) line → ShowsAt (IsPlacedAs (streams_with run (state_of k) line)) run.now (state_of k) (asked run (state_of k) line)
     shown_at line h = record { device = h.0.device; plain = h.1.plain; moment = h.1.moment; content = h.1.content; shows = (h.0.added, h.1.shows) }
 
-    turn_by : Gets p k k2 run key request got → Turn
-    turn_by x = record { added = x.added; refused = None; device = p; given = given_in got }
+    turn_by : Gets (own_permit run.now before after) k k2 run key request got → Turn
+    turn_by x = record { added = x.added; refused = None; device = own_permit run.now before after; given = given_in got }
 
-    takes_by : (x : Gets p k k2 run key request got) → SessionTakes run (state_of k) (turn_by x) (step.Get key request)
+    takes_by : (x : Gets (own_permit run.now before after) k k2 run key request got) → SessionTakes run (state_of k) (turn_by x) (step.Get key request)
     takes_by x = record {
       plain = refl;
       content = refl;
@@ -142,7 +139,7 @@ line_ends owns tell run before after n k k2 key request slots got said gets blam
       own = x.body;
     }
 
-    moves : (x : Gets p k k2 run key request got) → SessionTakes run (state_of k) (turn_by x) (step.Get key request) → AreTold (after_all (state_of k) x.added)
+    moves : (x : Gets (own_permit run.now before after) k k2 run key request got) → SessionTakes run (state_of k) (turn_by x) (step.Get key request) → AreTold (after_all (state_of k) x.added)
         → Rattle.cache_replay.specs.Getting.LineGets run before after (state_of k) (state_of k2) key request slots said
     moves x takes told =
         let turn : Turn = turn_by x in
