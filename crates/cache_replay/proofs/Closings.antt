@@ -40,8 +40,8 @@ use Rattle.cache_replay.specs.Putting.{receipt_answer, refusal_answer}
 use Rattle.cache_replay.specs.WriterLines.{Closes, IsPlayed, WriterDoes, WriterEnds, closed_answer}
 use Rattle.cache_replay.specs.Shown.{Shows}
 use Rattle.cache_replay.proofs.Shown.{as_placed, key_pair, shows_behind, shows_in, weigh_reads}
-use Rattle.stripe_core.specs.Faults.{IsBlamed}
-use Rattle.stripe_core.proofs.Between.{blamed_is}
+use Rattle.stripe_core.specs.Faults.{IsAccounted}
+use Rattle.stripe_core.proofs.Between.{accounted_is}
 use Rattle.stripe_core.proofs.Covering.{own_covers, own_permit}
 use Rattle.cache_replay.proofs.WriterSteps.{LeftOpen, cuts_at, gathered_at, has_put, held_open, key_at, of_left, reason_of, whole_step}
 use Rattle.cache_replay.proofs.Endings.{AreClosing, EndsInCommit, IsEnded, ended_along, key_of, rows_then}
@@ -132,7 +132,7 @@ complete_said t w receipt key whole end =
     ∙ (ap (λ q. answer.Put q (total_length (rows_at_close w)) (length (rows_at_close w))) (sym whole.put)
     ∙ (ap (λ n. answer.Put receipt.put n (length (rows_at_close w))) (sym whole.bytes) ∙ ap (answer.Put receipt.put receipt.length) (sym whole.fragments)))
 
-module _ (now : ℕ) (old new : Kept) (before after : List Call) (blamed : IsBlamed before after old new) (w last : Writer) (left : Option Writer)
+module _ (now : ℕ) (old new : Kept) (before after : List Call) (accounted : IsAccounted before after old new) (w last : Writer) (left : Option Writer)
     (quiet_then : IsQuiet (state_of new)) (writing : is_writing (state_of old) w.put ≡ true) (own : IsWriterOf (state_of old) w)
     (rested : IsRested w last) (open_left : LeftOpen (state_of new) last left) where
   abbrev s : State
@@ -160,7 +160,7 @@ module _ (now : ℕ) (old new : Kept) (before after : List Call) (blamed : IsBla
       let p : Permit = own_permit now before after in
       let there = state_behind old new added adds in
       let has = has_put run name s w played in
-      let legal : IsStep p s (close_intents w) added (reason_of e) = whole_step p s (close_intents w) added e spends (subst IsQuiet there quiet_then) (blamed_is before after old new added blamed adds) in
+      let legal : IsStep p s (close_intents w) added (reason_of e) = whole_step p s (close_intents w) added e spends (subst IsQuiet there quiet_then) (accounted_is before after old new added accounted adds) in
       let end_ = ended p added (reason_of e) legal there in
       let turn : Turn = record { added = added; refused = reason_of e; device = p; given = [] } in
       let put_is = rested_put w last rested in

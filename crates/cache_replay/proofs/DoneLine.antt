@@ -15,7 +15,7 @@ use Rattle.model_laws.specs.VectorLaws.{GroupsTell}
 use Rattle.cache_model.proofs.ByNumber.{find-without}
 use Rattle.stripe_core.specs.Stripe.{IsStripe, kept_in, state_in}
 use Rattle.stripe_core.specs.Between.{Between}
-use Rattle.stripe_core.proofs.Between.{blamed_is}
+use Rattle.stripe_core.proofs.Between.{accounted_is}
 use Rattle.stripe_core.proofs.Covering.{own_permit}
 use Rattle.stripe_read.specs.declared.reader.Reader.{Reader}
 use Rattle.stripe_read.specs.Readers.{ClosesAsAsked}
@@ -86,7 +86,7 @@ module _ {D R C : Type 0} (disk : DiskGhosts D) (directory : DirectoryGhosts R) 
         content = refl;
         moment = refl;
         calls = refl;
-        faults = blamed_is (past_of disk directory old) (past_of disk directory new) (kept_in chronicle old.stripe) (kept_in chronicle new.stripe) (rec.ReadClosed r.reader ∷ []) stays.blamed adds;
+        effects = accounted_is (past_of disk directory old) (past_of disk directory new) (kept_in chronicle old.stripe) (kept_in chronicle new.stripe) (rec.ReadClosed r.reader ∷ []) stays.accounted adds;
         asks = ap (λ (o : Option ℕ). asks.if_has o (λ reader. StopReading reader ∷ [])) reads;
         does = closes p;
         gives = refl;

@@ -28,8 +28,8 @@ use Rattle.cache_replay.specs.Feeding.{FeedsAsAsked, FeedsWhere, IsFed, feed_end
 use Rattle.cache_replay.specs.Plays.{IsStreamOf}
 use Rattle.cache_replay.specs.Putting.{refusal_answer}
 use Rattle.cache_replay.specs.WriterLines.{Feeds, IsPlayed, WriterDoes, fed_answer}
-use Rattle.stripe_core.specs.Faults.{IsBlamed}
-use Rattle.stripe_core.proofs.Between.{blamed_is}
+use Rattle.stripe_core.specs.Faults.{IsAccounted}
+use Rattle.stripe_core.proofs.Between.{accounted_is}
 use Rattle.stripe_core.proofs.Covering.{own_covers, own_permit}
 use Rattle.cache_replay.proofs.WriterSteps.{LeftOpen, cuts_at, gathered_at, has_put, held_open, of_left, reason_of, whole_step}
 
@@ -47,7 +47,7 @@ stream_fed stream w new body taken of fed_ most =
       sealed = fed_.sealed ∙ of.sealed;
     }
 
-module _ (now : ℕ) (old new : Kept) (before after : List Call) (blamed : IsBlamed before after old new) (w last : Writer) (body : List ℕ) (taken : ℕ) (left : Option Writer)
+module _ (now : ℕ) (old new : Kept) (before after : List Call) (accounted : IsAccounted before after old new) (w last : Writer) (body : List ℕ) (taken : ℕ) (left : Option Writer)
     (quiet : IsQuiet (state_of old)) (quiet_then : IsQuiet (state_of new)) (writing : is_writing (state_of old) w.put ≡ true) (own : IsWriterOf (state_of old) w)
     (fed_ : IsFed w body taken last) (most : taken ≤ length body) (open_left : LeftOpen (state_of new) last left) where
   abbrev s : State
@@ -82,7 +82,7 @@ module _ (now : ℕ) (old new : Kept) (before after : List Call) (blamed : IsBla
       let nope : (run.streams w.put).sealed ≡ false = sym played.stream.sealed ∙ feeds.open_still in
       let has = has_put run name s w played in
       let legal : IsStep p s (feed_intents s.geometry.fragment w.put (length w.table.rows) (w.gathered.items ++ body)) f.added (reason_of e) =
-      whole_step p s _ f.added e (subst (λ x. Rattle.stripe_write.specs.Closing.SpendsAll p s (feed_intents s.geometry.fragment w.put (length w.table.rows) (w.gathered.items ++ body)) f.added x) is f.does) (subst IsQuiet there quiet_then) (blamed_is before after old new f.added blamed f.adds) in
+      whole_step p s _ f.added e (subst (λ x. Rattle.stripe_write.specs.Closing.SpendsAll p s (feed_intents s.geometry.fragment w.put (length w.table.rows) (w.gathered.items ++ body)) f.added x) is f.does) (subst IsQuiet there quiet_then) (accounted_is before after old new f.added accounted f.adds) in
       let took = took_is run name 0 played in
       let turn : Turn = record { added = f.added; refused = reason_of e; device = p; given = [] } in
       let x : Stream = fed (run.streams w.put) body (Rattle.script_run.specs.Behind.taken_of run t body (reason_of e) w.put) in
@@ -121,7 +121,7 @@ module _ (now : ℕ) (old new : Kept) (before after : List Call) (blamed : IsBla
       let p : Permit = own_permit now before after in
       let has = has_put run name s w played in
       let turn : Turn = record { added = []; refused = None; device = p; given = [] } in
-      let legal : IsStep p s [] [] None = record { grows = nothing; quiet = quiet; faults = blamed_is before after old new [] blamed (same ∙ sym (nothing_more old)) } in
+      let legal : IsStep p s [] [] None = record { grows = nothing; quiet = quiet; effects = accounted_is before after old new [] accounted (same ∙ sym (nothing_more old)) } in
       let stream : IsStreamOf (run.streams w.put) last =
       subst (λ (x : Stream). IsStreamOf x last) (ap (λ (b : List ℕ). let y : Stream = record { bytes = b; sealed = (run.streams w.put).sealed } in y) (ap (λ k. (run.streams w.put).bytes ++ take k body) zero ∙ append-nil (run.streams w.put).bytes))
       (stream_fed (run.streams w.put) w last body taken played.stream fed_ most) in

@@ -18,7 +18,7 @@ use Rattle.cache_model.specs.ToRead.{to_read, IsToRead}
 use Rattle.cache_model.specs.Pair.{IsPairOf}
 use Rattle.cache_model.specs.Legal.{Does, IsQuiet, answer_record, live_next}
 use Rattle.model_laws.specs.VectorLaws.{GroupsTell}
-use Rattle.cache_model.specs.Given.{IsDocumentOf, counts_in}
+use Rattle.cache_model.specs.Given.{IsDocumentOf, effects_in}
 use Rattle.stripe_core.specs.Find.{cause_records}
 use Rattle.stripe_core.specs.Stripe.{state_in}
 use Rattle.stripe_read.specs.declared.reader.Reader.{Reader}
@@ -45,8 +45,8 @@ use Rattle.cache_replay.specs.Session.{AreApart, IsActive, LeavesBut, past_of, s
 use Rattle.cache_replay.specs.Plays.{PartEnds, PartMoves, PlaysPart}
 use Rattle.cache_replay.specs.ReaderLines.{IsWithin, NextEnds, NextMoves, next_answer, reader_held}
 use Rattle.stripe_core.specs.Covers.{calls_since}
-use Rattle.stripe_core.specs.Faults.{IsBlamed}
-use Rattle.stripe_core.proofs.Between.{blamed_is}
+use Rattle.stripe_core.specs.Faults.{IsAccounted}
+use Rattle.stripe_core.proofs.Between.{accounted_is}
 use Rattle.stripe_core.proofs.Covering.{own_covers, own_permit}
 use Rattle.cache_replay.proofs.ReaderLines.{Goes, Took, apart_else, given_back, held_reader, line_ends, line_turn, reads_none, still_held, still_moves, still_turn}
 use Rattle.cache_replay.specs.Shown.{ShowsAt, ShowsIn}
@@ -90,7 +90,7 @@ reads_within s old new r given into reads =
     gives_within (own_permit 0 old.past new.past) s r given into (reads.gives (own_permit 0 old.past new.past) (own_covers 0 old.past new.past))
 
 -- what comes of the answer
-module _ (own : ReadIsOwn) (run : Run) (before after : List Call) (k new : Kept) (blamed : IsBlamed before after k new) (p : Permit) (r later : Reader) (plain : p.packed ≡ false) (content : p.area ≡ 0) (moment : p.now ≡ run.now)
+module _ (own : ReadIsOwn) (run : Run) (before after : List Call) (k new : Kept) (accounted : IsAccounted before after k new) (p : Permit) (r later : Reader) (plain : p.packed ≡ false) (content : p.area ≡ 0) (moment : p.now ≡ run.now)
     (calls : p.events ≡ calls_since before after) (first : 1 ≤ r.next) (owned : AreOwn (state_of k) run.streams) (reader : IsReaderOf (state_of k) r) (keeps : IsReaderOf (state_of new) later) where
   moves_with : (given : NextPiece) (bytes : List ℕ) (said : StepAnswer) → new ≡ with_records k (read_adds (state_of k) r given)
       → Does p (state_of k) (ReadOn r.reader) (read_adds (state_of k) r given) Done
@@ -105,7 +105,7 @@ module _ (own : ReadIsOwn) (run : Run) (before after : List Call) (k new : Kept)
     moment = moment;
     content = content;
     calls = calls;
-    faults = blamed_is before after k new (read_adds (state_of k) r given) blamed adds ∙ ap counts_in (sym calls);
+    effects = accounted_is before after k new (read_adds (state_of k) r given) accounted adds ∙ ap effects_in (sym calls);
     behind = state_behind k new (read_adds (state_of k) r given) adds;
     does = does;
     own = subst (IsPiece run (state_of k) r.reader bytes) (sym (told_last (state_of k) r given)) whose;
@@ -137,12 +137,12 @@ module _ (own : ReadIsOwn) (run : Run) (before after : List Call) (k new : Kept)
   ends_with (piece.Broken why) into adds does h = inl (moves_with (piece.Broken why) [] (says.broken_said why) adds does refl refl)
 
 pub next_ends : (own : ReadIsOwn) (k new : Kept) (before after : Device) (r later : Reader) (given : NextPiece) (into : List ℕ) → new ≡ with_records k (read_adds (state_of k) r given)
-    → IsBlamed before.past after.past k new → ReadsOn (state_of k) before after r given into → (IsReaderOf (state_of k) r → IsReaderOf (state_of new) later) → 1 ≤ r.next
+    → IsAccounted before.past after.past k new → ReadsOn (state_of k) before after r given into → (IsReaderOf (state_of k) r → IsReaderOf (state_of new) later) → 1 ≤ r.next
     → (run : Run) → AreOwn (state_of k) run.streams → IsReaderOf (state_of k) r → NextEnds run before.past after.past (state_of k) (state_of new) r later (next_answer given into)
-next_ends own k new before after r later given into adds blamed reads keeps first run owned reader =
+next_ends own k new before after r later given into adds accounted reads keeps first run owned reader =
     let p : Permit = own_permit run.now before.past after.past in
     let covers = own_covers run.now before.past after.past in
-    ends_with own run before.past after.past k new blamed p r later refl refl refl refl first owned reader (keeps reader) given into adds (reads.does p covers reader) (reads.gives p covers)
+    ends_with own run before.past after.past k new accounted p r later refl refl refl refl first owned reader (keeps reader) given into adds (reads.does p covers reader) (reads.gives p covers)
 
 -- ---- the line
 
@@ -198,7 +198,7 @@ module _ {D R C : Type 0} (disk : DiskGhosts D) (directory : DirectoryGhosts R) 
               content = m.content;
               moment = m.moment;
               calls = m.calls;
-              faults = m.faults;
+              effects = m.effects;
               asks = asked_is;
               does = m.does;
               gives = subst (IsNextPiece run s (line_turn m.device m.added m.given)) (sym reads) m.own;

@@ -46,7 +46,7 @@ use Rattle.cache_replay.specs.ReaderLines.{as_held, opened_answer, reader_opened
 use Rattle.cache_replay.proofs.Frames.{Changed, IsElse, OthersElse, some_is}
 use Rattle.cache_replay.proofs.ReaderFrames.{kept_leaves, miss_leaves, open_leaves}
 use Rattle.stripe_core.specs.Between.{Between}
-use Rattle.stripe_core.proofs.Between.{blamed_is}
+use Rattle.stripe_core.proofs.Between.{accounted_is}
 use Rattle.stripe_core.proofs.Covering.{own_covers, own_permit}
 use Rattle.cache_replay.proofs.ReaderLines.{Goes, as_run, goes_active, part_behind, holds_none, line_ends, none_some, still_moves}
 use Rattle.cache_replay.specs.Shown.{Shows}
@@ -174,7 +174,7 @@ module _ {D R C : Type 0} (disk : DiskGhosts D) (directory : DirectoryGhosts R) 
               content = refl;
               moment = refl;
               calls = refl;
-              faults = blamed_is (past_of disk directory old) (past_of disk directory new) (kept_in chronicle old.stripe) (kept_in chronicle new.stripe) recs stays.blamed adds;
+              effects = accounted_is (past_of disk directory old) (past_of disk directory new) (kept_in chronicle old.stripe) (kept_in chronicle new.stripe) recs stays.accounted adds;
               asks = asked_is;
               does = right.0;
               gives = refl;

@@ -34,8 +34,8 @@ use Rattle.script_run.specs.Behind.{or_else, streams_opened, writer_at}
 use Rattle.cache_replay.specs.Plays.{IsStreamOf}
 use Rattle.cache_replay.specs.WriterLines.{OpenDoes, Opens, refused_answer}
 use Rattle.cache_replay.proofs.Lines.{next_is_free}
-use Rattle.stripe_core.specs.Faults.{IsBlamed}
-use Rattle.stripe_core.proofs.Between.{blamed_is}
+use Rattle.stripe_core.specs.Faults.{IsAccounted}
+use Rattle.stripe_core.proofs.Between.{accounted_is}
 use Rattle.stripe_core.proofs.Covering.{own_permit}
 
 -- ---- a put that has begun
@@ -77,10 +77,10 @@ asks run name s who key request response pin none is =
     ap (λ o. free_asks o (number_of run.actors name) key request response pin) none ∙ ap (λ n. Write n key request response pin ∷ []) (sym is)
 
 -- it opens
-pub opens : (before after : List Call) (old new : Kept) (who : Actor) (key : Key) (request response : List Field) (pin : ℕ) (w : Writer) → IsBlamed before after old new → IsQuiet (state_of new)
+pub opens : (before after : List Call) (old new : Kept) (who : Actor) (key : Key) (request response : List Field) (pin : ℕ) (w : Writer) → IsAccounted before after old new → IsQuiet (state_of new)
     → new ≡ with_records old (opened_record (state_of old) who key request response pin ∷ []) → OpensAsAsked (state_of old) who key request response pin (Ok w.put)
     → IsWriterOf (state_of new) w → w.gathered.items ≡ [] → w.sealed ≡ false → OpenDoes before after (state_of old) (state_of new) who.0 (Opens key pin request response) (Some w) (Some (answer.Writer w.put))
-opens before after old new who key request response pin w blamed quiet adds does own none open_ = λ run name free is.
+opens before after old new who key request response pin w accounted quiet adds does own none open_ = λ run name free is.
     let s : State = state_of old in
     let t : State = state_of new in
     let p : Permit = own_permit run.now before after in
@@ -89,7 +89,7 @@ opens before after old new who key request response pin w blamed quiet adds does
     let legal : IsStep p s (Write who.0 key request response pin ∷ []) added None = record {
       grows = grows_by p s (to_do (Write who.0 key request response pin ∷ [])) (record { intents = []; refused = None }) added (Done, does.1 p, refl);
       quiet = subst IsQuiet there quiet;
-      faults = blamed_is before after old new added blamed adds;
+      effects = accounted_is before after old new added accounted adds;
     } in
     let writing : is_writing t s.next_put ≡ true = ap (λ x. is_writing x s.next_put) there ∙ writes_it s who key request response pin in
     let rows : w.table.rows ≡ [] = nothing_cut s who key request response pin w does.0 (subst (λ x. IsWriterOf x w) there own) in
@@ -112,10 +112,10 @@ opens before after old new who key request response pin w blamed quiet adds does
     }
 
 -- it is refused
-refused_by : (before after : List Call) (old new : Kept) (who : Actor) (key : Key) (request response : List Field) (pin : ℕ) (why : Reason) (said : StepAnswer) → IsBlamed before after old new → IsQuiet (state_of new) → FallBelow (state_of old).next_put (put_numbers (state_of old).puts)
+refused_by : (before after : List Call) (old new : Kept) (who : Actor) (key : Key) (request response : List Field) (pin : ℕ) (why : Reason) (said : StepAnswer) → IsAccounted before after old new → IsQuiet (state_of new) → FallBelow (state_of old).next_put (put_numbers (state_of old).puts)
     → new ≡ old → ((p : Permit) → Does p (state_of old) (Write who.0 key request response pin) [] (Fails why))
     → Rattle.script_run.specs.Answers.refusal_said (state_of new) None why ≡ said → OpenDoes before after (state_of old) (state_of new) who.0 (Opens key pin request response) None (Some said)
-refused_by before after old new who key request response pin why said blamed quiet fall same does says = λ run name free is.
+refused_by before after old new who key request response pin why said accounted quiet fall same does says = λ run name free is.
     let s : State = state_of old in
     let t : State = state_of new in
     let p : Permit = own_permit run.now before after in
@@ -123,7 +123,7 @@ refused_by before after old new who key request response pin why said blamed qui
     let legal : IsStep p s (Write who.0 key request response pin ∷ []) [] (Some why) = record {
       grows = grows_by p s (to_do (Write who.0 key request response pin ∷ [])) (record { intents = []; refused = Some why }) [] (Fails why, does p, refl);
       quiet = subst IsQuiet there quiet;
-      faults = blamed_is before after old new [] blamed (same ∙ sym (nothing_more old));
+      effects = accounted_is before after old new [] accounted (same ∙ sym (nothing_more old));
     } in
     let none : is_writing t s.next_put ≡ false = ap (λ x. is_writing x s.next_put) there ∙ next_is_free s fall in
     record {
@@ -142,9 +142,9 @@ refused_by before after old new who key request response pin why said blamed qui
       says = ap (λ o. Rattle.script_run.specs.Answers.if_free o (Rattle.script_run.specs.Answers.refusal_said t None why)) free ∙ says;
     }
 
-pub not_opened : (before after : List Call) (old new : Kept) (who : Actor) (key : Key) (request response : List Field) (pin : ℕ) (why : Refusal) → IsBlamed before after old new → IsQuiet (state_of new) → FallBelow (state_of old).next_put (put_numbers (state_of old).puts)
+pub not_opened : (before after : List Call) (old new : Kept) (who : Actor) (key : Key) (request response : List Field) (pin : ℕ) (why : Refusal) → IsAccounted before after old new → IsQuiet (state_of new) → FallBelow (state_of old).next_put (put_numbers (state_of old).puts)
     → new ≡ old → OpensAsAsked (state_of old) who key request response pin (Err why) → OpenDoes before after (state_of old) (state_of new) who.0 (Opens key pin request response) None (refused_answer why None)
-not_opened before after old new who key request response pin refusal.TooManyWriters blamed quiet fall same does = refused_by before after old new who key request response pin ManyWriters _ blamed quiet fall same does.1 refl
-not_opened before after old new who key request response pin (refusal.Exhausted number) blamed quiet fall same does = refused_by before after old new who key request response pin Exhausted _ blamed quiet fall same does.1 refl
-not_opened before after old new who key request response pin (refusal.Memory e) blamed quiet fall same does = tt
-not_opened before after old new who key request response pin _ blamed quiet fall same does = absurd does
+not_opened before after old new who key request response pin refusal.TooManyWriters accounted quiet fall same does = refused_by before after old new who key request response pin ManyWriters _ accounted quiet fall same does.1 refl
+not_opened before after old new who key request response pin (refusal.Exhausted number) accounted quiet fall same does = refused_by before after old new who key request response pin Exhausted _ accounted quiet fall same does.1 refl
+not_opened before after old new who key request response pin (refusal.Memory e) accounted quiet fall same does = tt
+not_opened before after old new who key request response pin _ accounted quiet fall same does = absurd does

@@ -18,8 +18,8 @@ use Rattle.stripe_core.specs.declared.refusal.Refusal.{Refusal}
 use Rattle.stripe_core.specs.declared.refusal.Refusal.TheVariants as refusal
 use Rattle.stripe_core.specs.Stripe.{state_in}
 use Rattle.stripe_core.specs.Between.{Between}
-use Rattle.stripe_core.specs.Faults.{IsBlamed}
-use Rattle.stripe_core.proofs.Between.{blamed_is}
+use Rattle.stripe_core.specs.Faults.{IsAccounted}
+use Rattle.stripe_core.proofs.Between.{accounted_is}
 use Rattle.stripe_core.proofs.Covering.{own_covers, own_permit}
 use Rattle.stripe_write.specs.declared.finishing.Receipt.{Receipt}
 use Rattle.stripe_write.proofs.Spending.{state_behind}
@@ -52,7 +52,7 @@ use Rattle.cache_replay.proofs.Unharming.{session_calls, session_unharmed}
 abbrev Ends : Run → (before after : List Call) → (s t : State) → Key → List ℕ → (request response : List Field) → StepAnswer → Type 0
 Ends run before after s t key body request response said = Plainly run (step.Put key body request response) before after s t said ⊎ ShowsIn run (Some s) (step.Put key body request response)
 
-module _ (now : ℕ) (before after : List Call) (k new : Kept) (blamed : IsBlamed before after k new) (quiet : IsQuiet (state_of new)) (key : Key) (body : List ℕ) (request response : List Field) (run : Run) (moment : run.now ≡ now) (told : AreTold (state_of k)) where
+module _ (now : ℕ) (before after : List Call) (k new : Kept) (accounted : IsAccounted before after k new) (quiet : IsQuiet (state_of new)) (key : Key) (body : List ℕ) (request response : List Field) (run : Run) (moment : run.now ≡ now) (told : AreTold (state_of k)) where
   asked_puts : (result : Result Receipt Refusal) (said : StepAnswer) → receipt_answer result ≡ said → PutsAsAsked now before after k new key body request response result
       → Ends run before after (state_of k) (state_of new) key body request response said
   asked_puts result said is puts =
@@ -64,7 +64,7 @@ module _ (now : ℕ) (before after : List Call) (k new : Kept) (blamed : IsBlame
             plain = refl;
             content = refl;
             moment = refl;
-            legal = record { grows = x.grows; quiet = subst IsQuiet (state_behind k new x.added x.adds) quiet; faults = blamed_is before after k new x.added blamed x.adds };
+            legal = record { grows = x.grows; quiet = subst IsQuiet (state_behind k new x.added x.adds) quiet; effects = accounted_is before after k new x.added accounted x.adds };
             own = refl;
           };
           calls = refl;

@@ -15,7 +15,7 @@ use Rattle.cache_model.specs.Legal.{Does, IsQuiet, IsStep, MayGrow, is_writing, 
 use Rattle.cache_model.specs.declared.record.Rec.{Rec}
 use Rattle.cache_model.proofs.Steps.{grows_by}
 use Rattle.cache_model.specs.Tape.{IsSound}
-use Rattle.cache_model.specs.Given.{counts_in, counts_told}
+use Rattle.cache_model.specs.Given.{effects_in, effects_told}
 use Rattle.cache_model.specs.Vectors.{AreTold}
 use Rattle.model_laws.specs.VectorLaws.{GroupsTell}
 use Rattle.stripe_core.specs.Stripe.{IsStripe, kept_in, state_in}
@@ -176,7 +176,7 @@ module _ {D R C : Type 0} (disk : DiskGhosts D) (directory : DirectoryGhosts R) 
     pub content : device.area ≡ 0
     pub moment : device.now ≡ run.now
     pub calls : device.events ≡ calls_since (past_of disk directory old) (past_of disk directory new)
-    pub faults : counts_told added ≡ counts_in device.events
+    pub effects : effects_told added ≡ effects_in device.events
     pub asks : asked run (state_in chronicle old.stripe) step ≡ i ∷ []
     pub does : Does device (state_in chronicle old.stripe) i added Done
     pub gives : GivesOwn run (state_in chronicle old.stripe) (line_turn device added given) step
@@ -198,7 +198,7 @@ module _ {D R C : Type 0} (disk : DiskGhosts D) (directory : DirectoryGhosts R) 
       let legal : IsStep device s (asked run s step) added None = record {
         grows = subst (λ is. MayGrow device s (to_do is) added (record { intents = []; refused = None })) (sym line.asks) (grows_by device s (to_do (i ∷ [])) (record { intents = []; refused = None }) added (Done, line.does, refl));
         quiet = subst IsQuiet line.behind line.quiet;
-        faults = line.faults;
+        effects = line.effects;
       } in
       elim (tell device s i added Done sound plays.at.told line.does) [
         | inr pair ↦ inr (shows_in run s step (record {
@@ -287,7 +287,7 @@ module _ {D R C : Type 0} (disk : DiskGhosts D) (directory : DirectoryGhosts R) 
           legal = record {
             grows = subst (λ is. MayGrow (still_permit run.now) s (to_do is) [] (record { intents = []; refused = None })) (sym nothing_asked) nothing;
             quiet = quiet;
-            faults = refl;
+            effects = refl;
           };
           own = own;
         };

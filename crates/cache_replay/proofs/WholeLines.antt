@@ -46,8 +46,8 @@ use Rattle.cache_replay.specs.Shown.{ShowsAt, ShowsIn}
 use Rattle.cache_replay.proofs.Shown.{shows_in}
 use Rattle.cache_replay.proofs.Frames.{IsElse, held_as_stays, held_stays}
 use Rattle.cache_replay.proofs.OnSession.{on_session, told_behind}
-use Rattle.stripe_core.specs.Faults.{IsBlamed}
-use Rattle.stripe_core.proofs.Between.{blamed_is}
+use Rattle.stripe_core.specs.Faults.{IsAccounted}
+use Rattle.stripe_core.proofs.Between.{accounted_is}
 use Rattle.stripe_core.proofs.Covering.{own_covers, own_permit}
 use Rattle.cache_replay.proofs.ReaderLines.{part_behind}
 use Rattle.cache_replay.proofs.OnPart.{line_moved, line_shows, part_plays}
@@ -111,9 +111,9 @@ one_held_as run new s t n m (Some h) leaves none streams same held own =
     held_as_stays None (Some n) run new s t m h leaves (λ q other. ap (λ (f : ℕ → Stream). f q) streams) (ap (λ (f : ℕ → Option Rattle.script_run.specs.Run.Holding). f m) same) (not_next s n h none held) own
 
 pub line_ends : (owns : ReadsOwn) (tell : StepsTell) (run : Run) (before after : List Call) (n : ℕ) (k k2 : Kept) (key : Key) (request : List Field) (slots : ℕ → Option Holding) (got : Got) (said : StepAnswer)
-    → GetsAsAsked before after k k2 key request got → IsBlamed before after k k2 → IsQuiet (state_of k2) → said ≡ got_answer got → IsSound (state_of k) → LeavesBut None (Some n) (state_of k) (state_of k2) → reader_of (state_of k) n ≡ None → AreHeld (state_of k) slots
+    → GetsAsAsked before after k k2 key request got → IsAccounted before after k k2 → IsQuiet (state_of k2) → said ≡ got_answer got → IsSound (state_of k) → LeavesBut None (Some n) (state_of k) (state_of k2) → reader_of (state_of k) n ≡ None → AreHeld (state_of k) slots
     → PlaysIn run (state_of k) slots → LineEnds run before after (state_of k) (state_of k2) key request slots said
-line_ends owns tell run before after n k k2 key request slots got said gets blamed quiet is sound leaves none held plays =
+line_ends owns tell run before after n k k2 key request slots got said gets accounted quiet is sound leaves none held plays =
     elim (gets.does (own_permit run.now before after) run (own_covers run.now before after) plays.told plays.own) [
       | inl x ↦
           let takes = takes_by x in
@@ -135,7 +135,7 @@ line_ends owns tell run before after n k k2 key request slots got said gets blam
       plain = refl;
       content = refl;
       moment = refl;
-      legal = record { grows = x.grows; quiet = subst IsQuiet (state_behind k k2 x.added x.adds) quiet; faults = blamed_is before after k k2 x.added blamed x.adds };
+      legal = record { grows = x.grows; quiet = subst IsQuiet (state_behind k k2 x.added x.adds) quiet; effects = accounted_is before after k k2 x.added accounted x.adds };
       own = x.body;
     }
 

@@ -24,9 +24,9 @@ use Rattle.script_lang.specs.declared.answer.StepAnswer.TheVariants as answer
 use Rattle.script_run.specs.Run.{Run, Writes, gathered_of, put_in, writer_of}
 use Rattle.script_run.specs.Behind.{still_open}
 use Rattle.cache_replay.specs.WriterLines.{GivesUp, IsPlayed, WriterDoes, writes_in}
-use Rattle.cache_model.specs.Given.{counts_in, counts_told}
-use Rattle.stripe_core.specs.Faults.{IsBlamed}
-use Rattle.stripe_core.proofs.Between.{blamed_is}
+use Rattle.cache_model.specs.Given.{effects_in, effects_told}
+use Rattle.stripe_core.specs.Faults.{IsAccounted}
+use Rattle.stripe_core.proofs.Between.{accounted_is}
 use Rattle.stripe_core.proofs.Covering.{own_permit}
 use Rattle.cache_replay.proofs.Endings.{key_of}
 
@@ -54,9 +54,9 @@ gathered_at run name s w played writing own =
 ended_at : (t : State) (put : ℕ) → is_writing t put ≡ false → still_open t (Some (Writes put)) ≡ None
 ended_at t put none = ap (λ (b : Bool). if b then Some (Writes put) else None) none
 
-gives_up : (law : WriterIsEnded) (before after : List Call) (old new : Kept) (w : Writer) (put : ℕ) → IsBlamed before after old new → IsQuiet (state_of new) → new ≡ with_records old (rec.Aborted put w.key ∷ []) → put ≡ w.put
+gives_up : (law : WriterIsEnded) (before after : List Call) (old new : Kept) (w : Writer) (put : ℕ) → IsAccounted before after old new → IsQuiet (state_of new) → new ≡ with_records old (rec.Aborted put w.key ∷ []) → put ≡ w.put
     → ((p : Permit) → Does p (state_of old) (GiveUp w.put) (rec.Aborted put w.key ∷ []) Done) → (now : ℕ) → WriterDoes now before after (state_of old) (state_of new) GivesUp w None (Some (answer.Aborted put))
-gives_up law before after old new w put blamed quiet adds is does now = λ run name moment played.
+gives_up law before after old new w put accounted quiet adds is does now = λ run name moment played.
     let s : State = state_of old in
     let t : State = state_of new in
     let p : Permit = own_permit run.now before after in
@@ -65,7 +65,7 @@ gives_up law before after old new w put blamed quiet adds is does now = λ run n
     let legal : IsStep p s (GiveUp w.put ∷ []) added None = record {
       grows = grows_by p s (to_do (GiveUp w.put ∷ [])) (record { intents = []; refused = None }) added (Done, does p, refl);
       quiet = subst IsQuiet there quiet;
-      faults = blamed_is before after old new added blamed adds;
+      effects = accounted_is before after old new added accounted adds;
     } in
     let has = has_put run name s w played in
     inl (record {
@@ -84,10 +84,10 @@ gives_up law before after old new w put blamed quiet adds is does now = λ run n
       says = ap (λ o. Rattle.script_run.specs.Answers.if_has o answer.Aborted) has ∙ ap answer.Aborted (sym is);
     })
 
-pub aborted : (law : WriterIsEnded) (before after : List Call) (old new : Kept) (w : Writer) (put : ℕ) → IsBlamed before after old new → IsQuiet (state_of new) → new ≡ with_records old (abort_adds w.key (Rattle.std.specs.Prelude.Ok put))
+pub aborted : (law : WriterIsEnded) (before after : List Call) (old new : Kept) (w : Writer) (put : ℕ) → IsAccounted before after old new → IsQuiet (state_of new) → new ≡ with_records old (abort_adds w.key (Rattle.std.specs.Prelude.Ok put))
     → AbortsWhere (state_of old) w.put (Rattle.std.specs.Prelude.Ok put) → AbortsAsAsked (state_of old) w.put w.key (Rattle.std.specs.Prelude.Ok put)
     → (now : ℕ) → WriterDoes now before after (state_of old) (state_of new) GivesUp w None (Some (answer.Aborted put))
-aborted law before after old new w put blamed quiet adds where_ does = gives_up law before after old new w put blamed quiet adds where_.0 does
+aborted law before after old new w put accounted quiet adds where_ does = gives_up law before after old new w put accounted quiet adds where_.0 does
 
 pub owns_abort : (old new : Kept) (w : Writer) (put : ℕ) → put ≡ w.put → new ≡ with_records old (rec.Aborted put w.key ∷ []) → AddsOfPut w.put old new
 owns_abort old new w put is adds = record { added = rec.Aborted put w.key ∷ []; adds = adds; own = (is, tt) }
@@ -135,8 +135,8 @@ reason_of Done = None
 reason_of (Fails reason) = Some reason
 
 -- a whole step
-pub whole_step : (p : Permit) (s : State) (asks : List Intent) (added : List Rec) (e : End) → SpendsAll p s asks added e → IsQuiet (after_all s added) → counts_told added ≡ counts_in p.events → IsStep p s asks added (reason_of e)
-whole_step p s asks added e spends quiet faults = record { grows = by e spends; quiet = quiet; faults = faults }
+pub whole_step : (p : Permit) (s : State) (asks : List Intent) (added : List Rec) (e : End) → SpendsAll p s asks added e → IsQuiet (after_all s added) → effects_told added ≡ effects_in p.events → IsStep p s asks added (reason_of e)
+whole_step p s asks added e spends quiet effects = record { grows = by e spends; quiet = quiet; effects = effects }
   where
     by : (e : End) → SpendsAll p s asks added e → MayGrow p s (to_do asks) added (record { intents = []; refused = reason_of e })
     by Stays h = subst (λ (is : List Intent). MayGrow p s (to_do is) added (record { intents = []; refused = None })) (append-nil asks) (h [] None)

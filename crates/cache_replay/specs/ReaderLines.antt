@@ -5,7 +5,7 @@ use Rattle.cache_model.specs.declared.record.Rec.{Rec}
 use Rattle.cache_model.specs.State.{State, after_all}
 use Rattle.cache_model.specs.Permit.{Done, Permit, ReadOn}
 use Rattle.cache_model.specs.Legal.{Does}
-use Rattle.cache_model.specs.Given.{counts_in, counts_told}
+use Rattle.cache_model.specs.Given.{effects_in, effects_told}
 use Rattle.stripe_core.specs.Covers.{calls_since}
 use Rattle.stripe_read.specs.declared.reader.Reader.{Reader}
 use Rattle.stripe_read.specs.declared.opening.Opened.{Opened}
@@ -80,7 +80,7 @@ pub record NextMoves (run : Run) (before after : List Call) (s t : State) (r new
   pub moment : device.now ≡ run.now
   pub content : device.area ≡ 0
   pub calls : device.events ≡ calls_since before after
-  pub faults : counts_told added ≡ counts_in device.events
+  pub effects : effects_told added ≡ effects_in device.events
   pub behind : t ≡ after_all s added
   pub does : Does device s (ReadOn r.reader) added Done
   pub own : IsPiece run s r.reader given (told_in added)

@@ -8,7 +8,7 @@ ghost use Rattle.cache_model.specs.Vectors.{AreTold};
 ghost use Rattle.logged_disk.specs.Device.{IsAfter};
 ghost use Rattle.stripe_core.specs.Stripe.{IsStripe, kept_in, seen_in, state_in};
 ghost use Rattle.stripe_core.specs.Between.{Between};
-ghost use Rattle.stripe_core.specs.Faults.{IsBlamed};
+ghost use Rattle.stripe_core.specs.Faults.{IsAccounted};
 ghost use Rattle.stripe_read.specs.Readers.{IsOpenReader};
 ghost use Rattle.script_lang.specs.declared.answer.StepAnswer.{StepAnswer};
 ghost use Rattle.script_lang.specs.declared.step.Step.TheVariants as step;
@@ -77,7 +77,7 @@ pub(crate) fn get<D: Disk, R: Directory + Drop, C: Chronicle>(
     ensures unharmed { (run : Run) → AreTold (state_in C.Chronicle stripe.old) → AreOwn (state_in C.Chronicle stripe.old) run.streams
         → Between D.Disk R.Directory C.Chronicle stripe.old stripe.new ⊎ ShowsAt (IsPlacedAs run.streams) run.now (state_in C.Chronicle stripe.old) (get_intents (state_in C.Chronicle stripe.old) key request) }
     ensures goes { IsAfter (seen_in D.Disk R.Directory stripe.old).device (seen_in D.Disk R.Directory stripe.new).device }
-    ensures blamed { IsBlamed (seen_in D.Disk R.Directory stripe.old).device.past (seen_in D.Disk R.Directory stripe.new).device.past (kept_in C.Chronicle stripe.old) (kept_in C.Chronicle stripe.new) }
+    ensures accounted { IsAccounted (seen_in D.Disk R.Directory stripe.old).device.past (seen_in D.Disk R.Directory stripe.new).device.past (kept_in C.Chronicle stripe.old) (kept_in C.Chronicle stripe.new) }
 {
     reads_own();
     match open_read(stripe, Actor(0), key, request)? {
@@ -115,7 +115,7 @@ fn read_whole<D: Disk, R: Directory + Drop, C: Chronicle>(
     ensures unharmed { (b : Began) (run : Run) → IsUnderway b (seen_in D.Disk R.Directory stripe.old).device.past (kept_in C.Chronicle stripe.old) reader []
         → AreTold (state_of b.kept) → AreOwn (state_of b.kept) run.streams → Between D.Disk R.Directory C.Chronicle stripe.old stripe.new ⊎ ShowsAt (IsPlacedAs run.streams) run.now (state_of b.kept) b.asks }
     ensures goes { IsAfter (seen_in D.Disk R.Directory stripe.old).device (seen_in D.Disk R.Directory stripe.new).device }
-    ensures blamed { IsBlamed (seen_in D.Disk R.Directory stripe.old).device.past (seen_in D.Disk R.Directory stripe.new).device.past (kept_in C.Chronicle stripe.old) (kept_in C.Chronicle stripe.new) }
+    ensures accounted { IsAccounted (seen_in D.Disk R.Directory stripe.old).device.past (seen_in D.Disk R.Directory stripe.new).device.past (kept_in C.Chronicle stripe.old) (kept_in C.Chronicle stripe.new) }
 {
     let mut reader = reader;
     match read_to_end(alloc, stripe, page, &mut reader, put) {
@@ -154,7 +154,7 @@ fn read_to_end<D: Disk, R: Directory + Drop, C: Chronicle>(
     ensures unharmed { (b : Began) (run : Run) → IsUnderway b (seen_in D.Disk R.Directory stripe.old).device.past (kept_in C.Chronicle stripe.old) reader.old []
         → AreTold (state_of b.kept) → AreOwn (state_of b.kept) run.streams → Between D.Disk R.Directory C.Chronicle stripe.old stripe.new ⊎ ShowsAt (IsPlacedAs run.streams) run.now (state_of b.kept) b.asks }
     ensures goes { IsAfter (seen_in D.Disk R.Directory stripe.old).device (seen_in D.Disk R.Directory stripe.new).device }
-    ensures blamed { IsBlamed (seen_in D.Disk R.Directory stripe.old).device.past (seen_in D.Disk R.Directory stripe.new).device.past (kept_in C.Chronicle stripe.old) (kept_in C.Chronicle stripe.new) }
+    ensures accounted { IsAccounted (seen_in D.Disk R.Directory stripe.old).device.past (seen_in D.Disk R.Directory stripe.new).device.past (kept_in C.Chronicle stripe.old) (kept_in C.Chronicle stripe.new) }
 {
     let mut body = Vec::new(alloc);
     loop {
@@ -195,7 +195,7 @@ fn read_more<D: Disk, R: Directory + Drop, C: Chronicle>(
     ensures unharmed { (b : Began) (run : Run) → IsUnderway b (seen_in D.Disk R.Directory stripe.old).device.past (kept_in C.Chronicle stripe.old) reader.old body.old.items
         → AreTold (state_of b.kept) → AreOwn (state_of b.kept) run.streams → Between D.Disk R.Directory C.Chronicle stripe.old stripe.new ⊎ ShowsAt (IsPlacedAs run.streams) run.now (state_of b.kept) b.asks }
     ensures goes { IsAfter (seen_in D.Disk R.Directory stripe.old).device (seen_in D.Disk R.Directory stripe.new).device }
-    ensures blamed { IsBlamed (seen_in D.Disk R.Directory stripe.old).device.past (seen_in D.Disk R.Directory stripe.new).device.past (kept_in C.Chronicle stripe.old) (kept_in C.Chronicle stripe.new) }
+    ensures accounted { IsAccounted (seen_in D.Disk R.Directory stripe.old).device.past (seen_in D.Disk R.Directory stripe.new).device.past (kept_in C.Chronicle stripe.old) (kept_in C.Chronicle stripe.new) }
 {
     read_is_own();
     other_shows();

@@ -8,7 +8,7 @@ use Rattle.stripe_read.specs.declared.opening.Opened.TheVariants as opened
 use Rattle.cache_replay.proofs.Counts.{missed_tells, ok_after}
 use Rattle.cache_replay.proofs.ReaderFrames.{losses_then}
 use Rattle.logged_disk.proofs.GoingOn.{goes_further}
-use Rattle.stripe_core.proofs.Between.{blamed_then}
+use Rattle.stripe_core.proofs.Between.{accounted_then}
 use Rattle.cache_replay.proofs.getting.get.Goals as goal
 
 pub returns-in-Hit-clause-gets : goal.returns-in-Hit-clause-gets
@@ -91,11 +91,11 @@ returns-in_err-close-in-Follow-clause-goes g c = goes_further _ _ _ c.open_read.
 pub returns-in_ok-close-in-Follow-clause-goes : goal.returns-in_ok-close-in-Follow-clause-goes
 returns-in_ok-close-in-Follow-clause-goes g c = goes_further _ _ _ c.open_read.ensures.unharmed.goes c.close.ensures.unharmed.goes
 
-pub returns-in-Hit-clause-blamed : goal.returns-in-Hit-clause-blamed
-returns-in-Hit-clause-blamed g c = blamed_then _ _ _ _ _ _ c.open_read.ensures.unharmed.blamed c.read_whole.ensures.blamed
+pub returns-in-Hit-clause-accounted : goal.returns-in-Hit-clause-accounted
+returns-in-Hit-clause-accounted g c = accounted_then _ _ _ _ _ _ c.open_read.ensures.unharmed.accounted c.read_whole.ensures.accounted
 
-pub returns-in_err-close-in-Follow-clause-blamed : goal.returns-in_err-close-in-Follow-clause-blamed
-returns-in_err-close-in-Follow-clause-blamed g c = blamed_then _ _ _ _ _ _ c.open_read.ensures.unharmed.blamed c.close.ensures.unharmed.blamed
+pub returns-in_err-close-in-Follow-clause-accounted : goal.returns-in_err-close-in-Follow-clause-accounted
+returns-in_err-close-in-Follow-clause-accounted g c = accounted_then _ _ _ _ _ _ c.open_read.ensures.unharmed.accounted c.close.ensures.unharmed.accounted
 
-pub returns-in_ok-close-in-Follow-clause-blamed : goal.returns-in_ok-close-in-Follow-clause-blamed
-returns-in_ok-close-in-Follow-clause-blamed g c = blamed_then _ _ _ _ _ _ c.open_read.ensures.unharmed.blamed c.close.ensures.unharmed.blamed
+pub returns-in_ok-close-in-Follow-clause-accounted : goal.returns-in_ok-close-in-Follow-clause-accounted
+returns-in_ok-close-in-Follow-clause-accounted g c = accounted_then _ _ _ _ _ _ c.open_read.ensures.unharmed.accounted c.close.ensures.unharmed.accounted

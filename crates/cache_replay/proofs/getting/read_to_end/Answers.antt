@@ -4,7 +4,7 @@ use Rattle.std.specs.Prelude.{is_some}
 use Rattle.logged_disk.proofs.GoingOn.{goes_further}
 use Rattle.cache_model.specs.Permit.{StopReading}
 use Rattle.stripe_core.specs.Stripe.{kept_in, seen_in}
-use Rattle.stripe_core.proofs.Between.{blamed_then}
+use Rattle.stripe_core.proofs.Between.{accounted_then}
 use Rattle.script_run.specs.Answers.{broken_said}
 use Rattle.script_lang.specs.declared.answer.StepAnswer.TheVariants as answer
 use Rattle.cache_replay.specs.Getting.{IsAnswered}
@@ -46,7 +46,7 @@ loop-body-preserved g c = record {
   leaves = grind (arith, common_steps);
   harms = λ b run under told owned. stays_then (c.loop-body.invariant.harms b run under told owned) (c.read_more.ensures.unharmed b run (c.loop-body.invariant.under b under) told owned);
   goes = goes_further _ _ _ c.loop-body.invariant.goes c.read_more.ensures.goes;
-  blamed = blamed_then _ _ _ _ _ _ c.loop-body.invariant.blamed c.read_more.ensures.blamed;
+  accounted = accounted_then _ _ _ _ _ _ c.loop-body.invariant.accounted c.read_more.ensures.accounted;
   later = omega (arith, c.read_more.ensures.later, c.loop-body.invariant.later);
 }
 
@@ -82,14 +82,14 @@ returns-in-NotYet-clause-goes g c = goes_further _ _ _ c.loop-body.invariant.goe
 pub returns-in-Broken-clause-goes : goal.returns-in-Broken-clause-goes
 returns-in-Broken-clause-goes g c = goes_further _ _ _ c.loop-body.invariant.goes c.read_more.ensures.goes
 
-pub returns-in_err-read_more-clause-blamed : goal.returns-in_err-read_more-clause-blamed
-returns-in_err-read_more-clause-blamed g c = blamed_then _ _ _ _ _ _ c.loop-body.invariant.blamed c.read_more.ensures.blamed
+pub returns-in_err-read_more-clause-accounted : goal.returns-in_err-read_more-clause-accounted
+returns-in_err-read_more-clause-accounted g c = accounted_then _ _ _ _ _ _ c.loop-body.invariant.accounted c.read_more.ensures.accounted
 
-pub returns-in-End-clause-blamed : goal.returns-in-End-clause-blamed
-returns-in-End-clause-blamed g c = blamed_then _ _ _ _ _ _ c.loop-body.invariant.blamed c.read_more.ensures.blamed
+pub returns-in-End-clause-accounted : goal.returns-in-End-clause-accounted
+returns-in-End-clause-accounted g c = accounted_then _ _ _ _ _ _ c.loop-body.invariant.accounted c.read_more.ensures.accounted
 
-pub returns-in-NotYet-clause-blamed : goal.returns-in-NotYet-clause-blamed
-returns-in-NotYet-clause-blamed g c = blamed_then _ _ _ _ _ _ c.loop-body.invariant.blamed c.read_more.ensures.blamed
+pub returns-in-NotYet-clause-accounted : goal.returns-in-NotYet-clause-accounted
+returns-in-NotYet-clause-accounted g c = accounted_then _ _ _ _ _ _ c.loop-body.invariant.accounted c.read_more.ensures.accounted
 
-pub returns-in-Broken-clause-blamed : goal.returns-in-Broken-clause-blamed
-returns-in-Broken-clause-blamed g c = blamed_then _ _ _ _ _ _ c.loop-body.invariant.blamed c.read_more.ensures.blamed
+pub returns-in-Broken-clause-accounted : goal.returns-in-Broken-clause-accounted
+returns-in-Broken-clause-accounted g c = accounted_then _ _ _ _ _ _ c.loop-body.invariant.accounted c.read_more.ensures.accounted

@@ -6,7 +6,7 @@ use Rattle.cache_model.specs.Legal.{IsQuiet}
 use Rattle.cache_model.specs.Vectors.{AreTold}
 use Rattle.stripe_core.specs.Stripe.{IsStripe, kept_in, seen_in, state_in}
 use Rattle.stripe_core.specs.Between.{Between}
-use Rattle.stripe_core.specs.Faults.{IsBlamed}
+use Rattle.stripe_core.specs.Faults.{IsAccounted}
 use Rattle.stripe_read.specs.Readers.{IsOpenReader}
 use Rattle.script_run.specs.Run.{Run}
 use Rattle.script_run.specs.Own.{AreOwn, IsPlacedAs}
@@ -30,7 +30,7 @@ invariant-loop-body g l = record {
   harms : (b : Began) (run : Run) → IsUnderway b (seen_in g.D.Disk g.R.Directory l.fn.stripe).device.past (kept_in g.C.Chronicle l.fn.stripe) l.fn.reader [] → AreTold (state_of b.kept) → AreOwn (state_of b.kept) run.streams
       → Between g.D.Disk g.R.Directory g.C.Chronicle l.fn.stripe l.stripe ⊎ ShowsAt (IsPlacedAs run.streams) run.now (state_of b.kept) b.asks;
   goes : IsAfter (seen_in g.D.Disk g.R.Directory l.fn.stripe).device (seen_in g.D.Disk g.R.Directory l.stripe).device;
-  blamed : IsBlamed (seen_in g.D.Disk g.R.Directory l.fn.stripe).device.past (seen_in g.D.Disk g.R.Directory l.stripe).device.past (kept_in g.C.Chronicle l.fn.stripe) (kept_in g.C.Chronicle l.stripe);
+  accounted : IsAccounted (seen_in g.D.Disk g.R.Directory l.fn.stripe).device.past (seen_in g.D.Disk g.R.Directory l.stripe).device.past (kept_in g.C.Chronicle l.fn.stripe) (kept_in g.C.Chronicle l.stripe);
   later : (seen_in g.D.Disk g.R.Directory l.fn.stripe).device.faults ≤ (seen_in g.D.Disk g.R.Directory l.stripe).device.faults;
 }
 

@@ -4,7 +4,7 @@ use Rattle.cache_replay.specs.Getting.{given_in, got_answer}
 use Rattle.cache_replay.proofs.OtherNext.{stays_then}
 use Rattle.cache_replay.proofs.WholeReads.{answered_as}
 use Rattle.logged_disk.proofs.GoingOn.{goes_further}
-use Rattle.stripe_core.proofs.Between.{blamed_then}
+use Rattle.stripe_core.proofs.Between.{accounted_then}
 use Rattle.cache_replay.proofs.getting.read_whole.Goals as goal
 
 pub returns-in_ok-close-in-Ok-clause-answers : goal.returns-in_ok-close-in-Ok-clause-answers
@@ -28,8 +28,8 @@ returns-in_err-close-in-Ok-clause-goes g c = goes_further _ _ _ c.read_to_end.en
 pub returns-in_ok-close-in-Ok-clause-goes : goal.returns-in_ok-close-in-Ok-clause-goes
 returns-in_ok-close-in-Ok-clause-goes g c = goes_further _ _ _ c.read_to_end.ensures.goes c.close.ensures.unharmed.goes
 
-pub returns-in_err-close-in-Ok-clause-blamed : goal.returns-in_err-close-in-Ok-clause-blamed
-returns-in_err-close-in-Ok-clause-blamed g c = blamed_then _ _ _ _ _ _ c.read_to_end.ensures.blamed c.close.ensures.unharmed.blamed
+pub returns-in_err-close-in-Ok-clause-accounted : goal.returns-in_err-close-in-Ok-clause-accounted
+returns-in_err-close-in-Ok-clause-accounted g c = accounted_then _ _ _ _ _ _ c.read_to_end.ensures.accounted c.close.ensures.unharmed.accounted
 
-pub returns-in_ok-close-in-Ok-clause-blamed : goal.returns-in_ok-close-in-Ok-clause-blamed
-returns-in_ok-close-in-Ok-clause-blamed g c = blamed_then _ _ _ _ _ _ c.read_to_end.ensures.blamed c.close.ensures.unharmed.blamed
+pub returns-in_ok-close-in-Ok-clause-accounted : goal.returns-in_ok-close-in-Ok-clause-accounted
+returns-in_ok-close-in-Ok-clause-accounted g c = accounted_then _ _ _ _ _ _ c.read_to_end.ensures.accounted c.close.ensures.unharmed.accounted

@@ -13,14 +13,14 @@ use Rattle.cache_replay.proofs.plain_lines.flush.Goals as goal
 pub returns-in-Ok-clause-ends : goal.returns-in-Ok-clause-ends
 returns-in-Ok-clause-ends g c = λ run moment.
     flushes run c.args.now moment (kept_in g.C.Chronicle c.args.part.now.stripe) (kept_in g.C.Chronicle c.flush.new.self)
-    (seen_in g.D.Disk g.R.Directory c.args.part.now.stripe).device.past (seen_in g.D.Disk g.R.Directory c.flush.new.self).device c.flush.ensures.unharmed.blamed c.requires.part.quiet c.in-Ok.flushed c.in-Ok.ensures.does c.in-Ok.ensures.tells
+    (seen_in g.D.Disk g.R.Directory c.args.part.now.stripe).device.past (seen_in g.D.Disk g.R.Directory c.flush.new.self).device c.flush.ensures.unharmed.accounted c.requires.part.quiet c.in-Ok.flushed c.in-Ok.ensures.does c.in-Ok.ensures.tells
 
 pub returns-in-Err-clause-ends : goal.returns-in-Err-clause-ends
 returns-in-Err-clause-ends g c =
     subst (λ r. IfOk r (λ said. (run : Run) → run.now ≡ c.args.now → Plainly run step.Flush (past_of g.D.Disk g.R.Directory c.args.part.now) (seen_in g.D.Disk g.R.Directory c.flush.new.self).device.past (state_in g.C.Chronicle c.args.part.now.stripe) (state_in g.C.Chronicle c.flush.new.self) said))
     (sym c.flush_refused.ensures)
     (flush_refuses c.args.now (kept_in g.C.Chronicle c.args.part.now.stripe) (kept_in g.C.Chronicle c.flush.new.self)
-    (seen_in g.D.Disk g.R.Directory c.args.part.now.stripe).device.past (seen_in g.D.Disk g.R.Directory c.flush.new.self).device c.in-Err.why c.in-Err.ensures.does c.flush.ensures.unharmed.blamed c.requires.part.quiet)
+    (seen_in g.D.Disk g.R.Directory c.args.part.now.stripe).device.past (seen_in g.D.Disk g.R.Directory c.flush.new.self).device c.in-Err.why c.in-Err.ensures.does c.flush.ensures.unharmed.accounted c.requires.part.quiet)
 
 pub returns-in-Ok-clause-part : goal.returns-in-Ok-clause-part
 returns-in-Ok-clause-part g c = record {

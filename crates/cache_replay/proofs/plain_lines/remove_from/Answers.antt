@@ -1,7 +1,7 @@
 use Rattle.std.proofs.Common.{subst}
 use Rattle.stripe_core.specs.Stripe.{kept_in, state_in}
 use Rattle.stripe_write.specs.Removals.{removal_adds}
-use Rattle.stripe_core.proofs.Between.{blamed_is}
+use Rattle.stripe_core.proofs.Between.{accounted_is}
 use Rattle.stripe_write.proofs.Spending.{state_behind}
 use Rattle.script_lang.specs.declared.step.Step.TheVariants as step
 use Rattle.cache_replay.specs.Plain.{Plainly}
@@ -20,7 +20,7 @@ returns-in-Ok-Removed-clause-ends g c = λ run.
     let a = c.in-Ok-Removed.field-0 in
     subst (λ r. Plainly run (step.Remove c.args.key) before after s t (removed_as r)) c.in-Ok-Removed.field-0-is
     (removes run before after s t c.args.key a
-    (blamed_is before after (kept_in g.C.Chronicle c.args.part.now.stripe) (kept_in g.C.Chronicle c.remove.new.stripe) (removal_adds c.args.key a) c.remove.ensures.unharmed.blamed c.in-Ok-Removed.ensures.adds)
+    (accounted_is before after (kept_in g.C.Chronicle c.args.part.now.stripe) (kept_in g.C.Chronicle c.remove.new.stripe) (removal_adds c.args.key a) c.remove.ensures.unharmed.accounted c.in-Ok-Removed.ensures.adds)
     (state_behind (kept_in g.C.Chronicle c.args.part.now.stripe) (kept_in g.C.Chronicle c.remove.new.stripe) (removal_adds c.args.key a) c.in-Ok-Removed.ensures.adds)
     c.in-Ok-Removed.ensures.quiet c.in-Ok-Removed.ensures.removes c.in-Ok-Removed.ensures.does)
 
@@ -33,7 +33,7 @@ returns-in-Ok-Absent-clause-ends g c = λ run.
     let a = c.in-Ok-Absent.field-0 in
     subst (λ r. Plainly run (step.Remove c.args.key) before after s t (removed_as r)) c.in-Ok-Absent.field-0-is
     (removes run before after s t c.args.key a
-    (blamed_is before after (kept_in g.C.Chronicle c.args.part.now.stripe) (kept_in g.C.Chronicle c.remove.new.stripe) (removal_adds c.args.key a) c.remove.ensures.unharmed.blamed c.in-Ok-Absent.ensures.adds)
+    (accounted_is before after (kept_in g.C.Chronicle c.args.part.now.stripe) (kept_in g.C.Chronicle c.remove.new.stripe) (removal_adds c.args.key a) c.remove.ensures.unharmed.accounted c.in-Ok-Absent.ensures.adds)
     (state_behind (kept_in g.C.Chronicle c.args.part.now.stripe) (kept_in g.C.Chronicle c.remove.new.stripe) (removal_adds c.args.key a) c.in-Ok-Absent.ensures.adds)
     c.in-Ok-Absent.ensures.quiet c.in-Ok-Absent.ensures.removes c.in-Ok-Absent.ensures.does)
 

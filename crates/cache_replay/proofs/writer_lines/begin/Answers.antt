@@ -15,13 +15,13 @@ returns-in-Ok-clause-does g c =
     subst (λ n. OpenDoes (seen_in g.D.Disk g.R.Directory c.args.stripe.now).device.past (seen_in g.D.Disk g.R.Directory c.open_write.new.stripe).device.past (state_in g.C.Chronicle c.args.stripe.now) (state_in g.C.Chronicle c.open_write.new.stripe) c.args.actor.0 (Opens c.args.key c.args.pin c.args.request c.args.response) (Some c.in-Ok.writer) (Some (answer.Writer n)))
     (sym c.put.ensures)
     (opens _ _ (kept_in g.C.Chronicle c.args.stripe.now) (kept_in g.C.Chronicle c.open_write.new.stripe) c.args.actor c.args.key c.args.request c.args.response c.args.pin c.in-Ok.writer
-    c.in-Ok.ensures.unharmed.blamed c.in-Ok.ensures.quiet c.in-Ok.ensures.adds c.in-Ok.ensures.does c.in-Ok.ensures.writer c.in-Ok.ensures.empty c.in-Ok.ensures.unsealed)
+    c.in-Ok.ensures.unharmed.accounted c.in-Ok.ensures.quiet c.in-Ok.ensures.adds c.in-Ok.ensures.does c.in-Ok.ensures.writer c.in-Ok.ensures.empty c.in-Ok.ensures.unsealed)
 
 pub returns-in-Err-clause-does : goal.returns-in-Err-clause-does
 returns-in-Err-clause-does g c =
     subst (OpenDoes (seen_in g.D.Disk g.R.Directory c.args.stripe.now).device.past (seen_in g.D.Disk g.R.Directory c.open_write.new.stripe).device.past (state_in g.C.Chronicle c.args.stripe.now) (state_in g.C.Chronicle c.open_write.new.stripe) c.args.actor.0 (Opens c.args.key c.args.pin c.args.request c.args.response) None) (sym c.answer_unless_memory.ensures)
     (not_opened _ _ (kept_in g.C.Chronicle c.args.stripe.now) (kept_in g.C.Chronicle c.open_write.new.stripe) c.args.actor c.args.key c.args.request c.args.response c.args.pin c.in-Err.why
-    c.in-Err.ensures.unharmed.blamed c.in-Err.ensures.quiet c.requires.stripe.actors.puts_fall c.in-Err.ensures.err c.in-Err.ensures.does)
+    c.in-Err.ensures.unharmed.accounted c.in-Err.ensures.quiet c.requires.stripe.actors.puts_fall c.in-Err.ensures.err c.in-Err.ensures.does)
 
 pub returns-in-Err-clause-counts : goal.returns-in-Err-clause-counts
 returns-in-Err-clause-counts g c =

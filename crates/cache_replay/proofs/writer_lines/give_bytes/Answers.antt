@@ -16,7 +16,7 @@ returns-clause-left g c = is_left (state_in g.C.Chronicle c.feed-taken.new.strip
 pub returns-clause-does : goal.returns-clause-does
 returns-clause-does g c =
     subst (WriterDoes c.args.now (seen_in g.D.Disk g.R.Directory c.args.stripe.now).device.past (seen_in g.D.Disk g.R.Directory c.feed-taken.new.stripe).device.past (state_in g.C.Chronicle c.args.stripe.now) (state_in g.C.Chronicle c.feed-taken.new.stripe) (Feeds c.args.body.now) c.args.writer c.keep_open.result) (sym c.fed_answer.ensures)
-    (feeds_line c.args.now (kept_in g.C.Chronicle c.args.stripe.now) (kept_in g.C.Chronicle c.feed-taken.new.stripe) _ _ c.feed-taken.ensures.unharmed.blamed c.args.writer c.feed-taken.new.writer c.args.body.now c.feed-taken.result.taken c.keep_open.result
+    (feeds_line c.args.now (kept_in g.C.Chronicle c.args.stripe.now) (kept_in g.C.Chronicle c.feed-taken.new.stripe) _ _ c.feed-taken.ensures.unharmed.accounted c.args.writer c.feed-taken.new.writer c.args.body.now c.feed-taken.result.taken c.keep_open.result
     c.requires.quiet c.feed-taken.ensures.quiet c.requires.writing c.requires.writer c.feed-taken.ensures.fed c.feed-taken.ensures.most c.keep_open.ensures c.feed-taken.result.refused c.feed-taken.ensures.feeds c.feed-taken.ensures.taken)
 
 pub returns-clause-counts : goal.returns-clause-counts
