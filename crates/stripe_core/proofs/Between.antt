@@ -1,5 +1,7 @@
--- What becomes of the pieces that were told as damaged, behind one call and behind several.
-use Rattle.std.proofs.Common.{◌≡◌, ℕ, append-nil, false, List, [], ◌∷◌, refl, sym, ◌∙◌, ap, subst, arith}
+-- What a call keeps, behind one call and behind several.
+use Rattle.std.proofs.Common.{◌≡◌, ℕ, append-nil, append_assoc, false, List, [], ◌∷◌, ◌++◌, refl, sym, ◌∙◌, ap, subst}
+use Rattle.std.proofs.lemmas.List.{append_cancel_left}
+use Rattle.device_log.specs.Calls.{Call, Read, RefusedCall, Wrote}
 use Rattle.logged_disk.specs.Device.{State as Device, IsAfter, TellsAll}
 use Rattle.logged_disk.proofs.GoingOn.{goes_further, stays_as, told_before}
 use Rattle.cache_model.specs.declared.answer.NextAnswer.{NextAnswer}
@@ -7,17 +9,81 @@ use Rattle.cache_model.specs.declared.answer.NextAnswer.TheVariants as next
 use Rattle.cache_model.specs.declared.record.Rec.{Rec}
 use Rattle.cache_model.specs.declared.record.Rec.TheVariants as rec
 use Rattle.cache_model.specs.State.{State, after_all, state_after}
+use Rattle.cache_model.specs.Given.{Effect, Denied, Took, Unasked, effects_in, effects_told}
 use Rattle.cache_model.specs.Legal.{answer_record}
 use Rattle.cache_model.specs.Kept.{Kept, state_of, with_records}
 use Rattle.cache_model.proofs.Steps.{after_all-append}
 use Rattle.cache_model.specs.Damage.{TellNoDamage, tells_damage, has_damage}
 use Rattle.stripe_core.specs.Unharmed.{IsUnharmed}
+use Rattle.stripe_core.specs.Faults.{IsAccounted, HasEffects}
+use Rattle.stripe_core.specs.Covers.{calls_since}
 use Rattle.stripe_core.specs.Between.{IsBetween}
+use Rattle.stripe_core.proofs.Covering.{since_is}
 
--- one call behind another
-pub between-trans : (a b c : Device) (s t u : State) → IsBetween a b s t → IsBetween b c t u → IsBetween a c s u
-between-trans a b c s t u first next =
-    record { goes = goes_further a b c first.goes next.goes; unharmed = λ (h : IsUnharmed a s). next.unharmed (first.unharmed h) }
+-- ---- the effects of calls
+
+pub told_append : (xs ys : List Rec) → effects_told (xs ++ ys) ≡ effects_told xs ++ effects_told ys
+told_append [] ys = refl
+told_append (rec.Fault count ∷ xs) ys = ap (λ effects. Denied count ∷ effects) (told_append xs ys)
+told_append (rec.Began cursor floor ∷ xs) ys = ap (λ effects. Took ∷ effects) (told_append xs ys)
+told_append (_ ∷ xs) ys = told_append xs ys
+
+one_more : (later older : List Call) (e : Effect) → effects_in (later ++ older) ≡ effects_in older ++ effects_in later
+    → effects_in (later ++ older) ++ e ∷ [] ≡ effects_in older ++ (effects_in later ++ e ∷ [])
+one_more later older e h = ap (λ effects. effects ++ e ∷ []) h ∙ append_assoc (effects_in older) (effects_in later) (e ∷ [])
+
+pub effects_append : (later older : List Call) → effects_in (later ++ older) ≡ effects_in older ++ effects_in later
+effects_append [] older = sym (append-nil (effects_in older))
+effects_append (Read at bytes ∷ later) older = effects_append later older
+effects_append (Wrote at bytes ∷ later) older = one_more later older Took (effects_append later older)
+effects_append (RefusedCall asked count ∷ later) older = one_more later older (Denied count) (effects_append later older)
+effects_append (_ ∷ later) older = one_more later older Unasked (effects_append later older)
+
+pub effects_none : (a b : List Call) → b ≡ a → HasEffects a b []
+effects_none a b same = record { made = []; past = same; are = refl }
+
+pub effects_then : (a b c : List Call) (xs ys : List Effect) → HasEffects a b xs → HasEffects b c ys → HasEffects a c (xs ++ ys)
+effects_then a b c xs ys first next = record {
+  made = next.made ++ first.made;
+  past = next.past ∙ (ap (λ calls. next.made ++ calls) first.past ∙ sym (append_assoc next.made first.made a));
+  are = effects_append next.made first.made ∙ (ap (λ counts. counts ++ effects_in next.made) first.are ∙ ap (λ counts. xs ++ counts) next.are);
+}
+
+-- ---- each has its record
+
+with_none : (k : Kept) → k ≡ with_records k []
+with_none k = ap (λ recs. let l : Kept = record { base = k.base; since = recs } in l) (sym (append-nil k.since))
+
+with_more : (k : Kept) (xs ys : List Rec) → with_records (with_records k xs) ys ≡ with_records k (xs ++ ys)
+with_more k xs ys = ap (λ recs. let l : Kept = record { base = k.base; since = recs } in l) (append_assoc k.since xs ys)
+
+pub accounted_quiet : (a b : List Call) (k l : Kept) (recs : List Rec) → b ≡ a → l ≡ with_records k recs → effects_told recs ≡ [] → IsAccounted a b k l
+accounted_quiet a b k l recs same is none = record { added = recs; adds = is; faults = subst (HasEffects a b) (sym none) (effects_none a b same) }
+
+pub accounted_none : (a b : List Call) (k l : Kept) → b ≡ a → l ≡ k → IsAccounted a b k l
+accounted_none a b k l same kept = accounted_quiet a b k l [] same (kept ∙ with_none k) refl
+
+pub accounted_then : (a b c : List Call) (k l m : Kept) → IsAccounted a b k l → IsAccounted b c l m → IsAccounted a c k m
+accounted_then a b c k l m first next = record {
+  added = first.added ++ next.added;
+  adds = next.adds ∙ (ap (λ j. with_records j next.added) first.adds ∙ with_more k first.added next.added);
+  faults = subst (HasEffects a c) (sym (told_append first.added next.added)) (effects_then a b c (effects_told first.added) (effects_told next.added) first.faults next.faults);
+}
+
+-- the records that were added tell the calls that were refused
+pub accounted_is : (a b : List Call) (k l : Kept) (added : List Rec) → IsAccounted a b k l → l ≡ with_records k added → effects_told added ≡ effects_in (calls_since a b)
+accounted_is a b k l added h is =
+    let same : added ≡ h.added = append_cancel_left k.since added h.added (ap (λ (j : Kept). j.since) (sym is ∙ h.adds)) in
+    ap effects_told same ∙ (sym h.faults.are ∙ ap effects_in (sym (since_is a b h.faults.made h.faults.past)))
+
+-- ---- one call behind another
+
+pub between-trans : (a b c : Device) (k l m : Kept) → IsBetween a b k l → IsBetween b c l m → IsBetween a c k m
+between-trans a b c k l m first next = record {
+  goes = goes_further a b c first.goes next.goes;
+  accounted = accounted_then a.past b.past c.past k l m first.accounted next.accounted;
+  unharmed = λ (h : IsUnharmed a (state_of k)). next.unharmed (first.unharmed h);
+}
 
 -- ---- records that tell no damage
 
@@ -33,10 +99,11 @@ after_records s [] none h = h
 after_records s (r ∷ recs) none h = after_records (state_after s r) recs none.1 (after_record s r none.0 h)
 
 -- a call that adds records which tell no damage, where its device tells its content
-pub between-adds : (a b : Device) (old new : Kept) (recs : List Rec) → new ≡ with_records old recs → IsAfter a b → (TellsAll b → TellNoDamage recs)
-    → IsBetween a b (state_of old) (state_of new)
-between-adds a b old new recs is goes none = record {
+pub between-adds : (a b : Device) (old new : Kept) (recs : List Rec) → new ≡ with_records old recs → IsAfter a b → HasEffects a.past b.past (effects_told recs)
+    → (TellsAll b → TellNoDamage recs) → IsBetween a b old new
+between-adds a b old new recs is goes faults none = record {
   goes = goes;
+  accounted = record { added = recs; adds = is; faults = faults };
   unharmed = λ (h : IsUnharmed a (state_of old)). record {
     unharmed = λ told.
         let before : TellsAll a = told_before a b goes told in
@@ -44,10 +111,14 @@ between-adds a b old new recs is goes none = record {
   };
 }
 
--- a call that adds no record
-pub between-none : (a b : Device) (old new : Kept) → new ≡ old → IsAfter a b → IsBetween a b (state_of old) (state_of new)
-between-none a b old new same goes =
-    between-adds a b old new [] (same ∙ sym (ap (λ recs. record { base = old.base; since = recs }) (append-nil old.since))) goes (λ told. tt)
+-- a call that adds no record and asks no device
+pub between-none : (a b : Device) (old new : Kept) → new ≡ old → IsAfter a b → b.past ≡ a.past → IsBetween a b old new
+between-none a b old new same goes past = between-adds a b old new [] (same ∙ with_none old) goes (effects_none a.past b.past past) (λ told. tt)
+
+-- a call that adds records which tell neither damage nor an effect, and asks no device
+pub between-tells : (a b : Device) (old new : Kept) (recs : List Rec) → b ≡ a → new ≡ with_records old recs → effects_told recs ≡ [] → TellNoDamage recs → IsBetween a b old new
+between-tells a b old new recs same is quiet none =
+    between-adds a b old new recs is (stays_as a b same) (subst (HasEffects a.past b.past) (sym quiet) (effects_none a.past b.past (ap (λ (d : Device). d.past) same))) (λ told. none)
 
 -- what a reader was answered tells no damage
 pub answer_tells_none : (reader : ℕ) (answer : NextAnswer) → tells_damage (answer_record reader answer) ≡ false
@@ -56,9 +127,13 @@ answer_tells_none reader (next.Ended length) = refl
 answer_tells_none reader (next.Waited cut) = refl
 answer_tells_none reader (next.Broke why) = refl
 
+-- and no effect
+pub answer_tells_no_fault : (reader : ℕ) (answer : NextAnswer) → effects_told (answer_record reader answer ∷ []) ≡ []
+answer_tells_no_fault reader (next.Gave index length) = refl
+answer_tells_no_fault reader (next.Ended length) = refl
+answer_tells_no_fault reader (next.Waited cut) = refl
+answer_tells_no_fault reader (next.Broke why) = refl
+
 -- where nothing changed
-pub between_same : (a b : Device) (s t : State) → b ≡ a → t ≡ s → IsBetween a b s t
-between_same a b s t device state = record {
-  goes = stays_as a b device;
-  unharmed = λ (h : IsUnharmed a s). subst (λ x. IsUnharmed b x) (sym state) (subst (λ d. IsUnharmed d s) (sym device) h);
-}
+pub between_same : (a b : Device) (k l : Kept) → b ≡ a → l ≡ k → IsBetween a b k l
+between_same a b k l device kept = between-none a b k l kept (stays_as a b device) (ap (λ (d : Device). d.past) device)
