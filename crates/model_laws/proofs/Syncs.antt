@@ -68,7 +68,7 @@ only_later_are_allowed s serial behind m h allowed =
     let above : (after_all s (rec.SyncDone serial ∷ behind)).finished ≤ m.serial = allowed.1 in
     omega (arith, last, above)
 
-pub follower_has_sync : (s t : State) (geometry : Geometry) (o : Opening) (f : Follows s o) → BeginsWith f.mark (after_all t (opened_records geometry o))
+pub follower_has_sync : (s t : State) (geometry : Geometry) (o : Opening) (f : Follows s geometry o) → BeginsWith f.mark (after_all t (opened_records geometry o))
 follower_has_sync s t geometry o f = record {
   pieces = λ id. ap (λ (m : Mark). row_in m.rows id) f.taken;
   number = ap (λ (m : Mark). m.next_put) f.taken;
@@ -80,7 +80,7 @@ follower_has_sync s t geometry o f = record {
   quiet = refl;
 }
 
-pub follower_allows_sync : (s t : State) (geometry : Geometry) (o : Opening) (f : Follows s o)
+pub follower_allows_sync : (s t : State) (geometry : Geometry) (o : Opening) (f : Follows s geometry o)
     → IsAllowed (after_all t (opened_records geometry o)) (record f.mark { end = o.cursor })
 follower_allows_sync s t geometry o f =
     let serial : o.serial ≡ f.mark.serial = ap (λ (m : Mark). m.serial) f.taken in

@@ -92,11 +92,11 @@ pub record BeginsWith (m : Mark) (s : State) : Type 0 where
 
 -- where an opening follows a session, the next one begins as the sync holds it that was taken up
 abbrev pub FollowerHasSync : Type 0
-FollowerHasSync = (s t : State) (geometry : Geometry) (o : Opening) (f : Follows s o) → BeginsWith f.mark (after_all t (opened_records geometry o))
+FollowerHasSync = (s t : State) (geometry : Geometry) (o : Opening) (f : Follows s geometry o) → BeginsWith f.mark (after_all t (opened_records geometry o))
 
 -- and that sync may be found behind it again, until another one finished
 abbrev pub FollowerAllowsSync : Type 0
-FollowerAllowsSync = (s t : State) (geometry : Geometry) (o : Opening) (f : Follows s o)
+FollowerAllowsSync = (s t : State) (geometry : Geometry) (o : Opening) (f : Follows s geometry o)
     → IsAllowed (after_all t (opened_records geometry o)) (record f.mark { end = o.cursor })
 
 -- a lookup of a key of which no record of the session speaks, and no found vector, tells the serial of its opening

@@ -34,7 +34,7 @@ LaterPutsAreLost = (told with_later_put ≡ record { serial = 2; cursor = 66; fl
 
 -- so an opening that takes it up follows that session
 abbrev pub AnOpeningFollows : Type 0
-AnOpeningFollows = Follows with_later_put second_sync
+AnOpeningFollows = Follows with_later_put small second_sync
 
 -- and what a format leaves may be opened: nothing is found
 abbrev pub AFormatMayBeOpened : Type 0

@@ -116,7 +116,7 @@ actors_behind actors (Some name) = with_actor actors name
 
 -- what was told of a session's device, which made these calls
 abbrev pub harm_in : List Call → State → Harm
-harm_in calls s = record { fault = s.fault; damaged = has_damage s; calls = calls }
+harm_in calls s = record { fault = s.fault; damaged = has_damage s; calls = calls; whole = true }
 
 -- of the device of a session, where there is one
 abbrev pub harm_of : List Call → Option State → List Harm

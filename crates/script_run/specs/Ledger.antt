@@ -12,10 +12,11 @@ pub record GoesOnFrom (calls past : List Call) : Type 0 where
   pub later : List Call
   pub is : past ≡ later ++ calls
 
--- what was told of a device that came back: the calls with which its log begins, no count above its own, and where it
--- told its content to the end, no damage
+-- what was told of a device that came back: the calls with which its log begins, or that are all of it, no count above its
+-- own, and where it told its content to the end, no damage
 pub record IsReached (harm : Harm) (device : Device) : Type 0 where
   pub made : GoesOnFrom harm.calls device.past
+  pub all : harm.whole ≡ true → device.past ≡ harm.calls
   pub counted : harm.fault ≤ device.faults
   pub unharmed : TellsAll device → harm.damaged ≡ false
 

@@ -1,5 +1,5 @@
 -- What stands between two lines of a script.
-use Rattle.std.specs.Prelude.{ℕ, ◌≡◌, ◌==◌, Bool, false, if◌then◌else◌, List, [], drop, Option, Some, None, option_and_then}
+use Rattle.std.specs.Prelude.{ℕ, ◌≡◌, ◌==◌, Bool, true, false, if◌then◌else◌, List, [], drop, Option, Some, None, option_and_then}
 use Rattle.device_log.specs.Calls.{Call}
 use Rattle.actor_table.specs.Table.{number_of}
 use Rattle.script_lang.specs.declared.step.Step.{Step}
@@ -18,16 +18,21 @@ pub record Stream : Type 0 where
   pub bytes : List ℕ
   pub sealed : Bool
 
--- what was told of a device: its count at the last fault, whether a piece on it was damaged, and the calls
--- that its lines made, the newest first
+-- what was told of a device: its count at the last fault, whether a piece on it was damaged, the calls that its lines
+-- made, the newest first, and whether it made no other
 pub record Harm : Type 0 where
   pub fault : ℕ
   pub damaged : Bool
   pub calls : List Call
+  pub whole : Bool
 
--- a device of which nothing was told
+-- a device of which nothing was told, and which made no call
 abbrev pub no_harm : Harm
-no_harm = record { fault = 0; damaged = false; calls = [] }
+no_harm = record { fault = 0; damaged = false; calls = []; whole = true }
+
+-- the same of a device that may have made more calls
+abbrev pub loosened : Harm → Harm
+loosened harm = record harm { whole = false }
 
 -- no fault and no damage was told of a device, whatever calls its lines made
 pub record IsHarmless (harm : Harm) : Type 0 where

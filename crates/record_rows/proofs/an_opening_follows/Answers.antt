@@ -6,6 +6,7 @@ use Rattle.record_rows.proofs.an_opening_follows.Goals as goal
 pub returns : goal.returns
 returns c = record {
   mark = mark_now (behind_format (put_at 64 1 a)) 2 66 false;
+  same = refl;
   allowed = (inl refl, omega arith);
   taken = refl;
 }
