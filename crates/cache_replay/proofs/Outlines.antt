@@ -1,6 +1,6 @@
 -- What a line makes of an outline.
 use Rattle.std.proofs.Common.{◌≡◌, ℕ, List, [], ◌∷◌, ◌++◌, refl, sym, ◌∙◌, ap, subst, arith, Result, Ok, Err}
-use Rattle.std.specs.Prelude.{Option, Some, None, IfOk, IfErr, IsSome, option_map}
+use Rattle.std.specs.Prelude.{Option, Some, None, IfOk, IfErr, IsSome, map, option_map}
 use Rattle.std.proofs.lemmas.List.{append-nil, append_assoc}
 use Rattle.device_log.specs.Calls.{Call}
 use Rattle.logged_disk.specs.Device.{State as Device, IsAfter}
@@ -16,16 +16,18 @@ use Rattle.script_lang.specs.declared.answer.Refused.TheVariants as refused
 use Rattle.script_lang.specs.declared.answer.StepAnswer.{StepAnswer}
 use Rattle.script_lang.specs.declared.answer.StepAnswer.TheVariants as answer
 use Rattle.script_run.specs.Answers.{number_of_bad}
-use Rattle.script_run.specs.Run.{Harm, no_harm}
+use Rattle.script_run.specs.Run.{Harm, loosened, no_harm}
 use Rattle.cache_replay.specs.declared.session.Session.{Session}
 use Rattle.cache_replay.specs.declared.session.Part.{Part}
 use Rattle.cache_replay.specs.declared.stop.Stop.{Stop}
+use Rattle.cache_replay.specs.declared.stop.Stop.TheVariants.{BayFault, Memory, NoCache}
 use Rattle.cache_replay.specs.Outline.{IsAnswerOf, Outline, begun, begun_by, count_in, format_answer, joined, outline_after, raised, told_of}
 use Rattle.cache_replay.specs.Session.{AreLater, TellsCount, return_of}
-use Rattle.cache_replay.specs.Stop.{NeedsSession}
+use Rattle.cache_replay.specs.Stop.{IsSessionStop, NeedsSession}
 use Rattle.cache_replay.specs.Plays.{IsLeft, IsOutlined, Outlines, stays}
 use Rattle.script_run.specs.Ledger.{AreReached, Deals, GoesOnFrom, Ledger}
 use Rattle.cache_replay.proofs.Dispatch.{no_deals}
+use Rattle.cache_replay.proofs.Unharming.{reached_loosely}
 
 -- ---- devices that go on
 
@@ -36,8 +38,8 @@ from_later calls old new goes h = record {
   is = goes.past ∙ (ap (λ made. goes.made ++ made) h.is ∙ sym (append_assoc goes.made h.later calls));
 }
 
--- what was told of a device is told of it as it goes on
-pub reached_later : (harms : List Harm) (old new : List Device) → AreLater old new → AreReached harms old → AreReached harms new
+-- what was told of a device is told of it as it goes on, but that it made no more calls
+pub reached_later : (harms : List Harm) (old new : List Device) → AreLater old new → AreReached harms old → AreReached (map loosened harms) new
 reached_later [] [] [] later h = tt
 reached_later [] [] (d ∷ new) later h = absurd later
 reached_later [] (d ∷ old) new later h = absurd h
@@ -46,6 +48,7 @@ reached_later (harm ∷ harms) (d ∷ old) [] later h = absurd later
 reached_later (harm ∷ harms) (d ∷ old) (e ∷ new) later h = (
   record {
     made = from_later harm.calls d e later.0.goes h.0.made;
+    all = λ no. cc;
     counted = omega (arith, h.0.counted, later.0.faults);
     unharmed = λ told. h.0.unharmed (told_before d e later.0.goes told);
   },
@@ -75,7 +78,7 @@ module _ {D R C : Type 0} (disk : DiskGhosts D) (directory : DirectoryGhosts R) 
   joins None count (Some a) (Some b) said is later tells h = absurd h
   joins (Some harm) count None (Some b) said is later tells h = absurd h
   joins (Some harm) count (Some a) (Some b) said is later tells h =
-      (record { made = from_later harm.calls _ _ later.0.goes h.0.made; counted = omega (arith, h.0.counted, later.0.faults, tells, is); unharmed = λ told. h.0.unharmed (told_before _ _ later.0.goes told) }, tt)
+      (record { made = from_later harm.calls _ _ later.0.goes h.0.made; all = λ no. cc; counted = omega (arith, h.0.counted, later.0.faults, tells, is); unharmed = λ told. h.0.unharmed (told_before _ _ later.0.goes told) }, tt)
 
   has_session : (session : Option Harm) (old new : Option (Part D R C)) (said : StepAnswer) → AreLater (Returns old) (Returns new) → TellsCount disk directory chronicle new said → AreReached (told_of session) (Returns old) → IsSome session
   has_session session old None said later tells h = absurd tells
@@ -110,16 +113,31 @@ module _ {D R C : Type 0} (disk : DiskGhosts D) (directory : DirectoryGhosts R) 
   all_outlines (Ok said) s old new ledger needs later tells = λ o h. session_outlines o s old new said ledger needs later tells h
   all_outlines (Err why) s old new ledger needs later tells = tt
 
-  pub all_left : (result : Result StepAnswer Stop) (s : Step) (old new : Session D R C) (ledger : Ledger) → AreLater (Returns old.part) (Returns new.part)
+  -- without a session there is no device of which anything was told
+  none_left : (harms : List Harm) (old new : Option (Part D R C)) → old ≡ None → AreLater (Returns old) (Returns new) → AreReached harms (Returns old) → AreReached harms (Returns new)
+  none_left harms (Some part) new none later h = cc
+  none_left [] None None none later h = tt
+  none_left [] None (Some part) none later h = absurd later
+  none_left (harm ∷ harms) None new none later h = absurd h
+
+  pub all_left : (result : Result StepAnswer Stop) (s : Step) (old new : Session D R C) (ledger : Ledger) → IfErr result (IsSessionStop old) → AreLater (Returns old.part) (Returns new.part)
       → IfErr result (λ why. (harms : List Harm) → AreReached harms (Returns old.part) → IsLeft disk directory chronicle harms s new ledger ledger why)
-  all_left (Ok said) s old new ledger later = tt
-  all_left (Err why) s old new ledger later = λ harms h. stays (reached_later harms (Returns old.part) (Returns new.part) later h) refl
+  all_left (Ok said) s old new ledger stop later = tt
+  all_left (Err Memory) s old new ledger stop later = λ harms h. stays (reached_later harms (Returns old.part) (Returns new.part) later h) refl
+  all_left (Err NoCache) s old new ledger stop later = λ harms h. stays (none_left harms old.part new.part stop later h) refl
+  all_left (Err BayFault) s old new ledger stop later = absurd stop
+
+  -- a line that ended the run before it did anything
+  pub stays_left : (harms : List Harm) (s : Step) (session : Session D R C) (before now : Ledger) (why : Stop) → now ≡ before → AreReached harms (Returns session.part) → IsLeft disk directory chronicle harms s session before now why
+  stays_left harms s session before now Memory same h = stays (reached_loosely harms (Returns session.part) h) same
+  stays_left harms s session before now NoCache same h = stays h same
+  stays_left harms s session before now BayFault same h = stays h same
 
   -- what is told of a device by the count 0
   joins_none : (session : Option Harm) (returns : List Device) → AreReached (told_of session) returns → AreReached (told_of (option_map (raised 0) session)) returns
   joins_none None returns h = h
   joins_none (Some harm) [] h = absurd h
-  joins_none (Some harm) (d ∷ returns) h = (record { made = h.0.made; counted = omega (arith, h.0.counted); unharmed = h.0.unharmed }, h.1)
+  joins_none (Some harm) (d ∷ returns) h = (record { made = h.0.made; all = λ no. cc; counted = omega (arith, h.0.counted); unharmed = h.0.unharmed }, h.1)
 
   -- a line that begins no session and tells no count
   still_outlines : (o : Outline) (s : Step) (new : Session D R C) (said : StepAnswer) (ledger : Ledger) → (NeedsSession s → ⊥) → begun_by o s ≡ o → count_in said ≡ 0 → IsAnswerOf s said
@@ -162,7 +180,7 @@ module _ {D R C : Type 0} (disk : DiskGhosts D) (directory : DirectoryGhosts R) 
           none = λ gone. refl;
           fixed = ap (λ n. answer.Formatted 1 n floor) at ∙ (ap (answer.Formatted 1 content) low ∙ ap (format_answer content agg) (sym is));
         };
-        outlined = subst (λ (x : Outline). AreReached (told_of x.session) (Returns new.part)) (sym after) (joins_none (Some no_harm) (Returns new.part) h);
+        outlined = subst (λ (x : Outline). AreReached (told_of x.session) (Returns new.part)) (sym after) (joins_none (Some (loosened no_harm)) (Returns new.part) (reached_loosely (no_harm ∷ []) (Returns new.part) h));
         harms = told_of o.session;
         ended = ap (λ (x : Outline). x.ended) after;
         names = name ∷ [];

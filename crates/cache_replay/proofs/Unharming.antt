@@ -1,7 +1,7 @@
 -- What was told of a session's device: the calls of its log, no more faults than it counted, and no damage where it tells
 -- its content.
 use Rattle.std.proofs.Common.{◌≡◌, ℕ, ◌≤◌, List, [], ◌∷◌, ◌++◌, refl, sym, ◌∙◌, ap, subst, arith}
-use Rattle.std.specs.Prelude.{Option, Some, None, option_map}
+use Rattle.std.specs.Prelude.{Option, Some, None, map, option_map}
 use Rattle.device_log.specs.Calls.{Call}
 use Rattle.logged_disk.specs.Device.{State as Device, IsAfter}
 use Rattle.logged_disk.specs.declared.device.Disk.{Ghosts as DiskGhosts}
@@ -12,7 +12,7 @@ use Rattle.stripe_core.specs.Stripe.{seen_in, state_in}
 use Rattle.stripe_core.specs.Unharmed.{IsUnharmed}
 use Rattle.stripe_core.specs.Between.{Between}
 use Rattle.stripe_core.specs.Covers.{calls_since}
-use Rattle.script_run.specs.Run.{Run}
+use Rattle.script_run.specs.Run.{Harm, Run, loosened}
 use Rattle.script_run.specs.Behind.{harm_in, harm_of}
 use Rattle.cache_replay.specs.declared.session.Session.{Session}
 use Rattle.cache_replay.specs.declared.session.Part.{Part}
@@ -23,15 +23,22 @@ use Rattle.cache_replay.specs.Plays.{CallsAt, HasReached, IsOutlined, IsUnharmed
 use Rattle.script_run.specs.Ledger.{AreReached}
 use Rattle.cache_replay.proofs.Calls.{calls_behind}
 
+-- what was told of devices stands where they may have made more calls
+pub reached_loosely : (harms : List Harm) (devices : List Device) → AreReached harms devices → AreReached (map loosened harms) devices
+reached_loosely [] [] h = tt
+reached_loosely [] (d ∷ devices) h = absurd h
+reached_loosely (harm ∷ harms) [] h = absurd h
+reached_loosely (harm ∷ harms) (d ∷ devices) h = (record { made = h.0.made; all = λ no. cc; counted = h.0.counted; unharmed = h.0.unharmed }, reached_loosely harms devices h.1)
+
 -- the outline of a run tells of its session what the run does
-same_own : (calls : List Call) (state : Option State) → told_of (option_map (harm_in calls) state) ≡ harm_of calls state
+same_own : (calls : List Call) (state : Option State) → told_of (option_map (λ s. loosened (harm_in calls s)) state) ≡ map loosened (harm_of calls state)
 same_own calls None = refl
 same_own calls (Some s) = refl
 
 -- ---- one device
 
 one_reached : (device : Device) (calls : List Call) (s : State) → device.past ≡ calls → s.fault ≤ device.faults → IsUnharmed device s → AreReached (harm_in calls s ∷ []) (device ∷ [])
-one_reached device calls s are counted h = (record { made = record { later = []; is = are }; counted = counted; unharmed = λ trusted. h.unharmed trusted }, tt)
+one_reached device calls s are counted h = (record { made = record { later = []; is = are }; all = λ yes. are; counted = counted; unharmed = λ trusted. h.unharmed trusted }, tt)
 
 module _ {D R C : Type 0} (disk : DiskGhosts D) (directory : DirectoryGhosts R) (chronicle : ChronicleGhosts C) where
   abbrev device_of : Part D R C → Device
@@ -81,4 +88,5 @@ module _ {D R C : Type 0} (disk : DiskGhosts D) (directory : DirectoryGhosts R) 
   -- so the run's outline has it
   pub plays_outlined : (run : Run) (session : Session D R C) → IsSession disk directory chronicle session → Plays disk directory chronicle run session → IsOutlined disk directory chronicle (outline_in run) session
   plays_outlined run session h plays =
-      subst (λ harms. AreReached harms (return_of disk directory chronicle session.part)) (sym (same_own run.calls run.state)) (plays_reached run session h plays)
+      subst (λ harms. AreReached harms (return_of disk directory chronicle session.part)) (sym (same_own run.calls run.state))
+      (reached_loosely (harm_of run.calls run.state) (return_of disk directory chronicle session.part) (plays_reached run session h plays))

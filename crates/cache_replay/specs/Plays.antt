@@ -1,5 +1,5 @@
 -- What a session is for the run that it serves, and what a line makes of it.
-use Rattle.std.specs.Prelude.{ℕ, ◌≡◌, ◌≤◌, ◌⊎◌, List, [], ◌∷◌, ◌++◌, length, drop, Option, Some, None}
+use Rattle.std.specs.Prelude.{ℕ, ◌≡◌, ◌≤◌, ◌⊎◌, List, [], ◌∷◌, ◌++◌, length, drop, map, Option, Some, None}
 use Rattle.logged_disk.specs.declared.device.Disk.{Ghosts as DiskGhosts}
 use Rattle.dir_table.specs.declared.directory.Directory.{Ghosts as DirectoryGhosts}
 use Rattle.cache_chronicle.specs.declared.chronicle.Chronicle.{Ghosts as ChronicleGhosts}
@@ -15,7 +15,7 @@ use Rattle.actor_table.specs.Table.{Seen}
 use Rattle.script_lang.specs.declared.step.Step.{Step}
 use Rattle.script_lang.specs.declared.answer.StepAnswer.{StepAnswer}
 use Rattle.script_run.specs.Ledger.{AreReached, Deals, Ledger}
-use Rattle.script_run.specs.Run.{Harm, Run, Stream, Writes, Reads, no_harm}
+use Rattle.script_run.specs.Run.{Harm, Run, Stream, Writes, Reads, loosened, no_harm}
 use Rattle.script_run.specs.Turn.{Turn}
 use Rattle.script_run.specs.Answers.{session_said, step_answer}
 use Rattle.script_run.specs.Behind.{after_step, harm_of, in_session}
@@ -143,6 +143,11 @@ DeviceEnds disk directory chronicle run step new said before now =
 
 -- ---- whatever the records are worth
 
+-- what was told of a device stands where a line ended the run, but for want of memory that line may have made calls
+abbrev pub left_by : Stop → List Harm → List Harm
+left_by Memory harms = map loosened harms
+left_by _ harms = harms
+
 module _ {D R C : Type 0} (disk : DiskGhosts D) (directory : DirectoryGhosts R) (chronicle : ChronicleGhosts C) where
   -- an outline has a session where there is one, of whose device no count above its own was told
   abbrev pub IsOutlined : Outline → Session D R C → Type 0
@@ -158,10 +163,10 @@ module _ {D R C : Type 0} (disk : DiskGhosts D) (directory : DirectoryGhosts R) 
     pub named : (outline_after o step said).names ≡ o.names ++ names
     pub deals : Deals before now harms names
 
-  -- What a line leaves that ended the run for this reason, where so much was told of the session's device: the device
-  -- and the bay as they were; or, of a format that wanted memory once its device was attached, both devices came back,
+  -- What a line leaves that ended the run for this reason, where so much was told of the session's device: the device as
+  -- it was, which may have made calls where memory was wanting, and the bay; or, of a format that wanted memory once its device was attached, both devices came back,
   -- that of the session first, and there is no session.
   pub data IsLeft (harms : List Harm) (step : Step) (new : Session D R C) (before now : Ledger) (why : Stop) : Type 0 where
-    stays : AreReached harms (return_of disk directory chronicle new.part) → now ≡ before → IsLeft harms step new before now why
+    stays : AreReached (left_by why harms) (return_of disk directory chronicle new.part) → now ≡ before → IsLeft harms step new before now why
     ended : (name : List ℕ) → AttachesAs name step → new.part ≡ None → Deals before now (harms ++ no_harm ∷ []) (name ∷ []) → why ≡ Memory
         → IsLeft harms step new before now why

@@ -1,5 +1,5 @@
 -- How far a run has come, and how it may end.
-use Rattle.std.specs.Prelude.{◌≡◌, ℕ, ◌+◌, ◌≤◌, ◌⊎◌, List, [], ◌∷◌, ◌++◌, length, Option, Some, None, ⊤}
+use Rattle.std.specs.Prelude.{◌≡◌, ℕ, ◌+◌, ◌≤◌, ◌⊎◌, List, [], ◌∷◌, ◌++◌, length, map, Option, Some, None, ⊤}
 use Rattle.device_log.specs.Faults.{next_count}
 use Rattle.device_log.specs.Streams.{SourceRead, SinkWrite, RefusedWrite, taken_by, refused_writes, write_faults}
 use Rattle.edge_io.specs.Causes.{Rose}
@@ -16,7 +16,7 @@ use Rattle.script_lang.specs.declared.last.LastLine.TheVariants as last
 use Rattle.script_lang.specs.declared.answer.StepAnswer.{StepAnswer}
 use Rattle.script_lang.specs.Texts.{answer_line}
 use Rattle.script_lang.specs.Grammar.{reading_of}
-use Rattle.script_run.specs.Run.{Harm, Run, fresh, no_harm}
+use Rattle.script_run.specs.Run.{Harm, Run, fresh, loosened, no_harm}
 use Rattle.script_run.specs.Turn.{Turn}
 use Rattle.script_run.specs.Behind.{harm_of}
 use Rattle.script_run.specs.Takes.{IsRun, run_after, LineShows}
@@ -47,6 +47,10 @@ told_by o = record { ended = o.ended; own = told_of o.session; names = o.names }
 -- by the records: counts of faults, damage, and of each session all calls that its lines made
 abbrev pub told_in : Run → Told
 told_in run = record { ended = run.ended; own = harm_of run.calls run.state; names = run.names }
+
+-- the same, where the session's own device may have made more calls
+abbrev pub own_loosened : Told → Told
+own_loosened t = record { ended = t.ended; own = map loosened t.own; names = t.names }
 
 -- of all devices, once the last one is given back
 abbrev pub all_in : Told → List Harm
@@ -212,6 +216,6 @@ pub record GaveBack (ledger_first ledger : Ledger) (held : List ℕ) (given : �
   pub attaches : AttachesAs name step
   pub deals : Deals ledger_first ledger (all_in t ++ no_harm ∷ []) (t.names ++ name ∷ [])
 
--- what is owed where memory was wanting, by a session that has so many devices
+-- what is owed where memory was wanting, by a session that has so many devices: its own may have made calls meanwhile
 abbrev pub OwesOrGave : (ledger_first ledger : Ledger) → ℕ → (List Harm → Type 0) → (held : List ℕ) → ℕ → Told → Type 0
-OwesOrGave ledger_first ledger devices Reached held given t = Owes ledger_first ledger Reached t ⊎ ((devices ≡ 0) × GaveBack ledger_first ledger held given t)
+OwesOrGave ledger_first ledger devices Reached held given t = Owes ledger_first ledger Reached (own_loosened t) ⊎ ((devices ≡ 0) × GaveBack ledger_first ledger held given t)
