@@ -21,7 +21,7 @@ returns-clause-opens g c =
     opens_then (kept_in g.C.Chronicle c.args.stripe.now) (kept_in g.C.Chronicle c.prepare.new.self) (kept_in g.C.Chronicle c.look_up.new.stripe) (kept_in g.C.Chronicle c.begin.new.stripe)
     c.args.actor c.args.key c.args.request c.in_ok-looked.looked c.prepare.ensures.records c.in_ok-looked.ensures.adds
     (seen_in g.D.Disk g.R.Directory c.args.stripe.now).device (seen_in g.D.Disk g.R.Directory c.prepare.new.self).device
-    (seen_in g.D.Disk g.R.Directory c.look_up.new.stripe).device (seen_in g.D.Disk g.R.Directory c.begin.new.stripe).device c.begin.result c.begin.ensures.adds c.begin.ensures.opens c.prepare.ensures.still.faults c.begin.ensures.still c.requires.quiet c.in_ok-looked.ensures.looks
+    (seen_in g.D.Disk g.R.Directory c.look_up.new.stripe).device (seen_in g.D.Disk g.R.Directory c.begin.new.stripe).device c.begin.result c.begin.ensures.adds c.begin.ensures.opens c.prepare.ensures.still.past c.begin.ensures.still c.requires.quiet c.in_ok-looked.ensures.looks
 
 pub returns-clause-reader : goal.returns-clause-reader
 returns-clause-reader g c =

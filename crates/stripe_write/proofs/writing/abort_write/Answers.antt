@@ -6,6 +6,7 @@ use Rattle.stripe_core.specs.Acts.{GivesUpAsAsked}
 use Rattle.stripe_core.specs.Stripe.{kept_in, state_in}
 use Rattle.stripe_write.specs.Writers.{IsWriterOf}
 use Rattle.stripe_write.proofs.Ended.{giving_up, no_writer, over}
+use Rattle.stripe_core.proofs.Between.{between-trans}
 use Rattle.stripe_write.proofs.writing.abort_write.Goals as goal
 
 pub returns-then-not-is_open-clause-does : goal.returns-then-not-is_open-clause-does
@@ -28,3 +29,6 @@ returns-clause-writer g c =
     subst (λ t. IsWriterOf t c.args.writer.now)
     (sym (ap state_of c.give_up.ensures.adds ∙ Rattle.cache_model.proofs.Steps.after_all-append (kept_in g.C.Chronicle c.prepare.new.self).base (kept_in g.C.Chronicle c.prepare.new.self).since (rec.Aborted c.args.writer.now.put c.args.writer.now.key ∷ [])))
     (no_writer (state_in g.C.Chronicle c.prepare.new.self) c.args.writer.now c.args.writer.now.key)
+
+pub returns-clause-unharmed : goal.returns-clause-unharmed
+returns-clause-unharmed g c = between-trans _ _ _ _ _ _ c.prepare.ensures.unharmed c.give_up.ensures.unharmed
