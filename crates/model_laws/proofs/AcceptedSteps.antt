@@ -1,14 +1,20 @@
 -- Whole steps that are accepted, condition by condition: a put, a get, a put that a device fault refuses, a
 -- close that flushes for its vector, and gets of a vector that is damaged and of one that the device gives.
-use Rattle.std.proofs.Common.{◌≡◌, ℕ, List, [], ◌∷◌, ◌++◌, refl, arith, false, true, inl, lit<, lit≤}
-use Rattle.std.specs.Prelude.{◌≢◌, Option, Some, None, codes, length, replicate}
+use Rattle.std.proofs.Common.{◌≡◌, ℕ, List, [], ◌∷◌, ◌++◌, refl, ap, arith, false, true, inl, lit<, lit≤}
+use Rattle.std.specs.Prelude.{◌≢◌, Option, Some, None, ◌/◌, codes, length, replicate, take}
+use Rattle.std.proofs.lemmas.List.{length-take-le}
 use Rattle.tape_base.specs.declared.keys.Key.{Key}
 use Rattle.tape_base.specs.declared.digests.Digest.{Digest}
 use Rattle.tape_base.specs.declared.geometries.Geometry.{Geometry}
 use Rattle.hex.specs.Hex.{IsBytes}
 use Rattle.tape_base.specs.Digest.{digest_of}
+use Rattle.tape_base.specs.Key.{key_bytes, key_of_bytes}
 use Rattle.tape_base.proofs.Bytes.{bytes_by_test, zeros_are_bytes}
+use Rattle.device_log.specs.Calls.{Call, Read, RefusedCall, ToWrite, Wrote}
+use Rattle.doc_header.specs.declared.documents.Doc.{Doc}
+use Rattle.doc_header.specs.Document.{Fits, digest_of_document, document_bytes}
 use Rattle.doc_header.specs.Reading.{document_digest}
+use Rattle.doc_header.proofs.ReadingLaws.{recorded, written}
 use Rattle.fragment_table.specs.Table.{made_row}
 use Rattle.alternate_vector.specs.Field.{AreFields}
 use Rattle.alternate_vector.specs.Alternates.{Stored}
@@ -19,7 +25,7 @@ use Rattle.cache_model.specs.declared.answer.ReadAnswer.TheVariants as read
 use Rattle.cache_model.specs.declared.answer.NextAnswer.TheVariants as next
 use Rattle.cache_model.specs.State.{State, Row, PutRow, Open, Complete, nothing_yet, after_all, list_of_put, vector_piece}
 use Rattle.cache_model.specs.Permit.{Permit, Intent, Write, Fragment, Weigh, Finish, Commit, GiveUp, Look, ReadAll, StopReading, End, Stays, Done, Fails, Reason, Faulted, work_after}
-use Rattle.cache_model.specs.Room.{placed_record, greatest_pin}
+use Rattle.cache_model.specs.Room.{doc_at, placed_record, greatest_pin}
 use Rattle.cache_model.specs.Given
 use Rattle.cache_model.specs.Legal
 use Rattle.cache_model.specs.Legal.{Does, MayGrow, IsStep, AreLiveTo, IsWriting, aborted_record, format_records, next_fragment_of, vector_length, vector_payload}
@@ -59,9 +65,13 @@ k = record { number = 1 }
 abbrev formatted : State
 formatted = after_all nothing_yet (format_records geometry)
 
--- a device that did not fail and gave nothing
+-- a device that did this in the step, the newest first
+abbrev did : List Call → Permit
+did events = record { packed = false; now = 0; area = 0; events = events }
+
+-- a device that did nothing
 abbrev idle : Permit
-idle = record { packed = false; now = 0; faults_before = 0; faults = 0; reads = [] }
+idle = did []
 
 -- ---- a put of four bytes
 
@@ -152,6 +162,7 @@ a_put_is_a_step = record {
       (group idle formatted _ _ _ Done opened opens) (group idle s1 _ _ _ Done cut places)) (group idle s2 _ _ _ Done [] weighs))
       (group idle s2 _ _ _ Done vector finishes)) (group idle s3 _ _ _ Done committed commits)) (group idle s4 _ _ _ Done [] over);
   quiet = refl;
+  faults = refl;
 }
 
 -- ---- a get that hits it and reads to the end
@@ -197,6 +208,7 @@ a_get_is_a_step = record {
   grows = grows_on (grows_on (grows_on
       (group idle s4 _ _ _ Done hit looks) (group idle r0 _ _ _ Stays given gives)) (group idle r1 _ _ _ Done ended ends)) (group idle r2 _ _ _ Done stopped stops);
   quiet = refl;
+  faults = refl;
 }
 
 -- ---- a put whose fragment finds a full buffer, and whose flush meets a fault
@@ -205,7 +217,7 @@ abbrev full : State
 full = record formatted { filled = 8 }
 
 abbrev faulty : Permit
-faulty = record { packed = false; now = 0; faults_before = 0; faults = 1; reads = [] }
+faulty = did (RefusedCall (ToWrite 0 8 []) 1 ∷ [])
 
 abbrev f1 : State
 f1 = after_all full opened
@@ -229,7 +241,7 @@ faults = Legal.DoesFragment.rooms w1
       outcomes = [];
       can = record { quiet = refl; filled = lit< tt; below = refl };
       are = tt;
-      counts = record { rose = lit≤ tt; reached = lit≤ tt };
+      counts = record { left = []; counts = record { rose = lit≤ tt; refused = inl refl } };
       is = refl;
     }))
 
@@ -241,12 +253,39 @@ a_refused_put_is_a_step = record {
   grows = grows_on (grows_on
       (group faulty full _ _ _ Done opened opens_full) (group faulty f1 _ _ _ (Fails (Faulted 1)) fault faults)) (group faulty f2 _ _ _ Done aborted gives_up);
   quiet = refl;
+  faults = refl;
 }
 
--- ---- a close whose vector finds a full buffer
+-- ---- a close whose vector finds a full buffer, which begins with the fragment
 
 abbrev full_of : State
 full_of = record s2 { filled = 8 }
+
+abbrev cut_doc : Doc
+cut_doc = doc_at s1 (next_fragment_of w1) 0 0
+
+-- a device that took these bytes
+abbrev taking : List ℕ → Permit
+taking bytes = did (Wrote 0 bytes ∷ [])
+
+-- a buffer of eight blocks that begins with the fragment's document
+pub record IsBuffer (bytes : List ℕ) : Type 0 where
+  pub whole : length bytes ≡ 4096
+  pub document : take 512 bytes ≡ document_bytes cut_doc body
+
+cut_fits : Fits cut_doc body
+unfolding key_of_bytes key_bytes
+cut_fits = record {
+  name = record { is_key = refl; put_fits = lit< tt; index_fits = lit< tt };
+  position = record { place_fits = lit< tt; generation_fits = lit< tt; pin_fits = lit< tt; start_fits = lit< tt };
+  size_fits = lit< tt;
+}
+
+begins_with_fragment : (bytes : List ℕ) → IsBuffer bytes → document_digest (take 512 bytes) ≡ digest_of_document cut_doc body
+begins_with_fragment bytes buffer =
+    let whole = buffer.whole in
+    let block : length (take 512 bytes) ≡ 512 = length-take-le 512 bytes (omega (arith, whole)) in
+    recorded (take 512 bytes) 7 64 cut_doc body (written (take 512 bytes) cut_doc body cut_fits block buffer.document)
 
 abbrev began : List Rec
 began = rec.Began 72 16 ∷ []
@@ -266,18 +305,24 @@ is_writing_full = record { quiet = refl; found = refl; is_open = refl }
 is_writing_c1 : IsWriting c1 1 w2
 is_writing_c1 = record { quiet = refl; found = refl; is_open = refl }
 
-weighs_full : Does idle full_of (Weigh 1 0) [] Done
-weighs_full = Legal.weighs w2 is_writing_full tt (lit≤ tt) refl
+weighs_full : (bytes : List ℕ) → Does (taking bytes) full_of (Weigh 1 0) [] Done
+weighs_full bytes = Legal.weighs w2 is_writing_full tt (lit≤ tt) refl
 
 all_live_c1 : AreLiveTo c1 w2 1
 all_live_c1 i low high = let one : i ≡ 1 = omega arith in rw one (_, refl)
 
-flushes : Does idle full_of (Finish 1 1) began Stays
-flushes = Legal.DoesFinish.rooms w2 (record { writing = is_writing_full; count = refl; alone = lit≤ tt })
-    (Legal.MakesRoom.flushes refl (record { outcomes = []; can = record { quiet = refl; filled = lit< tt; below = refl }; are = tt; is = refl }))
+flushes : (bytes : List ℕ) → IsBuffer bytes → Does (taking bytes) full_of (Finish 1 1) began Stays
+flushes bytes buffer = Legal.DoesFinish.rooms w2 (record { writing = is_writing_full; count = refl; alone = lit≤ tt })
+    (Legal.MakesRoom.flushes refl (record {
+      outcomes = [];
+      can = record { quiet = refl; filled = lit< tt; below = refl };
+      takes = record { bytes = bytes; written = inl refl; whole = ap (λ n. n / 512) buffer.whole; holds = ((λ within. begins_with_fragment bytes buffer), tt) };
+      are = tt;
+      is = refl;
+    }))
 
-finishes_behind : Does idle c1 (Finish 1 1) vector_behind Done
-finishes_behind = Legal.DoesFinish.places refl (record {
+finishes_behind : (bytes : List ℕ) → Does (taking bytes) c1 (Finish 1 1) vector_behind Done
+finishes_behind bytes = Legal.DoesFinish.places refl (record {
   w = w2;
   displaced = [];
   cut = record { writing = is_writing_c1; count = refl; alone = lit≤ tt };
@@ -287,15 +332,18 @@ finishes_behind = Legal.DoesFinish.places refl (record {
   is = refl;
 })
 
-commits_behind : Does idle c2 (Commit 1) committed Done
-commits_behind = Legal.commits w2 refl refl refl refl
+commits_behind : (bytes : List ℕ) → Does (taking bytes) c2 (Commit 1) committed Done
+commits_behind bytes = Legal.commits w2 refl refl refl refl
 
-pub a_close_that_flushes_is_a_step : IsStep idle full_of (Weigh 1 0 ∷ Finish 1 1 ∷ Commit 1 ∷ []) (began ++ vector_behind ++ committed) None
-a_close_that_flushes_is_a_step = record {
+pub a_close_that_flushes_is_a_step : (bytes : List ℕ) → IsBuffer bytes
+    → IsStep (taking bytes) full_of (Weigh 1 0 ∷ Finish 1 1 ∷ Commit 1 ∷ []) (began ++ vector_behind ++ committed) None
+a_close_that_flushes_is_a_step bytes buffer = record {
   grows = grows_on (grows_on (grows_on
-      (group idle full_of _ _ _ Done [] weighs_full) (group idle full_of _ _ _ Stays began flushes)) (group idle c1 _ _ _ Done vector_behind finishes_behind))
-      (group idle c2 _ _ _ Done committed commits_behind);
+      (group (taking bytes) full_of _ _ _ Done [] (weighs_full bytes)) (group (taking bytes) full_of _ _ _ Stays began (flushes bytes buffer)))
+      (group (taking bytes) c1 _ _ _ Done vector_behind (finishes_behind bytes)))
+      (group (taking bytes) c2 _ _ _ Done committed (commits_behind bytes));
   quiet = refl;
+  faults = refl;
 }
 
 -- ---- a get of a vector for which the device gives other bytes
@@ -304,13 +352,13 @@ abbrev junk : List ℕ
 junk = replicate 512 0
 
 abbrev reading : Permit
-reading = record { packed = false; now = 0; faults_before = 0; faults = 0; reads = record { place = 65; bytes = junk } ∷ [] }
+reading = did (Read 1 junk ∷ [])
 
 abbrev stored_row : Digest → Row
 stored_row kept = record { id = vector_piece k 1; place = 65; blocks = 1; digest = kept; pin = 0; alternates = Some [] }
 
-abbrev written : Digest → State
-written kept = record formatted { cursor = 66; rows = stored_row kept ∷ []; vectors = (k, Complete 1) ∷ [] }
+abbrev behind_vector : Digest → State
+behind_vector kept = record formatted { cursor = 66; rows = stored_row kept ∷ []; vectors = (k, Complete 1) ∷ [] }
 
 abbrev missed : Digest → List Rec
 missed kept =
@@ -318,9 +366,9 @@ missed kept =
     ∷ rec.ReadOpened 1 (record { 0 = 0 }) k [] (read.Miss (cause.Damaged 65 kept (document_digest junk))) ∷ []
 
 abbrev d1 : Digest → State
-d1 kept = after_all (written kept) (missed kept)
+d1 kept = after_all (behind_vector kept) (missed kept)
 
-misses : (kept : Digest) → kept ≢ document_digest junk → Does reading (written kept) (Look 0 k []) (missed kept) Done
+misses : (kept : Digest) → kept ≢ document_digest junk → Does reading (behind_vector kept) (Look 0 k []) (missed kept) Done
 misses kept differ = Legal.looks (record {
   who = record { 0 = 0 };
   before = _;
@@ -343,11 +391,12 @@ reads_nothing kept = Legal.DoesReadAll.has_none refl refl refl refl
 stops_nothing : (kept : Digest) → Does reading (d1 kept) (StopReading 1) [] Done
 stops_nothing kept = Legal.closed refl refl refl
 
-pub a_get_of_a_damaged_vector_is_a_step : (kept : Digest) → kept ≢ document_digest junk → IsStep reading (written kept) get_line (missed kept) None
+pub a_get_of_a_damaged_vector_is_a_step : (kept : Digest) → kept ≢ document_digest junk → IsStep reading (behind_vector kept) get_line (missed kept) None
 a_get_of_a_damaged_vector_is_a_step kept differ = record {
-  grows = grows_on (grows_on (group reading (written kept) _ _ _ Done (missed kept) (misses kept differ)) (group reading (d1 kept) _ _ _ Done [] (reads_nothing kept)))
+  grows = grows_on (grows_on (group reading (behind_vector kept) _ _ _ Done (missed kept) (misses kept differ)) (group reading (d1 kept) _ _ _ Done [] (reads_nothing kept)))
       (group reading (d1 kept) _ _ _ Done [] (stops_nothing kept));
   quiet = refl;
+  faults = refl;
 }
 
 -- ---- a get of a vector that the device gives
@@ -362,7 +411,7 @@ abbrev kept_state : List ℕ → State
 kept_state bytes = record formatted { cursor = 66; rows = kept_row bytes ∷ []; vectors = (k, Complete 1) ∷ [] }
 
 abbrev giving : List ℕ → Permit
-giving bytes = record { packed = false; now = 0; faults_before = 0; faults = 0; reads = record { place = 65; bytes = bytes } ∷ [] }
+giving bytes = did (Read 1 bytes ∷ [])
 
 abbrev g1 : List ℕ → State
 g1 bytes = after_all (kept_state bytes) hit
@@ -397,4 +446,5 @@ a_get_of_what_the_device_gives_is_a_step bytes whole small = record {
   grows = grows_on (grows_on (group (giving bytes) (kept_state bytes) _ _ _ Done hit (looks_up bytes whole small))
       (group (giving bytes) (g1 bytes) _ _ _ Done ended_empty (ends_empty bytes))) (group (giving bytes) (g2 bytes) _ _ _ Done stopped (stops_empty bytes));
   quiet = refl;
+  faults = refl;
 }

@@ -15,7 +15,7 @@ use Rattle.cache_model.specs.ToRead
 use Rattle.cache_model.specs.ToRead.{ComesTo}
 use Rattle.cache_model.specs.Outcomes.{AreOutcomes, Copied, Copy, NoRoom, Outcome, Refused, Spoiled, began_record, copies_of, flush_records, front_of, moved_record, moved_records, records_of}
 use Rattle.model_laws.specs.Agreeing.{IsOtherCopy, IsUntroubled}
-use Rattle.model_laws.proofs.Alike.{given_alike}
+use Rattle.model_laws.proofs.Alike.{ReadsAlike, given_alike, reads_back, reads_self}
 use Rattle.model_laws.proofs.ToldFlush.{LeadsTo}
 use Rattle.cache_model.proofs.Found.{no_truth}
 
@@ -29,7 +29,7 @@ pub data Match (p q : Permit) (s : State) (now left : ℕ) : List Row → List O
       → row.digest ≡ document_digest bytes → row.digest ≡ document_digest others → Match p q s now left rows one other → Match p q s now left (row ∷ rows) (Copied bytes ∷ one) (Copied others ∷ other)
 
 -- the budget and the digests fix what comes of each piece
-pub matched : (p q : Permit) (s u v : State) (now left behind : ℕ) (rows : List Row) (one other : List Outcome) (rest more : List Rec) → u.cursor ≡ s.cursor → v.cursor ≡ s.cursor
+pub matched : (p q : Permit) (s u v : State) (now left behind : ℕ) (rows : List Row) (one other : List Outcome) (rest more : List Rec) → ReadsAlike s u → ReadsAlike s v
     → LeadsTo p s now left u behind rows → LeadsTo q s now left v behind rows → IsUntroubled (front_of rows one ++ rest) → IsUntroubled (front_of rows other ++ more) → AreOutcomes p u behind rows one → AreOutcomes q v behind rows other → Match p q s now left rows one other
 matched p q s u v now left behind [] [] [] rest more here there leads leads2 calm calm2 h k = nothing
 matched p q s u v now left behind [] (a ∷ one) other rest more here there leads leads2 calm calm2 h k = absurd h
@@ -46,7 +46,7 @@ matched p q s u v now left behind (row ∷ rows) (NoRoom ∷ one) (NoRoom ∷ ot
     no_room (matched p q s (after_all u (records_of row NoRoom)) (after_all v (records_of row NoRoom)) now left behind rows one other rest more here there
     (λ piece c. leads piece (ToRead.ComesTo.behind NoRoom h.0 c)) (λ piece c. leads2 piece (ToRead.ComesTo.behind NoRoom k.0 c)) calm.1 calm2.1 h.1 k.1)
 matched p q s u v now left behind (row ∷ rows) (Copied bytes ∷ one) (Copied others ∷ other) rest more here there leads leads2 calm calm2 h k =
-    copied bytes others (leads row (ToRead.ComesTo.here h.0.0)) (leads2 row (ToRead.ComesTo.here k.0.0)) (given_alike p u s row bytes (sym here) h.0.1) (given_alike q v s row others (sym there) k.0.1) h.0.2 k.0.2
+    copied bytes others (leads row (ToRead.ComesTo.here h.0.0)) (leads2 row (ToRead.ComesTo.here k.0.0)) (given_alike p u s row bytes (reads_back s u here) h.0.1) (given_alike q v s row others (reads_back s v there) k.0.1) h.0.2 k.0.2
     (matched p q s u v now left (behind - row.blocks) rows one other rest more here there
     (λ piece c. leads piece (ToRead.ComesTo.behind (Copied bytes) h.0 c)) (λ piece c. leads2 piece (ToRead.ComesTo.behind (Copied others) k.0 c)) calm calm2 h.1 k.1)
 
@@ -92,7 +92,7 @@ pub flushes_agree : (p q : Permit) (s : State) (left : ℕ) (one other : List Ou
 flushes_agree p q s left one other h k calm calm2 =
     let rows : List Row = due_pieces s p.now in
     let opened : List Rec → State = λ front. state_after (after_all s front) (began_record s) in
-    let m : Match p q s p.now left rows one other = matched p q s s s p.now left left rows one other _ _ refl refl (λ row c. c) (λ row c. c) calm calm2 h k in
+    let m : Match p q s p.now left rows one other = matched p q s s s p.now left left rows one other _ _ (reads_self s) (reads_self s) (λ row c. c) (λ row c. c) calm calm2 h k in
     elim (copies_agree (opened (front_of rows one)) m) [
       | inr shown ↦ inr shown
       | inl moved ↦ inl (ap (λ recs. front_of rows one ++ began_record s ∷ recs) moved

@@ -1,41 +1,106 @@
--- What comes of a piece depends on the state through where its buffer begins and its last fault alone.
-use Rattle.std.proofs.Common.{◌≡◌, ℕ, ◌+◌, ◌-◌, ◌^◌, ◌≤◌, List, refl, sym, subst, arith}
-use Rattle.std.specs.Prelude.{min, max}
+-- What comes of a piece depends on the state through the geometry, where its buffer begins, how far that is filled and its last
+-- fault alone.
+use Rattle.std.proofs.Common.{◌≡◌, ℕ, ◌+◌, List, [], ◌∷◌, ◌++◌, refl, sym, ◌∙◌, subst, arith, inl, inr}
+use Rattle.edge_io.specs.Causes.{Rose}
+use Rattle.device_log.specs.Calls.{Asked, Call, ToRead, ToWrite, Read, Wrote, Synced, RefusedCall, Told, PowerCut, Flipped}
+use Rattle.tape_base.specs.Place.{slot_of}
 use Rattle.cache_model.specs.State.{State, Row, after_all}
-use Rattle.cache_model.specs.Permit.{Permit}
-use Rattle.cache_model.specs.Given.{IsDamaged, IsGiven, IsWritten, MayCount}
+use Rattle.cache_model.specs.Permit.{Permit, IsAmong}
+use Rattle.cache_model.specs.Given.{CountsRead, CountsWrite, IsDamaged, IsGiven, IsWritten, MayCount, counts_in}
 use Rattle.tape_base.specs.declared.digests.Digest.{Digest}
 use Rattle.cache_model.specs.Outcomes.{Copied, IsOutcome, NoRoom, Outcome, Refused, Spoiled, records_of, stopped_records_of}
 
--- t tells as much of a piece as s
-pub record IsAlike (s t : State) : Type 0 where
-  pub cursor : t.cursor ≡ s.cursor
-  pub fault : t.fault ≡ s.fault
+-- ---- calls that were refused
+
+among_last : (x y : ℕ) (xs : List ℕ) → x ≡ y → IsAmong x (xs ++ y ∷ [])
+among_last x y [] same = inl same
+among_last x y (z ∷ xs) same = inr (among_last x y xs same)
+
+among_before : (x y : ℕ) (xs : List ℕ) → IsAmong x xs → IsAmong x (xs ++ y ∷ [])
+among_before x y [] h = absurd h
+among_before x y (z ∷ xs) (inl same) = inl same
+among_before x y (z ∷ xs) (inr h) = inr (among_before x y xs h)
+
+-- each has its count
+pub refused_counts : (asked : Asked) (count : ℕ) (events : List Call) → IsAmong (RefusedCall asked count) events → IsAmong count (counts_in events)
+refused_counts asked count [] h = absurd h
+refused_counts asked count (RefusedCall other stood ∷ older) (inl same) = among_last count stood (counts_in older) cc
+refused_counts asked count (RefusedCall other stood ∷ older) (inr h) = among_before count stood (counts_in older) (refused_counts asked count older h)
+refused_counts asked count (Read at bytes ∷ older) (inl same) = cc
+refused_counts asked count (Read at bytes ∷ older) (inr h) = refused_counts asked count older h
+refused_counts asked count (Wrote at bytes ∷ older) (inl same) = cc
+refused_counts asked count (Wrote at bytes ∷ older) (inr h) = refused_counts asked count older h
+refused_counts asked count (Synced ∷ older) (inl same) = cc
+refused_counts asked count (Synced ∷ older) (inr h) = refused_counts asked count older h
+refused_counts asked count (Told act ∷ older) (inl same) = cc
+refused_counts asked count (Told act ∷ older) (inr h) = refused_counts asked count older h
+refused_counts asked count (PowerCut choice left ∷ older) (inl same) = cc
+refused_counts asked count (PowerCut choice left ∷ older) (inr h) = refused_counts asked count older h
+refused_counts asked count (Flipped at byte ∷ older) (inl same) = cc
+refused_counts asked count (Flipped at byte ∷ older) (inr h) = refused_counts asked count older h
+
+-- ---- states alike
+
+-- in t places have the blocks that they have in s, and as much is written out
+abbrev pub ReadsAlike : State → State → Type 0
+ReadsAlike s t = (t.geometry ≡ s.geometry) × (t.cursor ≡ s.cursor)
+
+pub reads_self : (s : State) → ReadsAlike s s
+reads_self s = (refl, refl)
+
+pub reads_back : (s t : State) → ReadsAlike s t → ReadsAlike t s
+reads_back s t a = (sym a.0, sym a.1)
+
+-- t tells as much of a piece and of the buffer as s
+abbrev pub IsAlike : State → State → Type 0
+IsAlike s t = ReadsAlike s t × (t.filled ≡ s.filled) × (t.fault ≡ s.fault)
 
 pub alike_self : (s : State) → IsAlike s s
-alike_self s = record { cursor = refl; fault = refl }
+alike_self s = (reads_self s, refl, refl)
+
+pub alike_trans : (s t u : State) → IsAlike s t → IsAlike t u → IsAlike s u
+alike_trans s t u a b = ((b.0.0 ∙ a.0.0, b.0.1 ∙ a.0.1), b.1 ∙ a.1, b.2 ∙ a.2)
 
 pub written_alike : (s t : State) (row : Row) → t.cursor ≡ s.cursor → IsWritten s row → IsWritten t row
 written_alike s t row same h = omega (arith, same, h)
 
-pub given_alike : (p : Permit) (s t : State) (row : Row) (bytes : List ℕ) → t.cursor ≡ s.cursor → IsGiven p s row bytes → IsGiven p t row bytes
-given_alike p s t row bytes same g = record { written = written_alike s t row same g.written; given = g.given; whole = g.whole; of_bytes = g.of_bytes }
+pub given_alike : (p : Permit) (s t : State) (row : Row) (bytes : List ℕ) → ReadsAlike s t → IsGiven p s row bytes → IsGiven p t row bytes
+given_alike p s t row bytes same g = record {
+  written = written_alike s t row same.1 g.written;
+  given = subst (λ geometry. IsAmong (Read (slot_of geometry row.place + p.area) bytes) p.events) (sym same.0) g.given;
+  whole = g.whole;
+  of_bytes = g.of_bytes;
+}
 
-pub counts_alike : (p : Permit) (s t : State) (count : ℕ) → t.fault ≡ s.fault → MayCount p s count → MayCount p t count
-counts_alike p s t count same m = record { rose = subst (λ n. min (max p.faults_before n + 1) (2 ^ 64 - 1) ≤ count) (sym same) m.rose; reached = m.reached }
+pub counts_alike : (p : Permit) (s t : State) (asked : Asked) (count : ℕ) → t.fault ≡ s.fault → MayCount p s asked count → MayCount p t asked count
+counts_alike p s t asked count same m = record { rose = subst (λ n. Rose n count) (sym same) m.rose; refused = m.refused }
 
-damaged_alike : (p : Permit) (s t : State) (row : Row) (found : Digest) → t.cursor ≡ s.cursor → IsDamaged p s row found → IsDamaged p t row found
+pub read_alike : (p : Permit) (s t : State) (row : Row) (count : ℕ) → IsAlike s t → CountsRead p s row count → CountsRead p t row count
+read_alike p s t row count a m =
+    subst (λ geometry. MayCount p t (ToRead (slot_of geometry row.place + p.area) row.blocks) count) (sym a.0.0) (counts_alike p s t _ count a.2 m)
+
+pub write_alike : (p : Permit) (s t : State) (count : ℕ) → IsAlike s t → CountsWrite p s count → CountsWrite p t count
+write_alike p s t count a m = record {
+  left = m.left;
+  counts =
+      subst (λ geometry. MayCount p t (ToWrite (slot_of geometry t.cursor + p.area) t.filled m.left) count) (sym a.0.0)
+      (subst (λ cursor. MayCount p t (ToWrite (slot_of s.geometry cursor + p.area) t.filled m.left) count) (sym a.0.1)
+      (subst (λ filled. MayCount p t (ToWrite (slot_of s.geometry s.cursor + p.area) filled m.left) count) (sym a.1)
+      (counts_alike p s t (ToWrite (slot_of s.geometry s.cursor + p.area) s.filled m.left) count a.2 m.counts)));
+}
+
+damaged_alike : (p : Permit) (s t : State) (row : Row) (found : Digest) → ReadsAlike s t → IsDamaged p s row found → IsDamaged p t row found
 damaged_alike p s t row found same d = record { bytes = d.bytes; given = given_alike p s t row d.bytes same d.given; digest = d.digest; differ = d.differ }
 
 pub outcome_alike : (p : Permit) (s t : State) (left : ℕ) (row : Row) (o : Outcome) → IsAlike s t → IsOutcome p s left row o → IsOutcome p t left row o
 outcome_alike p s t left row NoRoom a h = h
-outcome_alike p s t left row (Copied bytes) a h = (h.0, given_alike p s t row bytes a.cursor h.1, h.2)
-outcome_alike p s t left row (Spoiled found) a h = (h.0, damaged_alike p s t row found a.cursor h.1)
-outcome_alike p s t left row (Refused count) a h = (h.0, written_alike s t row a.cursor h.1, counts_alike p s t count a.fault h.2)
+outcome_alike p s t left row (Copied bytes) a h = (h.0, given_alike p s t row bytes a.0 h.1, h.2)
+outcome_alike p s t left row (Spoiled found) a h = (h.0, damaged_alike p s t row found a.0 h.1)
+outcome_alike p s t left row (Refused count) a h = (h.0, written_alike s t row a.0.1 h.1, read_alike p s t row count a h.2)
 
 -- the records of a piece leave two states alike, also those of a flush that stops
 pub alike_stopped : (s t : State) (row : Row) (o : Outcome) → IsAlike s t → IsAlike (after_all s (records_of row o)) (after_all t (stopped_records_of row o))
-alike_stopped s t row NoRoom a = record { cursor = a.cursor; fault = a.fault }
-alike_stopped s t row (Copied bytes) a = record { cursor = a.cursor; fault = a.fault }
-alike_stopped s t row (Spoiled found) a = record { cursor = a.cursor; fault = a.fault }
-alike_stopped s t row (Refused count) a = record { cursor = a.cursor; fault = refl }
+alike_stopped s t row NoRoom a = a
+alike_stopped s t row (Copied bytes) a = a
+alike_stopped s t row (Spoiled found) a = a
+alike_stopped s t row (Refused count) a = (a.0, a.1, refl)

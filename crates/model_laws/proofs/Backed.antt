@@ -2,6 +2,7 @@
 -- and numbers follow.
 use Rattle.std.proofs.Common.{◌≡◌, ℕ, List, [], ◌∷◌, ◌++◌, refl, sym, ap, subst, inl, inr}
 use Rattle.std.specs.Prelude.{Option, map, length}
+use Rattle.device_log.specs.Calls.{Asked}
 use Rattle.tape_base.specs.Digest.{digest_of}
 use Rattle.tape_base.specs.Geometry.{budget_of}
 use Rattle.tape_base.specs.declared.digests.Digest.{Digest}
@@ -53,12 +54,12 @@ displaced p s t piece added m = as_given p t added _ m.is (displacements p t _ _
 damage : (p : Permit) (s : State) (row : Row) (found : Digest) → Given.IsDamaged p s row found → IsRight p s (Given.damage_record row row.digest found)
 damage p s row found d = ((record { bytes = d.bytes; given = d.given.given; digest = inl d.digest }, d.differ), tt, tt)
 
-fault : (p : Permit) (s : State) (count : ℕ) → Given.MayCount p s count → IsRight p s (rec.Fault count)
-fault p s count m = (m.reached, tt, risen p s count m)
+fault : (p : Permit) (s : State) (asked : Asked) (count : ℕ) → Given.MayCount p s asked count → IsRight p s (rec.Fault count)
+fault p s asked count m = ((asked, m.refused), tt, risen p s asked count m)
 
 trouble : (p : Permit) (s : State) (row : Row) (before : List Rec) (why : Cause) → Given.Trouble p s row before why
     → AllRight p s before × ((after_all s before).next_reader ≡ s.next_reader)
-trouble p s row before why (Given.Trouble.faulted count w m) = ((fault p s count m, tt), refl)
+trouble p s row before why (Given.Trouble.faulted count w m) = ((fault p s _ count m, tt), refl)
 trouble p s row before why (Given.Trouble.damaged found d) = ((damage p s row found d, tt), refl)
 
 -- ---- a flush
@@ -110,7 +111,7 @@ stop p s count added m =
     let rows : List Row = due_pieces s p.now in
     let front : List Rec = stopped_front_of rows m.outcomes in
     let numbered : AllAlong IsNumbered s (front ++ rec.Fault count ∷ []) = along_append IsNumbered s front _ (stopped_numbered s rows m.outcomes) (tt, tt) in
-    as_given p s added _ m.is (all_right p s _ (stopped_is_backed p s (budget_of s.geometry) rows m.outcomes count m.are m.counts) numbered)
+    as_given p s added _ m.is (all_right p s _ (stopped_is_backed p s (budget_of s.geometry) rows m.outcomes _ count m.are m.counts.counts) numbered)
 
 room : (p : Permit) (s : State) (bytes : ℕ) (added : List Rec) (e : End) → Legal.MakesRoom p s bytes added e → AllRight p s added
 room p s bytes added e (Legal.MakesRoom.flushes h m) = flush p s added m
@@ -160,7 +161,7 @@ group p s (Overflow put) added e (Legal.DoesOverflow.aborts w q l is) = as_given
 group p s (Weigh put rest) added e (Legal.DoesWeigh.weighs w q r f is) = as_given p s added [] is tt
 group p s (Weigh put rest) added e (Legal.DoesWeigh.too_large w q r f is) = as_given p s added _ is silent
 group p s (Weigh put rest) added e (Legal.DoesWeigh.damaged w row found q live d is) = as_given p s added _ is (damage p s row found d, tt)
-group p s (Weigh put rest) added e (Legal.DoesWeigh.faulted w row count q live r m is) = as_given p s added _ is (fault p s count m, tt)
+group p s (Weigh put rest) added e (Legal.DoesWeigh.faulted w row count q live r m is) = as_given p s added _ is (fault p s _ count m, tt)
 group p s (Finish put fragments) added e (Legal.DoesFinish.places d m) = as_given p s added _ m.is (along_append (IsRight p) s m.displaced _ (displaced p s s _ m.displaced m.displaces) silent)
 group p s (Finish put fragments) added e (Legal.DoesFinish.rooms w c m) = room p s _ added e m
 group p s (Finish put fragments) added e (Legal.DoesFinish.exhausted w x c l q) = as_given p s added [] q.is tt

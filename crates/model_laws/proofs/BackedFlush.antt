@@ -1,6 +1,6 @@
 -- What a flush records of the pieces that it does not copy is what the device did.
-use Rattle.std.proofs.Common.{ℕ, ◌+◌, ◌-◌, ◌^◌, ◌≤◌, List, [], ◌∷◌, ◌++◌, arith, inl}
-use Rattle.std.specs.Prelude.{min, max}
+use Rattle.std.proofs.Common.{ℕ, List, [], ◌∷◌, ◌++◌, inl}
+use Rattle.device_log.specs.Calls.{Asked}
 use Rattle.cache_model.specs.declared.record.Rec.{Rec}
 use Rattle.cache_model.specs.declared.record.Rec.TheVariants as rec
 use Rattle.cache_model.specs.State.{State, Row, after_all, state_after}
@@ -14,16 +14,14 @@ pub along_append : (Holds : State → Rec → Type 0) (s : State) (a b : List Re
 along_append Holds s [] b h k = k
 along_append Holds s (r ∷ a) b h k = (h.0, along_append Holds (state_after s r) a b h.1 k)
 
-pub risen : (p : Permit) (s : State) (count : ℕ) → MayCount p s count → IsRisen p s (rec.Fault count)
-risen p s count m =
-    let rose : min (max p.faults_before s.fault + 1) (2 ^ 64 - 1) ≤ count = m.rose in
-    (omega (arith, rose), omega (arith, rose))
+pub risen : (p : Permit) (s : State) (asked : Asked) (count : ℕ) → MayCount p s asked count → IsRisen p s (rec.Fault count)
+risen p s asked count m = (m.rose, (asked, m.refused))
 
 one_risen : (p : Permit) (s : State) (left : ℕ) (row : Row) (o : Outcome) → IsOutcome p s left row o → AllAlong (IsRisen p) s (records_of row o)
 one_risen p s left row NoRoom h = (tt, tt)
 one_risen p s left row (Copied bytes) h = tt
 one_risen p s left row (Spoiled found) h = (tt, tt)
-one_risen p s left row (Refused count) h = (risen p s count h.2, (tt, tt))
+one_risen p s left row (Refused count) h = (risen p s _ count h.2, (tt, tt))
 
 one_backed : (p : Permit) (s : State) (left : ℕ) (row : Row) (o : Outcome) → IsOutcome p s left row o → AllAlong (IsBacked p) s (records_of row o)
 one_backed p s left row NoRoom h = (tt, tt)
@@ -31,7 +29,7 @@ one_backed p s left row (Copied bytes) h = tt
 one_backed p s left row (Spoiled found) h =
     let d = h.1 in
     ((record { bytes = d.bytes; given = d.given.given; digest = inl d.digest }, d.differ), tt)
-one_backed p s left row (Refused count) h = (h.2.reached, (tt, tt))
+one_backed p s left row (Refused count) h = ((_, h.2.refused), (tt, tt))
 
 pub front_is_backed : (p : Permit) (s : State) (left : ℕ) (rows : List Row) (outcomes : List Outcome) → AreOutcomes p s left rows outcomes
     → AllAlong (IsRisen p) s (front_of rows outcomes) × AllAlong (IsBacked p) s (front_of rows outcomes)
@@ -50,7 +48,7 @@ one_stopped_risen : (p : Permit) (s : State) (left : ℕ) (row : Row) (o : Outco
 one_stopped_risen p s left row NoRoom h = tt
 one_stopped_risen p s left row (Copied bytes) h = tt
 one_stopped_risen p s left row (Spoiled found) h = (tt, tt)
-one_stopped_risen p s left row (Refused count) h = (risen p s count h.2, tt)
+one_stopped_risen p s left row (Refused count) h = (risen p s _ count h.2, tt)
 
 one_stopped_backed : (p : Permit) (s : State) (left : ℕ) (row : Row) (o : Outcome) → IsOutcome p s left row o → AllAlong (IsBacked p) s (stopped_records_of row o)
 one_stopped_backed p s left row NoRoom h = tt
@@ -58,7 +56,7 @@ one_stopped_backed p s left row (Copied bytes) h = tt
 one_stopped_backed p s left row (Spoiled found) h =
     let d = h.1 in
     ((record { bytes = d.bytes; given = d.given.given; digest = inl d.digest }, d.differ), tt)
-one_stopped_backed p s left row (Refused count) h = (h.2.reached, tt)
+one_stopped_backed p s left row (Refused count) h = ((_, h.2.refused), tt)
 
 -- s is behind the records of a whole flush, t behind those of one that stops
 stopped_front : (p : Permit) (s t : State) (left : ℕ) (rows : List Row) (outcomes : List Outcome) → IsAlike s t → AreOutcomes p s left rows outcomes
@@ -73,12 +71,12 @@ stopped_front p s t left (row ∷ rows) (o ∷ outcomes) a h =
       along_append (IsBacked p) t (stopped_records_of row o) (stopped_front_of rows outcomes) (one_stopped_backed p t left row o here) rest.1,
     )
 
-pub stopped_is_backed : (p : Permit) (s : State) (left : ℕ) (rows : List Row) (outcomes : List Outcome) (count : ℕ) → AreOutcomes p s left rows outcomes
-    → MayCount p (after_all s (stopped_front_of rows outcomes)) count
+pub stopped_is_backed : (p : Permit) (s : State) (left : ℕ) (rows : List Row) (outcomes : List Outcome) (asked : Asked) (count : ℕ) → AreOutcomes p s left rows outcomes
+    → MayCount p (after_all s (stopped_front_of rows outcomes)) asked count
     → AllAlong (IsRisen p) s (stopped_records rows outcomes count) × AllAlong (IsBacked p) s (stopped_records rows outcomes count)
-stopped_is_backed p s left rows outcomes count h m =
+stopped_is_backed p s left rows outcomes asked count h m =
     let front = stopped_front p s s left rows outcomes (alike_self s) h in
     let t : State = after_all s (stopped_front_of rows outcomes) in (
-      along_append (IsRisen p) s (stopped_front_of rows outcomes) (rec.Fault count ∷ []) front.0 (risen p t count m, tt),
-      along_append (IsBacked p) s (stopped_front_of rows outcomes) (rec.Fault count ∷ []) front.1 (m.reached, tt),
+      along_append (IsRisen p) s (stopped_front_of rows outcomes) (rec.Fault count ∷ []) front.0 (risen p t asked count m, tt),
+      along_append (IsBacked p) s (stopped_front_of rows outcomes) (rec.Fault count ∷ []) front.1 ((asked, m.refused), tt),
     )

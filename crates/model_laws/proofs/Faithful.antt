@@ -25,14 +25,15 @@ use Rattle.cache_model.specs.Legal.{Does, IsLookup, IsReading, MakesRoom, MayFlu
 use Rattle.cache_model.specs.Tape.{IsSound}
 use Rattle.model_laws.specs.Agreeing.{IsOtherCopy, IsUntroubled, is_trouble}
 use Rattle.model_laws.proofs.Determined.{groups_agree, none_displaced}
+use Rattle.model_laws.proofs.Alike.{reads_self}
 use Rattle.model_laws.proofs.FixedFlush.{IsLive, flush_untroubled, no_count, no_damage, same_bytes}
 use Rattle.cache_model.proofs.Found.{none_is}
 
 -- ---- what is asked for
 
 no_trouble : {p : Permit} {s : State} {row : Row} {before : List Rec} {why : Cause} → IsFaithful p s → IsLive s row → Trouble p s row before why → ⊥
-no_trouble still live (Given.Trouble.faulted count written counts) = no_count count still counts
-no_trouble still live (Given.Trouble.damaged found damaged) = no_damage still live refl damaged
+no_trouble {s = s} still live (Given.Trouble.faulted count written counts) = no_count count still counts
+no_trouble {s = s} still live (Given.Trouble.damaged found damaged) = no_damage still live (reads_self s) damaged
 
 live_by : (s : State) (o : Option PieceId) (row : Row) → option_and_then (live_row_of s) o ≡ Some row → IsLive s row
 live_by s None row h = none_is h
@@ -75,7 +76,7 @@ flushed_untroubled {p} {s} sound still m = subst IsUntroubled (sym m.is) (flush_
 
 roomed_untroubled : {p : Permit} {s : State} {bytes : ℕ} {added : List Rec} {e : End} → IsSound s → IsFaithful p s → MakesRoom p s bytes added e → IsUntroubled added
 roomed_untroubled sound still (Legal.MakesRoom.flushes room flush) = flushed_untroubled sound still flush
-roomed_untroubled sound still (Legal.MakesRoom.stops count room stop) = absurd (no_count count still stop.counts)
+roomed_untroubled sound still (Legal.MakesRoom.stops count room stop) = absurd (no_count count still stop.counts.counts)
 roomed_untroubled sound still (Legal.MakesRoom.exhausted room high none) = none_untroubled none
 
 answer_untroubled : (reader : ℕ) (answer : NextAnswer) → is_trouble (answer_record reader answer) ≡ false
@@ -90,7 +91,7 @@ read_untroubled {reader = reader} {answer = answer} still m = behind_untroubled 
 group_untroubled : (p : Permit) (s : State) (i : Intent) (added : List Rec) (e : End) → IsSound s → IsFaithful p s → Does p s i added e → IsUntroubled added
 group_untroubled p s Flush added e sound still (Legal.DoesFlush.empty quiet is none) = none_untroubled none
 group_untroubled p s Flush added e sound still (Legal.DoesFlush.flushes flush) = flushed_untroubled sound still flush
-group_untroubled p s Flush added e sound still (Legal.DoesFlush.stops count stop) = absurd (no_count count still stop.counts)
+group_untroubled p s Flush added e sound still (Legal.DoesFlush.stops count stop) = absurd (no_count count still stop.counts.counts)
 group_untroubled p s Flush added e sound still (Legal.DoesFlush.exhausted quiet some high none) = none_untroubled none
 group_untroubled p s (Write actor key request response pin) added e sound still (Legal.DoesWrite.opens m) = one_untroubled _ refl m.is
 group_untroubled p s (Write actor key request response pin) added e sound still (Legal.DoesWrite.many quiet many none) = none_untroubled none
@@ -102,7 +103,7 @@ group_untroubled p s (Fragment put index payload) added e sound still (Legal.Doe
 group_untroubled p s (Overflow put) added e sound still (Legal.DoesOverflow.aborts w m full is) = one_untroubled _ refl is
 group_untroubled p s (Weigh put rest) added e sound still (Legal.DoesWeigh.weighs w m read fits is) = none_untroubled is
 group_untroubled p s (Weigh put rest) added e sound still (Legal.DoesWeigh.too_large w m read large is) = one_untroubled _ refl is
-group_untroubled p s (Weigh put rest) added e sound still (Legal.DoesWeigh.damaged w row found m live damaged is) = absurd (no_damage still (live_vector s w.key row live) refl damaged)
+group_untroubled p s (Weigh put rest) added e sound still (Legal.DoesWeigh.damaged w row found m live damaged is) = absurd (no_damage still (live_vector s w.key row live) (reads_self s) damaged)
 group_untroubled p s (Weigh put rest) added e sound still (Legal.DoesWeigh.faulted w row count m live written counts is) = absurd (no_count count still counts)
 group_untroubled p s (Finish put fragments) added e sound still (Legal.DoesFinish.places is m) = behind_untroubled _ refl (none_displaced still.displaces_nothing m.displaces) m.is
 group_untroubled p s (Finish put fragments) added e sound still (Legal.DoesFinish.rooms w cut room) = roomed_untroubled sound still room

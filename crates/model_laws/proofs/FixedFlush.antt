@@ -1,47 +1,42 @@
 -- Where the device is faithful, what is due tells no trouble, and has one list of outcomes.
-use Rattle.std.proofs.Common.{◌≡◌, ℕ, ◌+◌, ◌-◌, ◌^◌, ◌≤◌, List, [], ◌∷◌, ◌++◌, refl, sym, ◌∙◌, ap, arith}
-use Rattle.std.specs.Prelude.{Some, min, max}
+use Rattle.std.proofs.Common.{◌≡◌, ℕ, ◌-◌, List, [], ◌∷◌, ◌++◌, refl, sym, ◌∙◌, ap, subst}
+use Rattle.std.specs.Prelude.{Some}
 use Rattle.std.specs.List.{AllByRecursion}
 use Rattle.tape_base.specs.declared.digests.Digest.{Digest}
 use Rattle.tape_base.specs.declared.pieces.PieceId.{PieceId}
 use Rattle.cache_model.specs.declared.record.Rec.{Rec}
 use Rattle.cache_model.specs.State.{State, Row, after_all, live_row_of, state_after}
-use Rattle.cache_model.specs.Permit.{Permit}
-use Rattle.cache_model.specs.Given.{IsDamaged, IsGiven, MayCount}
+use Rattle.device_log.specs.Calls.{Asked}
+use Rattle.cache_model.specs.Permit.{IsAmong, Permit}
+use Rattle.cache_model.specs.Given.{IsDamaged, IsGiven, MayCount, block_at}
 use Rattle.model_laws.specs.Choices.{GivesOnce, IsFaithful}
 use Rattle.cache_model.specs.Tape.{IsSound}
 use Rattle.cache_model.specs.Due.{due_pieces}
 use Rattle.cache_model.specs.Outcomes.{AreOutcomes, Copied, Copy, NoRoom, Outcome, Refused, Spoiled, copies_of, flush_records, front_of, moved_record, moved_records, records_of}
 use Rattle.model_laws.specs.Agreeing.{IsUntroubled}
 use Rattle.model_laws.proofs.AgreeingFlush.{Match, copied, matched, no_room, nothing}
-use Rattle.model_laws.proofs.Alike.{given_alike}
+use Rattle.model_laws.proofs.Alike.{ReadsAlike, given_alike, reads_back, reads_self, refused_counts}
 use Rattle.cache_model.proofs.Live.{IsFound, due_are_live}
 
 -- ---- a faithful device
 
 -- it counts no fault, behind whatever records
-pub no_count : {p : Permit} {s u : State} (count : ℕ) → IsFaithful p s → MayCount p u count → ⊥
-no_count {p} {u = u} count still counts =
-    let rose : min (max p.faults_before u.fault + 1) (2 ^ 64 - 1) ≤ count = counts.rose in
-    let above : p.faults_before ≤ max p.faults_before u.fault = omega arith in
-    let reached = counts.reached in
-    let counted = still.counted in
-    let countable = still.countable in
-    omega (arith, rose, above, reached, counted, countable)
+pub no_count : {p : Permit} {s u : State} {asked : Asked} (count : ℕ) → IsFaithful p s → MayCount p u asked count → ⊥
+no_count {p} {asked = asked} count still counts = subst (IsAmong count) still.unrefused (refused_counts asked count p.events counts.refused)
 
 -- the row is that of a live piece
 abbrev pub IsLive : State → Row → Type 0
 IsLive s row = (id : PieceId) × (live_row_of s id ≡ Some row)
 
-pub no_damage : {p : Permit} {s u : State} {row : Row} {found : Digest} → IsFaithful p s → IsLive s row → u.cursor ≡ s.cursor → IsDamaged p u row found → ⊥
-no_damage {p} {s} {u} {row = row} still live same d = d.differ (still.kept live.0 row d.bytes live.1 (given_alike p u s row d.bytes (sym same) d.given) ∙ sym d.digest)
+pub no_damage : {p : Permit} {s u : State} {row : Row} {found : Digest} → IsFaithful p s → IsLive s row → ReadsAlike s u → IsDamaged p u row found → ⊥
+no_damage {p} {s} {u} {row = row} still live same d = d.differ (still.kept live.0 row d.bytes live.1 (given_alike p u s row d.bytes (reads_back s u same) d.given) ∙ sym d.digest)
 
 pub same_bytes : (p : Permit) (s : State) (row : Row) (one other : List ℕ) → GivesOnce p → IsGiven p s row one → IsGiven p s row other → one ≡ other
-same_bytes p s row one other once g k = once row.place one other g.given k.given (g.whole ∙ sym k.whole)
+same_bytes p s row one other once g k = once (block_at p s row.place) one other g.given k.given (g.whole ∙ sym k.whole)
 
 -- ---- no trouble
 
-front_untroubled : (p : Permit) (s t : State) (left : ℕ) (rows : List Row) (outcomes : List Outcome) (rest : List Rec) → IsFaithful p s → AllByRecursion (IsFound s) rows → t.cursor ≡ s.cursor
+front_untroubled : (p : Permit) (s t : State) (left : ℕ) (rows : List Row) (outcomes : List Outcome) (rest : List Rec) → IsFaithful p s → AllByRecursion (IsFound s) rows → ReadsAlike s t
     → AreOutcomes p t left rows outcomes → IsUntroubled rest → IsUntroubled (front_of rows outcomes ++ rest)
 front_untroubled p s t left [] outcomes rest still live same h calm = calm
 front_untroubled p s t left (row ∷ rows) [] rest still live same h calm = absurd h
@@ -58,7 +53,7 @@ copies_untroubled u (c ∷ copies) = (refl, copies_untroubled (state_after u (mo
 pub flush_untroubled : (p : Permit) (s : State) (now left : ℕ) (outcomes : List Outcome) → IsSound s → IsFaithful p s → AreOutcomes p s left (due_pieces s now) outcomes
     → IsUntroubled (flush_records s (due_pieces s now) outcomes)
 flush_untroubled p s now left outcomes sound still h =
-    front_untroubled p s s left (due_pieces s now) outcomes _ still (due_are_live s now sound) refl h (refl, copies_untroubled _ (copies_of (due_pieces s now) outcomes))
+    front_untroubled p s s left (due_pieces s now) outcomes _ still (due_are_live s now sound) (reads_self s) h (refl, copies_untroubled _ (copies_of (due_pieces s now) outcomes))
 
 -- ---- one list
 
@@ -73,5 +68,5 @@ pub outcomes_are_fixed : (p : Permit) (s : State) (now left : ℕ) (one other : 
 outcomes_are_fixed p s now left one other sound still h k =
     let rows : List Row = due_pieces s now in
     let calm : (outcomes : List Outcome) → AreOutcomes p s left rows outcomes → IsUntroubled (front_of rows outcomes ++ []) =
-    λ outcomes o. front_untroubled p s s left rows outcomes [] still (due_are_live s now sound) refl o tt in
-    match_once still.once (matched p p s s s now left left rows one other [] [] refl refl (λ row c. c) (λ row c. c) (calm one h) (calm other k) h k)
+    λ outcomes o. front_untroubled p s s left rows outcomes [] still (due_are_live s now sound) (reads_self s) o tt in
+    match_once still.once (matched p p s s s now left left rows one other [] [] (reads_self s) (reads_self s) (λ row c. c) (λ row c. c) (calm one h) (calm other k) h k)

@@ -3,7 +3,7 @@ mod Places
 pub mod Answered
 mod Asked
 mod Cleanup
-mod Backed
+pub mod Backed
 mod WorkedSessions
 mod AcceptedSteps
 mod Determined

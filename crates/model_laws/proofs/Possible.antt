@@ -23,16 +23,15 @@ use Rattle.cache_model.specs.Permit.{Permit, Intent, Flush, Write, Fragment, Ove
 use Rattle.cache_model.specs.Room.{HasPlace, has_room, is_flush_exhausted, limit}
 use Rattle.cache_model.specs.Given
 use Rattle.cache_model.specs.Legal
-use Rattle.cache_model.specs.Given.{IsRead, IsReadWhereLive, IsGiven, IsDamaged, IsWritten, MayCount, Trouble}
+use Rattle.cache_model.specs.Given.{IsRead, IsReadWhereLive, CountsRead, IsGiven, IsDamaged, IsWritten, Trouble}
 use Rattle.cache_model.specs.Legal.{CanFlush, Does, IsQuiet, MayFlush, MayReadOn, DoesWrite, DoesOverflow, DoesCommit, DoesGiveUp, DoesReadAll, DoesStopReading, most_writers, open_writers, live_next, has_hit, MakesRoom, DoesFragment, DoesFinish, IsNext, IsCut, AreLiveTo, IsFragmentLive, HasNoPlace, IsWriting, DoesWeigh, DoesFlush, DoesLook, DoesReadOn, DoesRemove, IsLookup, IsReading, FitsAlone, next_fragment_of, size_alone, vector_length}
 use Rattle.model_laws.specs.Choices
-use Rattle.model_laws.specs.Choices.{AreDueTried, IsTried, IsTriedWhereLive, MayAsk, MayAskWrite}
+use Rattle.model_laws.specs.Choices.{AreDueTried, IsFlushTried, IsTried, IsTriedWhereLive, MayAsk, MayAskWrite}
 use Rattle.cache_model.specs.ToRead.{to_read}
-use Rattle.cache_model.specs.Due.{due_pieces}
 use Rattle.cache_model.specs.Tape.{IsSound}
 use Rattle.cache_model.proofs.Found.{none_is, number_of}
 use Rattle.model_laws.proofs.Purged.{can_displace}
-use Rattle.model_laws.proofs.TriedFlush.{DueIsTried, outcomes_are_found}
+use Rattle.model_laws.proofs.TriedFlush.{Flushes, flush_comes, made, stopped}
 
 -- ---- sizes
 
@@ -89,24 +88,23 @@ filled_by s bytes small none =
     let over = leb-false (s.filled + blocks_of bytes) s.geometry.agg none in
     omega (arith, small, over)
 
--- where what it is to copy was tried, a flush may be made
-a_flush : (p : Permit) (s : State) → CanFlush s → DueIsTried p s → (added : List Rec) × MayFlush p s added
-a_flush p s can due =
-    let o = outcomes_are_found p s (budget_of s.geometry) (due_pieces s p.now) due in
-    (_, record { outcomes = o.0; can = can; are = o.1; is = refl })
+-- where it was tried, a flush makes room, or the device stops it
+room_by : (p : Permit) (s : State) (bytes : ℕ) → has_room s bytes ≡ false → Flushes p s → Room p s bytes
+room_by p s bytes none (made added m) = makes added _ (Legal.MakesRoom.flushes none m)
+room_by p s bytes none (stopped count added m) = makes added _ (Legal.MakesRoom.stops count none m)
 
 room_case : (p : Permit) (s : State) (bytes : ℕ) (room flush place : Bool) → IsQuiet s → blocks_of bytes ≤ budget_of s.geometry
-    → (has_room s bytes ≡ false → CanFlush s → DueIsTried p s) → has_room s bytes ≡ room → is_flush_exhausted s ≡ flush → nat_le limit (place_now s + blocks_of bytes) ≡ place → Room p s bytes
+    → (has_room s bytes ≡ false → CanFlush s → IsFlushTried p s) → has_room s bytes ≡ room → is_flush_exhausted s ≡ flush → nat_le limit (place_now s + blocks_of bytes) ≡ place → Room p s bytes
 room_case p s bytes true flush false quiet small due room below place =
     has (record { small = small; room = room; below = leb-false limit (place_now s + blocks_of bytes) place })
 room_case p s bytes true flush true quiet small due room below place =
     ends (record { room = room; above = leb-true limit (place_now s + blocks_of bytes) place; is = refl })
 room_case p s bytes false false place quiet small due room below end =
     let can : CanFlush s = record { quiet = quiet; filled = filled_by s bytes small room; below = below } in
-    makes _ _ (Legal.MakesRoom.flushes room (a_flush p s can (due room can)).1)
+    room_by p s bytes room (flush_comes p s can (due room can))
 room_case p s bytes false true place quiet small due room below end = makes [] _ (Legal.MakesRoom.exhausted room below refl)
 
-room_of : (p : Permit) (s : State) (bytes : ℕ) → IsQuiet s → blocks_of bytes ≤ budget_of s.geometry → (not (has_room s bytes) ≡ true → CanFlush s → DueIsTried p s) → Room p s bytes
+room_of : (p : Permit) (s : State) (bytes : ℕ) → IsQuiet s → blocks_of bytes ≤ budget_of s.geometry → (not (has_room s bytes) ≡ true → CanFlush s → IsFlushTried p s) → Room p s bytes
 room_of p s bytes quiet small due = room_case p s bytes _ _ _ quiet small (λ none. due (ap not none)) refl refl refl
 
 -- ---- fragments
@@ -193,7 +191,7 @@ a_vector_can_be_asked p s put fragments w sound cut due =
 data Comes (p : Permit) (s : State) (row : Row) : Type 0 where
   read : IsRead p s row → Comes p s row
   damaged : (found : Digest) → IsDamaged p s row found → Comes p s row
-  faulted : (count : ℕ) → IsWritten s row → MayCount p s count → Comes p s row
+  faulted : (count : ℕ) → IsWritten s row → CountsRead p s row count → Comes p s row
 
 given_by : (p : Permit) (s : State) (row : Row) (bytes : List ℕ) (t : Bool) → t ≡ pointwise nat_eq row.digest.0 (document_digest bytes).0 → IsGiven p s row bytes → Comes p s row
 given_by p s row bytes true e given = read (Given.IsRead.given bytes given (ap (λ x. record { 0 = x }) (same_text row.digest.0 (document_digest bytes).0 e)))
@@ -213,7 +211,7 @@ comes p s row (Choices.IsTried.refused count written counts) = faulted count wri
 data Looks (p : Permit) (s : State) (o : Option Row) : Type 0 where
   read : IsReadWhereLive p s o → Looks p s o
   damaged : (row : Row) (found : Digest) → o ≡ Some row → IsDamaged p s row found → Looks p s o
-  faulted : (row : Row) (count : ℕ) → o ≡ Some row → IsWritten s row → MayCount p s count → Looks p s o
+  faulted : (row : Row) (count : ℕ) → o ≡ Some row → IsWritten s row → CountsRead p s row count → Looks p s o
 
 looked : (p : Permit) (s : State) (o : Option Row) → IsTriedWhereLive p s o → Looks p s o
 looked p s None h = read tt
@@ -237,11 +235,15 @@ close_by p s put rest w m (faulted row count live written counts) = (_, _, Legal
 
 -- ---- what is asked between puts
 
-flush_case : (p : Permit) (s : State) (empty below : Bool) → IsQuiet s → (CanFlush s → DueIsTried p s) → nat_le s.filled 0 ≡ empty → is_flush_exhausted s ≡ below → (added : List Rec) × (e : End) × DoesFlush p s added e
+flush_by : (p : Permit) (s : State) → Flushes p s → (added : List Rec) × (e : End) × DoesFlush p s added e
+flush_by p s (made added m) = (_, _, Legal.DoesFlush.flushes m)
+flush_by p s (stopped count added m) = (_, _, Legal.DoesFlush.stops count m)
+
+flush_case : (p : Permit) (s : State) (empty below : Bool) → IsQuiet s → (CanFlush s → IsFlushTried p s) → nat_le s.filled 0 ≡ empty → is_flush_exhausted s ≡ below → (added : List Rec) × (e : End) × DoesFlush p s added e
 flush_case p s true below quiet due empty is = let least = leb-true s.filled 0 empty in (_, _, Legal.DoesFlush.empty quiet (omega (arith, least)) refl)
 flush_case p s false false quiet due empty is =
     let can : CanFlush s = record { quiet = quiet; filled = leb-false s.filled 0 empty; below = is } in
-    (_, _, Legal.DoesFlush.flushes (a_flush p s can (due can)).1)
+    flush_by p s (flush_comes p s can (due can))
 flush_case p s false true quiet due empty is = (_, _, Legal.DoesFlush.exhausted quiet (leb-false s.filled 0 empty) is refl)
 
 write_case : (s : State) (actor : ℕ) (key : Key) (request response : List Field) (pin : ℕ) (many high : Bool) → MayAskWrite s actor request response pin

@@ -1,5 +1,5 @@
 -- What records make of what syncs hold.
-use Rattle.std.proofs.Common.{◌≡◌, ℕ, ◌≤◌, List, [], ◌∷◌, Bool, true, false, Some, None, refl, sym, ◌∙◌, ap, inl, inr, arith}
+use Rattle.std.proofs.Common.{◌≡◌, ℕ, ◌≤◌, List, [], ◌∷◌, Bool, Some, None, refl, sym, ◌∙◌, ap, inl, inr, arith}
 use Rattle.std.specs.List.{AllByRecursion}
 use Rattle.tape_base.specs.declared.geometries.Geometry.{Geometry}
 use Rattle.std.proofs.lemmas.Bool.{eq-eqb}

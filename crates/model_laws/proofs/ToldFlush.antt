@@ -28,7 +28,7 @@ use Rattle.cache_model.specs.Due.{due_pieces}
 use Rattle.cache_model.specs.ToRead
 use Rattle.cache_model.specs.ToRead.{ComesTo}
 use Rattle.cache_model.specs.Outcomes.{AreOutcomes, Copied, Copy, NoRoom, Outcome, Refused, Spoiled, began_record, copies_of, flush_records, front_of, moved_record, moved_records, records_of, stopped_records}
-use Rattle.model_laws.proofs.Alike.{given_alike}
+use Rattle.model_laws.proofs.Alike.{ReadsAlike, given_alike, reads_back, reads_self}
 use Rattle.cache_model.proofs.Copies.{AreReady, IsReady, copied, copied_is, others_stand, rows_of, still_ready}
 use Rattle.cache_model.proofs.SoundFlush.{copies_part, copies_ready, due_part, front_aside, front_leaves, part_ready, stopped_aside}
 use Rattle.model_laws.proofs.Told.{listed_stays, told_aside, told_left, vectors_part}
@@ -53,14 +53,14 @@ pub record IsSaved (p : Permit) (s : State) (now left : ℕ) (c : Copy) : Type 0
 abbrev pub LeadsTo : Permit → State → ℕ → ℕ → State → ℕ → List Row → Type 0
 LeadsTo p s now left t behind rows = (row : Row) → ComesTo p row t behind rows → ComesTo p row s left (due_pieces s now)
 
-are_saved : (p : Permit) (s t : State) (now left behind : ℕ) (rows : List Row) (outcomes : List Outcome) → t.cursor ≡ s.cursor → LeadsTo p s now left t behind rows → AllByRecursion (IsListed s) rows → AllByRecursion (IsFound s) rows
+are_saved : (p : Permit) (s t : State) (now left behind : ℕ) (rows : List Row) (outcomes : List Outcome) → ReadsAlike s t → LeadsTo p s now left t behind rows → AllByRecursion (IsListed s) rows → AllByRecursion (IsFound s) rows
     → AreOutcomes p t behind rows outcomes → AllByRecursion (IsSaved p s now left) (copies_of rows outcomes)
 are_saved p s t now left behind [] outcomes same leads listed live h = tt
 are_saved p s t now left behind (row ∷ rows) [] same leads listed live h = tt
 are_saved p s t now left behind (row ∷ rows) (NoRoom ∷ outcomes) same leads listed live h =
     are_saved p s (after_all t (records_of row NoRoom)) now left behind rows outcomes same (λ piece c. leads piece (ToRead.ComesTo.behind NoRoom h.0 c)) listed.1 live.1 h.1
 are_saved p s t now left behind (row ∷ rows) (Copied bytes ∷ outcomes) same leads listed live h = (
-  record { comes = leads row (ToRead.ComesTo.here h.0.0); listed = listed.0; live = live.0; given = given_alike p t s row bytes (sym same) h.0.1; digest = h.0.2 },
+  record { comes = leads row (ToRead.ComesTo.here h.0.0); listed = listed.0; live = live.0; given = given_alike p t s row bytes (reads_back s t same) h.0.1; digest = h.0.2 },
   are_saved p s t now left (behind - row.blocks) rows outcomes same (λ piece c. leads piece (ToRead.ComesTo.behind (Copied bytes) h.0 c)) listed.1 live.1 h.1,
 )
 are_saved p s t now left behind (row ∷ rows) (Spoiled found ∷ outcomes) same leads listed live h =
@@ -144,7 +144,7 @@ flush_tells p s now left outcomes h told o =
     let opened : AreTold u = told_left m (began_record s) tt (vectors_part m u refl (part_all m.rows) before.vectors) before in
     let same : u.geometry ≡ s.geometry = (buffer_left s front (front_leaves rows outcomes)).0 in
     let apart : AreApart rows = apart-part (due_part s now) h.apart in
-    let saved : AllByRecursion (IsSaved p s now left) copies = are_saved p s s now left left rows outcomes refl (λ row c. c) (each_part (IsListed s) (due_part s now) told.vectors) (due_are_live s now h) o in
+    let saved : AllByRecursion (IsSaved p s now left) copies = are_saved p s s now left left rows outcomes (reads_self s) (λ row c. c) (each_part (IsListed s) (due_part s now) told.vectors) (due_are_live s now h) o in
     let ready : AreReady u.rows (rows_of copies) = copies_ready s rows outcomes apart (part_ready s rows h (due_part s now)) in
     subst (λ t. AreTold t ⊎ IsCopyPair IsVectorAs p s now left) (sym (after_all-append s front (began_record s ∷ moved_records u copies)))
     (all_told p s u now left copies same (apart-part (copies_part rows outcomes) apart) ready saved opened)

@@ -2,7 +2,6 @@
 use Rattle.std.proofs.Common.{◌≡◌, ℕ, List, length, refl, sym, ◌∙◌, ap, subst, arith, true, inl, inr}
 use Rattle.std.specs.Prelude.{Option, Some, None, not, option_and_then, option_map, unwrap_or}
 use Rattle.tape_base.specs.declared.keys.Key.{Key}
-use Rattle.tape_base.specs.Geometry.{budget_of}
 use Rattle.alternate_vector.specs.Field.{Field}
 use Rattle.fragment_table.specs.Table.{TableRow}
 use Rattle.cache_model.specs.declared.cause.Cause.{Cause}
@@ -15,19 +14,17 @@ use Rattle.cache_model.specs.State.{State, Row, PutRow, ReaderRow, live_row_of, 
 use Rattle.cache_model.specs.Verdict
 use Rattle.cache_model.specs.Verdict.{live_vector_of, next_piece, next_row}
 use Rattle.cache_model.specs.Permit.{Permit, Intent, Flush, Fragment, Weigh, Finish, Look, ReadOn, ReadAll, End}
-use Rattle.cache_model.specs.Due.{due_pieces}
-use Rattle.cache_model.specs.Outcomes.{AreOutcomes, Outcome}
 use Rattle.cache_model.specs.Room.{has_room, is_flush_exhausted}
 use Rattle.cache_model.specs.Given
 use Rattle.cache_model.specs.Legal
 use Rattle.cache_model.specs.Given.{IsRead, IsReadWhereLive, Trouble}
 use Rattle.cache_model.specs.Legal.{CanFlush, Does, IsLookup, IsReading, MakesRoom, MayReadOn, ReadTrouble, live_next, vector_length}
 use Rattle.model_laws.specs.Choices
-use Rattle.model_laws.specs.Choices.{AreDueTried, IsTried, IsTriedWhereLive, WasRead}
+use Rattle.model_laws.specs.Choices.{AreDueTried, IsFlushTried, IsTried, IsTriedWhereLive, WasRead}
 use Rattle.cache_model.specs.ToRead.{to_read}
 use Rattle.cache_model.proofs.Found.{end_gives_none, no_truth}
 use Rattle.model_laws.proofs.Answered.{given_in}
-use Rattle.model_laws.proofs.TriedFlush.{DueIsTried, outcomes_are_tried}
+use Rattle.model_laws.proofs.TriedFlush.{made_is_tried, stopped_is_tried}
 
 -- ---- tried
 
@@ -84,25 +81,22 @@ asked_is_tried p s _ added e d = tt
 
 -- ---- what a flush is to copy
 
-flush_is_tried : (p : Permit) (s : State) (outcomes : List Outcome) → AreOutcomes p s (budget_of s.geometry) (due_pieces s p.now) outcomes → DueIsTried p s
-flush_is_tried p s outcomes are = outcomes_are_tried p s (budget_of s.geometry) (due_pieces s p.now) outcomes are
-
-exhausted_not : (p : Permit) (s : State) → is_flush_exhausted s ≡ true → CanFlush s → DueIsTried p s
+exhausted_not : (p : Permit) (s : State) → is_flush_exhausted s ≡ true → CanFlush s → IsFlushTried p s
 exhausted_not p s high can = no_truth (sym high ∙ can.below)
 
 -- what has room is placed without one
-room_not : (p : Permit) (s : State) (bytes : ℕ) → has_room s bytes ≡ true → not (has_room s bytes) ≡ true → DueIsTried p s
+room_not : (p : Permit) (s : State) (bytes : ℕ) → has_room s bytes ≡ true → not (has_room s bytes) ≡ true → IsFlushTried p s
 room_not p s bytes room first = no_truth (sym first ∙ ap not room)
 
-room_is_tried : (p : Permit) (s : State) (bytes : ℕ) (added : List Rec) (e : End) → MakesRoom p s bytes added e → CanFlush s → DueIsTried p s
-room_is_tried p s bytes added e (Legal.MakesRoom.flushes none m) can = flush_is_tried p s m.outcomes m.are
-room_is_tried p s bytes added e (Legal.MakesRoom.stops count none m) can = flush_is_tried p s m.outcomes m.are
+room_is_tried : (p : Permit) (s : State) (bytes : ℕ) (added : List Rec) (e : End) → MakesRoom p s bytes added e → CanFlush s → IsFlushTried p s
+room_is_tried p s bytes added e (Legal.MakesRoom.flushes none m) can = made_is_tried p s added m
+room_is_tried p s bytes added e (Legal.MakesRoom.stops count none m) can = stopped_is_tried p s count added m
 room_is_tried p s bytes added e (Legal.MakesRoom.exhausted none high is) can = exhausted_not p s high can
 
 due_is_tried : (p : Permit) (s : State) (i : Intent) (added : List Rec) (e : End) → Does p s i added e → AreDueTried p s i
 due_is_tried p s Flush added e (Legal.DoesFlush.empty q none is) first can = let some = can.filled in absurd (omega (arith, none, some))
-due_is_tried p s Flush added e (Legal.DoesFlush.flushes m) first can = flush_is_tried p s m.outcomes m.are
-due_is_tried p s Flush added e (Legal.DoesFlush.stops count m) first can = flush_is_tried p s m.outcomes m.are
+due_is_tried p s Flush added e (Legal.DoesFlush.flushes m) first can = made_is_tried p s added m
+due_is_tried p s Flush added e (Legal.DoesFlush.stops count m) first can = stopped_is_tried p s count added m
 due_is_tried p s Flush added e (Legal.DoesFlush.exhausted q some high is) first can = exhausted_not p s high can
 due_is_tried p s (Fragment put index payload) added e (Legal.DoesFragment.places d m) first can = room_not p s (length payload) m.place.room first
 due_is_tried p s (Fragment put index payload) added e (Legal.DoesFragment.rooms w n m) first can = room_is_tried p s (length payload) added e m can

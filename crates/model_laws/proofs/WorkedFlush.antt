@@ -1,6 +1,8 @@
 -- Flushes that were worked by hand, computed by the definitions.
 use Rattle.std.specs.Prelude.{ℕ, ◌≡◌, refl, Bool, true, false, List, [], ◌∷◌, map, None}
+use Rattle.std.proofs.Common.{inl, inr}
 use Rattle.std.proofs.Math.Dec.{lit≤, lit<}
+use Rattle.device_log.specs.Calls.{RefusedCall, ToRead}
 use Rattle.tape_base.specs.declared.keys.Key.{Key}
 use Rattle.tape_base.specs.declared.digests.Digest.{Digest}
 use Rattle.tape_base.specs.declared.geometries.Geometry.{Geometry}
@@ -85,13 +87,13 @@ pub one_that_does_not_fit_leaves_the_budget : kept_within 4 (map (λ (row : Row)
 one_that_does_not_fit_leaves_the_budget = refl
 
 abbrev none_read : Permit
-none_read = record { packed = false; now = 0; faults_before = 0; faults = 2; reads = [] }
+none_read = record { packed = false; now = 0; area = 0; events = RefusedCall (ToRead 5 1) 2 ∷ RefusedCall (ToRead 0 3) 1 ∷ [] }
 
 -- a read that is refused uses the budget too
 pub two_are_refused : AreOutcomes none_read (at_120 pinned []) 4 pinned (Refused 1 ∷ NoRoom ∷ Refused 2 ∷ [])
 two_are_refused = (
-  (lit≤ tt, lit< tt, record { rose = lit≤ tt; reached = lit≤ tt }),
-  (lit< tt, ((lit≤ tt, lit< tt, record { rose = lit≤ tt; reached = lit≤ tt }), tt)),
+  (lit≤ tt, lit< tt, record { rose = lit≤ tt; refused = inr (inl refl) }),
+  (lit< tt, ((lit≤ tt, lit< tt, record { rose = lit≤ tt; refused = inl refl }), tt)),
 )
 
 -- ---- the records

@@ -24,7 +24,7 @@ is_trouble _ = false
 abbrev pub IsUntroubled : List Rec → Type 0
 IsUntroubled added = AllByRecursion (λ (r : Rec). is_trouble r ≡ false) added
 
--- both directories displace nothing, and pins are weighed by one moment; of faults and reads nothing is said
+-- both directories displace nothing, and pins are weighed by one moment; of their areas and calls nothing is said
 pub record AreLike (p q : Permit) : Type 0 where
   pub one : p.packed ≡ false
   pub other : q.packed ≡ false
@@ -60,7 +60,7 @@ OtherCopiesAreBytes = (p q : Permit) (s : State) (left : ℕ) (c : IsOtherCopy p
     → IsBytes (take (extent_of c.one) c.one) × IsBytes (take (extent_of c.other) c.other)
 
 -- two groups that tell no trouble, for what is asked in one state of like devices, are the same and end alike,
--- whatever else the devices gave and counted, or such a piece is shown
+-- whatever else the devices gave and refused, or such a piece is shown
 abbrev pub GroupsAgree : Type 0
 GroupsAgree = (p q : Permit) (s : State) (i : Intent) (one other : List Rec) (e f : End) → AreLike p q → IsUntroubled one → IsUntroubled other
     → Does p s i one e → Does q s i other f → ((one ≡ other) × (e ≡ f)) ⊎ IsOtherAsked p q s i

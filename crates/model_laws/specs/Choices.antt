@@ -2,6 +2,7 @@
 -- least wherever it may be asked; and what a group has read.
 use Rattle.std.specs.Prelude.{ℕ, ◌≡◌, ◌-◌, ◌*◌, ◌^◌, ◌<◌, ◌≤◌, ◌⊎◌, true, false, List, [], ◌∷◌, length, Option, Some, None}
 use Rattle.hex.specs.Hex.{IsBytes}
+use Rattle.device_log.specs.Calls.{Read}
 use Rattle.tape_base.specs.declared.keys.Key.{Key}
 use Rattle.tape_base.specs.declared.pieces.PieceId.{PieceId}
 use Rattle.tape_base.specs.declared.actors.Actor.{Actor}
@@ -18,24 +19,23 @@ use Rattle.cache_model.specs.Verdict.{live_vector_of, next_piece, next_row}
 use Rattle.cache_model.specs.Permit.{Permit, IsAmong, Intent, Flush, Write, Fragment, Overflow, Weigh, Finish, Commit, GiveUp, Remove, Look, ReadOn, ReadAll, StopReading, End}
 use Rattle.cache_model.specs.Due.{due_pieces}
 use Rattle.cache_model.specs.Tape.{IsSound}
-use Rattle.cache_model.specs.Given.{IsGiven, IsWritten, MayCount}
+use Rattle.cache_model.specs.Given.{CountsRead, CountsWrite, IsGiven, IsWritten, TakesBuffer, block_at, counts_in}
 use Rattle.cache_model.specs.ToRead.{flushes_first, to_read}
 use Rattle.cache_model.specs.Legal.{CanFlush, Does, IsCut, IsNext, IsLookup, IsQuiet, IsReading, IsWriting, most_fragments}
 
 -- ---- one at most
 
--- as many bytes as the device gave twice at one place in the step are the same
+-- as many bytes as the device gave twice from one block on in the step are the same
 abbrev pub GivesOnce : Permit → Type 0
-GivesOnce p = (place : ℕ) (one other : List ℕ) → IsAmong (record { place = place; bytes = one }) p.reads → IsAmong (record { place = place; bytes = other }) p.reads
+GivesOnce p = (at : ℕ) (one other : List ℕ) → IsAmong (Read at one) p.events → IsAmong (Read at other) p.events
     → length one ≡ length other → one ≡ other
 
--- the directory displaces nothing, the device refuses nothing in the step, what it gives at a place is
+-- the directory displaces nothing, the device refuses no call in the step, what it gives from a block on is
 -- one string of bytes, and for a live piece it is what was kept of it, and what the table of a reader
 -- that comes to it lists
 pub record IsFaithful (p : Permit) (s : State) : Type 0 where
   pub displaces_nothing : p.packed ≡ false
-  pub counted : p.faults ≤ p.faults_before
-  pub countable : p.faults_before < 2 ^ 64 - 1
+  pub unrefused : counts_in p.events ≡ []
   pub once : GivesOnce p
   pub kept : (id : PieceId) (row : Row) (bytes : List ℕ) → live_row_of s id ≡ Some row → IsGiven p s row bytes → row.digest ≡ document_digest bytes
   pub listed : (reader : ℕ) (r : ReaderRow) (entry : TableRow) (row : Row) (bytes : List ℕ) → reader_of s reader ≡ Some r → next_row s r ≡ Some entry
@@ -52,7 +52,7 @@ GroupIsFixed = (p : Permit) (s : State) (i : Intent) (one other : List Rec) (e f
 pub data IsTried (p : Permit) (s : State) (row : Row) : Type 0 where
   buffered : s.cursor ≤ row.place → IsTried p s row
   given : (bytes : List ℕ) → IsGiven p s row bytes → IsTried p s row
-  refused : (count : ℕ) → IsWritten s row → MayCount p s count → IsTried p s row
+  refused : (count : ℕ) → IsWritten s row → CountsRead p s row count → IsTried p s row
 
 -- what is asked for was tried, where it is live
 abbrev pub IsTriedWhereLive : Permit → State → Option Row → Type 0
@@ -64,25 +64,37 @@ abbrev pub with_fault : ℕ → State → State
 with_fault count s = record s { fault = count }
 
 -- the pieces within the budget were tried one behind the other: the device gave bytes for a piece,
--- whatever they are, or refused it with a count that rose above those before
-pub data AreTried (p : Permit) : State → ℕ → List Row → Type 0 where
-  nothing : {s : State} {left : ℕ} → AreTried p s left []
-  no_room : {s : State} {left : ℕ} {row : Row} {rows : List Row} → left < row.blocks → AreTried p s left rows → AreTried p s left (row ∷ rows)
-  given : {s : State} {left : ℕ} {row : Row} {rows : List Row} (bytes : List ℕ) → row.blocks ≤ left → IsGiven p s row bytes
-      → AreTried p s (left - row.blocks) rows → AreTried p s left (row ∷ rows)
-  refused : {s : State} {left : ℕ} {row : Row} {rows : List Row} (count : ℕ) → row.blocks ≤ left → IsWritten s row → MayCount p s count
-      → AreTried p (with_fault count s) (left - row.blocks) rows → AreTried p s left (row ∷ rows)
+-- whatever they are, or refused it with a count that rose above those before; the last state has the last of these
+pub data AreTried (p : Permit) : State → ℕ → List Row → State → Type 0 where
+  nothing : {s : State} {left : ℕ} → AreTried p s left [] s
+  no_room : {s t : State} {left : ℕ} {row : Row} {rows : List Row} → left < row.blocks
+      → AreTried p s left rows t → AreTried p s left (row ∷ rows) t
+  given : {s t : State} {left : ℕ} {row : Row} {rows : List Row} (bytes : List ℕ) → row.blocks ≤ left → IsGiven p s row bytes
+      → AreTried p s (left - row.blocks) rows t → AreTried p s left (row ∷ rows) t
+  refused : {s t : State} {left : ℕ} {row : Row} {rows : List Row} (count : ℕ) → row.blocks ≤ left → IsWritten s row
+      → CountsRead p s row count → AreTried p (with_fault count s) (left - row.blocks) rows t → AreTried p s left (row ∷ rows) t
 
 -- the device gave some bytes for the piece in the step, in one read of its blocks
-pub record HasBytes (p : Permit) (row : Row) : Type 0 where
+pub record HasBytes (p : Permit) (s : State) (row : Row) : Type 0 where
   pub bytes : List ℕ
-  pub given : IsAmong (record { place = row.place; bytes = bytes }) p.reads
+  pub given : IsAmong (Read (block_at p s row.place) bytes) p.events
   pub whole : length bytes ≡ 512 * row.blocks
   pub of_bytes : IsBytes bytes
 
--- where the flush may be made, what it is to copy was tried within the budget
+-- the device took the buffer, or refused it with a count that rose above that of the last fault before it
+pub data IsBufferTried (p : Permit) (s behind : State) : Type 0 where
+  taken : TakesBuffer p s → IsBufferTried p s behind
+  refused : (count : ℕ) → CountsWrite p behind count → IsBufferTried p s behind
+
+-- a flush was tried: what it is to copy within the budget, and behind that the buffer
+pub record IsFlushTried (p : Permit) (s : State) : Type 0 where
+  pub behind : State
+  pub due : AreTried p s (budget_of s.geometry) (due_pieces s p.now) behind
+  pub buffer : IsBufferTried p s behind
+
+-- where what is asked begins with a flush that may be made, that was tried
 abbrev pub AreDueTried : Permit → State → Intent → Type 0
-AreDueTried p s i = flushes_first s i ≡ true → CanFlush s → AreTried p s (budget_of s.geometry) (due_pieces s p.now)
+AreDueTried p s i = flushes_first s i ≡ true → CanFlush s → IsFlushTried p s
 
 -- an actor has this number
 abbrev pub IsActor : ℕ → Type 0
@@ -126,7 +138,7 @@ AskedIsAnswered = (p : Permit) (s : State) (i : Intent) → IsSound s → MayAsk
 -- ---- what was read
 
 -- what has to be read for an answer was in the buffer, or was read or refused in the step, and so was
--- what a flush is to copy
+-- what a flush is to copy, and the buffer that it writes out was taken or refused
 abbrev pub AnsweredIsTried : Type 0
 AnsweredIsTried = (p : Permit) (s : State) (i : Intent) (added : List Rec) (e : End) → Does p s i added e
     → IsTriedWhereLive p s (to_read s i) × AreDueTried p s i

@@ -6,6 +6,7 @@ use Rattle.tape_base.specs.Geometry.{budget_of}
 use Rattle.evacuator.specs.Choice.{kept_within}
 use Rattle.cache_model.specs.State.{State, Row, after_all, floor_next, floor_now, live_row_of}
 use Rattle.model_laws.specs.Choices.{AreTried, HasBytes, IsFaithful}
+use Rattle.device_log.specs.Calls.{Asked}
 use Rattle.cache_model.specs.Given.{MayCount}
 use Rattle.model_laws.specs.StepLaws.{AllAlong, IsBacked, IsRisen}
 use Rattle.cache_model.specs.Tape.{IsSound}
@@ -65,26 +66,26 @@ FrontIsBacked = (p : Permit) (s : State) (left : ℕ) (rows : List Row) (outcome
 
 -- so it is in a flush that stops, for one more refusal
 abbrev pub StoppedIsBacked : Type 0
-StoppedIsBacked = (p : Permit) (s : State) (left : ℕ) (rows : List Row) (outcomes : List Outcome) (count : ℕ) → AreOutcomes p s left rows outcomes
-    → MayCount p (after_all s (stopped_front_of rows outcomes)) count
+StoppedIsBacked = (p : Permit) (s : State) (left : ℕ) (rows : List Row) (outcomes : List Outcome) (asked : Asked) (count : ℕ)
+    → AreOutcomes p s left rows outcomes → MayCount p (after_all s (stopped_front_of rows outcomes)) asked count
     → AllAlong (IsRisen p) s (stopped_records rows outcomes count) × AllAlong (IsBacked p) s (stopped_records rows outcomes count)
 
 -- ---- the outcomes
 
 -- what was tried has outcomes
 abbrev pub OutcomesAreFound : Type 0
-OutcomesAreFound = (p : Permit) (s : State) (left : ℕ) (rows : List Row) → AreTried p s left rows
+OutcomesAreFound = (p : Permit) (s behind : State) (left : ℕ) (rows : List Row) → AreTried p s left rows behind
     → (outcomes : List Outcome) × AreOutcomes p s left rows outcomes
 
 -- and what has outcomes was tried
 abbrev pub OutcomesAreTried : Type 0
 OutcomesAreTried = (p : Permit) (s : State) (left : ℕ) (rows : List Row) (outcomes : List Outcome) → AreOutcomes p s left rows outcomes
-    → AreTried p s left rows
+    → (behind : State) × AreTried p s left rows behind
 
 -- on a sound tape it is enough that the device gave bytes for each piece that is due
 abbrev pub GivenAreTried : Type 0
-GivenAreTried = (p : Permit) (s : State) (now left : ℕ) → IsSound s → AllByRecursion (HasBytes p) (due_pieces s now)
-    → AreTried p s left (due_pieces s now)
+GivenAreTried = (p : Permit) (s : State) (now left : ℕ) → IsSound s → AllByRecursion (HasBytes p s) (due_pieces s now)
+    → AreTried p s left (due_pieces s now) s
 
 -- on a sound tape and a faithful device, what is due has one list of outcomes
 abbrev pub OutcomesAreFixed : Type 0

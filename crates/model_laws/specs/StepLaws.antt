@@ -1,7 +1,8 @@
 -- What a step does with what it is asked, whatever records come of it.
-use Rattle.std.specs.Prelude.{ℕ, ◌≡◌, ◌≢◌, ◌+◌, ◌<◌, ◌≤◌, ◌==◌, ◌⊎◌, Bool, true, false, List, [], ◌∷◌, length, Option, Some, None}
+use Rattle.std.specs.Prelude.{ℕ, ◌≡◌, ◌≢◌, ◌+◌, ◌<◌, ◌==◌, ◌⊎◌, Bool, true, false, List, [], ◌∷◌, length, Option, Some, None}
 use Rattle.std.specs.List.{AllByRecursion}
 use Rattle.edge_io.specs.Causes.{Rose}
+use Rattle.device_log.specs.Calls.{Asked, Read, RefusedCall}
 use Rattle.tape_base.specs.declared.keys.Key.{Key}
 use Rattle.tape_base.specs.declared.digests.Digest.{Digest}
 use Rattle.tape_base.specs.declared.actors.Actor.{Actor}
@@ -17,6 +18,7 @@ use Rattle.cache_model.specs.State.{State, Row, PutRow, state_after, after_all, 
 use Rattle.cache_model.specs.Verdict.{live_vector_of}
 use Rattle.cache_model.specs.Permit.{Permit, IsAmong, Intent, Flush, Fragment, Weigh, Finish, GiveUp, Remove, Look, ReadAll, StopReading, Reason, End, Done, Fails, Work, work_after}
 use Rattle.cache_model.specs.Room.{limit, has_room}
+use Rattle.cache_model.specs.Given.{block_at}
 use Rattle.cache_model.specs.Legal.{Does, IsStep, MayGrow, is_writing, size_alone}
 
 -- what is asked is done by one group of records, and not by several
@@ -116,9 +118,13 @@ abbrev pub NumbersFollow : Type 0
 NumbersFollow = (p : Permit) (s : State) (intents : List Intent) (added : List Rec) (why : Option Reason)
     → IsStep p s intents added why → AllAlong IsNumbered s added
 
--- a fault's count rose above that of the last fault, and above that before the step
+-- some call that the device refused in the step has this count behind it
+abbrev pub IsCounted : Permit → ℕ → Type 0
+IsCounted p count = (asked : Asked) × IsAmong (RefusedCall asked count) p.events
+
+-- a fault's count rose above that of the last fault, and is that of a call that was refused in the step
 abbrev pub IsRisen : Permit → State → Rec → Type 0
-IsRisen p s (rec.Fault count) = Rose s.fault count × Rose p.faults_before count
+IsRisen p s (rec.Fault count) = Rose s.fault count × IsCounted p count
 IsRisen p s _ = Unit {0}
 
 -- each fault is a new one
@@ -126,17 +132,17 @@ abbrev pub FaultsRise : Type 0
 FaultsRise = (p : Permit) (s : State) (intents : List Intent) (added : List Rec) (why : Option Reason)
     → IsStep p s intents added why → AllAlong (IsRisen p) s added
 
--- a digest of bytes that the device gave in the step: of a document, or of its payload
-pub record IsOfGiven (p : Permit) (place : ℕ) (found : Digest) : Type 0 where
+-- a digest of bytes that the device gave in the step from the block of a place on: of a document, or of its payload
+pub record IsOfGiven (p : Permit) (s : State) (place : ℕ) (found : Digest) : Type 0 where
   pub bytes : List ℕ
-  pub given : IsAmong (record { place = place; bytes = bytes }) p.reads
+  pub given : IsAmong (Read (block_at p s place) bytes) p.events
   pub digest : (found ≡ document_digest bytes) ⊎ (found ≡ digest_of (payload_of bytes))
 
 -- a piece is damaged only where the device gave bytes for it in this step with another digest than
--- the one that was kept, and a fault is recorded only with a count that the device reached
+-- the one that was kept, and a fault is recorded only with the count of a call that was refused in it
 abbrev pub IsBacked : Permit → State → Rec → Type 0
-IsBacked p s (rec.Damaged piece place kept found) = IsOfGiven p place found × (kept ≢ found)
-IsBacked p s (rec.Fault count) = count ≤ p.faults
+IsBacked p s (rec.Damaged piece place kept found) = IsOfGiven p s place found × (kept ≢ found)
+IsBacked p s (rec.Fault count) = IsCounted p count
 IsBacked p s _ = Unit {0}
 
 -- damage and faults are recorded only where the device did what they say

@@ -1,5 +1,5 @@
 -- Two runs of the same lines print the same, or a line of them shows two documents of one SHA-256.
-use Rattle.std.proofs.Common.{◌≡◌, ℕ, List, [], ◌∷◌, ◌++◌, ◌⊎◌, refl, sym, ◌∙◌, ap, subst, inl, inr}
+use Rattle.std.proofs.Common.{◌≡◌, ℕ, List, [], ◌∷◌, ◌++◌, ◌⊎◌, refl, sym, ◌∙◌, ap, inl, inr}
 use Rattle.std.specs.Prelude.{Option, Some, None}
 use Rattle.std.proofs.lemmas.List.Elements.{All-head}
 use Rattle.tape_base.specs.declared.geometries.BadGeometry.{BadGeometry}
@@ -13,24 +13,25 @@ use Rattle.script_lang.specs.declared.line.LineAnswer.{LineAnswer}
 use Rattle.script_lang.specs.declared.line.LineAnswer.TheVariants as line
 use Rattle.script_lang.specs.Grammar.{reading_of}
 use Rattle.script_lang.specs.Texts.{answer_line}
-use Rattle.script_run.specs.Run.{Harm, Run, no_harm}
+use Rattle.script_run.specs.Run.{Harm, IsHarmless, Run}
 use Rattle.script_run.specs.Turn.{Turn}
 use Rattle.script_run.specs.Asked.{asked}
 use Rattle.script_run.specs.Answers.{format_said, session_said, step_said}
 use Rattle.script_run.specs.Behind.{after_format, after_line, after_reading, behind, harm_in, in_session}
 use Rattle.script_run.specs.Takes.{IsRun, LineTakes, ReadingTakes, SessionTakes, Takes, line_text, output_of, reading_text, run_after}
-use Rattle.script_laws.specs.Agreeing.{AreSame, NoneHarmed, ReadingShowsOther, ShowsOtherAlong, StepShowsOther}
+use Rattle.script_laws.specs.Agreeing.{AreSame, NoneHarmed, ReadingShowsOther, ShowsOtherAlong, StepShowsOther, uncalled}
 use Rattle.script_laws.proofs.Runs.{all_behind, harmless_before}
 use Rattle.script_laws.proofs.Untroubled.{step_untroubled}
 use Rattle.script_laws.proofs.Formats.{same_format}
+use Rattle.script_laws.proofs.Uncalled.{harmless_too, leaves_too, legal_too, prints_too}
 use Rattle.script_laws.proofs.Alike.{DoTheSame, same_given, same_left, same_said}
 
 -- ---- the first line, and those behind it
 
--- a line prints the same and leaves the same in two turns
+-- a line prints the same in two turns, and leaves the same but for the calls
 record IsSameLine (text other_text : List ℕ) (next other_next : Run) : Type 0 where
   printed : text ≡ other_text
-  left : next ≡ other_next
+  left : uncalled next ≡ uncalled other_next
 
 -- so it is with a line that is read so
 abbrev ReadsTheSame : Run → Turn → Turn → LineAnswer → Type 0
@@ -41,8 +42,8 @@ all_same : (run : Run) (a b : Turn) (bytes : List ℕ) (lines : List (List ℕ))
 all_same run a b bytes lines one other same rest = record {
   output =
       ap (λ (text : List ℕ). text ++ output_of (after_line run a bytes) lines one) same.printed
-      ∙ ap (λ (output : List ℕ). line_text run b bytes ++ output) (rest.output ∙ ap (λ (next : Run). output_of next lines other) same.left);
-  left = rest.left ∙ ap (λ (next : Run). run_after next lines other) same.left;
+      ∙ ap (λ (output : List ℕ). line_text run b bytes ++ output) (rest.output ∙ prints_too (after_line run a bytes) (after_line run b bytes) lines other same.left);
+  left = rest.left ∙ leaves_too (after_line run a bytes) (after_line run b bytes) lines other same.left;
 }
 
 shown_here : (run : Run) (a b : Turn) (bytes : List ℕ) (lines : List (List ℕ)) (one other : List Turn) → ReadingShowsOther a b run (reading_of bytes)
@@ -82,7 +83,7 @@ shown_later run a b bytes lines one other takes other_takes same v = record {
   other_rest = v.other_rest;
   other_is = ap (λ (xs : List Turn). b ∷ xs) v.other_is;
   legal = (takes, v.legal);
-  other_legal = (other_takes, subst (λ (next : Run). IsRun next v.before v.other_earlier) same.left v.other_legal);
+  other_legal = (other_takes, legal_too (after_line run a bytes) (after_line run b bytes) v.before v.other_earlier same.left v.other_legal);
   same = all_same run a b bytes v.before v.earlier v.other_earlier same v.same;
   shows = v.shows;
 }
@@ -91,10 +92,9 @@ shown_later run a b bytes lines one other takes other_takes same v = record {
 
 untroubled : (run : Run) (s : State) (turn : Turn) (step : Step) → SessionTakes run s turn step → NoneHarmed (in_session run s (after_all s turn.added) turn step) → IsUntroubled turn.added
 untroubled run s turn step takes clean =
-    let none : Harm → Type 0 = λ (harm : Harm). harm ≡ no_harm in
-    let last : Harm = harm_in (after_all s turn.added) in
-    let told : last ≡ no_harm = All-head none last [] (all_behind none run.ended (last ∷ []) clean) in
-    step_untroubled turn.device s (asked run s step) turn.added turn.refused takes.legal told
+    let last : Harm = harm_in (turn.device.events ++ run.calls) (after_all s turn.added) in
+    let told : IsHarmless last = All-head IsHarmless last [] (all_behind IsHarmless run.ended (last ∷ []) clean) in
+    step_untroubled turn.device (turn.device.events ++ run.calls) s (asked run s step) turn.added turn.refused takes.legal told
 
 module _ (agree : StepsAgree) where
   same_session : (run : Run) (s : State) (a b : Turn) (step : Step) → SessionTakes run s a step → SessionTakes run s b step
@@ -119,7 +119,7 @@ module _ (agree : StepsAgree) where
   same_step run a b o (step.Format name segments buckets content agg reach fragment generation alternates) takes other_takes clean other_clean =
       let bad : Option BadGeometry = first_refusal segments buckets content agg reach fragment alternates in
       let same : a.added ≡ b.added = same_format a.added b.added segments buckets content agg reach fragment generation alternates bad takes other_takes in
-      inl (record { printed = ap (λ (added : List Rec). answer_line (format_said added bad)) same; left = ap (λ (added : List Rec). after_format run name added bad) same })
+      inl (record { printed = ap (λ (added : List Rec). answer_line (format_said added bad)) same; left = ap (λ (added : List Rec). uncalled (after_format run name added bad)) same })
   same_step run a b o (step.Now at) takes other_takes clean other_clean = inl (record { printed = refl; left = refl })
   same_step run a b (Some s) step takes other_takes clean other_clean = same_session run s a b step takes other_takes clean other_clean
   same_step run a b None step takes other_takes clean other_clean = absurd takes
@@ -145,8 +145,10 @@ module _ (agree : StepsAgree) where
       let other_here : NoneHarmed (after_line run b bytes) = harmless_before (after_line run b bytes) lines other other_legal.1 other_clean in
       elim (same_reading run a b (reading_of bytes) legal.0 other_legal.0 here other_here) [
         | inl same ↦
-            let later_legal : IsRun (after_line run a bytes) lines other = subst (λ (next : Run). IsRun next lines other) (sym same.left) other_legal.1 in
-            let later_clean : NoneHarmed (run_after (after_line run a bytes) lines other) = subst (λ (next : Run). NoneHarmed (run_after next lines other)) (sym same.left) other_clean in
+            let later_legal : IsRun (after_line run a bytes) lines other = legal_too (after_line run b bytes) (after_line run a bytes) lines other (sym same.left) other_legal.1 in
+            let later_clean : NoneHarmed (run_after (after_line run a bytes) lines other) =
+            harmless_too (run_after (after_line run b bytes) lines other) (run_after (after_line run a bytes) lines other)
+            (leaves_too (after_line run b bytes) (after_line run a bytes) lines other (sym same.left)) other_clean in
             elim (output_is_fixed (after_line run a bytes) lines one other legal.1 later_legal clean later_clean) [
               | inl rest ↦ inl (all_same run a b bytes lines one other same rest)
               | inr shows ↦ inr (shown_later run a b bytes lines one other legal.0 other_legal.0 same shows)

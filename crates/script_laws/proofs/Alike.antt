@@ -15,6 +15,7 @@ use Rattle.script_run.specs.Turn.{Turn, lookup_in, told_in}
 use Rattle.script_run.specs.Answers.{session_said}
 use Rattle.script_run.specs.Behind.{in_session}
 use Rattle.script_run.specs.Own.{piece_of}
+use Rattle.script_laws.specs.Agreeing.{uncalled}
 use Rattle.script_run.specs.Takes.{GivesOwn, IsBody, IsNextPiece, IsPiece}
 
 -- ---- the bytes that are given
@@ -59,7 +60,7 @@ said_with : (run : Run) (s t : State) (turn : Turn) (p : Permit) (step : Step) �
 said_with run s t turn p (step.Format name segments buckets content agg reach fragment generation alternates) = refl
 said_with run s t turn p _ = refl
 
-left_with : (run : Run) (s t : State) (turn : Turn) (p : Permit) (step : Step) → in_session run s t turn step ≡ in_session run s t (with_device turn p) step
+left_with : (run : Run) (s t : State) (turn : Turn) (p : Permit) (step : Step) → uncalled (in_session run s t turn step) ≡ uncalled (in_session run s t (with_device turn p) step)
 left_with run s t turn p (step.Format name segments buckets content agg reach fragment generation alternates) = refl
 left_with run s t turn p _ = refl
 
@@ -67,6 +68,6 @@ pub same_said : (run : Run) (s : State) (a b : Turn) (step : Step) → DoTheSame
 same_said run s a b step same =
     said_with run s (after_all s a.added) a b.device step ∙ ap (λ (turn : Turn). session_said run s (after_all s turn.added) turn step) (as_other a b same)
 
-pub same_left : (run : Run) (s : State) (a b : Turn) (step : Step) → DoTheSame a b → in_session run s (after_all s a.added) a step ≡ in_session run s (after_all s b.added) b step
+pub same_left : (run : Run) (s : State) (a b : Turn) (step : Step) → DoTheSame a b → uncalled (in_session run s (after_all s a.added) a step) ≡ uncalled (in_session run s (after_all s b.added) b step)
 same_left run s a b step same =
-    left_with run s (after_all s a.added) a b.device step ∙ ap (λ (turn : Turn). in_session run s (after_all s turn.added) turn step) (as_other a b same)
+    left_with run s (after_all s a.added) a b.device step ∙ ap (λ (turn : Turn). uncalled (in_session run s (after_all s turn.added) turn step)) (as_other a b same)

@@ -1,7 +1,8 @@
 -- What each group of records keeps, and what it tells.
-use Rattle.std.proofs.Common.{◌≡◌, ℕ, ◌+◌, ◌-◌, ◌^◌, ◌≤◌, List, [], ◌∷◌, ◌++◌, refl, sym, ◌∙◌, subst, arith, inl, Bool, true, false}
-use Rattle.std.specs.Prelude.{Some, None, cond, map, max, min}
+use Rattle.std.proofs.Common.{◌≡◌, ℕ, ◌+◌, ◌-◌, ◌^◌, ◌<◌, ◌≤◌, List, [], ◌∷◌, ◌++◌, refl, sym, ◌∙◌, subst, arith, inl, Bool, true, false}
+use Rattle.std.specs.Prelude.{Some, None, cond, map, min}
 use Rattle.std.specs.List.{AllByRecursion}
+use Rattle.device_log.specs.Calls.{Asked}
 use Rattle.tape_base.specs.declared.actors.Actor.{Actor}
 use Rattle.tape_base.specs.declared.keys.Key.{Key}
 use Rattle.tape_base.specs.declared.pieces.PieceId.{PieceId}
@@ -27,7 +28,7 @@ use Rattle.cache_model.specs.Legal.{Does, answer_record, is_given}
 use Rattle.cache_model.proofs.Found.{none_is}
 use Rattle.script_laws.specs.Causes
 use Rattle.script_laws.specs.Causes.{IsGivenBy, IsTraced, cause_given, cause_told}
-use Rattle.script_laws.specs.Troubles.{IsCounted}
+use Rattle.model_laws.specs.StepLaws.{IsCounted}
 use Rattle.cache_model.proofs.Steps.{all_append, all_as}
 use Rattle.script_laws.proofs.Among.{among_right}
 use Rattle.script_laws.proofs.Losses.{given_left}
@@ -43,11 +44,11 @@ EndIsRecorded added (Fails (Faulted count)) = IsAmong (rec.Fault count) added
 EndIsRecorded added _ = Unit {0}
 
 module _ (p : Permit) where
-  -- the record begins no session, and the device counted a fault in the step
+  -- the record begins no session, and a fault is a call that was refused in the step, with a count above 0
   abbrev pub IsKept : Rec → Type 0
   IsKept (rec.Formatted geometry) = ⊥
   IsKept (rec.Opened geometry serial cursor floor next_put clean list) = ⊥
-  IsKept (rec.Fault count) = IsCounted p count
+  IsKept (rec.Fault count) = IsCounted p count × (0 < count)
   IsKept _ = Unit {0}
 
   pub record IsGroup (s : State) (added : List Rec) (e : End) : Type 0 where
@@ -79,12 +80,12 @@ module _ (p : Permit) where
 
   -- ---- faults
 
-  counted : (s : State) (count : ℕ) → Given.MayCount p s count → IsCounted p count
-  counted s count m =
-      let rose : min (max p.faults_before s.fault + 1) (2 ^ 64 - 1) ≤ count = m.rose in
-      record { risen = omega (arith, rose); reached = m.reached }
+  counted : {asked : Asked} (s : State) (count : ℕ) → Given.MayCount p s asked count → IsKept (rec.Fault count)
+  counted {asked} s count m =
+      let rose : min (s.fault + 1) (2 ^ 64 - 1) ≤ count = m.rose in
+      ((asked, m.refused), omega (arith, rose))
 
-  fault : (s : State) (count : ℕ) (added : List Rec) → Given.MayCount p s count → added ≡ rec.Fault count ∷ [] → IsGroup s added (Fails (Faulted count))
+  fault : {asked : Asked} (s : State) (count : ℕ) (added : List Rec) → Given.MayCount p s asked count → added ≡ rec.Fault count ∷ [] → IsGroup s added (Fails (Faulted count))
   fault s count added m is = silent s added (rec.Fault count ∷ []) (Fails (Faulted count)) is (inl refl) ((counted s count m, refl), tt)
 
   -- ---- what comes before an answer
@@ -227,7 +228,7 @@ module _ (p : Permit) where
       let front : List Rec = stopped_front_of (due_pieces s p.now) m.outcomes in
       let last : List Rec = rec.Fault count ∷ [] in
       silent s added (front ++ last) (Fails (Faulted count)) m.is (among_right (rec.Fault count) front last (inl refl))
-      (all_append IsSilent front last (stopped_front_silent s (budget_of s.geometry) (due_pieces s p.now) m.outcomes m.are) ((counted (after_all s front) count m.counts, refl), tt))
+      (all_append IsSilent front last (stopped_front_silent s (budget_of s.geometry) (due_pieces s p.now) m.outcomes m.are) ((counted (after_all s front) count m.counts.counts, refl), tt))
 
   room : (s : State) (bytes : ℕ) (added : List Rec) (e : End) → Legal.MakesRoom p s bytes added e → IsGroup s added e
   room s bytes added e (Legal.MakesRoom.flushes h m) = flush s added e tt m

@@ -9,5 +9,6 @@ mod Damages
 mod Runs
 mod Untroubled
 mod Formats
+mod Uncalled
 mod Alike
 mod Agreeing

@@ -1,5 +1,5 @@
 -- What holds of every line of a script, by what holds of what was told of the devices in the end.
-use Rattle.std.proofs.Common.{◌≡◌, ℕ, ◌<◌, List, [], ◌∷◌, ◌++◌, Bool, true, false, refl, sym, ◌∙◌, ap, subst, arith}
+use Rattle.std.proofs.Common.{◌≡◌, ℕ, ◌<◌, List, [], ◌∷◌, ◌++◌, Bool, true, false, refl, sym, ◌∙◌, subst, arith}
 use Rattle.std.specs.Prelude.{All, Option, Some, None, option_map, suc, unwrap_or, zero}
 use Rattle.std.proofs.lemmas.Bool.{false_from_ne_true}
 use Rattle.std.proofs.lemmas.List.Elements.{All-append, All-cons, All-head, All-nil, All-tail}
@@ -19,7 +19,8 @@ use Rattle.script_lang.specs.declared.line.LineAnswer.TheVariants as line
 use Rattle.script_lang.specs.declared.answer.StepAnswer.{StepAnswer}
 use Rattle.script_lang.specs.declared.answer.StepAnswer.TheVariants as answer
 use Rattle.script_lang.specs.Grammar.{reading_of}
-use Rattle.script_run.specs.Run.{Harm, Run, fresh, no_harm}
+use Rattle.device_log.specs.Calls.{Call}
+use Rattle.script_run.specs.Run.{Harm, IsHarmless, Run, fresh}
 use Rattle.script_run.specs.Turn.{Turn}
 use Rattle.script_run.specs.Asked.{asked}
 use Rattle.script_run.specs.Answers.{format_said, session_said, step_said}
@@ -51,8 +52,8 @@ all_behind P (x ∷ xs) ys all = all_behind P xs ys (All-tail P x (xs ++ ys) all
 record IsWitnessed (test : StepAnswer → Bool) (Fine : Harm → Type 0) (Sound : State → Type 0) : Type 0 where
   formats : (geometry : Geometry) → Sound (after_all nothing_yet (format_records geometry))
   stays : (run : Run) (s : State) (turn : Turn) (step : Step) → SessionTakes run s turn step → Sound s → Sound (after_all s turn.added)
-  before : (run : Run) (s : State) (turn : Turn) (step : Step) → SessionTakes run s turn step → Fine (harm_in (after_all s turn.added)) → Fine (harm_in s)
-  without : (run : Run) (s : State) (turn : Turn) (step : Step) → SessionTakes run s turn step → Sound s → Fine (harm_in (after_all s turn.added))
+  before : (run : Run) (s : State) (turn : Turn) (step : Step) (old new : List Call) → SessionTakes run s turn step → Fine (harm_in new (after_all s turn.added)) → Fine (harm_in old s)
+  without : (run : Run) (s : State) (turn : Turn) (step : Step) (new : List Call) → SessionTakes run s turn step → Sound s → Fine (harm_in new (after_all s turn.added))
       → test (session_said run s (after_all s turn.added) turn step) ≡ false
   format : (added : List Rec) (bad : Option BadGeometry) → test (format_said added bad) ≡ false
   moment : (at : ℕ) → test (answer.Now at) ≡ false
@@ -68,7 +69,7 @@ module _ (test : StepAnswer → Bool) (Fine : Harm → Type 0) (Sound : State �
   -- what a line leaves, and what was told behind it shows
   record IsPlayed (run : Run) (state : Option State) (next : Run) (Without : Type 0) : Type 0 where
     sound : IsSound next.state
-    back : AreFine (harms_of next) → Without × AreFine (run.ended ++ harm_of state)
+    back : AreFine (harms_of next) → Without × AreFine (run.ended ++ harm_of run.calls state)
 
   in_session : (run : Run) (s : State) (turn : Turn) (step : Step) (next : Run) → next.state ≡ Some (after_all s turn.added) → next.ended ≡ run.ended → Sound s → SessionTakes run s turn step
       → IsPlayed run (Some s) next (test (session_said run s (after_all s turn.added) turn step) ≡ false)
@@ -77,11 +78,13 @@ module _ (test : StepAnswer → Bool) (Fine : Harm → Type 0) (Sound : State �
       record {
         sound = subst IsSound (sym state) (w.stays run s turn step takes sound);
         back = λ (fine : AreFine (harms_of next)).
-            let told : AreFine (run.ended ++ harm_in t ∷ []) = rw (ended, state) at fine in
-            let last : Fine (harm_in t) = All-head Fine (harm_in t) [] (all_behind Fine run.ended (harm_in t ∷ []) told) in
-            let here : Fine (harm_in s) = w.before run s turn step takes last in (
-              w.without run s turn step takes sound last,
-              All-append Fine run.ended (harm_in s ∷ []) (all_front Fine run.ended (harm_in t ∷ []) told) (All-cons Fine (harm_in s) [] here (All-nil Fine)),
+            let new : Harm = harm_in next.calls t in
+            let old : Harm = harm_in run.calls s in
+            let told : AreFine (run.ended ++ new ∷ []) = rw (ended, state) at fine in
+            let last : Fine new = All-head Fine new [] (all_behind Fine run.ended (new ∷ []) told) in
+            let here : Fine old = w.before run s turn step run.calls next.calls takes last in (
+              w.without run s turn step next.calls takes sound last,
+              All-append Fine run.ended (old ∷ []) (all_front Fine run.ended (new ∷ []) told) (All-cons Fine old [] here (All-nil Fine)),
             );
       }
 
@@ -92,7 +95,7 @@ module _ (test : StepAnswer → Bool) (Fine : Harm → Type 0) (Sound : State �
       record { sound = sound; back = λ fine. (w.format turn.added (Some bad), fine) }
   by_format run turn name segments buckets content agg reach fragment generation alternates None sound takes = record {
     sound = subst (λ added. Sound (after_all nothing_yet added)) (sym takes.2) (w.formats takes.0);
-    back = λ fine. (w.format turn.added None, all_front Fine (harms_of run) (harm_in (after_all nothing_yet turn.added) ∷ []) fine);
+    back = λ fine. (w.format turn.added None, all_front Fine (harms_of run) (harm_in [] (after_all nothing_yet turn.added) ∷ []) fine);
   }
 
   -- ---- each line
@@ -105,7 +108,7 @@ module _ (test : StepAnswer → Bool) (Fine : Harm → Type 0) (Sound : State �
       (by_format run turn name segments buckets content agg reach fragment generation alternates bad (subst IsSound (sym e) sound) takes)
   played run turn o (step.Now at) e sound takes = record {
     sound = subst IsSound (sym e) sound;
-    back = λ fine. (w.moment at, subst (λ (x : Option State). AreFine (run.ended ++ harm_of x)) e fine);
+    back = λ fine. (w.moment at, subst (λ (x : Option State). AreFine (run.ended ++ harm_of run.calls x)) e fine);
   }
   played run turn (Some s) step e sound takes = in_session run s turn step (behind run turn (Some s) step) refl refl sound takes
   played run turn None step e sound takes = absurd takes
@@ -160,8 +163,8 @@ faultless : IsWitnessed answers_fault (λ harm. harm.fault ≡ 0) NoLossIsAFault
 faultless = record {
   formats = λ geometry. formats_lose_none nothing_yet geometry;
   stays = λ run s turn step takes sound. losses_stay s turn.added sound;
-  before = λ run s turn step takes fine. none_before s.fault (after_all s turn.added).fault (fault_stays turn.device s (asked run s step) turn.added turn.refused takes.legal) fine;
-  without = λ run s turn step takes sound fine. no_fault (session_said run s (after_all s turn.added) turn step)
+  before = λ run s turn step old new takes fine. none_before s.fault (after_all s turn.added).fault (fault_stays turn.device s (asked run s step) turn.added turn.refused takes.legal) fine;
+  without = λ run s turn step new takes sound fine. no_fault (session_said run s (after_all s turn.added) turn step)
       (λ count took answered. none_below (after_all s turn.added).fault fine (fault_is_recorded run s turn step count took takes sound answered).told)
       (λ why answered fault. none_below (after_all s turn.added).fault fine (named_is_recorded run s turn step why takes sound answered fault));
   format = no_format_fault;
@@ -184,8 +187,8 @@ undamaged : IsWitnessed answers_damage (λ harm. harm.damaged ≡ false) (λ s. 
 undamaged = record {
   formats = λ geometry. tt;
   stays = λ run s turn step takes sound. tt;
-  before = λ run s turn step takes fine. was_not_true (has_damage s) (has_damage (after_all s turn.added)) (damage_stays turn.device s (asked run s step) turn.added turn.refused takes.legal) fine;
-  without = λ run s turn step takes sound fine. none_named is_damage (cause_answered (session_said run s (after_all s turn.added) turn step))
+  before = λ run s turn step old new takes fine. was_not_true (has_damage s) (has_damage (after_all s turn.added)) (damage_stays turn.device s (asked run s step) turn.added turn.refused takes.legal) fine;
+  without = λ run s turn step new takes sound fine. none_named is_damage (cause_answered (session_said run s (after_all s turn.added) turn step))
       (λ why answered damage. no_truth (sym (damage_is_recorded run s turn step why takes answered damage) ∙ fine));
   format = no_format_damage;
   moment = λ at. refl;
@@ -196,26 +199,24 @@ undamaged_runs = whole answers_damage (λ harm. harm.damaged ≡ false) (λ s. U
 
 -- ---- neither of them
 
-harmless : (harm : Harm) → harm.fault ≡ 0 → harm.damaged ≡ false → harm ≡ no_harm
-harmless harm fault damaged = λ i. record { fault = fault i; damaged = damaged i }
-
 -- no answer is asked about: what was told is followed back alone
-none_harmed : IsWitnessed (λ a. false) (λ harm. harm ≡ no_harm) (λ s. Unit {0})
+none_harmed : IsWitnessed (λ a. false) IsHarmless (λ s. Unit {0})
 none_harmed = record {
   formats = λ geometry. tt;
   stays = λ run s turn step takes sound. tt;
-  before = λ run s turn step takes fine. harmless (harm_in s)
-      (faultless.before run s turn step takes (ap (λ (harm : Harm). harm.fault) fine))
-      (undamaged.before run s turn step takes (ap (λ (harm : Harm). harm.damaged) fine));
-  without = λ run s turn step takes sound fine. refl;
+  before = λ run s turn step old new takes fine. record {
+    faultless = faultless.before run s turn step old new takes fine.faultless;
+    undamaged = undamaged.before run s turn step old new takes fine.undamaged;
+  };
+  without = λ run s turn step new takes sound fine. refl;
   format = λ added bad. refl;
   moment = λ at. refl;
 }
 
-any_session : (o : Option State) → IsSound (λ a. false) (λ harm. harm ≡ no_harm) (λ s. Unit {0}) none_harmed o
+any_session : (o : Option State) → IsSound (λ a. false) IsHarmless (λ s. Unit {0}) none_harmed o
 any_session None = tt
 any_session (Some s) = tt
 
 -- what was told of no device behind lines was told of none before them
 pub harmless_before : (run : Run) (lines : List (List ℕ)) (turns : List Turn) → IsRun run lines turns → NoneHarmed (run_after run lines turns) → NoneHarmed run
-harmless_before run lines turns is clean = (along (λ a. false) (λ harm. harm ≡ no_harm) (λ s. Unit {0}) none_harmed run lines turns is (any_session run.state) clean).1
+harmless_before run lines turns is clean = (along (λ a. false) IsHarmless (λ s. Unit {0}) none_harmed run lines turns is (any_session run.state) clean).1

@@ -1,5 +1,5 @@
 -- A step behind which no fault and no damage is told recorded neither.
-use Rattle.std.proofs.Common.{◌≡◌, List, [], ◌∷◌, false, refl, sym, ◌∙◌, ap, inl}
+use Rattle.std.proofs.Common.{◌≡◌, List, [], ◌∷◌, false, refl, sym, ◌∙◌, inl}
 use Rattle.std.specs.Prelude.{Option}
 use Rattle.std.specs.List.{AllByRecursion}
 use Rattle.cache_model.specs.declared.record.Rec.{Rec}
@@ -9,24 +9,25 @@ use Rattle.cache_model.specs.Permit.{Intent, Permit, Reason}
 use Rattle.cache_model.specs.Legal.{IsStep}
 use Rattle.model_laws.specs.Agreeing.{IsUntroubled, is_trouble}
 use Rattle.cache_model.proofs.Found.{no_truth}
-use Rattle.script_run.specs.Run.{Harm, no_harm}
+use Rattle.device_log.specs.Calls.{Call}
+use Rattle.script_run.specs.Run.{IsHarmless}
 use Rattle.script_run.specs.Behind.{harm_in}
 use Rattle.script_laws.proofs.Groups.{IsKept}
 use Rattle.script_laws.proofs.Walking.{told_behind, walked}
 use Rattle.script_laws.proofs.Damages.{told_among}
 use Rattle.script_laws.proofs.Runs.{none_below}
 
-first_untroubled : (p : Permit) (s : State) (r : Rec) (recs : List Rec) → AllByRecursion (IsKept p) (r ∷ recs) → harm_in (after_all s (r ∷ recs)) ≡ no_harm → is_trouble r ≡ false
-first_untroubled p s (rec.Fault count) recs kept clean =
-    absurd (none_below (after_all s (rec.Fault count ∷ recs)).fault (ap (λ (h : Harm). h.fault) clean) (told_behind p s (rec.Fault count ∷ recs) count kept (inl refl)))
-first_untroubled p s (rec.Damaged piece place old found) recs kept clean =
-    no_truth (sym (told_among p s (rec.Damaged piece place old found ∷ recs) (rec.Damaged piece place old found) kept (inl refl) refl) ∙ ap (λ (h : Harm). h.damaged) clean)
-first_untroubled p s _ recs kept clean = refl
+first_untroubled : (p : Permit) (calls : List Call) (s : State) (r : Rec) (recs : List Rec) → AllByRecursion (IsKept p) (r ∷ recs) → IsHarmless (harm_in calls (after_all s (r ∷ recs))) → is_trouble r ≡ false
+first_untroubled p calls s (rec.Fault count) recs kept clean =
+    absurd (none_below (after_all s (rec.Fault count ∷ recs)).fault clean.faultless (told_behind p s (rec.Fault count ∷ recs) count kept (inl refl)))
+first_untroubled p calls s (rec.Damaged piece place old found) recs kept clean =
+    no_truth (sym (told_among p s (rec.Damaged piece place old found ∷ recs) (rec.Damaged piece place old found) kept (inl refl) refl) ∙ clean.undamaged)
+first_untroubled p calls s _ recs kept clean = refl
 
-each_untroubled : (p : Permit) (s : State) (recs : List Rec) → AllByRecursion (IsKept p) recs → harm_in (after_all s recs) ≡ no_harm → IsUntroubled recs
-each_untroubled p s [] kept clean = tt
-each_untroubled p s (r ∷ recs) kept clean = (first_untroubled p s r recs kept clean, each_untroubled p (state_after s r) recs kept.1 clean)
+each_untroubled : (p : Permit) (calls : List Call) (s : State) (recs : List Rec) → AllByRecursion (IsKept p) recs → IsHarmless (harm_in calls (after_all s recs)) → IsUntroubled recs
+each_untroubled p calls s [] kept clean = tt
+each_untroubled p calls s (r ∷ recs) kept clean = (first_untroubled p calls s r recs kept clean, each_untroubled p calls (state_after s r) recs kept.1 clean)
 
-pub step_untroubled : (p : Permit) (s : State) (intents : List Intent) (added : List Rec) (refused : Option Reason) → IsStep p s intents added refused
-    → harm_in (after_all s added) ≡ no_harm → IsUntroubled added
-step_untroubled p s intents added refused h clean = each_untroubled p s added (walked h.grows).kept clean
+pub step_untroubled : (p : Permit) (calls : List Call) (s : State) (intents : List Intent) (added : List Rec) (refused : Option Reason) → IsStep p s intents added refused
+    → IsHarmless (harm_in calls (after_all s added)) → IsUntroubled added
+step_untroubled p calls s intents added refused h clean = each_untroubled p calls s added (walked h.grows).kept clean

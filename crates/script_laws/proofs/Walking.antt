@@ -8,9 +8,12 @@ use Rattle.cache_model.specs.declared.record.Rec.TheVariants as rec
 use Rattle.cache_model.specs.State.{State, after_all, state_after}
 use Rattle.cache_model.specs.Permit.{Permit, Intent, IsAmong, End, Stays, Done, Fails, Faulted, Reason, Work, work_after}
 use Rattle.cache_model.specs.Legal.{Advances, MayGrow, nothing, more, IsStep}
+use Rattle.edge_io.specs.Causes.{Rose}
 use Rattle.cache_model.proofs.Found.{none_is}
+use Rattle.model_laws.specs.StepLaws.{AllAlong, IsRisen}
+use Rattle.model_laws.proofs.Backed.{faults_rise}
 use Rattle.script_laws.specs.Causes.{IsTraced, cause_told}
-use Rattle.script_laws.specs.Troubles.{IsCounted, IsFaultRecorded}
+use Rattle.script_laws.specs.Troubles.{IsFaultRecorded}
 use Rattle.cache_model.proofs.Steps.{all_append, all_as}
 use Rattle.script_run.proofs.Listed.{is_among}
 use Rattle.script_laws.proofs.Among.{among_left, among_right}
@@ -82,15 +85,10 @@ refusal_recorded p s intents added count h = elim (refused_along count h.grows r
 
 -- ---- the last fault
 
-above : (p : Permit) (count : ℕ) → IsCounted p count → 0 < count
-above p count c =
-    let rose : min (p.faults_before + 1) (2 ^ 64 - 1) ≤ count = c.risen in
-    omega (arith, rose)
-
 fault_kept : (p : Permit) (s : State) (r : Rec) → IsKept p r → 0 < s.fault → 0 < (state_after s r).fault
 fault_kept p s (rec.Formatted geometry) k h = absurd k
 fault_kept p s (rec.Opened geometry serial cursor floor next_put clean list) k h = absurd k
-fault_kept p s (rec.Fault count) k h = above p count k
+fault_kept p s (rec.Fault count) k h = k.1
 fault_kept p s _ k h = h
 
 faults_kept : (p : Permit) (s : State) (recs : List Rec) → AllByRecursion (IsKept p) recs → 0 < s.fault → 0 < (after_all s recs).fault
@@ -101,7 +99,7 @@ faults_kept p s (r ∷ recs) k h = faults_kept p (state_after s r) recs k.1 (fau
 pub told_behind : (p : Permit) (s : State) (recs : List Rec) (count : ℕ) → AllByRecursion (IsKept p) recs → IsAmong (rec.Fault count) recs → 0 < (after_all s recs).fault
 told_behind p s [] count k h = absurd h
 told_behind p s (r ∷ recs) count k h = elim h [
-  | inl same ↦ faults_kept p (state_after s r) recs k.1 (subst (λ x. IsKept p x → 0 < (state_after s x).fault) same (above p count) k.0)
+  | inl same ↦ faults_kept p (state_after s r) recs k.1 (subst (λ x. IsKept p x → 0 < (state_after s x).fault) same (λ first. first.1) k.0)
   | inr later ↦ told_behind p (state_after s r) recs count k.1 later
 ]
 
@@ -109,8 +107,31 @@ pub fault_stays : (p : Permit) (s : State) (intents : List Intent) (added : List
     → 0 < s.fault → 0 < (after_all s added).fault
 fault_stays p s intents added refused h above = faults_kept p s added (walked h.grows).kept above
 
+-- a count that stands at least as high as one behind which another rose
+risen_kept : (p : Permit) (before : ℕ) (s : State) (r : Rec) → IsKept p r → IsRisen p s r → min (before + 1) (2 ^ 64 - 1) ≤ min (s.fault + 1) (2 ^ 64 - 1)
+    → min (before + 1) (2 ^ 64 - 1) ≤ min ((state_after s r).fault + 1) (2 ^ 64 - 1)
+risen_kept p before s (rec.Formatted geometry) k risen h = absurd k
+risen_kept p before s (rec.Opened geometry serial cursor floor next_put clean list) k risen h = absurd k
+risen_kept p before s (rec.Fault count) k risen h = let rose : min (s.fault + 1) (2 ^ 64 - 1) ≤ count = risen.0 in omega (arith, rose, h)
+risen_kept p before s _ k risen h = h
+
+-- each fault of a step rose above the count before it
+risen_above : (p : Permit) (before : ℕ) (s : State) (recs : List Rec) (count : ℕ) → AllByRecursion (IsKept p) recs → AllAlong (IsRisen p) s recs
+    → min (before + 1) (2 ^ 64 - 1) ≤ min (s.fault + 1) (2 ^ 64 - 1) → IsAmong (rec.Fault count) recs → Rose before count
+risen_above p before s [] count k risen h among = absurd among
+risen_above p before s (r ∷ recs) count k risen h (inl same) =
+    let rose : min (s.fault + 1) (2 ^ 64 - 1) ≤ count = (subst (IsRisen p s) (sym same) risen.0).0 in
+    omega (arith, rose, h)
+risen_above p before s (r ∷ recs) count k risen h (inr later) = risen_above p before (state_after s r) recs count k.1 risen.1 (risen_kept p before s r k.0 risen.0 h) later
+
 pub fault_is_told : (p : Permit) (s : State) (intents : List Intent) (added : List Rec) (refused : Option Reason) (count : ℕ) → IsStep p s intents added refused
     → IsAmong (rec.Fault count) added → IsFaultRecorded p s added count
 fault_is_told p s intents added refused count h among =
     let kept : AllByRecursion (IsKept p) added = (walked h.grows).kept in
-    record { recorded = among; counted = is_among (IsKept p) (rec.Fault count) added kept among; told = told_behind p s added count kept among }
+    let counted : IsKept p (rec.Fault count) = is_among (IsKept p) (rec.Fault count) added kept among in
+    record {
+      recorded = among;
+      counted = counted.0;
+      risen = risen_above p s.fault s added count kept (faults_rise p s intents added refused h) (omega arith) among;
+      told = told_behind p s added count kept among;
+    }

@@ -1,11 +1,12 @@
 -- Device faults that lines answer.
-use Rattle.std.specs.Prelude.{ℕ, ◌≡◌, ◌<◌, ◌≤◌, List, Option, Some}
+use Rattle.std.specs.Prelude.{ℕ, ◌≡◌, ◌<◌, List, Option, Some}
 use Rattle.edge_io.specs.Causes.{Rose}
 use Rattle.cache_model.specs.declared.record.Rec.{Rec}
 use Rattle.cache_model.specs.declared.record.Rec.TheVariants as rec
 use Rattle.cache_model.specs.State.{State, after_all}
 use Rattle.cache_model.specs.Permit.{Intent, IsAmong, Permit, Reason, Faulted}
 use Rattle.cache_model.specs.Legal.{IsStep}
+use Rattle.model_laws.specs.StepLaws.{IsCounted}
 use Rattle.script_lang.specs.declared.step.Step.{Step}
 use Rattle.script_lang.specs.declared.answer.StepAnswer.TheVariants as answer
 use Rattle.script_run.specs.Losses.{NoLossIsAFault}
@@ -19,15 +20,12 @@ abbrev pub FaultStays : Type 0
 FaultStays = (p : Permit) (s : State) (intents : List Intent) (added : List Rec) (refused : Option Reason) → IsStep p s intents added refused
     → 0 < s.fault → 0 < (after_all s added).fault
 
--- the device counted the fault in the step: at its end it had come to this count, which rose above the one before
-pub record IsCounted (p : Permit) (count : ℕ) : Type 0 where
-  pub risen : Rose p.faults_before count
-  pub reached : count ≤ p.faults
-
--- a fault of this count is recorded that the device counted in the step, and the count of the last fault is above 0
+-- a fault of this count is recorded, which rose above that of the last fault before the step, and is that of a call that
+-- the device refused in the step; and the count of the last fault is above 0
 pub record IsFaultRecorded (p : Permit) (s : State) (added : List Rec) (count : ℕ) : Type 0 where
   pub recorded : IsAmong (rec.Fault count) added
   pub counted : IsCounted p count
+  pub risen : Rose s.fault count
   pub told : 0 < (after_all s added).fault
 
 -- a step that the device refused recorded that fault

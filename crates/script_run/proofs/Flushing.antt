@@ -23,7 +23,7 @@ use Rattle.cache_model.proofs.Copies.{AreReady, IsReady, copied_is, others_stand
 use Rattle.cache_model.proofs.SoundFlush.{copies_part, copies_ready, due_part, part_ready}
 use Rattle.cache_model.proofs.Live.{IsFound, due_are_live}
 use Rattle.model_laws.proofs.ToldFlush.{LeadsTo, as_shown, go_on, moved}
-use Rattle.model_laws.proofs.Alike.{given_alike}
+use Rattle.model_laws.proofs.Alike.{ReadsAlike, given_alike, reads_back, reads_self}
 use Rattle.script_run.specs.Run.{Stream}
 use Rattle.script_run.specs.Own.{AreOwnPuts, IsOwnReader}
 use Rattle.script_run.proofs.Saying.{IsCopied, IsRow, Kind, Stands, rows_carried}
@@ -170,14 +170,14 @@ record IsSaved (kind : Kind) (p : Permit) (s : State) (streams : ℕ → Stream)
   copied : IsCopied p s c
 
 -- it was given behind the records of others, which leave where the buffer begins
-are_saved : (kind : Kind) (p : Permit) (s t : State) (streams : ℕ → Stream) (now left behind : ℕ) (rows : List Row) (outcomes : List Outcome) → t.cursor ≡ s.cursor → LeadsTo p s now left t behind rows
+are_saved : (kind : Kind) (p : Permit) (s t : State) (streams : ℕ → Stream) (now left behind : ℕ) (rows : List Row) (outcomes : List Outcome) → ReadsAlike s t → LeadsTo p s now left t behind rows
     → AllByRecursion (IsRow kind s streams) rows → AllByRecursion (IsFound s) rows → AreOutcomes p t behind rows outcomes → AllByRecursion (IsSaved kind p s streams now left) (copies_of rows outcomes)
 are_saved kind p s t streams now left behind [] outcomes same leads own live h = tt
 are_saved kind p s t streams now left behind (row ∷ rows) [] same leads own live h = tt
 are_saved kind p s t streams now left behind (row ∷ rows) (NoRoom ∷ outcomes) same leads own live h =
     are_saved kind p s (after_all t (records_of row NoRoom)) streams now left behind rows outcomes same (λ piece c. leads piece (ToRead.ComesTo.behind NoRoom h.0 c)) own.1 live.1 h.1
 are_saved kind p s t streams now left behind (row ∷ rows) (Copied bytes ∷ outcomes) same leads own live h = (
-  record { comes = leads row (ToRead.ComesTo.here h.0.0); own = own.0; copied = record { live = live.0; given = given_alike p t s row bytes (sym same) h.0.1; digest = h.0.2 } },
+  record { comes = leads row (ToRead.ComesTo.here h.0.0); own = own.0; copied = record { live = live.0; given = given_alike p t s row bytes (reads_back s t same) h.0.1; digest = h.0.2 } },
   are_saved kind p s t streams now left (behind - row.blocks) rows outcomes same (λ piece c. leads piece (ToRead.ComesTo.behind (Copied bytes) h.0 c)) own.1 live.1 h.1,
 )
 are_saved kind p s t streams now left behind (row ∷ rows) (Spoiled found ∷ outcomes) same leads own live h =
@@ -220,7 +220,7 @@ flush_rows kind p s streams now left outcomes h own o =
     let u : State = opened_buffer s (front_of rows outcomes) in
     let apart : AreApart rows = apart-part (due_part s now) h.apart in
     let saved : AllByRecursion (IsSaved kind p s streams now left) copies =
-    are_saved kind p s s streams now left left rows outcomes refl (λ row c. c) (each_part (IsRow kind s streams) (due_part s now) own.rows) (due_are_live s now h) o in
+    are_saved kind p s s streams now left left rows outcomes (reads_self s) (λ row c. c) (each_part (IsRow kind s streams) (due_part s now) own.rows) (due_are_live s now h) o in
     let ready : AreReady u.rows (rows_of copies) = copies_ready s rows outcomes apart (part_ready s rows h (due_part s now)) in
     let each : AllByRecursion (IsRow kind s streams) u.rows = each_part (IsRow kind s streams) (opened_loses s rows outcomes).rows own.rows in
     flush_is s rows outcomes (λ (t : State). AllByRecursion (IsRow kind s streams) t.rows ⊎ IsCopyPair (kind.documents streams) p s now left)

@@ -11,6 +11,7 @@ use Rattle.script_lang.specs.declared.step.Step.TheVariants as step
 use Rattle.script_lang.specs.declared.line.LineAnswer.{LineAnswer}
 use Rattle.script_lang.specs.declared.line.LineAnswer.TheVariants as line
 use Rattle.script_lang.specs.Grammar.{reading_of}
+use Rattle.device_log.specs.Calls.{Call}
 use Rattle.actor_table.specs.Table.{number_of, with_actor}
 use Rattle.cache_model.specs.Damage.{has_damage}
 use Rattle.script_run.specs.Run.{Harm, Run, Stream, Holding, Writes, Reads, no_stream, with_value, writer_of, held_by, actor_of}
@@ -113,18 +114,18 @@ actors_behind actors (Some name) = with_actor actors name
 
 -- ---- steps
 
--- what was told of a session's device
-abbrev pub harm_in : State → Harm
-harm_in s = record { fault = s.fault; damaged = has_damage s }
+-- what was told of a session's device, which made these calls
+abbrev pub harm_in : List Call → State → Harm
+harm_in calls s = record { fault = s.fault; damaged = has_damage s; calls = calls }
 
 -- of the device of a session, where there is one
-abbrev pub harm_of : Option State → List Harm
-harm_of None = []
-harm_of (Some s) = harm_in s ∷ []
+abbrev pub harm_of : List Call → Option State → List Harm
+harm_of calls None = []
+harm_of calls (Some s) = harm_in calls s ∷ []
 
 -- what was told of all devices, once the last one is given back
 abbrev pub harms_of : Run → List Harm
-harms_of run = run.ended ++ harm_of run.state
+harms_of run = run.ended ++ harm_of run.calls run.state
 
 -- a format ends the session before it, with its writers and readers, and attaches the device of its name
 abbrev pub formatted : Run → List ℕ → List Rec → Run
@@ -133,6 +134,7 @@ formatted run name added = record {
   streams = λ put. no_stream;
   actors = run.actors;
   held = λ actor. None;
+  calls = [];
   ended = harms_of run;
   names = run.names ++ name ∷ [];
   now = run.now;
@@ -150,6 +152,7 @@ in_session run s t turn step = record {
   streams = streams_behind run s t turn step;
   actors = actors_behind run.actors (actor_of step);
   held = held_behind run s t step (actor_of step);
+  calls = turn.device.events ++ run.calls;
   ended = run.ended;
   names = run.names;
   now = run.now;

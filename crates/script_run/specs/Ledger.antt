@@ -1,14 +1,21 @@
 -- What a bay tells of its devices, and how that fits what the lines of a script told of them.
 use Rattle.std.specs.Prelude.{ℕ, ◌≡◌, ◌+◌, ◌≤◌, true, false, List, [], ◌∷◌, ◌++◌, length}
+use Rattle.device_log.specs.Calls.{Call}
 use Rattle.device_log.specs.Faults.{is_untold}
 use Rattle.logged_disk.specs.Device.{State as Device, TellsAll}
 use Rattle.device_bay.specs.Calls.{BayCall, gifts_of, names_of, number_behind, returned_by}
 use Rattle.device_bay.specs.declared.bay.Bay.{Ghosts as BayGhosts}
 use Rattle.script_run.specs.Run.{Harm}
 
--- what was told of a device that came back: no count above its own, and where it told its content to
--- the end, no damage
+-- a log goes on from these calls, which are its oldest; of both the newest come first
+pub record GoesOnFrom (calls past : List Call) : Type 0 where
+  pub later : List Call
+  pub is : past ≡ later ++ calls
+
+-- what was told of a device that came back: the calls with which its log begins, no count above its own, and where it
+-- told its content to the end, no damage
 pub record IsReached (harm : Harm) (device : Device) : Type 0 where
+  pub made : GoesOnFrom harm.calls device.past
   pub counted : harm.fault ≤ device.faults
   pub unharmed : TellsAll device → harm.damaged ≡ false
 

@@ -1,5 +1,6 @@
 -- What stands between two lines of a script.
-use Rattle.std.specs.Prelude.{ℕ, ◌==◌, Bool, false, if◌then◌else◌, List, [], drop, Option, Some, None, option_and_then}
+use Rattle.std.specs.Prelude.{ℕ, ◌≡◌, ◌==◌, Bool, false, if◌then◌else◌, List, [], drop, Option, Some, None, option_and_then}
+use Rattle.device_log.specs.Calls.{Call}
 use Rattle.actor_table.specs.Table.{number_of}
 use Rattle.script_lang.specs.declared.step.Step.{Step}
 use Rattle.script_lang.specs.declared.step.Step.TheVariants as step
@@ -17,14 +18,21 @@ pub record Stream : Type 0 where
   pub bytes : List ℕ
   pub sealed : Bool
 
--- what was told of a device: its count at the last fault, and whether a piece on it was damaged
+-- what was told of a device: its count at the last fault, whether a piece on it was damaged, and the calls
+-- that its lines made, the newest first
 pub record Harm : Type 0 where
   pub fault : ℕ
   pub damaged : Bool
+  pub calls : List Call
 
--- a device of which no fault and no damage was told
+-- a device of which nothing was told
 abbrev pub no_harm : Harm
-no_harm = record { fault = 0; damaged = false }
+no_harm = record { fault = 0; damaged = false; calls = [] }
+
+-- no fault and no damage was told of a device, whatever calls its lines made
+pub record IsHarmless (harm : Harm) : Type 0 where
+  pub faultless : harm.fault ≡ 0
+  pub undamaged : harm.damaged ≡ false
 
 -- the session, where there is one, and what outlives it: actors, names of devices, their harm, the moment
 pub record Run : Type 0 where
@@ -36,6 +44,8 @@ pub record Run : Type 0 where
   pub actors : List (List ℕ)
   -- what each actor has, by its number
   pub held : ℕ → Option Holding
+  -- the calls that the session's device made since it was attached, the newest first
+  pub calls : List Call
   -- what was told of each device that was given back
   pub ended : List Harm
   -- the name of each device that was attached
@@ -49,7 +59,7 @@ no_stream = record { bytes = []; sealed = false }
 
 -- before the first line: no session, no actor, no device, and the moment 0
 abbrev pub fresh : Run
-fresh = record { state = None; streams = λ put. no_stream; actors = []; held = λ actor. None; ended = []; names = []; now = 0 }
+fresh = record { state = None; streams = λ put. no_stream; actors = []; held = λ actor. None; calls = []; ended = []; names = []; now = 0 }
 
 -- a function with another value at one number
 abbrev pub with_value : {X : Type 0} → (ℕ → X) → ℕ → X → ℕ → X

@@ -2,14 +2,13 @@
 use Rattle.std.specs.Prelude.{ℕ, ◌≡◌, ⊤, false, if◌then◌else◌, List, [], ◌∷◌, ◌++◌, Option, Some, None}
 use Rattle.tape_base.specs.declared.geometries.Geometry.{Geometry}
 use Rattle.tape_base.specs.declared.geometries.BadGeometry.{BadGeometry}
-use Rattle.tape_base.specs.declared.keys.Key.{Key}
 use Rattle.tape_base.specs.Geometry.{HasNumbers}
 use Rattle.tape_base.specs.Limits.{first_refusal}
 use Rattle.cache_model.specs.declared.answer.ReadAnswer.{ReadAnswer}
 use Rattle.cache_model.specs.declared.answer.ReadAnswer.TheVariants as read
 use Rattle.cache_model.specs.declared.record.Rec.{Rec}
 use Rattle.cache_model.specs.declared.record.Rec.TheVariants as rec
-use Rattle.cache_model.specs.State.{State, ReaderRow, after_all, reader_of}
+use Rattle.cache_model.specs.State.{State, ReaderRow, reader_of}
 use Rattle.cache_model.specs.Legal.{IsStep, format_records}
 use Rattle.cache_model.specs.Pair.{ShowsPair}
 use Rattle.script_lang.specs.declared.step.Step.{Step}
@@ -57,10 +56,12 @@ FormatTakes added segments buckets content agg reach fragment generation alterna
 FormatTakes added segments buckets content agg reach fragment generation alternates None =
     (g : Geometry) × HasNumbers g segments buckets content agg reach fragment generation alternates × (added ≡ format_records g)
 
--- a line on a session is one step of its records, with a directory that displaces nothing, in which pins are
--- weighed by the moment of the run; and the bytes that it gives are those that were put
+-- a line on a session is one step of its records, with a directory that displaces nothing, on a device whose content
+-- area begins at its first block, in which pins are weighed by the moment of the run; and the bytes that it gives are
+-- those that were put
 pub record SessionTakes (run : Run) (s : State) (turn : Turn) (step : Step) : Type 0 where
   pub plain : turn.device.packed ≡ false
+  pub content : turn.device.area ≡ 0
   pub moment : turn.device.now ≡ run.now
   pub legal : IsStep turn.device s (asked run s step) turn.added turn.refused
   pub own : GivesOwn run s turn step
@@ -120,6 +121,7 @@ streams_with run s _ = run.streams
 -- reads there: the one as which it was placed, and other bytes, which the device gave in that turn
 pub record SessionShows (run : Run) (s : State) (turn : Turn) (step : Step) : Type 0 where
   pub plain : turn.device.packed ≡ false
+  pub content : turn.device.area ≡ 0
   pub moment : turn.device.now ≡ run.now
   pub shows : ShowsPair (IsPlacedAs (streams_with run s step)) turn.device s (asked run s step) turn.added
 

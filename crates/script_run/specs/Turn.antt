@@ -13,9 +13,9 @@ pub record Turn : Type 0 where
   pub device : Permit
   pub given : List ℕ
 
--- a line that does nothing: no records, no reads, no bytes
+-- a line that does nothing: no records, no calls, no bytes
 abbrev pub no_turn : Turn
-no_turn = record { added = []; refused = None; device = record { packed = false; now = 0; faults_before = 0; faults = 0; reads = [] }; given = [] }
+no_turn = record { added = []; refused = None; device = record { packed = false; now = 0; area = 0; events = [] }; given = [] }
 
 -- what a lookup among these records was answered
 abbrev pub lookup_in : List Rec → Option ReadAnswer

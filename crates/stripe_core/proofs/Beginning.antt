@@ -15,7 +15,6 @@ use Rattle.cache_model.specs.declared.record.Rec.TheVariants as rec
 use Rattle.cache_model.specs.State.{State, Row, cursor_next, floor_next, floor_now, place_now, state_after}
 use Rattle.cache_model.specs.Tape.{AreRising}
 use Rattle.cache_model.proofs.Laps.{next_above}
-use Rattle.cache_model.proofs.Rows.{rising_ends}
 use Rattle.cache_model.proofs.Sound.{later_began}
 use Rattle.stripe_core.specs.Records.{IsWrittenOut}
 use Rattle.stripe_core.proofs.Intact.{written_intact}

@@ -1,20 +1,36 @@
 -- A step that one call alone makes, and what covers the parts of a step.
 use Rattle.std.proofs.Common.{◌≡◌, ℕ, ◌+◌, ◌-◌, false, List, [], ◌∷◌, ◌++◌, refl, sym, ◌∙◌, ap, subst, arith, inl, inr, length, take, append_assoc}
+use Rattle.std.proofs.lemmas.List.{append_cancel_right, length-append}
+use Rattle.std.proofs.Math.Seq.{take-append_seam}
 use Rattle.std.specs.List.{AllByRecursion}
 use Rattle.device_log.specs.Calls.{Call}
+use Rattle.tape_base.specs.declared.geometries.Geometry.{Geometry}
+use Rattle.tape_base.specs.Place.{slot_of}
+use Rattle.cache_model.specs.State.{State}
 use Rattle.cache_model.specs.Permit.{IsAmong, Permit}
+use Rattle.cache_model.specs.Given.{block_at}
 use Rattle.cache_model.proofs.Steps.{all_parts}
 use Rattle.stripe_core.specs.Covers.{Covers, calls_since}
 
 -- ---- the calls between two moments
 
-taken_front : (made before : List Call) (n : ℕ) → n ≡ length made → take n (made ++ before) ≡ made
-taken_front [] before n is = rw is refl
-taken_front (call ∷ made) before n is = rw is (ap (λ rest. call ∷ rest) (taken_front made before (length made) refl))
-
 pub since_is : (before after made : List Call) → after ≡ made ++ before → calls_since before after ≡ made
 since_is before after made is =
-    rw is (taken_front made before (length (made ++ before) - length before) (let sum : length (made ++ before) ≡ length made + length before = length-append made before in omega arith))
+    let sum : length (made ++ before) ≡ length made + length before = length-append made before in
+    let count : length (made ++ before) - length before ≡ length made = omega arith in
+    ap (λ calls. take (length calls - length before) calls) is ∙ (ap (λ n. take n (made ++ before)) count ∙ take-append_seam made before)
+
+-- these calls and no others were made
+pub made_is : (before after made calls : List Call) → after ≡ calls ++ before → after ≡ made ++ before → made ≡ calls
+made_is before after made calls there is = append_cancel_right made calls before (sym is ∙ there)
+
+-- ---- places as blocks
+
+with_none : (n a : ℕ) → a ≡ 0 → n ≡ n + a
+with_none n a none = omega (arith, none)
+
+pub block_is : (p : Permit) (s : State) (g : Geometry) (place : ℕ) → g ≡ s.geometry → p.area ≡ 0 → slot_of g place ≡ block_at p s place
+block_is p s g place same none = ap (λ h. slot_of h place) same ∙ with_none (slot_of s.geometry place) p.area none
 
 -- ---- a step of one call
 

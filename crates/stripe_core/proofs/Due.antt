@@ -94,15 +94,17 @@ due_are_few s now candidates sound are =
 
 -- ---- so it is looked at
 
-pub looks_by : (now : ℕ) (s : State) (before : ℕ) (after : Device) (end : ℕ) (a : Ahead) → IsSound s → a.due.items ≡ candidates_of s now
+pub looks_by : (now : ℕ) (s : State) (before after : Device) (end : ℕ) (a : Ahead) → IsSound s → a.due.items ≡ candidates_of s now
     → Looked s before after (due_pieces s now) end a → LooksAhead now s before after a
 looks_by now s before after end a sound due h = record {
   outcomes = h.outcomes;
-  reads = h.reads;
   due = due;
   few = due_are_few s now a.due.items sound due;
   fates = h.fates;
   stand = h.stand;
   unharmed = h.unharmed;
+  goes = h.goes;
+  faults = h.faults;
+  counted = h.counted;
   are = h.are;
 }

@@ -228,6 +228,7 @@ shows_same c device later goes same = record { later = later; goes = goes; other
 pub afforded : (calls blocks : ℕ) (old new : Device) → Keeps 0 0 old new → Affords calls blocks old new → IsStill old new
 afforded calls blocks old new keeps affords = record {
   goes = goes_by_none 0 0 old new keeps affords.past;
+  past = affords.past;
   seen = same_past old new keeps.first affords.past;
   faults = affords.faults;
 }

@@ -10,6 +10,7 @@ use Rattle.tape_base.specs.Digest.{digest_of}
 use Rattle.tape_base.specs.Geometry.{budget_of}
 use Rattle.tape_base.specs.Piece.{is_vector, same_piece}
 use Rattle.fragment_table.specs.Table.{total_length}
+use Rattle.device_log.specs.Calls.{Call}
 use Rattle.logged_disk.specs.Device.{State as Device, TellsAll}
 use Rattle.cache_model.specs.declared.record.Rec.{Rec}
 use Rattle.cache_model.specs.declared.record.Rec.TheVariants as rec
@@ -30,7 +31,10 @@ use Rattle.cache_model.specs.Damage.{TellNoDamage, tells_damage}
 use Rattle.stripe_core.specs.Flush.{AreOfFlush, IsOfFlush, LiveBefore, StopsWith, stop_end}
 use Rattle.stripe_core.specs.Place.{CutsAsAsked, IsFragmentAs, IsFragmentOf, IsNew, IsStoppedAs, IsVectorOf, PlacesAt, ReachesLimit, RoomIsMade, RoomsAsAsked, StopsBehind, piece_records, place_adds, place_end}
 use Rattle.stripe_core.proofs.Flushes.{state_of-with_records, with_records-append}
-use Rattle.stripe_core.proofs.Looked.{own_covers, own_permit}
+use Rattle.cache_model.specs.Given.{counts_told}
+use Rattle.stripe_core.specs.Faults.{Refuses}
+use Rattle.stripe_core.proofs.Between.{told_append}
+use Rattle.stripe_core.proofs.Covering.{own_covers, own_permit}
 use Rattle.stripe_core.proofs.Naming.{SamePuts, same_puts}
 
 -- ---- groups one behind the other
@@ -142,7 +146,22 @@ no_damage_adds : (s : State) (id : PieceId) (pin start : ℕ) (payload : List �
 no_damage_adds s id pin start payload (Ok placed) = no_damage_placed s id pin start payload
 no_damage_adds s id pin start payload (Err why) = tt
 
-module _ (now : ℕ) (old mid : Kept) (before : ℕ) (device : Device) (id : PieceId) (pin start : ℕ) (payload : List ℕ) (u : Unit {0}) (r : RoomsAsAsked now old mid before device (length payload) (Ok u)) where
+-- what is placed tells no fault
+placed_quiet : (s : State) (id : PieceId) (pin start : ℕ) (payload : List ℕ) → counts_told (piece_records s id pin start payload) ≡ []
+placed_quiet s id pin start payload = by (is_vector id)
+  where
+    by : (b : Bool) → counts_told ((if b then [] else rec.Cut id.put id.index (length payload) (digest_of payload) ∷ []) ++ placed_record s id pin start (length payload) payload ∷ []) ≡ []
+    by true = refl
+    by false = refl
+
+pub place_quiet : (s : State) (id : PieceId) (pin start : ℕ) (payload : List ℕ) (result : Result Placed Stop) → counts_told (place_adds s id pin start payload result) ≡ []
+place_quiet s id pin start payload (Ok placed) = placed_quiet s id pin start payload
+place_quiet s id pin start payload (Err why) = refl
+
+quiet_adds : (first quiet : List Rec) → counts_told quiet ≡ [] → counts_told (first ++ quiet) ≡ counts_told first
+quiet_adds first quiet none = told_append first quiet ∙ (ap (λ counts. counts_told first ++ counts) none ∙ append-nil (counts_told first))
+
+module _ (now : ℕ) (old mid : Kept) (before : List Call) (device : Device) (id : PieceId) (pin start : ℕ) (payload : List ℕ) (u : Unit {0}) (r : RoomsAsAsked now old mid before device (length payload) (Ok u)) where
   abbrev s : State
   s = state_of old
 
@@ -160,8 +179,8 @@ module _ (now : ℕ) (old mid : Kept) (before : ℕ) (device : Device) (id : Pie
   -- a flush made the room, or it was there
   none_added : has_room s (length payload) ≡ true → r.added ≡ []
   none_added h =
-      subst (λ b. MatchBool b (r.added ≡ []) (MakesRoom (own_permit now before device.faults r.reads) s (length payload) r.added Stays)) h
-      (r.does (own_permit now before device.faults r.reads) refl (own_covers now before device.faults r.reads))
+      subst (λ b. MatchBool b (r.added ≡ []) (MakesRoom (own_permit now before device.past) s (length payload) r.added Stays)) h
+      (r.does (own_permit now before device.past) refl (own_covers now before device.past))
 
   by_room : (p : Permit) (result : Result Placed Stop) → p.packed ≡ false → RoomIsMade p s (length payload) r.added (Ok u) → IsFragmentOf s id pin start payload → blocks_of (length payload) ≤ budget_of s.geometry
       → has_room t (length payload) ≡ true → PlacesAt t payload result → (b : Bool) → has_room s (length payload) ≡ b
@@ -205,15 +224,15 @@ module _ (now : ℕ) (old mid : Kept) (before : ℕ) (device : Device) (id : Pie
       let there : PlacesAt t payload result = subst (λ x. PlacesAt x payload result) mid_is at in
       record {
         added = r.added ++ place_adds t id pin start payload result;
-        reads = r.reads;
         adds = adds
             ∙ (ap (λ m. with_records m (place_adds (state_of mid) id pin start payload result)) r.adds
             ∙ (with_records-append old r.added (place_adds (state_of mid) id pin start payload result)
             ∙ ap (λ x. with_records old (r.added ++ place_adds x id pin start payload result)) mid_is));
         shape = shape_by after.faults result here there;
         unharmed = λ told. all_append (λ r. tells_damage r ≡ false) r.added _ (r.unharmed (subst TellsAll still told)) (no_damage_adds t id pin start payload result);
+        faults = subst (λ (d : Device). Refuses before d.past (counts_told (r.added ++ place_adds t id pin start payload result))) (sym still) (subst (Refuses before device.past) (sym (quiet_adds r.added (place_adds t id pin start payload result) (place_quiet t id pin start payload result))) r.faults);
         does = λ p moment covers.
-            by_room p result covers.plain (r.does p moment (subst (λ (d : Device). Covers p before d.faults r.reads) still covers)) f small here there (has_room s (length payload)) refl;
+            by_room p result covers.plain (r.does p moment (subst (λ (d : Device). Covers p before d.past) still covers)) f small here there (has_room s (length payload)) refl;
       }
 
 -- ---- no room could be made
@@ -236,23 +255,23 @@ stopped_by s faults bytes added (stop.Exhausted number) full stops none =
     subst (λ t. ReachesLimit t bytes number) (sym (ap (after_all s) none))
     (stops.0 ∙ sym (ap (λ b. if b then place_now s + blocks_of bytes else cursor_next s) full), stops.1)
 
-pub cuts_stop : (now : ℕ) (old new : Kept) (before : ℕ) (after : Device) (id : PieceId) (pin start : ℕ) (payload : List ℕ) (why : Stop) → IsFragmentOf (state_of old) id pin start payload
+pub cuts_stop : (now : ℕ) (old new : Kept) (before : List Call) (after : Device) (id : PieceId) (pin start : ℕ) (payload : List ℕ) (why : Stop) → IsFragmentOf (state_of old) id pin start payload
     → has_room (state_of old) (length payload) ≡ false → StopsWith (state_of old) after.faults why → RoomsAsAsked now old new before after (length payload) (Err why)
     → CutsAsAsked now old new before after id pin start payload (Err why)
 cuts_stop now old new before after id pin start payload why f full stops r =
     let s : State = state_of old in
     let state : state_of new ≡ after_all s r.added = ap state_of r.adds ∙ state_of-with_records old r.added in
-    let own : Permit = own_permit now before after.faults r.reads in
+    let own : Permit = own_permit now before after.past in
     record {
       added = r.added;
-      reads = r.reads;
       adds = r.adds;
       shape = record {
         kinds = r.kinds;
         live = subst (LiveBefore s) state r.live;
-        why_is = stopped_by s after.faults (length payload) r.added why full stops (none_by own s (length payload) r.added why (r.does own refl (own_covers now before after.faults r.reads)));
+        why_is = stopped_by s after.faults (length payload) r.added why full stops (none_by own s (length payload) r.added why (r.does own refl (own_covers now before after.past)));
       };
       unharmed = r.unharmed;
+      faults = r.faults;
       does = λ p moment covers. one_group p s _ _ _ (DoesFragment.rooms f.w f.next (r.does p moment covers));
     }
 

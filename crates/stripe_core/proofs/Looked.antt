@@ -1,11 +1,14 @@
 -- What was looked at before a flush can be told and copied, and what that adds is what was asked.
-use Rattle.std.proofs.Common.{◌≡◌, ℕ, ◌+◌, ◌*◌, ◌<◌, ◌≤◌, Bool, true, false, List, [], ◌∷◌, ◌++◌, refl, sym, ◌∙◌, ap, subst, arith, inl, inr, length, Result, Ok, Err}
-use Rattle.std.specs.Prelude.{max, nat_lt, ◌&&◌}
+use Rattle.std.proofs.Common.{◌≡◌, ℕ, ◌+◌, ◌-◌, ◌*◌, ◌/◌, ◌<◌, ◌≤◌, Bool, true, false, List, [], ◌∷◌, ◌++◌, refl, sym, ◌∙◌, ap, subst, arith, length, take, drop, Result, Ok, Err}
+use Rattle.std.specs.Prelude.{nat_lt, ◌&&◌}
 use Rattle.std.specs.List.{AllByRecursion}
 use Rattle.std.proofs.lemmas.Bool.{and_parts, ltb-true}
 use Rattle.edge_io.specs.Causes.{Rose}
 use Rattle.edge_io.specs.declared.source.Failed.{Failed}
-use Rattle.agg_buffer.specs.Buffer.{filled_of}
+use Rattle.device_log.specs.Calls.{Call, RefusedCall, ToWrite, Wrote}
+use Rattle.doc_header.specs.Reading.{document_digest}
+use Rattle.agg_buffer.specs.Buffer.{Buffer, filled_of}
+use Rattle.tape_base.specs.Place.{slot_of}
 use Rattle.cyclone.specs.Cyclone.{SameTape, Seen, WritesBuffer}
 use Rattle.tape_base.specs.Geometry.{budget_of}
 use Rattle.logged_disk.specs.Device.{State as Device, IsAfter, IsAsked}
@@ -15,21 +18,22 @@ use Rattle.cache_model.specs.declared.record.Rec.{Rec}
 use Rattle.cache_model.specs.declared.record.Rec.TheVariants as rec
 use Rattle.cache_model.specs.State.{Row, State, after_all, cursor_next, floor_next, live_rows, state_after}
 use Rattle.cache_model.specs.Kept.{Kept, state_of, with_records}
-use Rattle.cache_model.specs.Permit.{DeviceRead, IsAmong, Permit}
+use Rattle.cache_model.specs.Permit.{IsAmong, Permit}
 use Rattle.cache_model.specs.Due.{due_pieces, is_due}
-use Rattle.cache_model.specs.Given.{MayCount}
+use Rattle.cache_model.specs.Given.{CountsWrite, block_at, bytes_from, counts_told}
 use Rattle.cache_model.specs.Legal
 use Rattle.cache_model.specs.Legal.{CanFlush}
-use Rattle.cache_model.specs.Outcomes.{AreOutcomes, Copied, NoRoom, Outcome, Refused, Spoiled, began_record, copies_of, flush_records, front_of, moved_record, moved_records, stopped_front_of, stopped_records, Copy}
+use Rattle.cache_model.specs.Outcomes.{AreOutcomes, Copied, NoRoom, Outcome, Refused, Spoiled, began_record, copies_of, flush_records, front_of, moved_record, moved_records, records_of, stopped_front_of, stopped_records, stopped_records_of, Copy}
 use Rattle.cache_model.specs.Tape.{AreApart, IsSound}
 use Rattle.cache_model.proofs.Copies.{AreReady, blocks_of_copies, rows_of}
 use Rattle.cache_model.proofs.Live.{due_are_live}
 use Rattle.cache_model.proofs.Rows.{apart-part}
 use Rattle.cache_model.proofs.Sound.{buffer_left, later_began, least_left}
-use Rattle.cache_model.proofs.SoundFlush.{copies_part, copies_ready, due_part, flush_is_sound, front_leaves, part_ready}
+use Rattle.cache_model.proofs.SoundFlush.{copies_part, copies_ready, due_part, flush_is_sound, front_leaves, part_ready, stopped_aside}
+use Rattle.cache_model.proofs.Aside.{AllAside, IsAside, aside_leaves}
 use Rattle.cache_model.proofs.Walks.{all_among}
 use Rattle.cache_model.proofs.Written.{passes}
-use Rattle.cache_model.proofs.Steps.{all_append}
+use Rattle.cache_model.proofs.Steps.{all_append, all_parts}
 use Rattle.stripe_due.specs.Finding.{most_passed}
 use Rattle.stripe_core.specs.declared.ahead.Ahead.{Ahead}
 use Rattle.stripe_core.specs.declared.refusal.Flushed.{Flushed}
@@ -37,28 +41,50 @@ use Rattle.stripe_core.specs.declared.refusal.Stop.TheVariants as stop
 use Rattle.stripe_core.specs.Ahead.{LooksAhead}
 use Rattle.stripe_core.specs.Copying.{AreCopyable, AreTellable, begun_behind, copied_of, copies_among, done_records, told_of}
 use Rattle.stripe_core.specs.Covers.{Covers, Uses}
+use Rattle.stripe_core.specs.Faults.{Refuses, counts_among, counts_of}
+use Rattle.stripe_core.specs.Held.{IsBufferedWhereNew, IsHeld}
+use Rattle.stripe_core.specs.declared.ahead.Fate.{Fate}
+use Rattle.stripe_core.proofs.Between.{refuses_then, told_append}
+use Rattle.stripe_core.proofs.Covering.{block_is, covers_first, own_covers, own_permit}
+use Rattle.stripe_core.proofs.Findings.{lower_rose}
+use Rattle.stripe_core.proofs.OneMore.{counted_later}
 use Rattle.cache_model.specs.Damage.{TellNoDamage, tells_damage}
 use Rattle.stripe_core.specs.Flush.{FlushesAsAsked, LiveBefore}
 use Rattle.stripe_core.proofs.Flushes.{state_of-with_records}
 use Rattle.stripe_core.proofs.LiveBehind.{flush_before, flush_kinds, stopped_before, stopped_kinds}
 use Rattle.stripe_core.proofs.Readied.{IsPassed, are_copyable, copied_is, copies_within, few_copies}
-use Rattle.stripe_core.proofs.Told.{AllCame, all_came, are_tellable, few_told, last_fault, stopped_is, told_is}
+use Rattle.stripe_core.proofs.Told.{AllCame, none, more, all_came, are_tellable, few_told, last_fault, stopped_is, told_is}
 
--- ---- a step that the flush alone makes
+-- ---- the faults among the records
 
-among_more : (x : DeviceRead) (ys xs : List DeviceRead) → AllByRecursion (λ r. IsAmong r ys) xs → AllByRecursion (λ r. IsAmong r (x ∷ ys)) xs
-among_more x ys [] all = tt
-among_more x ys (r ∷ xs) all = (inr all.0, among_more x ys xs all.1)
+one_count : (row : Row) (o : Outcome) → counts_told (records_of row o) ≡ counts_of o
+one_count row NoRoom = refl
+one_count row (Copied bytes) = refl
+one_count row (Spoiled found) = refl
+one_count row (Refused count) = refl
 
-all_own : (xs : List DeviceRead) → AllByRecursion (λ r. IsAmong r xs) xs
-all_own [] = tt
-all_own (x ∷ xs) = (inl refl, among_more x xs xs (all_own xs))
+stopped_count : (row : Row) (o : Outcome) → counts_told (stopped_records_of row o) ≡ counts_of o
+stopped_count row NoRoom = refl
+stopped_count row (Copied bytes) = refl
+stopped_count row (Spoiled found) = refl
+stopped_count row (Refused count) = refl
 
-abbrev pub own_permit : ℕ → ℕ → ℕ → List DeviceRead → Permit
-own_permit now before after reads = record { packed = false; now = now; faults_before = before; faults = after; reads = reads }
+front_counts : {rows : List Row} {outcomes : List Outcome} {fates : List Fate} → AllCame rows outcomes fates → counts_told (front_of rows outcomes) ≡ counts_among outcomes
+front_counts none = refl
+front_counts (more {o = o} {rows = rows} {outcomes = outcomes} row came rest) =
+    told_append (records_of row o) (front_of rows outcomes)
+    ∙ (ap (λ counts. counts ++ counts_told (front_of rows outcomes)) (one_count row o) ∙ ap (λ counts. counts_of o ++ counts) (front_counts rest))
 
-pub own_covers : (now before after : ℕ) (reads : List DeviceRead) → Covers (own_permit now before after reads) before after reads
-own_covers now before after reads = record { plain = refl; from = omega arith; upto = omega arith; knows = all_own reads }
+stopped_front_counts : {rows : List Row} {outcomes : List Outcome} {fates : List Fate} → AllCame rows outcomes fates
+    → counts_told (stopped_front_of rows outcomes) ≡ counts_among outcomes
+stopped_front_counts none = refl
+stopped_front_counts (more {o = o} {rows = rows} {outcomes = outcomes} row came rest) =
+    told_append (stopped_records_of row o) (stopped_front_of rows outcomes)
+    ∙ (ap (λ counts. counts ++ counts_told (stopped_front_of rows outcomes)) (stopped_count row o) ∙ ap (λ counts. counts_of o ++ counts) (stopped_front_counts rest))
+
+moved_counts : (u : State) (copies : List Copy) → counts_told (moved_records u copies) ≡ []
+moved_counts u [] = refl
+moved_counts u (c ∷ copies) = moved_counts (state_after u (moved_record u c)) copies
 
 -- ---- what is due is passed by the next floor
 
@@ -69,15 +95,15 @@ due_are_passed s now = all_among (λ (row : Row). row.place < floor_next s) (due
 
 -- ---- what was looked at
 
-module _ (now : ℕ) (s : State) (before : ℕ) (mid : Device) (a : Ahead) (sound : IsSound s) (looks : LooksAhead now s before mid a) where
+module _ (now : ℕ) (s : State) (before mid : Device) (a : Ahead) (sound : IsSound s) (looks : LooksAhead now s before mid a) where
   abbrev due_rows : List Row
   due_rows = due_pieces s now
 
   abbrev permit : Permit
-  permit = own_permit now before mid.faults looks.reads
+  permit = own_permit now before.past mid.past
 
   are : AreOutcomes permit s (budget_of s.geometry) due_rows looks.outcomes
-  are = looks.are permit (own_covers now before mid.faults looks.reads)
+  are = looks.are permit (own_covers now before.past mid.past)
 
   all : AllCame due_rows looks.outcomes a.fates.items
   all = all_came due_rows looks.outcomes a.fates.items looks.fates
@@ -88,7 +114,7 @@ module _ (now : ℕ) (s : State) (before : ℕ) (mid : Device) (a : Ahead) (soun
   pub tellable : (done : Bool) (faults : ℕ) → mid.faults ≤ faults → AreTellable done s faults a.due.items a.fates.items
   tellable done faults few =
       subst (λ cs. AreTellable done s faults cs a.fates.items) (sym looks.due)
-      (are_tellable done permit s s (budget_of s.geometry) faults all are few apart (due_are_live s now sound))
+      (are_tellable done s faults all (counted_later mid.faults faults looks.outcomes few looks.counted) apart (due_are_live s now sound))
 
   told_front : told_of true a.due.items a.fates.items ≡ front_of due_rows looks.outcomes
   told_front = ap (λ cs. told_of true cs a.fates.items) looks.due ∙ told_is all
@@ -148,6 +174,19 @@ module _ (now : ℕ) (s : State) (before : ℕ) (mid : Device) (a : Ahead) (soun
   fault_low low =
       subst (λ told. (after_all s told).fault ≤ mid.faults) stopped_front (last_fault false s mid.faults a.due.items a.fates.items (tellable false mid.faults (omega arith)) low)
 
+  -- ---- the calls that were refused among them
+
+  flush_counts : counts_told (flush_records s due_rows looks.outcomes) ≡ counts_among looks.outcomes ++ []
+  flush_counts =
+      told_append (front_of due_rows looks.outcomes) (began_record s ∷ moved_records begun (copies_of due_rows looks.outcomes))
+      ∙ (ap (λ counts. counts ++ counts_told (moved_records begun (copies_of due_rows looks.outcomes))) (front_counts all)
+      ∙ ap (λ counts. counts_among looks.outcomes ++ counts) (moved_counts begun (copies_of due_rows looks.outcomes)))
+
+  stopped_counts : (count : ℕ) → counts_told (stopped_records due_rows looks.outcomes count) ≡ counts_among looks.outcomes ++ count ∷ []
+  stopped_counts count =
+      told_append (stopped_front_of due_rows looks.outcomes) (rec.Fault count ∷ [])
+      ∙ ap (λ counts. counts ++ count ∷ []) (stopped_front_counts all)
+
 -- ---- damage among the records
 
 moved_unharmed : (u : State) (copies : List Copy) → TellNoDamage (moved_records u copies)
@@ -171,66 +210,148 @@ stopped_unharmed rows outcomes count h = all_append (λ r. tells_damage r ≡ fa
 
 -- ---- what was asked
 
--- the device was called once more
-pub record IsLaterDevice (mid after : Device) : Type 0 where
-  pub faults : mid.faults ≤ after.faults
+-- the bytes of the buffer, and the block to which they go
+pub record GoesOut (s : State) (at : ℕ) (bytes : List ℕ) : Type 0 where
+  pub at_is : at ≡ slot_of s.geometry s.cursor
+  pub whole : length bytes / 512 ≡ s.filled
+  pub holds : AllByRecursion (λ (row : Row). s.cursor ≤ row.place → document_digest (bytes_from s bytes row) ≡ row.digest) s.rows
+
+all_hold : (s : State) (b : Buffer) (rows : List Row) → b.cursor ≡ s.cursor → AllByRecursion (IsBufferedWhereNew b) rows
+    → AllByRecursion (λ (row : Row). s.cursor ≤ row.place → document_digest (bytes_from s b.bytes row) ≡ row.digest) rows
+all_hold s b [] same h = tt
+all_hold s b (row ∷ rows) same h = (
+  λ from.
+      ap (λ n. document_digest (take (512 * row.blocks) (drop (512 * (row.place - n)) b.bytes))) (sym same)
+      ∙ (h.0 (let above : s.cursor ≤ row.place = from in omega (arith, same, above))).digest,
+  all_hold s b rows same h.1,
+)
+
+pub goes_out : (s : State) (c : Seen) → IsHeld s c → GoesOut s (slot_of c.geometry c.buffer.cursor) c.buffer.bytes
+goes_out s c held = record {
+  at_is = ap (λ g. slot_of g c.buffer.cursor) held.geometry ∙ ap (slot_of s.geometry) held.cursor;
+  whole = held.filled;
+  holds = all_hold s c.buffer s.rows held.cursor held.buffered;
+}
+
+-- the device took it, and did nothing else
+pub record IsTaken (s : State) (mid after : Device) : Type 0 where
+  pub at : ℕ
+  pub bytes : List ℕ
+  pub buffer : GoesOut s at bytes
+  pub wrote : after.past ≡ Wrote at bytes ∷ mid.past
   pub goes : IsAfter mid after
 
-earlier_covers : (p : Permit) (before mid after : ℕ) (reads : List DeviceRead) → mid ≤ after → Covers p before after reads → Covers p before mid reads
-earlier_covers p before mid after reads later c = record { plain = c.plain; from = c.from; upto = omega (arith, later, c.upto); knows = c.knows }
+-- or refused it
+pub record IsLeft (s : State) (mid after : Device) : Type 0 where
+  pub at : ℕ
+  pub bytes : List ℕ
+  pub left : List ℕ
+  pub buffer : GoesOut s at bytes
+  pub refused : after.past ≡ RefusedCall (ToWrite at (length bytes / 512) left) after.faults ∷ mid.past
+  pub goes : IsAfter mid after
 
-pub flush_asked : (now : ℕ) (old new : Kept) (before : ℕ) (mid after : Device) (a : Ahead) (flushed : Flushed) → IsSound (state_of old) → CanFlush (state_of old)
-    → LooksAhead now (state_of old) before mid a → IsLaterDevice mid after → new ≡ with_records old (done_records (state_of old) a.due.items a.fates.items a.bytes.items)
-    → FlushesAsAsked now old new before after (Ok flushed)
-flush_asked now old new before mid after a flushed sound able looks later is =
+pub taken_by_write : (s : State) (c mid out : Seen) (device : Device) → IsHeld s c → SameTape c mid → WritesBuffer mid out (Ok tt) → device ≡ out.device → IsTaken s mid.device device
+taken_by_write s c mid out device held same wrote is = record {
+  at = slot_of mid.geometry mid.buffer.cursor;
+  bytes = mid.buffer.bytes;
+  buffer = rw (ap (λ (y : Seen). y.geometry) same, ap (λ (y : Seen). y.buffer) same) (goes_out s c held);
+  wrote = ap (λ (d : Device). d.past) is ∙ wrote.logs.past;
+  goes = subst (λ d. IsAfter mid.device d) (sym is) (write_goes_on mid out (Ok tt) wrote);
+}
+
+pub left_by_write : (s : State) (c mid out : Seen) (device : Device) (e : Failed) → IsHeld s c → SameTape c mid → WritesBuffer mid out (Err e) → device ≡ out.device → IsLeft s mid.device device
+left_by_write s c mid out device e held same wrote is = record {
+  at = slot_of mid.geometry mid.buffer.cursor;
+  bytes = mid.buffer.bytes;
+  left = wrote.logs.0.0;
+  buffer = rw (ap (λ (y : Seen). y.geometry) same, ap (λ (y : Seen). y.buffer) same) (goes_out s c held);
+  refused = ap (λ (d : Device). d.past) is
+      ∙ (wrote.logs.0.1 ∙ ap (λ n. RefusedCall (ToWrite (slot_of mid.geometry mid.buffer.cursor) (length mid.buffer.bytes / 512) wrote.logs.0.0) n ∷ mid.device.past) (sym (ap (λ (d : Device). d.faults) is)));
+  goes = subst (λ d. IsAfter mid.device d) (sym is) (write_goes_on mid out (Err e) wrote);
+}
+
+pub flush_asked : (now : ℕ) (old new : Kept) (before mid after : Device) (a : Ahead) (flushed : Flushed) → IsSound (state_of old) → CanFlush (state_of old)
+    → LooksAhead now (state_of old) before mid a → IsTaken (state_of old) mid after → new ≡ with_records old (done_records (state_of old) a.due.items a.fates.items a.bytes.items)
+    → FlushesAsAsked now old new before.past after (Ok flushed)
+flush_asked now old new before mid after a flushed sound able looks taken is =
     let s : State = state_of old in
     let records : done_records s a.due.items a.fates.items a.bytes.items ≡ flush_records s (due_pieces s now) looks.outcomes = done_is now s before mid a sound looks in
     let added : List Rec = flush_records s (due_pieces s now) looks.outcomes in
     let adds : new ≡ with_records old added = is ∙ ap (with_records old) records in
+    let made : List Call = Wrote taken.at taken.bytes ∷ looks.faults.made in
+    let past : after.past ≡ made ++ before.past = taken.wrote ∙ ap (λ calls. Wrote taken.at taken.bytes ∷ calls) looks.faults.past in
+    let none : Refuses mid.past after.past [] = record { made = Wrote taken.at taken.bytes ∷ []; past = taken.wrote; are = refl } in
     record {
       added = added;
-      reads = looks.reads;
       adds = adds;
       kinds = flush_kinds s (due_pieces s now) looks.outcomes;
       live = subst (LiveBefore s) (sym (ap state_of adds ∙ state_of-with_records old added)) (flush_before s now looks.outcomes sound (later_began s sound).floor);
-      unharmed = λ told. flush_unharmed s (due_pieces s now) looks.outcomes (looks.unharmed (told_before mid after later.goes told));
+      unharmed = λ told. flush_unharmed s (due_pieces s now) looks.outcomes (looks.unharmed (told_before mid after taken.goes told));
+      faults = subst (Refuses before.past after.past) (sym (flush_counts now s before mid a sound looks))
+          (refuses_then before.past mid.past after.past (counts_among looks.outcomes) [] looks.faults none);
       does = λ p moment covers. Legal.DoesFlush.flushes (record {
         outcomes = looks.outcomes;
         can = able;
-        are = subst (λ n. AreOutcomes p s (budget_of s.geometry) (due_pieces s n) looks.outcomes) (sym moment) (looks.are p (earlier_covers p before mid.faults after.faults looks.reads later.faults covers));
+        takes = record {
+          bytes = taken.bytes;
+          written = subst (λ at. IsAmong (Wrote at taken.bytes) p.events) (taken.buffer.at_is ∙ block_is p s s.geometry s.cursor refl covers.content) (covers.knows made past).0;
+          whole = taken.buffer.whole;
+          holds = taken.buffer.holds;
+        };
+        are = subst (λ n. AreOutcomes p s (budget_of s.geometry) (due_pieces s n) looks.outcomes) (sym moment)
+            (looks.are p (covers_first p before.past mid.past after.past (Wrote taken.at taken.bytes ∷ []) taken.wrote covers));
         is = ap (λ n. flush_records s (due_pieces s n) looks.outcomes) (sym moment);
       });
     }
 
-lower_rose : (a b n : ℕ) → a ≤ b → Rose b n → Rose a n
-lower_rose a b n h r = omega (arith, h, r)
+-- the device refused to take the buffer, in a state that has it still
+counts_write : (p : Permit) (s t : State) (before mid after : Device) (made : List Call) (left : IsLeft s mid after)
+    → (t.geometry ≡ s.geometry) × (t.cursor ≡ s.cursor) × (t.filled ≡ s.filled) → after.past ≡ (RefusedCall (ToWrite left.at (length left.bytes / 512) left.left) after.faults ∷ made) ++ before.past
+    → t.fault ≤ mid.faults → Rose mid.faults after.faults → Covers p before.past after.past → CountsWrite p t after.faults
+counts_write p s t before mid after made left same past low rose covers =
+    let at : left.at ≡ block_at p t t.cursor =
+    left.buffer.at_is ∙ (ap (λ g. slot_of g s.cursor) (sym same.0) ∙ (ap (slot_of t.geometry) (sym same.1) ∙ block_is p t t.geometry t.cursor refl covers.content)) in
+    record {
+      left = left.left;
+      counts = record {
+        rose = lower_rose t.fault mid.faults after.faults low rose;
+        refused = subst (λ call. IsAmong call p.events)
+            (ap (λ k. RefusedCall (ToWrite k (length left.bytes / 512) left.left) after.faults) at
+            ∙ ap (λ n. RefusedCall (ToWrite (block_at p t t.cursor) n left.left) after.faults) (left.buffer.whole ∙ sym same.2))
+            (covers.knows (RefusedCall (ToWrite left.at (length left.bytes / 512) left.left) after.faults ∷ made) past).0;
+      };
+    }
 
-may_count : (p : Permit) (t : State) (before mid count : ℕ) → p.faults_before ≤ before → before ≤ mid → t.fault ≤ mid → count ≤ p.faults → Rose mid count → MayCount p t count
-may_count p t before mid count from later low reached rose = record { rose = lower_rose (max p.faults_before t.fault) mid count (omega (arith, from, later, low)) rose; reached = reached }
-
-pub stop_asked : (now : ℕ) (old new : Kept) (before : ℕ) (mid after : Device) (a : Ahead) → IsSound (state_of old) → CanFlush (state_of old) → (state_of old).fault ≤ before → before ≤ mid.faults
-    → LooksAhead now (state_of old) before mid a → IsLaterDevice mid after → Rose mid.faults after.faults
+pub stop_asked : (now : ℕ) (old new : Kept) (before mid after : Device) (a : Ahead) → IsSound (state_of old) → CanFlush (state_of old) → (state_of old).fault ≤ before.faults → before.faults ≤ mid.faults
+    → LooksAhead now (state_of old) before mid a → IsLeft (state_of old) mid after → Rose mid.faults after.faults
     → new ≡ with_records old (told_of false a.due.items a.fates.items ++ rec.Fault after.faults ∷ [])
-    → FlushesAsAsked now old new before after (Err (stop.DeviceFault after.faults))
-stop_asked now old new before mid after a sound able low first looks later rose is =
+    → FlushesAsAsked now old new before.past after (Err (stop.DeviceFault after.faults))
+stop_asked now old new before mid after a sound able low first looks left rose is =
     let s : State = state_of old in
     let count : ℕ = after.faults in
     let added : List Rec = stopped_records (due_pieces s now) looks.outcomes count in
     let adds : new ≡ with_records old added = is ∙ ap (λ told. with_records old (told ++ rec.Fault count ∷ [])) (stopped_front now s before mid a sound looks) in
-    let last : (after_all s (stopped_front_of (due_pieces s now) looks.outcomes)).fault ≤ mid.faults = fault_low now s before mid a sound looks (omega (arith, low, first)) in
+    let front : List Rec = stopped_front_of (due_pieces s now) looks.outcomes in
+    let last : (after_all s front).fault ≤ mid.faults = fault_low now s before mid a sound looks (omega (arith, low, first)) in
+    let aside : AllAside front = (all_parts IsAside front (rec.Fault count ∷ []) (stopped_aside (due_pieces s now) looks.outcomes count)).0 in
+    let call : Call = RefusedCall (ToWrite left.at (length left.bytes / 512) left.left) count in
+    let past : after.past ≡ (call ∷ looks.faults.made) ++ before.past = left.refused ∙ ap (λ calls. call ∷ calls) looks.faults.past in
+    let one : Refuses mid.past after.past (count ∷ []) = record { made = call ∷ []; past = left.refused; are = refl } in
     record {
       added = added;
-      reads = looks.reads;
       adds = adds;
       kinds = stopped_kinds (due_pieces s now) looks.outcomes count;
       live = subst (LiveBefore s) (sym (ap state_of adds ∙ state_of-with_records old added)) (stopped_before s (due_pieces s now) looks.outcomes count);
-      unharmed = λ told. stopped_unharmed (due_pieces s now) looks.outcomes count (looks.unharmed (told_before mid after later.goes told));
+      unharmed = λ told. stopped_unharmed (due_pieces s now) looks.outcomes count (looks.unharmed (told_before mid after left.goes told));
+      faults = subst (Refuses before.past after.past) (sym (stopped_counts now s before mid a sound looks count))
+          (refuses_then before.past mid.past after.past (counts_among looks.outcomes) (count ∷ []) looks.faults one);
       does = λ p moment covers. Legal.DoesFlush.stops count (record {
         outcomes = looks.outcomes;
         can = able;
-        are = subst (λ n. AreOutcomes p s (budget_of s.geometry) (due_pieces s n) looks.outcomes) (sym moment) (looks.are p (earlier_covers p before mid.faults after.faults looks.reads later.faults covers));
-        counts = subst (λ n. MayCount p (after_all s (stopped_front_of (due_pieces s n) looks.outcomes)) count) (sym moment)
-            (may_count p (after_all s (stopped_front_of (due_pieces s now) looks.outcomes)) before mid.faults count covers.from first last covers.upto rose);
+        are = subst (λ n. AreOutcomes p s (budget_of s.geometry) (due_pieces s n) looks.outcomes) (sym moment)
+            (looks.are p (covers_first p before.past mid.past after.past (call ∷ []) left.refused covers));
+        counts = subst (λ n. CountsWrite p (after_all s (stopped_front_of (due_pieces s n) looks.outcomes)) count) (sym moment)
+            (counts_write p s (after_all s front) before mid after looks.faults.made left (buffer_left s front (aside_leaves front aside)) past last rose covers);
         is = ap (λ n. stopped_records (due_pieces s n) looks.outcomes count) (sym moment);
       });
     }

@@ -6,6 +6,7 @@ use Rattle.std.proofs.lemmas.List.{append-nil}
 use Rattle.tape_base.specs.declared.geometries.Geometry.{Geometry}
 use Rattle.tape_base.specs.Blocks.{blocks_of}
 use Rattle.tape_base.specs.Geometry.{budget_of}
+use Rattle.device_log.specs.Calls.{Call}
 use Rattle.logged_disk.specs.Device.{State as Device}
 use Rattle.cache_model.specs.declared.record.Rec.{Rec}
 use Rattle.cache_model.specs.State.{State}
@@ -21,6 +22,7 @@ use Rattle.stripe_core.specs.declared.refusal.Stop.TheVariants as stop
 use Rattle.stripe_core.specs.Flush.{FlushesAsAsked, LiveBefore, StopsWith, stop_end}
 use Rattle.stripe_core.specs.Place.{RoomsAsAsked}
 use Rattle.stripe_core.specs.Stripe.{Answers}
+use Rattle.stripe_core.proofs.Between.{refuses_none}
 
 -- ---- none is needed
 
@@ -30,14 +32,14 @@ live_still s = λ id row h. (row, h, record { id = refl; blocks = refl; pin = re
 none_added : (k : Kept) → k ≡ with_records k []
 none_added k = ap (λ recs. record k { since = recs }) (sym (append-nil k.since))
 
-pub room_stands : (now : ℕ) (k : Kept) (before : ℕ) (after : Device) (bytes : ℕ) (u : Unit {0}) → has_room (state_of k) bytes ≡ true → RoomsAsAsked now k k before after bytes (Ok u)
-room_stands now k before after bytes u some = record {
+pub room_stands : (now : ℕ) (k : Kept) (device : Device) (bytes : ℕ) (u : Unit {0}) → has_room (state_of k) bytes ≡ true → RoomsAsAsked now k k device.past device bytes (Ok u)
+room_stands now k device bytes u some = record {
   added = [];
-  reads = [];
   adds = none_added k;
   kinds = tt;
   live = live_still (state_of k);
   unharmed = λ told. tt;
+  faults = refuses_none device.past device.past refl;
   does = λ p at covers. rw some refl;
 }
 
@@ -64,27 +66,27 @@ stop_makes : (p : Permit) (s : State) (bytes : ℕ) (added : List Rec) (why : St
 stop_makes p s bytes added (stop.DeviceFault count) none does = fails_makes p s bytes added _ none does
 stop_makes p s bytes added (stop.Exhausted number) none does = fails_makes p s bytes added _ none does
 
-module _ (now : ℕ) (old new : Kept) (before : ℕ) (after : Device) (bytes : ℕ) (none : has_room (state_of old) bytes ≡ false) where
+module _ (now : ℕ) (old new : Kept) (before : List Call) (after : Device) (bytes : ℕ) (none : has_room (state_of old) bytes ≡ false) where
   pub flush_makes : (flushed : Flushed) (u : Unit {0}) → blocks_of bytes ≤ budget_of (state_of old).geometry
       → FlushesAsAsked now old new before after (Ok flushed) → RoomsAsAsked now old new before after bytes (Ok u)
   flush_makes flushed u small h = record {
     added = h.added;
-    reads = h.reads;
     adds = h.adds;
     kinds = h.kinds;
     live = h.live;
     unharmed = h.unharmed;
+    faults = h.faults;
     does = λ p at covers. rw none (done_makes p (state_of old) bytes h.added none small (h.does p at covers));
   }
 
   pub stop_makes_none : (why : Stop) → FlushesAsAsked now old new before after (Err why) → RoomsAsAsked now old new before after bytes (Err why)
   stop_makes_none why h = record {
     added = h.added;
-    reads = h.reads;
     adds = h.adds;
     kinds = h.kinds;
     live = h.live;
     unharmed = h.unharmed;
+    faults = h.faults;
     does = λ p at covers. stop_makes p (state_of old) bytes h.added why none (h.does p at covers);
   }
 

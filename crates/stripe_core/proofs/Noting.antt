@@ -19,6 +19,7 @@ use Rattle.stripe_core.specs.declared.ahead.Ahead.{Ahead}
 use Rattle.stripe_core.specs.declared.ahead.Fate.{Fate}
 use Rattle.stripe_core.specs.declared.ahead.Fate.TheVariants as fate
 use Rattle.stripe_core.specs.Ahead.{StandsAt}
+use Rattle.stripe_core.proofs.Between.{refuses_none}
 use Rattle.stripe_core.specs.Looks.{Comes, HasRow, HasRows, IsCopyOf, LooksOn, MayBeCopied, blocks_kept}
 
 -- ---- the piece at an index
@@ -71,11 +72,10 @@ none_taken candidates marks i mark within read kept =
 -- ---- what is noted
 
 pub notes_none : (s : State) (device : Device) (row : Row) (at : ℕ) (old new : Ahead) → at ≤ budget_of s.geometry → budget_of s.geometry < at + row.blocks
-    → new.fates.items ≡ old.fates.items ++ fate.NoRoom ∷ [] → new.bytes.items ≡ old.bytes.items → LooksOn s device.faults device row at at old new
+    → new.fates.items ≡ old.fates.items ++ fate.NoRoom ∷ [] → new.bytes.items ≡ old.bytes.items → LooksOn s device device row at at old new
 notes_none s device row at old new few over notes same = record {
   outcome = NoRoom;
   note = fate.NoRoom;
-  reads = [];
   notes = notes;
   fate = tt;
   stands = tt;
@@ -83,7 +83,8 @@ notes_none s device row at old new few over notes same = record {
   taken = omega arith;
   count = tt;
   unharmed = λ told. (refl, tt);
-  is = λ p t covers cursor fault. omega arith;
+  faults = refuses_none device.past device.past refl;
+  is = λ p t covers beside. omega arith;
 }
 
 stands_by : (at : ℕ) (row : Row) (o : Outcome) (memory bytes : List ℕ) → IsCopyOf bytes o → take (512 * row.blocks) (drop (512 * at) memory) ≡ bytes → StandsAt at row o memory
@@ -122,7 +123,7 @@ vector_written v slice bytes at blocks same within sized =
     (subst (λ xs. IsWrittenAt at blocks v.items xs bytes) (sym (with_items_is v (put_mid (at * 512) size v.items bytes) long))
     (written_at at blocks v.items bytes within (sized_here ∙ length-take-le size (drop (at * 512) v.items) behind)))
 
-pub notes_read : (s : State) (before : ℕ) (after : Device) (d : Candidate) (row : Row) (at : ℕ) (note : Fate) (old new : Ahead) (bytes : List ℕ) → d ≡ candidate_of row
+pub notes_read : (s : State) (before after : Device) (d : Candidate) (row : Row) (at : ℕ) (note : Fate) (old new : Ahead) (bytes : List ℕ) → d ≡ candidate_of row
     → at + d.blocks ≤ budget_of s.geometry → Comes s before after row note bytes → new.fates.items ≡ old.fates.items ++ note ∷ []
     → IsWrittenAt at d.blocks old.bytes.items new.bytes.items bytes → LooksOn s before after row at (at + d.blocks) old new
 notes_read s before after d row at note old new bytes is fits comes notes written =
@@ -130,7 +131,6 @@ notes_read s before after d row at note old new bytes is fits comes notes writte
     record {
       outcome = comes.outcome;
       note = note;
-      reads = comes.reads;
       notes = notes;
       fate = comes.fate;
       stands = stands_by at row comes.outcome new.bytes.items bytes comes.copy (subst (λ n. take (512 * n) (drop (512 * at) new.bytes.items) ≡ bytes) blocks written.there);
@@ -138,5 +138,6 @@ notes_read s before after d row at note old new bytes is fits comes notes writte
       taken = omega (arith, comes.taken);
       count = comes.count;
       unharmed = comes.unharmed;
-      is = λ p t covers cursor fault. comes.is p t (budget_of s.geometry - at) covers cursor fault (omega arith);
+      faults = comes.faults;
+      is = λ p t covers beside. comes.is p t (budget_of s.geometry - at) covers beside (omega arith);
     }

@@ -1,22 +1,25 @@
 -- Pieces that were looked at, and one more behind them.
 use Rattle.std.proofs.Common.{◌≡◌, ℕ, ◌+◌, ◌-◌, ◌*◌, ◌≤◌, List, [], ◌∷◌, ◌++◌, refl, sym, ◌∙◌, ap, subst, arith, false, take, append_assoc}
 use Rattle.std.proofs.lemmas.List.{append-nil}
-use Rattle.logged_disk.specs.Device.{State as Device, IsAsked, TellsAll}
-use Rattle.logged_disk.proofs.GoingOn.{told_before}
+use Rattle.std.specs.List.{AllByRecursion}
+use Rattle.logged_disk.specs.Device.{State as Device, IsAsked}
+use Rattle.logged_disk.proofs.GoingOn.{goes_further, stays_put, told_before}
 use Rattle.tape_base.specs.Geometry.{budget_of}
 use Rattle.doc_header.proofs.Stands.{part_in_front}
 use Rattle.cache_model.specs.State.{State, Row, after_all}
-use Rattle.cache_model.specs.Permit.{DeviceRead, IsAmong, Permit}
+use Rattle.cache_model.specs.Permit.{Permit}
 use Rattle.cache_model.specs.Outcomes.{AreOutcomes, Copied, IsOutcome, NoRoom, Outcome, Refused, Spoiled, front_of, left_behind, records_of}
-use Rattle.cache_model.proofs.Steps.{after_all-append, all_append, all_parts}
+use Rattle.cache_model.proofs.Steps.{after_all-append, all_append}
 use Rattle.cache_model.proofs.Aside.{aside_leaves}
 use Rattle.cache_model.proofs.Sound.{buffer_left}
 use Rattle.cache_model.proofs.SoundFlush.{aside_of}
 use Rattle.stripe_core.specs.declared.ahead.Ahead.{Ahead}
 use Rattle.stripe_core.specs.declared.ahead.Fate.{Fate}
 use Rattle.stripe_core.specs.Ahead.{AreFates, IsFate, StandFrom, StandsAt, taken_by, taken_by_all}
-use Rattle.stripe_core.specs.Looks.{CountsUpTo, Looked, LooksOn}
-use Rattle.stripe_core.specs.Covers.{Covers}
+use Rattle.stripe_core.specs.Looks.{Looked, LooksOn}
+use Rattle.stripe_core.specs.Faults.{CountsUpTo, Refuses, counts_among, counts_of}
+use Rattle.stripe_core.proofs.Between.{refuses_none, refuses_then}
+use Rattle.stripe_core.proofs.Covering.{covers_first, covers_last}
 use Rattle.cache_model.specs.Damage.{TellNoDamage, tells_damage}
 
 -- ---- lists of the same length
@@ -107,55 +110,67 @@ fault_within s row (Copied bytes) faults h k = h
 fault_within s row (Spoiled found) faults h k = h
 fault_within s row (Refused count) faults h k = k
 
--- ---- what covers the whole covers each part
+-- the calls that were refused
+counts_more : (outcomes : List Outcome) (o : Outcome) → counts_among (outcomes ++ o ∷ []) ≡ counts_among outcomes ++ counts_of o
+counts_more [] o = append-nil (counts_of o)
+counts_more (x ∷ outcomes) o = ap (λ counts. counts_of x ++ counts) (counts_more outcomes o) ∙ sym (append_assoc (counts_of x) (counts_among outcomes) (counts_of o))
 
-pub covers_first : (p : Permit) (before mid after : ℕ) (reads more : List DeviceRead) → mid ≤ after → Covers p before after (reads ++ more) → Covers p before mid reads
-covers_first p before mid after reads more later c =
-    let upto : after ≤ p.faults = c.upto in
-    record { plain = c.plain; from = c.from; upto = omega arith; knows = (all_parts (λ (r : DeviceRead). IsAmong r p.reads) reads more c.knows).0 }
+-- a device counts on
+later_count : (before after : ℕ) (o : Outcome) → before ≤ after → CountsUpTo before o → CountsUpTo after o
+later_count before after NoRoom last h = h
+later_count before after (Copied bytes) last h = h
+later_count before after (Spoiled found) last h = h
+later_count before after (Refused count) last h = omega (arith, last, h)
 
-pub covers_last : (p : Permit) (before mid after : ℕ) (reads more : List DeviceRead) → before ≤ mid → Covers p before after (reads ++ more) → Covers p mid after more
-covers_last p before mid after reads more later c =
-    let from : p.faults_before ≤ before = c.from in
-    record { plain = c.plain; from = omega arith; upto = c.upto; knows = (all_parts (λ (r : DeviceRead). IsAmong r p.reads) reads more c.knows).1 }
+pub counted_later : (before after : ℕ) (outcomes : List Outcome) → before ≤ after → AllByRecursion (CountsUpTo before) outcomes → AllByRecursion (CountsUpTo after) outcomes
+counted_later before after [] last h = tt
+counted_later before after (o ∷ outcomes) last h = (later_count before after o last h.0, counted_later before after outcomes last h.1)
 
 -- ---- one piece more
 
-pub looked_none : (s : State) (device : Device) (a : Ahead) → a.fates.items ≡ [] → s.fault ≤ device.faults → Looked s device.faults device [] 0 a
+pub looked_none : (s : State) (device : Device) (a : Ahead) → a.fates.items ≡ [] → s.fault ≤ device.faults → Looked s device device [] 0 a
 looked_none s device a none low = record {
   outcomes = [];
-  reads = [];
   fates = subst (AreFates [] []) (sym none) tt;
   stand = tt;
   taken = refl;
   unharmed = λ told. tt;
+  goes = stays_put device;
+  faults = refuses_none device.past device.past refl;
+  counted = tt;
   are = λ p covers. tt;
-  cursor = refl;
-  fault = low;
+  beside = record { geometry = refl; cursor = refl; fault = low };
 }
 
-pub looked_more : (s : State) (before : ℕ) (mid after : Device) (rows : List Row) (row : Row) (at end : ℕ) (old new : Ahead) → before ≤ mid.faults → IsAsked mid after
-    → Looked s before mid rows at old → LooksOn s mid.faults after row at end old new → Looked s before after (rows ++ row ∷ []) end new
-looked_more s before mid after rows row at end old new first asked h k =
+pub looked_more : (s : State) (before mid after : Device) (rows : List Row) (row : Row) (at end : ℕ) (old new : Ahead) → IsAsked mid after
+    → Looked s before mid rows at old → LooksOn s mid after row at end old new → Looked s before after (rows ++ row ∷ []) end new
+looked_more s before mid after rows row at end old new asked h k =
     let last : mid.faults ≤ after.faults = asked.later in
     let pair : ArePaired rows h.outcomes = paired rows h.outcomes old.fates.items h.fates in
     let t : State = after_all s (front_of rows h.outcomes) in
     let front : front_of (rows ++ row ∷ []) (h.outcomes ++ k.outcome ∷ []) ≡ front_of rows h.outcomes ++ records_of row k.outcome = front_more rows h.outcomes row k.outcome pair in
     let behind : after_all s (front_of (rows ++ row ∷ []) (h.outcomes ++ k.outcome ∷ [])) ≡ after_all t (records_of row k.outcome) =
     ap (after_all s) front ∙ after_all-append s (front_of rows h.outcomes) (records_of row k.outcome) in
-    let low : t.fault ≤ mid.faults = h.fault in
+    let low : t.fault ≤ mid.faults = h.beside.fault in
+    let buffer = buffer_left t (records_of row k.outcome) (aside_leaves (records_of row k.outcome) (aside_of row k.outcome)) in
     record {
       outcomes = h.outcomes ++ k.outcome ∷ [];
-      reads = h.reads ++ k.reads;
       fates = subst (AreFates (rows ++ row ∷ []) (h.outcomes ++ k.outcome ∷ [])) (sym k.notes) (fates_more rows h.outcomes old.fates.items row k.outcome k.note h.fates k.fate);
       stand = stand_more 0 at rows h.outcomes row k.outcome old.bytes.items new.bytes.items pair (omega (arith, h.taken)) k.stay h.stand k.stands;
       taken = omega (arith, k.taken, h.taken, taken_more rows h.outcomes row k.outcome pair);
       unharmed = λ told.
           subst TellNoDamage (sym front)
           (all_append (λ r. tells_damage r ≡ false) (front_of rows h.outcomes) (records_of row k.outcome) (h.unharmed (told_before mid after asked.goes told)) (k.unharmed told));
+      goes = goes_further before mid after h.goes asked.goes;
+      faults = subst (Refuses before.past after.past) (sym (counts_more h.outcomes k.outcome)) (refuses_then before.past mid.past after.past (counts_among h.outcomes) (counts_of k.outcome) h.faults k.faults);
+      counted = all_append (CountsUpTo after.faults) h.outcomes (k.outcome ∷ []) (counted_later mid.faults after.faults h.outcomes last h.counted) (k.count, tt);
       are = λ p covers.
-          outcomes_more p s (budget_of s.geometry) rows h.outcomes row k.outcome (h.are p (covers_first p before mid.faults after.faults h.reads k.reads last covers))
-          (subst (λ n. IsOutcome p t (budget_of s.geometry - n) row k.outcome) h.taken (k.is p t (covers_last p before mid.faults after.faults h.reads k.reads first covers) h.cursor low));
-      cursor = ap (λ (x : State). x.cursor) behind ∙ ((buffer_left t (records_of row k.outcome) (aside_leaves (records_of row k.outcome) (aside_of row k.outcome))).1 ∙ h.cursor);
-      fault = subst (λ (x : State). x.fault ≤ after.faults) (sym behind) (fault_within t row k.outcome after.faults (omega arith) k.count);
+          outcomes_more p s (budget_of s.geometry) rows h.outcomes row k.outcome (h.are p (covers_first p before.past mid.past after.past asked.goes.made asked.goes.past covers))
+          (subst (λ n. IsOutcome p t (budget_of s.geometry - n) row k.outcome) h.taken
+          (k.is p t (covers_last p before.past mid.past after.past h.goes.made h.goes.past covers) h.beside));
+      beside = record {
+        geometry = ap (λ (x : State). x.geometry) behind ∙ (buffer.0 ∙ h.beside.geometry);
+        cursor = ap (λ (x : State). x.cursor) behind ∙ (buffer.1 ∙ h.beside.cursor);
+        fault = subst (λ (x : State). x.fault ≤ after.faults) (sym behind) (fault_within t row k.outcome after.faults (omega arith) k.count);
+      };
     }

@@ -1,22 +1,21 @@
 -- What comes of a piece that is looked at.
-use Rattle.std.proofs.Common.{◌≡◌, ℕ, ◌*◌, ◌<◌, ◌≤◌, List, [], ◌∷◌, refl, sym, subst, arith, inr, length, take, Result, Ok, Err}
-use Rattle.std.specs.Prelude.{max}
+use Rattle.std.proofs.Common.{◌≡◌, ℕ, ◌*◌, ◌<◌, List, refl, sym, ◌∙◌, subst, arith, inr, length, take, Result, Ok, Err}
 use Rattle.std.proofs.lemmas.List.{take_all}
 use Rattle.edge_io.specs.declared.source.Failed.{Failed}
-use Rattle.hex.specs.Hex.{IsBytes}
 use Rattle.doc_header.specs.Reading.{document_digest}
 use Rattle.evacuator.specs.declared.choosing.Candidate.{Candidate}
 use Rattle.cyclone.specs.Cyclone.{IsStored, Reads, Seen}
 use Rattle.cache_model.specs.State.{State, Row}
-use Rattle.cache_model.specs.Permit.{DeviceRead, IsAmong, Permit}
+use Rattle.cache_model.specs.Permit.{Permit}
 use Rattle.cache_model.specs.Given.{IsGiven}
 use Rattle.cache_model.specs.Outcomes.{Copied, Refused, Spoiled}
 use Rattle.stripe_due.specs.Finding.{candidate_of}
 use Rattle.stripe_core.specs.declared.ahead.Fate.{Fate}
 use Rattle.stripe_core.specs.declared.ahead.Fate.TheVariants as fate
-use Rattle.stripe_core.specs.Looks.{Comes, IsJudgedAs, MayBeCopied}
+use Rattle.stripe_core.specs.Covers.{Covers}
+use Rattle.stripe_core.specs.Looks.{Comes, IsBeside, IsJudgedAs, MayBeCopied}
 use Rattle.stripe_core.specs.Held.{IsHeld}
-use Rattle.stripe_core.proofs.Findings.{lower_rose, right_by}
+use Rattle.stripe_core.proofs.Findings.{counts_read, given_read, refuses_failed, refuses_read, right_by}
 use Rattle.stripe_core.proofs.Lives.{live_is_stored, live_within}
 
 -- ---- a read
@@ -29,54 +28,54 @@ reads_row c new d row r bytes is sized reads =
     (subst (Reads c new d.place d.blocks r) (take_all (512 * d.blocks) bytes (omega (arith, sized))) reads)
 
 module _ (s : State) (c new : Seen) (row : Row) (bytes : List ℕ) (held : IsHeld s c) (may : MayBeCopied s row) where
-  abbrev given : DeviceRead
-  given = record { place = row.place; bytes = bytes }
+  beneath : row.place < c.buffer.cursor
+  beneath = let low : row.place < s.cursor = may.written in omega (arith, low, held.cursor)
 
-  given_then : (p : Permit) (t : State) → length bytes ≡ 512 * row.blocks → IsBytes bytes → t.cursor ≡ s.cursor → IsAmong given p.reads → IsGiven p t row bytes
-  given_then p t whole small same among = record { written = let low : row.place < s.cursor = may.written in omega arith; given = among; whole = whole; of_bytes = small }
+  below : (t : State) → IsBeside s c.device t → row.place < t.cursor
+  below t beside = let low : row.place < s.cursor = may.written in let same : t.cursor ≡ s.cursor = beside.cursor in omega arith
 
-  pub comes_of : (f : Fate) → Reads c new row.place row.blocks (Ok tt) bytes → IsJudgedAs row bytes f → Comes s c.device.faults new.device row f bytes
+  given_then : (p : Permit) (t : State) → Reads c new row.place row.blocks (Ok tt) bytes → Covers p c.device.past new.device.past → IsBeside s c.device t → IsGiven p t row bytes
+  given_then p t read covers beside = given_read p t c new row bytes (held.geometry ∙ sym beside.geometry) beneath (below t beside) read covers
+
+  pub comes_of : (f : Fate) → Reads c new row.place row.blocks (Ok tt) bytes → IsJudgedAs row bytes f → Comes s c.device new.device row f bytes
   comes_of (fate.Copied pinned) read j = record {
     outcome = Copied bytes;
-    reads = given ∷ [];
     fate = j.1;
     copy = refl;
     taken = refl;
     count = tt;
     unharmed = λ told. tt;
-    is = λ p t left covers same later few. (few, given_then p t read.length read.of_bytes same covers.knows.0, j.0);
+    faults = refuses_read c new row.place row.blocks bytes beneath read;
+    is = λ p t left covers beside few. (few, given_then p t read covers beside, j.0);
   }
   comes_of (fate.Spoiled kept found) read j = record {
     outcome = Spoiled (document_digest bytes);
-    reads = given ∷ [];
     fate = (j.0, j.1);
     copy = tt;
     taken = refl;
     count = tt;
     unharmed = λ told. absurd (j.2 (right_by s c new row.id row bytes bytes held may.live read (inr may.written) told));
-    is = λ p t left covers same later few. (few, record { bytes = bytes; given = given_then p t read.length read.of_bytes same covers.knows.0; digest = refl; differ = j.2 });
+    faults = refuses_read c new row.place row.blocks bytes beneath read;
+    is = λ p t left covers beside few. (few, record { bytes = bytes; given = given_then p t read covers beside; digest = refl; differ = j.2 });
   }
   comes_of fate.NoRoom read j = absurd j
   comes_of (fate.Refused count) read j = absurd j
 
   -- the device refused
   pub comes_refused : (count : ℕ) (e : Failed) → Reads c new row.place row.blocks (Err e) bytes → count ≡ new.device.faults
-      → Comes s c.device.faults new.device row (fate.Refused count) bytes
+      → Comes s c.device new.device row (fate.Refused count) bytes
   comes_refused count e read is = record {
     outcome = Refused count;
-    reads = [];
     fate = refl;
     copy = tt;
     taken = refl;
     count = omega (arith, is);
     unharmed = λ told. (refl, (refl, tt));
-    is = λ p t left covers same later few. (
+    faults = refuses_failed c new row.place row.blocks bytes e count beneath read is;
+    is = λ p t left covers beside few. (
       few,
-      (let low : row.place < s.cursor = may.written in omega arith),
-      record {
-        rose = rw is (lower_rose (max p.faults_before t.fault) c.device.faults new.device.faults (let from : p.faults_before ≤ c.device.faults = covers.from in omega arith) read.cause.failed);
-        reached = rw is covers.upto;
-      },
+      below t beside,
+      counts_read p t c new row bytes e count (held.geometry ∙ sym beside.geometry) beneath read is beside.fault covers,
     );
   }
 

@@ -10,9 +10,8 @@ use Rattle.tape_base.specs.Piece.{same_piece}
 use Rattle.evacuator.specs.declared.choosing.Candidate.{Candidate}
 use Rattle.cache_model.specs.declared.record.Rec.TheVariants as rec
 use Rattle.cache_model.specs.State.{Row, State, after_all, live_row_of, only_live, row_in}
-use Rattle.cache_model.specs.Permit.{Permit}
 use Rattle.cache_model.specs.Tape.{AreApart, NotAmong}
-use Rattle.cache_model.specs.Outcomes.{AreOutcomes, Copied, IsOutcome, NoRoom, Outcome, Refused, Spoiled, front_of, left_behind, records_of, stopped_front_of, stopped_records_of}
+use Rattle.cache_model.specs.Outcomes.{Copied, NoRoom, Outcome, Refused, Spoiled, front_of, records_of, stopped_front_of, stopped_records_of}
 use Rattle.cache_model.proofs.Lists.{row_in-without}
 use Rattle.cache_model.proofs.Live.{IsFound}
 use Rattle.cache_model.proofs.Steps.{after_all-append}
@@ -20,6 +19,7 @@ use Rattle.stripe_due.specs.Finding.{candidate_of}
 use Rattle.stripe_core.specs.declared.ahead.Fate.{Fate}
 use Rattle.stripe_core.specs.declared.ahead.Fate.TheVariants as fate
 use Rattle.stripe_core.specs.Ahead.{AreFates, IsFate}
+use Rattle.stripe_core.specs.Faults.{CountsUpTo}
 use Rattle.stripe_core.specs.Copying.{AreTellable, IsTellable, copies_among, copies_by, told_by, told_of}
 
 -- ---- what came of each piece, and what was kept of that
@@ -103,20 +103,18 @@ still_live : (done : Bool) (t : State) (c : Candidate) (f : Fate) (rows : List R
 still_live done t c f [] n h = tt
 still_live done t c f (row ∷ rows) n h = (told_keeps done t c f row.id n.0 ∙ h.0, still_live done t c f rows n.1 h.1)
 
-one_tellable : (p : Permit) (s t : State) (left faults : ℕ) (row : Row) {o : Outcome} {f : Fate} → Came row o f → IsOutcome p s left row o → p.faults ≤ faults → IsFound t row
-    → IsTellable t faults (candidate_of row) f
-one_tellable p s t left faults row no_room h few live = tt
-one_tellable p s t left faults row (copied bytes pinned) h few live = tt
-one_tellable p s t left faults row (spoiled found kept other a b) h few live = ap (option_map (λ (r : Row). r.place)) live
-one_tellable p s t left faults row (refused count n is) h few live = let reached : count ≤ p.faults = h.2.reached in omega (arith, is, reached, few)
+one_tellable : (t : State) (faults : ℕ) (row : Row) {o : Outcome} {f : Fate} → Came row o f → CountsUpTo faults o → IsFound t row → IsTellable t faults (candidate_of row) f
+one_tellable t faults row no_room h live = tt
+one_tellable t faults row (copied bytes pinned) h live = tt
+one_tellable t faults row (spoiled found kept other a b) h live = ap (option_map (λ (r : Row). r.place)) live
+one_tellable t faults row (refused count n is) h live = let reached : count ≤ faults = h in omega (arith, is, reached)
 
-pub are_tellable : (done : Bool) (p : Permit) (s t : State) (left faults : ℕ) {rows : List Row} {outcomes : List Outcome} {fates : List Fate} → AllCame rows outcomes fates
-    → AreOutcomes p s left rows outcomes → p.faults ≤ faults → AreApart rows → AllByRecursion (IsFound t) rows → AreTellable done t faults (map candidate_of rows) fates
-are_tellable done p s t left faults none h few apart live = tt
-are_tellable done p s t left faults (more {o = o} {f = f} {rows = rows} row one rest) h few apart live = (
-  one_tellable p s t left faults row one h.0 few live.0,
-  are_tellable done p (after_all s (records_of row o)) (after_all t (told_by done (candidate_of row) f)) (left_behind left row o) faults rest h.1 few apart.1
-      (still_live done t (candidate_of row) f rows apart.0 live.1),
+pub are_tellable : (done : Bool) (t : State) (faults : ℕ) {rows : List Row} {outcomes : List Outcome} {fates : List Fate} → AllCame rows outcomes fates
+    → AllByRecursion (CountsUpTo faults) outcomes → AreApart rows → AllByRecursion (IsFound t) rows → AreTellable done t faults (map candidate_of rows) fates
+are_tellable done t faults none h apart live = tt
+are_tellable done t faults (more {o = o} {f = f} {rows = rows} row one rest) h apart live = (
+  one_tellable t faults row one h.0 live.0,
+  are_tellable done (after_all t (told_by done (candidate_of row) f)) faults rest h.1 apart.1 (still_live done t (candidate_of row) f rows apart.0 live.1),
 )
 
 -- ---- how many they are

@@ -1,8 +1,9 @@
 -- What a flush keeps in memory of the pieces that it copies ahead.
 use Rattle.std.specs.Prelude.{ℕ, ◌≡◌, ◌+◌, ◌*◌, ◌≤◌, ◌==◌, not, List, [], ◌∷◌, drop, length, take, vec_capacity}
+use Rattle.std.specs.List.{AllByRecursion}
 use Rattle.tape_base.specs.declared.geometries.Geometry.{Geometry}
 use Rattle.tape_base.specs.Geometry.{budget_of}
-use Rattle.logged_disk.specs.Device.{State as Device, TellsAll}
+use Rattle.logged_disk.specs.Device.{State as Device, IsAfter, TellsAll}
 use Rattle.cache_model.specs.State.{Row, State}
 use Rattle.cache_model.specs.Permit.{Permit}
 use Rattle.cache_model.specs.Due.{due_pieces}
@@ -11,7 +12,7 @@ use Rattle.stripe_due.specs.Finding.{candidates_of, most_passed}
 use Rattle.stripe_core.specs.declared.ahead.Ahead.{Ahead}
 use Rattle.stripe_core.specs.declared.ahead.Fate.{Fate}
 use Rattle.stripe_core.specs.declared.ahead.Fate.TheVariants as fate
-use Rattle.stripe_core.specs.Faults.{Refuses, counts_among}
+use Rattle.stripe_core.specs.Faults.{CountsUpTo, Refuses, counts_among}
 use Rattle.stripe_core.specs.Covers.{Covers}
 use Rattle.cache_model.specs.Damage.{TellNoDamage}
 
@@ -67,5 +68,7 @@ pub record LooksAhead (now : ℕ) (s : State) (before after : Device) (a : Ahead
   pub stand : StandFrom 0 (due_pieces s now) outcomes a.bytes.items
   -- a device that tells its content shows each piece as it was placed
   pub unharmed : TellsAll after → TellNoDamage (front_of (due_pieces s now) outcomes)
+  pub goes : IsAfter before after
   pub faults : Refuses before.past after.past (counts_among outcomes)
+  pub counted : AllByRecursion (CountsUpTo after.faults) outcomes
   pub are : (p : Permit) → Covers p before.past after.past → AreOutcomes p s (budget_of s.geometry) (due_pieces s now) outcomes

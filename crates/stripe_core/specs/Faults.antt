@@ -1,5 +1,5 @@
 -- Which calls a device refused, and that each has its record.
-use Rattle.std.specs.Prelude.{ℕ, ◌≡◌, List, [], ◌∷◌, ◌++◌}
+use Rattle.std.specs.Prelude.{ℕ, ◌≡◌, ◌≤◌, List, [], ◌∷◌, ◌++◌}
 use Rattle.device_log.specs.Calls.{Call}
 use Rattle.cache_model.specs.declared.record.Rec.{Rec}
 use Rattle.cache_model.specs.Kept.{Kept, with_records}
@@ -11,6 +11,11 @@ pub record Refuses (before after : List Call) (counts : List ℕ) : Type 0 where
   pub made : List Call
   pub past : after ≡ made ++ before
   pub are : counts_in made ≡ counts
+
+-- where a piece was refused, the count is not above this one
+abbrev pub CountsUpTo : ℕ → Outcome → Type 0
+CountsUpTo faults (Refused count) = count ≤ faults
+CountsUpTo faults _ = Unit {0}
 
 -- the count of what came of a piece, where that was refused
 abbrev pub counts_of : Outcome → List ℕ

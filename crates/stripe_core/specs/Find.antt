@@ -63,8 +63,14 @@ IsFoundAs p s id None answer into = answer ≡ found.Missing (cause_of_piece s i
 IsFoundAs p s id (Some row) (found.Found size) into = IsDocumentOf p s row size into
 IsFoundAs p s id (Some row) (found.Missing why) into = Trouble p s row (cause_records row why) why
 
+-- a fault with a live piece is told with the device's own count
+abbrev pub TellsCount : Option Row → ℕ → Found → Type 0
+TellsCount (Some row) faults (found.Missing (cause.DeviceFault count)) = count ≡ faults
+TellsCount _ faults _ = Unit {0}
+
 -- what was found, in any step that covers the call; what was read is what is seen, and what was refused is recorded
 pub record Finds (s : State) (old new : Device) (id : PieceId) (answer : Found) (into : List ℕ) : Type 0 where
   pub seen : AreSeen old new
   pub faults : Refuses old.past new.past (counts_told (find_adds s id answer))
+  pub counted : TellsCount (live_row_of s id) new.faults answer
   pub answers : (p : Permit) → Covers p old.past new.past → IsFoundAs p s id (live_row_of s id) answer into

@@ -9,13 +9,13 @@ use Rattle.evacuator.specs.Choice.{blocks_of_all}
 use Rattle.cache_model.specs.State.{Row, State, after_all, live_row_of}
 use Rattle.cache_model.specs.Permit.{Permit}
 use Rattle.cache_model.specs.Given.{IsWritten}
-use Rattle.cache_model.specs.Outcomes.{AreOutcomes, Copied, IsOutcome, Outcome, Refused, front_of, records_of}
+use Rattle.cache_model.specs.Outcomes.{AreOutcomes, Copied, IsOutcome, Outcome, front_of, records_of}
 use Rattle.stripe_due.specs.Finding.{candidate_of}
 use Rattle.stripe_core.specs.declared.ahead.Ahead.{Ahead}
 use Rattle.stripe_core.specs.declared.ahead.Fate.{Fate}
 use Rattle.stripe_core.specs.declared.ahead.Fate.TheVariants as fate
 use Rattle.stripe_core.specs.Ahead.{AreFates, IsFate, StandFrom, StandsAt, taken_by, taken_by_all}
-use Rattle.stripe_core.specs.Faults.{Refuses, counts_among, counts_of}
+use Rattle.stripe_core.specs.Faults.{CountsUpTo, Refuses, counts_among, counts_of}
 use Rattle.stripe_core.specs.Covers.{Covers}
 use Rattle.cache_model.specs.Damage.{TellNoDamage}
 
@@ -54,11 +54,6 @@ IsJudgedAs row bytes _ = ⊥
 abbrev pub IsCopyOf : List ℕ → Outcome → Type 0
 IsCopyOf bytes (Copied read) = read ≡ bytes
 IsCopyOf bytes _ = Unit {0}
-
--- where the device refused, its count is not above this one
-abbrev pub CountsUpTo : ℕ → Outcome → Type 0
-CountsUpTo faults (Refused count) = count ≤ faults
-CountsUpTo faults _ = Unit {0}
 
 -- the same geometry and buffer, and no fault later than the device's
 pub record IsBeside (s : State) (device : Device) (t : State) : Type 0 where
@@ -102,6 +97,7 @@ pub record Looked (s : State) (before after : Device) (rows : List Row) (end : �
   pub unharmed : TellsAll after → TellNoDamage (front_of rows outcomes)
   pub goes : IsAfter before after
   pub faults : Refuses before.past after.past (counts_among outcomes)
+  pub counted : AllByRecursion (CountsUpTo after.faults) outcomes
   pub are : (p : Permit) → Covers p before.past after.past → AreOutcomes p s (budget_of s.geometry) rows outcomes
   -- behind their records the buffer stands where it stood, and no fault is later than the device's
   pub beside : IsBeside s after (after_all s (front_of rows outcomes))

@@ -1,5 +1,5 @@
 //! The stripe: records, the pieces that they tell of, and who writes and reads.
-#![tactic(auto, using(logged_disk::proofs::GoingOn::stays_as))]
+#![tactic(auto, using(logged_disk::proofs::GoingOn::stays_as, crate::proofs::Between::between_same))]
 
 mod acting;
 mod ahead;

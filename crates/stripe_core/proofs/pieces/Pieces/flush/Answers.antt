@@ -1,8 +1,7 @@
-use Rattle.std.proofs.Common.{◌≡◌, ◌+◌, ◌*◌, ◌≤◌, ◌∷◌, ◌++◌, sym, ◌∙◌, ap, subst, arith, true, false, [], Err, length}
+use Rattle.std.proofs.Common.{◌≡◌, ◌+◌, ◌*◌, ◌≤◌, ◌∷◌, ◌++◌, refl, sym, ◌∙◌, ap, subst, arith, true, false, [], Err, length}
 use Rattle.tape_base.specs.declared.geometries.Geometry.{Geometry}
 use Rattle.tape_base.specs.Geometry.{budget_of}
-use Rattle.logged_disk.specs.Device.{State as Device, IsAfter}
-use Rattle.cyclone.proofs.Calls.{write_goes_on}
+use Rattle.logged_disk.specs.Device.{State as Device}
 use Rattle.cyclone.specs.Cyclone.{Seen, seen}
 use Rattle.cache_model.specs.declared.record.Rec.TheVariants as rec
 use Rattle.cache_model.specs.State.{State, after_all}
@@ -17,17 +16,18 @@ use Rattle.stripe_core.proofs.Flushes.{can, empty_does, exhausted_does, some_fil
 use Rattle.stripe_core.proofs.Going.{device_may_change}
 use Rattle.stripe_core.proofs.Holding.{next_is}
 use Rattle.stripe_core.proofs.LiveBehind.{live_same}
-use Rattle.stripe_core.proofs.Looked.{copyable, few_entries, few_records, flush_asked, flush_uses, half_is_free, stop_asked, tellable}
+use Rattle.stripe_core.proofs.Looked.{copyable, few_entries, few_records, flush_asked, flush_uses, half_is_free, left_by_write, stop_asked, taken_by_write, tellable}
+use Rattle.stripe_core.proofs.Between.{refuses_none}
 use Rattle.stripe_core.proofs.pieces.Pieces.flush.Goals as goal
 
 pub returns-then-blocks-eq0-clause-does : goal.returns-then-blocks-eq0-clause-does
 returns-then-blocks-eq0-clause-does g c = record {
   added = [];
-  reads = [];
   adds = sym (with_records-nil (kept_of g.C.Chronicle c.args.self.now));
   kinds = tt;
   live = live_same (state_now g.C.Chronicle c.args.self.now);
   unharmed = λ told. tt;
+  faults = refuses_none _ _ refl;
   does = λ p moment covers. empty_does p (state_now g.C.Chronicle c.args.self.now) c.requires.quiet
       (omega (arith, c.next_place.ensures, c.cursor.ensures, c.if-blocks-eq0.true, c.requires.pieces.filled));
 }
@@ -39,11 +39,11 @@ returns-then-next-ge-LIMIT-clause-does g c =
     let next = c.next_cursor-next.ensures ∙ next_is s before c.requires.pieces in
     record {
       added = [];
-      reads = [];
       adds = sym (with_records-nil (kept_of g.C.Chronicle c.args.self.now));
       kinds = tt;
       live = live_same s;
       unharmed = λ told. tt;
+      faults = refuses_none _ _ refl;
       does = λ p moment covers. exhausted_does p s c.requires.quiet
           (some_filled s before c.next_place.result c.cursor.result c.requires.pieces c.next_place.ensures c.cursor.ensures c.if-blocks-eq0.false)
           (omega (arith, next, c.if-next-ge-LIMIT.true));
@@ -108,11 +108,10 @@ returns-in-Ok-clause-does g c =
     let a = c.look_ahead.new.ahead in
     let next = c.next_cursor-next.ensures ∙ next_is s before c.requires.pieces in
     let some = some_filled s before c.next_place.result c.cursor.result c.requires.pieces c.next_place.ensures c.cursor.ensures c.if-blocks-eq0.false in
-    let faults = ap (λ (d : Device). d.faults) c.go_on.ensures.still in
-    let later = write_goes_on (seen_of g.D.Disk g.R.Directory c.look_ahead.new.self) (seen g.D.Disk g.R.Directory c.write_out.new.self) c.write_out.result c.write_out.ensures.device in
-    flush_asked c.args.now (kept_of g.C.Chronicle c.args.self.now) (kept_of g.C.Chronicle c.go_on.new.self) before.device.faults (seen_of g.D.Disk g.R.Directory c.look_ahead.new.self).device after a
+    let mid = seen_of g.D.Disk g.R.Directory c.look_ahead.new.self in
+    flush_asked c.args.now (kept_of g.C.Chronicle c.args.self.now) (kept_of g.C.Chronicle c.go_on.new.self) before.device mid.device after a
     c.flushed-in-Ok.result c.requires.pieces.sound (can s c.requires.quiet some (omega (arith, next, c.if-next-ge-LIMIT.false))) c.look_ahead.ensures.looks
-    (record { faults = omega (arith, faults, c.write_out.ensures.device.cause.later); goes = subst (λ d. IsAfter (seen_of g.D.Disk g.R.Directory c.look_ahead.new.self).device d) (sym c.go_on.ensures.still) later })
+    (taken_by_write s before mid (seen g.D.Disk g.R.Directory c.write_out.new.self) after c.requires.pieces c.look_ahead.ensures.same c.in-Ok.ensures.device c.go_on.ensures.still)
     (subst (λ x. kept_of g.C.Chronicle c.go_on.new.self ≡ with_records (g.C.Chronicle.kept x) (done_records (state_of (g.C.Chronicle.kept x)) a.due.items a.fates.items a.bytes.items))
     c.look_ahead.ensures.chronicle c.go_on.ensures.adds)
 
@@ -158,14 +157,14 @@ returns-in-Err-clause-does g c =
     let next = c.next_cursor-next.ensures ∙ next_is s before c.requires.pieces in
     let some = some_filled s before c.next_place.result c.cursor.result c.requires.pieces c.next_place.ensures c.cursor.ensures c.if-blocks-eq0.false in
     let faults : after.faults ≡ out.faults = ap (λ (d : Device). d.faults) c.stop.ensures.still in
-    let later = write_goes_on (seen_of g.D.Disk g.R.Directory c.look_ahead.new.self) (seen g.D.Disk g.R.Directory c.write_out.new.self) c.write_out.result c.write_out.ensures.device in
+    let mid = seen_of g.D.Disk g.R.Directory c.look_ahead.new.self in
     let adds = subst (λ x. kept_of g.C.Chronicle c.stop.new.self ≡ with_records (g.C.Chronicle.kept x) (told_of false a.due.items a.fates.items ++ rec.Fault out.faults ∷ []))
     c.look_ahead.ensures.chronicle c.stop.ensures.adds in
-    subst (λ why. FlushesAsAsked c.args.now (kept_of g.C.Chronicle c.args.self.now) (kept_of g.C.Chronicle c.stop.new.self) before.device.faults after (Err why))
+    subst (λ why. FlushesAsAsked c.args.now (kept_of g.C.Chronicle c.args.self.now) (kept_of g.C.Chronicle c.stop.new.self) before.device.past after (Err why))
     (ap (λ n. stop.DeviceFault n) faults ∙ sym c.stop.ensures.why)
-    (stop_asked c.args.now (kept_of g.C.Chronicle c.args.self.now) (kept_of g.C.Chronicle c.stop.new.self) before.device.faults (seen_of g.D.Disk g.R.Directory c.look_ahead.new.self).device after a
+    (stop_asked c.args.now (kept_of g.C.Chronicle c.args.self.now) (kept_of g.C.Chronicle c.stop.new.self) before.device mid.device after a
     c.requires.pieces.sound (can s c.requires.quiet some (omega (arith, next, c.if-next-ge-LIMIT.false))) c.requires.pieces.faults c.look_ahead.ensures.asked.later c.look_ahead.ensures.looks
-    (record { faults = omega (arith, faults, c.write_out.ensures.device.cause.later); goes = subst (λ d. IsAfter (seen_of g.D.Disk g.R.Directory c.look_ahead.new.self).device d) (sym c.stop.ensures.still) later })
+    (left_by_write s before mid (seen g.D.Disk g.R.Directory c.write_out.new.self) after c.in-Err.field-0 c.requires.pieces c.look_ahead.ensures.same c.in-Err.ensures.device c.stop.ensures.still)
     (omega (arith, faults, c.in-Err.ensures.device.cause.failed))
     (subst (λ n. kept_of g.C.Chronicle c.stop.new.self ≡ with_records (kept_of g.C.Chronicle c.args.self.now) (told_of false a.due.items a.fates.items ++ rec.Fault n ∷ [])) (sym faults) adds))
 

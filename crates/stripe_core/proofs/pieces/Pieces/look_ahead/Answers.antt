@@ -24,5 +24,5 @@ pub returns-clause-looks : goal.returns-clause-looks
 returns-clause-looks g c =
     let s = state_now g.C.Chronicle c.args.self.now in
     let looked = c.read_kept.ensures.looked (due_pieces s c.args.now) (due_rows s c.args.now c.find_due.new.into.items c.requires.pieces.sound c.find_due.ensures.due) in
-    looks_by c.args.now s (seen_of g.D.Disk g.R.Directory c.args.self.now).device.faults (seen_of g.D.Disk g.R.Directory c.read_kept.new.self).device looked.0 c.read_kept.new.ahead c.requires.pieces.sound
+    looks_by c.args.now s (seen_of g.D.Disk g.R.Directory c.args.self.now).device (seen_of g.D.Disk g.R.Directory c.read_kept.new.self).device looked.0 c.read_kept.new.ahead c.requires.pieces.sound
     (c.read_kept.ensures.due ∙ c.find_due.ensures.due) looked.1

@@ -35,7 +35,7 @@ returns-clause-looks g c row at may =
     kept_fits due c.args.ahead.now.kept.items c.args.i c.args.at (budget_of s.geometry) d c.index.result.now here c.index.ensures c.if-not-index.false c.requires.choice in
     let long : 512 * (c.args.at + d.blocks) ≤ length memory = omega (arith, fits, c.requires.ahead.bytes) in
     let written = vector_written c.args.ahead.now.bytes c.deref_mut.result.now c.read_ahead-fate.new.into c.args.at d.blocks c.deref_mut.ensures.value long c.read_ahead-fate.auto.into in
-    notes_read s (seen_of g.D.Disk g.R.Directory c.args.self.now).device.faults (seen_of g.D.Disk g.R.Directory c.read_ahead-fate.new.self).device d row c.args.at c.read_ahead-fate.result c.args.ahead.now _
+    notes_read s (seen_of g.D.Disk g.R.Directory c.args.self.now).device (seen_of g.D.Disk g.R.Directory c.read_ahead-fate.new.self).device d row c.args.at c.read_ahead-fate.result c.args.ahead.now _
     c.read_ahead-fate.new.into is fits (c.read_ahead-fate.ensures.comes row is may) (rw c.unwrap-2.ensures at c.push-2.ensures.items) written
 
 pub returns-then-not-index-clause-looks : goal.returns-then-not-index-clause-looks

@@ -10,7 +10,6 @@ use Rattle.stripe_core.proofs.Flushes.{fault_is_held, read_spares, state_of-with
 use Rattle.stripe_core.proofs.Findings.{finds_fault, finds_no_damage, finds_read, judged_adds}
 use Rattle.stripe_core.proofs.Going.{device_may_change}
 use Rattle.cyclone.proofs.Calls.{reads_go_on, reads_same}
-use Rattle.stripe_core.specs.Covers.{Uses}
 use Rattle.stripe_core.specs.Stripe.{IsUnwritten}
 use Rattle.stripe_core.proofs.Flushes.{read_uses, records_use}
 use Rattle.stripe_core.proofs.pieces.Pieces.read.Goals as goal

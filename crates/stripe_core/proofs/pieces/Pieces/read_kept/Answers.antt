@@ -66,9 +66,9 @@ loop-i-preserved g c =
       looked = λ rows of.
           let n = next_row s due rows c.loop-i.i of within in
           let there : slice_get c.loop-i.ahead.due.items c.loop-i.i ≡ Some (candidate_of n.row) = ap (λ v. slice_get v.items c.loop-i.i) inv.due ∙ n.at in
-          let looks : LooksOn s mid.device.faults after.device n.row c.loop-i.at c.look_at-at.result c.loop-i.ahead c.look_at-at.new.ahead =
-          subst (λ (t : State). MayBeCopied t n.row → LooksOn t mid.device.faults after.device n.row c.loop-i.at c.look_at-at.result c.loop-i.ahead c.look_at-at.new.ahead) same (e.looks n.row there) n.may in
-          subst (λ xs. Looked s before.device.faults after.device xs c.look_at-at.result c.look_at-at.new.ahead) (sym n.next)
-          (looked_more s before.device.faults mid.device after.device (take c.loop-i.i rows) n.row c.loop-i.at c.look_at-at.result c.loop-i.ahead c.look_at-at.new.ahead inv.asked.later e.asked
+          let looks : LooksOn s mid.device after.device n.row c.loop-i.at c.look_at-at.result c.loop-i.ahead c.look_at-at.new.ahead =
+          subst (λ (t : State). MayBeCopied t n.row → LooksOn t mid.device after.device n.row c.loop-i.at c.look_at-at.result c.loop-i.ahead c.look_at-at.new.ahead) same (e.looks n.row there) n.may in
+          subst (λ xs. Looked s before.device after.device xs c.look_at-at.result c.look_at-at.new.ahead) (sym n.next)
+          (looked_more s before.device mid.device after.device (take c.loop-i.i rows) n.row c.loop-i.at c.look_at-at.result c.loop-i.ahead c.look_at-at.new.ahead e.asked
           (inv.looked rows of) looks);
     }

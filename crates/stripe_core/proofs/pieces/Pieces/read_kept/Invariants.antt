@@ -25,5 +25,5 @@ invariant-loop-i g l =
       fates : length l.ahead.fates.items ≡ l.i;
       at : l.at ≡ kept_blocks (take l.i (blocks_of_all l.fn.ahead.due.items)) (take l.i l.fn.ahead.kept.items);
       room : l.at ≤ budget_of s.geometry;
-      looked : (rows : List Row) → AreOfRows s l.fn.ahead.due.items rows → Looked s before.device.faults after.device (take l.i rows) l.at l.ahead;
+      looked : (rows : List Row) → AreOfRows s l.fn.ahead.due.items rows → Looked s before.device after.device (take l.i rows) l.at l.ahead;
     }

@@ -7,8 +7,7 @@ use Rattle.stripe_core.proofs.Flushes.{state_of-with_records}
 use Rattle.stripe_core.proofs.Doings.{held_behind, one_record, reader_behind}
 use Rattle.stripe_core.proofs.Sparing.{made_behind, numbered_by}
 use Rattle.stripe_core.proofs.Naming.{name_left, named_behind}
-use Rattle.logged_disk.proofs.GoingOn.{stays_put}
-use Rattle.stripe_core.proofs.Between.{between-adds}
+use Rattle.stripe_core.proofs.Between.{between-tells}
 use Rattle.stripe_core.proofs.stripe.Stripe.end_read.Goals as goal
 
 pub returns-clause-stripe : goal.returns-clause-stripe
@@ -30,4 +29,4 @@ returns-clause-stripe g c =
 
 pub returns-clause-unharmed : goal.returns-clause-unharmed
 returns-clause-unharmed g c =
-    between-adds _ _ (kept_in g.C.Chronicle c.args.self.now) (g.C.Chronicle.kept c.read_closed.new.chronicle) (rec.ReadClosed c.args.reader ∷ []) c.read_closed.ensures.kept (stays_put _) (λ told. (refl, tt))
+    between-tells _ _ (kept_in g.C.Chronicle c.args.self.now) (g.C.Chronicle.kept c.read_closed.new.chronicle) (rec.ReadClosed c.args.reader ∷ []) refl c.read_closed.ensures.kept refl (refl, tt)

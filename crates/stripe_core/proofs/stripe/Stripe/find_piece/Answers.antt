@@ -1,4 +1,7 @@
-use Rattle.std.proofs.Common.{◌∙◌, ap, subst, arith}
+use Rattle.std.proofs.Common.{◌++◌, sym, ◌∙◌, ap, subst, arith}
+use Rattle.cache_model.specs.Given.{counts_told}
+use Rattle.stripe_core.specs.Covers.{Covers}
+use Rattle.stripe_core.specs.Faults.{Refuses}
 use Rattle.cache_model.specs.Kept.{state_of}
 use Rattle.stripe_core.specs.Find.{Finds, find_adds}
 use Rattle.stripe_core.specs.Pieces.{seen_of}
@@ -34,17 +37,17 @@ returns-clause-finds g c =
     let moved : Finds s (seen_in g.D.Disk g.R.Directory c.take_unit.new.self).device (seen_of g.D.Disk g.R.Directory c.find.new.self).device c.args.id c.find.result c.find.new.into =
     subst (λ t. Finds t (seen_in g.D.Disk g.R.Directory c.take_unit.new.self).device (seen_of g.D.Disk g.R.Directory c.find.new.self).device c.args.id c.find.result c.find.new.into) (ap state_of c.take_unit.ensures.records) finds in
     record {
-      reads = moved.reads;
-      seen = moved.seen;
-      answers = λ p covers.
-          moved.answers p (record { plain = covers.plain; from = rw c.take_unit.ensures.still.faults covers.from; upto = covers.upto; knows = covers.knows });
+      seen = λ made is. moved.seen made (is ∙ ap (λ calls. made ++ calls) (sym c.take_unit.ensures.still.past));
+      faults = subst (λ calls. Refuses calls (seen_of g.D.Disk g.R.Directory c.find.new.self).device.past (counts_told (find_adds s c.args.id c.find.result))) c.take_unit.ensures.still.past moved.faults;
+      counted = moved.counted;
+      answers = λ p covers. moved.answers p (subst (λ calls. Covers p calls (seen_of g.D.Disk g.R.Directory c.find.new.self).device.past) (sym c.take_unit.ensures.still.past) covers);
     }
 
 pub returns-clause-unharmed : goal.returns-clause-unharmed
 returns-clause-unharmed g c =
     let kept = kept_in g.C.Chronicle c.take_unit.new.self in
     between-trans _ _ _ _ _ _ c.take_unit.ensures.unharmed
-    (between-adds _ _ kept _ (find_adds (state_in g.C.Chronicle c.take_unit.new.self) c.args.id c.find.result) c.find.ensures.adds c.find.ensures.uses.goes c.find.ensures.unharmed)
+    (between-adds _ _ kept _ (find_adds (state_in g.C.Chronicle c.take_unit.new.self) c.args.id c.find.result) c.find.ensures.adds c.find.ensures.uses.goes c.find.ensures.finds.faults c.find.ensures.unharmed)
 
 pub returns-clause-unwritten : goal.returns-clause-unwritten
 returns-clause-unwritten g c = record {

@@ -15,14 +15,14 @@ pub returns-in-Err-clause-does : goal.returns-in-Err-clause-does
 returns-in-Err-clause-does g c =
     let kept = kept_in g.C.Chronicle c.args.self.now in
     let taken = kept_in g.C.Chronicle c.take_unit.new.self in
-    let first = (seen_in g.D.Disk g.R.Directory c.args.self.now).device.faults in
-    let before = (seen_in g.D.Disk g.R.Directory c.take_unit.new.self).device.faults in
+    let first = (seen_in g.D.Disk g.R.Directory c.args.self.now).device.past in
+    let before = (seen_in g.D.Disk g.R.Directory c.take_unit.new.self).device.past in
     let new = kept_of g.C.Chronicle c.flush.new.self in
     let device = (seen_of g.D.Disk g.R.Directory c.flush.new.self).device in
     let asked = FlushesAsAsked c.args.now kept new first device in
     subst (λ r. Answers (Err r) asked (new ≡ kept)) (sym c.from.ensures)
     (answers_stop c.in-Err.stop asked _
-    (behind_unit (λ k n. FlushesAsAsked c.args.now k new n device (Err c.in-Err.stop)) taken kept before first c.take_unit.ensures.records c.take_unit.ensures.still.faults c.in-Err.ensures.does))
+    (behind_unit (λ k n. FlushesAsAsked c.args.now k new n device (Err c.in-Err.stop)) taken kept before first c.take_unit.ensures.records c.take_unit.ensures.still.past c.in-Err.ensures.does))
 
 pub returns-in-Ok-clause-stripe : goal.returns-in-Ok-clause-stripe
 returns-in-Ok-clause-stripe g c =
@@ -70,13 +70,13 @@ pub returns-in-Ok-clause-unharmed : goal.returns-in-Ok-clause-unharmed
 returns-in-Ok-clause-unharmed g c =
     let does = c.in-Ok.ensures.does in
     between-trans _ _ _ _ _ _ c.take_unit.ensures.unharmed
-    (between-adds _ _ (kept_in g.C.Chronicle c.take_unit.new.self) _ does.added does.adds c.flush.ensures.uses.goes does.unharmed)
+    (between-adds _ _ (kept_in g.C.Chronicle c.take_unit.new.self) _ does.added does.adds c.flush.ensures.uses.goes does.faults does.unharmed)
 
 pub returns-in-Err-clause-unharmed : goal.returns-in-Err-clause-unharmed
 returns-in-Err-clause-unharmed g c =
     let does = c.in-Err.ensures.does in
     between-trans _ _ _ _ _ _ c.take_unit.ensures.unharmed
-    (between-adds _ _ (kept_in g.C.Chronicle c.take_unit.new.self) _ does.added does.adds c.flush.ensures.uses.goes does.unharmed)
+    (between-adds _ _ (kept_in g.C.Chronicle c.take_unit.new.self) _ does.added does.adds c.flush.ensures.uses.goes does.faults does.unharmed)
 
 pub returns-in-Err-clause-stops : goal.returns-in-Err-clause-stops
 returns-in-Err-clause-stops g c =

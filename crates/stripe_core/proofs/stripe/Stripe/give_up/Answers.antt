@@ -8,8 +8,7 @@ use Rattle.stripe_core.proofs.Doings.{held_behind, one_record, reader_behind}
 use Rattle.stripe_core.proofs.Sparing.{made_behind, numbered_by}
 use Rattle.stripe_core.proofs.Doings.{gives_up}
 use Rattle.stripe_core.proofs.Naming.{named_aborted, named_behind}
-use Rattle.logged_disk.proofs.GoingOn.{stays_put}
-use Rattle.stripe_core.proofs.Between.{between-adds}
+use Rattle.stripe_core.proofs.Between.{between-tells}
 use Rattle.stripe_core.proofs.stripe.Stripe.give_up.Goals as goal
 
 pub returns-clause-stripe : goal.returns-clause-stripe
@@ -34,4 +33,4 @@ returns-clause-does g c = λ p. gives_up p (state_in g.C.Chronicle c.args.self.n
 
 pub returns-clause-unharmed : goal.returns-clause-unharmed
 returns-clause-unharmed g c =
-    between-adds _ _ (kept_in g.C.Chronicle c.args.self.now) (g.C.Chronicle.kept c.aborted.new.chronicle) (rec.Aborted c.args.put c.args.key ∷ []) c.aborted.ensures.kept (stays_put _) (λ told. (refl, tt))
+    between-tells _ _ (kept_in g.C.Chronicle c.args.self.now) (g.C.Chronicle.kept c.aborted.new.chronicle) (rec.Aborted c.args.put c.args.key ∷ []) refl c.aborted.ensures.kept refl (refl, tt)

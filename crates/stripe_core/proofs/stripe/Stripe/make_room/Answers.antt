@@ -9,7 +9,7 @@ use Rattle.stripe_core.proofs.stripe.Stripe.make_room.Goals as goal
 pub returns-then-blocks_of-room-clause-does : goal.returns-then-blocks_of-room-clause-does
 returns-then-blocks_of-room-clause-does g c =
     let s = state_in g.C.Chronicle c.args.self.now in
-    room_stands c.args.now (kept_in g.C.Chronicle c.args.self.now) _ _ c.args.bytes tt
+    room_stands c.args.now (kept_in g.C.Chronicle c.args.self.now) _ c.args.bytes tt
     (le-leb (s.filled + blocks_of c.args.bytes) s.geometry.agg (omega (arith, c.room.ensures, c.blocks_of.ensures, c.if-blocks_of-room.true)))
 
 pub returns-in-Ok-clause-room : goal.returns-in-Ok-clause-room
@@ -26,13 +26,13 @@ returns-in-Err-clause-full g c =
 pub returns-in-Ok-clause-does : goal.returns-in-Ok-clause-does
 returns-in-Ok-clause-does g c =
     let s = state_in g.C.Chronicle c.args.self.now in
-    flush_makes c.args.now (kept_in g.C.Chronicle c.args.self.now) (kept_in g.C.Chronicle c.flush.new.self) (seen_in g.D.Disk g.R.Directory c.args.self.now).device.faults
+    flush_makes c.args.now (kept_in g.C.Chronicle c.args.self.now) (kept_in g.C.Chronicle c.flush.new.self) (seen_in g.D.Disk g.R.Directory c.args.self.now).device.past
     (seen_in g.D.Disk g.R.Directory c.flush.new.self).device c.args.bytes
     (lt-leb (s.filled + blocks_of c.args.bytes) s.geometry.agg (omega (arith, c.room.ensures, c.blocks_of.ensures, c.if-blocks_of-room.false))) c.in-Ok.field-0 tt c.requires.small c.in-Ok.ensures.does
 
 pub returns-in-Err-clause-does : goal.returns-in-Err-clause-does
 returns-in-Err-clause-does g c =
-    refusal_makes_none c.args.now (kept_in g.C.Chronicle c.args.self.now) (kept_in g.C.Chronicle c.flush.new.self) (seen_in g.D.Disk g.R.Directory c.args.self.now).device.faults
+    refusal_makes_none c.args.now (kept_in g.C.Chronicle c.args.self.now) (kept_in g.C.Chronicle c.flush.new.self) (seen_in g.D.Disk g.R.Directory c.args.self.now).device.past
     (seen_in g.D.Disk g.R.Directory c.flush.new.self).device c.args.bytes (returns-in-Err-clause-full g c) c.in-Err.why _ c.in-Err.ensures.does
 
 pub returns-in-Err-clause-stops : goal.returns-in-Err-clause-stops

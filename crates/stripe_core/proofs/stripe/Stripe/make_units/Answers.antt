@@ -10,7 +10,7 @@ returns-in_err-prepare-clause-still g c =
 
 pub returns-in_err-prepare-clause-unharmed : goal.returns-in_err-prepare-clause-unharmed
 returns-in_err-prepare-clause-unharmed g c =
-    between-none _ _ (kept_of g.C.Chronicle c.args.self.now.pieces) (kept_of g.C.Chronicle c.prepare.new.self) c.prepare.ensures.records (returns-in_err-prepare-clause-still g c).goes
+    between-none _ _ (kept_of g.C.Chronicle c.args.self.now.pieces) (kept_of g.C.Chronicle c.prepare.new.self) c.prepare.ensures.records (returns-in_err-prepare-clause-still g c).goes (returns-in_err-prepare-clause-still g c).past
 
 pub returns-in_ok-prepare-clause-still : goal.returns-in_ok-prepare-clause-still
 returns-in_ok-prepare-clause-still g c =
@@ -19,4 +19,4 @@ returns-in_ok-prepare-clause-still g c =
 
 pub returns-in_ok-prepare-clause-unharmed : goal.returns-in_ok-prepare-clause-unharmed
 returns-in_ok-prepare-clause-unharmed g c =
-    between-none _ _ (kept_of g.C.Chronicle c.args.self.now.pieces) (kept_of g.C.Chronicle c.prepare.new.self) c.prepare.ensures.records (returns-in_ok-prepare-clause-still g c).goes
+    between-none _ _ (kept_of g.C.Chronicle c.args.self.now.pieces) (kept_of g.C.Chronicle c.prepare.new.self) c.prepare.ensures.records (returns-in_ok-prepare-clause-still g c).goes (returns-in_ok-prepare-clause-still g c).past

@@ -1,4 +1,4 @@
-use Rattle.std.proofs.Common.{sym, ◌∙◌, ap, subst, arith, [], ◌∷◌}
+use Rattle.std.proofs.Common.{refl, sym, ◌∙◌, ap, subst, arith, [], ◌∷◌}
 use Rattle.cache_model.specs.Legal.{answer_record}
 use Rattle.cache_model.specs.Kept.{state_of}
 use Rattle.stripe_actors.specs.Actors.{AreActors}
@@ -7,8 +7,7 @@ use Rattle.stripe_core.proofs.Flushes.{state_of-with_records}
 use Rattle.stripe_core.proofs.Doings.{answer_keeps_readers, answer_leaves, answer_leaves_tape, held_behind, one_record, reader_behind}
 use Rattle.stripe_core.proofs.Sparing.{made_behind, numbered_by}
 use Rattle.stripe_core.proofs.Naming.{answer_leaves_names, named_behind}
-use Rattle.logged_disk.proofs.GoingOn.{stays_put}
-use Rattle.stripe_core.proofs.Between.{answer_tells_none, between-adds}
+use Rattle.stripe_core.proofs.Between.{answer_tells_no_fault, answer_tells_none, between-tells}
 use Rattle.stripe_core.proofs.stripe.Stripe.note.Goals as goal
 
 pub returns-clause-stripe : goal.returns-clause-stripe
@@ -32,5 +31,6 @@ returns-clause-stripe g c =
 
 pub returns-clause-unharmed : goal.returns-clause-unharmed
 returns-clause-unharmed g c =
-    between-adds _ _ (kept_in g.C.Chronicle c.args.self.now) (g.C.Chronicle.kept c.answered.new.chronicle) (answer_record c.args.reader c.args.answer ∷ []) c.answered.ensures.kept (stays_put _)
-    (λ told. (answer_tells_none c.args.reader c.args.answer, tt))
+    let device = (seen_in g.D.Disk g.R.Directory c.args.self.now).device in
+    between-tells device device (kept_in g.C.Chronicle c.args.self.now) (g.C.Chronicle.kept c.answered.new.chronicle) (answer_record c.args.reader c.args.answer ∷ []) refl c.answered.ensures.kept
+    (answer_tells_no_fault c.args.reader c.args.answer) (answer_tells_none c.args.reader c.args.answer, tt)

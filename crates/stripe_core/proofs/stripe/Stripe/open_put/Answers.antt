@@ -13,8 +13,7 @@ use Rattle.stripe_core.proofs.Flushes.{state_of-with_records}
 use Rattle.stripe_core.proofs.Doings.{held_behind, opens, reader_behind}
 use Rattle.stripe_core.proofs.Sparing.{behind_one, made_behind, numbered_by}
 use Rattle.stripe_core.proofs.Naming.{named_behind, named_opened}
-use Rattle.logged_disk.proofs.GoingOn.{stays_put}
-use Rattle.stripe_core.proofs.Between.{between-adds}
+use Rattle.stripe_core.proofs.Between.{between-tells}
 use Rattle.stripe_core.proofs.stripe.Stripe.open_put.Goals as goal
 
 -- what was opened, by the lines that were asked
@@ -70,4 +69,4 @@ returns-in-Ok-clause-unharmed g c =
     let told = rec.WriteOpened c.args.actor c.in-Ok.put c.args.key c.args.request c.args.response c.args.pin in
     let kept = kept_in g.C.Chronicle c.args.self.now in
     let after = g.C.Chronicle.kept c.write_opened.new.chronicle in
-    between-adds _ _ kept after (told ∷ []) (opened_as c.args.actor c.in-Ok.put c.args.pin c.args.key kept (g.C.Chronicle.kept c.reserve.new.self) after c.args.request c.in_ok-kept_request.kept_request c.args.response c.in_ok-kept_response.kept_response c.write_opened.ensures.kept c.reserve.ensures.kept c.in_ok-kept_request.ensures.copy c.in_ok-kept_response.ensures.copy) (stays_put _) (λ told. (refl, tt))
+    between-tells _ _ kept after (told ∷ []) refl (opened_as c.args.actor c.in-Ok.put c.args.pin c.args.key kept (g.C.Chronicle.kept c.reserve.new.self) after c.args.request c.in_ok-kept_request.kept_request c.args.response c.in_ok-kept_response.kept_response c.write_opened.ensures.kept c.reserve.ensures.kept c.in_ok-kept_request.ensures.copy c.in_ok-kept_response.ensures.copy) refl (refl, tt)

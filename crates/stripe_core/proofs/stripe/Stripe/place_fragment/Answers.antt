@@ -76,7 +76,7 @@ pub returns-in-Err-clause-does : goal.returns-in-Err-clause-does
 returns-in-Err-clause-does g c =
     let kept = kept_in g.C.Chronicle c.args.self.now in
     let new = kept_of g.C.Chronicle c.place_fragment.new.self in
-    let before = (seen_in g.D.Disk g.R.Directory c.args.self.now).device.faults in
+    let before = (seen_in g.D.Disk g.R.Directory c.args.self.now).device.past in
     let after = (seen_of g.D.Disk g.R.Directory c.place_fragment.new.self).device in
     let cuts = CutsAsAsked c.args.now kept new before after c.args.id c.args.pin c.args.start c.args.payload.now in
     subst (λ r. Answers (Err r) cuts (new ≡ kept)) (sym c.from.ensures) (answers_stop c.in-Err.stop cuts (new ≡ kept) c.in-Err.ensures.does)
@@ -87,12 +87,12 @@ returns-in-Err-clause-memory g c = λ some. subst (λ r. HasMemory {X = Placed} 
 pub returns-in-Ok-clause-unharmed : goal.returns-in-Ok-clause-unharmed
 returns-in-Ok-clause-unharmed g c =
     let does = c.in-Ok.ensures.does in
-    between-adds _ _ (kept_in g.C.Chronicle c.args.self.now) _ does.added does.adds c.place_fragment.ensures.uses.goes does.unharmed
+    between-adds _ _ (kept_in g.C.Chronicle c.args.self.now) _ does.added does.adds c.place_fragment.ensures.uses.goes does.faults does.unharmed
 
 pub returns-in-Err-clause-unharmed : goal.returns-in-Err-clause-unharmed
 returns-in-Err-clause-unharmed g c =
     let does = c.in-Err.ensures.does in
-    between-adds _ _ (kept_in g.C.Chronicle c.args.self.now) _ does.added does.adds c.place_fragment.ensures.uses.goes does.unharmed
+    between-adds _ _ (kept_in g.C.Chronicle c.args.self.now) _ does.added does.adds c.place_fragment.ensures.uses.goes does.faults does.unharmed
 
 pub place_fragment-requires-clause-new : goal.place_fragment-requires-clause-new
 place_fragment-requires-clause-new g c =

@@ -14,16 +14,16 @@ returns-then-id-eq0-clause-does g c =
     let old = kept_in g.C.Chronicle c.args.self.now in
     let taken = kept_in g.C.Chronicle c.take_unit.new.self in
     let new = kept_in g.C.Chronicle c.place_vector.new.self in
-    let first = (seen_in g.D.Disk g.R.Directory c.args.self.now).device.faults in
-    let before = (seen_in g.D.Disk g.R.Directory c.take_unit.new.self).device.faults in
+    let first = (seen_in g.D.Disk g.R.Directory c.args.self.now).device.past in
+    let before = (seen_in g.D.Disk g.R.Directory c.take_unit.new.self).device.past in
     let after = (seen_in g.D.Disk g.R.Directory c.place_vector.new.self).device in
     let id = c.args.id in
     let payload = c.args.payload.now in
     let kind : is_vector id ≡ true = eq-eqb id.index 0 c.if-id-eq0.true in
-    answers_map c.place_vector.result (PlacesVector taken new before after.faults id c.args.pin c.args.start payload) (PlacesAsAsked c.args.now old new first after id c.args.pin c.args.start payload) _ _
+    answers_map c.place_vector.result (PlacesVector taken new before after.past id c.args.pin c.args.start payload) (PlacesAsAsked c.args.now old new first after id c.args.pin c.args.start payload) _ _
     (λ r h.
-    subst (λ b. MatchBool b (PlacesVector old new first after.faults id c.args.pin c.args.start payload r) (CutsAsAsked c.args.now old new first after id c.args.pin c.args.start payload r)) (sym kind)
-    (behind_unit (λ k n. PlacesVector k new n after.faults id c.args.pin c.args.start payload r) taken old before first c.take_unit.ensures.records c.take_unit.ensures.still.faults h))
+    subst (λ b. MatchBool b (PlacesVector old new first after.past id c.args.pin c.args.start payload r) (CutsAsAsked c.args.now old new first after id c.args.pin c.args.start payload r)) (sym kind)
+    (behind_unit (λ k n. PlacesVector k new n after.past id c.args.pin c.args.start payload r) taken old before first c.take_unit.ensures.records c.take_unit.ensures.still.past h))
     (λ none. absurd none) c.place_vector.ensures.does
 
 pub returns-else-id-eq0-clause-does : goal.returns-else-id-eq0-clause-does
@@ -31,16 +31,16 @@ returns-else-id-eq0-clause-does g c =
     let old = kept_in g.C.Chronicle c.args.self.now in
     let taken = kept_in g.C.Chronicle c.take_unit.new.self in
     let new = kept_in g.C.Chronicle c.place_fragment.new.self in
-    let first = (seen_in g.D.Disk g.R.Directory c.args.self.now).device.faults in
-    let before = (seen_in g.D.Disk g.R.Directory c.take_unit.new.self).device.faults in
+    let first = (seen_in g.D.Disk g.R.Directory c.args.self.now).device.past in
+    let before = (seen_in g.D.Disk g.R.Directory c.take_unit.new.self).device.past in
     let after = (seen_in g.D.Disk g.R.Directory c.place_fragment.new.self).device in
     let id = c.args.id in
     let payload = c.args.payload.now in
     let kind : is_vector id ≡ false = ne_eqb id.index 0 c.if-id-eq0.false in
     answers_map c.place_fragment.result (CutsAsAsked c.args.now taken new before after id c.args.pin c.args.start payload) (PlacesAsAsked c.args.now old new first after id c.args.pin c.args.start payload) _ _
     (λ r h.
-    subst (λ b. MatchBool b (PlacesVector old new first after.faults id c.args.pin c.args.start payload r) (CutsAsAsked c.args.now old new first after id c.args.pin c.args.start payload r)) (sym kind)
-    (behind_unit (λ k n. CutsAsAsked c.args.now k new n after id c.args.pin c.args.start payload r) taken old before first c.take_unit.ensures.records c.take_unit.ensures.still.faults h))
+    subst (λ b. MatchBool b (PlacesVector old new first after.past id c.args.pin c.args.start payload r) (CutsAsAsked c.args.now old new first after id c.args.pin c.args.start payload r)) (sym kind)
+    (behind_unit (λ k n. CutsAsAsked c.args.now k new n after id c.args.pin c.args.start payload r) taken old before first c.take_unit.ensures.records c.take_unit.ensures.still.past h))
     (λ same. subst (λ k. new ≡ k) c.take_unit.ensures.records same) c.place_fragment.ensures.does
 
 pub returns-then-id-eq0-clause-unharmed : goal.returns-then-id-eq0-clause-unharmed

@@ -6,7 +6,7 @@ use Rattle.tape_base.specs.Piece.{is_vector}
 use Rattle.stripe_core.specs.Place.{PlacesVector, place_adds}
 use Rattle.stripe_core.specs.Pieces.{kept_of, seen_of}
 use Rattle.stripe_core.specs.Stripe.{Answers, flushes_in, kept_in, seen_in, state_in, units_in}
-use Rattle.stripe_core.proofs.Between.{between-adds}
+use Rattle.stripe_core.proofs.Between.{between-tells}
 use Rattle.stripe_core.proofs.Groups.{vector_group}
 use Rattle.stripe_core.proofs.Sparing.{actors_with, answers_stop, made_still, numbered_others, spent_calm, vector_alone, vector_others}
 use Rattle.stripe_core.proofs.Naming.{begun_put, named_behind, named_placed, small_size, vector_new}
@@ -46,8 +46,8 @@ returns-in-Ok-clause-does g c = record {
 pub returns-in-Err-clause-does : goal.returns-in-Err-clause-does
 returns-in-Err-clause-does g c =
     let s = state_in g.C.Chronicle c.args.self.now in
-    let before = (seen_in g.D.Disk g.R.Directory c.args.self.now).device.faults in
-    let after = (seen_of g.D.Disk g.R.Directory c.place.new.self).device.faults in
+    let before = (seen_in g.D.Disk g.R.Directory c.args.self.now).device.past in
+    let after = (seen_of g.D.Disk g.R.Directory c.place.new.self).device.past in
     let places = PlacesVector (kept_in g.C.Chronicle c.args.self.now) (kept_of g.C.Chronicle c.place.new.self) before after c.args.id c.args.pin c.args.start c.args.payload.now in
     subst (λ r. Answers (Err r) places ⊥) (sym c.from.ensures)
     (answers_stop c.in-Err.stop places ⊥ (record {
@@ -68,5 +68,5 @@ pub returns-in-Ok-clause-unharmed : goal.returns-in-Ok-clause-unharmed
 returns-in-Ok-clause-unharmed g c =
     let s = state_in g.C.Chronicle c.args.self.now in
     let kind : is_vector c.args.id ≡ true = eq-eqb c.args.id.index 0 c.requires.kind in
-    between-adds _ _ (kept_in g.C.Chronicle c.args.self.now) _ (placed_record s c.args.id c.args.pin c.args.start (length c.args.payload.now) c.args.payload.now ∷ [])
-    (c.in-Ok.ensures.adds ∙ ap (with_records (kept_in g.C.Chronicle c.args.self.now)) (vector_alone s c.args.id c.args.pin c.args.start c.args.payload.now kind)) c.place.ensures.uses.goes (λ told. (refl, tt))
+    between-tells _ _ (kept_in g.C.Chronicle c.args.self.now) _ (placed_record s c.args.id c.args.pin c.args.start (length c.args.payload.now) c.args.payload.now ∷ []) c.place.ensures.still
+    (c.in-Ok.ensures.adds ∙ ap (with_records (kept_in g.C.Chronicle c.args.self.now)) (vector_alone s c.args.id c.args.pin c.args.start c.args.payload.now kind)) refl (refl, tt)
