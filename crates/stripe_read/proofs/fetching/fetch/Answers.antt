@@ -3,7 +3,7 @@ use Rattle.cache_model.specs.State.{live_row_of}
 use Rattle.cache_model.specs.Kept.{state_of, with_records}
 use Rattle.stripe_core.specs.Find.{Finds, find_adds}
 use Rattle.stripe_core.specs.Stripe.{kept_in, seen_in, state_in}
-use Rattle.stripe_core.proofs.Between.{blamed_then}
+use Rattle.stripe_core.proofs.Between.{accounted_then}
 use Rattle.stripe_core.proofs.Fitting.{budget_has_room}
 use Rattle.stripe_read.specs.declared.fetching.Unlike.{Unlike}
 use Rattle.stripe_read.specs.Fetches.{Fetches, IsCompared, IsUnlike}
@@ -58,5 +58,5 @@ returns-in-Found-clause-unharmed g c =
     (subst (λ k. IsUnlike (state_of k) c.args.id c.args.listed (take size into) x.0) same x.1))
     c.in_ok-size.ensures.unharmed c.compare.ensures.unharmed
 
-pub returns-in-Found-clause-blamed : goal.returns-in-Found-clause-blamed
-returns-in-Found-clause-blamed g c = blamed_then _ _ _ _ _ _ c.find_piece.ensures.unharmed.blamed c.compare.ensures.blamed
+pub returns-in-Found-clause-accounted : goal.returns-in-Found-clause-accounted
+returns-in-Found-clause-accounted g c = accounted_then _ _ _ _ _ _ c.find_piece.ensures.unharmed.accounted c.compare.ensures.accounted

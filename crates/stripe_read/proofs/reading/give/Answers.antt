@@ -4,7 +4,7 @@ use Rattle.cache_model.specs.Kept.{with_records}
 use Rattle.stripe_core.specs.declared.refusal.Found.TheVariants as found
 use Rattle.stripe_core.specs.Find.{find_adds}
 use Rattle.stripe_core.specs.Stripe.{kept_in, seen_in, state_in}
-use Rattle.stripe_core.proofs.Between.{blamed_then}
+use Rattle.stripe_core.proofs.Between.{accounted_then}
 use Rattle.stripe_read.specs.Fetches.{Fetches}
 use Rattle.stripe_read.proofs.Giving.{broken_reads, other_next, piece_reads}
 use Rattle.stripe_read.proofs.Harmless.{unharmed_behind}
@@ -72,8 +72,8 @@ returns-in-Missing-clause-unharmed g c =
     (other_next s c.args.reader.now c.next_piece.result c.listed_digest-listed.result c.args.cut c.args.digest c.requires.next c.next_piece.ensures c.listed_digest-listed.ensures)
     c.fetch.ensures.unharmed c.note-in-Missing.ensures.unharmed
 
-pub returns-in-Found-clause-blamed : goal.returns-in-Found-clause-blamed
-returns-in-Found-clause-blamed g c = blamed_then _ _ _ _ _ _ c.fetch.ensures.blamed c.note.ensures.unharmed.blamed
+pub returns-in-Found-clause-accounted : goal.returns-in-Found-clause-accounted
+returns-in-Found-clause-accounted g c = accounted_then _ _ _ _ _ _ c.fetch.ensures.accounted c.note.ensures.unharmed.accounted
 
-pub returns-in-Missing-clause-blamed : goal.returns-in-Missing-clause-blamed
-returns-in-Missing-clause-blamed g c = blamed_then _ _ _ _ _ _ c.fetch.ensures.blamed c.note-in-Missing.ensures.unharmed.blamed
+pub returns-in-Missing-clause-accounted : goal.returns-in-Missing-clause-accounted
+returns-in-Missing-clause-accounted g c = accounted_then _ _ _ _ _ _ c.fetch.ensures.accounted c.note-in-Missing.ensures.unharmed.accounted

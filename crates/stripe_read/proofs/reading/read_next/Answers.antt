@@ -1,7 +1,7 @@
 use Rattle.std.proofs.Common.{ap, subst, sym}
 use Rattle.cache_model.specs.Kept.{Kept, state_of}
 use Rattle.stripe_core.specs.Stripe.{kept_in, seen_in, state_in}
-use Rattle.stripe_core.proofs.Between.{blamed_then}
+use Rattle.stripe_core.proofs.Between.{accounted_then}
 use Rattle.stripe_read.specs.Readers.{IsReaderOf}
 use Rattle.stripe_read.specs.Nexts.{IsOtherNext}
 use Rattle.stripe_read.specs.Others.{AddsOfReader}
@@ -43,8 +43,8 @@ returns-in-Some-clause-device g c = goes_further _ _ _ c.prepare.ensures.still.g
 pub returns-in-None-clause-keeps : goal.returns-in-None-clause-keeps
 returns-in-None-clause-keeps g c = λ own. c.stop.ensures.keeps (subst (λ (k : Kept). IsReaderOf (state_of k) c.args.reader.now) (sym c.prepare.ensures.records) own)
 
-pub returns-in-Some-clause-blamed : goal.returns-in-Some-clause-blamed
-returns-in-Some-clause-blamed g c = blamed_then _ _ _ _ _ _ c.prepare.ensures.unharmed.blamed c.give.ensures.blamed
+pub returns-in-Some-clause-accounted : goal.returns-in-Some-clause-accounted
+returns-in-Some-clause-accounted g c = accounted_then _ _ _ _ _ _ c.prepare.ensures.unharmed.accounted c.give.ensures.accounted
 
-pub returns-in-None-clause-blamed : goal.returns-in-None-clause-blamed
-returns-in-None-clause-blamed g c = blamed_then _ _ _ _ _ _ c.prepare.ensures.unharmed.blamed c.stop.ensures.unharmed.blamed
+pub returns-in-None-clause-accounted : goal.returns-in-None-clause-accounted
+returns-in-None-clause-accounted g c = accounted_then _ _ _ _ _ _ c.prepare.ensures.unharmed.accounted c.stop.ensures.unharmed.accounted
