@@ -46,19 +46,29 @@ pub record TakesBuffer (p : Permit) (s : State) : Type 0 where
   pub whole : length bytes / 512 ≡ s.filled
   pub holds : AllByRecursion (λ (row : Row). s.cursor ≤ row.place → document_digest (bytes_from s bytes row) ≡ row.digest) s.rows
 
--- ---- one fault record for each call that failed
+-- ---- one record for each call that has an effect
 
--- the counts behind the calls that failed, the oldest first
-abbrev pub counts_in : List Call → List ℕ
-counts_in [] = []
-counts_in (RefusedCall asked count ∷ older) = counts_in older ++ count ∷ []
-counts_in (call ∷ older) = counts_in older
+-- what a call of a device does beside reading: it takes a buffer, or fails, with the count behind it; no step asks for
+-- any other
+pub data Effect : Type 0 where
+  Took : Effect
+  Denied : (count : ℕ) → Effect
+  Unasked : Effect
 
--- the counts that records tell
-abbrev pub counts_told : List Rec → List ℕ
-counts_told [] = []
-counts_told (rec.Fault count ∷ recs) = count ∷ counts_told recs
-counts_told (r ∷ recs) = counts_told recs
+-- the effects of calls, the oldest first
+abbrev pub effects_in : List Call → List Effect
+effects_in [] = []
+effects_in (Read at bytes ∷ older) = effects_in older
+effects_in (Wrote at bytes ∷ older) = effects_in older ++ Took ∷ []
+effects_in (RefusedCall asked count ∷ older) = effects_in older ++ Denied count ∷ []
+effects_in (call ∷ older) = effects_in older ++ Unasked ∷ []
+
+-- the effects that records tell: that a buffer begins tells that the one before it was taken
+abbrev pub effects_told : List Rec → List Effect
+effects_told [] = []
+effects_told (rec.Fault count ∷ recs) = Denied count ∷ effects_told recs
+effects_told (rec.Began cursor floor ∷ recs) = Took ∷ effects_told recs
+effects_told (r ∷ recs) = effects_told recs
 
 -- ---- pieces
 

@@ -27,7 +27,7 @@ use Rattle.cache_model.specs.declared.record.Rec.TheVariants as rec
 use Rattle.cache_model.specs.State.{State, Row, PutRow, ReaderRow, Open, after_all, nothing_yet, alternate_of, fragment_piece, place_now, list_of_put, live_row_of, put_of, reader_of, vector_piece, with_cut}
 use Rattle.cache_model.specs.Verdict.{is_open, live_vector_of, lookup_verdict, next_piece, next_row, reader_verdict}
 use Rattle.cache_model.specs.Permit.{Permit, Intent, Flush, Write, Fragment, Overflow, Weigh, Finish, Commit, GiveUp, Remove, Look, ReadOn, ReadAll, StopReading, Reason, ManyWriters, Exhausted, ManyFragments, TooLarge, Lost, Faulted, End, Stays, Done, Fails, Work, to_do, work_after}
-use Rattle.cache_model.specs.Given.{CountsRead, CountsWrite, IsDamaged, IsGiven, IsReadWhereLive, IsWritten, TakesBuffer, Trouble, counts_in, counts_told, damage_cause, damage_record}
+use Rattle.cache_model.specs.Given.{CountsRead, CountsWrite, IsDamaged, IsGiven, IsReadWhereLive, IsWritten, TakesBuffer, Trouble, effects_in, effects_told, damage_cause, damage_record}
 use Rattle.cache_model.specs.Due.{due_pieces}
 use Rattle.cache_model.specs.Outcomes.{AreOutcomes, Outcome, flush_records, stopped_front_of, stopped_records}
 use Rattle.cache_model.specs.Opening.{Opening}
@@ -368,12 +368,12 @@ pub data MayGrow (p : Permit) : State → Work → List Rec → Work → Type 0 
       → Advances p s w.intents w.refused added between
       → MayGrow p (after_all s added) between rest after → MayGrow p s w (added ++ rest) after
 
--- a whole step: nothing is left but what a refusal excused, no vector is pending, and each call that the device refused
--- has its record, in order, and no other
+-- a whole step: nothing is left but what a refusal excused, no vector is pending, and each call of the device
+-- that was no read has its record, in order, and no other is there
 pub record IsStep (p : Permit) (s : State) (intents : List Intent) (added : List Rec) (refused : Option Reason) : Type 0 where
   pub grows : MayGrow p s (to_do intents) added (record { intents = []; refused = refused })
   pub quiet : IsQuiet (after_all s added)
-  pub faults : counts_told added ≡ counts_in p.events
+  pub effects : effects_told added ≡ effects_in p.events
 
 -- ---- a chronicle
 

@@ -162,7 +162,7 @@ a_put_is_a_step = record {
       (group idle formatted _ _ _ Done opened opens) (group idle s1 _ _ _ Done cut places)) (group idle s2 _ _ _ Done [] weighs))
       (group idle s2 _ _ _ Done vector finishes)) (group idle s3 _ _ _ Done committed commits)) (group idle s4 _ _ _ Done [] over);
   quiet = refl;
-  faults = refl;
+  effects = refl;
 }
 
 -- ---- a get that hits it and reads to the end
@@ -208,7 +208,7 @@ a_get_is_a_step = record {
   grows = grows_on (grows_on (grows_on
       (group idle s4 _ _ _ Done hit looks) (group idle r0 _ _ _ Stays given gives)) (group idle r1 _ _ _ Done ended ends)) (group idle r2 _ _ _ Done stopped stops);
   quiet = refl;
-  faults = refl;
+  effects = refl;
 }
 
 -- ---- a put whose fragment finds a full buffer, and whose flush meets a fault
@@ -253,7 +253,7 @@ a_refused_put_is_a_step = record {
   grows = grows_on (grows_on
       (group faulty full _ _ _ Done opened opens_full) (group faulty f1 _ _ _ (Fails (Faulted 1)) fault faults)) (group faulty f2 _ _ _ Done aborted gives_up);
   quiet = refl;
-  faults = refl;
+  effects = refl;
 }
 
 -- ---- a close whose vector finds a full buffer, which begins with the fragment
@@ -343,7 +343,7 @@ a_close_that_flushes_is_a_step bytes buffer = record {
       (group (taking bytes) c1 _ _ _ Done vector_behind (finishes_behind bytes)))
       (group (taking bytes) c2 _ _ _ Done committed (commits_behind bytes));
   quiet = refl;
-  faults = refl;
+  effects = refl;
 }
 
 -- ---- a get of a vector for which the device gives other bytes
@@ -396,7 +396,7 @@ a_get_of_a_damaged_vector_is_a_step kept differ = record {
   grows = grows_on (grows_on (group reading (behind_vector kept) _ _ _ Done (missed kept) (misses kept differ)) (group reading (d1 kept) _ _ _ Done [] (reads_nothing kept)))
       (group reading (d1 kept) _ _ _ Done [] (stops_nothing kept));
   quiet = refl;
-  faults = refl;
+  effects = refl;
 }
 
 -- ---- a get of a vector that the device gives
@@ -446,5 +446,5 @@ a_get_of_what_the_device_gives_is_a_step bytes whole small = record {
   grows = grows_on (grows_on (group (giving bytes) (kept_state bytes) _ _ _ Done hit (looks_up bytes whole small))
       (group (giving bytes) (g1 bytes) _ _ _ Done ended_empty (ends_empty bytes))) (group (giving bytes) (g2 bytes) _ _ _ Done stopped (stops_empty bytes));
   quiet = refl;
-  faults = refl;
+  effects = refl;
 }

@@ -6,38 +6,9 @@ use Rattle.device_log.specs.Calls.{Asked, Call, ToRead, ToWrite, Read, Wrote, Sy
 use Rattle.tape_base.specs.Place.{slot_of}
 use Rattle.cache_model.specs.State.{State, Row, after_all}
 use Rattle.cache_model.specs.Permit.{Permit, IsAmong}
-use Rattle.cache_model.specs.Given.{CountsRead, CountsWrite, IsDamaged, IsGiven, IsWritten, MayCount, counts_in}
+use Rattle.cache_model.specs.Given.{CountsRead, CountsWrite, IsDamaged, IsGiven, IsWritten, MayCount}
 use Rattle.tape_base.specs.declared.digests.Digest.{Digest}
 use Rattle.cache_model.specs.Outcomes.{Copied, IsOutcome, NoRoom, Outcome, Refused, Spoiled, records_of, stopped_records_of}
-
--- ---- calls that were refused
-
-among_last : (x y : ℕ) (xs : List ℕ) → x ≡ y → IsAmong x (xs ++ y ∷ [])
-among_last x y [] same = inl same
-among_last x y (z ∷ xs) same = inr (among_last x y xs same)
-
-among_before : (x y : ℕ) (xs : List ℕ) → IsAmong x xs → IsAmong x (xs ++ y ∷ [])
-among_before x y [] h = absurd h
-among_before x y (z ∷ xs) (inl same) = inl same
-among_before x y (z ∷ xs) (inr h) = inr (among_before x y xs h)
-
--- each has its count
-pub refused_counts : (asked : Asked) (count : ℕ) (events : List Call) → IsAmong (RefusedCall asked count) events → IsAmong count (counts_in events)
-refused_counts asked count [] h = absurd h
-refused_counts asked count (RefusedCall other stood ∷ older) (inl same) = among_last count stood (counts_in older) cc
-refused_counts asked count (RefusedCall other stood ∷ older) (inr h) = among_before count stood (counts_in older) (refused_counts asked count older h)
-refused_counts asked count (Read at bytes ∷ older) (inl same) = cc
-refused_counts asked count (Read at bytes ∷ older) (inr h) = refused_counts asked count older h
-refused_counts asked count (Wrote at bytes ∷ older) (inl same) = cc
-refused_counts asked count (Wrote at bytes ∷ older) (inr h) = refused_counts asked count older h
-refused_counts asked count (Synced ∷ older) (inl same) = cc
-refused_counts asked count (Synced ∷ older) (inr h) = refused_counts asked count older h
-refused_counts asked count (Told act ∷ older) (inl same) = cc
-refused_counts asked count (Told act ∷ older) (inr h) = refused_counts asked count older h
-refused_counts asked count (PowerCut choice left ∷ older) (inl same) = cc
-refused_counts asked count (PowerCut choice left ∷ older) (inr h) = refused_counts asked count older h
-refused_counts asked count (Flipped at byte ∷ older) (inl same) = cc
-refused_counts asked count (Flipped at byte ∷ older) (inr h) = refused_counts asked count older h
 
 -- ---- states alike
 

@@ -15,14 +15,14 @@ use Rattle.cache_model.specs.Due.{due_pieces}
 use Rattle.cache_model.specs.Outcomes.{AreOutcomes, Copied, Copy, NoRoom, Outcome, Refused, Spoiled, copies_of, flush_records, front_of, moved_record, moved_records, records_of}
 use Rattle.model_laws.specs.Agreeing.{IsUntroubled}
 use Rattle.model_laws.proofs.AgreeingFlush.{Match, copied, matched, no_room, nothing}
-use Rattle.model_laws.proofs.Alike.{ReadsAlike, given_alike, reads_back, reads_self, refused_counts}
+use Rattle.model_laws.proofs.Alike.{ReadsAlike, given_alike, reads_back, reads_self}
 use Rattle.cache_model.proofs.Live.{IsFound, due_are_live}
 
 -- ---- a faithful device
 
 -- it counts no fault, behind whatever records
 pub no_count : {p : Permit} {s u : State} {asked : Asked} (count : ℕ) → IsFaithful p s → MayCount p u asked count → ⊥
-no_count {p} {asked = asked} count still counts = subst (IsAmong count) still.unrefused (refused_counts asked count p.events counts.refused)
+no_count {p} {asked = asked} count still counts = still.unrefused asked count counts.refused
 
 -- the row is that of a live piece
 abbrev pub IsLive : State → Row → Type 0

@@ -2,7 +2,7 @@
 -- least wherever it may be asked; and what a group has read.
 use Rattle.std.specs.Prelude.{ℕ, ◌≡◌, ◌-◌, ◌*◌, ◌^◌, ◌<◌, ◌≤◌, ◌⊎◌, true, false, List, [], ◌∷◌, length, Option, Some, None}
 use Rattle.hex.specs.Hex.{IsBytes}
-use Rattle.device_log.specs.Calls.{Read}
+use Rattle.device_log.specs.Calls.{Asked, Read, RefusedCall}
 use Rattle.tape_base.specs.declared.keys.Key.{Key}
 use Rattle.tape_base.specs.declared.pieces.PieceId.{PieceId}
 use Rattle.tape_base.specs.declared.actors.Actor.{Actor}
@@ -19,7 +19,7 @@ use Rattle.cache_model.specs.Verdict.{live_vector_of, next_piece, next_row}
 use Rattle.cache_model.specs.Permit.{Permit, IsAmong, Intent, Flush, Write, Fragment, Overflow, Weigh, Finish, Commit, GiveUp, Remove, Look, ReadOn, ReadAll, StopReading, End}
 use Rattle.cache_model.specs.Due.{due_pieces}
 use Rattle.cache_model.specs.Tape.{IsSound}
-use Rattle.cache_model.specs.Given.{CountsRead, CountsWrite, IsGiven, IsWritten, TakesBuffer, block_at, counts_in}
+use Rattle.cache_model.specs.Given.{CountsRead, CountsWrite, IsGiven, IsWritten, TakesBuffer, block_at, effects_in}
 use Rattle.cache_model.specs.ToRead.{flushes_first, to_read}
 use Rattle.cache_model.specs.Legal.{CanFlush, Does, IsCut, IsNext, IsLookup, IsQuiet, IsReading, IsWriting, most_fragments}
 
@@ -35,7 +35,7 @@ GivesOnce p = (at : ℕ) (one other : List ℕ) → IsAmong (Read at one) p.even
 -- that comes to it lists
 pub record IsFaithful (p : Permit) (s : State) : Type 0 where
   pub displaces_nothing : p.packed ≡ false
-  pub unrefused : counts_in p.events ≡ []
+  pub unrefused : (asked : Asked) (count : ℕ) → IsAmong (RefusedCall asked count) p.events → ⊥
   pub once : GivesOnce p
   pub kept : (id : PieceId) (row : Row) (bytes : List ℕ) → live_row_of s id ≡ Some row → IsGiven p s row bytes → row.digest ≡ document_digest bytes
   pub listed : (reader : ℕ) (r : ReaderRow) (entry : TableRow) (row : Row) (bytes : List ℕ) → reader_of s reader ≡ Some r → next_row s r ≡ Some entry

@@ -1,7 +1,7 @@
 -- What a call keeps, behind one call and behind several.
 use Rattle.std.proofs.Common.{◌≡◌, ℕ, append-nil, append_assoc, false, List, [], ◌∷◌, ◌++◌, refl, sym, ◌∙◌, ap, subst}
 use Rattle.std.proofs.lemmas.List.{append_cancel_left}
-use Rattle.device_log.specs.Calls.{Call, RefusedCall}
+use Rattle.device_log.specs.Calls.{Call, Read, RefusedCall, Wrote}
 use Rattle.logged_disk.specs.Device.{State as Device, IsAfter, TellsAll}
 use Rattle.logged_disk.proofs.GoingOn.{goes_further, stays_as, told_before}
 use Rattle.cache_model.specs.declared.answer.NextAnswer.{NextAnswer}
@@ -9,38 +9,44 @@ use Rattle.cache_model.specs.declared.answer.NextAnswer.TheVariants as next
 use Rattle.cache_model.specs.declared.record.Rec.{Rec}
 use Rattle.cache_model.specs.declared.record.Rec.TheVariants as rec
 use Rattle.cache_model.specs.State.{State, after_all, state_after}
-use Rattle.cache_model.specs.Given.{counts_in, counts_told}
+use Rattle.cache_model.specs.Given.{Effect, Denied, Took, Unasked, effects_in, effects_told}
 use Rattle.cache_model.specs.Legal.{answer_record}
 use Rattle.cache_model.specs.Kept.{Kept, state_of, with_records}
 use Rattle.cache_model.proofs.Steps.{after_all-append}
 use Rattle.cache_model.specs.Damage.{TellNoDamage, tells_damage, has_damage}
 use Rattle.stripe_core.specs.Unharmed.{IsUnharmed}
-use Rattle.stripe_core.specs.Faults.{IsBlamed, Refuses}
+use Rattle.stripe_core.specs.Faults.{IsAccounted, HasEffects}
 use Rattle.stripe_core.specs.Covers.{calls_since}
 use Rattle.stripe_core.specs.Between.{IsBetween}
 use Rattle.stripe_core.proofs.Covering.{since_is}
 
--- ---- the calls that were refused
+-- ---- the effects of calls
 
-pub told_append : (xs ys : List Rec) → counts_told (xs ++ ys) ≡ counts_told xs ++ counts_told ys
+pub told_append : (xs ys : List Rec) → effects_told (xs ++ ys) ≡ effects_told xs ++ effects_told ys
 told_append [] ys = refl
-told_append (rec.Fault count ∷ xs) ys = ap (λ counts. count ∷ counts) (told_append xs ys)
+told_append (rec.Fault count ∷ xs) ys = ap (λ effects. Denied count ∷ effects) (told_append xs ys)
+told_append (rec.Began cursor floor ∷ xs) ys = ap (λ effects. Took ∷ effects) (told_append xs ys)
 told_append (_ ∷ xs) ys = told_append xs ys
 
-pub counts_append : (later older : List Call) → counts_in (later ++ older) ≡ counts_in older ++ counts_in later
-counts_append [] older = sym (append-nil (counts_in older))
-counts_append (RefusedCall asked count ∷ later) older =
-    ap (λ counts. counts ++ count ∷ []) (counts_append later older) ∙ append_assoc (counts_in older) (counts_in later) (count ∷ [])
-counts_append (_ ∷ later) older = counts_append later older
+one_more : (later older : List Call) (e : Effect) → effects_in (later ++ older) ≡ effects_in older ++ effects_in later
+    → effects_in (later ++ older) ++ e ∷ [] ≡ effects_in older ++ (effects_in later ++ e ∷ [])
+one_more later older e h = ap (λ effects. effects ++ e ∷ []) h ∙ append_assoc (effects_in older) (effects_in later) (e ∷ [])
 
-pub refuses_none : (a b : List Call) → b ≡ a → Refuses a b []
-refuses_none a b same = record { made = []; past = same; are = refl }
+pub effects_append : (later older : List Call) → effects_in (later ++ older) ≡ effects_in older ++ effects_in later
+effects_append [] older = sym (append-nil (effects_in older))
+effects_append (Read at bytes ∷ later) older = effects_append later older
+effects_append (Wrote at bytes ∷ later) older = one_more later older Took (effects_append later older)
+effects_append (RefusedCall asked count ∷ later) older = one_more later older (Denied count) (effects_append later older)
+effects_append (_ ∷ later) older = one_more later older Unasked (effects_append later older)
 
-pub refuses_then : (a b c : List Call) (xs ys : List ℕ) → Refuses a b xs → Refuses b c ys → Refuses a c (xs ++ ys)
-refuses_then a b c xs ys first next = record {
+pub effects_none : (a b : List Call) → b ≡ a → HasEffects a b []
+effects_none a b same = record { made = []; past = same; are = refl }
+
+pub effects_then : (a b c : List Call) (xs ys : List Effect) → HasEffects a b xs → HasEffects b c ys → HasEffects a c (xs ++ ys)
+effects_then a b c xs ys first next = record {
   made = next.made ++ first.made;
   past = next.past ∙ (ap (λ calls. next.made ++ calls) first.past ∙ sym (append_assoc next.made first.made a));
-  are = counts_append next.made first.made ∙ (ap (λ counts. counts ++ counts_in next.made) first.are ∙ ap (λ counts. xs ++ counts) next.are);
+  are = effects_append next.made first.made ∙ (ap (λ counts. counts ++ effects_in next.made) first.are ∙ ap (λ counts. xs ++ counts) next.are);
 }
 
 -- ---- each has its record
@@ -51,31 +57,31 @@ with_none k = ap (λ recs. let l : Kept = record { base = k.base; since = recs }
 with_more : (k : Kept) (xs ys : List Rec) → with_records (with_records k xs) ys ≡ with_records k (xs ++ ys)
 with_more k xs ys = ap (λ recs. let l : Kept = record { base = k.base; since = recs } in l) (append_assoc k.since xs ys)
 
-pub blamed_quiet : (a b : List Call) (k l : Kept) (recs : List Rec) → b ≡ a → l ≡ with_records k recs → counts_told recs ≡ [] → IsBlamed a b k l
-blamed_quiet a b k l recs same is none = record { added = recs; adds = is; faults = subst (Refuses a b) (sym none) (refuses_none a b same) }
+pub accounted_quiet : (a b : List Call) (k l : Kept) (recs : List Rec) → b ≡ a → l ≡ with_records k recs → effects_told recs ≡ [] → IsAccounted a b k l
+accounted_quiet a b k l recs same is none = record { added = recs; adds = is; faults = subst (HasEffects a b) (sym none) (effects_none a b same) }
 
-pub blamed_none : (a b : List Call) (k l : Kept) → b ≡ a → l ≡ k → IsBlamed a b k l
-blamed_none a b k l same kept = blamed_quiet a b k l [] same (kept ∙ with_none k) refl
+pub accounted_none : (a b : List Call) (k l : Kept) → b ≡ a → l ≡ k → IsAccounted a b k l
+accounted_none a b k l same kept = accounted_quiet a b k l [] same (kept ∙ with_none k) refl
 
-pub blamed_then : (a b c : List Call) (k l m : Kept) → IsBlamed a b k l → IsBlamed b c l m → IsBlamed a c k m
-blamed_then a b c k l m first next = record {
+pub accounted_then : (a b c : List Call) (k l m : Kept) → IsAccounted a b k l → IsAccounted b c l m → IsAccounted a c k m
+accounted_then a b c k l m first next = record {
   added = first.added ++ next.added;
   adds = next.adds ∙ (ap (λ j. with_records j next.added) first.adds ∙ with_more k first.added next.added);
-  faults = subst (Refuses a c) (sym (told_append first.added next.added)) (refuses_then a b c (counts_told first.added) (counts_told next.added) first.faults next.faults);
+  faults = subst (HasEffects a c) (sym (told_append first.added next.added)) (effects_then a b c (effects_told first.added) (effects_told next.added) first.faults next.faults);
 }
 
 -- the records that were added tell the calls that were refused
-pub blamed_is : (a b : List Call) (k l : Kept) (added : List Rec) → IsBlamed a b k l → l ≡ with_records k added → counts_told added ≡ counts_in (calls_since a b)
-blamed_is a b k l added h is =
+pub accounted_is : (a b : List Call) (k l : Kept) (added : List Rec) → IsAccounted a b k l → l ≡ with_records k added → effects_told added ≡ effects_in (calls_since a b)
+accounted_is a b k l added h is =
     let same : added ≡ h.added = append_cancel_left k.since added h.added (ap (λ (j : Kept). j.since) (sym is ∙ h.adds)) in
-    ap counts_told same ∙ (sym h.faults.are ∙ ap counts_in (sym (since_is a b h.faults.made h.faults.past)))
+    ap effects_told same ∙ (sym h.faults.are ∙ ap effects_in (sym (since_is a b h.faults.made h.faults.past)))
 
 -- ---- one call behind another
 
 pub between-trans : (a b c : Device) (k l m : Kept) → IsBetween a b k l → IsBetween b c l m → IsBetween a c k m
 between-trans a b c k l m first next = record {
   goes = goes_further a b c first.goes next.goes;
-  blamed = blamed_then a.past b.past c.past k l m first.blamed next.blamed;
+  accounted = accounted_then a.past b.past c.past k l m first.accounted next.accounted;
   unharmed = λ (h : IsUnharmed a (state_of k)). next.unharmed (first.unharmed h);
 }
 
@@ -93,11 +99,11 @@ after_records s [] none h = h
 after_records s (r ∷ recs) none h = after_records (state_after s r) recs none.1 (after_record s r none.0 h)
 
 -- a call that adds records which tell no damage, where its device tells its content
-pub between-adds : (a b : Device) (old new : Kept) (recs : List Rec) → new ≡ with_records old recs → IsAfter a b → Refuses a.past b.past (counts_told recs)
+pub between-adds : (a b : Device) (old new : Kept) (recs : List Rec) → new ≡ with_records old recs → IsAfter a b → HasEffects a.past b.past (effects_told recs)
     → (TellsAll b → TellNoDamage recs) → IsBetween a b old new
 between-adds a b old new recs is goes faults none = record {
   goes = goes;
-  blamed = record { added = recs; adds = is; faults = faults };
+  accounted = record { added = recs; adds = is; faults = faults };
   unharmed = λ (h : IsUnharmed a (state_of old)). record {
     unharmed = λ told.
         let before : TellsAll a = told_before a b goes told in
@@ -107,12 +113,12 @@ between-adds a b old new recs is goes faults none = record {
 
 -- a call that adds no record and asks no device
 pub between-none : (a b : Device) (old new : Kept) → new ≡ old → IsAfter a b → b.past ≡ a.past → IsBetween a b old new
-between-none a b old new same goes past = between-adds a b old new [] (same ∙ with_none old) goes (refuses_none a.past b.past past) (λ told. tt)
+between-none a b old new same goes past = between-adds a b old new [] (same ∙ with_none old) goes (effects_none a.past b.past past) (λ told. tt)
 
--- a call that adds a record which tells neither damage nor a fault, and asks no device
-pub between-tells : (a b : Device) (old new : Kept) (recs : List Rec) → b ≡ a → new ≡ with_records old recs → counts_told recs ≡ [] → TellNoDamage recs → IsBetween a b old new
+-- a call that adds records which tell neither damage nor an effect, and asks no device
+pub between-tells : (a b : Device) (old new : Kept) (recs : List Rec) → b ≡ a → new ≡ with_records old recs → effects_told recs ≡ [] → TellNoDamage recs → IsBetween a b old new
 between-tells a b old new recs same is quiet none =
-    between-adds a b old new recs is (stays_as a b same) (subst (Refuses a.past b.past) (sym quiet) (refuses_none a.past b.past (ap (λ (d : Device). d.past) same))) (λ told. none)
+    between-adds a b old new recs is (stays_as a b same) (subst (HasEffects a.past b.past) (sym quiet) (effects_none a.past b.past (ap (λ (d : Device). d.past) same))) (λ told. none)
 
 -- what a reader was answered tells no damage
 pub answer_tells_none : (reader : ℕ) (answer : NextAnswer) → tells_damage (answer_record reader answer) ≡ false
@@ -121,8 +127,8 @@ answer_tells_none reader (next.Ended length) = refl
 answer_tells_none reader (next.Waited cut) = refl
 answer_tells_none reader (next.Broke why) = refl
 
--- and no fault
-pub answer_tells_no_fault : (reader : ℕ) (answer : NextAnswer) → counts_told (answer_record reader answer ∷ []) ≡ []
+-- and no effect
+pub answer_tells_no_fault : (reader : ℕ) (answer : NextAnswer) → effects_told (answer_record reader answer ∷ []) ≡ []
 answer_tells_no_fault reader (next.Gave index length) = refl
 answer_tells_no_fault reader (next.Ended length) = refl
 answer_tells_no_fault reader (next.Waited cut) = refl

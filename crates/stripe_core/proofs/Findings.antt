@@ -20,16 +20,16 @@ use Rattle.cache_model.specs.declared.cause.Cause.{Cause}
 use Rattle.cache_model.specs.declared.cause.Cause.TheVariants as cause
 use Rattle.cache_model.specs.State.{State, Row, floor_now, live_row_of, row_in}
 use Rattle.cache_model.specs.Permit.{IsAmong, Permit}
-use Rattle.cache_model.specs.Given.{CountsRead, IsGiven, Trouble, block_at, counts_told}
+use Rattle.cache_model.specs.Given.{CountsRead, Denied, IsGiven, Trouble, block_at, effects_told}
 use Rattle.cache_model.proofs.Lists.{found_row, own_piece}
 use Rattle.stripe_core.specs.declared.refusal.Found.{Found}
 use Rattle.stripe_core.specs.declared.refusal.Found.TheVariants as found
 use Rattle.stripe_core.specs.Held.{IsBufferedWhereNew, IsHeld, IsIntactWhereWritten}
 use Rattle.cache_model.specs.Damage.{TellNoDamage}
 use Rattle.stripe_core.specs.Covers.{AreSeen, Covers, IsSeenOn}
-use Rattle.stripe_core.specs.Faults.{Refuses}
+use Rattle.stripe_core.specs.Faults.{HasEffects}
 use Rattle.stripe_core.specs.Find.{Finds, IsFoundAs, IsJudged, IsRecorded, TellsCount, cause_records, find_adds, found_records, judged_records}
-use Rattle.stripe_core.proofs.Between.{refuses_none}
+use Rattle.stripe_core.proofs.Between.{effects_none}
 use Rattle.stripe_core.proofs.Covering.{block_is, made_is}
 use Rattle.stripe_core.proofs.Candidates.{live_is}
 
@@ -59,15 +59,15 @@ given_read p t c new row bytes same from below read covers = record {
   of_bytes = read.of_bytes;
 }
 
-pub refuses_read : (c new : Seen) (place blocks : ℕ) (bytes : List ℕ) → place < c.buffer.cursor → Reads c new place blocks (Ok tt) bytes → Refuses c.device.past new.device.past []
-refuses_read c new place blocks bytes from read = record { made = Read (slot_of c.geometry place) bytes ∷ []; past = (read.logs from).past; are = refl }
+pub effects_read : (c new : Seen) (place blocks : ℕ) (bytes : List ℕ) → place < c.buffer.cursor → Reads c new place blocks (Ok tt) bytes → HasEffects c.device.past new.device.past []
+effects_read c new place blocks bytes from read = record { made = Read (slot_of c.geometry place) bytes ∷ []; past = (read.logs from).past; are = refl }
 
-pub refuses_failed : (c new : Seen) (place blocks : ℕ) (bytes : List ℕ) (e : Failed) (count : ℕ) → place < c.buffer.cursor → Reads c new place blocks (Err e) bytes → count ≡ new.device.faults
-    → Refuses c.device.past new.device.past (count ∷ [])
-refuses_failed c new place blocks bytes e count from read is = record {
+pub effects_failed : (c new : Seen) (place blocks : ℕ) (bytes : List ℕ) (e : Failed) (count : ℕ) → place < c.buffer.cursor → Reads c new place blocks (Err e) bytes → count ≡ new.device.faults
+    → HasEffects c.device.past new.device.past (Denied count ∷ [])
+effects_failed c new place blocks bytes e count from read is = record {
   made = RefusedCall (ToRead (slot_of c.geometry place) (length bytes / 512)) new.device.faults ∷ [];
   past = (read.logs from).0;
-  are = ap (λ n. n ∷ []) (sym is);
+  are = ap (λ n. Denied n ∷ []) (sym is);
 }
 
 pub lower_rose : (a b n : ℕ) → a ≤ b → Rose b n → Rose a n
@@ -153,7 +153,7 @@ module _ (s : State) (c new : Seen) (id : PieceId) (row : Row) (bytes into : Lis
   kept_by p (found.Missing why) above j = absurd (j.1 (own_digest above))
 
   -- what was read tells no fault
-  judged_quiet : (answer : Found) → IsJudged row.place row.digest bytes answer into → counts_told (find_adds s id answer) ≡ []
+  judged_quiet : (answer : Found) → IsJudged row.place row.digest bytes answer into → effects_told (find_adds s id answer) ≡ []
   judged_quiet (found.Found size) j = rw live refl
   judged_quiet (found.Missing why) j = rw (j.0, live) refl
 
@@ -167,13 +167,13 @@ module _ (s : State) (c new : Seen) (id : PieceId) (row : Row) (bytes into : Lis
       let past : new.device.past ≡ c.device.past = ap (λ (d : Device). d.past) still in
       record {
         seen = none_seen c.device new.device past;
-        faults = subst (Refuses c.device.past new.device.past) (sym (judged_quiet answer j)) (refuses_none c.device.past new.device.past past);
+        faults = subst (HasEffects c.device.past new.device.past) (sym (judged_quiet answer j)) (effects_none c.device.past new.device.past past);
         counted = subst (λ o. TellsCount o new.device.faults answer) (sym live) (no_count answer j);
         answers = λ p covers. subst (λ o. IsFoundAs p s id o answer into) (sym live) (kept_by p answer above j);
       }
   finds_by answer (inr below) j = record {
     seen = all_shown below;
-    faults = subst (Refuses c.device.past new.device.past) (sym (judged_quiet answer j)) (refuses_read c new row.place row.blocks bytes (from_device below) read);
+    faults = subst (HasEffects c.device.past new.device.past) (sym (judged_quiet answer j)) (effects_read c new row.place row.blocks bytes (from_device below) read);
     counted = subst (λ o. TellsCount o new.device.faults answer) (sym live) (no_count answer j);
     answers = λ p covers. subst (λ o. IsFoundAs p s id o answer into) (sym live) (told_by p answer below covers j);
   }
@@ -231,8 +231,8 @@ module _ (s : State) (c new : Seen) (id : PieceId) (row : Row) (count : ℕ) (by
     seen = λ made past trusted.
         subst (AllByRecursion (IsSeenOn new.device)) (sym (made_is c.device.past new.device.past made
         (RefusedCall (ToRead (slot_of c.geometry row.place) (length bytes / 512)) new.device.faults ∷ []) (read.logs beneath).0 past)) (tt, tt);
-    faults = subst (Refuses c.device.past new.device.past) (sym (ap (λ o. counts_told (found_records o (found.Missing (cause.DeviceFault count)))) live))
-        (refuses_failed c new row.place row.blocks bytes e count beneath read is);
+    faults = subst (HasEffects c.device.past new.device.past) (sym (ap (λ o. effects_told (found_records o (found.Missing (cause.DeviceFault count)))) live))
+        (effects_failed c new row.place row.blocks bytes e count beneath read is);
     counted = subst (λ o. TellsCount o new.device.faults (found.Missing (cause.DeviceFault count))) (sym live) is;
     answers = λ p covers.
         subst (λ o. IsFoundAs p s id o (found.Missing (cause.DeviceFault count)) into) (sym live)

@@ -31,8 +31,8 @@ use Rattle.cache_model.specs.Damage.{TellNoDamage, tells_damage}
 use Rattle.stripe_core.specs.Flush.{AreOfFlush, IsOfFlush, LiveBefore, StopsWith, stop_end}
 use Rattle.stripe_core.specs.Place.{CutsAsAsked, IsFragmentAs, IsFragmentOf, IsNew, IsStoppedAs, IsVectorOf, PlacesAt, ReachesLimit, RoomIsMade, RoomsAsAsked, StopsBehind, piece_records, place_adds, place_end}
 use Rattle.stripe_core.proofs.Flushes.{state_of-with_records, with_records-append}
-use Rattle.cache_model.specs.Given.{counts_told}
-use Rattle.stripe_core.specs.Faults.{Refuses}
+use Rattle.cache_model.specs.Given.{effects_told}
+use Rattle.stripe_core.specs.Faults.{HasEffects}
 use Rattle.stripe_core.proofs.Between.{told_append}
 use Rattle.stripe_core.proofs.Covering.{own_covers, own_permit}
 use Rattle.stripe_core.proofs.Naming.{SamePuts, same_puts}
@@ -147,19 +147,19 @@ no_damage_adds s id pin start payload (Ok placed) = no_damage_placed s id pin st
 no_damage_adds s id pin start payload (Err why) = tt
 
 -- what is placed tells no fault
-placed_quiet : (s : State) (id : PieceId) (pin start : ℕ) (payload : List ℕ) → counts_told (piece_records s id pin start payload) ≡ []
+placed_quiet : (s : State) (id : PieceId) (pin start : ℕ) (payload : List ℕ) → effects_told (piece_records s id pin start payload) ≡ []
 placed_quiet s id pin start payload = by (is_vector id)
   where
-    by : (b : Bool) → counts_told ((if b then [] else rec.Cut id.put id.index (length payload) (digest_of payload) ∷ []) ++ placed_record s id pin start (length payload) payload ∷ []) ≡ []
+    by : (b : Bool) → effects_told ((if b then [] else rec.Cut id.put id.index (length payload) (digest_of payload) ∷ []) ++ placed_record s id pin start (length payload) payload ∷ []) ≡ []
     by true = refl
     by false = refl
 
-pub place_quiet : (s : State) (id : PieceId) (pin start : ℕ) (payload : List ℕ) (result : Result Placed Stop) → counts_told (place_adds s id pin start payload result) ≡ []
+pub place_quiet : (s : State) (id : PieceId) (pin start : ℕ) (payload : List ℕ) (result : Result Placed Stop) → effects_told (place_adds s id pin start payload result) ≡ []
 place_quiet s id pin start payload (Ok placed) = placed_quiet s id pin start payload
 place_quiet s id pin start payload (Err why) = refl
 
-quiet_adds : (first quiet : List Rec) → counts_told quiet ≡ [] → counts_told (first ++ quiet) ≡ counts_told first
-quiet_adds first quiet none = told_append first quiet ∙ (ap (λ counts. counts_told first ++ counts) none ∙ append-nil (counts_told first))
+quiet_adds : (first quiet : List Rec) → effects_told quiet ≡ [] → effects_told (first ++ quiet) ≡ effects_told first
+quiet_adds first quiet none = told_append first quiet ∙ (ap (λ counts. effects_told first ++ counts) none ∙ append-nil (effects_told first))
 
 module _ (now : ℕ) (old mid : Kept) (before : List Call) (device : Device) (id : PieceId) (pin start : ℕ) (payload : List ℕ) (u : Unit {0}) (r : RoomsAsAsked now old mid before device (length payload) (Ok u)) where
   abbrev s : State
@@ -230,7 +230,7 @@ module _ (now : ℕ) (old mid : Kept) (before : List Call) (device : Device) (id
             ∙ ap (λ x. with_records old (r.added ++ place_adds x id pin start payload result)) mid_is));
         shape = shape_by after.faults result here there;
         unharmed = λ told. all_append (λ r. tells_damage r ≡ false) r.added _ (r.unharmed (subst TellsAll still told)) (no_damage_adds t id pin start payload result);
-        faults = subst (λ (d : Device). Refuses before d.past (counts_told (r.added ++ place_adds t id pin start payload result))) (sym still) (subst (Refuses before device.past) (sym (quiet_adds r.added (place_adds t id pin start payload result) (place_quiet t id pin start payload result))) r.faults);
+        faults = subst (λ (d : Device). HasEffects before d.past (effects_told (r.added ++ place_adds t id pin start payload result))) (sym still) (subst (HasEffects before device.past) (sym (quiet_adds r.added (place_adds t id pin start payload result) (place_quiet t id pin start payload result))) r.faults);
         does = λ p moment covers.
             by_room p result covers.plain (r.does p moment (subst (λ (d : Device). Covers p before d.past) still covers)) f small here there (has_room s (length payload)) refl;
       }

@@ -20,7 +20,7 @@ use Rattle.cache_model.specs.State.{Row, State, after_all, cursor_next, floor_ne
 use Rattle.cache_model.specs.Kept.{Kept, state_of, with_records}
 use Rattle.cache_model.specs.Permit.{IsAmong, Permit}
 use Rattle.cache_model.specs.Due.{due_pieces, is_due}
-use Rattle.cache_model.specs.Given.{CountsWrite, block_at, bytes_from, counts_told}
+use Rattle.cache_model.specs.Given.{CountsWrite, Denied, Took, block_at, bytes_from, effects_told}
 use Rattle.cache_model.specs.Legal
 use Rattle.cache_model.specs.Legal.{CanFlush}
 use Rattle.cache_model.specs.Outcomes.{AreOutcomes, Copied, NoRoom, Outcome, Refused, Spoiled, began_record, copies_of, flush_records, front_of, moved_record, moved_records, records_of, stopped_front_of, stopped_records, stopped_records_of, Copy}
@@ -41,10 +41,10 @@ use Rattle.stripe_core.specs.declared.refusal.Stop.TheVariants as stop
 use Rattle.stripe_core.specs.Ahead.{LooksAhead}
 use Rattle.stripe_core.specs.Copying.{AreCopyable, AreTellable, begun_behind, copied_of, copies_among, done_records, told_of}
 use Rattle.stripe_core.specs.Covers.{Covers, Uses}
-use Rattle.stripe_core.specs.Faults.{Refuses, counts_among, counts_of}
+use Rattle.stripe_core.specs.Faults.{HasEffects, effects_among, effects_of}
 use Rattle.stripe_core.specs.Held.{IsBufferedWhereNew, IsHeld}
 use Rattle.stripe_core.specs.declared.ahead.Fate.{Fate}
-use Rattle.stripe_core.proofs.Between.{refuses_then, told_append}
+use Rattle.stripe_core.proofs.Between.{effects_then, told_append}
 use Rattle.stripe_core.proofs.Covering.{block_is, covers_first, own_covers, own_permit}
 use Rattle.stripe_core.proofs.Findings.{lower_rose}
 use Rattle.stripe_core.proofs.OneMore.{counted_later}
@@ -57,32 +57,32 @@ use Rattle.stripe_core.proofs.Told.{AllCame, none, more, all_came, are_tellable,
 
 -- ---- the faults among the records
 
-one_count : (row : Row) (o : Outcome) → counts_told (records_of row o) ≡ counts_of o
+one_count : (row : Row) (o : Outcome) → effects_told (records_of row o) ≡ effects_of o
 one_count row NoRoom = refl
 one_count row (Copied bytes) = refl
 one_count row (Spoiled found) = refl
 one_count row (Refused count) = refl
 
-stopped_count : (row : Row) (o : Outcome) → counts_told (stopped_records_of row o) ≡ counts_of o
+stopped_count : (row : Row) (o : Outcome) → effects_told (stopped_records_of row o) ≡ effects_of o
 stopped_count row NoRoom = refl
 stopped_count row (Copied bytes) = refl
 stopped_count row (Spoiled found) = refl
 stopped_count row (Refused count) = refl
 
-front_counts : {rows : List Row} {outcomes : List Outcome} {fates : List Fate} → AllCame rows outcomes fates → counts_told (front_of rows outcomes) ≡ counts_among outcomes
+front_counts : {rows : List Row} {outcomes : List Outcome} {fates : List Fate} → AllCame rows outcomes fates → effects_told (front_of rows outcomes) ≡ effects_among outcomes
 front_counts none = refl
 front_counts (more {o = o} {rows = rows} {outcomes = outcomes} row came rest) =
     told_append (records_of row o) (front_of rows outcomes)
-    ∙ (ap (λ counts. counts ++ counts_told (front_of rows outcomes)) (one_count row o) ∙ ap (λ counts. counts_of o ++ counts) (front_counts rest))
+    ∙ (ap (λ counts. counts ++ effects_told (front_of rows outcomes)) (one_count row o) ∙ ap (λ counts. effects_of o ++ counts) (front_counts rest))
 
 stopped_front_counts : {rows : List Row} {outcomes : List Outcome} {fates : List Fate} → AllCame rows outcomes fates
-    → counts_told (stopped_front_of rows outcomes) ≡ counts_among outcomes
+    → effects_told (stopped_front_of rows outcomes) ≡ effects_among outcomes
 stopped_front_counts none = refl
 stopped_front_counts (more {o = o} {rows = rows} {outcomes = outcomes} row came rest) =
     told_append (stopped_records_of row o) (stopped_front_of rows outcomes)
-    ∙ (ap (λ counts. counts ++ counts_told (stopped_front_of rows outcomes)) (stopped_count row o) ∙ ap (λ counts. counts_of o ++ counts) (stopped_front_counts rest))
+    ∙ (ap (λ counts. counts ++ effects_told (stopped_front_of rows outcomes)) (stopped_count row o) ∙ ap (λ counts. effects_of o ++ counts) (stopped_front_counts rest))
 
-moved_counts : (u : State) (copies : List Copy) → counts_told (moved_records u copies) ≡ []
+moved_counts : (u : State) (copies : List Copy) → effects_told (moved_records u copies) ≡ []
 moved_counts u [] = refl
 moved_counts u (c ∷ copies) = moved_counts (state_after u (moved_record u c)) copies
 
@@ -176,16 +176,16 @@ module _ (now : ℕ) (s : State) (before mid : Device) (a : Ahead) (sound : IsSo
 
   -- ---- the calls that were refused among them
 
-  flush_counts : counts_told (flush_records s due_rows looks.outcomes) ≡ counts_among looks.outcomes ++ []
+  flush_counts : effects_told (flush_records s due_rows looks.outcomes) ≡ effects_among looks.outcomes ++ Took ∷ []
   flush_counts =
       told_append (front_of due_rows looks.outcomes) (began_record s ∷ moved_records begun (copies_of due_rows looks.outcomes))
-      ∙ (ap (λ counts. counts ++ counts_told (moved_records begun (copies_of due_rows looks.outcomes))) (front_counts all)
-      ∙ ap (λ counts. counts_among looks.outcomes ++ counts) (moved_counts begun (copies_of due_rows looks.outcomes)))
+      ∙ (ap (λ effects. effects ++ Took ∷ effects_told (moved_records begun (copies_of due_rows looks.outcomes))) (front_counts all)
+      ∙ ap (λ effects. effects_among looks.outcomes ++ Took ∷ effects) (moved_counts begun (copies_of due_rows looks.outcomes)))
 
-  stopped_counts : (count : ℕ) → counts_told (stopped_records due_rows looks.outcomes count) ≡ counts_among looks.outcomes ++ count ∷ []
+  stopped_counts : (count : ℕ) → effects_told (stopped_records due_rows looks.outcomes count) ≡ effects_among looks.outcomes ++ Denied count ∷ []
   stopped_counts count =
       told_append (stopped_front_of due_rows looks.outcomes) (rec.Fault count ∷ [])
-      ∙ ap (λ counts. counts ++ count ∷ []) (stopped_front_counts all)
+      ∙ ap (λ effects. effects ++ Denied count ∷ []) (stopped_front_counts all)
 
 -- ---- damage among the records
 
@@ -280,15 +280,15 @@ flush_asked now old new before mid after a flushed sound able looks taken is =
     let adds : new ≡ with_records old added = is ∙ ap (with_records old) records in
     let made : List Call = Wrote taken.at taken.bytes ∷ looks.faults.made in
     let past : after.past ≡ made ++ before.past = taken.wrote ∙ ap (λ calls. Wrote taken.at taken.bytes ∷ calls) looks.faults.past in
-    let none : Refuses mid.past after.past [] = record { made = Wrote taken.at taken.bytes ∷ []; past = taken.wrote; are = refl } in
+    let one : HasEffects mid.past after.past (Took ∷ []) = record { made = Wrote taken.at taken.bytes ∷ []; past = taken.wrote; are = refl } in
     record {
       added = added;
       adds = adds;
       kinds = flush_kinds s (due_pieces s now) looks.outcomes;
       live = subst (LiveBefore s) (sym (ap state_of adds ∙ state_of-with_records old added)) (flush_before s now looks.outcomes sound (later_began s sound).floor);
       unharmed = λ told. flush_unharmed s (due_pieces s now) looks.outcomes (looks.unharmed (told_before mid after taken.goes told));
-      faults = subst (Refuses before.past after.past) (sym (flush_counts now s before mid a sound looks))
-          (refuses_then before.past mid.past after.past (counts_among looks.outcomes) [] looks.faults none);
+      faults = subst (HasEffects before.past after.past) (sym (flush_counts now s before mid a sound looks))
+          (effects_then before.past mid.past after.past (effects_among looks.outcomes) (Took ∷ []) looks.faults one);
       does = λ p moment covers. Legal.DoesFlush.flushes (record {
         outcomes = looks.outcomes;
         can = able;
@@ -336,15 +336,15 @@ stop_asked now old new before mid after a sound able low first looks left rose i
     let aside : AllAside front = (all_parts IsAside front (rec.Fault count ∷ []) (stopped_aside (due_pieces s now) looks.outcomes count)).0 in
     let call : Call = RefusedCall (ToWrite left.at (length left.bytes / 512) left.left) count in
     let past : after.past ≡ (call ∷ looks.faults.made) ++ before.past = left.refused ∙ ap (λ calls. call ∷ calls) looks.faults.past in
-    let one : Refuses mid.past after.past (count ∷ []) = record { made = call ∷ []; past = left.refused; are = refl } in
+    let one : HasEffects mid.past after.past (Denied count ∷ []) = record { made = call ∷ []; past = left.refused; are = refl } in
     record {
       added = added;
       adds = adds;
       kinds = stopped_kinds (due_pieces s now) looks.outcomes count;
       live = subst (LiveBefore s) (sym (ap state_of adds ∙ state_of-with_records old added)) (stopped_before s (due_pieces s now) looks.outcomes count);
       unharmed = λ told. stopped_unharmed (due_pieces s now) looks.outcomes count (looks.unharmed (told_before mid after left.goes told));
-      faults = subst (Refuses before.past after.past) (sym (stopped_counts now s before mid a sound looks count))
-          (refuses_then before.past mid.past after.past (counts_among looks.outcomes) (count ∷ []) looks.faults one);
+      faults = subst (HasEffects before.past after.past) (sym (stopped_counts now s before mid a sound looks count))
+          (effects_then before.past mid.past after.past (effects_among looks.outcomes) (Denied count ∷ []) looks.faults one);
       does = λ p moment covers. Legal.DoesFlush.stops count (record {
         outcomes = looks.outcomes;
         can = able;

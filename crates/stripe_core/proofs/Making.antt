@@ -22,7 +22,7 @@ use Rattle.stripe_core.specs.declared.refusal.Stop.TheVariants as stop
 use Rattle.stripe_core.specs.Flush.{FlushesAsAsked, LiveBefore, StopsWith, stop_end}
 use Rattle.stripe_core.specs.Place.{RoomsAsAsked}
 use Rattle.stripe_core.specs.Stripe.{Answers}
-use Rattle.stripe_core.proofs.Between.{refuses_none}
+use Rattle.stripe_core.proofs.Between.{effects_none}
 
 -- ---- none is needed
 
@@ -39,7 +39,7 @@ room_stands now k device bytes u some = record {
   kinds = tt;
   live = live_still (state_of k);
   unharmed = λ told. tt;
-  faults = refuses_none device.past device.past refl;
+  faults = effects_none device.past device.past refl;
   does = λ p at covers. rw some refl;
 }
 

@@ -19,7 +19,7 @@ use Rattle.stripe_core.specs.declared.ahead.Ahead.{Ahead}
 use Rattle.stripe_core.specs.declared.ahead.Fate.{Fate}
 use Rattle.stripe_core.specs.declared.ahead.Fate.TheVariants as fate
 use Rattle.stripe_core.specs.Ahead.{StandsAt}
-use Rattle.stripe_core.proofs.Between.{refuses_none}
+use Rattle.stripe_core.proofs.Between.{effects_none}
 use Rattle.stripe_core.specs.Looks.{Comes, HasRow, HasRows, IsCopyOf, LooksOn, MayBeCopied, blocks_kept}
 
 -- ---- the piece at an index
@@ -83,7 +83,7 @@ notes_none s device row at old new few over notes same = record {
   taken = omega arith;
   count = tt;
   unharmed = λ told. (refl, tt);
-  faults = refuses_none device.past device.past refl;
+  faults = effects_none device.past device.past refl;
   is = λ p t covers beside. omega arith;
 }
 

@@ -17,8 +17,8 @@ use Rattle.stripe_core.specs.declared.ahead.Ahead.{Ahead}
 use Rattle.stripe_core.specs.declared.ahead.Fate.{Fate}
 use Rattle.stripe_core.specs.Ahead.{AreFates, IsFate, StandFrom, StandsAt, taken_by, taken_by_all}
 use Rattle.stripe_core.specs.Looks.{Looked, LooksOn}
-use Rattle.stripe_core.specs.Faults.{CountsUpTo, Refuses, counts_among, counts_of}
-use Rattle.stripe_core.proofs.Between.{refuses_none, refuses_then}
+use Rattle.stripe_core.specs.Faults.{CountsUpTo, HasEffects, effects_among, effects_of}
+use Rattle.stripe_core.proofs.Between.{effects_none, effects_then}
 use Rattle.stripe_core.proofs.Covering.{covers_first, covers_last}
 use Rattle.cache_model.specs.Damage.{TellNoDamage, tells_damage}
 
@@ -111,9 +111,9 @@ fault_within s row (Spoiled found) faults h k = h
 fault_within s row (Refused count) faults h k = k
 
 -- the calls that were refused
-counts_more : (outcomes : List Outcome) (o : Outcome) → counts_among (outcomes ++ o ∷ []) ≡ counts_among outcomes ++ counts_of o
-counts_more [] o = append-nil (counts_of o)
-counts_more (x ∷ outcomes) o = ap (λ counts. counts_of x ++ counts) (counts_more outcomes o) ∙ sym (append_assoc (counts_of x) (counts_among outcomes) (counts_of o))
+effects_more : (outcomes : List Outcome) (o : Outcome) → effects_among (outcomes ++ o ∷ []) ≡ effects_among outcomes ++ effects_of o
+effects_more [] o = append-nil (effects_of o)
+effects_more (x ∷ outcomes) o = ap (λ counts. effects_of x ++ counts) (effects_more outcomes o) ∙ sym (append_assoc (effects_of x) (effects_among outcomes) (effects_of o))
 
 -- a device counts on
 later_count : (before after : ℕ) (o : Outcome) → before ≤ after → CountsUpTo before o → CountsUpTo after o
@@ -136,7 +136,7 @@ looked_none s device a none low = record {
   taken = refl;
   unharmed = λ told. tt;
   goes = stays_put device;
-  faults = refuses_none device.past device.past refl;
+  faults = effects_none device.past device.past refl;
   counted = tt;
   are = λ p covers. tt;
   beside = record { geometry = refl; cursor = refl; fault = low };
@@ -162,7 +162,7 @@ looked_more s before mid after rows row at end old new asked h k =
           subst TellNoDamage (sym front)
           (all_append (λ r. tells_damage r ≡ false) (front_of rows h.outcomes) (records_of row k.outcome) (h.unharmed (told_before mid after asked.goes told)) (k.unharmed told));
       goes = goes_further before mid after h.goes asked.goes;
-      faults = subst (Refuses before.past after.past) (sym (counts_more h.outcomes k.outcome)) (refuses_then before.past mid.past after.past (counts_among h.outcomes) (counts_of k.outcome) h.faults k.faults);
+      faults = subst (HasEffects before.past after.past) (sym (effects_more h.outcomes k.outcome)) (effects_then before.past mid.past after.past (effects_among h.outcomes) (effects_of k.outcome) h.faults k.faults);
       counted = all_append (CountsUpTo after.faults) h.outcomes (k.outcome ∷ []) (counted_later mid.faults after.faults h.outcomes last h.counted) (k.count, tt);
       are = λ p covers.
           outcomes_more p s (budget_of s.geometry) rows h.outcomes row k.outcome (h.are p (covers_first p before.past mid.past after.past asked.goes.made asked.goes.past covers))

@@ -15,7 +15,7 @@ use Rattle.stripe_core.specs.declared.ahead.Fate.TheVariants as fate
 use Rattle.stripe_core.specs.Covers.{Covers}
 use Rattle.stripe_core.specs.Looks.{Comes, IsBeside, IsJudgedAs, MayBeCopied}
 use Rattle.stripe_core.specs.Held.{IsHeld}
-use Rattle.stripe_core.proofs.Findings.{counts_read, given_read, refuses_failed, refuses_read, right_by}
+use Rattle.stripe_core.proofs.Findings.{counts_read, given_read, effects_failed, effects_read, right_by}
 use Rattle.stripe_core.proofs.Lives.{live_is_stored, live_within}
 
 -- ---- a read
@@ -45,7 +45,7 @@ module _ (s : State) (c new : Seen) (row : Row) (bytes : List ℕ) (held : IsHel
     taken = refl;
     count = tt;
     unharmed = λ told. tt;
-    faults = refuses_read c new row.place row.blocks bytes beneath read;
+    faults = effects_read c new row.place row.blocks bytes beneath read;
     is = λ p t left covers beside few. (few, given_then p t read covers beside, j.0);
   }
   comes_of (fate.Spoiled kept found) read j = record {
@@ -55,7 +55,7 @@ module _ (s : State) (c new : Seen) (row : Row) (bytes : List ℕ) (held : IsHel
     taken = refl;
     count = tt;
     unharmed = λ told. absurd (j.2 (right_by s c new row.id row bytes bytes held may.live read (inr may.written) told));
-    faults = refuses_read c new row.place row.blocks bytes beneath read;
+    faults = effects_read c new row.place row.blocks bytes beneath read;
     is = λ p t left covers beside few. (few, record { bytes = bytes; given = given_then p t read covers beside; digest = refl; differ = j.2 });
   }
   comes_of fate.NoRoom read j = absurd j
@@ -71,7 +71,7 @@ module _ (s : State) (c new : Seen) (row : Row) (bytes : List ℕ) (held : IsHel
     taken = refl;
     count = omega (arith, is);
     unharmed = λ told. (refl, (refl, tt));
-    faults = refuses_failed c new row.place row.blocks bytes e count beneath read is;
+    faults = effects_failed c new row.place row.blocks bytes e count beneath read is;
     is = λ p t left covers beside few. (
       few,
       below t beside,

@@ -12,7 +12,7 @@ use Rattle.stripe_due.specs.Finding.{candidates_of, most_passed}
 use Rattle.stripe_core.specs.declared.ahead.Ahead.{Ahead}
 use Rattle.stripe_core.specs.declared.ahead.Fate.{Fate}
 use Rattle.stripe_core.specs.declared.ahead.Fate.TheVariants as fate
-use Rattle.stripe_core.specs.Faults.{CountsUpTo, Refuses, counts_among}
+use Rattle.stripe_core.specs.Faults.{CountsUpTo, HasEffects, effects_among}
 use Rattle.stripe_core.specs.Covers.{Covers}
 use Rattle.cache_model.specs.Damage.{TellNoDamage}
 
@@ -69,6 +69,6 @@ pub record LooksAhead (now : ℕ) (s : State) (before after : Device) (a : Ahead
   -- a device that tells its content shows each piece as it was placed
   pub unharmed : TellsAll after → TellNoDamage (front_of (due_pieces s now) outcomes)
   pub goes : IsAfter before after
-  pub faults : Refuses before.past after.past (counts_among outcomes)
+  pub faults : HasEffects before.past after.past (effects_among outcomes)
   pub counted : AllByRecursion (CountsUpTo after.faults) outcomes
   pub are : (p : Permit) → Covers p before.past after.past → AreOutcomes p s (budget_of s.geometry) (due_pieces s now) outcomes

@@ -1,34 +1,34 @@
--- Which calls a device refused, and that each has its record.
+-- What the calls of a device do beside reading, and that each such call has its record.
 use Rattle.std.specs.Prelude.{ℕ, ◌≡◌, ◌≤◌, List, [], ◌∷◌, ◌++◌}
 use Rattle.device_log.specs.Calls.{Call}
 use Rattle.cache_model.specs.declared.record.Rec.{Rec}
 use Rattle.cache_model.specs.Kept.{Kept, with_records}
-use Rattle.cache_model.specs.Given.{counts_in, counts_told}
+use Rattle.cache_model.specs.Given.{Effect, Denied, effects_in, effects_told}
 use Rattle.cache_model.specs.Outcomes.{Outcome, Refused}
 
--- between two moments of its log a device refused calls with these counts, the oldest first, and no others
-pub record Refuses (before after : List Call) (counts : List ℕ) : Type 0 where
+-- the calls between two moments of a device's log have these effects
+pub record HasEffects (before after : List Call) (effects : List Effect) : Type 0 where
   pub made : List Call
   pub past : after ≡ made ++ before
-  pub are : counts_in made ≡ counts
+  pub are : effects_in made ≡ effects
 
 -- where a piece was refused, the count is not above this one
 abbrev pub CountsUpTo : ℕ → Outcome → Type 0
 CountsUpTo faults (Refused count) = count ≤ faults
 CountsUpTo faults _ = Unit {0}
 
--- the count of what came of a piece, where that was refused
-abbrev pub counts_of : Outcome → List ℕ
-counts_of (Refused count) = count ∷ []
-counts_of _ = []
+-- the effect of the read of a piece: a refusal has one
+abbrev pub effects_of : Outcome → List Effect
+effects_of (Refused count) = Denied count ∷ []
+effects_of _ = []
 
 -- of each piece in turn
-abbrev pub counts_among : List Outcome → List ℕ
-counts_among [] = []
-counts_among (o ∷ outcomes) = counts_of o ++ counts_among outcomes
+abbrev pub effects_among : List Outcome → List Effect
+effects_among [] = []
+effects_among (o ∷ outcomes) = effects_of o ++ effects_among outcomes
 
--- each call that the device refused meanwhile has its record, in order, and no other is there
-pub record IsBlamed (before after : List Call) (old new : Kept) : Type 0 where
+-- each call of the device meanwhile that was no read has its record, in order, and no other is there
+pub record IsAccounted (before after : List Call) (old new : Kept) : Type 0 where
   pub added : List Rec
   pub adds : new ≡ with_records old added
-  pub faults : Refuses before after (counts_told added)
+  pub faults : HasEffects before after (effects_told added)

@@ -11,10 +11,10 @@ use Rattle.cache_model.specs.declared.record.Rec.TheVariants as rec
 use Rattle.cache_model.specs.State.{Row, State, live_row_of}
 use Rattle.cache_model.specs.Verdict.{cause_of_piece, size_of}
 use Rattle.cache_model.specs.Permit.{Permit}
-use Rattle.cache_model.specs.Given.{IsDocumentOf, Trouble, counts_told}
+use Rattle.cache_model.specs.Given.{IsDocumentOf, Trouble, effects_told}
 use Rattle.stripe_core.specs.declared.refusal.Found.{Found}
 use Rattle.stripe_core.specs.declared.refusal.Found.TheVariants as found
-use Rattle.stripe_core.specs.Faults.{Refuses}
+use Rattle.stripe_core.specs.Faults.{HasEffects}
 use Rattle.stripe_core.specs.Covers.{AreSeen, Covers}
 
 -- the record of what kept a live piece from being read
@@ -71,6 +71,6 @@ TellsCount _ faults _ = Unit {0}
 -- what was found, in any step that covers the call; what was read is what is seen, and what was refused is recorded
 pub record Finds (s : State) (old new : Device) (id : PieceId) (answer : Found) (into : List ℕ) : Type 0 where
   pub seen : AreSeen old new
-  pub faults : Refuses old.past new.past (counts_told (find_adds s id answer))
+  pub faults : HasEffects old.past new.past (effects_told (find_adds s id answer))
   pub counted : TellsCount (live_row_of s id) new.faults answer
   pub answers : (p : Permit) → Covers p old.past new.past → IsFoundAs p s id (live_row_of s id) answer into

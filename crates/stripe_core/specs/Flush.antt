@@ -10,12 +10,12 @@ use Rattle.cache_model.specs.State.{Row, State, cursor_next, floor_now, live_row
 use Rattle.cache_model.specs.Kept.{Kept, state_of, with_records}
 use Rattle.cache_model.specs.Permit.{Permit, End, Done, Fails, Exhausted, Faulted, Flush}
 use Rattle.cache_model.specs.Room.{limit}
-use Rattle.cache_model.specs.Given.{counts_told}
+use Rattle.cache_model.specs.Given.{effects_told}
 use Rattle.cache_model.specs.Legal.{Does}
 use Rattle.stripe_core.specs.declared.refusal.Flushed.{Flushed}
 use Rattle.stripe_core.specs.declared.refusal.Stop.{Stop}
 use Rattle.stripe_core.specs.declared.refusal.Stop.TheVariants as stop
-use Rattle.stripe_core.specs.Faults.{Refuses}
+use Rattle.stripe_core.specs.Faults.{HasEffects}
 use Rattle.stripe_core.specs.Covers.{Covers}
 use Rattle.cache_model.specs.Damage.{TellNoDamage}
 
@@ -77,5 +77,5 @@ pub record FlushesAsAsked (now : ℕ) (old new : Kept) (before : List Call) (aft
   pub live : LiveBefore (state_of old) (state_of new)
   -- a device that tells its content shows each piece as it was placed
   pub unharmed : TellsAll after → TellNoDamage added
-  pub faults : Refuses before after.past (counts_told added)
+  pub faults : HasEffects before after.past (effects_told added)
   pub does : (p : Permit) → p.now ≡ now → Covers p before after.past → Does p (state_of old) Flush added (flush_end result)

@@ -15,7 +15,7 @@ use Rattle.stripe_core.specs.declared.ahead.Ahead.{Ahead}
 use Rattle.stripe_core.specs.declared.ahead.Fate.{Fate}
 use Rattle.stripe_core.specs.declared.ahead.Fate.TheVariants as fate
 use Rattle.stripe_core.specs.Ahead.{AreFates, IsFate, StandFrom, StandsAt, taken_by, taken_by_all}
-use Rattle.stripe_core.specs.Faults.{CountsUpTo, Refuses, counts_among, counts_of}
+use Rattle.stripe_core.specs.Faults.{CountsUpTo, HasEffects, effects_among, effects_of}
 use Rattle.stripe_core.specs.Covers.{Covers}
 use Rattle.cache_model.specs.Damage.{TellNoDamage}
 
@@ -69,7 +69,7 @@ pub record Comes (s : State) (before after : Device) (row : Row) (f : Fate) (byt
   pub taken : taken_by row outcome ≡ row.blocks
   pub count : CountsUpTo after.faults outcome
   pub unharmed : TellsAll after → TellNoDamage (records_of row outcome)
-  pub faults : Refuses before.past after.past (counts_of outcome)
+  pub faults : HasEffects before.past after.past (effects_of outcome)
   pub is : (p : Permit) (t : State) (left : ℕ) → Covers p before.past after.past → IsBeside s before t → row.blocks ≤ left
       → IsOutcome p t left row outcome
 
@@ -84,7 +84,7 @@ pub record LooksOn (s : State) (before after : Device) (row : Row) (at end : ℕ
   pub taken : end ≡ at + taken_by row outcome
   pub count : CountsUpTo after.faults outcome
   pub unharmed : TellsAll after → TellNoDamage (records_of row outcome)
-  pub faults : Refuses before.past after.past (counts_of outcome)
+  pub faults : HasEffects before.past after.past (effects_of outcome)
   pub is : (p : Permit) (t : State) → Covers p before.past after.past → IsBeside s before t
       → IsOutcome p t (budget_of s.geometry - at) row outcome
 
@@ -96,7 +96,7 @@ pub record Looked (s : State) (before after : Device) (rows : List Row) (end : �
   pub taken : end ≡ taken_by_all rows outcomes
   pub unharmed : TellsAll after → TellNoDamage (front_of rows outcomes)
   pub goes : IsAfter before after
-  pub faults : Refuses before.past after.past (counts_among outcomes)
+  pub faults : HasEffects before.past after.past (effects_among outcomes)
   pub counted : AllByRecursion (CountsUpTo after.faults) outcomes
   pub are : (p : Permit) → Covers p before.past after.past → AreOutcomes p s (budget_of s.geometry) rows outcomes
   -- behind their records the buffer stands where it stood, and no fault is later than the device's

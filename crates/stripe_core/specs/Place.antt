@@ -15,13 +15,13 @@ use Rattle.cache_model.specs.State.{PutRow, State, after_all, cursor_next, list_
 use Rattle.cache_model.specs.Kept.{Kept, state_of, with_records}
 use Rattle.cache_model.specs.Verdict.{cuts_of}
 use Rattle.cache_model.specs.Permit.{Done, End, Finish, Fragment, Permit, Stays}
-use Rattle.cache_model.specs.Given.{counts_told}
+use Rattle.cache_model.specs.Given.{effects_told}
 use Rattle.cache_model.specs.Room.{greatest_pin, has_room, limit, placed_record}
 use Rattle.cache_model.specs.Legal.{AreLiveTo, Does, IsCut, IsNext, IsWriting, MakesRoom, next_fragment_of, vector_length, vector_payload}
 use Rattle.stripe_core.specs.declared.refusal.Placed.{Placed}
 use Rattle.stripe_core.specs.declared.refusal.Stop.{Stop}
 use Rattle.stripe_core.specs.declared.refusal.Stop.TheVariants as stop
-use Rattle.stripe_core.specs.Faults.{Refuses}
+use Rattle.stripe_core.specs.Faults.{HasEffects}
 use Rattle.stripe_core.specs.Covers.{Covers, Spends}
 use Rattle.cache_model.specs.Damage.{TellNoDamage}
 use Rattle.stripe_core.specs.Flush.{AreOfFlush, LiveBefore, stop_end}
@@ -40,7 +40,7 @@ pub record RoomsAsAsked (now : ℕ) (old new : Kept) (before : List Call) (after
   pub kinds : AreOfFlush added
   pub live : LiveBefore (state_of old) (state_of new)
   pub unharmed : TellsAll after → TellNoDamage added
-  pub faults : Refuses before after.past (counts_told added)
+  pub faults : HasEffects before after.past (effects_told added)
   pub does : (p : Permit) → p.now ≡ now → Covers p before after.past → RoomIsMade p (state_of old) bytes added result
 
 -- where a piece of so many bytes would end; or where it has no room, where the next buffer would begin
@@ -132,7 +132,7 @@ pub record CutsAsAsked (now : ℕ) (old new : Kept) (before : List Call) (after 
   pub adds : new ≡ with_records old added
   pub shape : IsFragmentAs (state_of old) after.faults id pin start payload added result
   pub unharmed : TellsAll after → TellNoDamage added
-  pub faults : Refuses before after.past (counts_told added)
+  pub faults : HasEffects before after.past (effects_told added)
   pub does : (p : Permit) → p.now ≡ now → Covers p before after.past
       → Spends p (state_of old) (Fragment id.put id.index payload) added (place_end result)
 

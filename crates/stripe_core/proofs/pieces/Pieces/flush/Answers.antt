@@ -17,7 +17,7 @@ use Rattle.stripe_core.proofs.Going.{device_may_change}
 use Rattle.stripe_core.proofs.Holding.{next_is}
 use Rattle.stripe_core.proofs.LiveBehind.{live_same}
 use Rattle.stripe_core.proofs.Looked.{copyable, few_entries, few_records, flush_asked, flush_uses, half_is_free, left_by_write, stop_asked, taken_by_write, tellable}
-use Rattle.stripe_core.proofs.Between.{refuses_none}
+use Rattle.stripe_core.proofs.Between.{effects_none}
 use Rattle.stripe_core.proofs.pieces.Pieces.flush.Goals as goal
 
 pub returns-then-blocks-eq0-clause-does : goal.returns-then-blocks-eq0-clause-does
@@ -27,7 +27,7 @@ returns-then-blocks-eq0-clause-does g c = record {
   kinds = tt;
   live = live_same (state_now g.C.Chronicle c.args.self.now);
   unharmed = λ told. tt;
-  faults = refuses_none _ _ refl;
+  faults = effects_none _ _ refl;
   does = λ p moment covers. empty_does p (state_now g.C.Chronicle c.args.self.now) c.requires.quiet
       (omega (arith, c.next_place.ensures, c.cursor.ensures, c.if-blocks-eq0.true, c.requires.pieces.filled));
 }
@@ -43,7 +43,7 @@ returns-then-next-ge-LIMIT-clause-does g c =
       kinds = tt;
       live = live_same s;
       unharmed = λ told. tt;
-      faults = refuses_none _ _ refl;
+      faults = effects_none _ _ refl;
       does = λ p moment covers. exhausted_does p s c.requires.quiet
           (some_filled s before c.next_place.result c.cursor.result c.requires.pieces c.next_place.ensures c.cursor.ensures c.if-blocks-eq0.false)
           (omega (arith, next, c.if-next-ge-LIMIT.true));

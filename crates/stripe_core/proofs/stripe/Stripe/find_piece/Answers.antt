@@ -1,7 +1,7 @@
 use Rattle.std.proofs.Common.{◌++◌, sym, ◌∙◌, ap, subst, arith}
-use Rattle.cache_model.specs.Given.{counts_told}
+use Rattle.cache_model.specs.Given.{effects_told}
 use Rattle.stripe_core.specs.Covers.{Covers}
-use Rattle.stripe_core.specs.Faults.{Refuses}
+use Rattle.stripe_core.specs.Faults.{HasEffects}
 use Rattle.cache_model.specs.Kept.{state_of}
 use Rattle.stripe_core.specs.Find.{Finds, find_adds}
 use Rattle.stripe_core.specs.Pieces.{seen_of}
@@ -38,7 +38,7 @@ returns-clause-finds g c =
     subst (λ t. Finds t (seen_in g.D.Disk g.R.Directory c.take_unit.new.self).device (seen_of g.D.Disk g.R.Directory c.find.new.self).device c.args.id c.find.result c.find.new.into) (ap state_of c.take_unit.ensures.records) finds in
     record {
       seen = λ made is. moved.seen made (is ∙ ap (λ calls. made ++ calls) (sym c.take_unit.ensures.still.past));
-      faults = subst (λ calls. Refuses calls (seen_of g.D.Disk g.R.Directory c.find.new.self).device.past (counts_told (find_adds s c.args.id c.find.result))) c.take_unit.ensures.still.past moved.faults;
+      faults = subst (λ calls. HasEffects calls (seen_of g.D.Disk g.R.Directory c.find.new.self).device.past (effects_told (find_adds s c.args.id c.find.result))) c.take_unit.ensures.still.past moved.faults;
       counted = moved.counted;
       answers = λ p covers. moved.answers p (subst (λ calls. Covers p calls (seen_of g.D.Disk g.R.Directory c.find.new.self).device.past) (sym c.take_unit.ensures.still.past) covers);
     }
