@@ -1,4 +1,4 @@
-use Rattle.std.proofs.Common.{◌≡◌, sym, subst, take}
+use Rattle.std.proofs.Common.{◌≡◌, ◌∙◌, ap, sym, subst, take}
 use Rattle.cache_model.specs.State.{live_row_of}
 use Rattle.cache_model.specs.Kept.{state_of, with_records}
 use Rattle.stripe_core.specs.Find.{Finds, find_adds}
@@ -60,3 +60,10 @@ returns-in-Found-clause-unharmed g c =
 
 pub returns-in-Found-clause-accounted : goal.returns-in-Found-clause-accounted
 returns-in-Found-clause-accounted g c = accounted_then _ _ _ _ _ _ c.find_piece.ensures.unharmed.accounted c.compare.ensures.accounted
+
+pub returns-in-Found-clause-adds : goal.returns-in-Found-clause-adds
+returns-in-Found-clause-adds g c =
+    let s = state_in g.C.Chronicle c.args.stripe.now in
+    let same = found_same (kept_in g.C.Chronicle c.args.stripe.now) (kept_in g.C.Chronicle c.find_piece.new.self) (live_row_of s c.args.id) c.in-Found.size
+    (subst (λ f. kept_in g.C.Chronicle c.find_piece.new.self ≡ with_records (kept_in g.C.Chronicle c.args.stripe.now) (find_adds s c.args.id f)) c.in-Found.is c.in_ok-size.ensures.adds) in
+    c.compare.ensures.adds ∙ ap (λ k. with_records k (find_adds (state_of k) c.args.id c.compare.result)) same

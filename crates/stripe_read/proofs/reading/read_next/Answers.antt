@@ -1,7 +1,7 @@
-use Rattle.std.proofs.Common.{ap, subst, sym}
+use Rattle.std.proofs.Common.{ap, inl, subst, sym}
 use Rattle.cache_model.specs.Kept.{Kept, state_of}
 use Rattle.stripe_core.specs.Stripe.{kept_in, seen_in, state_in}
-use Rattle.stripe_core.proofs.Between.{accounted_then}
+use Rattle.stripe_core.proofs.Between.{accounted_then, between-trans}
 use Rattle.stripe_read.specs.Readers.{IsReaderOf}
 use Rattle.stripe_read.specs.Nexts.{IsOtherNext}
 use Rattle.stripe_read.specs.Others.{AddsOfReader}
@@ -48,3 +48,6 @@ returns-in-Some-clause-accounted g c = accounted_then _ _ _ _ _ _ c.prepare.ensu
 
 pub returns-in-None-clause-accounted : goal.returns-in-None-clause-accounted
 returns-in-None-clause-accounted g c = accounted_then _ _ _ _ _ _ c.prepare.ensures.unharmed.accounted c.stop.ensures.unharmed.accounted
+
+pub returns-in-None-clause-unharmed : goal.returns-in-None-clause-unharmed
+returns-in-None-clause-unharmed g c = inl (between-trans _ _ _ _ _ _ c.prepare.ensures.unharmed c.stop.ensures.unharmed)
