@@ -17,7 +17,6 @@ use Rattle.cache_model.specs.Given.{IsDocumentOf}
 use Rattle.stripe_core.proofs.Covering.{own_covers, own_permit}
 use Rattle.stripe_vectors.specs.declared.reading.KeyVector.TheVariants as answer
 use Rattle.stripe_vectors.specs.Reading.{FindsVector, IsReadAs, IsVectorFound, listed_in}
-use Rattle.stripe_vectors.proofs.Seeing.{seen_none}
 
 -- ---- a piece that is live
 
@@ -45,10 +44,6 @@ module _ (s : State) (old new : Device) (id : PieceId) (row : Row) (size : ℕ) 
             let read : IsReadAs p s row list = record { bytes = d.bytes; whole = d.whole; of_bytes = d.of_bytes; digest = d.digest; given = d.given; spelled = spelled ∙ ap listed_in d.payload } in
             subst (λ o. IsVectorFound p s o (answer.Read list)) (sym there) read;
       }
-
--- no vector is live, and the device is not asked
-pub absent_vector : (s : State) (old new : Device) (key : Key) → live_vector_of s key ≡ None → new.past ≡ old.past → FindsVector s old new key answer.Absent
-absent_vector s old new key none same = record { seen = seen_none old new same; answers = λ p covers. subst (λ o. IsVectorFound p s o answer.Absent) (sym none) tt }
 
 pub missed_vector : (s : State) (old new : Device) (id : PieceId) (row : Row) (why : Cause) (into : List ℕ) (key : Key) → live_row_of s id ≡ Some row → vector_of s key ≡ Some id
     → Finds s old new id (found.Missing why) into → FindsVector s old new key (answer.Trouble why)
