@@ -3,7 +3,6 @@ use Rattle.std.proofs.Common.{◌≡◌, ℕ, ◌≤◌, ◌⊎◌, List, [], �
 use Rattle.std.specs.Prelude.{Option, Some, None, ◌==◌, if◌then◌else◌, IfErr, IfOk, IfSome, option_map, unwrap_or}
 use Rattle.std.specs.List.{AllByRecursion}
 use Rattle.std.specs.Map.{lookup}
-use Rattle.logged_disk.specs.Device.{State as Device}
 use Rattle.tape_base.specs.declared.actors.Actor.{Actor}
 use Rattle.tape_base.specs.declared.keys.Key.{Key}
 use Rattle.tape_base.specs.declared.pieces.PieceId.{PieceId}
@@ -11,14 +10,9 @@ use Rattle.tape_base.specs.Piece.{same_piece}
 use Rattle.alternate_vector.specs.Field.{Field}
 use Rattle.cache_model.specs.declared.cause.Cause.{Cause}
 use Rattle.cache_model.specs.declared.cause.Cause.TheVariants as cause
-use Rattle.cache_model.specs.declared.record.Rec.{Rec}
 use Rattle.cache_model.specs.State.{Complete, LastVector, Row, State, TakenOut, last_abort, last_vector, live_row_of, row_of, vector_piece}
 use Rattle.cache_model.specs.Kept.{Kept, state_of}
 use Rattle.cache_model.specs.Verdict.{cause_of_beginning, cause_of_last, cause_of_miss, cause_of_piece, cause_without_vector, next_piece, no_match, no_record, passed}
-use Rattle.cache_model.specs.Permit.{Commit, Done, End, Exhausted, Fails, Faulted, Finish, Flush, Fragment, GiveUp, Intent, Look, Lost, Overflow, Permit, ReadAll, ReadOn, Reason, Remove, Stays, StopReading, Weigh, Work, Write}
-use Rattle.cache_model.specs.Given.{MayCount}
-use Rattle.cache_model.specs.Legal
-use Rattle.cache_model.specs.Legal.{Advances, Does, MakesRoom, MayGrow, more, nothing}
 use Rattle.stripe_core.specs.declared.refusal.Flushed.{Flushed}
 use Rattle.stripe_core.specs.declared.refusal.Refusal.{Refusal}
 use Rattle.stripe_core.specs.declared.refusal.Refusal.TheVariants as refusal
@@ -44,7 +38,6 @@ use Rattle.stripe_write.specs.Removals.{RemovesWhere}
 use Rattle.script_lang.specs.declared.answer.StepAnswer.{StepAnswer}
 use Rattle.script_run.specs.Answers.{broken_said, miss_said}
 use Rattle.script_run.specs.Losses.{NoLossIsAFault, is_fault}
-use Rattle.cache_replay.specs.Feeding.{FeedsWhere}
 use Rattle.cache_replay.specs.Getting.{count_in_piece}
 use Rattle.cache_replay.specs.Outline.{count_in, count_of, count_of_refusal}
 use Rattle.cache_replay.specs.Plain.{flush_refused}

@@ -23,11 +23,18 @@ use Rattle.cache_replay.specs.declared.stop.Stop.{Stop}
 use Rattle.cache_replay.specs.declared.stop.Stop.TheVariants.{BayFault, Memory, NoCache}
 use Rattle.cache_replay.specs.Outline.{IsAnswerOf, Outline, begun, begun_by, count_in, format_answer, joined, outline_after, raised, told_of}
 use Rattle.cache_replay.specs.Session.{AreLater, TellsCount, return_of}
-use Rattle.cache_replay.specs.Stop.{IsSessionStop, NeedsSession}
+use Rattle.cache_replay.specs.Stop.{AttachesAs, IsSessionStop, NeedsSession}
 use Rattle.cache_replay.specs.Plays.{IsLeft, IsOutlined, Outlines, stays}
 use Rattle.script_run.specs.Ledger.{AreReached, Deals, GoesOnFrom, Ledger}
 use Rattle.cache_replay.proofs.Dispatch.{no_deals}
 use Rattle.cache_replay.proofs.Unharming.{reached_loosely}
+
+-- ---- what a bay tells
+
+pub same_ledger : (names others : List (List ℕ)) (returned came : List Device) → others ≡ names → came ≡ returned
+    → (let new : Ledger = record { names = others; returned = came } in new) ≡ record { names = names; returned = returned }
+same_ledger names others returned came called back =
+    ap (λ l. let new : Ledger = record { names = l; returned = came } in new) called ∙ ap (λ l. let new : Ledger = record { names = names; returned = l } in new) back
 
 -- ---- devices that go on
 
@@ -132,6 +139,12 @@ module _ {D R C : Type 0} (disk : DiskGhosts D) (directory : DirectoryGhosts R) 
   stays_left harms s session before now Memory same h = stays (reached_loosely harms (Returns session.part) h) same
   stays_left harms s session before now NoCache same h = stays h same
   stays_left harms s session before now BayFault same h = stays h same
+
+  -- the same, whatever it answered
+  pub all_stays_left : {T : Type 0} (result : Result T Stop) (name : List ℕ) (session : Session D R C) (before now : Ledger) → now ≡ before
+      → IfErr result (λ why. (harms : List Harm) (s : Step) → AttachesAs name s → AreReached harms (Returns session.part) → IsLeft disk directory chronicle harms s session before now why)
+  all_stays_left (Ok x) name session before now same = tt
+  all_stays_left (Err why) name session before now same = λ harms s attaches h. stays_left harms s session before now why same h
 
   -- what is told of a device by the count 0
   joins_none : (session : Option Harm) (returns : List Device) → AreReached (told_of session) returns → AreReached (told_of (option_map (raised 0) session)) returns

@@ -1,5 +1,5 @@
 -- A whole put: it is opened and ends, or is not opened.
-use Rattle.std.proofs.Common.{◌≡◌, ℕ, ◌≤◌, List, [], ◌∷◌, ◌++◌, length, refl, sym, ◌∙◌, ap, subst, arith, false, inl, inr, Ok, Err, Result}
+use Rattle.std.proofs.Common.{◌≡◌, ℕ, List, [], ◌∷◌, ◌++◌, length, refl, sym, ◌∙◌, ap, subst, false, inl, inr, Ok, Err, Result}
 use Rattle.std.specs.Prelude.{Some, None, filter}
 use Rattle.std.proofs.lemmas.List.{append_assoc}
 use Rattle.device_log.specs.Calls.{Call}

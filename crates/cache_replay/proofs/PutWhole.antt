@@ -1,5 +1,5 @@
 -- A put that is opened, fed, closed, and given up where it is still open.
-use Rattle.std.proofs.Common.{◌≡◌, ℕ, ◌≤◌, List, [], ◌∷◌, ◌++◌, refl, sym, ◌∙◌, subst, arith, true, false, inl, inr, Ok, Err, Result}
+use Rattle.std.proofs.Common.{◌≡◌, ℕ, List, [], ◌∷◌, ◌++◌, refl, sym, ◌∙◌, subst, true, false, inl, inr, Ok, Err, Result}
 use Rattle.std.specs.Prelude.{Option, Some, None}
 use Rattle.device_log.specs.Calls.{Call}
 use Rattle.tape_base.specs.declared.keys.Key.{Key}

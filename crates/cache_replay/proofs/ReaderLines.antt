@@ -328,6 +328,12 @@ twice false x y z = refl
 pub given_back : (before mid after : ℕ → Option Holding) (n : ℕ) (x : Option Holding) → Changed before mid n None → ((m : ℕ) → after m ≡ (if m == n then x else mid m)) → Changed before after n x
 given_back before mid after n x left set = λ m. set m ∙ (ap (λ (o : Option Holding). if m == n then x else o) (left m) ∙ twice (m == n) x None (before m))
 
+-- the one that it had
+pub same_again : (before mid after : ℕ → Option Holding) (n : ℕ) (r q : Reader) → Took before mid n r → q ≡ r → ((m : ℕ) → after m ≡ (if m == n then Some (holding.Reader q) else mid m)) → (m : ℕ) → after m ≡ before m
+same_again before mid after n r q taken is set = λ m.
+    given_back before mid after n (Some (holding.Reader q)) taken.left set m
+    ∙ (ap (λ (o : Option Holding). if m == n then o else before m) (ap (λ (x : Reader). Some (holding.Reader x)) is ∙ sym taken.had) ∙ with_same before n m (m == n) refl)
+
 without_none : (o : Option Holding) → None ≡ reader_held o → without_reader o ≡ o
 without_none None e = refl
 without_none (Some (holding.Writer w)) e = refl

@@ -1,6 +1,6 @@
 -- What a line asks of a writer, and what it leaves of it.
 use Rattle.std.proofs.Common.{◌≡◌, ℕ, List, [], ◌∷◌, drop, refl, sym, ◌∙◌, ap, subst, Bool, true, false, inl, append-nil}
-use Rattle.std.specs.Prelude.{Option, Some, None, IfSome, if◌then◌else◌, option_and_then, option_map, unwrap_or}
+use Rattle.std.specs.Prelude.{Option, Some, None, Result, Ok, Err, IfSome, if◌then◌else◌, option_and_then, option_map, unwrap_or}
 use Rattle.device_log.specs.Calls.{Call}
 use Rattle.tape_base.specs.declared.keys.Key.{Key}
 use Rattle.fragment_table.specs.Table.{TableRow, total_length}
@@ -13,6 +13,7 @@ use Rattle.cache_model.specs.Permit.{Done, End, Fails, GiveUp, Intent, Permit, R
 use Rattle.cache_model.specs.Legal.{Does, IsQuiet, IsStep, MayGrow, is_writing}
 use Rattle.model_laws.specs.StepLaws.{WriterIsEnded}
 use Rattle.cache_model.proofs.Steps.{grows_by}
+use Rattle.stripe_core.specs.declared.refusal.Refusal.{Refusal}
 use Rattle.stripe_write.specs.declared.writer.Writer.{Writer}
 use Rattle.stripe_write.specs.Writers.{IsWriterOf}
 use Rattle.stripe_write.specs.Writes.{AbortsAsAsked, AbortsWhere, abort_adds}
@@ -84,13 +85,18 @@ gives_up law before after old new w put accounted quiet adds is does now = λ ru
       says = ap (λ o. Rattle.script_run.specs.Answers.if_has o answer.Aborted) has ∙ ap answer.Aborted (sym is);
     })
 
-pub aborted : (law : WriterIsEnded) (before after : List Call) (old new : Kept) (w : Writer) (put : ℕ) → IsAccounted before after old new → IsQuiet (state_of new) → new ≡ with_records old (abort_adds w.key (Rattle.std.specs.Prelude.Ok put))
-    → AbortsWhere (state_of old) w.put (Rattle.std.specs.Prelude.Ok put) → AbortsAsAsked (state_of old) w.put w.key (Rattle.std.specs.Prelude.Ok put)
+pub aborted : (law : WriterIsEnded) (before after : List Call) (old new : Kept) (w : Writer) (put : ℕ) → IsAccounted before after old new → IsQuiet (state_of new) → new ≡ with_records old (abort_adds w.key (Ok put))
+    → AbortsWhere (state_of old) w.put (Ok put) → AbortsAsAsked (state_of old) w.put w.key (Ok put)
     → (now : ℕ) → WriterDoes now before after (state_of old) (state_of new) GivesUp w None (Some (answer.Aborted put))
 aborted law before after old new w put accounted quiet adds where_ does = gives_up law before after old new w put accounted quiet adds where_.0 does
 
 pub owns_abort : (old new : Kept) (w : Writer) (put : ℕ) → put ≡ w.put → new ≡ with_records old (rec.Aborted put w.key ∷ []) → AddsOfPut w.put old new
 owns_abort old new w put is adds = record { added = rec.Aborted put w.key ∷ []; adds = adds; own = (is, tt) }
+
+-- a call that gives a put up, or finds that it is not open
+pub owns_end : (old new : Kept) (put : ℕ) (key : Key) (end : Result ℕ Refusal) → new ≡ with_records old (abort_adds key end) → AbortsWhere (state_of old) put end → AddsOfPut put old new
+owns_end old new put key (Ok number) adds where_ = record { added = rec.Aborted number key ∷ []; adds = adds; own = (where_.0, tt) }
+owns_end old new put key (Err why) adds where_ = record { added = []; adds = adds; own = tt }
 
 -- ---- a writer that is left where its put is open
 

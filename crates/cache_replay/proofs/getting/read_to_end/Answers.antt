@@ -1,14 +1,16 @@
 use Rattle.std.proofs.Common.{[], ◌∷◌, subst, sym, ap, ◌∙◌, arith}
 use Rattle.std.proofs.lemmas.Grind.{common_steps}
-use Rattle.std.specs.Prelude.{is_some}
+use Rattle.std.specs.Prelude.{Some, None, is_some}
 use Rattle.logged_disk.proofs.GoingOn.{goes_further}
 use Rattle.cache_model.specs.Permit.{StopReading}
-use Rattle.stripe_core.specs.Stripe.{kept_in, seen_in}
+use Rattle.stripe_core.specs.Stripe.{kept_in, seen_in, state_in}
 use Rattle.stripe_core.proofs.Between.{accounted_then}
 use Rattle.script_run.specs.Answers.{broken_said}
 use Rattle.script_lang.specs.declared.answer.StepAnswer.TheVariants as answer
 use Rattle.cache_replay.specs.Getting.{IsAnswered}
+use Rattle.cache_replay.specs.Session.{LeavesBut}
 use Rattle.cache_replay.proofs.OtherNext.{stays_then}
+use Rattle.cache_replay.proofs.ReaderFrames.{leaves_then}
 use Rattle.cache_replay.proofs.WholeReads.{answered_as}
 use Rattle.cache_replay.proofs.Counts.{broken_tells}
 use Rattle.cache_replay.proofs.getting.read_to_end.Goals as goal
@@ -43,7 +45,7 @@ loop-body-preserved g c = record {
   hit = ap is_some c.read_more.ensures.table ∙ c.loop-body.invariant.hit;
   page = grind (arith, common_steps);
   under = λ b under. (rw c.in-Piece.is at c.in_ok-read_more.ensures.comes) b (c.loop-body.invariant.under b under);
-  leaves = grind (arith, common_steps);
+  leaves = leaves_then None (Some c.args.reader.now.reader) _ _ _ c.loop-body.invariant.leaves (subst (λ n. LeavesBut None (Some n) (state_in g.C.Chronicle c.loop-body.stripe) (state_in g.C.Chronicle c.read_more.new.stripe)) c.loop-body.invariant.number c.read_more.ensures.leaves);
   harms = λ b run under told owned. stays_then (c.loop-body.invariant.harms b run under told owned) (c.read_more.ensures.unharmed b run (c.loop-body.invariant.under b under) told owned);
   goes = goes_further _ _ _ c.loop-body.invariant.goes c.read_more.ensures.goes;
   accounted = accounted_then _ _ _ _ _ _ c.loop-body.invariant.accounted c.read_more.ensures.accounted;

@@ -5,6 +5,7 @@ use Rattle.cache_replay.proofs.PutOpens.{is_fresh, leaves_opened, puts_opened, p
 use Rattle.stripe_core.specs.Stripe.{state_in}
 use Rattle.cache_replay.proofs.Counts.{err_after, open_counts}
 use Rattle.cache_replay.proofs.ReaderFrames.{losses_then}
+use Rattle.stripe_core.proofs.Between.{between-trans}
 use Rattle.cache_replay.proofs.putting.put.Goals as goal
 
 abbrev nobody : Actor
@@ -41,3 +42,6 @@ returns-in-Ok-clause-counts g c = err_after _ c.put_open.result (losses_then (ke
 
 pub returns-in-Err-clause-counts : goal.returns-in-Err-clause-counts
 returns-in-Err-clause-counts g c = λ none. open_counts (state_in g.C.Chronicle c.args.stripe.now) nobody c.args.key c.args.request c.args.response 0 _ c.in-Err.why c.in-Err.ensures.does
+
+pub returns-in-Ok-clause-unharmed : goal.returns-in-Ok-clause-unharmed
+returns-in-Ok-clause-unharmed g c = between-trans _ _ _ _ _ _ c.open_write.ensures.unharmed c.put_open.ensures.unharmed

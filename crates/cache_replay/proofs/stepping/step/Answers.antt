@@ -1,4 +1,4 @@
-use Rattle.std.proofs.Common.{ap, arith, sym, inl, ◌+◌}
+use Rattle.std.proofs.Common.{ap, sym, inl, ◌+◌}
 use Rattle.script_run.specs.Ledger.{ledger_of}
 use Rattle.device_bay.specs.Calls.{out_of}
 use Rattle.dir_table.specs.contracts.list.ListDirectoryDirectory.TheImpl.{ghosts as listed}

@@ -8,6 +8,7 @@ use Rattle.std.specs.Prelude.{IfSome}
 use Rattle.stripe_core.specs.Stripe.{seen_in}
 use Rattle.cache_replay.specs.Outline.{count_in}
 use Rattle.cache_replay.proofs.Counts.{open_counts, refused_counts, some_when}
+use Rattle.stripe_write.proofs.Owning.{owns_none}
 use Rattle.cache_replay.proofs.writer_lines.begin.Goals as goal
 
 pub returns-in-Ok-clause-does : goal.returns-in-Ok-clause-does
@@ -29,3 +30,6 @@ returns-in-Err-clause-counts g c =
     some_when (λ said. count_in said ≤ faults) c.answer_unless_memory.result (λ none.
     subst (λ o. IfSome o (λ said. count_in said ≤ faults)) (sym c.answer_unless_memory.ensures)
     (refused_counts c.in-Err.why None faults (open_counts (state_in g.C.Chronicle c.args.stripe.now) c.args.actor c.args.key c.args.request c.args.response c.args.pin faults c.in-Err.why c.in-Err.ensures.does)))
+
+pub returns-in-Err-clause-own : goal.returns-in-Err-clause-own
+returns-in-Err-clause-own g c = owns_none _ (kept_in g.C.Chronicle c.args.stripe.now) (kept_in g.C.Chronicle c.open_write.new.stripe) c.in-Err.ensures.err
