@@ -1,11 +1,10 @@
 -- How each line that is not answered ends a run.
-use Rattle.std.proofs.Common.{◌≡◌, ℕ, ◌+◌, ◌-◌, ◌^◌, ◌≤◌, min, List, [], ◌∷◌, ◌++◌, length, length-append, append_assoc, append-nil, Option, Some, None, Ok, Err, refl, sym, ◌∙◌, ap, subst, arith, inl, inr, ◌⊎◌, lit≤}
+use Rattle.std.proofs.Common.{◌≡◌, ℕ, ◌+◌, ◌-◌, ◌^◌, min, List, [], ◌∷◌, ◌++◌, length, length-append, append_assoc, append-nil, Option, Some, None, Ok, Err, refl, sym, ◌∙◌, ap, subst, arith, inl, inr, ◌⊎◌, lit≤}
 use Rattle.std.specs.Prelude.{map}
 use Rattle.device_log.specs.Faults.{next_count}
 use Rattle.device_log.specs.Streams.{SourceRead, SinkWrite, GaveBytes, CameToEnd, RefusedRead, refused_reads}
-use Rattle.edge_io.specs.Causes.{Rose}
 use Rattle.edge_io.specs.Lines.{GivesLine}
-use Rattle.edge_io.specs.Source.{IsEnded, LastReadFailed, NoReadFailed}
+use Rattle.edge_io.specs.Source.{LastReadFailed, NoReadFailed}
 use Rattle.edge_io.specs.Text.{text_after}
 use Rattle.edge_io.specs.LineReader.{Answers, AreNeeded, Fails, IsDecided}
 use Rattle.edge_io.specs.declared.reader.LineFault.{LineFault}

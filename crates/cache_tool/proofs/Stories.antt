@@ -1,5 +1,5 @@
 -- What a line makes of the story of a run.
-use Rattle.std.proofs.Common.{◌≡◌, ℕ, ◌+◌, ◌≤◌, ◌⊎◌, List, [], ◌∷◌, ◌++◌, length, Option, Some, None, Ok, refl, sym, ◌∙◌, ap, subst, append_assoc, append-nil, arith, length-append, inl, inr}
+use Rattle.std.proofs.Common.{◌≡◌, ℕ, ◌+◌, ◌⊎◌, List, [], ◌∷◌, ◌++◌, length, Option, Some, None, refl, sym, ◌∙◌, ap, subst, append_assoc, append-nil, arith, length-append, inl, inr}
 use Rattle.device_log.specs.Streams.{SourceRead, SinkWrite}
 use Rattle.edge_io.specs.Lines.{AreLines, GivesLine, IsLine}
 use Rattle.edge_io.specs.Text.{spelled, text_after}
