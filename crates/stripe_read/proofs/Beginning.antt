@@ -1,14 +1,12 @@
 -- The reader that a lookup opens.
-use Rattle.std.proofs.Common.{◌≡◌, ℕ, ◌/◌, ◌≤◌, List, length, [], ◌∷◌, ◌++◌, refl, sym, ◌∙◌, ap, subst, arith, inl, inr, Bool, cond}
+use Rattle.std.proofs.Common.{◌≡◌, ℕ, ◌≤◌, List, [], ◌∷◌, ◌++◌, refl, sym, ◌∙◌, ap, subst, arith, inl, inr, Bool, cond}
 use Rattle.std.specs.declared.alloc.AllocError.{AllocError}
 use Rattle.std.specs.Prelude.{Option, Some, None, Result, Ok, Err, IfOk, OnErr, IsOk, find, ◌==◌}
 use Rattle.std.proofs.lemmas.Bool.{eq-eqb}
 use Rattle.tape_base.specs.declared.actors.Actor.{Actor}
 use Rattle.tape_base.specs.declared.keys.Key.{Key}
-use Rattle.tape_base.specs.declared.geometries.Geometry.{Geometry}
-use Rattle.tape_base.specs.Place.{slot_of}
-use Rattle.device_log.proofs.Spans.{span_same}
-use Rattle.logged_disk.specs.Device.{State as Device, seen as content_of}
+use Rattle.device_log.specs.Calls.{Call}
+use Rattle.logged_disk.specs.Device.{State as Device}
 use Rattle.alternate_vector.specs.Field.{Field}
 use Rattle.cache_model.specs.declared.answer.ReadAnswer.{ReadAnswer}
 use Rattle.cache_model.specs.declared.answer.ReadAnswer.TheVariants as read
@@ -16,11 +14,12 @@ use Rattle.cache_model.specs.declared.record.Rec.TheVariants as rec
 use Rattle.cache_model.specs.State.{ReaderRow, Row, State, after_all, state_after, table_of_hit}
 use Rattle.cache_model.specs.Kept.{Kept, state_of, with_records}
 use Rattle.cache_model.specs.Verdict.{live_vector_of}
-use Rattle.cache_model.specs.Permit.{DeviceRead, Done, Look, Permit}
+use Rattle.cache_model.specs.Permit.{Done, Look, Permit}
 use Rattle.cache_model.specs.Legal.{Does, DoesLook, IsQuiet}
-use Rattle.stripe_core.specs.Covers.{AreSeen}
+use Rattle.stripe_core.specs.Covers.{Covers}
 use Rattle.stripe_core.specs.Stripe.{IsStill}
 use Rattle.stripe_core.proofs.Counting.{cause_later}
+use Rattle.stripe_vectors.proofs.Seeing.{seen_before, still_seen}
 use Rattle.stripe_read.specs.declared.opening.Looked.{Looked}
 use Rattle.stripe_read.specs.declared.opening.Looked.TheVariants as looked
 use Rattle.stripe_read.specs.declared.opening.Opened.{Opened}
@@ -96,12 +95,7 @@ table_behind k k1 key request (looked.Hit chosen) is table =
 table_behind k k1 key request (looked.Follow put) is table = tt
 table_behind k k1 key request (looked.Miss why) is table = tt
 
--- ---- what was seen still is
-
-still_seen : (g : Geometry) (new newer : Device) → IsStill new newer → (reads : List DeviceRead) → AreSeen g new reads → AreSeen g newer reads
-still_seen g new newer still [] h = tt
-still_seen g new newer still (r ∷ reads) h =
-    (λ trusted. h.0 (omega (arith, trusted, still.goes.trust)) ∙ span_same (content_of new) (content_of newer) (slot_of g r.place) (length r.bytes / 512) (λ j low high. sym (still.seen j)), still_seen g new newer still reads h.1)
+-- ---- what it tells
 
 miss_later : (before after : ℕ) (s : State) (key : Key) (answer : ReadAnswer) → before ≤ after → IsCountedMiss before s key answer → IsCountedMiss after s key answer
 miss_later before after s key (read.Miss why) h (inl is) = inl is
@@ -154,14 +148,13 @@ module _ (k k0 k1 k2 : Kept) (who : Actor) (key : Key) (request : List Field) (f
       subst (λ a. Does p (state_of k) (Look who.0 key request) (open_adds (state_of k) who key request a) Done) (sym (ap answer_in is ∙ answer_as (state_of k1).next_reader key found))
       (DoesLook.looks (record { who = who; before = lookup_adds (state_of k) key (answer_of found); answer = answer_of found; number = refl; quiet = quiet; right = h.right; is = refl }))
 
-  pub begun_opens : (old older new newer : Device) → older.faults ≡ old.faults → IsStill new newer → IsQuiet (state_of k) → LooksUp (state_of k0) older new key request found → Opens (state_of k) (state_of k2) old newer who key request opened
+  pub begun_opens : (old older new newer : Device) → older.past ≡ old.past → IsStill new newer → IsQuiet (state_of k) → LooksUp (state_of k0) older new key request found → Opens (state_of k) (state_of k2) old newer who key request opened
   begun_opens old older new newer from still quiet l =
       let m : LooksUp (state_of k) older new key request found = subst (λ x. LooksUp (state_of x) older new key request found) same l in
       record {
-        reads = m.reads;
-        seen = still_seen (state_of k).geometry new newer still m.reads m.seen;
+        seen = still_seen old new newer (seen_before old older new from m.seen) still;
         does = λ p covers each.
-            elim (m.answers p (record { plain = covers.plain; from = omega (arith, from, covers.from); upto = omega (arith, still.faults, covers.upto); knows = covers.knows }) each) [
+            elim (m.answers p (subst (λ (calls : List Call). Covers p calls new.past) (sym from) (subst (Covers p old.past) still.past covers)) each) [
               | inl h ↦ inl (begun_does p quiet h, begun_own h.table)
               | inr collide ↦ inr collide
             ];
@@ -191,7 +184,7 @@ module _ (k k0 k1 k2 : Kept) (who : Actor) (key : Key) (request : List Field) (f
   reader_then (Ok opened) adds opens = begun_reader k k0 k1 k2 who key request found opened same looks adds opens
   reader_then (Err e) adds opens = tt
 
-  pub opens_then : (old older new newer : Device) (r : Result Opened AllocError) → AddsIt r → OpensIt r → older.faults ≡ old.faults → IsStill new newer → IsQuiet (state_of k) → LooksUp (state_of k0) older new key request found
+  pub opens_then : (old older new newer : Device) (r : Result Opened AllocError) → AddsIt r → OpensIt r → older.past ≡ old.past → IsStill new newer → IsQuiet (state_of k) → LooksUp (state_of k0) older new key request found
       → IfOk r (Opens (state_of k) (state_of k2) old newer who key request)
   opens_then old older new newer (Ok opened) adds opens from still quiet l = begun_opens k k0 k1 k2 who key request found opened same looks adds opens old older new newer from still quiet l
   opens_then old older new newer (Err e) adds opens from still quiet l = tt

@@ -19,7 +19,7 @@ use Rattle.stripe_core.specs.declared.refusal.Found.TheVariants as found
 use Rattle.stripe_core.specs.Find.{Finds, IsFoundAs, find_adds, found_records}
 use Rattle.stripe_core.specs.Pieces.{live_place_of}
 use Rattle.stripe_core.proofs.Candidates.{live_is}
-use Rattle.stripe_vectors.proofs.Finding.{own_covers, own_permit}
+use Rattle.stripe_core.proofs.Covering.{own_covers, own_permit}
 use Rattle.stripe_read.specs.declared.fetching.Unlike.{Unlike}
 use Rattle.stripe_read.specs.Fetches.{Fetches, IsCompared, IsFetched, IsListedAs, IsOtherDocument, IsUnlike}
 
@@ -38,7 +38,7 @@ found_size_by p s id (Some row) size into h = taken_whole size into (payload_of 
 -- what was found lies within what it was read to
 pub found_size : (s : State) (old new : Device) (id : PieceId) (size : ℕ) (into : List ℕ) → Finds s old new id (found.Found size) into → size ≤ length into
 found_size s old new id size into f =
-    found_size_by (own_permit old.faults new.faults f.reads) s id (live_row_of s id) size into (f.answers (own_permit old.faults new.faults f.reads) (own_covers old.faults new.faults f.reads))
+    found_size_by (own_permit 0 old.past new.past) s id (live_row_of s id) size into (f.answers (own_permit 0 old.past new.past) (own_covers 0 old.past new.past))
 
 -- ---- the two digests
 
@@ -82,7 +82,6 @@ compared_by p s id (Some row) listed size into (found.Missing why) live h c =
 pub compared : (s : State) (old new : Device) (id : PieceId) (listed : Option Digest) (size : ℕ) (into : List ℕ) (answer : Found)
     → Finds s old new id (found.Found size) into → IsCompared s id listed size (take size into) answer → Fetches s old new id listed answer into
 compared s old new id listed size into answer f c = record {
-  reads = f.reads;
   seen = f.seen;
   answers = λ p covers. compared_by p s id (live_row_of s id) listed size into answer refl (f.answers p covers) c;
 }
@@ -94,7 +93,7 @@ missing_by p s id (Some row) listed why into h = inl h
 
 pub missing : (s : State) (old new : Device) (id : PieceId) (listed : Option Digest) (why : Cause) (into : List ℕ)
     → Finds s old new id (found.Missing why) into → Fetches s old new id listed (found.Missing why) into
-missing s old new id listed why into f = record { reads = f.reads; seen = f.seen; answers = λ p covers. missing_by p s id (live_row_of s id) listed why into (f.answers p covers) }
+missing s old new id listed why into f = record { seen = f.seen; answers = λ p covers. missing_by p s id (live_row_of s id) listed why into (f.answers p covers) }
 
 -- ---- the document that the device gave
 
@@ -102,8 +101,8 @@ missing s old new id listed why into f = record { reads = f.reads; seen = f.seen
 pub unlike_document : (s : State) (old new : Device) (id : PieceId) (listed : Option Digest) (size : ℕ) (into : List ℕ) (u : Unlike)
     → Finds s old new id (found.Found size) into → IsUnlike s id listed (take size into) u → IsOtherDocument s id listed
 unlike_document s old new id listed size into u f un =
-    let p : Permit = own_permit old.faults new.faults f.reads in
-    let h : IsDocumentOf p s un.row size into = subst (λ o. IsFoundAs p s id o (found.Found size) into) un.live (f.answers p (own_covers old.faults new.faults f.reads)) in
+    let p : Permit = own_permit 0 old.past new.past in
+    let h : IsDocumentOf p s un.row size into = subst (λ o. IsFoundAs p s id o (found.Found size) into) un.live (f.answers p (own_covers 0 old.past new.past)) in
     record {
       row = un.row;
       kept = u.kept;

@@ -4,6 +4,7 @@ use Rattle.std.specs.declared.alloc.AllocError.{AllocError}
 use Rattle.std.specs.Prelude.{Option, Some, None, Result, Ok, Err, IfOk, is_some, option_and_then, option_map, unwrap_or}
 use Rattle.tape_base.specs.declared.digests.Digest.{Digest}
 use Rattle.tape_base.specs.declared.pieces.PieceId.{PieceId}
+use Rattle.device_log.specs.Calls.{Call}
 use Rattle.logged_disk.specs.Device.{State as Device}
 use Rattle.fragment_table.specs.Table.{Table, TableRow}
 use Rattle.cache_model.specs.declared.cause.Cause.{Cause}
@@ -11,7 +12,7 @@ use Rattle.cache_model.specs.declared.cause.Cause.TheVariants as cause
 use Rattle.cache_model.specs.declared.answer.NextAnswer.{NextAnswer}
 use Rattle.cache_model.specs.declared.answer.NextAnswer.TheVariants as next
 use Rattle.cache_model.specs.declared.record.Rec.{Rec}
-use Rattle.cache_model.specs.State.{Closed, GivenUp, Open, PutRow, ReaderRow, Row, State, Writing, live_row_of, put_of}
+use Rattle.cache_model.specs.State.{Closed, GivenUp, Open, PutRow, ReaderRow, Row, State, Writing, after_all, live_row_of, put_of}
 use Rattle.cache_model.specs.Verdict.{cause_of_piece, next_piece, next_row, reader_verdict, verdict_at_end, verdict_of_followed, verdict_of_fragment, verdict_of_writing}
 use Rattle.cache_model.specs.Permit.{Done, Permit, ReadOn}
 use Rattle.cache_model.specs.Given.{IsRead, IsReadWhereLive, IsDocumentOf}
@@ -21,15 +22,16 @@ use Rattle.stripe_core.specs.declared.refusal.Found.{Found}
 use Rattle.stripe_core.specs.declared.refusal.Found.TheVariants as found
 use Rattle.stripe_core.specs.Counts.{IsCountedCause}
 use Rattle.stripe_core.specs.Covers.{AreSeen, Covers}
-use Rattle.stripe_core.specs.Find.{cause_records}
+use Rattle.stripe_core.proofs.Covering.{own_covers, own_permit}
+use Rattle.stripe_core.specs.Find.{cause_records, find_adds, found_records}
 use Rattle.stripe_read.specs.declared.reader.Reader.{Reader}
 use Rattle.stripe_read.specs.declared.reading.NextPiece.{NextPiece}
 use Rattle.stripe_read.specs.declared.reading.NextPiece.TheVariants as piece
 use Rattle.stripe_read.specs.Readers.{IsReaderOf, as_row, row_by, rows_in}
 use Rattle.stripe_read.specs.Fetches.{Fetches, IsFetched, IsOther, IsOtherDocument}
 use Rattle.stripe_read.specs.Nexts.{Gives, GoesOn, HasNext, IsCountedBreak, IsFragment, IsOtherNext, ReadsOn, listed_in, listed_length, next_behind, noted, read_adds, trouble_with}
-use Rattle.stripe_core.proofs.Counting.{trouble_counted}
-use Rattle.stripe_vectors.proofs.Finding.{own_covers, own_permit}
+use Rattle.stripe_vectors.proofs.Counting.{cause_counted}
+use Rattle.stripe_vectors.proofs.Seeing.{seen_before, seen_none}
 use Rattle.stripe_read.proofs.Staying.{is_gave}
 
 -- ---- verdicts
@@ -147,11 +149,10 @@ module _ (p : Permit) (s : State) (r : Reader) (entry : TableRow) (why : Cause) 
 -- ---- what the device gave
 
 -- why a fragment is missing is no count to which the device has not come
-fetched_counted : (p : Permit) (s : State) (id : PieceId) (o : Option Row) (listed : Option Digest) (why : Cause) (into : List ℕ) → IsFetched p s id o listed (found.Missing why) into
-    → (why ≡ cause_of_piece s id) ⊎ IsCountedCause p.faults why
-fetched_counted p s id None listed why into h = inl cc
-fetched_counted p s id (Some row) listed why into (inl trouble) = inr (trouble_counted p s row (cause_records row why) why trouble)
-fetched_counted p s id (Some row) listed why into (inr other) = inr (subst (IsCountedCause p.faults) (sym other.why_is) tt)
+fetched_counted : (p : Permit) (s : State) (faults : ℕ) (id : PieceId) (o : Option Row) (listed : Option Digest) (why : Cause) (into : List ℕ) → (after_all s (found_records o (found.Missing why))).fault ≤ faults
+    → IsFetched p s id o listed (found.Missing why) into → (why ≡ cause_of_piece s id) ⊎ IsCountedCause faults why
+fetched_counted p s faults id None listed why into reached h = inl cc
+fetched_counted p s faults id (Some row) listed why into reached h = inr (cause_counted s row why faults reached)
 
 -- how the put stands is no count of the device
 writing_counted : (faults : ℕ) (w : PutRow) (writing : Writing) (why : Cause) → next.Broke why ≡ verdict_of_writing w writing → IsCountedCause faults why
@@ -180,32 +181,31 @@ other_next s r id listed cut digest has id_is listed_is other = record {
 
 module _ (s : State) (old new newer : Device) (r : Reader) (id : PieceId) (listed : Option Digest) (cut : ℕ) (digest : Digest) (into : List ℕ)
     (has : HasNext s r cut digest) (quiet : IsQuiet s) (id_is : id ≡ next_piece (as_row r)) (listed_is : listed ≡ listed_in r digest) (newer_is : newer ≡ new) where
-  fetched : (answer : Found) (f : Fetches s old new id listed answer into) (p : Permit) → Covers p old.faults newer.faults f.reads
+  fetched : (answer : Found) (f : Fetches s old new id listed answer into) (p : Permit) → Covers p old.past newer.past
       → IsFetched p s (next_piece (as_row r)) (live_row_of s (next_piece (as_row r))) (listed_in r (digest_in has.row)) answer into
   fetched answer f p covers =
       subst (λ d. IsFetched p s (next_piece (as_row r)) (live_row_of s (next_piece (as_row r))) d answer into) (is_listed s r listed cut digest has listed_is)
       (subst (λ i. IsFetched p s i (live_row_of s i) listed answer into) id_is
-      (f.answers p (subst (λ (x : Device). Covers p old.faults x.faults f.reads) newer_is covers)))
+      (f.answers p (subst (λ (x : Device). Covers p old.past x.past) newer_is covers)))
 
   pub piece_reads : (size : ℕ) → Fetches s old new id listed (found.Found size) into → ReadsOn s old newer r (piece.Piece r.next size) into
   piece_reads size f = record {
-    reads = f.reads;
-    seen = subst (λ (x : Device). AreSeen s.geometry x f.reads) (sym newer_is) f.seen;
+    seen = subst (AreSeen old) (sym newer_is) f.seen;
     does = λ p covers own. given_does p s r has.row size into has.found (listed_in r (digest_in has.row)) (live_row_of s (next_piece (as_row r))) own quiet refl (fetched (found.Found size) f p covers);
     gives = λ p covers. given_is p s r has.row size into has.found (listed_in r (digest_in has.row)) (live_row_of s (next_piece (as_row r))) refl refl (fetched (found.Found size) f p covers);
     counted = tt;
   }
 
-  pub broken_reads : (why : Cause) → Fetches s old new id listed (found.Missing why) into → ReadsOn s old newer r (piece.Broken why) into
-  broken_reads why f = record {
-    reads = f.reads;
-    seen = subst (λ (x : Device). AreSeen s.geometry x f.reads) (sym newer_is) f.seen;
+  pub broken_reads : (why : Cause) → (after_all s (find_adds s id (found.Missing why))).fault ≤ new.faults → Fetches s old new id listed (found.Missing why) into → ReadsOn s old newer r (piece.Broken why) into
+  broken_reads why reached f = record {
+    seen = subst (AreSeen old) (sym newer_is) f.seen;
     does = λ p covers own. broken_does p s r has.row why into has.found own quiet (fetched (found.Missing why) f p covers);
     gives = λ p covers. tt;
     counted =
-        let own : Permit = own_permit old.faults newer.faults f.reads in
-        fetched_counted own s (next_piece (as_row r)) (live_row_of s (next_piece (as_row r))) (listed_in r (digest_in has.row)) why into
-        (fetched (found.Missing why) f own (own_covers old.faults newer.faults f.reads));
+        let own : Permit = own_permit 0 old.past newer.past in
+        let there : (after_all s (find_adds s id (found.Missing why))).fault ≤ newer.faults = subst (λ (x : Device). (after_all s (find_adds s id (found.Missing why))).fault ≤ x.faults) (sym newer_is) reached in
+        fetched_counted own s newer.faults (next_piece (as_row r)) (live_row_of s (next_piece (as_row r))) (listed_in r (digest_in has.row)) why into
+        (subst (λ i. (after_all s (find_adds s i (found.Missing why))).fault ≤ newer.faults) id_is there) (fetched (found.Missing why) f own (own_covers 0 old.past newer.past));
   }
 
 -- ---- behind the last fragment
@@ -250,10 +250,9 @@ module _ (s : State) (r : Reader) (answer : NextPiece) (none : next_row s (as_ro
   stop_counted faults (piece.NotYet cut) h = tt
   stop_counted faults (piece.Broken why) h = inr (end_counted faults s (as_row r) (rows_in r) why h)
 
-  pub stop_reads : (old new : Device) (into : List ℕ) → IsQuiet s → ReadsOn s old new r answer into
-  stop_reads old new into quiet = record {
-    reads = [];
-    seen = tt;
+  pub stop_reads : (old new : Device) (into : List ℕ) → new.past ≡ old.past → IsQuiet s → ReadsOn s old new r answer into
+  stop_reads old new into still quiet = record {
+    seen = seen_none old new still;
     does = λ p covers own. stop_does p own quiet;
     gives = λ p covers. gives_none p s r answer into no_piece;
     counted = stop_counted new.faults answer is;
@@ -264,16 +263,15 @@ module _ (s : State) (r : Reader) (answer : NextPiece) (none : next_row s (as_ro
 
 -- ---- behind the memory that was made first
 
-pub reads_prepared : (s t : State) (old older new : Device) (r : Reader) (answer : NextPiece) (into : List ℕ) → t ≡ s → older.faults ≡ old.faults → ReadsOn t older new r answer into → ReadsOn s old new r answer into
-reads_prepared s t old older new r answer into same faults h = record {
-  reads = h.reads;
-  seen = subst (λ (x : State). AreSeen x.geometry new h.reads) same h.seen;
-  does = λ p covers. subst (λ (x : State). IsReaderOf x r → Does p x (ReadOn r.reader) (read_adds x r answer) Done) same (h.does p (subst (λ n. Covers p n new.faults h.reads) (sym faults) covers));
-  gives = λ p covers. subst (λ (x : State). Gives p x r answer into) same (h.gives p (subst (λ n. Covers p n new.faults h.reads) (sym faults) covers));
+pub reads_prepared : (s t : State) (old older new : Device) (r : Reader) (answer : NextPiece) (into : List ℕ) → t ≡ s → older.past ≡ old.past → ReadsOn t older new r answer into → ReadsOn s old new r answer into
+reads_prepared s t old older new r answer into same past h = record {
+  seen = seen_before old older new past h.seen;
+  does = λ p covers. subst (λ (x : State). IsReaderOf x r → Does p x (ReadOn r.reader) (read_adds x r answer) Done) same (h.does p (subst (λ (calls : List Call). Covers p calls new.past) (sym past) covers));
+  gives = λ p covers. subst (λ (x : State). Gives p x r answer into) same (h.gives p (subst (λ (calls : List Call). Covers p calls new.past) (sym past) covers));
   counted = subst (λ (x : State). IsCountedBreak new.faults x r answer) same h.counted;
 }
 
-pub given_prepared : (s t : State) (old older new : Device) (r : Reader) (answer : Result NextPiece AllocError) (into : List ℕ) → t ≡ s → older.faults ≡ old.faults
+pub given_prepared : (s t : State) (old older new : Device) (r : Reader) (answer : Result NextPiece AllocError) (into : List ℕ) → t ≡ s → older.past ≡ old.past
     → IfOk answer (λ a. ReadsOn t older new r a into) → IfOk answer (λ a. ReadsOn s old new r a into)
-given_prepared s t old older new r (Ok answer) into same faults h = reads_prepared s t old older new r answer into same faults h
-given_prepared s t old older new r (Err e) into same faults h = tt
+given_prepared s t old older new r (Ok answer) into same past h = reads_prepared s t old older new r answer into same past h
+given_prepared s t old older new r (Err e) into same past h = tt

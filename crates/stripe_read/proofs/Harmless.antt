@@ -1,17 +1,17 @@
 -- Calls one behind the other, where one of them may tell a piece as damaged.
 use Rattle.std.proofs.Common.{◌⊎◌, inl, inr}
 use Rattle.logged_disk.specs.Device.{State as Device}
-use Rattle.cache_model.specs.State.{State}
+use Rattle.cache_model.specs.Kept.{Kept}
 use Rattle.stripe_core.specs.Between.{IsBetween}
 use Rattle.stripe_core.proofs.Between.{between-trans}
 
-module _ {X Y : Type 0} (a b c : Device) (s t u : State) (then : X → Y) where
+module _ {X Y : Type 0} (a b c : Device) (k l m : Kept) (then : X → Y) where
   -- the second may
-  pub behind_unharmed : IsBetween a b s t → IsBetween b c t u ⊎ X → IsBetween a c s u ⊎ Y
-  behind_unharmed first (inl next) = inl (between-trans a b c s t u first next)
+  pub behind_unharmed : IsBetween a b k l → IsBetween b c l m ⊎ X → IsBetween a c k m ⊎ Y
+  behind_unharmed first (inl next) = inl (between-trans a b c k l m first next)
   behind_unharmed first (inr x) = inr (then x)
 
   -- the first may
-  pub unharmed_behind : IsBetween a b s t ⊎ X → IsBetween b c t u → IsBetween a c s u ⊎ Y
-  unharmed_behind (inl first) next = inl (between-trans a b c s t u first next)
+  pub unharmed_behind : IsBetween a b k l ⊎ X → IsBetween b c l m → IsBetween a c k m ⊎ Y
+  unharmed_behind (inl first) next = inl (between-trans a b c k l m first next)
   unharmed_behind (inr x) next = inr (then x)

@@ -17,10 +17,8 @@ use Rattle.cache_model.specs.Permit.{Permit}
 use Rattle.cache_model.specs.Given.{IsRead, IsReadWhereLive}
 use Rattle.cache_model.specs.Legal.{IsLookup}
 use Rattle.cache_model.specs.Pair.{IsKeyPair}
-use Rattle.cache_model.specs.Vectors.{AreVectors, IsVectorAs}
+use Rattle.cache_model.specs.Vectors.{IsVectorAs}
 use Rattle.stripe_core.specs.Counts.{IsCountedCause}
-use Rattle.stripe_core.proofs.Counting.{trouble_counted}
-use Rattle.stripe_vectors.proofs.Finding.{own_covers, own_permit}
 use Rattle.stripe_actors.specs.Actors.{AreActors, Seen}
 use Rattle.stripe_actors.specs.ActorLaws.{number_in}
 use Rattle.stripe_actors.proofs.Telling.{followed_same}
@@ -158,7 +156,6 @@ module _ (s : State) (old new : Device) (key : Key) (request : List Field) where
 
   pub absent_looks : (found : Looked) → answer_of found ≡ otherwise s key request → HasTable s key request found → FindsVector s old new key vector.Absent → LooksUp s old new key request found
   absent_looks found is table f = record {
-    reads = f.reads;
     seen = f.seen;
     answers = λ p covers each. absent_in p found is table (live_vector_of s key) refl (f.answers p covers);
     counted = otherwise_counted new.faults s key request (answer_of found) is;
@@ -172,18 +169,11 @@ module _ (s : State) (old new : Device) (key : Key) (request : List Field) where
     table = tt;
   })
 
-  trouble_counts : (p : Permit) (why : Cause) (o : Option Row) → IsVectorFound p s o (vector.Trouble why) → IsCountedCause p.faults why
-  trouble_counts p why None h = absurd h
-  trouble_counts p why (Some row) h = trouble_counted p s row (Rattle.stripe_core.specs.Find.cause_records row why) why h
-
-  pub trouble_looks : (why : Cause) → FindsVector s old new key (vector.Trouble why) → LooksUp s old new key request (looked.Miss why)
-  trouble_looks why f = record {
-    reads = f.reads;
+  pub trouble_looks : (why : Cause) → IsCountedCause new.faults why → FindsVector s old new key (vector.Trouble why) → LooksUp s old new key request (looked.Miss why)
+  trouble_looks why counts f = record {
     seen = f.seen;
     answers = λ p covers each. trouble_in p why (live_vector_of s key) refl (f.answers p covers);
-    counted =
-        let own : Permit = own_permit old.faults new.faults f.reads in
-        inr (trouble_counts own why (live_vector_of s key) (f.answers own (own_covers old.faults new.faults f.reads)));
+    counted = inr counts;
   }
 
   -- it was read, and nothing in it answers
@@ -200,7 +190,6 @@ module _ (s : State) (old new : Device) (key : Key) (request : List Field) where
   pub unmatched_looks : ReadIsListed → (found : Looked) (list : List Stored) → answer_of found ≡ otherwise s key request → HasTable s key request found → IsChosen (last_match request list) None
       → FindsVector s old new key (vector.Read list) → LooksUp s old new key request found
   unmatched_looks law found list is table none f = record {
-    reads = f.reads;
     seen = f.seen;
     answers = λ p covers each. unmatched_in p found list is table (no_choice (last_match request list) none) (live_vector_of s key) refl (f.answers p covers) (λ row live. law p s key row list each live);
     counted = otherwise_counted new.faults s key request (answer_of found) is;
@@ -229,7 +218,6 @@ module _ (s : State) (old new : Device) (key : Key) (request : List Field) where
 
   pub matched_looks : ReadIsListed → (chosen : Chosen) (list : List Stored) → IsChosen (last_match request list) (Some chosen) → FindsVector s old new key (vector.Read list) → LooksUp s old new key request (looked.Hit chosen)
   matched_looks law chosen list is f = record {
-    reads = f.reads;
     seen = f.seen;
     answers = λ p covers each. matched_in p chosen list is (live_vector_of s key) refl (f.answers p covers) (λ row live. law p s key row list each live);
     counted = tt;

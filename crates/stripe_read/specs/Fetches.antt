@@ -9,7 +9,7 @@ use Rattle.doc_header.specs.Reading.{document_digest, payload_of}
 use Rattle.cache_model.specs.declared.cause.Cause.{Cause}
 use Rattle.cache_model.specs.State.{Row, State, live_row_of}
 use Rattle.cache_model.specs.Verdict.{cause_of_piece}
-use Rattle.cache_model.specs.Permit.{DeviceRead, Permit}
+use Rattle.cache_model.specs.Permit.{Permit}
 use Rattle.cache_model.specs.Given.{IsGiven, IsWritten, Trouble, damage_cause, IsDocumentOf}
 use Rattle.stripe_core.specs.declared.refusal.Found.{Found}
 use Rattle.stripe_core.specs.declared.refusal.Found.TheVariants as found
@@ -74,8 +74,7 @@ pub record IsOtherDocument (s : State) (id : PieceId) (listed : Option Digest) :
   pub listed_is : listed ≡ Some kept
   pub differ : kept ≢ digest_of (payload_of bytes)
 
--- what the device gave, and what came of it in any step that covers the call
+-- what was read is what is seen, and what came of it in any step that covers the call
 pub record Fetches (s : State) (old new : Device) (id : PieceId) (listed : Option Digest) (answer : Found) (into : List ℕ) : Type 0 where
-  pub reads : List DeviceRead
-  pub seen : AreSeen s.geometry new reads
-  pub answers : (p : Permit) → Covers p old.faults new.faults reads → IsFetched p s id (live_row_of s id) listed answer into
+  pub seen : AreSeen old new
+  pub answers : (p : Permit) → Covers p old.past new.past → IsFetched p s id (live_row_of s id) listed answer into

@@ -12,7 +12,7 @@ use Rattle.cache_model.specs.declared.record.Rec.{Rec}
 use Rattle.cache_model.specs.declared.record.Rec.TheVariants as rec
 use Rattle.cache_model.specs.State.{Row, State, table_of_hit}
 use Rattle.cache_model.specs.Verdict.{cause_of_miss, follow_answer, followed, live_vector_of}
-use Rattle.cache_model.specs.Permit.{DeviceRead, Done, Look, Permit}
+use Rattle.cache_model.specs.Permit.{Done, Look, Permit}
 use Rattle.cache_model.specs.Legal.{Does, IsLookup}
 use Rattle.cache_model.specs.Pair.{IsKeyPair}
 use Rattle.cache_model.specs.Vectors.{AreVectors, IsVectorAs}
@@ -73,12 +73,11 @@ abbrev pub IsCountedMiss : ℕ → State → Key → ReadAnswer → Type 0
 IsCountedMiss faults s key (read.Miss why) = (why ≡ cause_of_miss s key) ⊎ IsCountedCause faults why
 IsCountedMiss faults s key _ = Unit {0}
 
--- what the device gave, and what came of it in any step that covers the call; or two documents of one
--- SHA-256 are shown
+-- what was read is what is seen, and what came of it in any step that covers the call; or two documents of
+-- one SHA-256 are shown
 pub record LooksUp (s : State) (old new : Device) (key : Key) (request : List Field) (found : Looked) : Type 0 where
-  pub reads : List DeviceRead
-  pub seen : AreSeen s.geometry new reads
-  pub answers : (p : Permit) → Covers p old.faults new.faults reads → AreVectors s → IsFound p s key request found ⊎ IsKeyPair IsVectorAs p s key
+  pub seen : AreSeen old new
+  pub answers : (p : Permit) → Covers p old.past new.past → AreVectors s → IsFound p s key request found ⊎ IsKeyPair IsVectorAs p s key
   pub counted : IsCountedMiss new.faults s key (answer_of found)
 
 -- ---- what opens
@@ -117,11 +116,10 @@ Tells number (opened.Hit reader put length) = (reader.reader ≡ number) × (put
 Tells number (opened.Follow reader put) = (reader.reader ≡ number) × (put ≡ reader.put) × (rows_in reader ≡ None)
 Tells number (opened.Miss why) = Unit {0}
 
--- what the device gave, and in any step that covers the call: it was looked up as asked, and the reader
--- has the fragments of the alternate; or two documents of one SHA-256 are shown
+-- what was read is what is seen, and in any step that covers the call: it was looked up as asked, and the
+-- reader has the fragments of the alternate; or two documents of one SHA-256 are shown
 pub record Opens (s t : State) (old new : Device) (who : Actor) (key : Key) (request : List Field) (answer : Opened) : Type 0 where
-  pub reads : List DeviceRead
-  pub seen : AreSeen s.geometry new reads
-  pub does : (p : Permit) → Covers p old.faults new.faults reads → AreVectors s
+  pub seen : AreSeen old new
+  pub does : (p : Permit) → Covers p old.past new.past → AreVectors s
       → (Does p s (Look who.0 key request) (open_adds s who key request (answer_in answer)) Done × IfReader (IsReaderOf t) answer) ⊎ IsKeyPair IsVectorAs p s key
   pub counted : IsCountedMiss new.faults s key (answer_in answer)

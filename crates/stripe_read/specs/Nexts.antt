@@ -8,7 +8,7 @@ use Rattle.cache_model.specs.declared.answer.NextAnswer.TheVariants as next
 use Rattle.cache_model.specs.declared.record.Rec.{Rec}
 use Rattle.cache_model.specs.State.{Row, State, live_row_of}
 use Rattle.cache_model.specs.Verdict.{cause_of_piece, next_piece, next_row}
-use Rattle.cache_model.specs.Permit.{DeviceRead, Done, Permit, ReadOn}
+use Rattle.cache_model.specs.Permit.{Done, Permit, ReadOn}
 use Rattle.cache_model.specs.Legal.{Does, answer_record, digest_in, live_next}
 use Rattle.stripe_core.specs.Covers.{AreSeen, Covers}
 use Rattle.stripe_core.specs.Counts.{IsCountedCause}
@@ -79,13 +79,12 @@ abbrev pub IsCountedBreak : ℕ → State → Reader → NextPiece → Type 0
 IsCountedBreak faults s r (piece.Broken why) = (why ≡ cause_of_piece s (next_piece (as_row r))) ⊎ IsCountedCause faults why
 IsCountedBreak faults s r _ = Unit {0}
 
--- what the device gave, and in any step that covers the call: it was read on as asked, where the reader
--- has the fragments of the records; and what it is given
+-- what was read is what is seen, and in any step that covers the call: it was read on as asked, where the
+-- reader has the fragments of the records; and what it is given
 pub record ReadsOn (s : State) (old new : Device) (r : Reader) (answer : NextPiece) (into : List ℕ) : Type 0 where
-  pub reads : List DeviceRead
-  pub seen : AreSeen s.geometry new reads
-  pub does : (p : Permit) → Covers p old.faults new.faults reads → IsReaderOf s r → Does p s (ReadOn r.reader) (read_adds s r answer) Done
-  pub gives : (p : Permit) → Covers p old.faults new.faults reads → Gives p s r answer into
+  pub seen : AreSeen old new
+  pub does : (p : Permit) → Covers p old.past new.past → IsReaderOf s r → Does p s (ReadOn r.reader) (read_adds s r answer) Done
+  pub gives : (p : Permit) → Covers p old.past new.past → Gives p s r answer into
   pub counted : IsCountedBreak new.faults s r answer
 
 -- there is a document of the recorded digest of the fragment that it takes next, whose payload is not

@@ -9,6 +9,7 @@ ghost use Rattle.stripe_core.specs.Find.{find_adds};
 ghost use Rattle.logged_disk.specs.Device.{IsAfter};
 ghost use Rattle.stripe_core.specs.Stripe.{IsStripe, kept_in, seen_in, state_in, units_in};
 ghost use Rattle.stripe_core.specs.Between.{Between};
+ghost use Rattle.stripe_core.specs.Faults.{IsAccounted};
 ghost use Rattle.stripe_read.specs.Readers.{IsOpenReader, as_row};
 ghost use Rattle.stripe_read.specs.Fetches.{Fetches, IsAsListed, IsCompared, IsOtherDocument, IsUnlike};
 
@@ -79,6 +80,8 @@ pub(crate) fn fetch<D: Disk, R: Directory + Drop, C: Chronicle>(
     requires into { length into.old ≡ 512 * budget_of (state_in C.Chronicle stripe.old).geometry }
     ensures stripe { IsStripe D.Disk R.Directory C.Chronicle stripe.new }
     ensures unharmed { Between D.Disk R.Directory C.Chronicle stripe.old stripe.new ⊎ IsOtherDocument (state_in C.Chronicle stripe.old) id listed }
+    ensures accounted { IsAccounted (seen_in D.Disk R.Directory stripe.old).device.past (seen_in D.Disk R.Directory stripe.new).device.past
+        (kept_in C.Chronicle stripe.old) (kept_in C.Chronicle stripe.new) }
     ensures device { IsAfter (seen_in D.Disk R.Directory stripe.old).device (seen_in D.Disk R.Directory stripe.new).device }
     ensures adds { IfOk result (λ found. kept_in C.Chronicle stripe.new
         ≡ with_records (kept_in C.Chronicle stripe.old) (find_adds (state_in C.Chronicle stripe.old) id found)) }
@@ -108,6 +111,8 @@ fn compare<D: Disk, R: Directory + Drop, C: Chronicle>(
     ensures stripe { IsStripe D.Disk R.Directory C.Chronicle stripe.new }
     ensures unharmed { Between D.Disk R.Directory C.Chronicle stripe.old stripe.new
         ⊎ ((u : Unlike) × IsUnlike (state_in C.Chronicle stripe.old) id listed (take size into.now) u) }
+    ensures accounted { IsAccounted (seen_in D.Disk R.Directory stripe.old).device.past (seen_in D.Disk R.Directory stripe.new).device.past
+        (kept_in C.Chronicle stripe.old) (kept_in C.Chronicle stripe.new) }
     ensures adds { kept_in C.Chronicle stripe.new ≡ with_records (kept_in C.Chronicle stripe.old) (find_adds (state_in C.Chronicle stripe.old) id result) }
     ensures compares { IsCompared (state_in C.Chronicle stripe.old) id listed size (take size into.now) result }
     ensures still { (seen_in D.Disk R.Directory stripe.new).device ≡ (seen_in D.Disk R.Directory stripe.old).device }

@@ -7,6 +7,7 @@ ghost use Rattle.cache_model.specs.Verdict.{next_piece, next_row, verdict_at_end
 ghost use Rattle.logged_disk.specs.Device.{IsAfter};
 ghost use Rattle.stripe_core.specs.Stripe.{IsStripe, kept_in, seen_in, state_in, units_in};
 ghost use Rattle.stripe_core.specs.Between.{Between};
+ghost use Rattle.stripe_core.specs.Faults.{IsAccounted};
 ghost use Rattle.stripe_read.specs.Readers.{IsOpenReader, IsReaderOf, as_row, rows_in};
 ghost use Rattle.stripe_read.specs.Nexts.{GoesOn, HasNext, IsOtherNext, ReadsOn, listed_in, noted, read_adds};
 ghost use Rattle.stripe_read.specs.Others.{AddsOfReader};
@@ -46,6 +47,8 @@ pub fn read_next<D: Disk, R: Directory + Drop, C: Chronicle>(
     requires into { length into.old ≡ 512 * budget_of (state_in C.Chronicle stripe.old).geometry }
     ensures stripe { IsStripe D.Disk R.Directory C.Chronicle stripe.new }
     ensures unharmed { Between D.Disk R.Directory C.Chronicle stripe.old stripe.new ⊎ IsOtherNext (state_in C.Chronicle stripe.old) reader.old }
+    ensures accounted { IsAccounted (seen_in D.Disk R.Directory stripe.old).device.past (seen_in D.Disk R.Directory stripe.new).device.past
+        (kept_in C.Chronicle stripe.old) (kept_in C.Chronicle stripe.new) }
     ensures device { IsAfter (seen_in D.Disk R.Directory stripe.old).device (seen_in D.Disk R.Directory stripe.new).device }
     ensures quiet { IsQuiet (state_in C.Chronicle stripe.new) }
     ensures adds { IfOk result (λ answer. kept_in C.Chronicle stripe.new
@@ -84,6 +87,8 @@ fn give<D: Disk, R: Directory + Drop, C: Chronicle>(
     requires into { length into.old ≡ 512 * budget_of (state_in C.Chronicle stripe.old).geometry }
     ensures stripe { IsStripe D.Disk R.Directory C.Chronicle stripe.new }
     ensures unharmed { Between D.Disk R.Directory C.Chronicle stripe.old stripe.new ⊎ IsOtherNext (state_in C.Chronicle stripe.old) reader.old }
+    ensures accounted { IsAccounted (seen_in D.Disk R.Directory stripe.old).device.past (seen_in D.Disk R.Directory stripe.new).device.past
+        (kept_in C.Chronicle stripe.old) (kept_in C.Chronicle stripe.new) }
     ensures device { IsAfter (seen_in D.Disk R.Directory stripe.old).device (seen_in D.Disk R.Directory stripe.new).device }
     ensures quiet { IsQuiet (state_in C.Chronicle stripe.new) }
     ensures adds { IfOk result (λ answer. kept_in C.Chronicle stripe.new

@@ -1,8 +1,7 @@
 -- What was found of a live vector.
-use Rattle.std.proofs.Common.{◌≡◌, ℕ, List, [], ◌∷◌, refl, sym, ◌∙◌, ap, subst, arith, inl, inr, ◌≤◌, length, take, false}
+use Rattle.std.proofs.Common.{◌≡◌, ℕ, List, refl, sym, ◌∙◌, ap, subst, arith, ◌≤◌, length, take}
 use Rattle.std.proofs.lemmas.List.{length-take}
 use Rattle.std.specs.Prelude.{min, Option, Some, None, IsSome, option_and_then}
-use Rattle.std.specs.List.{AllByRecursion}
 use Rattle.tape_base.specs.declared.keys.Key.{Key}
 use Rattle.tape_base.specs.declared.pieces.PieceId.{PieceId}
 use Rattle.logged_disk.specs.Device.{State as Device}
@@ -10,29 +9,14 @@ use Rattle.alternate_vector.specs.Alternates.{Stored}
 use Rattle.cache_model.specs.declared.cause.Cause.{Cause}
 use Rattle.cache_model.specs.State.{Row, State, live_row_of}
 use Rattle.cache_model.specs.Verdict.{live_vector_of, vector_of}
-use Rattle.cache_model.specs.Permit.{DeviceRead, IsAmong, Permit}
+use Rattle.cache_model.specs.Permit.{Permit}
 use Rattle.stripe_core.specs.Covers.{Covers}
 use Rattle.stripe_core.specs.declared.refusal.Found.TheVariants as found
 use Rattle.stripe_core.specs.Find.{Finds, IsFoundAs}
 use Rattle.cache_model.specs.Given.{IsDocumentOf}
+use Rattle.stripe_core.proofs.Covering.{own_covers, own_permit}
 use Rattle.stripe_vectors.specs.declared.reading.KeyVector.TheVariants as answer
 use Rattle.stripe_vectors.specs.Reading.{FindsVector, IsReadAs, IsVectorFound, listed_in}
-
--- ---- a step that the call alone makes
-
-among_more : (x : DeviceRead) (ys xs : List DeviceRead) → AllByRecursion (λ r. IsAmong r ys) xs → AllByRecursion (λ r. IsAmong r (x ∷ ys)) xs
-among_more x ys [] all = tt
-among_more x ys (r ∷ xs) all = (inr all.0, among_more x ys xs all.1)
-
-all_among : (xs : List DeviceRead) → AllByRecursion (λ r. IsAmong r xs) xs
-all_among [] = tt
-all_among (x ∷ xs) = (inl refl, among_more x xs xs (all_among xs))
-
-abbrev pub own_permit : ℕ → ℕ → List DeviceRead → Permit
-own_permit before after reads = record { packed = false; now = 0; faults_before = before; faults = after; reads = reads }
-
-pub own_covers : (before after : ℕ) (reads : List DeviceRead) → Covers (own_permit before after reads) before after reads
-own_covers before after reads = record { plain = refl; from = omega arith; upto = omega arith; knows = all_among reads }
 
 -- ---- a piece that is live
 
@@ -41,11 +25,11 @@ live_row (Some row) h = (row, refl)
 live_row None h = cc
 
 module _ (s : State) (old new : Device) (id : PieceId) (row : Row) (size : ℕ) (into : List ℕ) (live : live_row_of s id ≡ Some row) (finds : Finds s old new id (found.Found size) into) where
-  document : (p : Permit) → Covers p old.faults new.faults finds.reads → IsDocumentOf p s row size into
+  document : (p : Permit) → Covers p old.past new.past → IsDocumentOf p s row size into
   document p covers = subst (λ o. IsFoundAs p s id o (found.Found size) into) live (finds.answers p covers)
 
   pub found_taken : size ≡ length (take size into)
-  found_taken = let d = document (own_permit old.faults new.faults finds.reads) (own_covers old.faults new.faults finds.reads) in d.size_is ∙ ap length (sym d.payload)
+  found_taken = let d = document (own_permit 0 old.past new.past) (own_covers 0 old.past new.past) in d.size_is ∙ ap length (sym d.payload)
 
   pub found_fits : size ≤ length into
   found_fits = let cut : length (take size into) ≡ min size (length into) = length-take size into in omega (arith, found_taken, cut)
@@ -54,7 +38,6 @@ module _ (s : State) (old new : Device) (id : PieceId) (row : Row) (size : ℕ) 
   found_vector key list vector spelled =
       let there : live_vector_of s key ≡ Some row = ap (option_and_then (live_row_of s)) vector ∙ live in
       record {
-        reads = finds.reads;
         seen = finds.seen;
         answers = λ p covers.
             let d = document p covers in
@@ -67,7 +50,6 @@ pub missed_vector : (s : State) (old new : Device) (id : PieceId) (row : Row) (w
 missed_vector s old new id row why into key live vector finds =
     let there : live_vector_of s key ≡ Some row = ap (option_and_then (live_row_of s)) vector ∙ live in
     record {
-      reads = finds.reads;
       seen = finds.seen;
       answers = λ p covers. subst (λ o. IsVectorFound p s o (answer.Trouble why)) (sym there) (subst (λ o. IsFoundAs p s id o (found.Missing why) into) live (finds.answers p covers));
     }

@@ -1,3 +1,5 @@
+pub mod Counting
 pub mod Finding
 pub mod Listing
 pub mod Pins
+pub mod Seeing

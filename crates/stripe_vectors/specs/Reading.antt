@@ -10,7 +10,7 @@ use Rattle.alternate_vector.specs.Reading.{read_vector}
 use Rattle.cache_model.specs.declared.record.Rec.{Rec}
 use Rattle.cache_model.specs.State.{Row, State, alternates_of}
 use Rattle.cache_model.specs.Verdict.{live_vector_of}
-use Rattle.cache_model.specs.Permit.{DeviceRead, Permit}
+use Rattle.cache_model.specs.Permit.{Permit}
 use Rattle.cache_model.specs.Given.{IsGiven, IsWritten, Trouble}
 use Rattle.cache_model.specs.Pair.{IsKeyPair}
 use Rattle.cache_model.specs.Vectors.{AreVectors, IsVectorAs}
@@ -46,11 +46,10 @@ IsVectorFound p s (Some row) found.Absent = ⊥
 IsVectorFound p s (Some row) (found.Read list) = IsReadAs p s row list
 IsVectorFound p s (Some row) (found.Trouble why) = Trouble p s row (cause_records row why) why
 
--- what the device gave, and what came of it in any step that covers the call
+-- what was read is what is seen, and what came of it in any step that covers the call
 pub record FindsVector (s : State) (old new : Device) (key : Key) (answer : KeyVector) : Type 0 where
-  pub reads : List DeviceRead
-  pub seen : AreSeen s.geometry new reads
-  pub answers : (p : Permit) → Covers p old.faults new.faults reads → IsVectorFound p s (live_vector_of s key) answer
+  pub seen : AreSeen old new
+  pub answers : (p : Permit) → Covers p old.past new.past → IsVectorFound p s (live_vector_of s key) answer
 
 -- the record of what kept a live vector from being read
 abbrev pub trouble_records : Option Row → KeyVector → List Rec

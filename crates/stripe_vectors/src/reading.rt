@@ -4,6 +4,7 @@ ghost use Rattle.alternate_vector.specs.Reading.{read_vector};
 ghost use Rattle.cache_model.specs.Kept.{with_records};
 ghost use Rattle.cache_model.specs.State.{live_row_of};
 ghost use Rattle.cache_model.specs.Verdict.{live_vector_of, vector_of};
+ghost use Rattle.stripe_core.specs.Covers.{AreSeen};
 ghost use Rattle.stripe_core.specs.Find.{HasRoomFor};
 ghost use Rattle.stripe_core.specs.Stripe.{IsStripe, kept_in, room_for, seen_in, state_in, units_in};
 ghost use Rattle.stripe_core.specs.Between.{Between};
@@ -41,6 +42,8 @@ pub fn read_vector<D: Disk, R: Directory + Drop, C: Chronicle>(
         ≡ with_records (kept_in C.Chronicle stripe.old) (vector_adds (state_in C.Chronicle stripe.old) key answer)) }
     ensures finds { IfOk result (FindsVector (state_in C.Chronicle stripe.old) (seen_in D.Disk R.Directory stripe.old).device
         (seen_in D.Disk R.Directory stripe.new).device key) }
+    // What was read is what is seen, also where memory is wanting for it.
+    ensures seen { AreSeen (seen_in D.Disk R.Directory stripe.old).device (seen_in D.Disk R.Directory stripe.new).device }
     ensures err { OnErr result (kept_in C.Chronicle stripe.new ≡ kept_in C.Chronicle stripe.old) }
     ensures later { (seen_in D.Disk R.Directory stripe.old).device.faults ≤ (seen_in D.Disk R.Directory stripe.new).device.faults }
     ensures row { (put : ℕ) → room_for put stripe.new.actors ≡ room_for put stripe.old.actors }
@@ -82,6 +85,8 @@ fn read_live<D: Disk, R: Directory + Drop, C: Chronicle>(
         ≡ with_records (kept_in C.Chronicle stripe.old) (vector_adds (state_in C.Chronicle stripe.old) key answer)) }
     ensures finds { IfOk result (FindsVector (state_in C.Chronicle stripe.old) (seen_in D.Disk R.Directory stripe.old).device
         (seen_in D.Disk R.Directory stripe.new).device key) }
+    // What was read is what is seen, also where memory is wanting for it.
+    ensures seen { AreSeen (seen_in D.Disk R.Directory stripe.old).device (seen_in D.Disk R.Directory stripe.new).device }
     ensures err { OnErr result (kept_in C.Chronicle stripe.new ≡ kept_in C.Chronicle stripe.old) }
     ensures later { (seen_in D.Disk R.Directory stripe.old).device.faults ≤ (seen_in D.Disk R.Directory stripe.new).device.faults }
     ensures row { (put : ℕ) → room_for put stripe.new.actors ≡ room_for put stripe.old.actors }
@@ -110,6 +115,8 @@ fn read_through<D: Disk, R: Directory + Drop, C: Chronicle>(
         ≡ with_records (kept_in C.Chronicle stripe.old) (vector_adds (state_in C.Chronicle stripe.old) key answer)) }
     ensures finds { IfOk result (FindsVector (state_in C.Chronicle stripe.old) (seen_in D.Disk R.Directory stripe.old).device
         (seen_in D.Disk R.Directory stripe.new).device key) }
+    // What was read is what is seen, also where memory is wanting for it.
+    ensures seen { AreSeen (seen_in D.Disk R.Directory stripe.old).device (seen_in D.Disk R.Directory stripe.new).device }
     ensures err { OnErr result (kept_in C.Chronicle stripe.new ≡ kept_in C.Chronicle stripe.old) }
     ensures later { (seen_in D.Disk R.Directory stripe.old).device.faults ≤ (seen_in D.Disk R.Directory stripe.new).device.faults }
     ensures row { (put : ℕ) → room_for put stripe.new.actors ≡ room_for put stripe.old.actors }

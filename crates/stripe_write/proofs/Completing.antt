@@ -8,6 +8,7 @@ use Rattle.tape_base.specs.declared.keys.Key.{Key}
 use Rattle.tape_base.specs.declared.pieces.PieceId.{PieceId}
 use Rattle.tape_base.specs.Blocks.{blocks_of}
 use Rattle.tape_base.specs.Geometry.{budget_of}
+use Rattle.device_log.specs.Calls.{Call}
 use Rattle.fragment_table.specs.Table.{TableRow, total_length}
 use Rattle.alternate_vector.specs.Alternates.{Stored, vector_size}
 use Rattle.alternate_vector.specs.Spelling.{vector_bytes}
@@ -197,7 +198,7 @@ cuts_at_hand s w c = cuts_found s w.put c.row c.writing.found ∙ c.cuts_are
 fragments : (s : State) (w : Writer) (c : IsClosing s w) → length (cuts_of s w.put) ≡ length w.table.rows
 fragments s w c = ap length (cuts_at_hand s w c)
 
-module _ (now : ℕ) (old new : Kept) (before after : ℕ) (w : Writer) (v : Vectors) (pin : ℕ) (payload : List ℕ)
+module _ (now : ℕ) (old new : Kept) (before after : List Call) (w : Writer) (v : Vectors) (pin : ℕ) (payload : List ℕ)
     (c : IsClosing (state_of old) w) (of : (state_of old).displaced ≡ [] → IsReadFor (state_of old) w v → IsVectorOf (state_of old) (vector_piece w.key w.put) pin 0 payload) where
   abbrev s : State
   s = state_of old
@@ -211,7 +212,6 @@ module _ (now : ℕ) (old new : Kept) (before after : ℕ) (w : Writer) (v : Vec
   -- the vector that has no place
   no_place : (number : ℕ) → PlacesVector old new before after id pin 0 payload (Err (stop.Exhausted number)) → FinishesAsRead now before after old new w v (Err (refusal.Exhausted number))
   no_place number h = record {
-    reads = [];
     does = λ p at covers none read.
         let d : Does p s (Finish w.put (length w.table.rows)) [] (Fails Exhausted) =
         subst (λ n. Does p s (Finish w.put n) [] (Fails Exhausted)) (fragments s w c) (h.does (of none read) p covers) in
@@ -230,15 +230,14 @@ module _ (now : ℕ) (old new : Kept) (before after : ℕ) (w : Writer) (v : Vec
   refused_finishes (refusal.Memory e) h memory = absurd memory
   refused_finishes _ h memory = absurd h
 
-  pub completes : (mid : Kept) (between : ℕ) (placed : Placed) (receipt : Receipt) → after ≡ between → PlacesVector old mid before between id pin 0 payload (Ok placed)
+  pub completes : (mid : Kept) (between : List Call) (placed : Placed) (receipt : Receipt) → after ≡ between → PlacesVector old mid before between id pin 0 payload (Ok placed)
       → new ≡ with_records mid (committed_record (state_of mid) w.put w.key ∷ []) → CommitsAsAsked (state_of mid) w.put w.key → FinishesAsRead now before after old new w v (Ok receipt)
   completes mid between placed receipt same h last commits = record {
-    reads = [];
     does = λ p at covers none read.
         let a : List Rec = place_adds s id pin 0 payload (Ok placed) in
         let b : Rec = committed_record (state_of mid) w.put w.key in
         let there : state_of mid ≡ after_all s a = state_behind old mid a h.adds in
-        let early : Covers p before between [] = subst (λ n. Covers p before n []) same covers in
+        let early : Covers p before between = subst (Covers p before) same covers in
         let d : Does p s (Finish w.put (length w.table.rows)) a Done = subst (λ n. Does p s (Finish w.put n) a Done) (fragments s w c) (h.does (of none read) p early) in
         record {
           added = a ++ b ∷ [];
@@ -252,12 +251,12 @@ module _ (now : ℕ) (old new : Kept) (before after : ℕ) (w : Writer) (v : Vec
 -- ---- a vector that was not placed
 
 -- nothing was recorded
-pub not_placed : (old new : Kept) (before after : ℕ) (piece : PieceId) (pin : ℕ) (payload : List ℕ) (why : Refusal) → Answers {X = Placed} (Err why) (PlacesVector old new before after piece pin 0 payload) (new ≡ old) → new ≡ old
+pub not_placed : (old new : Kept) (before after : List Call) (piece : PieceId) (pin : ℕ) (payload : List ℕ) (why : Refusal) → Answers {X = Placed} (Err why) (PlacesVector old new before after piece pin 0 payload) (new ≡ old) → new ≡ old
 not_placed old new before after piece pin payload (refusal.Exhausted number) h = h.adds ∙ nothing_more old
 not_placed old new before after piece pin payload (refusal.DeviceFault count) h = h.adds ∙ nothing_more old
 not_placed old new before after piece pin payload (refusal.Memory e) h = h
 not_placed old new before after piece pin payload _ h = absurd h
 
-pub refused_writer : (old new : Kept) (before after : ℕ) (w : Writer) (pin : ℕ) (payload : List ℕ) (why : Refusal)
+pub refused_writer : (old new : Kept) (before after : List Call) (w : Writer) (pin : ℕ) (payload : List ℕ) (why : Refusal)
     → Answers {X = Placed} (Err why) (PlacesVector old new before after (vector_piece w.key w.put) pin 0 payload) (new ≡ old) → IsWriterOf (state_of old) w → IsWriterOf (state_of new) w
 refused_writer old new before after w pin payload why h own = subst (λ k. IsWriterOf (state_of k) w) (sym (not_placed old new before after (vector_piece w.key w.put) pin payload why h)) own

@@ -2,6 +2,7 @@
 use Rattle.std.proofs.Common.{◌≡◌, ℕ, ◌+◌, ◌*◌, ◌<◌, inl, inr, ◌⊎◌, List, [], ◌∷◌, ◌++◌, refl, sym, ◌∙◌, ap, subst, arith, Bool, true, false, length, Result, Ok, Err}
 use Rattle.std.specs.Prelude.{Some, option_map, find, ◌==◌, MatchBool, OnOk}
 use Rattle.std.specs.List.{AllByRecursion}
+use Rattle.device_log.specs.Calls.{Call}
 use Rattle.logged_disk.specs.Device.{State as Device}
 use Rattle.std.specs.declared.alloc.AllocError.{AllocError}
 use Rattle.std.proofs.lemmas.Bool.{eq-eqb, eqb-true}
@@ -155,16 +156,16 @@ module _ (w : Writer) (n t : ℕ) (p : List ℕ) (n_is : n ≡ length w.table.ro
   at_next : (F : PieceId → ℕ → List ℕ → Type 0) → F id t p → F (next_id w) (next_start w) w.gathered.items
   at_next F h = subst (F (next_id w) (next_start w)) p_is (subst (λ x. F (next_id w) x p) t_is (subst (λ i. F i t p) id_is h))
 
-  pub cuts_behind : (now : ℕ) (old new : Kept) (first : ℕ) (after : Device) (r : Result Placed Refusal) → Answers r (PlacesAsAsked now old new first after id w.pin t p) (new ≡ old)
+  pub cuts_behind : (now : ℕ) (old new : Kept) (first : List Call) (after : Device) (r : Result Placed Refusal) → Answers r (PlacesAsAsked now old new first after id w.pin t p) (new ≡ old)
       → Answers r (CutsAsAsked now old new first after (next_id w) w.pin (next_start w) w.gathered.items) (new ≡ old)
   cuts_behind now old new first after r h =
       let there : Answers r (PlacesAsAsked now old new first after (next_id w) w.pin (next_start w) w.gathered.items) (new ≡ old) =
       at_next (λ i x q. Answers r (PlacesAsAsked now old new first after i w.pin x q) (new ≡ old)) h in
-      subst (λ b. Answers r (λ x. MatchBool b (PlacesVector old new first after.faults (next_id w) w.pin (next_start w) w.gathered.items x)
+      subst (λ b. Answers r (λ x. MatchBool b (PlacesVector old new first after.past (next_id w) w.pin (next_start w) w.gathered.items x)
       (CutsAsAsked now old new first after (next_id w) w.pin (next_start w) w.gathered.items x)) (new ≡ old)) (next_no_vector w) there
 
 -- a cut that stops at the limit tells the number
-pub cut_stops : (now : ℕ) (old new : Kept) (first : ℕ) (after : Device) (piece : PieceId) (pin start : ℕ) (payload : List ℕ) (why : Refusal)
+pub cut_stops : (now : ℕ) (old new : Kept) (first : List Call) (after : Device) (piece : PieceId) (pin start : ℕ) (payload : List ℕ) (why : Refusal)
     → Answers {X = Placed} (Err why) (CutsAsAsked now old new first after piece pin start payload) (new ≡ old) → StopsAtLimit (state_of new) (length payload) why
 cut_stops now old new first after piece pin start payload (refusal.Exhausted number) h = subst (λ t. ReachesLimit t (length payload) number) (sym (state_behind old new h.added h.adds)) h.shape.why_is
 cut_stops now old new first after piece pin start payload _ h = tt

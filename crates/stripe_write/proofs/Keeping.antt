@@ -8,6 +8,8 @@ use Rattle.tape_base.specs.Blocks.{blocks_of}
 use Rattle.tape_base.specs.Digest.{digest_of}
 use Rattle.tape_base.specs.Piece.{is_vector, same_piece}
 use Rattle.tape_base.proofs.NameLaws.{same_piece-true}
+use Rattle.device_log.specs.Calls.{Call}
+use Rattle.logged_disk.specs.Device.{State as Device}
 use Rattle.doc_header.specs.Document.{digest_of_document}
 use Rattle.alternate_vector.specs.Alternates.{Stored}
 use Rattle.cache_model.specs.declared.record.Rec.{Rec}
@@ -145,9 +147,9 @@ keeps_rest_by s faults w (byte ∷ bytes) added u cuts =
     (keeps_then s room _ (keeps_flush s cut.room cut.kinds cut.live)
     (keeps_cut room (next_id w) w.pin (next_start w) (next_id w).put (next_id w).index (length payload) (digest_of payload) payload (next_no_vector w)))
 
-pub keeps_rest : (now : ℕ) (old new : Kept) (before after : ℕ) (w : Writer) (u : Unit {0}) → RestsAsAsked now old new before after w (Ok u) → KeepsVectors (state_of old) (state_of new)
+pub keeps_rest : (now : ℕ) (old new : Kept) (before : List Call) (after : Device) (w : Writer) (u : Unit {0}) → RestsAsAsked now old new before after w (Ok u) → KeepsVectors (state_of old) (state_of new)
 keeps_rest now old new before after w u h =
-    subst (KeepsVectors (state_of old)) (sym (state_behind old new h.added h.adds)) (keeps_rest_by (state_of old) after w w.gathered.items h.added u h.shape)
+    subst (KeepsVectors (state_of old)) (sym (state_behind old new h.added h.adds)) (keeps_rest_by (state_of old) after.faults w w.gathered.items h.added u h.shape)
 
 -- what was read is still so
 pub read_kept : (s t : State) (w new : Writer) (v : Vectors) → KeepsVectors s t → SameAtClose w new → IsReadFor s w v → IsReadFor t new v

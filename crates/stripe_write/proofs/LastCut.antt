@@ -2,6 +2,7 @@
 use Rattle.std.proofs.Common.{◌≡◌, ℕ, ◌<◌, List, [], ◌∷◌, length, refl, sym, ◌∙◌, ap, subst, arith, true, false, inl, inr, ◌⊎◌, ◌*◌, Ok, Err}
 use Rattle.std.specs.Prelude.{option_map, unwrap_or, Result}
 use Rattle.std.specs.List.{AllByRecursion}
+use Rattle.device_log.specs.Calls.{Call}
 use Rattle.logged_disk.specs.Device.{State as Device}
 use Rattle.fragment_table.specs.Table.{total_length}
 use Rattle.cache_model.specs.declared.record.Rec.{Rec}
@@ -39,12 +40,11 @@ none_spends : (p : Permit) (s : State) (w : Writer) (payload : List ℕ) → len
 none_spends p s w [] e = λ rest why. MayGrow.nothing
 none_spends p s w (byte ∷ bytes) e = absurd (omega (arith, e))
 
-pub rest_none : (now : ℕ) (kept : Kept) (before after : ℕ) (w : Writer) (u : Unit {0}) → length w.gathered.items ≡ 0 → RestsAsAsked now kept kept before after w (Ok u)
+pub rest_none : (now : ℕ) (kept : Kept) (before : List Call) (after : Device) (w : Writer) (u : Unit {0}) → length w.gathered.items ≡ 0 → RestsAsAsked now kept kept before after w (Ok u)
 rest_none now kept before after w u e = record {
   added = [];
-  reads = [];
   adds = sym (nothing_more kept);
-  shape = none_shape (state_of kept) after w w.gathered.items u e;
+  shape = none_shape (state_of kept) after.faults w w.gathered.items u e;
   does = λ p at covers. none_spends p (state_of kept) w w.gathered.items e;
 }
 
@@ -58,11 +58,10 @@ cut_spends : (p : Permit) (s : State) (w : Writer) (payload : List ℕ) (added :
 cut_spends p s w [] added some h = absurd (omega (arith, some))
 cut_spends p s w (byte ∷ bytes) added some h = h
 
-pub rest_cut : (now : ℕ) (old new : Kept) (before : ℕ) (after : Device) (w : Writer) (placed : Placed) (u : Unit {0}) → 0 < length w.gathered.items
-    → CutsAsAsked now old new before after (next_id w) w.pin (next_start w) w.gathered.items (Ok placed) → RestsAsAsked now old new before after.faults w (Ok u)
+pub rest_cut : (now : ℕ) (old new : Kept) (before : List Call) (after : Device) (w : Writer) (placed : Placed) (u : Unit {0}) → 0 < length w.gathered.items
+    → CutsAsAsked now old new before after (next_id w) w.pin (next_start w) w.gathered.items (Ok placed) → RestsAsAsked now old new before after w (Ok u)
 rest_cut now old new before after w placed u some h = record {
   added = h.added;
-  reads = h.reads;
   adds = h.adds;
   shape = cut_shape (state_of old) after.faults w w.gathered.items h.added placed u some h.shape;
   does = λ p at covers. cut_spends p (state_of old) w w.gathered.items h.added some (h.does p at covers);
@@ -78,19 +77,17 @@ stop_spends p s w [] added reason some h = absurd (omega (arith, some))
 stop_spends p s w (byte ∷ bytes) added reason some h = h
 
 -- where the rest is refused, and memory is not wanting, what was asked of it fails
-pub rest_refused : (now : ℕ) (old new : Kept) (before : ℕ) (after : Device) (w : Writer) (why : Refusal) → 0 < length w.gathered.items → HasMemory {X = Placed} (Err why)
+pub rest_refused : (now : ℕ) (old new : Kept) (before : List Call) (after : Device) (w : Writer) (why : Refusal) → 0 < length w.gathered.items → HasMemory {X = Placed} (Err why)
     → Answers {X = Placed} (Err why) (CutsAsAsked now old new before after (next_id w) w.pin (next_start w) w.gathered.items) (new ≡ old)
-    → Answers {X = Unit {0}} (Err why) (RestsAsAsked now old new before after.faults w) ⊥
+    → Answers {X = Unit {0}} (Err why) (RestsAsAsked now old new before after w) ⊥
 rest_refused now old new before after w (refusal.DeviceFault count) some memory h = record {
   added = h.added;
-  reads = h.reads;
   adds = h.adds;
   shape = stop_shape (state_of old) after.faults w w.gathered.items h.added (stop.DeviceFault count) some h.shape;
   does = λ p at covers. stop_spends p (state_of old) w w.gathered.items h.added (Faulted count) some (h.does p at covers);
 }
 rest_refused now old new before after w (refusal.Exhausted number) some memory h = record {
   added = h.added;
-  reads = h.reads;
   adds = h.adds;
   shape = stop_shape (state_of old) after.faults w w.gathered.items h.added (stop.Exhausted number) some h.shape;
   does = λ p at covers. stop_spends p (state_of old) w w.gathered.items h.added Exhausted some (h.does p at covers);
@@ -105,18 +102,18 @@ stopped_kinds : (s : State) (faults : ℕ) (w : Writer) (payload : List ℕ) (ad
 stopped_kinds s faults w [] added why none = subst AreOfFlush (sym none) tt
 stopped_kinds s faults w (byte ∷ bytes) added why h = h.kinds
 
-pub rest_puts : (now : ℕ) (old new : Kept) (before after : ℕ) (w : Writer) (why : Stop) → RestsAsAsked now old new before after w (Err why) → (state_of new).puts ≡ (state_of old).puts
+pub rest_puts : (now : ℕ) (old new : Kept) (before : List Call) (after : Device) (w : Writer) (why : Stop) → RestsAsAsked now old new before after w (Err why) → (state_of new).puts ≡ (state_of old).puts
 rest_puts now old new before after w why h =
-    ap (λ (x : State). x.puts) (state_behind old new h.added h.adds) ∙ (flush_leaves (state_of old) h.added (stopped_kinds (state_of old) after w w.gathered.items h.added why h.shape)).puts
+    ap (λ (x : State). x.puts) (state_behind old new h.added h.adds) ∙ (flush_leaves (state_of old) h.added (stopped_kinds (state_of old) after.faults w w.gathered.items h.added why h.shape)).puts
 
 -- they are its put's own
 rest_is_own : (s : State) (faults : ℕ) (w : Writer) (payload : List ℕ) (added : List Rec) (u : Unit {0}) → IsRestAs s faults w payload added (Ok u) → AllByRecursion (IsOfPut w.put) added
 rest_is_own s faults w [] added u none = subst (AllByRecursion (IsOfPut w.put)) (sym none) tt
 rest_is_own s faults w (byte ∷ bytes) added u h = cut_is_own s (next_id w) w.pin (next_start w) (byte ∷ bytes) added h.0 (next_no_vector w) h.1
 
-pub rest_own : (now : ℕ) (old new : Kept) (before after : ℕ) (w : Writer) (result : Result (Unit {0}) Stop) → RestsAsAsked now old new before after w result → AddsOfPut w.put old new
-rest_own now old new before after w (Ok u) h = record { added = h.added; adds = h.adds; own = rest_is_own (state_of old) after w w.gathered.items h.added u h.shape }
-rest_own now old new before after w (Err why) h = record { added = h.added; adds = h.adds; own = flush_is_own w.put h.added (stopped_kinds (state_of old) after w w.gathered.items h.added why h.shape) }
+pub rest_own : (now : ℕ) (old new : Kept) (before : List Call) (after : Device) (w : Writer) (result : Result (Unit {0}) Stop) → RestsAsAsked now old new before after w result → AddsOfPut w.put old new
+rest_own now old new before after w (Ok u) h = record { added = h.added; adds = h.adds; own = rest_is_own (state_of old) after.faults w w.gathered.items h.added u h.shape }
+rest_own now old new before after w (Err why) h = record { added = h.added; adds = h.adds; own = flush_is_own w.put h.added (stopped_kinds (state_of old) after.faults w w.gathered.items h.added why h.shape) }
 
 not_all_cut : (w : Writer) (P : Type 0) → 0 < length w.gathered.items → IsAllCut w ⊎ P → P
 not_all_cut w P some (inl all) = let none : length w.gathered.items ≡ 0 = ap length all.empty in absurd (omega (arith, some, none))
@@ -144,7 +141,7 @@ rest_ready s w writing own sealed some room =
     }
 
 -- the put is open behind a cut
-pub cut_open : (now : ℕ) (kept new : Kept) (before : ℕ) (after : Device) (w next : Writer) (placed : Placed) → IsReady (state_of kept) w
+pub cut_open : (now : ℕ) (kept new : Kept) (before : List Call) (after : Device) (w next : Writer) (placed : Placed) → IsReady (state_of kept) w
     → CutsAsAsked now kept new before after (next_id w) w.pin (next_start w) w.gathered.items (Ok placed) → next.put ≡ w.put → is_writing (state_of new) next.put ≡ true
 cut_open now kept new before after w next placed r h put =
     let row = cut_row (state_of kept) (state_of new) w h.added placed r h.shape (state_behind kept new h.added h.adds) in

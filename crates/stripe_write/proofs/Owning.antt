@@ -1,6 +1,7 @@
 -- What the calls of one writer leave of others.
 use Rattle.std.proofs.Common.{◌≡◌, ℕ, List, [], ◌∷◌, ◌++◌, refl, sym, ◌∙◌, ap, subst, Bool, true, false, cond, Result, Ok, Err}
 use Rattle.std.specs.Prelude.{Option, Some, None, option_map, find, ◌==◌}
+use Rattle.device_log.specs.Calls.{Call}
 use Rattle.logged_disk.specs.Device.{State as Device}
 use Rattle.std.specs.List.{AllByRecursion}
 use Rattle.std.proofs.lemmas.Bool.{eqb-true}
@@ -111,7 +112,7 @@ pub owns_read : (put : ℕ) (old new : Kept) (key : Key) (answer : KeyVector) �
 owns_read put old new key answer adds = owns put old new _ adds (own_trouble put (live_vector_of (state_of old) key) answer)
 
 -- room that is made, or is not
-pub owns_room : (put : ℕ) (now : ℕ) (old new : Kept) (before : ℕ) (after : Device) (bytes : ℕ) (result : Result (Unit {0}) Stop) → RoomsAsAsked now old new before after bytes result → AddsOfPut put old new
+pub owns_room : (put : ℕ) (now : ℕ) (old new : Kept) (before : List Call) (after : Device) (bytes : ℕ) (result : Result (Unit {0}) Stop) → RoomsAsAsked now old new before after bytes result → AddsOfPut put old new
 owns_room put now old new before after bytes result h = owns put old new h.added h.adds (flush_is_own put h.added h.kinds)
 
 -- a vector that is placed

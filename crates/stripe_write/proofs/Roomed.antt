@@ -5,7 +5,8 @@ use Rattle.std.proofs.lemmas.Bool.{le-leb}
 use Rattle.tape_base.specs.declared.geometries.Geometry.{Geometry}
 use Rattle.tape_base.specs.Blocks.{blocks_of}
 use Rattle.tape_base.specs.Geometry.{budget_of}
-use Rattle.logged_disk.specs.Device.{State as Device}
+use Rattle.device_log.specs.Calls.{Call}
+use Rattle.logged_disk.specs.Device.{IsAfter, State as Device}
 use Rattle.cache_model.specs.declared.cause.Cause.{Cause}
 use Rattle.cache_model.specs.declared.record.Rec.{Rec}
 use Rattle.cache_model.specs.declared.record.Rec.TheVariants as rec
@@ -13,20 +14,18 @@ use Rattle.cache_model.specs.State.{PutRow, State, after_all, fragment_piece, li
 use Rattle.cache_model.specs.Kept.{Kept, state_of, with_records}
 use Rattle.cache_model.specs.Verdict.{live_vector_of}
 use Rattle.cache_model.specs.Tape.{IsSound}
-use Rattle.cache_model.specs.Permit.{Commit, DeviceRead, End, Exhausted, Fails, Faulted, Finish, Lost, Permit, Reason, Stays}
+use Rattle.cache_model.specs.Permit.{Commit, End, Exhausted, Fails, Faulted, Finish, Lost, Permit, Reason, Stays}
 use Rattle.cache_model.specs.Legal.{Does, DoesFinish, IsCut, MakesRoom, vector_length}
 use Rattle.cache_model.specs.Room.{has_room}
 use Rattle.cache_model.proofs.SoundFlush.{flush_is_sound}
 use Rattle.cache_model.proofs.Steps.{grows_on}
-use Rattle.stripe_core.specs.Covers.{Covers}
 use Rattle.stripe_core.specs.declared.refusal.Refusal.{Refusal}
 use Rattle.stripe_core.specs.declared.refusal.Refusal.TheVariants as refusal
 use Rattle.stripe_core.specs.declared.refusal.Stop.TheVariants as stop
 use Rattle.stripe_core.specs.Flush.{LiveBefore, StopsWith}
 use Rattle.stripe_core.specs.Place.{ReachesLimit, RoomsAsAsked}
 use Rattle.stripe_core.specs.Stripe.{Answers}
-use Rattle.stripe_core.proofs.OneMore.{covers_first, covers_last}
-use Rattle.stripe_vectors.proofs.Finding.{own_covers, own_permit}
+use Rattle.stripe_core.proofs.Covering.{covers_first, covers_last, own_covers, own_permit}
 use Rattle.stripe_write.specs.declared.finishing.Receipt.{Receipt}
 use Rattle.stripe_write.specs.declared.weighing.Vectors.{Vectors}
 use Rattle.stripe_write.specs.declared.writer.Writer.{Writer}
@@ -55,11 +54,10 @@ first_lost_ends p s w v c index none spelled read room first =
       lost = ap (λ k. live_row_of s (fragment_piece k w.put index)) c.key_is ∙ first.3;
     }) (ap (λ n. rec.Aborted n w.key ∷ []) (sym number) ∙ ap (λ k. rec.Aborted c.row.put k ∷ []) (sym c.key_is))
 
-pub loses : (now : ℕ) (old new : Kept) (before after : ℕ) (w : Writer) (v : Vectors) (c : IsClosing (state_of old) w) (index : ℕ) (why : Cause) (x : Refusal) → AreSpelled (state_of old).geometry w v
+pub loses : (now : ℕ) (old new : Kept) (before after : List Call) (w : Writer) (v : Vectors) (c : IsClosing (state_of old) w) (index : ℕ) (why : Cause) (x : Refusal) → AreSpelled (state_of old).geometry w v
     → has_room (state_of old) (bytes_now (state_of old) w v) ≡ true → IsFirstLost (state_of old) w (Some index) → x ≡ refusal.Lost index why → new ≡ with_records old (rec.Aborted w.put w.key ∷ [])
     → FinishesAsRead now before after old new w v (Err x)
 loses now old new before after w v c index why x spelled room first is adds = record {
-  reads = [];
   does = λ p at covers none read.
       let s : State = state_of old in
       let d = first_lost_ends p s w v c index none spelled read room first in
@@ -83,20 +81,19 @@ room_grows p s w row size added false is cut makes rest e h = λ others why.
     let d : Does p s (Finish w.put (length w.table.rows)) added Stays = DoesFinish.rooms row cut (subst (λ n. MakesRoom p s n added Stays) is makes) in
     grows_on (one_group p s (Finish w.put (length w.table.rows)) added Stays d (Commit w.put ∷ others) why) (h others why)
 
-module _ (now : ℕ) (old mid new : Kept) (first : ℕ) (between : Device) (last : ℕ) (w : Writer) (v : Vectors) (c : IsClosing (state_of old) w) (spelled : AreSpelled (state_of old).geometry w v) where
+module _ (now : ℕ) (old mid new : Kept) (first between last : Device) (w : Writer) (v : Vectors) (c : IsClosing (state_of old) w) (spelled : AreSpelled (state_of old).geometry w v) where
   abbrev s : State
   s = state_of old
 
-  pub behind_room : (u : Unit {0}) (result : Result Receipt Refusal) → first ≤ between.faults → between.faults ≤ last → RoomsAsAsked now old mid first between (bytes_now s w v) (Ok u)
-      → FinishesAsRead now between.faults last mid new w v result → FinishesAsRead now first last old new w v result
+  pub behind_room : (u : Unit {0}) (result : Result Receipt Refusal) → IsAfter first between → IsAfter between last → RoomsAsAsked now old mid first.past between (bytes_now s w v) (Ok u)
+      → FinishesAsRead now between.past last.past mid new w v result → FinishesAsRead now first.past last.past old new w v result
   behind_room u result f l room ends = record {
-    reads = room.reads ++ ends.reads;
     does = λ p at covers none read.
         let there : state_of mid ≡ after_all s room.added = state_behind old mid room.added room.adds in
         let keeps : KeepsVectors s (state_of mid) = subst (KeepsVectors s) (sym there) (keeps_flush s room.added room.kinds (subst (LiveBefore s) there room.live)) in
         let here = is_current s w v c none spelled read in
-        let makes = room.does p at (covers_first p first between.faults last room.reads ends.reads l covers) in
-        let rest = ends.does p at (covers_last p first between.faults last room.reads ends.reads f covers) (keeps.displaced none) (read_stays s (state_of mid) w v keeps read) in
+        let makes = room.does p at (covers_first p first.past between.past last.past l.made l.past covers) in
+        let rest = ends.does p at (covers_last p first.past between.past last.past f.made f.past covers) (keeps.displaced none) (read_stays s (state_of mid) w v keeps read) in
         record {
           added = room.added ++ rest.added;
           adds = then_more old mid new room.added rest.added room.adds rest.adds;
@@ -113,7 +110,7 @@ exhausted_empty (MakesRoom.stops count full m) q = cc
 exhausted_empty (MakesRoom.exhausted full above is) q = is
 
 -- no room is made
-module _ (now : ℕ) (old new : Kept) (before : ℕ) (after : Device) (w : Writer) (v : Vectors) (c : IsClosing (state_of old) w) (spelled : AreSpelled (state_of old).geometry w v) where
+module _ (now : ℕ) (old new : Kept) (before : List Call) (after : Device) (w : Writer) (v : Vectors) (c : IsClosing (state_of old) w) (spelled : AreSpelled (state_of old).geometry w v) where
   abbrev t : State
   t = state_of old
 
@@ -129,13 +126,11 @@ module _ (now : ℕ) (old new : Kept) (before : ℕ) (after : Device) (w : Write
       (cuts_at_hand t w c, subst (λ n. ReachesLimit t n number) here.size (flush_reaches t (bytes_now t w v) after.faults number full stops))
 
   pub no_room_ends : (why : Refusal) → Answers {X = Unit {0}} (Err why) (RoomsAsAsked now old new before after (bytes_now t w v)) ⊥ → has_room t (bytes_now t w v) ≡ false
-      → Answers {X = Unit {0}} (Err why) (λ r. IfErr r (StopsWith t after.faults)) ⊥ → FinishesAsRead now before after.faults old new w v (Err why)
+      → Answers {X = Unit {0}} (Err why) (λ r. IfErr r (StopsWith t after.faults)) ⊥ → FinishesAsRead now before after.past old new w v (Err why)
   no_room_ends (refusal.DeviceFault count) room full stops = record {
-    reads = room.reads;
     does = λ p at covers none read. record { added = room.added; adds = room.adds; does = stopped_by p room.added (Faulted count) none read (room.does p at covers); number = tt };
   }
   no_room_ends (refusal.Exhausted number) room full stops = record {
-    reads = room.reads;
     does = λ p at covers none read.
         let makes = room.does p at covers in
         let same : new ≡ old = room.adds ∙ (ap (with_records old) (exhausted_empty makes refl) ∙ nothing_more old) in
@@ -149,13 +144,6 @@ module _ (now : ℕ) (old new : Kept) (before : ℕ) (after : Device) (w : Write
   no_room_ends _ room full stops = absurd room
 
 -- ---- room for either vector
-
--- a step that the call alone makes
-abbrev own_step : ℕ → ℕ → ℕ → List DeviceRead → Permit
-own_step now before after reads = record { packed = false; now = now; faults_before = before; faults = after; reads = reads }
-
-own_step_covers : (now before after : ℕ) (reads : List DeviceRead) → Covers (own_step now before after reads) before after reads
-own_step_covers now before after reads = let c : Covers (own_permit before after reads) before after reads = own_covers before after reads in record { plain = refl; from = omega arith; upto = omega arith; knows = c.knows }
 
 -- the copies of a flush take half a buffer at most
 flush_filled : {p : Permit} {s : State} {bytes : ℕ} {added : List Rec} {e : End} → IsSound s → MakesRoom p s bytes added e → e ≡ Stays → (after_all s added).filled ≤ budget_of s.geometry
@@ -178,10 +166,10 @@ room_for_either p s t w v added false sound is g spelled makes room =
     le-leb (t.filled + blocks_of (bytes_now t w v)) t.geometry.agg
     (subst (λ (x : Geometry). t.filled + blocks_of (bytes_now t w v) ≤ x.agg) (sym g) (half_fits t.filled (blocks_of (bytes_now t w v)) s.geometry.agg filled small))
 
-pub room_is_made : (now : ℕ) (old new : Kept) (before : ℕ) (after : Device) (w : Writer) (v : Vectors) (u : Unit {0}) → IsSound (state_of old) → AreSpelled (state_of old).geometry w v
+pub room_is_made : (now : ℕ) (old new : Kept) (before : List Call) (after : Device) (w : Writer) (v : Vectors) (u : Unit {0}) → IsSound (state_of old) → AreSpelled (state_of old).geometry w v
     → RoomsAsAsked now old new before after (bytes_now (state_of old) w v) (Ok u) → has_room (state_of new) (bytes_now (state_of old) w v) ≡ true → has_room (state_of new) (bytes_now (state_of new) w v) ≡ true
 room_is_made now old new before after w v u sound spelled h room =
     let s : State = state_of old in
-    let p : Permit = own_step now before after.faults h.reads in
+    let p : Permit = own_permit now before after.past in
     room_for_either p s (state_of new) w v h.added (has_room s (bytes_now s w v)) sound (state_behind old new h.added h.adds) (room_leaves now old new before after (bytes_now s w v) (Ok u) h).geometry spelled
-    (h.does p refl (own_step_covers now before after.faults h.reads)) room
+    (h.does p refl (own_covers now before after.past)) room

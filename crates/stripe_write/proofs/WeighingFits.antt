@@ -151,11 +151,10 @@ no_more mid new w s p (Ok v) is h = subst (λ t. AreVectors s → IsReadFor t w 
 -- ---- weighing
 
 -- memory is wanting before anything is read
-pub wants : (kept new : Kept) (before after : Device) (w : Writer) (e : AllocError) (result : Result Vectors Refusal) → result ≡ Err (refusal.Memory e) → new ≡ kept → WeighsAsAsked before after kept new w result
-wants kept new before after w e result is same =
+pub wants : (kept new : Kept) (before after : Device) (w : Writer) (e : AllocError) (result : Result Vectors Refusal) → result ≡ Err (refusal.Memory e) → new ≡ kept → AreSeen before after → WeighsAsAsked before after kept new w result
+wants kept new before after w e result is same seen =
     subst (WeighsAsAsked before after kept new w) (sym is) (record {
-      reads = [];
-      seen = tt;
+      seen = seen;
       does = λ p covers. record {
         added = [];
         adds = same ∙ ap (λ recs. let k : Kept = record { base = kept.base; since = recs } in k) (sym (append-nil kept.since));
@@ -173,7 +172,6 @@ faults kept new before after w answer count quiet writing own fault adds finds =
     let o = open_put (put_of s w.put) writing in
     let key : o.0.key ≡ w.key = (own o.0 o.1 o.2).key_is in
     record {
-      reads = finds.reads;
       seen = finds.seen;
       does = λ p covers. record {
         added = vector_adds s w.key answer;
@@ -201,7 +199,7 @@ pub record IsWeighed (kept mid new : Kept) (before during after : Device) (w : W
   pub still : after ≡ during
 
 so_far : ReadIsListed → (kept mid new : Kept) (before during after : Device) (w : Writer) (answer : KeyVector) (result : Result Vectors Refusal) (h : IsWeighed kept mid new before during after w answer result)
-    (p : Permit) → Covers p before.faults during.faults h.finds.reads → IsReadSoFar p (state_of kept) w.put (length w.gathered.items) w.key (vector_adds (state_of kept) w.key answer) answer
+    (p : Permit) → Covers p before.past during.past → IsReadSoFar p (state_of kept) w.put (length w.gathered.items) w.key (vector_adds (state_of kept) w.key answer) answer
 so_far law kept mid new before during after w answer result h p covers =
     let s : State = state_of kept in
     let o = open_put (put_of s w.put) h.writing in
@@ -218,10 +216,9 @@ weighs law kept mid new before during after w answer result h =
     let o = open_put (put_of (state_of mid) w.put) h.writing_then in
     let here : IsAtHand (state_of mid).geometry o.0 w = h.own_then o.0 o.1 o.2 in
     record {
-      reads = h.finds.reads;
-      seen = subst (λ d. AreSeen s.geometry d h.finds.reads) (sym h.still) h.finds.seen;
+      seen = subst (AreSeen before) (sym h.still) h.finds.seen;
       does = λ p covers.
-          let far = so_far law kept mid new before during after w answer result h p (subst (λ (d : Device). Covers p before.faults d.faults h.finds.reads) h.still covers) in
+          let far = so_far law kept mid new before during after w answer result h p (subst (λ (d : Device). Covers p before.past d.past) h.still covers) in
           let readable : IsReadWhereLive p (state_of mid) (live_vector_of (state_of mid) o.0.key) =
           subst (λ k. IsReadWhereLive p (state_of mid) (live_vector_of (state_of mid) k)) (sym here.key_is) (subst (λ t. IsReadWhereLive p t (live_vector_of t w.key)) (sym there) far.readable) in
           let last : Spends p (state_of mid) (Weigh w.put (length w.gathered.items)) (fit_adds w result) (weigh_end w result) =

@@ -15,7 +15,7 @@ use Rattle.cache_model.specs.State.{PutRow, Row, State, after_all, alternates_of
 use Rattle.cache_model.specs.Kept.{Kept, state_of, with_records}
 use Rattle.cache_model.specs.Verdict.{is_open, live_vector_of, vector_of}
 use Rattle.cache_model.specs.Permit.{Fails, Faulted, Permit, Stays}
-use Rattle.cache_model.specs.Given.{IsDamaged, IsRead, IsReadWhereLive, IsWritten, MayCount, Trouble, damage_cause, damage_record}
+use Rattle.cache_model.specs.Given.{CountsRead, IsDamaged, IsRead, IsReadWhereLive, IsWritten, Trouble, damage_cause, damage_record}
 use Rattle.cache_model.specs.Legal.{DoesWeigh, IsWriting, is_writing}
 use Rattle.cache_model.specs.Pair.{IsKeyPair}
 use Rattle.cache_model.specs.Vectors.{AreVectors, IsVectorAs}
@@ -137,7 +137,7 @@ gone s key row kept found live = gone_by s (state_after s (damage_record row kep
 pub record IsFault (p : Permit) (s : State) (row : Row) (recs : List Rec) (why : Cause) : Type 0 where
   pub count : ℕ
   pub written : IsWritten s row
-  pub counts : MayCount p s count
+  pub counts : CountsRead p s row count
   pub recs_are : recs ≡ rec.Fault count ∷ []
   pub why_is : why ≡ cause.DeviceFault count
 

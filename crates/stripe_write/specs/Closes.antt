@@ -3,11 +3,12 @@ use Rattle.std.specs.Prelude.{ℕ, ◌≡◌, ◌<◌, ◌≤◌, ◌==◌, ◌�
 use Rattle.tape_base.specs.Blocks.{blocks_of}
 use Rattle.tape_base.specs.Geometry.{budget_of}
 use Rattle.fragment_table.specs.Table.{total_length}
+use Rattle.device_log.specs.Calls.{Call}
 use Rattle.cache_model.specs.declared.record.Rec.{Rec}
 use Rattle.cache_model.specs.State.{State, fragment_piece}
 use Rattle.cache_model.specs.Kept.{Kept, state_of, with_records}
 use Rattle.cache_model.specs.Verdict.{cause_of_piece, cuts_of}
-use Rattle.cache_model.specs.Permit.{Commit, DeviceRead, Done, Finish, Intent, End, Exhausted, Fails, Faulted, Lost, Permit, Stays, TooLarge, Weigh}
+use Rattle.cache_model.specs.Permit.{Commit, Done, Finish, Intent, End, Exhausted, Fails, Faulted, Lost, Permit, Stays, TooLarge, Weigh}
 use Rattle.cache_model.specs.Legal.{is_writing, vector_length}
 use Rattle.cache_model.specs.Room.{limit}
 use Rattle.cache_model.specs.Vectors.{AreTold, IsVectorAs}
@@ -74,10 +75,9 @@ pub record Ends (p : Permit) (old new : Kept) (w : Writer) (result : Result Rece
   pub does : SpendsAll p (state_of old) (end_intents w) added (close_end w result)
   pub number : IfErr result (StopsAtLimit (state_of new) (bytes_next (state_of new) w))
 
--- what the device gave, and what came of it, as `FinishesAsRead`
-pub record EndsAsAsked (now before after : ℕ) (old new : Kept) (w : Writer) (v : Vectors) (result : Result Receipt Refusal) : Type 0 where
-  pub reads : List DeviceRead
-  pub does : (p : Permit) → p.now ≡ now → Covers p before after reads → (state_of old).displaced ≡ [] → IsReadFor (state_of old) w v → Ends p old new w result
+-- what came of it, as `FinishesAsRead`
+pub record EndsAsAsked (now : ℕ) (before after : List Call) (old new : Kept) (w : Writer) (v : Vectors) (result : Result Receipt Refusal) : Type 0 where
+  pub does : (p : Permit) → p.now ≡ now → Covers p before after → (state_of old).displaced ≡ [] → IsReadFor (state_of old) w v → Ends p old new w result
 
 -- all that closing is asked is done, or fails; where memory is wanting it is still to be weighed; where
 -- there is no such writer nothing is
@@ -93,11 +93,9 @@ pub record Closes (p : Permit) (old new : Kept) (w : Writer) (result : Result Re
   pub does : Spent p (state_of old) w result added
   pub number : IfErr result (StopsAtLimit (state_of new) (bytes_next (state_of new) w))
 
--- what was read, and what came of it in any step at that moment that covers the call; or two documents
--- of one SHA-256 are shown
-pub record ClosesAsAsked (now before after : ℕ) (old new : Kept) (w : Writer) (result : Result Receipt Refusal) : Type 0 where
-  pub reads : List DeviceRead
-  pub does : (p : Permit) → p.now ≡ now → Covers p before after reads → AreTold (state_of old) → Closes p old new w result ⊎ IsKeyPair IsVectorAs p (state_of old) w.key
+-- what came of it in any step at that moment that covers the call; or two documents of one SHA-256 are shown
+pub record ClosesAsAsked (now : ℕ) (before after : List Call) (old new : Kept) (w : Writer) (result : Result Receipt Refusal) : Type 0 where
+  pub does : (p : Permit) → p.now ≡ now → Covers p before after → AreTold (state_of old) → Closes p old new w result ⊎ IsKeyPair IsVectorAs p (state_of old) w.key
 
 -- a writer that was refused by the device, or by the end of the tape, takes no more bytes
 abbrev pub SealsWhere : Writer → Writer → Result Receipt Refusal → Type 0

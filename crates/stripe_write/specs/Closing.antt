@@ -11,7 +11,7 @@ use Rattle.cache_model.specs.declared.record.Rec.{Rec}
 use Rattle.cache_model.specs.State.{Row, State, alternates_of}
 use Rattle.cache_model.specs.Kept.{Kept, state_of, with_records}
 use Rattle.cache_model.specs.Verdict.{live_vector_of}
-use Rattle.cache_model.specs.Permit.{Commit, DeviceRead, Done, End, Fails, Faulted, Finish, Fragment, Intent, Permit, Reason, Stays, TooLarge, Weigh, Work, is_cleanup}
+use Rattle.cache_model.specs.Permit.{Commit, Done, End, Fails, Faulted, Finish, Fragment, Intent, Permit, Reason, Stays, TooLarge, Weigh, Work, is_cleanup}
 use Rattle.cache_model.specs.Vectors.{AreVectors, IsVectorAs}
 use Rattle.cache_model.specs.Legal.{MayGrow}
 use Rattle.stripe_core.specs.declared.refusal.Refusal.{Refusal}
@@ -109,8 +109,7 @@ pub record Weighs (p : Permit) (old new : Kept) (w : Writer) (result : Result Ve
   pub does : Spends p (state_of old) (Weigh w.put (length w.gathered.items)) added (weigh_end w result)
   pub told : IfOk result (λ v. AreVectors (state_of old) → IsReadFor (state_of new) w v ⊎ IsKeyPair IsVectorAs p (state_of old) w.key)
 
--- what the device gave, and what came of it in any step that covers the call
+-- what was read is what is seen, and what came of it in any step that covers the call
 pub record WeighsAsAsked (before after : Device) (old new : Kept) (w : Writer) (result : Result Vectors Refusal) : Type 0 where
-  pub reads : List DeviceRead
-  pub seen : AreSeen (state_of old).geometry after reads
-  pub does : (p : Permit) → Covers p before.faults after.faults reads → Weighs p old new w result
+  pub seen : AreSeen before after
+  pub does : (p : Permit) → Covers p before.past after.past → Weighs p old new w result

@@ -1,11 +1,12 @@
 -- How a put whose fragments are all cut is finished: its vector is placed, and it is committed.
 use Rattle.std.specs.Prelude.{ℕ, ◌≡◌, ◌<◌, ◌≤◌, ◌-◌, Bool, true, false, List, [], ◌∷◌, length, Option, Some, None, IsSome, is_some, unwrap_or, Result, Ok, Err, IfErr}
 use Rattle.fragment_table.specs.Table.{total_length}
+use Rattle.device_log.specs.Calls.{Call}
 use Rattle.cache_model.specs.declared.record.Rec.{Rec}
 use Rattle.cache_model.specs.State.{State, fragment_piece, list_of_put, live_row_of}
 use Rattle.cache_model.specs.Kept.{Kept, state_of, with_records}
 use Rattle.cache_model.specs.Verdict.{cause_of_piece, cuts_of, live_vector_of}
-use Rattle.cache_model.specs.Permit.{Commit, DeviceRead, Done, End, Exhausted, Fails, Faulted, Finish, Intent, Lost, Permit, Stays}
+use Rattle.cache_model.specs.Permit.{Commit, Done, End, Exhausted, Fails, Faulted, Finish, Intent, Lost, Permit, Stays}
 use Rattle.cache_model.specs.Legal.{vector_length, vector_payload}
 use Rattle.cache_model.specs.Room.{greatest_pin, limit}
 use Rattle.stripe_core.specs.declared.refusal.Refusal.{Refusal}
@@ -91,8 +92,7 @@ pub record Finishes (p : Permit) (old new : Kept) (w : Writer) (result : Result 
   pub does : SpendsAll p (state_of old) (finish_intents w) added (finish_end w result)
   pub number : IfErr result (VectorStops (state_of new) w)
 
--- what the device gave, and what came of it in any step at that moment that covers the call, where no
--- insert goes on and the key's vector is the one that was read
-pub record FinishesAsRead (now before after : ℕ) (old new : Kept) (w : Writer) (v : Vectors) (result : Result Receipt Refusal) : Type 0 where
-  pub reads : List DeviceRead
-  pub does : (p : Permit) → p.now ≡ now → Covers p before after reads → (state_of old).displaced ≡ [] → IsReadFor (state_of old) w v → Finishes p old new w result
+-- what came of it in any step at that moment that covers the call, where no insert goes on and the key's vector is
+-- the one that was read
+pub record FinishesAsRead (now : ℕ) (before after : List Call) (old new : Kept) (w : Writer) (v : Vectors) (result : Result Receipt Refusal) : Type 0 where
+  pub does : (p : Permit) → p.now ≡ now → Covers p before after → (state_of old).displaced ≡ [] → IsReadFor (state_of old) w v → Finishes p old new w result

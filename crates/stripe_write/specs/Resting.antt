@@ -1,9 +1,11 @@
 -- The rest that a writer gathered is cut as its last fragment.
 use Rattle.std.specs.Prelude.{ℕ, ◌≡◌, List, [], ◌∷◌, Result, Ok, Err}
+use Rattle.device_log.specs.Calls.{Call}
+use Rattle.logged_disk.specs.Device.{State as Device}
 use Rattle.cache_model.specs.declared.record.Rec.{Rec}
 use Rattle.cache_model.specs.State.{State}
 use Rattle.cache_model.specs.Kept.{Kept, state_of, with_records}
-use Rattle.cache_model.specs.Permit.{DeviceRead, Done, End, Permit}
+use Rattle.cache_model.specs.Permit.{Done, End, Permit}
 use Rattle.stripe_core.specs.declared.refusal.Placed.{Placed}
 use Rattle.stripe_core.specs.declared.refusal.Stop.{Stop}
 use Rattle.stripe_core.specs.Covers.{Covers}
@@ -24,11 +26,10 @@ abbrev pub rest_end : Result (Unit {0}) Stop → End
 rest_end (Ok u) = Done
 rest_end (Err why) = stop_end why
 
--- the rest is cut at a moment over a device whose count of faults stood at `before` and at `after`, or why
--- it is not: what is recorded, and what the device gave
-pub record RestsAsAsked (now : ℕ) (old new : Kept) (before after : ℕ) (w : Writer) (result : Result (Unit {0}) Stop) : Type 0 where
+-- the rest is cut at a moment, over a device that had made these calls before, and that stands so then, or why it
+-- is not
+pub record RestsAsAsked (now : ℕ) (old new : Kept) (before : List Call) (after : Device) (w : Writer) (result : Result (Unit {0}) Stop) : Type 0 where
   pub added : List Rec
-  pub reads : List DeviceRead
   pub adds : new ≡ with_records old added
-  pub shape : IsRestAs (state_of old) after w w.gathered.items added result
-  pub does : (p : Permit) → p.now ≡ now → Covers p before after reads → SpendsAll p (state_of old) (rest_intents w w.gathered.items) added (rest_end result)
+  pub shape : IsRestAs (state_of old) after.faults w w.gathered.items added result
+  pub does : (p : Permit) → p.now ≡ now → Covers p before after.past → SpendsAll p (state_of old) (rest_intents w w.gathered.items) added (rest_end result)

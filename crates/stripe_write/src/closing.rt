@@ -41,7 +41,7 @@ pub fn close_write<D: Disk, R: Directory + Drop, C: Chronicle>(
     ensures unharmed { Between D.Disk R.Directory C.Chronicle stripe.old stripe.new }
     ensures quiet { IsQuiet (state_in C.Chronicle stripe.new) }
     ensures closes { ClosesWhere (state_in C.Chronicle stripe.old) (state_in C.Chronicle stripe.new) writer.old result }
-    ensures does { ClosesAsAsked now (seen_in D.Disk R.Directory stripe.old).device.faults (seen_in D.Disk R.Directory stripe.new).device.faults
+    ensures does { ClosesAsAsked now (seen_in D.Disk R.Directory stripe.old).device.past (seen_in D.Disk R.Directory stripe.new).device.past
         (kept_in C.Chronicle stripe.old) (kept_in C.Chronicle stripe.new) writer.old result }
     ensures writer { IsWriterOf (state_in C.Chronicle stripe.new) writer.new }
     ensures seals { SealsWhere writer.old writer.new result }
@@ -96,7 +96,7 @@ fn close_open<D: Disk, R: Directory + Drop, C: Chronicle>(
     ensures unharmed { Between D.Disk R.Directory C.Chronicle stripe.old stripe.new }
     ensures quiet { IsQuiet (state_in C.Chronicle stripe.new) }
     ensures closes { ClosesWhere (state_in C.Chronicle stripe.old) (state_in C.Chronicle stripe.new) writer.old result }
-    ensures does { ClosesAsAsked now (seen_in D.Disk R.Directory stripe.old).device.faults (seen_in D.Disk R.Directory stripe.new).device.faults
+    ensures does { ClosesAsAsked now (seen_in D.Disk R.Directory stripe.old).device.past (seen_in D.Disk R.Directory stripe.new).device.past
         (kept_in C.Chronicle stripe.old) (kept_in C.Chronicle stripe.new) writer.old result }
     ensures writer { IsWriterOf (state_in C.Chronicle stripe.new) writer.new }
     ensures seals { SealsWhere writer.old writer.new result }
@@ -143,7 +143,7 @@ fn end<D: Disk, R: Directory + Drop, C: Chronicle>(
     ensures unharmed { Between D.Disk R.Directory C.Chronicle stripe.old stripe.new }
     ensures quiet { IsQuiet (state_in C.Chronicle stripe.new) }
     ensures ends { EndsWhere (state_in C.Chronicle stripe.new) writer.old result }
-    ensures does { EndsAsAsked now (seen_in D.Disk R.Directory stripe.old).device.faults (seen_in D.Disk R.Directory stripe.new).device.faults
+    ensures does { EndsAsAsked now (seen_in D.Disk R.Directory stripe.old).device.past (seen_in D.Disk R.Directory stripe.new).device.past
         (kept_in C.Chronicle stripe.old) (kept_in C.Chronicle stripe.new) writer.old vectors.now result }
     ensures writer { IsWriterOf (state_in C.Chronicle stripe.new) writer.new }
     ensures sealed { writer.new.sealed ≡ true }

@@ -78,7 +78,7 @@ pub(crate) fn finish<D: Disk, R: Directory + Drop, C: Chronicle>(
     ensures unharmed { Between D.Disk R.Directory C.Chronicle stripe.old stripe.new }
     ensures quiet { IsQuiet (state_in C.Chronicle stripe.new) }
     ensures finishes { FinishesWhere (state_in C.Chronicle stripe.new) writer.now result }
-    ensures does { FinishesAsRead now (seen_in D.Disk R.Directory stripe.old).device.faults (seen_in D.Disk R.Directory stripe.new).device.faults
+    ensures does { FinishesAsRead now (seen_in D.Disk R.Directory stripe.old).device.past (seen_in D.Disk R.Directory stripe.new).device.past
         (kept_in C.Chronicle stripe.old) (kept_in C.Chronicle stripe.new) writer.now vectors.now result }
     ensures later { (seen_in D.Disk R.Directory stripe.old).device.faults ≤ (seen_in D.Disk R.Directory stripe.new).device.faults }
     ensures counts { IfErr result (IsCounted (seen_in D.Disk R.Directory stripe.new).device.faults) }
@@ -110,7 +110,7 @@ fn end<D: Disk, R: Directory + Drop, C: Chronicle>(
     ensures unharmed { Between D.Disk R.Directory C.Chronicle stripe.old stripe.new }
     ensures quiet { IsQuiet (state_in C.Chronicle stripe.new) }
     ensures finishes { FinishesWhere (state_in C.Chronicle stripe.new) writer.now result }
-    ensures does { FinishesAsRead now (seen_in D.Disk R.Directory stripe.old).device.faults (seen_in D.Disk R.Directory stripe.new).device.faults
+    ensures does { FinishesAsRead now (seen_in D.Disk R.Directory stripe.old).device.past (seen_in D.Disk R.Directory stripe.new).device.past
         (kept_in C.Chronicle stripe.old) (kept_in C.Chronicle stripe.new) writer.now vectors.now result }
     ensures later { (seen_in D.Disk R.Directory stripe.old).device.faults ≤ (seen_in D.Disk R.Directory stripe.new).device.faults }
     ensures counts { IfErr result (IsCounted (seen_in D.Disk R.Directory stripe.new).device.faults) }
@@ -137,7 +137,7 @@ fn make_room<D: Disk, R: Directory + Drop, C: Chronicle>(
     ensures stripe { IsStripe D.Disk R.Directory C.Chronicle stripe.new }
     ensures unharmed { Between D.Disk R.Directory C.Chronicle stripe.old stripe.new }
     ensures full { OnErr result (has_room (state_in C.Chronicle stripe.old) (bytes_now (state_in C.Chronicle stripe.old) writer.now vectors.now) ≡ false) }
-    ensures does { Answers result (RoomsAsAsked now (kept_in C.Chronicle stripe.old) (kept_in C.Chronicle stripe.new) (seen_in D.Disk R.Directory stripe.old).device.faults
+    ensures does { Answers result (RoomsAsAsked now (kept_in C.Chronicle stripe.old) (kept_in C.Chronicle stripe.new) (seen_in D.Disk R.Directory stripe.old).device.past
         (seen_in D.Disk R.Directory stripe.new).device (bytes_now (state_in C.Chronicle stripe.old) writer.now vectors.now)) ⊥ }
     ensures stops { Answers result (λ r. IfErr r (StopsWith (state_in C.Chronicle stripe.old) (seen_in D.Disk R.Directory stripe.new).device.faults)) ⊥ }
     ensures counts { IfErr result (IsCounted (seen_in D.Disk R.Directory stripe.new).device.faults) }
@@ -220,7 +220,7 @@ fn complete<D: Disk, R: Directory + Drop, C: Chronicle>(
     ensures unharmed { Between D.Disk R.Directory C.Chronicle stripe.old stripe.new }
     ensures quiet { IsQuiet (state_in C.Chronicle stripe.new) }
     ensures finishes { FinishesWhere (state_in C.Chronicle stripe.new) writer.now result }
-    ensures does { FinishesAsRead now (seen_in D.Disk R.Directory stripe.old).device.faults (seen_in D.Disk R.Directory stripe.new).device.faults
+    ensures does { FinishesAsRead now (seen_in D.Disk R.Directory stripe.old).device.past (seen_in D.Disk R.Directory stripe.new).device.past
         (kept_in C.Chronicle stripe.old) (kept_in C.Chronicle stripe.new) writer.now vectors.now result }
     ensures later { (seen_in D.Disk R.Directory stripe.old).device.faults ≤ (seen_in D.Disk R.Directory stripe.new).device.faults }
     ensures counts { IfErr result (IsCounted (seen_in D.Disk R.Directory stripe.new).device.faults) }

@@ -38,8 +38,8 @@ pub(crate) fn cut_rest<D: Disk, R: Directory + Drop, C: Chronicle>(
     ensures counts { IfErr result (IsCounted (seen_in D.Disk R.Directory stripe.new).device.faults) }
     ensures unit { units_in stripe.old ≤ units_in stripe.new + 1 }
     // Memory is not wanting, and no other refusal comes.
-    ensures does { Answers result (RestsAsAsked now (kept_in C.Chronicle stripe.old) (kept_in C.Chronicle stripe.new) (seen_in D.Disk R.Directory stripe.old).device.faults
-        (seen_in D.Disk R.Directory stripe.new).device.faults writer.old) ⊥ }
+    ensures does { Answers result (RestsAsAsked now (kept_in C.Chronicle stripe.old) (kept_in C.Chronicle stripe.new) (seen_in D.Disk R.Directory stripe.old).device.past
+        (seen_in D.Disk R.Directory stripe.new).device writer.old) ⊥ }
     ensures some { OnErr result (0 < length writer.old.gathered.items) }
     ensures number { IfErr result (StopsAtLimit (state_in C.Chronicle stripe.new) (length writer.old.gathered.items)) }
     ensures writer { IsWriterOf (state_in C.Chronicle stripe.new) writer.new }

@@ -74,7 +74,7 @@ pub fn write<D: Disk, R: Directory + Drop, C: Chronicle>(
     ensures quiet { IsQuiet (state_in C.Chronicle stripe.new) }
     ensures writes { WritesWhere (state_in C.Chronicle stripe.old) writer.old bytes.now result }
     ensures number { IfErr result (StopsAtLimit (state_in C.Chronicle stripe.new) (state_in C.Chronicle stripe.old).geometry.fragment) }
-    ensures does { WritesAsAsked now (kept_in C.Chronicle stripe.old) (kept_in C.Chronicle stripe.new) (seen_in D.Disk R.Directory stripe.old).device.faults
+    ensures does { WritesAsAsked now (kept_in C.Chronicle stripe.old) (kept_in C.Chronicle stripe.new) (seen_in D.Disk R.Directory stripe.old).device.past
         (seen_in D.Disk R.Directory stripe.new).device writer.old bytes.now result }
     ensures writer { IsWriterOf (state_in C.Chronicle stripe.new) writer.new }
     ensures gathers { IfOk result (λ n. GathersAsAsked (state_in C.Chronicle stripe.old).geometry writer.old bytes.now n writer.new) }
@@ -216,7 +216,7 @@ fn take<D: Disk, R: Directory + Drop, C: Chronicle>(
     ensures quiet { IsQuiet (state_in C.Chronicle stripe.new) }
     ensures writes { WritesWhere (state_in C.Chronicle stripe.old) writer.old bytes.now result }
     ensures number { IfErr result (StopsAtLimit (state_in C.Chronicle stripe.new) (state_in C.Chronicle stripe.old).geometry.fragment) }
-    ensures does { WritesAsAsked now (kept_in C.Chronicle stripe.old) (kept_in C.Chronicle stripe.new) (seen_in D.Disk R.Directory stripe.old).device.faults
+    ensures does { WritesAsAsked now (kept_in C.Chronicle stripe.old) (kept_in C.Chronicle stripe.new) (seen_in D.Disk R.Directory stripe.old).device.past
         (seen_in D.Disk R.Directory stripe.new).device writer.old bytes.now result }
     ensures writer { IsWriterOf (state_in C.Chronicle stripe.new) writer.new }
     ensures gathers { IfOk result (λ n. GathersAsAsked (state_in C.Chronicle stripe.old).geometry writer.old bytes.now n writer.new) }
@@ -254,7 +254,7 @@ pub(crate) fn cut<D: Disk, R: Directory + Drop, C: Chronicle>(
     ensures unharmed { Between D.Disk R.Directory C.Chronicle stripe.old stripe.new }
     ensures quiet { IsQuiet (state_in C.Chronicle stripe.new) }
     ensures does { let w = writer.old in Answers result (CutsAsAsked now (kept_in C.Chronicle stripe.old) (kept_in C.Chronicle stripe.new)
-        (seen_in D.Disk R.Directory stripe.old).device.faults (seen_in D.Disk R.Directory stripe.new).device (next_id w) w.pin (next_start w) w.gathered.items)
+        (seen_in D.Disk R.Directory stripe.old).device.past (seen_in D.Disk R.Directory stripe.new).device (next_id w) w.pin (next_start w) w.gathered.items)
         (kept_in C.Chronicle stripe.new ≡ kept_in C.Chronicle stripe.old) }
     ensures number { IfErr result (StopsAtLimit (state_in C.Chronicle stripe.new) (length writer.old.gathered.items)) }
     ensures writer { OnOk result (IsWriterOf (state_in C.Chronicle stripe.new) writer.new) }

@@ -1,8 +1,9 @@
-use Rattle.std.proofs.Common.{◌≡◌, sym, subst, take}
+use Rattle.std.proofs.Common.{◌≡◌, ◌∙◌, ap, sym, subst, take}
 use Rattle.cache_model.specs.State.{live_row_of}
 use Rattle.cache_model.specs.Kept.{state_of, with_records}
 use Rattle.stripe_core.specs.Find.{Finds, find_adds}
 use Rattle.stripe_core.specs.Stripe.{kept_in, seen_in, state_in}
+use Rattle.stripe_core.proofs.Between.{accounted_then}
 use Rattle.stripe_core.proofs.Fitting.{budget_has_room}
 use Rattle.stripe_read.specs.declared.fetching.Unlike.{Unlike}
 use Rattle.stripe_read.specs.Fetches.{Fetches, IsCompared, IsUnlike}
@@ -44,15 +45,25 @@ returns-in-Missing-clause-fetches g c =
 pub returns-in-Found-clause-unharmed : goal.returns-in-Found-clause-unharmed
 returns-in-Found-clause-unharmed g c =
     let s = state_in g.C.Chronicle c.args.stripe.now in
-    let found_state = state_in g.C.Chronicle c.find_piece.new.self in
+    let found_kept = kept_in g.C.Chronicle c.find_piece.new.self in
     let old = (seen_in g.D.Disk g.R.Directory c.args.stripe.now).device in
     let new = (seen_in g.D.Disk g.R.Directory c.find_piece.new.self).device in
     let into = c.find_piece.new.into in
     let size = c.in-Found.size in
     let same = found_same (kept_in g.C.Chronicle c.args.stripe.now) (kept_in g.C.Chronicle c.find_piece.new.self) (live_row_of s c.args.id) size
     (subst (λ f. kept_in g.C.Chronicle c.find_piece.new.self ≡ with_records (kept_in g.C.Chronicle c.args.stripe.now) (find_adds s c.args.id f)) c.in-Found.is c.in_ok-size.ensures.adds) in
-    behind_unharmed old new (seen_in g.D.Disk g.R.Directory c.compare.new.stripe).device s found_state (state_in g.C.Chronicle c.compare.new.stripe)
-    (λ (x : (u : Unlike) × IsUnlike found_state c.args.id c.args.listed (take size into) u).
+    behind_unharmed old new (seen_in g.D.Disk g.R.Directory c.compare.new.stripe).device (kept_in g.C.Chronicle c.args.stripe.now) found_kept (kept_in g.C.Chronicle c.compare.new.stripe)
+    (λ (x : (u : Unlike) × IsUnlike (state_of found_kept) c.args.id c.args.listed (take size into) u).
     unlike_document s old new c.args.id c.args.listed size into x.0 (subst (λ f. Finds s old new c.args.id f into) c.in-Found.is c.in_ok-size.ensures.finds)
     (subst (λ k. IsUnlike (state_of k) c.args.id c.args.listed (take size into) x.0) same x.1))
     c.in_ok-size.ensures.unharmed c.compare.ensures.unharmed
+
+pub returns-in-Found-clause-accounted : goal.returns-in-Found-clause-accounted
+returns-in-Found-clause-accounted g c = accounted_then _ _ _ _ _ _ c.find_piece.ensures.unharmed.accounted c.compare.ensures.accounted
+
+pub returns-in-Found-clause-adds : goal.returns-in-Found-clause-adds
+returns-in-Found-clause-adds g c =
+    let s = state_in g.C.Chronicle c.args.stripe.now in
+    let same = found_same (kept_in g.C.Chronicle c.args.stripe.now) (kept_in g.C.Chronicle c.find_piece.new.self) (live_row_of s c.args.id) c.in-Found.size
+    (subst (λ f. kept_in g.C.Chronicle c.find_piece.new.self ≡ with_records (kept_in g.C.Chronicle c.args.stripe.now) (find_adds s c.args.id f)) c.in-Found.is c.in_ok-size.ensures.adds) in
+    c.compare.ensures.adds ∙ ap (λ k. with_records k (find_adds (state_of k) c.args.id c.compare.result)) same

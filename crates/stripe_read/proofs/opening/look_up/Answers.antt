@@ -2,17 +2,22 @@ use Rattle.std.proofs.Common.{◌≡◌, ◌∙◌, ap, subst}
 use Rattle.cache_model.specs.State.{last_match}
 use Rattle.cache_model.specs.Kept.{Kept, state_of, with_records}
 use Rattle.stripe_core.specs.Stripe.{kept_in, seen_in, state_in}
+use Rattle.stripe_vectors.specs.declared.reading.KeyVector.TheVariants as vector
 use Rattle.stripe_vectors.specs.Reading.{FindsVector, vector_adds}
+use Rattle.stripe_vectors.proofs.Counting.{missed_counted}
 use Rattle.stripe_read.specs.Lookups.{HasTable, IsChosen, otherwise}
 use Rattle.stripe_read.proofs.Looking.{absent_looks, absent_same, matched_looks, read_same, same_adds, trouble_looks, unmatched_looks}
 use Rattle.stripe_read.proofs.opening.look_up.Goals as goal
 
 pub returns-in-Trouble-clause-looks : goal.returns-in-Trouble-clause-looks
 returns-in-Trouble-clause-looks g c =
-    let s = state_in g.C.Chronicle c.args.stripe.now in
+    let k = kept_in g.C.Chronicle c.args.stripe.now in
+    let k1 = kept_in g.C.Chronicle c.read_vector.new.stripe in
     let old = (seen_in g.D.Disk g.R.Directory c.args.stripe.now).device in
     let new = (seen_in g.D.Disk g.R.Directory c.read_vector.new.stripe).device in
-    trouble_looks s old new c.args.key c.args.request.now c.in-Trouble.why (subst (FindsVector s old new c.args.key) c.in-Trouble.is c.in_ok-why.ensures.finds)
+    let finds : FindsVector (state_of k) old new c.args.key (vector.Trouble c.in-Trouble.why) = subst (FindsVector (state_of k) old new c.args.key) c.in-Trouble.is c.in_ok-why.ensures.finds in
+    trouble_looks (state_of k) old new c.args.key c.args.request.now c.in-Trouble.why
+    (missed_counted k k1 old new c.args.key c.in-Trouble.why (subst (λ a. k1 ≡ with_records k (vector_adds (state_of k) c.args.key a)) c.in-Trouble.is c.in_ok-why.ensures.adds) c.read_vector.ensures.stripe.pieces.faults finds) finds
 
 pub returns-in-Absent-clause-adds : goal.returns-in-Absent-clause-adds
 returns-in-Absent-clause-adds g c =

@@ -1,10 +1,14 @@
-use Rattle.std.proofs.Common.{subst, refl}
-use Rattle.cache_model.specs.State.{live_row_of}
+use Rattle.std.proofs.Common.{◌≡◌, ◌≤◌, subst, refl}
+use Rattle.cache_model.specs.State.{State, live_row_of}
+use Rattle.cache_model.specs.Kept.{with_records}
+use Rattle.stripe_core.specs.declared.refusal.Found.TheVariants as found
+use Rattle.stripe_core.specs.Find.{find_adds}
 use Rattle.stripe_core.specs.Stripe.{kept_in, seen_in, state_in}
+use Rattle.stripe_core.proofs.Between.{accounted_then}
 use Rattle.stripe_read.specs.Fetches.{Fetches}
 use Rattle.stripe_read.proofs.Giving.{broken_reads, other_next, piece_reads}
 use Rattle.stripe_read.proofs.Harmless.{unharmed_behind}
-use Rattle.stripe_read.proofs.Staying.{broken_behind, given_open, given_reader, leaves_open, leaves_reader}
+use Rattle.stripe_read.proofs.Staying.{broken_behind, given_open, given_reader, leaves_open, leaves_reader, state_behind}
 use Rattle.stripe_read.proofs.reading.give.Goals as goal
 
 pub returns-in-Found-clause-reads : goal.returns-in-Found-clause-reads
@@ -32,8 +36,13 @@ returns-in-Missing-clause-reads g c =
     let old = (seen_in g.D.Disk g.R.Directory c.args.stripe.now).device in
     let new = (seen_in g.D.Disk g.R.Directory c.fetch.new.stripe).device in
     let newer = (seen_in g.D.Disk g.R.Directory c.note-in-Missing.new.self).device in
+    let k = kept_in g.C.Chronicle c.args.stripe.now in
+    let k1 = kept_in g.C.Chronicle c.fetch.new.stripe in
+    let adds : k1 ≡ with_records k (find_adds s c.next_piece.result (found.Missing c.in-Missing.why)) =
+    subst (λ f. k1 ≡ with_records k (find_adds s c.next_piece.result f)) c.in-Missing.is c.in_ok-size.ensures.adds in
     broken_reads s old new newer c.args.reader.now c.next_piece.result c.listed_digest-listed.result c.args.cut c.args.digest c.fetch.new.into c.requires.next c.requires.quiet c.next_piece.ensures c.listed_digest-listed.ensures c.note-in-Missing.ensures.still
-    c.in-Missing.why (subst (λ f. Fetches s old new c.next_piece.result c.listed_digest-listed.result f c.fetch.new.into) c.in-Missing.is c.in_ok-size.ensures.fetches)
+    c.in-Missing.why (subst (λ (t : State). t.fault ≤ new.faults) (state_behind k k1 (find_adds s c.next_piece.result (found.Missing c.in-Missing.why)) adds) c.fetch.ensures.stripe.pieces.faults)
+    (subst (λ f. Fetches s old new c.next_piece.result c.listed_digest-listed.result f c.fetch.new.into) c.in-Missing.is c.in_ok-size.ensures.fetches)
 
 pub returns-in-Missing-clause-reader : goal.returns-in-Missing-clause-reader
 returns-in-Missing-clause-reader g c =
@@ -51,7 +60,7 @@ pub returns-in-Found-clause-unharmed : goal.returns-in-Found-clause-unharmed
 returns-in-Found-clause-unharmed g c =
     let s = state_in g.C.Chronicle c.args.stripe.now in
     unharmed_behind (seen_in g.D.Disk g.R.Directory c.args.stripe.now).device (seen_in g.D.Disk g.R.Directory c.fetch.new.stripe).device (seen_in g.D.Disk g.R.Directory c.note.new.self).device
-    s (state_in g.C.Chronicle c.fetch.new.stripe) (state_in g.C.Chronicle c.note.new.self)
+    (kept_in g.C.Chronicle c.args.stripe.now) (kept_in g.C.Chronicle c.fetch.new.stripe) (kept_in g.C.Chronicle c.note.new.self)
     (other_next s c.args.reader.now c.next_piece.result c.listed_digest-listed.result c.args.cut c.args.digest c.requires.next c.next_piece.ensures c.listed_digest-listed.ensures)
     c.fetch.ensures.unharmed c.note.ensures.unharmed
 
@@ -59,6 +68,12 @@ pub returns-in-Missing-clause-unharmed : goal.returns-in-Missing-clause-unharmed
 returns-in-Missing-clause-unharmed g c =
     let s = state_in g.C.Chronicle c.args.stripe.now in
     unharmed_behind (seen_in g.D.Disk g.R.Directory c.args.stripe.now).device (seen_in g.D.Disk g.R.Directory c.fetch.new.stripe).device (seen_in g.D.Disk g.R.Directory c.note-in-Missing.new.self).device
-    s (state_in g.C.Chronicle c.fetch.new.stripe) (state_in g.C.Chronicle c.note-in-Missing.new.self)
+    (kept_in g.C.Chronicle c.args.stripe.now) (kept_in g.C.Chronicle c.fetch.new.stripe) (kept_in g.C.Chronicle c.note-in-Missing.new.self)
     (other_next s c.args.reader.now c.next_piece.result c.listed_digest-listed.result c.args.cut c.args.digest c.requires.next c.next_piece.ensures c.listed_digest-listed.ensures)
     c.fetch.ensures.unharmed c.note-in-Missing.ensures.unharmed
+
+pub returns-in-Found-clause-accounted : goal.returns-in-Found-clause-accounted
+returns-in-Found-clause-accounted g c = accounted_then _ _ _ _ _ _ c.fetch.ensures.accounted c.note.ensures.unharmed.accounted
+
+pub returns-in-Missing-clause-accounted : goal.returns-in-Missing-clause-accounted
+returns-in-Missing-clause-accounted g c = accounted_then _ _ _ _ _ _ c.fetch.ensures.accounted c.note-in-Missing.ensures.unharmed.accounted

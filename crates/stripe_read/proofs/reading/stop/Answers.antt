@@ -1,6 +1,7 @@
 use Rattle.std.proofs.Common.{◌∙◌, ap, sym, [], ◌∷◌}
 use Rattle.cache_model.specs.Kept.{with_records}
 use Rattle.cache_model.specs.Legal.{answer_record}
+use Rattle.logged_disk.specs.Device.{State as Device}
 use Rattle.stripe_core.specs.Stripe.{kept_in, seen_in, state_in}
 use Rattle.stripe_read.proofs.Giving.{no_piece, stop_adds, stop_goes, stop_reads}
 use Rattle.stripe_read.proofs.Staying.{leaves_open, leaves_quiet, leaves_reader, told_behind}
@@ -25,7 +26,7 @@ returns-clause-adds g c =
 pub returns-clause-reads : goal.returns-clause-reads
 returns-clause-reads g c = λ into.
     stop_reads (state_in g.C.Chronicle c.args.stripe.now) c.args.reader.now c.at_end-answer.result c.requires.none c.at_end-answer.ensures (seen_in g.D.Disk g.R.Directory c.args.stripe.now).device
-    (seen_in g.D.Disk g.R.Directory c.note.new.self).device into c.requires.quiet
+    (seen_in g.D.Disk g.R.Directory c.note.new.self).device into (ap (λ (d : Device). d.past) c.note.ensures.still) c.requires.quiet
 
 pub returns-clause-goes : goal.returns-clause-goes
 returns-clause-goes g c = stop_goes (state_in g.C.Chronicle c.args.stripe.now) c.args.reader.now c.at_end-answer.result c.requires.none c.at_end-answer.ensures

@@ -16,7 +16,7 @@ pub returns-in-Ok-clause-does : goal.returns-in-Ok-clause-does
 returns-in-Ok-clause-does g c =
     weighed_closes c.args.now (kept_in g.C.Chronicle c.args.stripe.now) (kept_in g.C.Chronicle c.weigh.new.stripe) (kept_in g.C.Chronicle c.end.new.stripe)
     (seen_in g.D.Disk g.R.Directory c.args.stripe.now).device (seen_in g.D.Disk g.R.Directory c.weigh.new.stripe).device (seen_in g.D.Disk g.R.Directory c.end.new.stripe).device
-    c.args.writer.now c.in-Ok.vectors c.end.result c.weigh.ensures.later c.end.ensures.later c.in-Ok.ensures.does c.in-Ok.ensures.displaced c.end.ensures.ends c.end.ensures.does
+    c.args.writer.now c.in-Ok.vectors c.end.result c.weigh.ensures.unharmed.goes c.end.ensures.unharmed.goes c.in-Ok.ensures.does c.in-Ok.ensures.displaced c.end.ensures.ends c.end.ensures.does
 
 pub returns-in-Err-clause-closes : goal.returns-in-Err-clause-closes
 returns-in-Err-clause-closes g c = refused_where (state_in g.C.Chronicle c.args.stripe.now) (state_in g.C.Chronicle c.weigh.new.stripe) c.args.writer.now c.in-Err.why c.requires.open c.in-Err.ensures.weighs

@@ -28,7 +28,7 @@ pub returns-in-Ok-clause-does : goal.returns-in-Ok-clause-does
 returns-in-Ok-clause-does g c =
     let same = c.make_memory.ensures.same in
     closes_same c.args.now (kept_in g.C.Chronicle c.args.stripe.now) (kept_in g.C.Chronicle c.make_memory.new.stripe) (kept_in g.C.Chronicle c.close_open.new.stripe) _ _ _ c.args.writer.now c.make_memory.new.writer c.close_open.result
-    c.make_memory.ensures.records c.make_memory.ensures.still.faults (record { put = same.put; key = same.key; gathered = same.gathered; rows = same.rows }) c.close_open.ensures.does
+    c.make_memory.ensures.records c.make_memory.ensures.still.past (record { put = same.put; key = same.key; gathered = same.gathered; rows = same.rows }) c.close_open.ensures.does
 
 pub returns-then-not-is_open-clause-own : goal.returns-then-not-is_open-clause-own
 returns-then-not-is_open-clause-own g c = owns_none c.args.writer.now.put (kept_in g.C.Chronicle c.args.stripe.now) (kept_in g.C.Chronicle c.args.stripe.now) refl

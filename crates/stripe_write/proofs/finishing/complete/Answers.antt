@@ -4,6 +4,7 @@ use Rattle.stripe_core.specs.Stripe.{kept_in, state_in}
 use Rattle.stripe_vectors.specs.declared.spelling.Spelled.{Spelled}
 use Rattle.stripe_write.proofs.Owning.{owns, owns_none, owns_vector, then_owns}
 use Rattle.stripe_write.proofs.Completing.{completes, is_closing, not_placed, refused_finishes, refused_writer, vector_for, vector_of_put}
+use Rattle.stripe_core.proofs.Between.{between-trans}
 use Rattle.stripe_write.proofs.finishing.complete.Goals as goal
 
 pub place_piece-requires-clause-placing : goal.place_piece-requires-clause-placing
@@ -31,7 +32,7 @@ returns-in-Ok-clause-does g c =
     completes c.args.now (kept_in g.C.Chronicle c.args.stripe.now) (kept_in g.C.Chronicle c.commit.new.stripe) _ _ w c.args.vectors.now c.current-spelled.result.now.pin c.deref.result.now closing
     (vector_of_put s w c.args.vectors.now c.current-spelled.result.now.pin c.deref.result.now closing c.requires.spelled c.requires.room
     (c.deref.ensures.value ∙ ap (λ (x : Spelled). x.bytes.items) c.current-spelled.ensures) (ap (λ (x : Spelled). x.pin) c.current-spelled.ensures) c.requires.whole)
-    (kept_in g.C.Chronicle c.place_piece.new.self) _ c.in-Ok.field-0 c.commit.result (ap (λ (d : Device). d.faults) c.commit.ensures.still) c.in-Ok.ensures.does
+    (kept_in g.C.Chronicle c.place_piece.new.self) _ c.in-Ok.field-0 c.commit.result (ap (λ (d : Device). d.past) c.commit.ensures.still) c.in-Ok.ensures.does
     c.commit.ensures.adds c.commit.ensures.does
 
 pub returns-in-Err-clause-writer : goal.returns-in-Err-clause-writer
@@ -50,3 +51,6 @@ returns-in-Ok-clause-own g c =
     (owns_vector c.args.writer.now.put (kept_in g.C.Chronicle c.args.stripe.now) (kept_in g.C.Chronicle c.place_piece.new.self) c.args.writer.now.key c.current-spelled.result.now.pin c.deref.result.now c.in-Ok.field-0
     c.in-Ok.ensures.does.adds)
     (owns c.args.writer.now.put (kept_in g.C.Chronicle c.place_piece.new.self) (kept_in g.C.Chronicle c.commit.new.stripe) _ c.commit.ensures.adds (refl, tt))
+
+pub returns-in-Ok-clause-unharmed : goal.returns-in-Ok-clause-unharmed
+returns-in-Ok-clause-unharmed g c = between-trans _ _ _ _ _ _ c.place_piece.ensures.unharmed c.commit.ensures.unharmed

@@ -43,8 +43,9 @@ pub returns-in-Ok-clause-does : goal.returns-in-Ok-clause-does
 returns-in-Ok-clause-does g c =
     let s = state_in g.C.Chronicle c.args.stripe.now in
     let w = c.args.writer.now in
-    behind_room c.args.now (kept_in g.C.Chronicle c.args.stripe.now) (kept_in g.C.Chronicle c.make_room.new.stripe) (kept_in g.C.Chronicle c.end.new.stripe) _ _ _ w c.args.vectors.now
-    (is_closing s w c.requires.quiet c.requires.open c.requires.writer c.requires.cut) c.requires.spelled c.in-Ok.field-0 c.end.result c.make_room.ensures.later c.end.ensures.later
+    behind_room c.args.now (kept_in g.C.Chronicle c.args.stripe.now) (kept_in g.C.Chronicle c.make_room.new.stripe) (kept_in g.C.Chronicle c.end.new.stripe)
+    (seen_in g.D.Disk g.R.Directory c.args.stripe.now).device (seen_in g.D.Disk g.R.Directory c.make_room.new.stripe).device (seen_in g.D.Disk g.R.Directory c.end.new.stripe).device w c.args.vectors.now
+    (is_closing s w c.requires.quiet c.requires.open c.requires.writer c.requires.cut) c.requires.spelled c.in-Ok.field-0 c.end.result c.make_room.ensures.unharmed.goes c.end.ensures.unharmed.goes
     c.in-Ok.ensures.does c.end.ensures.does
 
 pub returns-in-Err-clause-does : goal.returns-in-Err-clause-does
@@ -56,13 +57,13 @@ returns-in-Err-clause-does g c =
 
 pub returns-in-Err-clause-quiet : goal.returns-in-Err-clause-quiet
 returns-in-Err-clause-quiet g c =
-    let stopped = stop_in (RoomsAsAsked c.args.now (kept_in g.C.Chronicle c.args.stripe.now) (kept_in g.C.Chronicle c.make_room.new.stripe) (seen_in g.D.Disk g.R.Directory c.args.stripe.now).device.faults
+    let stopped = stop_in (RoomsAsAsked c.args.now (kept_in g.C.Chronicle c.args.stripe.now) (kept_in g.C.Chronicle c.make_room.new.stripe) (seen_in g.D.Disk g.R.Directory c.args.stripe.now).device.past
     (seen_in g.D.Disk g.R.Directory c.make_room.new.stripe).device (bytes_now (state_in g.C.Chronicle c.args.stripe.now) c.args.writer.now c.args.vectors.now)) c.in-Err.why c.in-Err.ensures.does in
     (room_leaves c.args.now (kept_in g.C.Chronicle c.args.stripe.now) (kept_in g.C.Chronicle c.make_room.new.stripe) _ _ _ _ stopped.1).pending ∙ c.requires.quiet
 
 pub returns-in-Err-clause-writer : goal.returns-in-Err-clause-writer
 returns-in-Err-clause-writer g c =
-    let stopped = stop_in (RoomsAsAsked c.args.now (kept_in g.C.Chronicle c.args.stripe.now) (kept_in g.C.Chronicle c.make_room.new.stripe) (seen_in g.D.Disk g.R.Directory c.args.stripe.now).device.faults
+    let stopped = stop_in (RoomsAsAsked c.args.now (kept_in g.C.Chronicle c.args.stripe.now) (kept_in g.C.Chronicle c.make_room.new.stripe) (seen_in g.D.Disk g.R.Directory c.args.stripe.now).device.past
     (seen_in g.D.Disk g.R.Directory c.make_room.new.stripe).device (bytes_now (state_in g.C.Chronicle c.args.stripe.now) c.args.writer.now c.args.vectors.now)) c.in-Err.why c.in-Err.ensures.does in
     left_writer (state_in g.C.Chronicle c.args.stripe.now) (state_in g.C.Chronicle c.make_room.new.stripe) c.args.writer.now
     (room_leaves c.args.now (kept_in g.C.Chronicle c.args.stripe.now) (kept_in g.C.Chronicle c.make_room.new.stripe) _ _ _ _ stopped.1) c.requires.writer
@@ -74,6 +75,6 @@ returns-in-Ok-clause-own g c =
 
 pub returns-in-Err-clause-own : goal.returns-in-Err-clause-own
 returns-in-Err-clause-own g c =
-    let stopped = stop_in (RoomsAsAsked c.args.now (kept_in g.C.Chronicle c.args.stripe.now) (kept_in g.C.Chronicle c.make_room.new.stripe) (seen_in g.D.Disk g.R.Directory c.args.stripe.now).device.faults
+    let stopped = stop_in (RoomsAsAsked c.args.now (kept_in g.C.Chronicle c.args.stripe.now) (kept_in g.C.Chronicle c.make_room.new.stripe) (seen_in g.D.Disk g.R.Directory c.args.stripe.now).device.past
     (seen_in g.D.Disk g.R.Directory c.make_room.new.stripe).device (bytes_now (state_in g.C.Chronicle c.args.stripe.now) c.args.writer.now c.args.vectors.now)) c.in-Err.why c.in-Err.ensures.does in
     owns_room c.args.writer.now.put c.args.now (kept_in g.C.Chronicle c.args.stripe.now) (kept_in g.C.Chronicle c.make_room.new.stripe) _ _ _ _ stopped.1

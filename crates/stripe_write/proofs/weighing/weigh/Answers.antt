@@ -9,13 +9,14 @@ use Rattle.stripe_write.proofs.Owning.{owns_fit, owns_none, owns_read, then_owns
 use Rattle.stripe_write.proofs.Gathering.{still_writer}
 use Rattle.stripe_write.proofs.WeighingFits.{faults, wants, weighs, weighs_where}
 use Rattle.stripe_write.proofs.WeighingReads.{same_displaced, same_pending, same_puts, still_writing}
+use Rattle.stripe_core.proofs.Between.{between-trans}
 use Rattle.stripe_write.proofs.weighing.weigh.Goals as goal
 
 pub returns-in_err-found-clause-does : goal.returns-in_err-found-clause-does
 returns-in_err-found-clause-does g c =
     let wanting = err_from_is_err_and c.from_residual.result c.from_residual.ensures.1 in
     wants (kept_in g.C.Chronicle c.args.stripe.now) (kept_in g.C.Chronicle c.read_vector.new.stripe) (seen_in g.D.Disk g.R.Directory c.args.stripe.now).device
-    (seen_in g.D.Disk g.R.Directory c.read_vector.new.stripe).device c.args.writer.now c.in_err-found.field-0.0 _ (wanting.1 ∙ ap Err wanting.2) c.in_err-found.ensures.err
+    (seen_in g.D.Disk g.R.Directory c.read_vector.new.stripe).device c.args.writer.now c.in_err-found.field-0.0 _ (wanting.1 ∙ ap Err wanting.2) c.in_err-found.ensures.err c.read_vector.ensures.seen
 
 pub returns-in_err-found-clause-writer : goal.returns-in_err-found-clause-writer
 returns-in_err-found-clause-writer g c = subst (λ k. IsWriterOf (state_of k) c.args.writer.now) (sym c.in_err-found.ensures.err) c.requires.writer
@@ -113,5 +114,8 @@ returns-in-None-clause-own g c =
 
 pub returns-in-Some-clause-counts : goal.returns-in-Some-clause-counts
 returns-in-Some-clause-counts g c =
-    read_counted (state_in g.C.Chronicle c.args.stripe.now) (seen_in g.D.Disk g.R.Directory c.args.stripe.now).device (seen_in g.D.Disk g.R.Directory c.read_vector.new.stripe).device c.args.writer.now.key
-    c.in_ok-found.found c.in-Some.count (sym c.fault_in.ensures ∙ c.in-Some.is) c.in_ok-found.ensures.finds
+    read_counted (kept_in g.C.Chronicle c.args.stripe.now) (kept_in g.C.Chronicle c.read_vector.new.stripe) (seen_in g.D.Disk g.R.Directory c.args.stripe.now).device (seen_in g.D.Disk g.R.Directory c.read_vector.new.stripe).device c.args.writer.now.key
+    c.in_ok-found.found c.in-Some.count (sym c.fault_in.ensures ∙ c.in-Some.is) c.in_ok-found.ensures.adds c.read_vector.ensures.stripe.pieces.faults c.in_ok-found.ensures.finds
+
+pub returns-in-None-clause-unharmed : goal.returns-in-None-clause-unharmed
+returns-in-None-clause-unharmed g c = between-trans _ _ _ _ _ _ c.read_vector.ensures.unharmed c.fit.ensures.unharmed

@@ -1,11 +1,16 @@
-use Rattle.std.proofs.Common.{sym, ◌∙◌, ap, subst, [], ◌∷◌}
+use Rattle.std.proofs.Common.{◌≡◌, ℕ, Result, Err, sym, ◌∙◌, ap, subst, [], ◌∷◌}
+use Rattle.std.proofs.lemmas.Result.{err_from_is_err_and}
 use Rattle.cache_model.specs.declared.record.Rec.TheVariants as rec
-use Rattle.cache_model.specs.Kept.{state_of}
+use Rattle.cache_model.specs.Kept.{state_of, with_records}
 use Rattle.cache_model.specs.Legal.{IsQuiet, is_writing}
 use Rattle.stripe_core.specs.Acts.{GivesUpAsAsked}
+use Rattle.stripe_core.specs.declared.refusal.Refusal.{Refusal}
 use Rattle.stripe_core.specs.Stripe.{kept_in, state_in}
 use Rattle.stripe_write.specs.Writers.{IsWriterOf}
+use Rattle.stripe_write.specs.Writes.{abort_adds}
+use Rattle.stripe_write.proofs.Spending.{nothing_more}
 use Rattle.stripe_write.proofs.Ended.{giving_up, no_writer, over}
+use Rattle.stripe_core.proofs.Between.{between-trans}
 use Rattle.stripe_write.proofs.writing.abort_write.Goals as goal
 
 pub returns-then-not-is_open-clause-does : goal.returns-then-not-is_open-clause-does
@@ -28,3 +33,13 @@ returns-clause-writer g c =
     subst (λ t. IsWriterOf t c.args.writer.now)
     (sym (ap state_of c.give_up.ensures.adds ∙ Rattle.cache_model.proofs.Steps.after_all-append (kept_in g.C.Chronicle c.prepare.new.self).base (kept_in g.C.Chronicle c.prepare.new.self).since (rec.Aborted c.args.writer.now.put c.args.writer.now.key ∷ [])))
     (no_writer (state_in g.C.Chronicle c.prepare.new.self) c.args.writer.now c.args.writer.now.key)
+
+pub returns-clause-unharmed : goal.returns-clause-unharmed
+returns-clause-unharmed g c = between-trans _ _ _ _ _ _ c.prepare.ensures.unharmed c.give_up.ensures.unharmed
+
+pub returns-in_err-prepare-clause-adds : goal.returns-in_err-prepare-clause-adds
+returns-in_err-prepare-clause-adds g c =
+    let k = kept_in g.C.Chronicle c.args.stripe.now in
+    let wanting = err_from_is_err_and c.from_residual.result c.from_residual.ensures.1 in
+    subst (λ (r : Result ℕ Refusal). kept_in g.C.Chronicle c.prepare.new.self ≡ with_records k (abort_adds c.args.writer.now.key r)) (sym (wanting.1 ∙ ap Err wanting.2))
+    (c.prepare.ensures.records ∙ sym (nothing_more k))

@@ -22,7 +22,7 @@ place_piece-requires-clause-placing g c =
 pub returns-clause-does : goal.returns-clause-does
 returns-clause-does g c =
     cuts_behind c.args.writer.now c.len.result c.total.result c.deref-payload.result.now c.len.ensures.len c.total.ensures c.deref-payload.ensures.value c.args.now
-    (kept_in g.C.Chronicle c.args.stripe.now) (kept_in g.C.Chronicle c.place_piece.new.self) (seen_in g.D.Disk g.R.Directory c.args.stripe.now).device.faults (seen_in g.D.Disk g.R.Directory c.place_piece.new.self).device
+    (kept_in g.C.Chronicle c.args.stripe.now) (kept_in g.C.Chronicle c.place_piece.new.self) (seen_in g.D.Disk g.R.Directory c.args.stripe.now).device.past (seen_in g.D.Disk g.R.Directory c.place_piece.new.self).device
     (Ok c.in_ok-placed.placed) c.in_ok-placed.ensures.does
 
 pub returns-clause-quiet : goal.returns-clause-quiet
@@ -30,7 +30,7 @@ returns-clause-quiet g c =
     let old = kept_in g.C.Chronicle c.args.stripe.now in
     let new = kept_in g.C.Chronicle c.place_piece.new.self in
     let w = c.args.writer.now in
-    let cuts : CutsAsAsked c.args.now old new (seen_in g.D.Disk g.R.Directory c.args.stripe.now).device.faults (seen_in g.D.Disk g.R.Directory c.place_piece.new.self).device (next_id w) w.pin (next_start w) w.gathered.items
+    let cuts : CutsAsAsked c.args.now old new (seen_in g.D.Disk g.R.Directory c.args.stripe.now).device.past (seen_in g.D.Disk g.R.Directory c.place_piece.new.self).device (next_id w) w.pin (next_start w) w.gathered.items
     (Ok c.in_ok-placed.placed) = returns-clause-does g c in
     subst IsQuiet (sym (state_behind old new cuts.added cuts.adds)) (cut_quiet (state_in g.C.Chronicle c.args.stripe.now) (next_id w) w.pin (next_start w) w.gathered.items cuts.added c.in_ok-placed.placed (next_no_vector w) cuts.shape c.requires.quiet)
 
@@ -39,7 +39,7 @@ returns-clause-writer g c =
     let old = kept_in g.C.Chronicle c.args.stripe.now in
     let new = kept_in g.C.Chronicle c.place_piece.new.self in
     let w = c.args.writer.now in
-    let cuts : CutsAsAsked c.args.now old new (seen_in g.D.Disk g.R.Directory c.args.stripe.now).device.faults (seen_in g.D.Disk g.R.Directory c.place_piece.new.self).device (next_id w) w.pin (next_start w) w.gathered.items
+    let cuts : CutsAsAsked c.args.now old new (seen_in g.D.Disk g.R.Directory c.args.stripe.now).device.past (seen_in g.D.Disk g.R.Directory c.place_piece.new.self).device (next_id w) w.pin (next_start w) w.gathered.items
     (Ok c.in_ok-placed.placed) = returns-clause-does g c in
     cut_writer (state_in g.C.Chronicle c.args.stripe.now) (state_in g.C.Chronicle c.place_piece.new.self) w _ cuts.added c.in_ok-placed.placed c.requires.ready cuts.shape (state_behind old new cuts.added cuts.adds)
     refl refl refl refl refl refl c.clear.ensures.items
@@ -50,24 +50,24 @@ pub returns-in_err-placed-clause-does : goal.returns-in_err-placed-clause-does
 returns-in_err-placed-clause-does g c =
     let refused = err_from_is_err_and c.from_residual.result c.from_residual.ensures.1 in
     rw (refused.1, refused.2) (cuts_behind c.args.writer.now c.len.result c.total.result c.deref-payload.result.now c.len.ensures.len c.total.ensures c.deref-payload.ensures.value c.args.now
-    (kept_in g.C.Chronicle c.args.stripe.now) (kept_in g.C.Chronicle c.place_piece.new.self) (seen_in g.D.Disk g.R.Directory c.args.stripe.now).device.faults (seen_in g.D.Disk g.R.Directory c.place_piece.new.self).device
+    (kept_in g.C.Chronicle c.args.stripe.now) (kept_in g.C.Chronicle c.place_piece.new.self) (seen_in g.D.Disk g.R.Directory c.args.stripe.now).device.past (seen_in g.D.Disk g.R.Directory c.place_piece.new.self).device
     (Err c.in_err-placed.field-0.0) c.in_err-placed.ensures.does)
 
 pub returns-in_err-placed-clause-number : goal.returns-in_err-placed-clause-number
 returns-in_err-placed-clause-number g c =
     let w = c.args.writer.now in
     let refused = err_from_is_err_and c.from_residual.result c.from_residual.ensures.1 in
-    rw (refused.1, refused.2) (cut_stops c.args.now (kept_in g.C.Chronicle c.args.stripe.now) (kept_in g.C.Chronicle c.place_piece.new.self) (seen_in g.D.Disk g.R.Directory c.args.stripe.now).device.faults
+    rw (refused.1, refused.2) (cut_stops c.args.now (kept_in g.C.Chronicle c.args.stripe.now) (kept_in g.C.Chronicle c.place_piece.new.self) (seen_in g.D.Disk g.R.Directory c.args.stripe.now).device.past
     (seen_in g.D.Disk g.R.Directory c.place_piece.new.self).device (next_id w) w.pin (next_start w) w.gathered.items c.in_err-placed.field-0.0
     (cuts_behind w c.len.result c.total.result c.deref-payload.result.now c.len.ensures.len c.total.ensures c.deref-payload.ensures.value c.args.now
-    (kept_in g.C.Chronicle c.args.stripe.now) (kept_in g.C.Chronicle c.place_piece.new.self) (seen_in g.D.Disk g.R.Directory c.args.stripe.now).device.faults (seen_in g.D.Disk g.R.Directory c.place_piece.new.self).device
+    (kept_in g.C.Chronicle c.args.stripe.now) (kept_in g.C.Chronicle c.place_piece.new.self) (seen_in g.D.Disk g.R.Directory c.args.stripe.now).device.past (seen_in g.D.Disk g.R.Directory c.place_piece.new.self).device
     (Err c.in_err-placed.field-0.0) c.in_err-placed.ensures.does))
 
 pub returns-in_err-placed-clause-quiet : goal.returns-in_err-placed-clause-quiet
 returns-in_err-placed-clause-quiet g c =
     let w = c.args.writer.now in
-    (failed_leaves c.args.now (kept_in g.C.Chronicle c.args.stripe.now) (kept_in g.C.Chronicle c.place_piece.new.self) (seen_in g.D.Disk g.R.Directory c.args.stripe.now).device.faults
+    (failed_leaves c.args.now (kept_in g.C.Chronicle c.args.stripe.now) (kept_in g.C.Chronicle c.place_piece.new.self) (seen_in g.D.Disk g.R.Directory c.args.stripe.now).device.past
     (seen_in g.D.Disk g.R.Directory c.place_piece.new.self).device (next_id w) w.pin (next_start w) w.gathered.items c.in_err-placed.field-0.0
     (cuts_behind w c.len.result c.total.result c.deref-payload.result.now c.len.ensures.len c.total.ensures c.deref-payload.ensures.value c.args.now
-    (kept_in g.C.Chronicle c.args.stripe.now) (kept_in g.C.Chronicle c.place_piece.new.self) (seen_in g.D.Disk g.R.Directory c.args.stripe.now).device.faults (seen_in g.D.Disk g.R.Directory c.place_piece.new.self).device
+    (kept_in g.C.Chronicle c.args.stripe.now) (kept_in g.C.Chronicle c.place_piece.new.self) (seen_in g.D.Disk g.R.Directory c.args.stripe.now).device.past (seen_in g.D.Disk g.R.Directory c.place_piece.new.self).device
     (Err c.in_err-placed.field-0.0) c.in_err-placed.ensures.does)).pending ∙ c.requires.quiet

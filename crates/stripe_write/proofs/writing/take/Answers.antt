@@ -68,7 +68,7 @@ returns-in-Ok-clause-does g c =
     let fragment = ap (λ (x : Geometry). x.fragment) c.geometry.ensures in
     let held : Writer = record { put = w.put; key = w.key; request = w.request; response = w.response; pin = w.pin; gathered = c.extend_from_slice.new.self; table = c.reserve.new.self; sealed = w.sealed } in
     writes_cut c.args.now (kept_in g.C.Chronicle c.args.stripe.now) (kept_in g.C.Chronicle c.prepare.new.self) (kept_in g.C.Chronicle c.cut.new.stripe) _ _ _ w held c.args.bytes.now n c.in-Ok.field-0
-    c.prepare.ensures.records c.prepare.ensures.still.faults
+    c.prepare.ensures.records c.prepare.ensures.still.past
     (record { put = refl; key = refl; request = refl; response = refl; pin = refl; rows = c.reserve.ensures.rows; sealed = refl }) c.in_ok-extend_from_slice.ensures.items
     (cut_now s.geometry w n (omega (arith, few, fragment, c.len-before.ensures, c.min-taken.ensures, c.if-taken-room.false))) c.in-Ok.ensures.does
 
@@ -161,7 +161,7 @@ returns-in-Err-clause-does g c =
     let fragment = ap (λ (x : Geometry). x.fragment) c.geometry.ensures in
     let taken : c.min-taken.result ≡ taken_of s.geometry w c.args.bytes.now = omega (arith, fragment, c.len-before.ensures, c.min-taken.ensures) in
     writes_refused c.args.now (kept_in g.C.Chronicle c.args.stripe.now) (kept_in g.C.Chronicle c.prepare.new.self) (kept_in g.C.Chronicle c.cut.new.stripe) _ _ _ w held c.args.bytes.now c.in-Err.refusal
-    c.prepare.ensures.records c.prepare.ensures.still.faults
+    c.prepare.ensures.records c.prepare.ensures.still.past
     (record { put = refl; key = refl; request = refl; response = refl; pin = refl; rows = c.reserve.ensures.rows; sealed = refl })
     (c.in_ok-extend_from_slice.ensures.items ∙ ap (gathered_with w c.args.bytes.now) taken) c.in-Err.ensures.does
 
