@@ -24,3 +24,6 @@ pub mod ToldFlush
 mod WorkedFlush
 mod ReadPairs
 mod Syncs
+pub mod Forgetting
+pub mod ForgetAnswers
+pub mod KnownPuts

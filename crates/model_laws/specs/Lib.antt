@@ -8,3 +8,4 @@ pub mod VectorLaws
 pub mod FlushLaws
 pub mod Agreeing
 pub mod SyncLaws
+pub mod ForgetLaws
