@@ -9,3 +9,4 @@ pub mod FlushLaws
 pub mod Agreeing
 pub mod SyncLaws
 pub mod ForgetLaws
+pub mod RoomLaws

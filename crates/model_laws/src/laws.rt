@@ -10,6 +10,7 @@ ghost use Rattle.model_laws.specs.Agreeing.{GroupsAgree, OtherCopiesAreBytes, St
 ghost use Rattle.model_laws.specs.PairLaws.{CopiedIsDueAndFits, LookupReadsItsKey, NothingAskedReadsNone, PairsAreBytes, PairsAreGiven, ReaderReadsItsNext};
 ghost use Rattle.model_laws.specs.VectorLaws.{FlushTells, StoppedTells, FormatsTell, OpeningsTell, GroupsTell, StepsTell, VectorsAreKept, MergedIsSpelled};
 ghost use Rattle.model_laws.specs.SyncLaws.{FinishedIsLast, FollowerAllowsSync, FollowerHasSync, MarksStay, OnlyLaterAreAllowed, OpenedIsTold, SyncIsHeld};
+ghost use Rattle.model_laws.specs.RoomLaws.{InsertFits, SlotIsMade};
 ghost use Rattle.model_laws.specs.ForgetLaws.{FewAreDead, ForgettingIsSound, ForgettingLeaves, ForgettingTells, ForgettingTwice, ForgottenIsDead, ForgottenIsUnrecorded, GivenStays, GreatestAreKept, KeptIsAnswered, KnownAreFalling, NamedIsKept, NoRecordIsTold, ReaderIsAnswered, WrittenIsKept};
 ghost use Rattle.cache_model.specs.Vectors.{IsVectorAs, LiveVectorIsListed, VectorIsReadBack};
 
@@ -458,4 +459,14 @@ pub fn few_are_dead()
 /// Of what nothing is on record it is told how many puts were forgotten, once one was.
 pub fn no_record_is_told()
     ensures { NoRecordIsTold }
+{}
+
+/// Behind what the entry of a piece displaces there is a slot for it.
+pub fn slot_is_made()
+    ensures { SlotIsMade }
+{}
+
+/// An insert leaves a slot for each live piece, in each segment.
+pub fn insert_fits()
+    ensures { InsertFits }
 {}
