@@ -16,12 +16,13 @@ none_is h = cc
 pub same_some : {X : Type 0} (x y : X) (o : Option X) → o ≡ Some x → o ≡ Some y → x ≡ y
 same_some x y o e f = ap (λ t. unwrap_or t x) (sym e ∙ f)
 
-found_case : (t : Bool) (test : PutRow → Bool) (y x : PutRow) (ys : List PutRow) → test y ≡ t → (find test ys ≡ Some x → test x ≡ true)
+found_case : {X : Type 0} (t : Bool) (test : X → Bool) (y x : X) (ys : List X) → test y ≡ t → (find test ys ≡ Some x → test x ≡ true)
     → cond t (Some y) (find test ys) ≡ Some x → test x ≡ true
 found_case true test y x ys is others found = subst (λ z. test z ≡ true) (same_some y x (Some y) refl found) is
 found_case false test y x ys is others found = others found
 
-found_passes : (test : PutRow → Bool) (ys : List PutRow) (x : PutRow) → find test ys ≡ Some x → test x ≡ true
+-- what was found passes
+pub found_passes : {X : Type 0} (test : X → Bool) (ys : List X) (x : X) → find test ys ≡ Some x → test x ≡ true
 found_passes test [] x found = none_is found
 found_passes test (y ∷ ys) x found = found_case (test y) test y x ys refl (found_passes test ys x) found
 

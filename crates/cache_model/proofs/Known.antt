@@ -20,7 +20,8 @@ found_by places id first row other true e known rest h =
     ap (λ (r : Row). lookup (λ p. p == r.place) places) (sym same) ∙ (known ∙ ap Some (same_piece-true first.id id e))
 found_by places id first row other false e known rest h = rest h
 
-found_is_known : (places : List (ℕ × PieceId)) (id : PieceId) (rows : List Row) (row : Row) → AreKnown places rows → row_in rows id ≡ Some row → lookup (λ p. p == row.place) places ≡ Some id
+-- so is the place of a row that is found for its piece
+pub found_is_known : (places : List (ℕ × PieceId)) (id : PieceId) (rows : List Row) (row : Row) → AreKnown places rows → row_in rows id ≡ Some row → lookup (λ p. p == row.place) places ≡ Some id
 found_is_known places id [] row known h = cc
 found_is_known places id (first ∷ rows) row known h = found_by places id first row (row_in rows id) (same_piece first.id id) refl known.0 (found_is_known places id rows row known.1) h
 
@@ -32,7 +33,11 @@ stood : (s : State) (o : Option Row) (row : Row) → option_and_then (only_live 
 stood s None row h = cc
 stood s (Some other) row h = ap Some (stood_by s other row (is_live s other) refl h)
 
+-- so is that of a live piece
+pub live_place_is_known : (s : State) (id : PieceId) (row : Row) → IsSound s → live_row_of s id ≡ Some row → lookup (λ p. p == row.place) s.places ≡ Some id
+live_place_is_known s id row h live = found_is_known s.places id s.rows row h.known (stood s (row_in s.rows id) row live)
+
 pub live_is_known : (s : State) (id : PieceId) (row : Row) → IsSound s → live_row_of s id ≡ Some row → piece_at s row.place ≡ Some id
 live_is_known s id row h live =
-    let known : lookup (λ p. p == row.place) s.places ≡ Some id = found_is_known s.places id s.rows row h.known (stood s (row_in s.rows id) row live) in
+    let known : lookup (λ p. p == row.place) s.places ≡ Some id = live_place_is_known s id row h live in
     rw (known, live, eq-eqb row.place row.place refl) refl

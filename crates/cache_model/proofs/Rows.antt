@@ -50,7 +50,7 @@ part-trans (keep p) (keep q) = keep (part-trans p q)
 part-trans (skip p) (keep q) = skip (part-trans p q)
 part-trans p (skip q) = skip (part-trans p q)
 
-not_among-part : (id : PieceId) {some all : List Row} → ArePart some all → NotAmong id all → NotAmong id some
+pub not_among-part : (id : PieceId) {some all : List Row} → ArePart some all → NotAmong id all → NotAmong id some
 not_among-part id done h = h
 not_among-part id (keep p) h = (h.0, not_among-part id p h.1)
 not_among-part id (skip p) h = not_among-part id p h.1

@@ -36,7 +36,8 @@ pub all_among : (P : Row → Type 0) (rows : List Row) → ((row : Row) → IsAm
 all_among P [] f = tt
 all_among P (x ∷ rows) f = (f x (inl refl), all_among P rows (λ row h. f row (inr h)))
 
-differs : (id : PieceId) (rows : List Row) (row : Row) → NotAmong id rows → IsAmong row rows → same_piece id row.id ≡ false
+-- a piece that is not among rows is that of none of them
+pub differs : (id : PieceId) (rows : List Row) (row : Row) → NotAmong id rows → IsAmong row rows → same_piece id row.id ≡ false
 differs id [] row h k = absurd k
 differs id (x ∷ rows) row h k = elim k [ inl e ↦ ap (λ (r : Row). same_piece id r.id) e ∙ h.0 | inr m ↦ differs id rows row h.1 m ]
 

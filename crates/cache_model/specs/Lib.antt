@@ -15,3 +15,4 @@ pub mod Vectors
 pub mod Opening
 pub mod Openings
 pub mod Syncs
+pub mod Forgetting

@@ -11,7 +11,7 @@ use Rattle.doc_header.specs.Document.{digest_of_document}
 use Rattle.alternate_vector.specs.Alternates.{Stored}
 use Rattle.cache_model.specs.declared.record.Rec.{Rec}
 use Rattle.cache_model.specs.declared.record.Rec.TheVariants as rec
-use Rattle.cache_model.specs.State.{State, Row, live_rows, place_now, cursor_next}
+use Rattle.cache_model.specs.State.{State, Row, cursor_next, live_rows, place_now, without}
 use Rattle.cache_model.specs.Permit.{Permit}
 
 -- below this a placed piece ends, a buffer begins, and the numbers of puts stand; copies may end above it
@@ -80,11 +80,16 @@ is_full_with s bucket rows =
 abbrev pub is_full_for : State → PieceId → Bool
 is_full_for s piece = is_full_with s (bucket_of_piece s piece) (rows_of_segment s (segment_of_piece s piece))
 
--- a tenth of the slots that are no roots, rounded up, each once
-pub record ArePurged (rows purged : List Row) (buckets : ℕ) : Type 0 where
+-- the rows that are left of these once the others are taken out
+abbrev pub rows_left : List Row → List Row → List Row
+rows_left gone rows = fold (λ left (row : Row). without row.id left) rows gone
+
+-- a tenth of the slots that are no roots, rounded up, each once; behind them there is a slot for one more entry in the bucket
+pub record ArePurged (s : State) (bucket : ℕ) (rows purged : List Row) : Type 0 where
   pub each : All (Contains rows) purged
   pub apart : AllPairs (λ (a b : Row). a.id ≢ b.id) purged
-  pub tenth : length purged ≡ (3 * buckets + 9) / 10
+  pub tenth : length purged ≡ (3 * s.geometry.buckets + 9) / 10
+  pub slot : is_full_with s bucket (rows_left purged rows) ≡ false
 
 -- `live` counts the live pieces of the segment before the purge, those that are purged included
 abbrev pub displaced_record : ℕ → ℕ → Row → Rec
@@ -97,6 +102,6 @@ displaces p s piece = p.packed && is_full_for s piece
 -- the records of what the entry of a piece displaces: nothing where there is a slot for it
 pub record MayDisplace (p : Permit) (s : State) (piece : PieceId) (added : List Rec) : Type 0 where
   pub purged : List Row
-  pub full : displaces p s piece ≡ true → ArePurged (rows_of_segment s (segment_of_piece s piece)) purged s.geometry.buckets
+  pub full : displaces p s piece ≡ true → ArePurged s (bucket_of_piece s piece) (rows_of_segment s (segment_of_piece s piece)) purged
   pub free : displaces p s piece ≡ false → purged ≡ []
   pub is : added ≡ map (displaced_record (segment_of_piece s piece) (length (rows_of_segment s (segment_of_piece s piece)))) purged

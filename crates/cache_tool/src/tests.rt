@@ -1,7 +1,10 @@
 // What no clause says: worked scripts over memory, and devices and streams that fail.
 ghost use Rattle.std.specs.Prelude.{◌≡◌, true, false};
+ghost use Rattle.std.proofs.Common.{arith};
+ghost use Rattle.std.proofs.Props.{props};
 ghost use Rattle.device_log.specs.DeviceLog.{calls_of};
 ghost use Rattle.device_log.specs.Faults.{faults_of, obeys_switch};
+ghost use Rattle.device_log.proofs.ReadLaws.{reads_are_prop};
 ghost use Rattle.logged_disk.specs.MemDisk.{mem_state};
 ghost use Rattle.device_bay.specs.Register.{IsRegister};
 
@@ -371,6 +374,8 @@ impl Disk for Faulty {
     ghost counted = { λ disk. disk.counted };
 
     ghost obeys = { λ disk. asks_none (obeys_switch (calls_of disk.log) ≡ true) };
+
+    ghost reads = { λ disk trusted. absurd (Prim.omega (arith, trusted)) };
 }
 
 /// A bay of such devices, whose call of this number fails, or none for 0.
@@ -379,7 +384,7 @@ struct FaultyBay {
     flips: bool,
     nth: u64,
     register: Register<Faulty>,
-    ghost is_register: { IsRegister (λ disk. record (mem_state disk.memory) { trust = 0; has_switch = false; past = calls_of disk.log }) register },
+    ghost is_register: { IsRegister (λ disk. record (mem_state disk.memory) { trust = 0; has_switch = false; past = calls_of disk.log }) register } by { Prim.hlevel (props, reads_are_prop) },
 }
 
 impl FaultyBay {

@@ -1,8 +1,9 @@
 -- The calls of a bay as its log has them, the newest first.
 use Rattle.std.specs.Prelude.{◌≡◌, ℕ, ◌+◌, ◌-◌, ◌^◌, ◌==◌, min, Bool, true, ◌&&◌, List, [], ◌∷◌, ◌++◌, All, length}
 use Rattle.device_log.specs.Image.{IsImage}
+use Rattle.device_log.specs.Seen.{ReadsAreSeen}
 use Rattle.device_log.specs.Faults.{IsLog, faults_of, next_count, obeys_switch}
-use Rattle.logged_disk.specs.Device.{State}
+use Rattle.logged_disk.specs.Device.{State, IsTrusted}
 
 -- one call of a bay
 pub data BayCall : Type 0 where
@@ -86,6 +87,8 @@ pub record IsDevice (s : State) : Type 0 where
   pub counted : s.faults ≡ faults_of s.past
   -- where it has a switch, its calls failed where that was told to, and nowhere else
   pub obeys : s.has_switch ≡ true → obeys_switch s.past ≡ true
+  -- where it is trusted, each read of its log gave what was seen
+  pub reads : IsTrusted s → ReadsAreSeen s.first s.past
 
 -- what a bay can have done
 pub record IsBayLog (past : List BayCall) : Type 0 where

@@ -1,11 +1,12 @@
 -- What a contract sees of a `HostDisk`.
 use Rattle.std.specs.Prelude.{◌≡◌, ℕ, true}
 use Rattle.device_log.specs.Image.{Image, IsImage}
+use Rattle.device_log.specs.Seen.{ReadsAreSeen}
 use Rattle.device_log.specs.Faults.{IsLog, faults_of, obeys_switch}
-use Rattle.logged_disk.specs.Device.{State}
+use Rattle.logged_disk.specs.Device.{State, IsTrusted}
 use Rattle.logged_disk.specs.MemDisk.{mem_state}
-use Rattle.logged_disk.specs.MemoryFacts.{memory_is_log, memory_was_image, memory_counted, memory_obeys}
-use Rattle.logged_disk.specs.FileDisk.{file_state, file_is_log, file_counted, file_obeys}
+use Rattle.logged_disk.specs.MemoryFacts.{memory_is_log, memory_was_image, memory_counted, memory_obeys, memory_reads}
+use Rattle.logged_disk.specs.FileDisk.{file_state, file_is_log, file_counted, file_obeys, file_reads}
 use Rattle.device_bay.specs.declared.host_disk.HostDisk.{HostDisk}
 use Rattle.device_bay.specs.declared.host_disk.HostDisk.TheVariants.{Memory, File}
 
@@ -34,3 +35,9 @@ pub host_obeys : {S : Type 0} (first : ℕ → Image) (disk : HostDisk S)
     → obeys_switch (host_state first disk).past ≡ true
 host_obeys first (Memory disk) = memory_obeys disk
 host_obeys first (File disk) = file_obeys first disk
+
+pub host_reads : {S : Type 0} (first : ℕ → Image) (disk : HostDisk S)
+    → IsTrusted (host_state first disk)
+    → ReadsAreSeen (host_state first disk).first (host_state first disk).past
+host_reads first (Memory disk) = memory_reads disk
+host_reads first (File disk) = file_reads first disk

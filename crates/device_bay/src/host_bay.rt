@@ -1,5 +1,7 @@
 // The bay of the host: devices in memory and in files.
 ghost use Rattle.std.specs.Prelude.{◌≡◌, ℕ, ◌≤◌, true, false, None, IfSome};
+ghost use Rattle.std.proofs.Props.{props};
+ghost use Rattle.device_log.proofs.ReadLaws.{reads_are_prop};
 ghost use Rattle.logged_disk.specs.FileDisk.{file_state, IsAttached};
 ghost use Rattle.device_bay.specs.Bay.{is_word_name};
 ghost use Rattle.device_bay.specs.Register.{IsRegister};
@@ -19,7 +21,7 @@ use std::{io, str};
 pub struct HostBay<R, S: FileStart> {
     files: R,
     register: Register<HostDisk<S>>,
-    ghost is_register: { IsRegister (host_state S.first) register },
+    ghost is_register: { IsRegister (host_state S.first) register } by { Prim.hlevel (props, reads_are_prop) },
 }
 
 /// Opens a file for reading and writing, with nothing of it pending. For no blocks it has to be

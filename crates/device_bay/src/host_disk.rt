@@ -18,7 +18,7 @@ pub enum HostDisk<S> {
 }
 
 impl<S: FileStart> Disk for HostDisk<S> {
-    ghost use Rattle.device_bay.specs.HostDisk.{host_state, host_is_log, host_was_image, host_counted, host_obeys};
+    ghost use Rattle.device_bay.specs.HostDisk.{host_state, host_is_log, host_was_image, host_counted, host_obeys, host_reads};
 
     ghost state = { λ disk. host_state S.first disk };
 
@@ -71,6 +71,8 @@ impl<S: FileStart> Disk for HostDisk<S> {
     ghost counted = { host_counted S.first };
 
     ghost obeys = { host_obeys S.first };
+
+    ghost reads = { host_reads S.first };
 }
 
 // Each call but the first has a switch, so it is one of memory.

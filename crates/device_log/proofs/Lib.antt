@@ -1,6 +1,7 @@
 pub mod Spans
 pub mod Puts
 pub mod SeenLaws
+pub mod ReadLaws
 pub mod LeftLaws
 pub mod CallLaws
 pub mod FlipLaws

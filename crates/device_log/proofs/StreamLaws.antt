@@ -1,6 +1,6 @@
 -- The reads and writes of calls, and of more calls behind them.
-use Rattle.std.proofs.Common.{◌≡◌, true, false, List, [], ◌∷◌, ◌++◌, sym, ◌∙◌, ap, append_assoc, append-nil, refl}
-use Rattle.std.specs.Prelude.{IsTrue, ◌||◌}
+use Rattle.std.proofs.Common.{◌≡◌, List, [], ◌∷◌, ◌++◌, sym, ◌∙◌, ap, append_assoc, append-nil, refl}
+use Rattle.std.specs.Prelude.{◌||◌}
 use Rattle.device_log.specs.Streams.{SourceRead, GaveBytes, CameToEnd, RefusedRead, SinkWrite, TookBytes, RefusedWrite, given_by, has_ended, taken_by}
 
 pub given_more : (newer older : List SourceRead) → given_by (newer ++ older) ≡ given_by older ++ given_by newer

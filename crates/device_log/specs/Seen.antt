@@ -1,6 +1,6 @@
 -- What a device's log says is seen on it, what is pending, and what a power cut may leave.
 use Rattle.std.specs.Prelude.{◌≡◌, ℕ, ◌/◌, ◌==◌, Bool, true, false, ◌||◌, if◌then◌else◌, List, [], ◌∷◌, length}
-use Rattle.device_log.specs.Image.{Image, IsImage, in_range, put, within, flipped}
+use Rattle.device_log.specs.Image.{Image, IsImage, span, in_range, put, within, flipped}
 use Rattle.device_log.specs.Calls.{ToRead, ToWrite, ToSync, Call, Read, Wrote, Synced, RefusedCall, Told, PowerCut, Flipped}
 
 -- what is seen behind the calls on a device that held the first image
@@ -16,6 +16,18 @@ seen_of first (RefusedCall ToSync count ∷ older) = seen_of first older
 seen_of first (Told act ∷ older) = seen_of first older
 seen_of first (PowerCut choice left ∷ older) = put 0 left (seen_of first older)
 seen_of first (Flipped at byte ∷ older) = flipped at byte (seen_of first older)
+
+-- Each read that went gave what was seen behind the calls before it.
+unfoldable pub ReadsAreSeen : Image → List Call → Type 0
+ReadsAreSeen first [] = Unit {0}
+ReadsAreSeen first (Read at bytes ∷ older) =
+    (bytes ≡ span (seen_of first older) at (length bytes / 512)) × ReadsAreSeen first older
+ReadsAreSeen first (Wrote at bytes ∷ older) = ReadsAreSeen first older
+ReadsAreSeen first (Synced ∷ older) = ReadsAreSeen first older
+ReadsAreSeen first (RefusedCall what count ∷ older) = ReadsAreSeen first older
+ReadsAreSeen first (Told act ∷ older) = ReadsAreSeen first older
+ReadsAreSeen first (PowerCut choice left ∷ older) = ReadsAreSeen first older
+ReadsAreSeen first (Flipped at byte ∷ older) = ReadsAreSeen first older
 
 -- The block was written, or was to be written, since the last sync or cut; where none came, any
 -- block of a device that was attached unsettled.

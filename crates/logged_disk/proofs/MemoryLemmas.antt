@@ -6,7 +6,7 @@ use Rattle.device_log.specs.declared.choice.CutChoice.{CutChoice}
 use Rattle.device_log.specs.declared.choice.CutChoice.TheVariants.{Lost, Kept, Torn, Junk}
 use Rattle.device_log.specs.Image.{blank, span, in_range, put, turned, flipped}
 use Rattle.device_log.specs.Calls.{Asked, Fail, StopAfter, Call, Read, Wrote, Synced, RefusedCall, Told, PowerCut, Flipped}
-use Rattle.device_log.specs.Seen.{seen_of, kept_of}
+use Rattle.device_log.specs.Seen.{seen_of, kept_of, ReadsAreSeen}
 use Rattle.device_log.specs.Cuts.{write_over, torn_block, junk_block, left_by}
 use Rattle.device_log.specs.Faults.{IsLog, faults_of, next_count, is_due, is_stopped, fails_next, obeys_switch}
 use Rattle.device_log.proofs.Puts.{blank_is_image, span_put_low, span_put_high}
@@ -83,9 +83,10 @@ module _ (written : Written) (pending : Pending) (switch : Switch) (faults : ℕ
     same : result ≡ false → count ≡ faults_of past
     same goes = counts.counted ∙ (ap (λ b. if b then next_count faults else faults) goes ∙ is.counted)
 
-    pub memory_read : (at : ℕ) (bytes : List ℕ) → result ≡ false → IsMemory written pending after count (Read at bytes ∷ past)
-    unfolding seen_of kept_of write_over obeys_switch faults_of
-    memory_read at bytes goes = record {
+    pub memory_read : (at : ℕ) (bytes : List ℕ) → bytes ≡ span (seen_of blank past) at (length bytes / 512) → result ≡ false
+        → IsMemory written pending after count (Read at bytes ∷ past)
+    unfolding seen_of kept_of ReadsAreSeen write_over obeys_switch faults_of
+    memory_read at bytes gives goes = record {
       seen = is.seen;
       kept = is.kept;
       over = is.over;
@@ -93,13 +94,14 @@ module _ (written : Written) (pending : Pending) (switch : Switch) (faults : ℕ
       obeyed = obeys_read at bytes;
       obeys = went goes;
       counted = same goes;
+      reads = (gives, is.reads);
     }
 
     pub memory_wrote : (new : Written) (more : Pending) (at : ℕ) (bytes : List ℕ)
         → ((j : ℕ) → seen_in new j ≡ put at bytes (seen_in written) j) → ((j : ℕ) → kept_in new more j ≡ kept_in written pending j)
         → ((j : ℕ) → over_in more j ≡ (if in_range at (length bytes / 512) j then Some at else over_in pending j)) → AreStored new more
         → result ≡ false → IsMemory new more after count (Wrote at bytes ∷ past)
-    unfolding seen_of kept_of write_over obeys_switch faults_of
+    unfolding seen_of kept_of ReadsAreSeen write_over obeys_switch faults_of
     memory_wrote new more at bytes seen kept over stored goes = record {
       seen = λ j. seen j ∙ ap (λ l. if in_range at (length bytes / 512) j then take 512 (drop (512 * (j - at)) bytes) else l) (is.seen j);
       kept = λ j. kept j ∙ is.kept j;
@@ -108,11 +110,12 @@ module _ (written : Written) (pending : Pending) (switch : Switch) (faults : ℕ
       obeyed = obeys_wrote at bytes;
       obeys = went goes;
       counted = same goes;
+      reads = is.reads;
     }
 
     pub memory_synced : (none : Pending) → ((j : ℕ) → get nat_eq none j ≡ None) → result ≡ false
         → IsMemory written none after count (Synced ∷ past)
-    unfolding seen_of kept_of write_over obeys_switch faults_of
+    unfolding seen_of kept_of ReadsAreSeen write_over obeys_switch faults_of
     memory_synced none empty goes = record {
       seen = is.seen;
       kept = λ j. ap (λ o. kept_or o (seen_in written j)) (empty j) ∙ is.seen j;
@@ -121,11 +124,12 @@ module _ (written : Written) (pending : Pending) (switch : Switch) (faults : ℕ
       obeyed = obeys_synced;
       obeys = went goes;
       counted = same goes;
+      reads = is.reads;
     }
 
     pub memory_refused : (what : Asked) (shown : ℕ) → ((j : ℕ) → seen_of blank (RefusedCall what shown ∷ past) j ≡ seen_of blank past j)
         → result ≡ true → IsMemory written pending after count (RefusedCall what shown ∷ past)
-    unfolding kept_of write_over obeys_switch faults_of
+    unfolding kept_of ReadsAreSeen write_over obeys_switch faults_of
     memory_refused what shown stays fails = record {
       seen = λ j. is.seen j ∙ sym (stays j);
       kept = is.kept;
@@ -134,11 +138,12 @@ module _ (written : Written) (pending : Pending) (switch : Switch) (faults : ℕ
       obeyed = obeys_refused what shown;
       obeys = ap (λ b. b && obeys_switch past) (sym fails_as_told ∙ fails) ∙ is.obeys;
       counted = counts.counted ∙ (ap (λ b. if b then next_count faults else faults) fails ∙ ap next_count is.counted);
+      reads = is.reads;
     }
 
   pub memory_told_fail : (after : Switch) (nth count : ℕ) → after.armed.items ≡ switch.armed.items ++ nth ∷ [] → after.stop ≡ switch.stop → count ≡ faults
       → IsMemory written pending after count (Told (Fail nth) ∷ past)
-  unfolding seen_of kept_of write_over obeys_switch faults_of is_due is_stopped
+  unfolding seen_of kept_of ReadsAreSeen write_over obeys_switch faults_of is_due is_stopped
   memory_told_fail after nth count armed stop same = record {
     seen = is.seen;
     kept = is.kept;
@@ -150,11 +155,12 @@ module _ (written : Written) (pending : Pending) (switch : Switch) (faults : ℕ
     };
     obeys = is.obeys;
     counted = same ∙ is.counted;
+    reads = is.reads;
   }
 
   pub memory_told_stop : (after : Switch) (calls count : ℕ) → after.armed ≡ switch.armed → after.stop ≡ Some (least calls switch.stop) → count ≡ faults
       → IsMemory written pending after count (Told (StopAfter calls) ∷ past)
-  unfolding seen_of kept_of write_over obeys_switch faults_of is_due is_stopped
+  unfolding seen_of kept_of ReadsAreSeen write_over obeys_switch faults_of is_due is_stopped
   memory_told_stop after calls count armed stop same = record {
     seen = is.seen;
     kept = is.kept;
@@ -166,6 +172,7 @@ module _ (written : Written) (pending : Pending) (switch : Switch) (faults : ℕ
     };
     obeys = is.obeys;
     counted = same ∙ is.counted;
+    reads = is.reads;
   }
 
   left_shows : (choice : CutChoice) (j : ℕ) → left_in choice written pending j ≡ left_by choice blank past j
@@ -178,7 +185,7 @@ module _ (written : Written) (pending : Pending) (switch : Switch) (faults : ℕ
       → ((j : ℕ) → seen_in new j ≡ cut_image choice size written pending j) → ((j : ℕ) → get nat_eq none j ≡ None)
       → after.armed ≡ switch.armed → after.stop ≡ None → count ≡ faults
       → IsMemory new none after count (PowerCut choice (span (left_by choice blank past) 0 size) ∷ past)
-  unfolding seen_of kept_of write_over obeys_switch faults_of is_due is_stopped
+  unfolding seen_of kept_of ReadsAreSeen write_over obeys_switch faults_of is_due is_stopped
   memory_cut new none after choice size count log seen empty armed stop same =
       let whole = (left_is_image choice blank past blank_is_image log.entries).whole in
       let shows : (j : ℕ) → seen_in new j ≡ put 0 (span (left_by choice blank past) 0 size) (seen_of blank past) j = λ j.
@@ -197,13 +204,14 @@ module _ (written : Written) (pending : Pending) (switch : Switch) (faults : ℕ
         };
         obeys = is.obeys;
         counted = same ∙ is.counted;
+        reads = is.reads;
       }
 
   pub memory_flipped : (new : Written) (turned_too : Pending) (at byte count : ℕ)
       → ((j : ℕ) → seen_in new j ≡ flipped at byte (seen_in written) j) → ((j : ℕ) → kept_in new turned_too j ≡ flipped at byte (kept_in written pending) j)
       → ((j : ℕ) → over_in turned_too j ≡ over_in pending j) → AreStored new turned_too → count ≡ faults
       → IsMemory new turned_too switch count (Flipped at byte ∷ past)
-  unfolding seen_of kept_of write_over obeys_switch faults_of is_due is_stopped
+  unfolding seen_of kept_of ReadsAreSeen write_over obeys_switch faults_of is_due is_stopped
   memory_flipped new turned_too at byte count seen kept over stored same = record {
     seen = λ j. seen j ∙ ap (λ l. if j == at then turned byte l else l) (is.seen j);
     kept = λ j. kept j ∙ ap (λ l. if j == at then turned byte l else l) (is.kept j);
@@ -212,6 +220,7 @@ module _ (written : Written) (pending : Pending) (switch : Switch) (faults : ℕ
     obeyed = record { due = is.obeyed.due; stopped = is.obeyed.stopped };
     obeys = is.obeys;
     counted = same ∙ is.counted;
+    reads = is.reads;
   }
 
   pub memory_gives : (at n : ℕ) → span (seen_in written) at n ≡ span (seen_of blank past) at n
@@ -219,7 +228,7 @@ module _ (written : Written) (pending : Pending) (switch : Switch) (faults : ℕ
 
 pub memory_at_first : (written : Written) (pending : Pending) (switch : Switch) → ((j : ℕ) → get nat_eq written j ≡ None) → ((j : ℕ) → get nat_eq pending j ≡ None)
     → switch.armed.items ≡ [] → switch.stop ≡ None → IsMemory written pending switch 0 []
-unfolding seen_of kept_of write_over obeys_switch faults_of is_due is_stopped
+unfolding seen_of kept_of ReadsAreSeen write_over obeys_switch faults_of is_due is_stopped
 memory_at_first written pending switch none empty armed stop = record {
   seen = λ j. ap (λ o. unwrap_or o (blank j)) (none j);
   kept = λ j. ap (λ o. kept_or o (seen_in written j)) (empty j) ∙ ap (λ o. unwrap_or o (blank j)) (none j);
@@ -228,4 +237,5 @@ memory_at_first written pending switch none empty armed stop = record {
   obeyed = record { due = λ made. ap (λ l. is_among l (made + 1)) armed; stopped = λ made. ap (λ o. is_past o made) stop };
   obeys = refl;
   counted = refl;
+  reads = tt;
 }

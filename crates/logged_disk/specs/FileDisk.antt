@@ -1,10 +1,11 @@
 -- What a contract sees of a `FileDisk`.
 use Rattle.std.specs.Prelude.{◌≡◌, ℕ, Bool, true, false, []}
 use Rattle.device_log.specs.Image.{Image}
+use Rattle.device_log.specs.Seen.{ReadsAreSeen}
 use Rattle.device_log.specs.Faults.{IsLog, faults_of, obeys_switch}
 use Rattle.device_log.specs.DeviceLog.{calls_of}
 use Rattle.logged_disk.specs.Device.{State, IsTrusted}
-use Rattle.logged_disk.specs.FileTrust.{file_trust}
+use Rattle.logged_disk.specs.FileTrust.{file_trust, trusted_reads}
 use Rattle.logged_disk.specs.Switchless.{asks_none}
 use Rattle.logged_disk.specs.declared.file_disk.FileDisk.{FileDisk}
 
@@ -45,3 +46,8 @@ pub file_obeys : {S : Type 0} (first : ℕ → Image) (disk : FileDisk S)
     → obeys_switch (file_state first disk).past ≡ true
 file_obeys first disk has =
     asks_none (obeys_switch (calls_of disk.log) ≡ true) has
+
+pub file_reads : {S : Type 0} (first : ℕ → Image) (disk : FileDisk S)
+    → IsTrusted (file_state first disk)
+    → ReadsAreSeen (file_state first disk).first (file_state first disk).past
+file_reads first disk trusted = trusted_reads (first disk.number) (calls_of disk.log) trusted

@@ -1,9 +1,11 @@
 -- How far a file can be trusted: as long as each read gave what the log says.
-use Rattle.std.specs.Prelude.{ℕ, ◌/◌, Bool, true, ◌&&◌, if◌then◌else◌, List, [], ◌∷◌, length}
+use Rattle.std.proofs.Common.{◌≡◌, ℕ, ◌/◌, ◌≤◌, Bool, true, false, ◌&&◌, if◌then◌else◌, List, [], ◌∷◌, length, refl, sym, arith}
 use Rattle.std.specs.Str.{bytes_eq}
+use Rattle.std.specs.Cmp.Lexicographic.{same_text}
+use Rattle.std.proofs.lemmas.Bool.{and_parts}
 use Rattle.device_log.specs.Image.{Image, span}
 use Rattle.device_log.specs.Calls.{Call, Read, Wrote, Synced, RefusedCall, Told, PowerCut, Flipped}
-use Rattle.device_log.specs.Seen.{seen_of}
+use Rattle.device_log.specs.Seen.{seen_of, ReadsAreSeen}
 
 -- each read gave what was seen by the log
 unfoldable pub agrees : Image → List Call → Bool
@@ -20,3 +22,28 @@ agrees first (Flipped at byte ∷ older) = agrees first older
 -- 1 as long as its reads agree, and else 0
 unfoldable pub file_trust : Image → List Call → ℕ
 file_trust first past = if agrees first past then 1 else 0
+
+-- what the test tells
+reads_agree : (first : Image) (past : List Call) → agrees first past ≡ true → ReadsAreSeen first past
+unfolding agrees ReadsAreSeen
+reads_agree first [] is = tt
+reads_agree first (Read at bytes ∷ older) is =
+    let seen = span (seen_of first older) at (length bytes / 512) in
+    let both = and_parts (bytes_eq bytes seen) (agrees first older) is in
+    (same_text bytes seen (sym both.0), reads_agree first older both.1)
+reads_agree first (Wrote at bytes ∷ older) is = reads_agree first older is
+reads_agree first (Synced ∷ older) is = reads_agree first older is
+reads_agree first (RefusedCall what count ∷ older) is = reads_agree first older is
+reads_agree first (Told act ∷ older) is = reads_agree first older is
+reads_agree first (PowerCut choice left ∷ older) is = reads_agree first older is
+reads_agree first (Flipped at byte ∷ older) is = reads_agree first older is
+
+some_trust : (a : Bool) → 1 ≤ (if a then 1 else 0) → a ≡ true
+some_trust true some = refl
+some_trust false some = absurd (omega (arith, some))
+
+-- a file that is trusted gave by each read what was seen
+pub trusted_reads : (first : Image) (past : List Call) → 1 ≤ file_trust first past
+    → ReadsAreSeen first past
+unfolding file_trust
+trusted_reads first past trusted = reads_agree first past (some_trust (agrees first past) trusted)

@@ -2,7 +2,7 @@
 use Rattle.std.specs.Prelude.{◌≡◌, ℕ, true, if◌then◌else◌, List}
 use Rattle.device_log.specs.Image.{blank}
 use Rattle.device_log.specs.Calls.{Call}
-use Rattle.device_log.specs.Seen.{seen_of, kept_of}
+use Rattle.device_log.specs.Seen.{seen_of, kept_of, ReadsAreSeen}
 use Rattle.device_log.specs.Cuts.{write_over}
 use Rattle.device_log.specs.Faults.{faults_of, obeys_switch}
 use Rattle.logged_disk.specs.Blocks.{Written, Pending, AreStored, seen_in, kept_in, over_in}
@@ -10,7 +10,7 @@ use Rattle.logged_disk.specs.Device.{has_flip}
 use Rattle.logged_disk.specs.Switch.{Obeys}
 use Rattle.logged_disk.specs.declared.switch.Switch.{Switch}
 
--- The blocks hold what the log says, and the calls fail where it says.
+-- The blocks hold what the log says, the calls fail where it says, and its reads gave what was seen.
 pub record IsMemory (written : Written) (pending : Pending) (switch : Switch) (faults : ℕ)
     (past : List Call) : Type 0 where
   pub seen : (j : ℕ) → seen_in written j ≡ seen_of blank past j
@@ -20,6 +20,7 @@ pub record IsMemory (written : Written) (pending : Pending) (switch : Switch) (f
   pub obeyed : Obeys switch past
   pub obeys : obeys_switch past ≡ true
   pub counted : faults ≡ faults_of past
+  pub reads : ReadsAreSeen blank past
 
 -- the highest trust, until a bit is flipped
 unfoldable pub memory_trust : List Call → ℕ

@@ -1,8 +1,10 @@
 -- What holds of each `MemDisk`.
 use Rattle.std.specs.Prelude.{◌≡◌, true}
 use Rattle.device_log.specs.Image.{IsImage}
+use Rattle.device_log.specs.Seen.{ReadsAreSeen}
 use Rattle.device_log.specs.Faults.{IsLog, faults_of, obeys_switch}
 use Rattle.device_log.proofs.Puts.{blank_is_image}
+use Rattle.logged_disk.specs.Device.{IsTrusted}
 use Rattle.logged_disk.specs.MemDisk.{mem_state}
 use Rattle.logged_disk.specs.declared.mem_disk.MemDisk.{MemDisk}
 
@@ -18,3 +20,8 @@ memory_counted disk = disk.is_memory.counted
 pub memory_obeys : (disk : MemDisk) → (mem_state disk).has_switch ≡ true
     → obeys_switch (mem_state disk).past ≡ true
 memory_obeys disk has = disk.is_memory.obeys
+
+-- of a memory device whatever its trust
+pub memory_reads : (disk : MemDisk) → IsTrusted (mem_state disk)
+    → ReadsAreSeen (mem_state disk).first (mem_state disk).past
+memory_reads disk trusted = disk.is_memory.reads

@@ -3,6 +3,7 @@ ghost use Rattle.std.specs.Prelude.{◌≡◌, ℕ, ◌+◌, ◌/◌, ◌≤◌,
 ghost use Rattle.device_log.specs.Image.{IsImage, span};
 ghost use Rattle.device_log.specs.Calls.{Read, Wrote, Synced, Told, Fail, StopAfter, PowerCut, Flipped};
 ghost use Rattle.device_log.specs.Faults.{IsLog, faults_of, obeys_switch};
+ghost use Rattle.device_log.specs.Seen.{ReadsAreSeen};
 ghost use Rattle.logged_disk.specs.Device.{State, seen, IsTrusted, IsHonest, IsWhole, Keeps, Affords, Adds, Logs, Leaves};
 
 use device_log::CutChoice;
@@ -60,6 +61,9 @@ pub trait Disk {
 
     ghost obeys: { (disk : Self)
         → (state disk).has_switch ≡ true → obeys_switch (state disk).past ≡ true };
+
+    ghost reads: { (disk : Self)
+        → IsTrusted (state disk) → ReadsAreSeen (state disk).first (state disk).past };
 }
 
 /// A device that may have a switch, by which its power is cut and its calls are made to fail.

@@ -1,6 +1,8 @@
 // A device in memory.
 ghost use Rattle.std.specs.Prelude.{◌≡◌, true, false, ℕ, List, ◌∷◌, [], ◌+◌, ◌-◌, ◌/◌, ◌<◌, ◌≤◌, ◌^◌, length, is_err, IsTrue, IfOk, OnOk, OnErr, vec_len, vec_capacity};
 ghost use Rattle.std.specs.HashMap.{spare};
+ghost use Rattle.std.proofs.Props.{props};
+ghost use Rattle.device_log.proofs.ReadLaws.{reads_are_prop};
 ghost use Rattle.device_log.specs.Image.{blank, span};
 ghost use Rattle.device_log.specs.Calls.{Read, Wrote, Synced, RefusedCall, ToWrite, Told, Fail, StopAfter, PowerCut, Flipped};
 ghost use Rattle.device_log.specs.Faults.{fails_next, next_count, is_untold, obeys_switch};
@@ -31,7 +33,7 @@ pub struct MemDisk {
     calls: u64,
     blocks: u64,
     log: DeviceLog,
-    ghost is_memory: { IsMemory written pending switch faults (calls_of log) },
+    ghost is_memory: { IsMemory written pending switch faults (calls_of log) } by { Prim.hlevel (props, reads_are_prop) },
     ghost block_room: { blocks ≤ spare written },
     ghost pending_room: { blocks ≤ spare pending },
     ghost call_room: { vec_len switch.armed + calls ≤ vec_capacity switch.armed },
@@ -86,7 +88,7 @@ fn fails(switch: &mut Switch, faults: &mut u64) -> bool
 #[tactic(auto, using(crate::proofs::MemoryLemmas::trust_falls))]
 impl Disk for MemDisk {
     ghost use Rattle.logged_disk.specs.MemDisk.{mem_state};
-    ghost use Rattle.logged_disk.specs.MemoryFacts.{memory_is_log, memory_was_image, memory_counted, memory_obeys};
+    ghost use Rattle.logged_disk.specs.MemoryFacts.{memory_is_log, memory_was_image, memory_counted, memory_obeys, memory_reads};
 
     ghost state = { mem_state };
 
@@ -179,6 +181,8 @@ impl Disk for MemDisk {
     ghost counted = { memory_counted };
 
     ghost obeys = { memory_obeys };
+
+    ghost reads = { memory_reads };
 }
 
 #[tactic(auto, using(crate::proofs::MemoryLemmas::trust_falls))]

@@ -1,8 +1,8 @@
 -- What comes of a piece depends on the state through the geometry, where its buffer begins, how far that is filled and its last
 -- fault alone.
-use Rattle.std.proofs.Common.{◌≡◌, ℕ, ◌+◌, List, [], ◌∷◌, ◌++◌, refl, sym, ◌∙◌, subst, arith, inl, inr}
+use Rattle.std.proofs.Common.{◌≡◌, ℕ, ◌+◌, List, refl, sym, ◌∙◌, subst, arith}
 use Rattle.edge_io.specs.Causes.{Rose}
-use Rattle.device_log.specs.Calls.{Asked, Call, ToRead, ToWrite, Read, Wrote, Synced, RefusedCall, Told, PowerCut, Flipped}
+use Rattle.device_log.specs.Calls.{Asked, ToRead, ToWrite, Read}
 use Rattle.tape_base.specs.Place.{slot_of}
 use Rattle.cache_model.specs.State.{State, Row, after_all}
 use Rattle.cache_model.specs.Permit.{Permit, IsAmong}

@@ -1,5 +1,5 @@
 -- Where the device is faithful, what is due tells no trouble, and has one list of outcomes.
-use Rattle.std.proofs.Common.{◌≡◌, ℕ, ◌-◌, List, [], ◌∷◌, ◌++◌, refl, sym, ◌∙◌, ap, subst}
+use Rattle.std.proofs.Common.{◌≡◌, ℕ, ◌-◌, List, [], ◌∷◌, ◌++◌, refl, sym, ◌∙◌, ap}
 use Rattle.std.specs.Prelude.{Some}
 use Rattle.std.specs.List.{AllByRecursion}
 use Rattle.tape_base.specs.declared.digests.Digest.{Digest}
@@ -7,7 +7,7 @@ use Rattle.tape_base.specs.declared.pieces.PieceId.{PieceId}
 use Rattle.cache_model.specs.declared.record.Rec.{Rec}
 use Rattle.cache_model.specs.State.{State, Row, after_all, live_row_of, state_after}
 use Rattle.device_log.specs.Calls.{Asked}
-use Rattle.cache_model.specs.Permit.{IsAmong, Permit}
+use Rattle.cache_model.specs.Permit.{Permit}
 use Rattle.cache_model.specs.Given.{IsDamaged, IsGiven, MayCount, block_at}
 use Rattle.model_laws.specs.Choices.{GivesOnce, IsFaithful}
 use Rattle.cache_model.specs.Tape.{IsSound}

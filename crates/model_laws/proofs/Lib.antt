@@ -7,7 +7,9 @@ pub mod Backed
 mod WorkedSessions
 mod AcceptedSteps
 mod Determined
+pub mod Buckets
 mod Purged
+pub mod Fitting
 mod Possible
 mod Tried
 pub mod Told
@@ -24,3 +26,6 @@ pub mod ToldFlush
 mod WorkedFlush
 mod ReadPairs
 mod Syncs
+pub mod Forgetting
+pub mod ForgetAnswers
+pub mod KnownPuts

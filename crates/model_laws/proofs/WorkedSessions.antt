@@ -1,6 +1,6 @@
 -- Sessions that were worked by hand, computed by the definitions: what their lookups and readers are
 -- answered, with places and floors. No device call fails in them, and no digest counts.
-use Rattle.std.specs.Prelude.{ℕ, zero, suc, ◌+◌, ◌*◌, ◌^◌, ◌/◌, ◌%◌, ◌≤◌, ◌==◌, ◌≡◌, refl, Bool, true, false, not, nat_le, if◌then◌else◌, List, [], ◌∷◌, ◌++◌, length, fold, find, replicate, reverse, codes, option_map, unwrap_or, is_some}
+use Rattle.std.specs.Prelude.{ℕ, zero, suc, ◌+◌, ◌*◌, ◌^◌, ◌/◌, ◌%◌, ◌≤◌, ◌==◌, ◌≡◌, refl, Bool, true, false, not, nat_le, if◌then◌else◌, List, [], ◌∷◌, ◌++◌, length, fold, find, map, replicate, reverse, codes, option_map, unwrap_or, is_some}
 use Rattle.std.specs.List.{range_with_len}
 use Rattle.std.proofs.Math.Dec.{lit≤, lit<}
 use Rattle.http_header.specs.Token.{is_token_byte}
@@ -23,6 +23,7 @@ use Rattle.cache_model.specs.declared.record.Rec.TheVariants as rec
 use Rattle.cache_model.specs.State.{State, Row, PutRow, ReaderRow, nothing_yet, state_after, after_all, cursor_next, floor_next, floor_now, fragment_piece, list_of_put, live_row_of, place_now, put_of, reader_of, vector_piece}
 use Rattle.cache_model.specs.Verdict.{cause_of_miss, cause_of_piece, live_vector_of, lookup_verdict, reader_verdict, table_of}
 use Rattle.cache_model.specs.Room.{greatest_pin, has_room, is_full_for, rows_of_segment}
+use Rattle.cache_model.specs.Forgetting.{forget}
 use Rattle.cache_model.specs.Legal.{answer_record, format_records, next_fragment_of, size_alone, vector_length}
 
 -- 64 blocks, buffers of 8, fragments of 4 bytes; a segment of so many buckets
@@ -455,3 +456,34 @@ pub a_reader_is_broken_where_its_fragment_was_passed : told (put_a 8 ∷ open_re
     ≡ Stored 1 8 2 ∷ Looked (read.Hit 1) ∷ Read (next.Gave 1 4) ∷ Stored 2 16 4 ∷ stored_fillers 9 3
     ++ Read (next.Broke (cause.Passed 65 80 false)) ∷ Read (next.Broke (cause.Passed 65 80 false)) ∷ []
 a_reader_is_broken_where_its_fragment_was_passed = refl
+
+-- ---- a session that forgets at the end of each line
+
+abbrev forgets : ℕ → Session → Session
+forgets cap m = record m { state = forget cap m.state }
+
+abbrev forgets_behind : ℕ → List Line → List Line
+forgets_behind cap lines = map (λ (line : Line) m. forgets cap (line m)) lines
+
+-- the first put is passed, and of the second one the first fragments alone
+abbrev one_is_passed : List Line
+one_is_passed = put_a 1 ∷ put_b 208 ∷ flush ∷ []
+
+pub what_was_forgotten_is_unrecorded : told (forgets_behind 0 (one_is_passed ++ get_a ∷ open_read b [] ∷ []))
+    ≡ Stored 1 1 1 ∷ Stored 2 208 52 ∷ Flushed 4 128 72 ∷ Looked (read.Miss (cause.Unrecorded 1)) ∷ Looked (read.Hit 2) ∷ []
+what_was_forgotten_is_unrecorded = refl
+
+pub what_is_kept_is_passed : told (forgets_behind 1 (one_is_passed ++ get_a ∷ []))
+    ≡ Stored 1 1 1 ∷ Stored 2 208 52 ∷ Flushed 4 128 72 ∷ Looked (read.Miss (cause.Passed 65 72 false)) ∷ []
+what_is_kept_is_passed = refl
+
+abbrev two_laps : List Line
+two_laps = put_a 1 ∷ put_b 20 ∷ fillers 16 ++ get_a ∷ get other [] ∷ []
+
+pub ten_puts_are_forgotten : told (forgets_behind 0 two_laps)
+    ≡ Stored 1 1 1 ∷ Stored 2 20 5 ∷ stored_fillers 16 3 ++ Looked (read.Miss (cause.Unrecorded 10)) ∷ Looked (read.Miss (cause.Unrecorded 10)) ∷ []
+ten_puts_are_forgotten = refl
+
+pub ten_puts_are_kept : told (forgets_behind 10 two_laps)
+    ≡ Stored 1 1 1 ∷ Stored 2 20 5 ∷ stored_fillers 16 3 ++ Looked (read.Miss (cause.Passed 65 136 false)) ∷ Looked (read.Miss cause.NeverPut) ∷ []
+ten_puts_are_kept = refl

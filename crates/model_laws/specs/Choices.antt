@@ -19,7 +19,7 @@ use Rattle.cache_model.specs.Verdict.{live_vector_of, next_piece, next_row}
 use Rattle.cache_model.specs.Permit.{Permit, IsAmong, Intent, Flush, Write, Fragment, Overflow, Weigh, Finish, Commit, GiveUp, Remove, Look, ReadOn, ReadAll, StopReading, End}
 use Rattle.cache_model.specs.Due.{due_pieces}
 use Rattle.cache_model.specs.Tape.{IsSound}
-use Rattle.cache_model.specs.Given.{CountsRead, CountsWrite, IsGiven, IsWritten, TakesBuffer, block_at, effects_in}
+use Rattle.cache_model.specs.Given.{CountsRead, CountsWrite, IsGiven, IsWritten, TakesBuffer, block_at}
 use Rattle.cache_model.specs.ToRead.{flushes_first, to_read}
 use Rattle.cache_model.specs.Legal.{CanFlush, Does, IsCut, IsNext, IsLookup, IsQuiet, IsReading, IsWriting, most_fragments}
 

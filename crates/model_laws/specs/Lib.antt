@@ -8,3 +8,5 @@ pub mod VectorLaws
 pub mod FlushLaws
 pub mod Agreeing
 pub mod SyncLaws
+pub mod ForgetLaws
+pub mod RoomLaws

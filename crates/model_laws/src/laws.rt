@@ -10,6 +10,8 @@ ghost use Rattle.model_laws.specs.Agreeing.{GroupsAgree, OtherCopiesAreBytes, St
 ghost use Rattle.model_laws.specs.PairLaws.{CopiedIsDueAndFits, LookupReadsItsKey, NothingAskedReadsNone, PairsAreBytes, PairsAreGiven, ReaderReadsItsNext};
 ghost use Rattle.model_laws.specs.VectorLaws.{FlushTells, StoppedTells, FormatsTell, OpeningsTell, GroupsTell, StepsTell, VectorsAreKept, MergedIsSpelled};
 ghost use Rattle.model_laws.specs.SyncLaws.{FinishedIsLast, FollowerAllowsSync, FollowerHasSync, MarksStay, OnlyLaterAreAllowed, OpenedIsTold, SyncIsHeld};
+ghost use Rattle.model_laws.specs.RoomLaws.{InsertFits, SlotIsMade};
+ghost use Rattle.model_laws.specs.ForgetLaws.{FewAreDead, ForgettingIsSound, ForgettingLeaves, ForgettingTells, ForgettingTwice, ForgottenIsDead, ForgottenIsUnrecorded, GivenStays, GreatestAreKept, KeptIsAnswered, KnownAreFalling, NamedIsKept, NoRecordIsTold, ReaderIsAnswered, WrittenIsKept};
 ghost use Rattle.cache_model.specs.Vectors.{IsVectorAs, LiveVectorIsListed, VectorIsReadBack};
 
 /// What each record makes of the place of each piece.
@@ -380,4 +382,91 @@ pub fn followers_take_up()
 /// A lookup of what neither the session nor its opening knows tells the opening's serial.
 pub fn opened_is_told()
     ensures { OpenedIsTold }
+{}
+
+/// The puts of which something is known are counted once each, the greatest number first.
+pub fn known_are_falling()
+    ensures { KnownAreFalling }
+{}
+
+/// A put that is forgotten is neither written nor read, nothing of it is live, and no live vector lists it.
+pub fn forgotten_is_dead()
+    ensures { ForgottenIsDead }
+{}
+
+/// No put is forgotten of which a sync that may be found names a piece.
+pub fn named_is_kept()
+    ensures { NamedIsKept }
+{}
+
+/// No put is forgotten that is still written.
+pub fn written_is_kept()
+    ensures { WrittenIsKept }
+{}
+
+/// Forgetting leaves the tape, the numbers, the readers, the syncs, and all that may be read.
+pub fn forgetting_leaves()
+    ensures { ForgettingLeaves }
+{}
+
+/// Forgetting leaves places in order, and the live piece at each place.
+pub fn forgetting_is_sound()
+    ensures { ForgettingIsSound }
+{}
+
+/// Forgetting leaves vectors that spell their alternates.
+pub fn forgetting_tells()
+    ensures { ForgettingTells }
+{}
+
+/// What a lookup gives is given as before, also of a key of which puts were forgotten: at most the cause of a miss
+/// becomes another one.
+pub fn given_stays()
+    ensures { GivenStays }
+{}
+
+/// A key is answered as before where neither its last vector nor its last put that was given up was forgotten, or
+/// nothing was on record of it before either.
+pub fn kept_is_answered()
+    ensures { KeptIsAnswered }
+{}
+
+/// A key whose last vector was forgotten is missed as unrecorded.
+pub fn forgotten_is_unrecorded()
+    ensures { ForgottenIsUnrecorded }
+{}
+
+/// An open reader is answered as before, or breaks as before at a piece of which nothing was on record.
+pub fn reader_is_answered()
+    ensures { ReaderIsAnswered }
+{}
+
+/// Forgetting twice is forgetting once.
+pub fn forgetting_twice()
+    ensures { ForgettingTwice }
+{}
+
+/// Of the puts that are known and dead those of greatest numbers are kept.
+pub fn greatest_are_kept()
+    ensures { GreatestAreKept }
+{}
+
+/// Behind forgetting no more dead puts are known than are to be kept.
+pub fn few_are_dead()
+    ensures { FewAreDead }
+{}
+
+/// Of what nothing is on record it is told how many puts were forgotten, once one was.
+pub fn no_record_is_told()
+    ensures { NoRecordIsTold }
+{}
+
+/// Behind what the entry of a piece displaces there is a slot for it.
+pub fn slot_is_made()
+    ensures { SlotIsMade }
+{}
+
+/// An insert leaves a slot for each live piece, in each segment.
+pub fn insert_fits()
+    ensures { InsertFits }
 {}

@@ -17,7 +17,7 @@ use Rattle.cache_model.specs.Permit.{Permit}
 use Rattle.cache_model.specs.Given.{IsRead, IsReadWhereLive}
 use Rattle.cache_model.specs.Legal.{IsLookup}
 use Rattle.cache_model.specs.Pair.{IsKeyPair}
-use Rattle.cache_model.specs.Vectors.{AreVectors, IsVectorAs}
+use Rattle.cache_model.specs.Vectors.{IsVectorAs}
 use Rattle.stripe_core.specs.Counts.{IsCountedCause}
 use Rattle.stripe_actors.specs.Actors.{AreActors, Seen}
 use Rattle.stripe_actors.specs.ActorLaws.{number_in}
