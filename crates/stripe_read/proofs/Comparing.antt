@@ -5,21 +5,24 @@ use Rattle.std.proofs.lemmas.List.{length-take}
 use Rattle.tape_base.specs.declared.digests.Digest.{Digest}
 use Rattle.tape_base.specs.declared.pieces.PieceId.{PieceId}
 use Rattle.tape_base.specs.Digest.{digest_of}
-use Rattle.logged_disk.specs.Device.{State as Device}
+use Rattle.device_log.specs.Calls.{Call, Read}
+use Rattle.logged_disk.specs.Device.{State as Device, IsAfter}
 use Rattle.doc_header.specs.Reading.{payload_of}
 use Rattle.cache_model.specs.declared.cause.Cause.{Cause}
 use Rattle.cache_model.specs.declared.cause.Cause.TheVariants as cause
 use Rattle.cache_model.specs.declared.record.Rec.TheVariants as rec
 use Rattle.cache_model.specs.State.{Row, State, live_row_of, row_in}
-use Rattle.cache_model.specs.Permit.{Permit}
-use Rattle.cache_model.specs.Given.{IsWritten, IsDocumentOf}
+use Rattle.cache_model.specs.Permit.{IsAmong, Permit}
+use Rattle.cache_model.specs.Given.{IsDocumentOf, IsGiven, IsWritten, block_at}
 use Rattle.cache_model.proofs.Lists.{own_piece}
 use Rattle.stripe_core.specs.declared.refusal.Found.{Found}
 use Rattle.stripe_core.specs.declared.refusal.Found.TheVariants as found
+use Rattle.std.specs.List.{AllByRecursion}
+use Rattle.stripe_core.specs.Covers.{Covers}
 use Rattle.stripe_core.specs.Find.{Finds, IsFoundAs, find_adds, found_records}
 use Rattle.stripe_core.specs.Pieces.{live_place_of}
 use Rattle.stripe_core.proofs.Candidates.{live_is}
-use Rattle.stripe_core.proofs.Covering.{own_covers, own_permit}
+use Rattle.stripe_core.proofs.Covering.{block_is, own_covers, own_permit, since_is}
 use Rattle.stripe_read.specs.declared.fetching.Unlike.{Unlike}
 use Rattle.stripe_read.specs.Fetches.{Fetches, IsCompared, IsFetched, IsListedAs, IsOtherDocument, IsUnlike}
 
@@ -97,10 +100,29 @@ missing s old new id listed why into f = record { seen = f.seen; answers = λ p 
 
 -- ---- the document that the device gave
 
+-- a call among those that a step knows is one of the step
+among_all : (x : Call) (known calls : List Call) → AllByRecursion (λ call. IsAmong call known) calls → IsAmong x calls → IsAmong x known
+among_all x known [] all none = absurd none
+among_all x known (call ∷ calls) all (inl is) = subst (λ y. IsAmong y known) (sym is) all.0
+among_all x known (call ∷ calls) all (inr more) = among_all x known calls all.1 more
+
+-- what the device gave in the step that one call makes, it gave in each step that covers the call
+given_in : (s : State) (old new : Device) (row : Row) (bytes : List ℕ) → IsAfter old new → IsGiven (own_permit 0 old.past new.past) s row bytes → (p : Permit) → Covers p old.past new.past → IsGiven p s row bytes
+given_in s old new row bytes goes h p covers =
+    let own : Permit = own_permit 0 old.past new.past in
+    let made : IsAmong (Read (block_at own s row.place) bytes) goes.made = subst (λ calls. IsAmong (Read (block_at own s row.place) bytes) calls) (since_is old.past new.past goes.made goes.past) h.given in
+    record {
+      written = h.written;
+      given = subst (λ at. IsAmong (Read at bytes) p.events) (sym (block_is own s s.geometry row.place refl refl) ∙ block_is p s s.geometry row.place refl covers.content)
+          (among_all (Read (block_at own s row.place) bytes) p.events goes.made (covers.knows goes.made goes.past) made);
+      whole = h.whole;
+      of_bytes = h.of_bytes;
+    }
+
 -- of a payload that is not the one that is listed
-pub unlike_document : (s : State) (old new : Device) (id : PieceId) (listed : Option Digest) (size : ℕ) (into : List ℕ) (u : Unlike)
-    → Finds s old new id (found.Found size) into → IsUnlike s id listed (take size into) u → IsOtherDocument s id listed
-unlike_document s old new id listed size into u f un =
+pub unlike_document : (s : State) (old new : Device) (id : PieceId) (listed : Option Digest) (size : ℕ) (into : List ℕ) (u : Unlike) → IsAfter old new
+    → Finds s old new id (found.Found size) into → IsUnlike s id listed (take size into) u → IsOtherDocument s old.past new.past id listed
+unlike_document s old new id listed size into u goes f un =
     let p : Permit = own_permit 0 old.past new.past in
     let h : IsDocumentOf p s un.row size into = subst (λ o. IsFoundAs p s id o (found.Found size) into) un.live (f.answers p (own_covers 0 old.past new.past)) in
     record {
@@ -108,9 +130,7 @@ unlike_document s old new id listed size into u f un =
       kept = u.kept;
       bytes = h.bytes;
       live = un.live;
-      written = un.written;
-      whole = h.whole;
-      of_bytes = h.of_bytes;
+      given = given_in s old new un.row h.bytes goes (h.given un.written);
       digest = h.digest;
       listed_is = un.listed_is;
       differ = λ e. un.differ (e ∙ sym (un.found_is ∙ ap digest_of h.payload));

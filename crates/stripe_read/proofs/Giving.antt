@@ -22,7 +22,7 @@ use Rattle.stripe_core.specs.declared.refusal.Found.{Found}
 use Rattle.stripe_core.specs.declared.refusal.Found.TheVariants as found
 use Rattle.stripe_core.specs.Counts.{IsCountedCause}
 use Rattle.stripe_core.specs.Covers.{AreSeen, Covers}
-use Rattle.stripe_core.proofs.Covering.{own_covers, own_permit}
+use Rattle.stripe_core.proofs.Covering.{covers_first, own_covers, own_permit}
 use Rattle.stripe_core.specs.Find.{cause_records, find_adds, found_records}
 use Rattle.stripe_read.specs.declared.reader.Reader.{Reader}
 use Rattle.stripe_read.specs.declared.reading.NextPiece.{NextPiece}
@@ -172,11 +172,21 @@ is_listed : (s : State) (r : Reader) (listed : Option Digest) (cut : ℕ) (diges
 is_listed s r listed cut digest has is = is ∙ ap (listed_in r) (sym has.digest_is)
 
 -- another document than the one that is listed was given for the fragment that it takes next
-pub other_next : (s : State) (r : Reader) (id : PieceId) (listed : Option Digest) (cut : ℕ) (digest : Digest) → HasNext s r cut digest → id ≡ next_piece (as_row r) → listed ≡ listed_in r digest → IsOtherDocument s id listed → IsOtherNext s r
-other_next s r id listed cut digest has id_is listed_is other = record {
+pub other_next : (s : State) (before mid after : List Call) (r : Reader) (id : PieceId) (listed : Option Digest) (cut : ℕ) (digest : Digest) → HasNext s r cut digest → id ≡ next_piece (as_row r) → listed ≡ listed_in r digest
+    → (made : List Call) → after ≡ made ++ mid → IsOtherDocument s before mid id listed → IsOtherNext s before after r
+other_next s before mid after r id listed cut digest has id_is listed_is made later other = record {
   entry = has.row;
   cut = has.found;
-  other = subst (IsOtherDocument s (next_piece (as_row r))) (is_listed s r listed cut digest has listed_is) (subst (λ i. IsOtherDocument s i listed) id_is other);
+  other = subst (IsOtherDocument s before after (next_piece (as_row r))) (is_listed s r listed cut digest has listed_is) (subst (λ i. IsOtherDocument s before after i listed) id_is (record {
+    row = other.row;
+    kept = other.kept;
+    bytes = other.bytes;
+    live = other.live;
+    given = λ p covers. other.given p (covers_first p before mid after made later covers);
+    digest = other.digest;
+    listed_is = other.listed_is;
+    differ = other.differ;
+  }));
 }
 
 module _ (s : State) (old new newer : Device) (r : Reader) (id : PieceId) (listed : Option Digest) (cut : ℕ) (digest : Digest) (into : List ℕ)

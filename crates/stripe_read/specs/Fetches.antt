@@ -1,9 +1,9 @@
 -- What is read of the fragment that a reader takes next.
-use Rattle.std.specs.Prelude.{ℕ, ◌≡◌, ◌≢◌, ◌*◌, ◌⊎◌, List, length, take, Option, Some, None}
-use Rattle.hex.specs.Hex.{IsBytes}
+use Rattle.std.specs.Prelude.{ℕ, ◌≡◌, ◌≢◌, ◌⊎◌, List, take, Option, Some, None}
 use Rattle.tape_base.specs.declared.digests.Digest.{Digest}
 use Rattle.tape_base.specs.declared.pieces.PieceId.{PieceId}
 use Rattle.tape_base.specs.Digest.{digest_of}
+use Rattle.device_log.specs.Calls.{Call}
 use Rattle.logged_disk.specs.Device.{State as Device}
 use Rattle.doc_header.specs.Reading.{document_digest, payload_of}
 use Rattle.cache_model.specs.declared.cause.Cause.{Cause}
@@ -60,16 +60,14 @@ IsFetched p s id None listed answer into = answer ≡ found.Missing (cause_of_pi
 IsFetched p s id (Some row) listed (found.Found size) into = IsDocumentOf p s row size into × IsListedAs s row listed (take size into)
 IsFetched p s id (Some row) listed (found.Missing why) into = Trouble p s row (cause_records row why) why ⊎ IsOther p s row listed why
 
--- there is a document of the recorded digest of a live piece that was written out, whose payload is not
--- the one that is listed
-pub record IsOtherDocument (s : State) (id : PieceId) (listed : Option Digest) : Type 0 where
+-- between two moments of its log the device gave a document of the recorded digest of a live piece, in any step that
+-- covers its calls, whose payload is not the one that is listed
+pub record IsOtherDocument (s : State) (before after : List Call) (id : PieceId) (listed : Option Digest) : Type 0 where
   pub row : Row
   pub kept : Digest
   pub bytes : List ℕ
   pub live : live_row_of s id ≡ Some row
-  pub written : IsWritten s row
-  pub whole : length bytes ≡ 512 * row.blocks
-  pub of_bytes : IsBytes bytes
+  pub given : (p : Permit) → Covers p before after → IsGiven p s row bytes
   pub digest : row.digest ≡ document_digest bytes
   pub listed_is : listed ≡ Some kept
   pub differ : kept ≢ digest_of (payload_of bytes)

@@ -1,6 +1,7 @@
 -- What a reader is given, and what is recorded.
 use Rattle.std.specs.Prelude.{ℕ, ◌≡◌, ◌⊎◌, ◌+◌, List, [], ◌∷◌, ◌++◌, take, Option, Some, None, option_map, unwrap_or}
 use Rattle.tape_base.specs.declared.digests.Digest.{Digest}
+use Rattle.device_log.specs.Calls.{Call}
 use Rattle.logged_disk.specs.Device.{State as Device}
 use Rattle.fragment_table.specs.Table.{Table, TableRow}
 use Rattle.cache_model.specs.declared.answer.NextAnswer.{NextAnswer}
@@ -87,12 +88,12 @@ pub record ReadsOn (s : State) (old new : Device) (r : Reader) (answer : NextPie
   pub gives : (p : Permit) → Covers p old.past new.past → Gives p s r answer into
   pub counted : IsCountedBreak new.faults s r answer
 
--- there is a document of the recorded digest of the fragment that it takes next, whose payload is not
--- the one that the reader's table lists
-pub record IsOtherNext (s : State) (r : Reader) : Type 0 where
+-- between two moments of its log the device gave a document of the recorded digest of the fragment that it takes next,
+-- whose payload is not the one that the reader's table lists
+pub record IsOtherNext (s : State) (before after : List Call) (r : Reader) : Type 0 where
   pub entry : TableRow
   pub cut : next_row s (as_row r) ≡ Some entry
-  pub other : IsOtherDocument s (next_piece (as_row r)) (listed_in r (digest_in entry))
+  pub other : IsOtherDocument s before after (next_piece (as_row r)) (listed_in r (digest_in entry))
 
 -- ---- where it is then
 

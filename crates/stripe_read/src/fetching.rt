@@ -79,7 +79,7 @@ pub(crate) fn fetch<D: Disk, R: Directory + Drop, C: Chronicle>(
     requires units { 2 ≤ units_in stripe.old }
     requires into { length into.old ≡ 512 * budget_of (state_in C.Chronicle stripe.old).geometry }
     ensures stripe { IsStripe D.Disk R.Directory C.Chronicle stripe.new }
-    ensures unharmed { Between D.Disk R.Directory C.Chronicle stripe.old stripe.new ⊎ IsOtherDocument (state_in C.Chronicle stripe.old) id listed }
+    ensures unharmed { Between D.Disk R.Directory C.Chronicle stripe.old stripe.new ⊎ IsOtherDocument (state_in C.Chronicle stripe.old) (seen_in D.Disk R.Directory stripe.old).device.past (seen_in D.Disk R.Directory stripe.new).device.past id listed }
     ensures accounted { IsAccounted (seen_in D.Disk R.Directory stripe.old).device.past (seen_in D.Disk R.Directory stripe.new).device.past
         (kept_in C.Chronicle stripe.old) (kept_in C.Chronicle stripe.new) }
     ensures device { IsAfter (seen_in D.Disk R.Directory stripe.old).device (seen_in D.Disk R.Directory stripe.new).device }

@@ -6,7 +6,8 @@ use Rattle.stripe_core.specs.Stripe.{kept_in, seen_in, state_in}
 use Rattle.stripe_core.proofs.Between.{accounted_then}
 use Rattle.stripe_core.proofs.Fitting.{budget_has_room}
 use Rattle.stripe_read.specs.declared.fetching.Unlike.{Unlike}
-use Rattle.stripe_read.specs.Fetches.{Fetches, IsCompared, IsUnlike}
+use Rattle.logged_disk.specs.Device.{State as Device}
+use Rattle.stripe_read.specs.Fetches.{Fetches, IsCompared, IsOtherDocument, IsUnlike}
 use Rattle.stripe_read.proofs.Staying.{found_same}
 use Rattle.stripe_read.proofs.Comparing.{compared, found_size, missing, unlike_document}
 use Rattle.stripe_read.proofs.Harmless.{behind_unharmed}
@@ -54,8 +55,9 @@ returns-in-Found-clause-unharmed g c =
     (subst (λ f. kept_in g.C.Chronicle c.find_piece.new.self ≡ with_records (kept_in g.C.Chronicle c.args.stripe.now) (find_adds s c.args.id f)) c.in-Found.is c.in_ok-size.ensures.adds) in
     behind_unharmed old new (seen_in g.D.Disk g.R.Directory c.compare.new.stripe).device (kept_in g.C.Chronicle c.args.stripe.now) found_kept (kept_in g.C.Chronicle c.compare.new.stripe)
     (λ (x : (u : Unlike) × IsUnlike (state_of found_kept) c.args.id c.args.listed (take size into) u).
-    unlike_document s old new c.args.id c.args.listed size into x.0 (subst (λ f. Finds s old new c.args.id f into) c.in-Found.is c.in_ok-size.ensures.finds)
-    (subst (λ k. IsUnlike (state_of k) c.args.id c.args.listed (take size into) x.0) same x.1))
+    subst (λ (d : Device). IsOtherDocument s old.past d.past c.args.id c.args.listed) (sym c.compare.ensures.still)
+    (unlike_document s old new c.args.id c.args.listed size into x.0 c.in_ok-size.ensures.unharmed.goes (subst (λ f. Finds s old new c.args.id f into) c.in-Found.is c.in_ok-size.ensures.finds)
+    (subst (λ k. IsUnlike (state_of k) c.args.id c.args.listed (take size into) x.0) same x.1)))
     c.in_ok-size.ensures.unharmed c.compare.ensures.unharmed
 
 pub returns-in-Found-clause-accounted : goal.returns-in-Found-clause-accounted

@@ -61,7 +61,8 @@ returns-in-Found-clause-unharmed g c =
     let s = state_in g.C.Chronicle c.args.stripe.now in
     unharmed_behind (seen_in g.D.Disk g.R.Directory c.args.stripe.now).device (seen_in g.D.Disk g.R.Directory c.fetch.new.stripe).device (seen_in g.D.Disk g.R.Directory c.note.new.self).device
     (kept_in g.C.Chronicle c.args.stripe.now) (kept_in g.C.Chronicle c.fetch.new.stripe) (kept_in g.C.Chronicle c.note.new.self)
-    (other_next s c.args.reader.now c.next_piece.result c.listed_digest-listed.result c.args.cut c.args.digest c.requires.next c.next_piece.ensures c.listed_digest-listed.ensures)
+    (other_next s (seen_in g.D.Disk g.R.Directory c.args.stripe.now).device.past (seen_in g.D.Disk g.R.Directory c.fetch.new.stripe).device.past (seen_in g.D.Disk g.R.Directory c.note.new.self).device.past
+    c.args.reader.now c.next_piece.result c.listed_digest-listed.result c.args.cut c.args.digest c.requires.next c.next_piece.ensures c.listed_digest-listed.ensures c.note.ensures.unharmed.goes.made c.note.ensures.unharmed.goes.past)
     c.fetch.ensures.unharmed c.note.ensures.unharmed
 
 pub returns-in-Missing-clause-unharmed : goal.returns-in-Missing-clause-unharmed
@@ -69,7 +70,9 @@ returns-in-Missing-clause-unharmed g c =
     let s = state_in g.C.Chronicle c.args.stripe.now in
     unharmed_behind (seen_in g.D.Disk g.R.Directory c.args.stripe.now).device (seen_in g.D.Disk g.R.Directory c.fetch.new.stripe).device (seen_in g.D.Disk g.R.Directory c.note-in-Missing.new.self).device
     (kept_in g.C.Chronicle c.args.stripe.now) (kept_in g.C.Chronicle c.fetch.new.stripe) (kept_in g.C.Chronicle c.note-in-Missing.new.self)
-    (other_next s c.args.reader.now c.next_piece.result c.listed_digest-listed.result c.args.cut c.args.digest c.requires.next c.next_piece.ensures c.listed_digest-listed.ensures)
+    (other_next s (seen_in g.D.Disk g.R.Directory c.args.stripe.now).device.past (seen_in g.D.Disk g.R.Directory c.fetch.new.stripe).device.past (seen_in g.D.Disk g.R.Directory c.note-in-Missing.new.self).device.past
+    c.args.reader.now c.next_piece.result c.listed_digest-listed.result c.args.cut c.args.digest c.requires.next c.next_piece.ensures c.listed_digest-listed.ensures
+    c.note-in-Missing.ensures.unharmed.goes.made c.note-in-Missing.ensures.unharmed.goes.past)
     c.fetch.ensures.unharmed c.note-in-Missing.ensures.unharmed
 
 pub returns-in-Found-clause-accounted : goal.returns-in-Found-clause-accounted
