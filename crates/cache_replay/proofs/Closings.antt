@@ -40,6 +40,7 @@ use Rattle.cache_replay.specs.Putting.{receipt_answer, refusal_answer}
 use Rattle.cache_replay.specs.WriterLines.{Closes, IsPlayed, WriterDoes, WriterEnds, closed_answer}
 use Rattle.cache_replay.specs.Shown.{Shows}
 use Rattle.cache_replay.proofs.Shown.{as_placed, key_pair, shows_behind, shows_in, weigh_reads}
+use Rattle.stripe_core.specs.Covers.{calls_since}
 use Rattle.stripe_core.specs.Faults.{IsAccounted}
 use Rattle.stripe_core.proofs.Between.{accounted_is}
 use Rattle.stripe_core.proofs.Covering.{own_covers, own_permit}
@@ -178,16 +179,17 @@ module _ (now : ℕ) (old new : Kept) (before after : List Call) (accounted : Is
         says = ap (λ o. Rattle.script_run.specs.Answers.if_has o (λ put. said t None (reason_of e) (put_said t put))) has ∙ says end_;
       })
 
-  shows : (p : Permit) → p.packed ≡ false → p.area ≡ 0 → p.now ≡ now → IsKeyPair IsVectorAs p s w.key → (run : Run) (name : List ℕ) (said_ : StepAnswer) → run.now ≡ now → IsPlayed run name s w → WriterEnds run name before after s t Closes left said_
-  shows p plain content at pair run name said_ moment played =
+  shows : (p : Permit) → p.packed ≡ false → p.area ≡ 0 → p.now ≡ now → p.events ≡ calls_since before after → IsKeyPair IsVectorAs p s w.key → (run : Run) (name : List ℕ) (said_ : StepAnswer) → run.now ≡ now → IsPlayed run name s w → WriterEnds run name before after s t Closes left said_
+  shows p plain content at calls pair run name said_ moment played =
       let weighs : Intent = Weigh w.put (length w.gathered.items) in
       let first : IsPair (IsPlacedAs run.streams) p s weighs =
       as_placed run.streams p s weighs (key_pair p s weighs w.key (weigh_reads s w.put (length w.gathered.items) w.key (key_at s w writing own)) pair) in
-      inr (shows_in run s (step.Close name) (record {
+      inr (shows_in run before after s (step.Close name) (record {
         device = p;
         plain = plain;
         content = content;
         moment = at ∙ sym moment;
+        calls = calls;
         shows = subst (λ is. Shows (IsPlacedAs run.streams) p s is) (sym (asks run name played)) (shows_behind (IsPlacedAs run.streams) p s (close_intents w) [] (to_do (close_intents w)) nothing first);
       }))
 
@@ -196,7 +198,7 @@ module _ (now : ℕ) (old new : Kept) (before after : List Call) (accounted : Is
       → (run : Run) (name : List ℕ) → run.now ≡ now → IsPlayed run name s w → WriterEnds run name before after s t Closes left said_
   either result said_ asked_ then_ run name moment played = elim (asked_.does (own_permit now before after) refl (own_covers now before after) played.told) [
     | inl closes ↦ then_ run name moment played closes
-    | inr pair ↦ shows (own_permit now before after) refl refl refl pair run name said_ moment played
+    | inr pair ↦ shows (own_permit now before after) refl refl refl refl pair run name said_ moment played
   ]
 
   -- each answer

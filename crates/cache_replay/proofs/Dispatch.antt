@@ -1,5 +1,5 @@
 -- Lines on a session leave the bay as it is.
-use Rattle.std.proofs.Common.{◌≡◌, ℕ, List, [], refl, sym, ◌∙◌, subst, inl, inr}
+use Rattle.std.proofs.Common.{◌≡◌, ℕ, List, [], refl, sym, ◌∙◌, inl, inr}
 use Rattle.std.specs.Prelude.{IfErr, IfOk, Option, Some, None, Result, Ok, Err}
 use Rattle.std.proofs.lemmas.List.{append-nil}
 use Rattle.logged_disk.specs.declared.device.Disk.{Ghosts as DiskGhosts}
@@ -17,7 +17,10 @@ use Rattle.cache_replay.specs.declared.session.Session.{Session}
 use Rattle.cache_replay.specs.declared.stop.Stop.{Stop}
 use Rattle.cache_replay.specs.declared.stop.Stop.TheVariants.{NoCache, BayFault, Memory}
 use Rattle.cache_replay.specs.Plays.{DeviceEnds, DeviceMoves, Plays, StepEnds, StepMoves}
-use Rattle.script_run.specs.Ledger.{Deals, Ledger}
+use Rattle.script_run.specs.Ledger.{Ledger}
+use Rattle.cache_replay.specs.Session.{AreLater, IsSession, TellsCount, return_of}
+use Rattle.cache_replay.proofs.Outlines.{no_deals, shown_outlines}
+use Rattle.cache_replay.proofs.Unharming.{plays_outlined}
 use Rattle.cache_replay.specs.Stop.{IsSessionStop, NeedsSession, RefusesAtStop, StopsStep}
 
 -- what a run says of devices and of the moment
@@ -35,13 +38,6 @@ same_beside run turn state (step.Format name segments buckets content agg reach 
 same_beside run turn state (step.Now at) needs = absurd needs
 same_beside run turn (Some s) _ needs = record { ended = refl; names = refl; now = refl }
 same_beside run turn None _ needs = same run
-
--- so no device comes back and none is attached
-pub no_deals : (ledger : Ledger) → Deals ledger ledger [] []
-no_deals ledger = record {
-  back = record { devices = []; returned = sym (append-nil ledger.returned); reached = tt };
-  attached = sym (append-nil ledger.names);
-}
 
 module _ {D R C : Type 0} (disk : DiskGhosts D) (directory : DirectoryGhosts R) (chronicle : ChronicleGhosts C) where
   moves : (run : Run) (step : Step) (new : Session D R C) (said : StepAnswer) (ledger : Ledger) → NeedsSession step → StepMoves disk directory chronicle run step new said
@@ -69,11 +65,6 @@ module _ {D R C : Type 0} (disk : DiskGhosts D) (directory : DirectoryGhosts R) 
     deals = no_deals ledger;
   }
 
-  pub ends : (run : Run) (step : Step) (new : Session D R C) (said : StepAnswer) (before now : Ledger) → now ≡ before → NeedsSession step → StepEnds disk directory chronicle run step new said
-      → DeviceEnds disk directory chronicle run step new said before now
-  ends run step new said before now is needs (inl m) = inl (subst (λ n. DeviceMoves disk directory chronicle run step new said before n) (sym is) (moves run step new said before needs m))
-  ends run step new said before now is needs (inr shows) = inr shows
-
 -- what is no format and sets no moment works on a session
 pub needs_session : (s : Step) → ((name : List ℕ) (segments buckets content agg reach fragment generation alternates : ℕ) → s ≡ step.Format name segments buckets content agg reach fragment generation alternates → ⊥) → ((at : ℕ) → s ≡ step.Now at → ⊥) → NeedsSession s
 needs_session (step.Format name segments buckets content agg reach fragment generation alternates) h k = absurd (h name segments buckets content agg reach fragment generation alternates refl)
@@ -83,11 +74,20 @@ needs_session _ h k = tt
 -- ---- whatever a line answers
 
 module _ {D R C : Type 0} (disk : DiskGhosts D) (directory : DirectoryGhosts R) (chronicle : ChronicleGhosts C) where
-  pub all_ends : (result : Result StepAnswer Stop) (s : Step) (old new : Session D R C) (ledger : Ledger) → NeedsSession s
+  pub all_ends : (result : Result StepAnswer Stop) (s : Step) (old new : Session D R C) (ledger : Ledger) → NeedsSession s → IsSession disk directory chronicle old
+      → AreLater (return_of disk directory chronicle old.part) (return_of disk directory chronicle new.part) → IfOk result (TellsCount disk directory chronicle new.part)
       → IfOk result (λ said. (run : Run) → Plays disk directory chronicle run old → StepEnds disk directory chronicle run s new said)
       → IfOk result (λ said. (run : Run) → Plays disk directory chronicle run old → DeviceEnds disk directory chronicle run s new said ledger ledger)
-  all_ends (Ok said) s old new ledger needs h = λ run plays. ends disk directory chronicle run s new said ledger ledger refl needs (h run plays)
-  all_ends (Err why) s old new ledger needs h = tt
+  all_ends (Ok said) s old new ledger needs is later tells h = λ run plays.
+      elim (h run plays) [
+        | inl m ↦ inl (moves disk directory chronicle run s new said ledger needs m)
+        | inr pair ↦ inr (record {
+          turn = pair.turn;
+          shows = pair.shows;
+          outlines = shown_outlines disk directory chronicle run pair.turn s old new said ledger needs later tells pair.calls (plays_outlined disk directory chronicle run old is plays);
+        })
+      ]
+  all_ends (Err why) s old new ledger needs is later tells h = tt
 
 -- why a line on a session ends the run
 pub all_stops : {D R C : Type 0} (result : Result StepAnswer Stop) (s : Step) (old : Session D R C) (before now : List BayCall) → NeedsSession s → IfErr result (IsSessionStop old) → IfErr result (StopsStep old s before now)

@@ -24,7 +24,7 @@ use Rattle.cache_replay.specs.declared.session.Session.{Session}
 use Rattle.cache_replay.specs.Session.{return_of}
 use Rattle.cache_replay.specs.Plays.{DeviceMoves, Plays}
 use Rattle.script_run.specs.Ledger.{AreReached, Deals, Ledger}
-use Rattle.cache_replay.proofs.Dispatch.{no_deals}
+use Rattle.cache_replay.proofs.Outlines.{no_deals}
 
 -- ---- what was told of devices
 

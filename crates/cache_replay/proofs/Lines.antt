@@ -199,9 +199,9 @@ is_played run name s slots n w is mine plays =
 pub plays_on : (own : StepsOwn) (tell : StepsTell) (line : WriterLine) (run : Run) (name : List ℕ) (before after : List Call) (s t : State) (slots new : ℕ → Option Holding) (n put : ℕ) (left : Option Writer) (said : StepAnswer)
     → n ≡ number_of run.actors name → IsSound s → IsQuiet s → IsPutOf run s line name put → LeavesBut (Some put) None s t → Changed slots new n (held_in left) → OthersElse slots n (Some put) None → AreHeld s slots → PlaysIn run s slots
     → (moves : WriterMoves run name before after s t line left said)
-    → PlaysIn (in_session run s (after_all s moves.turn.added) moves.turn (step_of line name)) t new ⊎ ShowsIn run (Some s) (step_of line name)
+    → PlaysIn (in_session run s (after_all s moves.turn.added) moves.turn (step_of line name)) t new ⊎ ShowsIn run before after (Some s) (step_of line name)
 plays_on own tell line run name before after s t slots new n put left said is sound quiet of leaves changed others held plays moves =
-    elim (stands_behind tell own run s (after_all s moves.turn.added) moves.turn (step_of line name) slots moves.takes refl sound quiet held plays) [
+    elim (stands_behind tell own run before after s (after_all s moves.turn.added) moves.turn (step_of line name) slots moves.calls moves.takes refl sound quiet held plays) [
       | inl there ↦ inl (plays_then there)
       | inr shows ↦ inr shows
     ]

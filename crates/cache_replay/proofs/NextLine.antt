@@ -113,12 +113,13 @@ module _ (own : ReadIsOwn) (run : Run) (before after : List Call) (k new : Kept)
     keeps = keeps;
   }
 
-  shows_other : (row : Row) → to_read (state_of k) (ReadOn r.reader) ≡ Some row → IsPairOf (IsPlacedAs run.streams) p (state_of k) row → ShowsAt (IsPlacedAs run.streams) run.now (state_of k) (ReadOn r.reader ∷ [])
+  shows_other : (row : Row) → to_read (state_of k) (ReadOn r.reader) ≡ Some row → IsPairOf (IsPlacedAs run.streams) p (state_of k) row → ShowsAt (IsPlacedAs run.streams) run.now before after (state_of k) (ReadOn r.reader ∷ [])
   shows_other row reads pair = record {
     device = p;
     plain = plain;
     moment = moment;
     content = content;
+    calls = calls;
     shows = shows_first (IsPlacedAs run.streams) p (state_of k) (ReadOn r.reader) [] (record { row = row; read = IsToRead.asked_for reads; pair = pair });
   }
 
@@ -205,19 +206,19 @@ module _ {D R C : Type 0} (disk : DiskGhosts D) (directory : DirectoryGhosts R) 
             })
             (next_has run (after_all s m.added) name r later by.0 same (subst (λ t. IsReaderOf t later) m.behind m.keeps)) m.keeps active plays goes
             (ap (λ (o : Option ℕ). says.if_has o (λ reader. says.next_said m.given (told_in m.added))) reads ∙ m.says)
-        | inr shown ↦ inr (shows_in run s (step.Next name) (subst (ShowsAt (IsPlacedAs run.streams) run.now s) (sym asked_is) shown))
+        | inr shown ↦ inr (shows_in run (past_of disk directory old) (past_of disk directory new) s (step.Next name) (subst (ShowsAt (IsPlacedAs run.streams) run.now (past_of disk directory old) (past_of disk directory new) s) (sym asked_is) shown))
       ]
 
   -- more pieces are told as damaged only where two documents of one SHA-256 are shown
-  pub next_line_harms : {X : Type 0} (part : Part D R C) (before : Seen Holding) (name : List ℕ) (n : ℕ) (r : Reader) → n ≡ number_of before.names name → slots_of before n ≡ Some (holding.Reader r)
-      → ((run : Run) → AreOwn (state_in chronicle part.stripe) run.streams → IsReaderOf (state_in chronicle part.stripe) r → X ⊎ ShowsAt (IsPlacedAs run.streams) run.now (state_in chronicle part.stripe) (ReadOn r.reader ∷ []))
-      → (run : Run) → PlaysPart chronicle run part before → X ⊎ ShowsIn run (Some (state_in chronicle part.stripe)) (step.Next name)
-  next_line_harms {X} part before name n r number had harms run plays =
+  pub next_line_harms : {X : Type 0} (part new : Part D R C) (before : Seen Holding) (name : List ℕ) (n : ℕ) (r : Reader) → n ≡ number_of before.names name → slots_of before n ≡ Some (holding.Reader r)
+      → ((run : Run) → AreOwn (state_in chronicle part.stripe) run.streams → IsReaderOf (state_in chronicle part.stripe) r → X ⊎ ShowsAt (IsPlacedAs run.streams) run.now (past_of disk directory part) (past_of disk directory new) (state_in chronicle part.stripe) (ReadOn r.reader ∷ []))
+      → (run : Run) → PlaysPart chronicle run part before → X ⊎ ShowsIn run (past_of disk directory part) (past_of disk directory new) (Some (state_in chronicle part.stripe)) (step.Next name)
+  next_line_harms {X} part new before name n r number had harms run plays =
       let by = held_reader disk directory chronicle run part before name n r number had plays in
       let s : State = state_in chronicle part.stripe in
       elim (harms run plays.at.own by.1) [
         | inl x ↦ inl x
-        | inr shown ↦ inr (shows_in run s (step.Next name) (subst (ShowsAt (IsPlacedAs run.streams) run.now s) (sym (next_asks run part before name n r number had plays)) shown))
+        | inr shown ↦ inr (shows_in run (past_of disk directory part) (past_of disk directory new) s (step.Next name) (subst (ShowsAt (IsPlacedAs run.streams) run.now (past_of disk directory part) (past_of disk directory new) s) (sym (next_asks run part before name n r number had plays)) shown))
       ]
 
   -- an actor without a reader

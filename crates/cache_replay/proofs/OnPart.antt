@@ -25,7 +25,7 @@ use Rattle.cache_replay.specs.declared.stop.Stop.TheVariants.{Memory}
 use Rattle.cache_replay.specs.Session.{AreLater, past_of, return_of, slots_in}
 use Rattle.cache_replay.specs.Plays.{PartEnds, Plays, PlaysAt, PlaysPart, StepEnds, StepMoves}
 use Rattle.cache_replay.specs.Stop.{IsSessionStop}
-use Rattle.cache_replay.proofs.OnSession.{IsOnSession}
+use Rattle.cache_replay.proofs.OnSession.{IsOnSession, shows_step}
 use Rattle.cache_replay.proofs.Unharming.{session_calls, session_unharmed}
 
 module _ {D R C : Type 0} (disk : DiskGhosts D) (directory : DirectoryGhosts R) (chronicle : ChronicleGhosts C) where
@@ -61,28 +61,25 @@ module _ {D R C : Type 0} (disk : DiskGhosts D) (directory : DirectoryGhosts R) 
         says = subst (λ o. step_said run turn o step ≡ said) (sym state) (on.says run s turn ∙ says);
       }
 
-  -- some way into it two documents of one SHA-256 are shown
-  pub line_shows : (run : Run) (old : Session D R C) (before : Part D R C) (step : Step) → old.part ≡ Some before → Plays disk directory chronicle run old
-      → ShowsIn run (Some (state_in chronicle before.stripe)) step → ShowsIn run run.state step
-  line_shows run old before step was plays shown = subst (λ o. ShowsIn run o step) (sym (part_plays run old before was plays).at.state) shown
-
   line_ends : (run : Run) (old new : Session D R C) (before after : Part D R C) (step : Step) (said : StepAnswer) → IsOnSession step → old.part ≡ Some before → new.part ≡ Some after → new.now ≡ old.now → Plays disk directory chronicle run old
-      → Between disk directory chronicle before.stripe after.stripe ⊎ ShowsIn run (Some (state_in chronicle before.stripe)) step
+      → IsAfter (seen_in disk directory before.stripe).device (seen_in disk directory after.stripe).device
+      → Between disk directory chronicle before.stripe after.stripe ⊎ ShowsIn run (past_of disk directory before) (past_of disk directory after) (Some (state_in chronicle before.stripe)) step
       → PartEnds disk directory chronicle run before step after new.actors said → StepEnds disk directory chronicle run step new said
-  line_ends run old new before after step said on was is kept plays (inr shown) ends = inr (line_shows run old before step was plays shown)
-  line_ends run old new before after step said on was is kept plays (inl stays) (inr shown) = inr (line_shows run old before step was plays shown)
-  line_ends run old new before after step said on was is kept plays (inl stays) (inl m) = inl (line_moved run old new before after step said m.turn on was is kept plays stays m.takes m.calls m.plays m.says)
+  line_ends run old new before after step said on was is kept plays goes (inr shown) ends = inr (shows_step disk directory chronicle run old new before after step was is goes plays shown)
+  line_ends run old new before after step said on was is kept plays goes (inl stays) (inr shown) = inr (shows_step disk directory chronicle run old new before after step was is goes plays shown)
+  line_ends run old new before after step said on was is kept plays goes (inl stays) (inl m) = inl (line_moved run old new before after step said m.turn on was is kept plays stays m.takes m.calls m.plays m.says)
 
   -- whatever it answers
   pub line_answers : (old new : Session D R C) (before after : Part D R C) (step : Step) (result : Result StepAnswer Stop) → IsOnSession step → old.part ≡ Some before → new.part ≡ Some after → new.now ≡ old.now
+      → IsAfter (seen_in disk directory before.stripe).device (seen_in disk directory after.stripe).device
       → ((run : Run) → PlaysPart chronicle run before old.actors
-      → Between disk directory chronicle before.stripe after.stripe ⊎ ShowsIn run (Some (state_in chronicle before.stripe)) step)
+      → Between disk directory chronicle before.stripe after.stripe ⊎ ShowsIn run (past_of disk directory before) (past_of disk directory after) (Some (state_in chronicle before.stripe)) step)
       → IfOk result (λ said. (run : Run) → PlaysPart chronicle run before old.actors → PartEnds disk directory chronicle run before step after new.actors said)
       → IfOk result (λ said. (run : Run) → Plays disk directory chronicle run old → StepEnds disk directory chronicle run step new said)
-  line_answers old new before after step (Ok said) on was is kept harms ends = λ run plays.
+  line_answers old new before after step (Ok said) on was is kept goes harms ends = λ run plays.
       let there = part_plays run old before was plays in
-      line_ends run old new before after step said on was is kept plays (harms run there) (ends run there)
-  line_answers old new before after step (Err why) on was is kept harms ends = tt
+      line_ends run old new before after step said on was is kept plays goes (harms run there) (ends run there)
+  line_answers old new before after step (Err why) on was is kept goes harms ends = tt
 
   -- one that does so at the session's moment
   pub moment_answers : (old new : Session D R C) (before after : Part D R C) (step : Step) (result : Result StepAnswer Stop) → IsOnSession step → old.part ≡ Some before → new.part ≡ Some after → new.now ≡ old.now
@@ -90,7 +87,7 @@ module _ {D R C : Type 0} (disk : DiskGhosts D) (directory : DirectoryGhosts R) 
       → IfOk result (λ said. (run : Run) → run.now ≡ old.now → PlaysPart chronicle run before old.actors → PartEnds disk directory chronicle run before step after new.actors said)
       → IfOk result (λ said. (run : Run) → Plays disk directory chronicle run old → StepEnds disk directory chronicle run step new said)
   moment_answers old new before after step (Ok said) on was is kept stays ends = λ run plays.
-      line_ends run old new before after step said on was is kept plays (inl stays) (ends run plays.now (part_plays run old before was plays))
+      line_ends run old new before after step said on was is kept plays stays.goes (inl stays) (ends run plays.now (part_plays run old before was plays))
   moment_answers old new before after step (Err why) on was is kept stays ends = tt
 
   -- ---- the device of a session

@@ -1,6 +1,7 @@
 -- A call of a stripe as a line on a session.
 use Rattle.std.proofs.Common.{◌≡◌, ℕ, List, ◌++◌, refl, sym, ◌∙◌, ap, subst, ◌⊎◌, inl, inr, true, Result, Ok, Err}
 use Rattle.std.specs.Prelude.{Option, Some, None, IfSome, IfOk, option_and_then}
+use Rattle.logged_disk.specs.Device.{IsAfter}
 use Rattle.logged_disk.specs.declared.device.Disk.{Ghosts as DiskGhosts}
 use Rattle.dir_table.specs.declared.directory.Directory.{Ghosts as DirectoryGhosts}
 use Rattle.cache_chronicle.specs.declared.chronicle.Chronicle.{Ghosts as ChronicleGhosts}
@@ -11,7 +12,7 @@ use Rattle.cache_model.specs.Legal.{IsQuiet, is_writing}
 use Rattle.cache_model.specs.Tape.{IsSound}
 use Rattle.cache_model.specs.Vectors.{AreTold}
 use Rattle.model_laws.specs.VectorLaws.{StepsTell}
-use Rattle.stripe_core.specs.Stripe.{state_in}
+use Rattle.stripe_core.specs.Stripe.{seen_in, state_in}
 use Rattle.stripe_core.specs.Between.{Between}
 use Rattle.stripe_core.specs.Covers.{calls_since}
 use Rattle.script_lang.specs.declared.step.Step.{Step}
@@ -24,7 +25,7 @@ use Rattle.script_run.specs.Answers.{session_said, step_said}
 use Rattle.script_run.specs.Behind as then
 use Rattle.script_run.specs.Behind.{in_session, streams_behind}
 use Rattle.script_run.specs.Own.{AreOwn, AreWriting}
-use Rattle.script_run.specs.Takes.{SessionTakes, Takes, streams_with}
+use Rattle.script_run.specs.Takes.{SessionTakes, StepShows, Takes, streams_with}
 use Rattle.script_run.specs.Laws.{StepsOwn}
 use Rattle.cache_replay.specs.declared.session.Session.{Session}
 use Rattle.cache_replay.specs.declared.session.Part.{Part}
@@ -32,8 +33,9 @@ use Rattle.cache_replay.specs.declared.session.Holding.{Holding}
 use Rattle.cache_replay.specs.declared.stop.Stop.{Stop}
 use Rattle.cache_replay.specs.declared.session.Holding.TheVariants as holding
 use Rattle.cache_replay.specs.Session.{AreHeld, IsActive, IsAt, IsHeld, IsPart, IsSession, LeavesBut, names_in, past_of, slots_in}
-use Rattle.cache_replay.specs.Plays.{IsHeldAs, Plays, PlaysAt, PlaysIn, StepEnds, StepMoves}
+use Rattle.cache_replay.specs.Plays.{IsHeldAs, Plays, PlaysAt, PlaysIn, StepEnds, StepMoves, StepPair}
 use Rattle.cache_replay.specs.Plain.{Plainly}
+use Rattle.cache_replay.specs.Outline.{called}
 use Rattle.cache_replay.specs.Shown.{ShowsIn}
 use Rattle.cache_replay.proofs.Shown.{shows_placed}
 use Rattle.cache_replay.specs.Stop.{NeedsSession}
@@ -58,32 +60,36 @@ are_writing run s slots plays held = λ name put is.
 -- ---- behind a line
 
 -- vectors and puts are told behind a line, or it shows two documents of one SHA-256
-pub told_behind : (tell : StepsTell) (run : Run) (s t : State) (turn : Turn) (step : Step) → SessionTakes run s turn step → after_all s turn.added ≡ t → IsSound s → AreTold s
-    → AreTold t ⊎ ShowsIn run (Some s) step
-told_behind tell run s t turn step takes is sound told =
+pub told_behind : (tell : StepsTell) (run : Run) (before after : List Call) (s t : State) (turn : Turn) (step : Step) → turn.device.events ≡ calls_since before after → SessionTakes run s turn step → after_all s turn.added ≡ t → IsSound s → AreTold s
+    → AreTold t ⊎ ShowsIn run before after (Some s) step
+told_behind tell run before after s t turn step calls takes is sound told =
     elim (tell turn.device s (asked run s step) turn.added turn.refused sound told takes.legal) [
       | inl kept ↦ inl (subst AreTold is kept)
-      | inr v ↦ inr (turn, record { plain = takes.plain; content = takes.content; moment = takes.moment; shows = shows_placed (streams_with run s step) turn.device s (asked run s step) turn.added v })
+      | inr v ↦ inr (record {
+        turn = turn;
+        calls = calls;
+        shows = record { plain = takes.plain; content = takes.content; moment = takes.moment; shows = shows_placed (streams_with run s step) turn.device s (asked run s step) turn.added v };
+      })
     ]
 
 -- and so does what stands belong to what writers took
-pub own_behind : (own : StepsOwn) (run : Run) (s t : State) (turn : Turn) (step : Step) (slots : ℕ → Option Holding) → SessionTakes run s turn step → after_all s turn.added ≡ t
-    → IsSound s → IsQuiet s → AreHeld s slots → PlaysIn run s slots → AreOwn t (streams_behind run s (after_all s turn.added) turn step) ⊎ ShowsIn run (Some s) step
-own_behind own run s t turn step slots takes is sound quiet held plays =
+pub own_behind : (own : StepsOwn) (run : Run) (before after : List Call) (s t : State) (turn : Turn) (step : Step) (slots : ℕ → Option Holding) → turn.device.events ≡ calls_since before after → SessionTakes run s turn step → after_all s turn.added ≡ t
+    → IsSound s → IsQuiet s → AreHeld s slots → PlaysIn run s slots → AreOwn t (streams_behind run s (after_all s turn.added) turn step) ⊎ ShowsIn run before after (Some s) step
+own_behind own run before after s t turn step slots calls takes is sound quiet held plays =
     elim (own run s turn step sound plays.told quiet plays.own (are_writing run s slots plays held) takes.legal) [
       | inl kept ↦ inl (subst (λ u. AreOwn u (streams_behind run s (after_all s turn.added) turn step)) is kept)
-      | inr shows ↦ inr (turn, record { plain = takes.plain; content = takes.content; moment = takes.moment; shows = shows })
+      | inr shows ↦ inr (record { turn = turn; calls = calls; shows = record { plain = takes.plain; content = takes.content; moment = takes.moment; shows = shows } })
     ]
 
 -- what stands behind a line
 abbrev pub StandsBehind : Run → (s t : State) → Turn → Step → Type 0
 StandsBehind run s t turn step = AreTold t × AreOwn t (streams_behind run s (after_all s turn.added) turn step)
 
-pub stands_behind : (tell : StepsTell) (own : StepsOwn) (run : Run) (s t : State) (turn : Turn) (step : Step) (slots : ℕ → Option Holding) → SessionTakes run s turn step → after_all s turn.added ≡ t
-    → IsSound s → IsQuiet s → AreHeld s slots → PlaysIn run s slots → StandsBehind run s t turn step ⊎ ShowsIn run (Some s) step
-stands_behind tell own run s t turn step slots takes is sound quiet held plays =
-    elim (told_behind tell run s t turn step takes is sound plays.told) [
-      | inl told ↦ elim (own_behind own run s t turn step slots takes is sound quiet held plays) [
+pub stands_behind : (tell : StepsTell) (own : StepsOwn) (run : Run) (before after : List Call) (s t : State) (turn : Turn) (step : Step) (slots : ℕ → Option Holding) → turn.device.events ≡ calls_since before after → SessionTakes run s turn step → after_all s turn.added ≡ t
+    → IsSound s → IsQuiet s → AreHeld s slots → PlaysIn run s slots → StandsBehind run s t turn step ⊎ ShowsIn run before after (Some s) step
+stands_behind tell own run before after s t turn step slots calls takes is sound quiet held plays =
+    elim (told_behind tell run before after s t turn step calls takes is sound plays.told) [
+      | inl told ↦ elim (own_behind own run before after s t turn step slots calls takes is sound quiet held plays) [
         | inl owned ↦ inl (told, owned)
         | inr shows ↦ inr shows
       ]
@@ -113,6 +119,15 @@ module _ {D R C : Type 0} (disk : DiskGhosts D) (directory : DirectoryGhosts R) 
   playing run session part is h = subst (λ p. PlaysAt disk directory chronicle run p (slots_in session)) is h.at
 
   -- ---- lines
+
+  -- a line on a part that shows a pair, as a step on the session
+  pub shows_step : (run : Run) (old new : Session D R C) (before after : Part D R C) (step : Step) → old.part ≡ Some before → new.part ≡ Some after → IsAfter (seen_in disk directory before.stripe).device (seen_in disk directory after.stripe).device
+      → Plays disk directory chronicle run old → ShowsIn run (past_of disk directory before) (past_of disk directory after) (Some (state_in chronicle before.stripe)) step → StepPair disk directory chronicle run step new
+  shows_step run old new before after step was is goes plays h = record {
+    turn = h.turn;
+    shows = subst (λ o. StepShows run h.turn o step) (sym (playing run old before was plays).state) h.shows;
+    calls = session_calls disk directory chronicle run (called run h.turn) old new before after h.turn.device.events was is goes h.calls refl plays.calls;
+  }
 
   -- where there is a session a line is as its records say
   pub moves : (run : Run) (s : State) (turn : Turn) (step : Step) (new : Session D R C) (said : StepAnswer) → run.state ≡ Some s → Takes run turn (Some s) step → step_said run turn (Some s) step ≡ said
@@ -213,14 +228,14 @@ module _ {D R C : Type 0} (disk : DiskGhosts D) (directory : DirectoryGhosts R) 
       let e = ends run plays.now in
       let a = active disk directory chronicle session old is h in
       let p = playing disk directory chronicle run session old is plays in
-      elim (stands_behind tell owns run s t e.turn step (slots_in session) e.takes e.behind a.part.stripe.pieces.sound a.part.quiet a.held p) [
+      elim (stands_behind tell owns run (past_of disk directory old) (past_of disk directory part) s t e.turn step (slots_in session) e.calls e.takes e.behind a.part.stripe.pieces.sound a.part.quiet a.held p) [
         | inl there ↦
             inl (moves disk directory chronicle run s e.turn step new said p.state (plain.on.takes run s e.turn e.takes)
             (plain.on.says run s e.turn ∙ (ap (λ u. session_said run s u e.turn step) e.behind ∙ e.says))
             (line_plays disk directory chronicle run session new old part is now names kept slots leaves stays plays (then.behind run e.turn (Some s) step) e.turn.device.events e.calls (plain.calls run s e.turn)
             (plain.actors run s e.turn) (plain.moment run s e.turn) (plain.streams run s e.turn) (plain.held run s e.turn) (plain.state run s e.turn ∙ ap Some e.behind)
             there.0 (subst (AreOwn t) (plain.same run s (after_all s e.turn.added) e.turn) there.1)))
-        | inr shows ↦ inr (subst (λ o. ShowsIn run o step) (sym p.state) shows)
+        | inr shows ↦ inr (shows_step disk directory chronicle run session new old part step is now stays.goes plays shows)
       ]
 
   pub line_ends : (tell : StepsTell) (owns : StepsOwn) (session new : Session D R C) (old part : Part D R C) (step : Step) (result : Result StepAnswer Stop) → IsPlain step → session.part ≡ Some old → new.part ≡ Some part

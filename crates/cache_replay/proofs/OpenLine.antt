@@ -184,11 +184,12 @@ module _ {D R C : Type 0} (disk : DiskGhosts D) (directory : DirectoryGhosts R) 
             (ap (λ (o : Option running.Holding). says.if_free o (says.lookup_said (after_all s recs) s.next_reader (lookup_in recs))) nobody
             ∙ (ap (says.lookup_said (after_all s recs) s.next_reader) (opened_finds s who key request (answer_in given))
             ∙ opened_says (after_all s recs) s.next_reader given tells (if_behind t (after_all s recs) given behind right.1)))
-        | inr other ↦ inr (shows_in run s (step.OpenRead name key request) (record {
+        | inr other ↦ inr (shows_in run (past_of disk directory old) (past_of disk directory new) s (step.OpenRead name key request) (record {
           device = p;
           plain = refl;
           content = refl;
           moment = refl;
+          calls = refl;
           shows = subst (λ is. Shows (IsPlacedAs run.streams) p s is) (sym asked_is)
               (shows_first (IsPlacedAs run.streams) p s (Look who.0 key request) [] (as_placed run.streams p s (Look who.0 key request) (key_pair p s (Look who.0 key request) key refl other)));
         }))

@@ -10,23 +10,25 @@ use Rattle.dir_table.specs.declared.directory.Directory.{Ghosts as DirectoryGhos
 use Rattle.cache_chronicle.specs.declared.chronicle.Chronicle.{Ghosts as ChronicleGhosts}
 use Rattle.tape_base.specs.declared.geometries.BadGeometry.{BadGeometry}
 use Rattle.tape_base.specs.Limits.{first_refusal}
+use Rattle.cache_model.specs.State.{State}
 use Rattle.script_lang.specs.declared.step.Step.{Step}
 use Rattle.script_lang.specs.declared.step.Step.TheVariants as step
 use Rattle.script_lang.specs.declared.answer.Refused.TheVariants as refused
 use Rattle.script_lang.specs.declared.answer.StepAnswer.{StepAnswer}
 use Rattle.script_lang.specs.declared.answer.StepAnswer.TheVariants as answer
 use Rattle.script_run.specs.Answers.{number_of_bad}
-use Rattle.script_run.specs.Run.{Harm, loosened, no_harm}
+use Rattle.script_run.specs.Run.{Harm, Run, loosened, no_harm}
+use Rattle.script_run.specs.Turn.{Turn}
+use Rattle.script_run.specs.Behind.{harm_in}
 use Rattle.cache_replay.specs.declared.session.Session.{Session}
 use Rattle.cache_replay.specs.declared.session.Part.{Part}
 use Rattle.cache_replay.specs.declared.stop.Stop.{Stop}
 use Rattle.cache_replay.specs.declared.stop.Stop.TheVariants.{BayFault, Memory, NoCache}
-use Rattle.cache_replay.specs.Outline.{IsAnswerOf, Outline, begun, begun_by, count_in, format_answer, joined, outline_after, raised, told_of}
+use Rattle.cache_replay.specs.Outline.{IsAnswerOf, Outline, called, outline_in, begun, begun_by, count_in, format_answer, joined, outline_after, raised, told_of}
 use Rattle.cache_replay.specs.Session.{AreLater, TellsCount, return_of}
 use Rattle.cache_replay.specs.Stop.{AttachesAs, IsSessionStop, NeedsSession}
-use Rattle.cache_replay.specs.Plays.{IsLeft, IsOutlined, Outlines, stays}
+use Rattle.cache_replay.specs.Plays.{CallsAt, IsLeft, IsOutlined, Outlines, stays}
 use Rattle.script_run.specs.Ledger.{AreReached, Deals, GoesOnFrom, Ledger}
-use Rattle.cache_replay.proofs.Dispatch.{no_deals}
 use Rattle.cache_replay.proofs.Unharming.{reached_loosely}
 
 -- ---- what a bay tells
@@ -35,6 +37,13 @@ pub same_ledger : (names others : List (List ℕ)) (returned came : List Device)
     → (let new : Ledger = record { names = others; returned = came } in new) ≡ record { names = names; returned = returned }
 same_ledger names others returned came called back =
     ap (λ l. let new : Ledger = record { names = l; returned = came } in new) called ∙ ap (λ l. let new : Ledger = record { names = names; returned = l } in new) back
+
+-- no device comes back and none is attached
+pub no_deals : (ledger : Ledger) → Deals ledger ledger [] []
+no_deals ledger = record {
+  back = record { devices = []; returned = sym (append-nil ledger.returned); reached = tt };
+  attached = sym (append-nil ledger.names);
+}
 
 -- ---- devices that go on
 
@@ -97,22 +106,45 @@ module _ {D R C : Type 0} (disk : DiskGhosts D) (directory : DirectoryGhosts R) 
   no_session None count some none = cc
   no_session (Some harm) count some none = cc
 
-  -- a line on a session
-  session_outlines : (o : Outline) (s : Step) (old new : Session D R C) (said : StepAnswer) (ledger : Ledger) → NeedsSession s → AreLater (Returns old.part) (Returns new.part) → TellsCount disk directory chronicle new.part said
-      → IsOutlined disk directory chronicle o old → Outlines disk directory chronicle o s new said ledger ledger
-  session_outlines o s old new said ledger needs later tells h =
+  -- a line on a session, behind which so much is told of its device
+  joined_outlines : (o : Outline) (s : Step) (new : Session D R C) (said : StepAnswer) (ledger : Ledger) → NeedsSession s → IsSome o.session → AreReached (told_of (option_map (raised (count_in said)) o.session)) (Returns new.part)
+      → Outlines disk directory chronicle o s new said ledger ledger
+  joined_outlines o s new said ledger needs some h =
       let same : begun_by o s ≡ o = begun_none o s needs in
       let after : outline_after o s said ≡ joined o (count_in said) = ap (λ x. joined x (count_in said)) same in
-      let some : IsSome o.session = has_session o.session old.part new.part said later tells h in
       record {
         answered = record { session = λ x. some; none = λ none. no_session o.session (count_in said) some (ap (λ (x : Outline). x.session) (sym same) ∙ none); fixed = answer_free s said needs };
-        outlined = subst (λ (x : Outline). AreReached (told_of x.session) (Returns new.part)) (sym after) (joins o.session (count_in said) old.part new.part said refl later tells h);
+        outlined = subst (λ (x : Outline). AreReached (told_of x.session) (Returns new.part)) (sym after) h;
         harms = [];
         ended = ap (λ (x : Outline). x.ended) after ∙ sym (append-nil o.ended);
         names = [];
         named = ap (λ (x : Outline). x.names) after ∙ sym (append-nil o.names);
         deals = no_deals ledger;
       }
+
+  session_outlines : (o : Outline) (s : Step) (old new : Session D R C) (said : StepAnswer) (ledger : Ledger) → NeedsSession s → AreLater (Returns old.part) (Returns new.part) → TellsCount disk directory chronicle new.part said
+      → IsOutlined disk directory chronicle o old → Outlines disk directory chronicle o s new said ledger ledger
+  session_outlines o s old new said ledger needs later tells h =
+      joined_outlines o s new said ledger needs (has_session o.session old.part new.part said later tells h) (joins o.session (count_in said) old.part new.part said refl later tells h)
+
+  -- where the calls of a device are those of another run, they are told of it
+  recalled : (state : Option State) (calls : List Call) (later : Run) (count : ℕ) (part : Option (Part D R C)) → CallsAt disk directory chronicle later part
+      → AreReached (told_of (option_map (raised count) (option_map (λ s. loosened (harm_in calls s)) state))) (Returns part)
+      → AreReached (told_of (option_map (raised count) (option_map (λ s. loosened (harm_in later.calls s)) state))) (Returns part)
+  recalled None calls later count part are h = h
+  recalled (Some s) calls later count None are h = absurd h
+  recalled (Some s) calls later count (Some part) are h = (record { made = record { later = []; is = are }; all = λ no. cc; counted = h.0.counted; unharmed = h.0.unharmed }, tt)
+
+  some_still : (state : Option State) (calls others : List Call) → IsSome (option_map (λ s. loosened (harm_in calls s)) state) → IsSome (option_map (λ s. loosened (harm_in others s)) state)
+  some_still None calls others h = h
+  some_still (Some s) calls others h = refl
+
+  -- a line on a session that showed a pair: the calls of its turn are told of the device as well
+  pub shown_outlines : (run : Run) (turn : Turn) (s : Step) (old new : Session D R C) (said : StepAnswer) (ledger : Ledger) → NeedsSession s → AreLater (Returns old.part) (Returns new.part) → TellsCount disk directory chronicle new.part said
+      → CallsAt disk directory chronicle (called run turn) new.part → IsOutlined disk directory chronicle (outline_in run) old → Outlines disk directory chronicle (outline_in (called run turn)) s new said ledger ledger
+  shown_outlines run turn s old new said ledger needs later tells calls h =
+      joined_outlines (outline_in (called run turn)) s new said ledger needs (some_still run.state run.calls (called run turn).calls (has_session (outline_in run).session old.part new.part said later tells h))
+      (recalled run.state run.calls (called run turn) (count_in said) new.part calls (joins (outline_in run).session (count_in said) old.part new.part said refl later tells h))
 
   pub all_outlines : (result : Result StepAnswer Stop) (s : Step) (old new : Session D R C) (ledger : Ledger) → NeedsSession s → AreLater (Returns old.part) (Returns new.part)
       → IfOk result (TellsCount disk directory chronicle new.part)

@@ -43,14 +43,14 @@ use Rattle.cache_replay.proofs.Shown.{shows_in, shows_placed}
 use Rattle.cache_replay.specs.WriterLines.{closed_answer}
 use Rattle.cache_replay.proofs.Frames.{some_is}
 use Rattle.cache_replay.proofs.Lines.{free_of, next_is_free}
-use Rattle.cache_replay.proofs.OnSession.{StandsBehind, active, moves, playing, stands_behind}
+use Rattle.cache_replay.proofs.OnSession.{StandsBehind, active, moves, playing, shows_step, stands_behind}
 use Rattle.cache_replay.proofs.Plain.{AllElse, still_held, still_plays}
 use Rattle.cache_replay.proofs.Unharming.{session_calls, session_unharmed}
 
 -- ---- what a put is for a cache
 
 abbrev Ends : Run → (before after : List Call) → (s t : State) → Key → List ℕ → (request response : List Field) → StepAnswer → Type 0
-Ends run before after s t key body request response said = Plainly run (step.Put key body request response) before after s t said ⊎ ShowsIn run (Some s) (step.Put key body request response)
+Ends run before after s t key body request response said = Plainly run (step.Put key body request response) before after s t said ⊎ ShowsIn run before after (Some s) (step.Put key body request response)
 
 module _ (now : ℕ) (before after : List Call) (k new : Kept) (accounted : IsAccounted before after k new) (quiet : IsQuiet (state_of new)) (key : Key) (body : List ℕ) (request response : List Field) (run : Run) (moment : run.now ≡ now) (told : AreTold (state_of k)) where
   asked_puts : (result : Result Receipt Refusal) (said : StepAnswer) → receipt_answer result ≡ said → PutsAsAsked now before after k new key body request response result
@@ -71,11 +71,12 @@ module _ (now : ℕ) (before after : List Call) (k new : Kept) (accounted : IsAc
           behind = sym (state_behind k new x.added x.adds);
           says = x.says ∙ is;
         })
-        | inr pair ↦ inr (shows_in run (state_of k) (step.Put key body request response) (record {
+        | inr pair ↦ inr (shows_in run before after (state_of k) (step.Put key body request response) (record {
           device = p;
           plain = refl;
           moment = refl;
           content = refl;
+          calls = refl;
           shows = (pair.0, shows_placed (with_bytes run.streams (state_of k).next_put body) p (state_of k) (put_intents (state_of k) key body request response) pair.0 pair.1);
         }))
       ]
@@ -142,7 +143,7 @@ module _ {D R C : Type 0} (disk : DiskGhosts D) (directory : DirectoryGhosts R) 
       let a = active disk directory chronicle session old is h in
       let p = playing disk directory chronicle run session old is plays in
       elim (ends run plays.now p.told) [
-        | inl x ↦ elim (stands_behind tell owns run s t x.turn line (slots_in session) x.takes x.behind a.part.stripe.pieces.sound a.part.quiet a.held p) [
+        | inl x ↦ elim (stands_behind tell owns run (past_of disk directory old) (past_of disk directory part) s t x.turn line (slots_in session) x.calls x.takes x.behind a.part.stripe.pieces.sound a.part.quiet a.held p) [
           | inl there ↦
               let later : Run = in_session run s (after_all s x.turn.added) x.turn line in
               inl (moves disk directory chronicle run s x.turn line new said p.state x.takes (ap (λ u. session_said run s u x.turn line) x.behind ∙ x.says) (record {
@@ -153,9 +154,9 @@ module _ {D R C : Type 0} (disk : DiskGhosts D) (directory : DirectoryGhosts R) 
                 unharmed = session_unharmed disk directory chronicle session new old part is now stays plays.unharmed;
                 calls = session_calls disk directory chronicle run later session new old part x.turn.device.events is now stays.goes x.calls refl plays.calls;
               }))
-          | inr shows ↦ inr (subst (λ o. ShowsIn run o line) (sym p.state) shows)
+          | inr shows ↦ inr (shows_step disk directory chronicle run session new old part line is now stays.goes plays shows)
         ]
-        | inr shows ↦ inr (subst (λ o. ShowsIn run o line) (sym p.state) shows)
+        | inr shows ↦ inr (shows_step disk directory chronicle run session new old part line is now stays.goes plays shows)
       ]
 
   pub put_ends : (tell : StepsTell) (owns : StepsOwn) (session new : Session D R C) (old part : Part D R C) (key : Key) (body : List ℕ) (request response : List Field) (result : Result StepAnswer Stop) → session.part ≡ Some old → new.part ≡ Some part

@@ -201,15 +201,16 @@ module _ {D R C : Type 0} (disk : DiskGhosts D) (directory : DirectoryGhosts R) 
         effects = line.effects;
       } in
       elim (tell device s i added Done sound plays.at.told line.does) [
-        | inr pair ↦ inr (shows_in run s step (record {
+        | inr pair ↦ inr (shows_in run (past_of disk directory old) (past_of disk directory new) s step (record {
           device = device;
           plain = line.plain;
           content = line.content;
           moment = line.moment;
+          calls = line.calls;
           shows = subst (λ is. Shows (IsPlacedAs (streams_with run s step)) device s is) (sym line.asks) (shows_first (IsPlacedAs (streams_with run s step)) device s i [] (as_placed (streams_with run s step) device s i pair));
         }))
         | inl told ↦ elim (own run s turn step sound plays.at.told active.part.quiet plays.at.own (are_writing run s (slots_of before) plays.at active.held) legal) [
-          | inr shown ↦ inr (turn, record { plain = line.plain; content = line.content; moment = line.moment; shows = shown })
+          | inr shown ↦ inr (record { turn = turn; calls = line.calls; shows = record { plain = line.plain; content = line.content; moment = line.moment; shows = shown } })
           | inl owned ↦ inl (record {
             turn = turn;
             takes = record { plain = line.plain; content = line.content; moment = line.moment; legal = legal; own = line.gives };

@@ -1,6 +1,7 @@
 -- A pair of a vector is one of a piece, and is shown where it is read.
-use Rattle.std.proofs.Common.{◌≡◌, ℕ, List, [], ◌∷◌, refl, sym, ◌∙◌, append-nil, inl}
+use Rattle.std.proofs.Common.{◌≡◌, ℕ, List, [], ◌∷◌, refl, sym, ◌∙◌, append-nil, inl, inr, ◌⊎◌}
 use Rattle.std.specs.Prelude.{Option, Some, None, option_and_then, option_map}
+use Rattle.device_log.specs.Calls.{Call}
 use Rattle.tape_base.specs.declared.keys.Key.{Key}
 use Rattle.cache_model.specs.declared.record.Rec.{Rec}
 use Rattle.cache_model.specs.State.{PutRow, State, after_all, put_of}
@@ -11,6 +12,7 @@ use Rattle.cache_model.specs.ToRead.{to_read, IsToRead}
 use Rattle.cache_model.specs.Pair.{Documents, IsKeyPair, IsPair, IsPairNext, ShowsPair}
 use Rattle.cache_model.specs.Vectors.{IsVectorAs}
 use Rattle.model_laws.proofs.Pairs.{also_pair, also_shows}
+use Rattle.stripe_core.proofs.Covering.{own_permit}
 use Rattle.script_lang.specs.declared.step.Step.{Step}
 use Rattle.script_run.specs.Run.{Run, Stream}
 use Rattle.script_run.specs.Asked.{asked}
@@ -49,8 +51,14 @@ pub shows_first : (IsPlaced : Documents) (p : Permit) (s : State) (i : Intent) (
 shows_first IsPlaced p s i is pair = shows_behind IsPlaced p s (i ∷ is) [] (to_do (i ∷ is)) nothing pair
 
 -- in a step of a script
-pub shows_in : (run : Run) (s : State) (step : Step) → ShowsAt (IsPlacedAs (streams_with run s step)) run.now s (asked run s step) → ShowsIn run (Some s) step
-shows_in run s step h = (
-  record { added = h.shows.0; refused = None; device = h.device; given = [] },
-  record { plain = h.plain; content = h.content; moment = h.moment; shows = h.shows.1 },
-)
+pub shows_in : (run : Run) (before after : List Call) (s : State) (step : Step) → ShowsAt (IsPlacedAs (streams_with run s step)) run.now before after s (asked run s step) → ShowsIn run before after (Some s) step
+shows_in run before after s step h = record {
+  turn = record { added = h.shows.0; refused = None; device = h.device; given = [] };
+  calls = h.calls;
+  shows = record { plain = h.plain; content = h.content; moment = h.moment; shows = h.shows.1 };
+}
+
+-- in the step that some calls alone make
+pub in_own_step : {X : Type 0} (IsPlaced : Documents) (now : ℕ) (before after : List Call) (s : State) (asks : List Intent) → X ⊎ Shows IsPlaced (own_permit now before after) s asks → X ⊎ ShowsAt IsPlaced now before after s asks
+in_own_step IsPlaced now before after s asks (inl x) = inl x
+in_own_step IsPlaced now before after s asks (inr shows) = inr (record { device = own_permit now before after; plain = refl; moment = refl; content = refl; calls = refl; shows = shows })

@@ -3,6 +3,7 @@ use Rattle.std.proofs.Common.{◌≡◌, ℕ, ◌+◌, ◌-◌, min, take, drop,
 use Rattle.std.specs.Prelude.{Option, Some, None, IfSome, if◌then◌else◌}
 use Rattle.std.specs.List.{AllByRecursion, filter}
 use Rattle.device_log.specs.Calls.{Call}
+use Rattle.logged_disk.specs.Device.{IsAfter}
 use Rattle.logged_disk.specs.declared.device.Disk.{Ghosts as DiskGhosts}
 use Rattle.dir_table.specs.declared.directory.Directory.{Ghosts as DirectoryGhosts}
 use Rattle.cache_chronicle.specs.declared.chronicle.Chronicle.{Ghosts as ChronicleGhosts}
@@ -20,7 +21,7 @@ use Rattle.cache_model.proofs.Found.{none_is}
 use Rattle.cache_model.proofs.Steps.{after_all-append}
 use Rattle.std.specs.Vec.{with_items}
 use Rattle.stripe_core.specs.declared.stripe.Stripe.{Stripe}
-use Rattle.stripe_core.specs.Stripe.{IsStripe, state_in}
+use Rattle.stripe_core.specs.Stripe.{IsStripe, seen_in, state_in}
 use Rattle.stripe_core.specs.Between.{Between}
 use Rattle.stripe_read.specs.Readers.{IsOpenReader}
 use Rattle.stripe_write.proofs.Spending.{state_behind}
@@ -40,17 +41,17 @@ use Rattle.cache_replay.specs.declared.session.Holding.{Holding}
 use Rattle.cache_replay.specs.declared.session.Holding.TheVariants as holding
 use Rattle.cache_replay.specs.declared.getting.Got.{Got}
 use Rattle.cache_replay.specs.Session.{AreHeld, IsActive, IsHeld, IsPart, LeavesBut, names_in, past_of, slots_in}
-use Rattle.cache_replay.specs.Plays.{IsHeldAs, Plays, PlaysIn, StepEnds}
+use Rattle.cache_replay.specs.Plays.{IsHeldAs, Plays, PlaysIn, StepEnds, StepPair}
 use Rattle.cache_replay.specs.Getting.{Gets, GetsAsAsked, LineEnds, given_in, got_answer}
 use Rattle.cache_replay.specs.Shown.{ShowsAt, ShowsIn}
 use Rattle.cache_replay.proofs.Shown.{shows_in}
 use Rattle.cache_replay.proofs.Frames.{IsElse, held_as_stays, held_stays}
-use Rattle.cache_replay.proofs.OnSession.{on_session, told_behind}
+use Rattle.cache_replay.proofs.OnSession.{on_session, shows_step, told_behind}
 use Rattle.stripe_core.specs.Faults.{IsAccounted}
 use Rattle.stripe_core.proofs.Between.{accounted_is}
 use Rattle.stripe_core.proofs.Covering.{own_covers, own_permit}
 use Rattle.cache_replay.proofs.ReaderLines.{part_behind}
-use Rattle.cache_replay.proofs.OnPart.{line_moved, line_shows, part_plays}
+use Rattle.cache_replay.proofs.OnPart.{line_moved, part_plays}
 
 -- ---- what stands belongs to what writers took behind the whole read
 
@@ -117,15 +118,15 @@ line_ends owns tell run before after n k k2 key request slots got said gets acco
     elim (gets.does (own_permit run.now before after) run (own_covers run.now before after) plays.told plays.own) [
       | inl x ↦
           let takes = takes_by x in
-          elim (told_behind tell run (state_of k) (after_all (state_of k) x.added) (turn_by x) (step.Get key request) takes refl sound plays.told) [
+          elim (told_behind tell run before after (state_of k) (after_all (state_of k) x.added) (turn_by x) (step.Get key request) refl takes refl sound plays.told) [
             | inl told ↦ inl (moves x takes told)
             | inr shows ↦ inr (shown_at (step.Get key request) shows)
           ]
-      | inr shows ↦ inr (record { device = own_permit run.now before after; plain = refl; moment = refl; content = refl; shows = shows })
+      | inr shows ↦ inr (record { device = own_permit run.now before after; plain = refl; moment = refl; content = refl; calls = refl; shows = shows })
     ]
   where
-    shown_at : (line : Step) → ShowsIn run (Some (state_of k)) line → ShowsAt (IsPlacedAs (streams_with run (state_of k) line)) run.now (state_of k) (asked run (state_of k) line)
-    shown_at line h = record { device = h.0.device; plain = h.1.plain; moment = h.1.moment; content = h.1.content; shows = (h.0.added, h.1.shows) }
+    shown_at : (line : Step) → ShowsIn run before after (Some (state_of k)) line → ShowsAt (IsPlacedAs (streams_with run (state_of k) line)) run.now before after (state_of k) (asked run (state_of k) line)
+    shown_at line h = record { device = h.turn.device; plain = h.shows.plain; moment = h.shows.moment; content = h.shows.content; calls = h.calls; shows = (h.turn.added, h.shows.shows) }
 
     turn_by : Gets (own_permit run.now before after) k k2 run key request got → Turn
     turn_by x = record { added = x.added; refused = None; device = own_permit run.now before after; given = given_in got }
@@ -186,15 +187,16 @@ module _ {D R C : Type 0} (disk : DiskGhosts D) (directory : DirectoryGhosts R) 
 
   pub session_ends : (run : Run) (old new : Session D R C) (part part2 : Part D R C) (key : Key) (request : List Field) (said : StepAnswer) → old.part ≡ Some part → new.part ≡ Some part2 → names_in new ≡ names_in old → new.now ≡ old.now
       → ((m : ℕ) → slots_in new m ≡ slots_in old m) → Plays disk directory chronicle run old → IsActive disk directory chronicle part (slots_in old)
+      → IsAfter (seen_in disk directory part.stripe).device (seen_in disk directory part2.stripe).device
       → ((run : Run) → AreTold (state_in chronicle part.stripe) → AreOwn (state_in chronicle part.stripe) run.streams
-      → Between disk directory chronicle part.stripe part2.stripe ⊎ ShowsAt (IsPlacedAs run.streams) run.now (state_in chronicle part.stripe) (get_intents (state_in chronicle part.stripe) key request))
+      → Between disk directory chronicle part.stripe part2.stripe ⊎ ShowsAt (IsPlacedAs run.streams) run.now (past_of disk directory part) (past_of disk directory part2) (state_in chronicle part.stripe) (get_intents (state_in chronicle part.stripe) key request))
       → ((slots : ℕ → Option Holding) → AreHeld (state_in chronicle part.stripe) slots → PlaysIn run (state_in chronicle part.stripe) slots → LineEnds run (past_of disk directory part) (past_of disk directory part2) (state_in chronicle part.stripe) (state_in chronicle part2.stripe) key request slots said)
       → StepEnds disk directory chronicle run (step.Get key request) new said
-  session_ends run old new part part2 key request said was is names kept slots plays active harms ends =
+  session_ends run old new part part2 key request said was is names kept slots plays active goes harms ends =
       let s : State = state_in chronicle part.stripe in
       let there = part_plays disk directory chronicle run old part was plays in
-      let shows : ShowsAt (IsPlacedAs run.streams) run.now s (get_intents s key request) → ShowsIn run run.state (step.Get key request) =
-      λ shown. line_shows disk directory chronicle run old part (step.Get key request) was plays (shows_in run s (step.Get key request) shown) in
+      let shows : ShowsAt (IsPlacedAs run.streams) run.now (past_of disk directory part) (past_of disk directory part2) s (get_intents s key request) → StepPair disk directory chronicle run (step.Get key request) new =
+      λ shown. shows_step disk directory chronicle run old new part part2 (step.Get key request) was is goes plays (shows_in run (past_of disk directory part) (past_of disk directory part2) s (step.Get key request) shown) in
       elim (harms run there.at.told there.at.own) [
         | inr shown ↦ inr (shows shown)
         | inl stays ↦ elim (ends (slots_in old) active.held there.at) [

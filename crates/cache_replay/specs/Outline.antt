@@ -14,6 +14,7 @@ use Rattle.script_lang.specs.declared.answer.Refused.TheVariants as refused
 use Rattle.script_lang.specs.declared.answer.StepAnswer.{StepAnswer}
 use Rattle.script_lang.specs.declared.answer.StepAnswer.TheVariants as answer
 use Rattle.script_run.specs.Run.{Harm, Run, loosened, no_harm}
+use Rattle.script_run.specs.Turn.{Turn}
 use Rattle.script_run.specs.Answers.{number_of_bad}
 use Rattle.script_run.specs.Behind.{harm_in}
 use Rattle.cache_replay.specs.Stop.{NeedsSession}
@@ -61,6 +62,10 @@ blank = record { session = None; ended = []; names = [] }
 -- what a run tells of its devices, of which that of the session may make more calls then
 abbrev pub outline_in : Run → Outline
 outline_in run = record { session = option_map (λ s. loosened (harm_in run.calls s)) run.state; ended = run.ended; names = run.names }
+
+-- a run of which behind a turn only this is known: that the session's device made the calls of that turn
+abbrev pub called : Run → Turn → Run
+called run turn = record run { calls = turn.device.events ++ run.calls }
 
 -- a count that is told raises what was told; of damage it tells nothing, nor of the calls that were made meanwhile
 abbrev pub raised : ℕ → Harm → Harm

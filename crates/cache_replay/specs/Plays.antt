@@ -20,7 +20,7 @@ use Rattle.script_run.specs.Turn.{Turn}
 use Rattle.script_run.specs.Answers.{session_said, step_answer}
 use Rattle.script_run.specs.Behind.{after_step, harm_of, in_session}
 use Rattle.script_run.specs.Own.{AreOwn}
-use Rattle.script_run.specs.Takes.{SessionTakes, StepTakes}
+use Rattle.script_run.specs.Takes.{SessionTakes, StepShows, StepTakes}
 use Rattle.cache_replay.specs.declared.session.Session.{Session}
 use Rattle.cache_replay.specs.declared.session.Part.{Part}
 use Rattle.cache_replay.specs.declared.session.Holding.{Holding}
@@ -28,7 +28,7 @@ use Rattle.cache_replay.specs.declared.session.Holding.TheVariants as holding
 use Rattle.cache_replay.specs.declared.stop.Stop.{Stop}
 use Rattle.cache_replay.specs.declared.stop.Stop.TheVariants.{Memory}
 use Rattle.cache_replay.specs.Stop.{AttachesAs}
-use Rattle.cache_replay.specs.Outline.{IsAnswered, Outline, outline_after, told_of}
+use Rattle.cache_replay.specs.Outline.{IsAnswered, Outline, called, outline_after, outline_in, told_of}
 use Rattle.cache_replay.specs.Shown.{ShowsIn}
 use Rattle.cache_replay.specs.Session.{IsSession, names_in, past_of, return_of, slots_in, slots_of}
 
@@ -101,9 +101,15 @@ module _ {D R C : Type 0} (disk : DiskGhosts D) (directory : DirectoryGhosts R) 
     pub plays : Plays (after_step run turn step) new
     pub says : step_answer run turn step ≡ said
 
-  -- so it is, or two documents of one SHA-256 are shown
+  -- a step shows two documents of one SHA-256 in its turn, whose calls the session's device made, behind those of the run
+  pub record StepPair (run : Run) (step : Step) (new : Session D R C) : Type 0 where
+    pub turn : Turn
+    pub shows : StepShows run turn run.state step
+    pub calls : CallsAt (called run turn) new.part
+
+  -- it did what it must, or shows such a pair
   abbrev pub StepEnds : Run → Step → Session D R C → StepAnswer → Type 0
-  StepEnds run step new said = StepMoves run step new said ⊎ ShowsIn run run.state step
+  StepEnds run step new said = StepMoves run step new said ⊎ StepPair run step new
 
 -- ---- a line on a part
 
@@ -123,7 +129,7 @@ module _ {D R C : Type 0} (disk : DiskGhosts D) (directory : DirectoryGhosts R) 
 
   -- so it is, or two documents of one SHA-256 are shown
   abbrev pub PartEnds : Run → Part D R C → Step → Part D R C → Seen Holding → StepAnswer → Type 0
-  PartEnds run old step part actors said = PartMoves run old step part actors said ⊎ ShowsIn run (Some (state_in chronicle old.stripe)) step
+  PartEnds run old step part actors said = PartMoves run old step part actors said ⊎ ShowsIn run (past_of disk directory old) (past_of disk directory part) (Some (state_in chronicle old.stripe)) step
 
 -- ---- devices
 
@@ -135,11 +141,6 @@ pub record DeviceMoves {D R C : Type 0} (disk : DiskGhosts D) (directory : Direc
   pub names : List (List ℕ)
   pub named : (after_step run moves.turn step).names ≡ run.names ++ names
   pub deals : Deals before now harms names
-
--- so it is, or two documents of one SHA-256 are shown
-abbrev pub DeviceEnds : {D R C : Type 0} → DiskGhosts D → DirectoryGhosts R → ChronicleGhosts C → Run → Step → Session D R C → StepAnswer → (before now : Ledger) → Type 0
-DeviceEnds disk directory chronicle run step new said before now =
-    DeviceMoves disk directory chronicle run step new said before now ⊎ ShowsIn run run.state step
 
 -- ---- whatever the records are worth
 
@@ -170,3 +171,17 @@ module _ {D R C : Type 0} (disk : DiskGhosts D) (directory : DirectoryGhosts R) 
     stays : AreReached (left_by why harms) (return_of disk directory chronicle new.part) → now ≡ before → IsLeft harms step new before now why
     ended : (name : List ℕ) → AttachesAs name step → new.part ≡ None → Deals before now (harms ++ no_harm ∷ []) (name ∷ []) → why ≡ Memory
         → IsLeft harms step new before now why
+
+-- ---- a step that did what it must, or shows a pair
+
+-- A step shows two documents of one SHA-256, and from there on the outline goes on by the answer, which has the calls of that
+-- turn: the session's device made them.
+pub record DeviceShows {D R C : Type 0} (disk : DiskGhosts D) (directory : DirectoryGhosts R) (chronicle : ChronicleGhosts C) (run : Run) (step : Step) (new : Session D R C) (said : StepAnswer) (before now : Ledger) : Type 0 where
+  pub turn : Turn
+  pub shows : StepShows run turn run.state step
+  pub outlines : Outlines disk directory chronicle (outline_in (called run turn)) step new said before now
+
+-- it did what it must, or shows such a pair
+abbrev pub DeviceEnds : {D R C : Type 0} → DiskGhosts D → DirectoryGhosts R → ChronicleGhosts C → Run → Step → Session D R C → StepAnswer → (before now : Ledger) → Type 0
+DeviceEnds disk directory chronicle run step new said before now =
+    DeviceMoves disk directory chronicle run step new said before now ⊎ DeviceShows disk directory chronicle run step new said before now

@@ -100,7 +100,7 @@ pub record WriterMoves (run : Run) (name : List ℕ) (before after : List Call) 
 
 -- so it is, or two documents of one SHA-256 are shown
 abbrev pub WriterEnds : Run → List ℕ → (before after : List Call) → State → State → WriterLine → Option Writer → StepAnswer → Type 0
-WriterEnds run name before after s t line left said = WriterMoves run name before after s t line left said ⊎ ShowsIn run (Some s) (step_of line name)
+WriterEnds run name before after s t line left said = WriterMoves run name before after s t line left said ⊎ ShowsIn run before after (Some s) (step_of line name)
 
 -- at a moment; where memory is wanting nothing is answered
 abbrev pub WriterDoes : ℕ → (before after : List Call) → State → State → WriterLine → Writer → Option Writer → Option StepAnswer → Type 0

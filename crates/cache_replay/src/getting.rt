@@ -3,11 +3,12 @@ ghost use Rattle.std.specs.Prelude.{ℕ, List, Option, ◌≡◌, ◌⊎◌, ◌
 ghost use Rattle.tape_base.specs.Geometry.{budget_of};
 ghost use Rattle.cache_model.specs.Legal.{IsQuiet};
 ghost use Rattle.cache_model.specs.Kept.{state_of};
-ghost use Rattle.cache_model.specs.Permit.{StopReading};
+ghost use Rattle.cache_model.specs.Permit.{Permit, StopReading};
 ghost use Rattle.cache_model.specs.Vectors.{AreTold};
 ghost use Rattle.logged_disk.specs.Device.{IsAfter};
 ghost use Rattle.stripe_core.specs.Stripe.{IsStripe, kept_in, seen_in, state_in};
 ghost use Rattle.stripe_core.specs.Between.{Between};
+ghost use Rattle.stripe_core.specs.Covers.{Covers};
 ghost use Rattle.stripe_core.specs.Faults.{IsAccounted};
 ghost use Rattle.stripe_read.specs.Readers.{IsOpenReader};
 ghost use Rattle.script_lang.specs.declared.answer.StepAnswer.{StepAnswer};
@@ -18,7 +19,7 @@ ghost use Rattle.script_run.specs.Losses.{NoLossIsAFault};
 ghost use Rattle.script_run.specs.Own.{AreOwn, IsPlacedAs};
 ghost use Rattle.cache_replay.specs.declared.session.Holding.{Holding};
 ghost use Rattle.cache_replay.specs.Outline.{count_in};
-ghost use Rattle.cache_replay.specs.Shown.{ShowsAt};
+ghost use Rattle.cache_replay.specs.Shown.{Shows, ShowsAt};
 ghost use Rattle.cache_replay.specs.Session.{AreHeld, AreLater, IsActive, IsPart, IsSession, LeavesBut, TellsCount, devices_of, names_in, past_of, return_of};
 ghost use Rattle.cache_replay.specs.Plays.{Plays, PlaysIn, StepEnds};
 ghost use Rattle.cache_replay.specs.Stop.{IsSessionStop};
@@ -74,8 +75,8 @@ pub(crate) fn get<D: Disk, R: Directory + Drop, C: Chronicle>(
     ensures counts { IfOk result (λ got. NoLossIsAFault (state_in C.Chronicle stripe.old)
         → count_in (got_answer got) ≤ (seen_in D.Disk R.Directory stripe.new).device.faults) }
     ensures later { (seen_in D.Disk R.Directory stripe.old).device.faults ≤ (seen_in D.Disk R.Directory stripe.new).device.faults }
-    ensures unharmed { (run : Run) → AreTold (state_in C.Chronicle stripe.old) → AreOwn (state_in C.Chronicle stripe.old) run.streams
-        → Between D.Disk R.Directory C.Chronicle stripe.old stripe.new ⊎ ShowsAt (IsPlacedAs run.streams) run.now (state_in C.Chronicle stripe.old) (get_intents (state_in C.Chronicle stripe.old) key request) }
+    ensures unharmed { (p : Permit) (run : Run) → Covers p (seen_in D.Disk R.Directory stripe.old).device.past (seen_in D.Disk R.Directory stripe.new).device.past → AreTold (state_in C.Chronicle stripe.old) → AreOwn (state_in C.Chronicle stripe.old) run.streams
+        → Between D.Disk R.Directory C.Chronicle stripe.old stripe.new ⊎ Shows (IsPlacedAs run.streams) p (state_in C.Chronicle stripe.old) (get_intents (state_in C.Chronicle stripe.old) key request) }
     ensures goes { IsAfter (seen_in D.Disk R.Directory stripe.old).device (seen_in D.Disk R.Directory stripe.new).device }
     ensures accounted { IsAccounted (seen_in D.Disk R.Directory stripe.old).device.past (seen_in D.Disk R.Directory stripe.new).device.past (kept_in C.Chronicle stripe.old) (kept_in C.Chronicle stripe.new) }
 {
@@ -112,8 +113,9 @@ fn read_whole<D: Disk, R: Directory + Drop, C: Chronicle>(
     ensures counts { IfOk result (λ got. NoLossIsAFault (state_in C.Chronicle stripe.old)
         → count_in (got_answer got) ≤ (seen_in D.Disk R.Directory stripe.new).device.faults) }
     ensures later { (seen_in D.Disk R.Directory stripe.old).device.faults ≤ (seen_in D.Disk R.Directory stripe.new).device.faults }
-    ensures unharmed { (b : Began) (run : Run) → IsUnderway b (seen_in D.Disk R.Directory stripe.old).device.past (kept_in C.Chronicle stripe.old) reader []
-        → AreTold (state_of b.kept) → AreOwn (state_of b.kept) run.streams → Between D.Disk R.Directory C.Chronicle stripe.old stripe.new ⊎ ShowsAt (IsPlacedAs run.streams) run.now (state_of b.kept) b.asks }
+    ensures unharmed { (b : Began) (p : Permit) (run : Run) → IsUnderway b (seen_in D.Disk R.Directory stripe.old).device.past (kept_in C.Chronicle stripe.old) reader []
+        → Covers p b.past (seen_in D.Disk R.Directory stripe.new).device.past → AreTold (state_of b.kept) → AreOwn (state_of b.kept) run.streams
+        → Between D.Disk R.Directory C.Chronicle stripe.old stripe.new ⊎ Shows (IsPlacedAs run.streams) p (state_of b.kept) b.asks }
     ensures goes { IsAfter (seen_in D.Disk R.Directory stripe.old).device (seen_in D.Disk R.Directory stripe.new).device }
     ensures accounted { IsAccounted (seen_in D.Disk R.Directory stripe.old).device.past (seen_in D.Disk R.Directory stripe.new).device.past (kept_in C.Chronicle stripe.old) (kept_in C.Chronicle stripe.new) }
 {
@@ -151,8 +153,9 @@ fn read_to_end<D: Disk, R: Directory + Drop, C: Chronicle>(
     ensures counts { IfOk result (λ got. NoLossIsAFault (state_in C.Chronicle stripe.old)
         → count_in (got_answer got) ≤ (seen_in D.Disk R.Directory stripe.new).device.faults) }
     ensures later { (seen_in D.Disk R.Directory stripe.old).device.faults ≤ (seen_in D.Disk R.Directory stripe.new).device.faults }
-    ensures unharmed { (b : Began) (run : Run) → IsUnderway b (seen_in D.Disk R.Directory stripe.old).device.past (kept_in C.Chronicle stripe.old) reader.old []
-        → AreTold (state_of b.kept) → AreOwn (state_of b.kept) run.streams → Between D.Disk R.Directory C.Chronicle stripe.old stripe.new ⊎ ShowsAt (IsPlacedAs run.streams) run.now (state_of b.kept) b.asks }
+    ensures unharmed { (b : Began) (p : Permit) (run : Run) → IsUnderway b (seen_in D.Disk R.Directory stripe.old).device.past (kept_in C.Chronicle stripe.old) reader.old []
+        → Covers p b.past (seen_in D.Disk R.Directory stripe.new).device.past → AreTold (state_of b.kept) → AreOwn (state_of b.kept) run.streams
+        → Between D.Disk R.Directory C.Chronicle stripe.old stripe.new ⊎ Shows (IsPlacedAs run.streams) p (state_of b.kept) b.asks }
     ensures goes { IsAfter (seen_in D.Disk R.Directory stripe.old).device (seen_in D.Disk R.Directory stripe.new).device }
     ensures accounted { IsAccounted (seen_in D.Disk R.Directory stripe.old).device.past (seen_in D.Disk R.Directory stripe.new).device.past (kept_in C.Chronicle stripe.old) (kept_in C.Chronicle stripe.new) }
 {
@@ -192,8 +195,9 @@ fn read_more<D: Disk, R: Directory + Drop, C: Chronicle>(
     ensures counts { IfOk result (λ next. NoLossIsAFault (state_in C.Chronicle stripe.old)
         → count_in_piece next ≤ (seen_in D.Disk R.Directory stripe.new).device.faults) }
     ensures later { (seen_in D.Disk R.Directory stripe.old).device.faults ≤ (seen_in D.Disk R.Directory stripe.new).device.faults }
-    ensures unharmed { (b : Began) (run : Run) → IsUnderway b (seen_in D.Disk R.Directory stripe.old).device.past (kept_in C.Chronicle stripe.old) reader.old body.old.items
-        → AreTold (state_of b.kept) → AreOwn (state_of b.kept) run.streams → Between D.Disk R.Directory C.Chronicle stripe.old stripe.new ⊎ ShowsAt (IsPlacedAs run.streams) run.now (state_of b.kept) b.asks }
+    ensures unharmed { (b : Began) (p : Permit) (run : Run) → IsUnderway b (seen_in D.Disk R.Directory stripe.old).device.past (kept_in C.Chronicle stripe.old) reader.old body.old.items
+        → Covers p b.past (seen_in D.Disk R.Directory stripe.new).device.past → AreTold (state_of b.kept) → AreOwn (state_of b.kept) run.streams
+        → Between D.Disk R.Directory C.Chronicle stripe.old stripe.new ⊎ Shows (IsPlacedAs run.streams) p (state_of b.kept) b.asks }
     ensures goes { IsAfter (seen_in D.Disk R.Directory stripe.old).device (seen_in D.Disk R.Directory stripe.new).device }
     ensures accounted { IsAccounted (seen_in D.Disk R.Directory stripe.old).device.past (seen_in D.Disk R.Directory stripe.new).device.past (kept_in C.Chronicle stripe.old) (kept_in C.Chronicle stripe.new) }
 {
@@ -275,7 +279,7 @@ fn get_in_part<D: Disk, R: Directory + Drop, C: Chronicle>(
     ensures counts { IfOk result (TellsCount D.Disk R.Directory C.Chronicle (Some part.new)) }
     ensures later { (seen_in D.Disk R.Directory part.old.stripe).device.faults ≤ (seen_in D.Disk R.Directory part.new.stripe).device.faults }
     ensures unharmed { (run : Run) → AreTold (state_in C.Chronicle part.old.stripe) → AreOwn (state_in C.Chronicle part.old.stripe) run.streams
-        → Between D.Disk R.Directory C.Chronicle part.old.stripe part.new.stripe ⊎ ShowsAt (IsPlacedAs run.streams) run.now (state_in C.Chronicle part.old.stripe) (get_intents (state_in C.Chronicle part.old.stripe) key request) }
+        → Between D.Disk R.Directory C.Chronicle part.old.stripe part.new.stripe ⊎ ShowsAt (IsPlacedAs run.streams) run.now (past_of D.Disk R.Directory part.old) (past_of D.Disk R.Directory part.new) (state_in C.Chronicle part.old.stripe) (get_intents (state_in C.Chronicle part.old.stripe) key request) }
     ensures goes { IsAfter (seen_in D.Disk R.Directory part.old.stripe).device (seen_in D.Disk R.Directory part.new.stripe).device }
 {
     reads_own();

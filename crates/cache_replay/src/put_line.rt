@@ -65,7 +65,7 @@ fn put_in<D: Disk, R: Directory + Drop, C: Chronicle>(
     ensures leaves { LeavesBut (Some (state_in C.Chronicle part.old.stripe).next_put) None (state_in C.Chronicle part.old.stripe) (state_in C.Chronicle part.new.stripe) }
     ensures ends { IfOk result (λ said. (run : Run) → run.now ≡ now → AreTold (state_in C.Chronicle part.old.stripe)
         → Plainly run (step.Put key body.now request response) (past_of D.Disk R.Directory part.old) (past_of D.Disk R.Directory part.new) (state_in C.Chronicle part.old.stripe) (state_in C.Chronicle part.new.stripe) said
-        ⊎ ShowsIn run (Some (state_in C.Chronicle part.old.stripe)) (step.Put key body.now request response)) }
+        ⊎ ShowsIn run (past_of D.Disk R.Directory part.old) (past_of D.Disk R.Directory part.new) (Some (state_in C.Chronicle part.old.stripe)) (step.Put key body.now request response)) }
     ensures stop { IfErr result (λ stop. stop ≡ Stop.Memory) }
     ensures counts { IfOk result (TellsCount D.Disk R.Directory C.Chronicle (Some part.new)) }
     ensures later { (seen_in D.Disk R.Directory part.old.stripe).device.faults ≤ (seen_in D.Disk R.Directory part.new.stripe).device.faults }

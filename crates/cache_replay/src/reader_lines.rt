@@ -156,7 +156,7 @@ fn next<D: Disk, R: Directory + Drop, C: Chronicle>(
     ensures ends { IfOk result (λ said. (run : Run) → PlaysPart C.Chronicle run part.old actors.old
         → PartEnds D.Disk R.Directory C.Chronicle run part.old (step.Next actor.now) part.new actors.new said) }
     ensures unharmed { (run : Run) → PlaysPart C.Chronicle run part.old actors.old
-        → Between D.Disk R.Directory C.Chronicle part.old.stripe part.new.stripe ⊎ ShowsIn run (Some (state_in C.Chronicle part.old.stripe)) (step.Next actor.now) }
+        → Between D.Disk R.Directory C.Chronicle part.old.stripe part.new.stripe ⊎ ShowsIn run (past_of D.Disk R.Directory part.old) (past_of D.Disk R.Directory part.new) (Some (state_in C.Chronicle part.old.stripe)) (step.Next actor.now) }
     ensures goes { IsAfter (seen_in D.Disk R.Directory part.old.stripe).device (seen_in D.Disk R.Directory part.new.stripe).device }
     ensures stop { IfErr result (λ why. why ≡ stop.Memory) }
     ensures names { length actors.new.names ≤ length actors.old.names + 1 }
@@ -191,7 +191,7 @@ fn read_on<D: Disk, R: Directory + Drop, C: Chronicle>(
     ensures ends { IfOk result (λ said. (run : Run) → AreOwn (state_in C.Chronicle part.old.stripe) run.streams → IsReaderOf (state_in C.Chronicle part.old.stripe) reader.old
         → NextEnds run (past_of D.Disk R.Directory part.old) (past_of D.Disk R.Directory part.new) (state_in C.Chronicle part.old.stripe) (state_in C.Chronicle part.new.stripe) reader.old reader.new said) }
     ensures unharmed { (run : Run) → AreOwn (state_in C.Chronicle part.old.stripe) run.streams → IsReaderOf (state_in C.Chronicle part.old.stripe) reader.old
-        → Between D.Disk R.Directory C.Chronicle part.old.stripe part.new.stripe ⊎ ShowsAt (IsPlacedAs run.streams) run.now (state_in C.Chronicle part.old.stripe) (ReadOn reader.old.reader ∷ []) }
+        → Between D.Disk R.Directory C.Chronicle part.old.stripe part.new.stripe ⊎ ShowsAt (IsPlacedAs run.streams) run.now (past_of D.Disk R.Directory part.old) (past_of D.Disk R.Directory part.new) (state_in C.Chronicle part.old.stripe) (ReadOn reader.old.reader ∷ []) }
     ensures goes { IsAfter (seen_in D.Disk R.Directory part.old.stripe).device (seen_in D.Disk R.Directory part.new.stripe).device }
     ensures stop { IfErr result (λ why. why ≡ stop.Memory) }
     ensures counts { IfOk result (TellsCount D.Disk R.Directory C.Chronicle (Some part.new)) }
@@ -218,7 +218,7 @@ fn read_to<D: Disk, R: Directory + Drop, C: Chronicle>(
     ensures ends { IfOk result (λ said. (run : Run) → AreOwn (state_in C.Chronicle stripe.old) run.streams → IsReaderOf (state_in C.Chronicle stripe.old) reader.old
         → NextEnds run (seen_in D.Disk R.Directory stripe.old).device.past (seen_in D.Disk R.Directory stripe.new).device.past (state_in C.Chronicle stripe.old) (state_in C.Chronicle stripe.new) reader.old reader.new said) }
     ensures unharmed { (run : Run) → AreOwn (state_in C.Chronicle stripe.old) run.streams → IsReaderOf (state_in C.Chronicle stripe.old) reader.old
-        → Between D.Disk R.Directory C.Chronicle stripe.old stripe.new ⊎ ShowsAt (IsPlacedAs run.streams) run.now (state_in C.Chronicle stripe.old) (ReadOn reader.old.reader ∷ []) }
+        → Between D.Disk R.Directory C.Chronicle stripe.old stripe.new ⊎ ShowsAt (IsPlacedAs run.streams) run.now (seen_in D.Disk R.Directory stripe.old).device.past (seen_in D.Disk R.Directory stripe.new).device.past (state_in C.Chronicle stripe.old) (ReadOn reader.old.reader ∷ []) }
     ensures goes { IsAfter (seen_in D.Disk R.Directory stripe.old).device (seen_in D.Disk R.Directory stripe.new).device }
     ensures stop { IfErr result (λ why. why ≡ stop.Memory) }
     ensures counts { IfOk result (λ said. NoLossIsAFault (state_in C.Chronicle stripe.old)

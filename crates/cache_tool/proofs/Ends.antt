@@ -140,7 +140,7 @@ module _ {D R C : Type 0} (disk : DiskGhosts D) (directory : DirectoryGhosts R) 
       → GoesOn first taken_first ledger_first now unread' given' taken' ledger' (λ o. IsOutlined disk directory chronicle o session) (λ run. Plays disk directory chronicle run session)
   step_goes was w =
       step_more first now taken_first taken ledger_first ledger unread unread' given given' _ _ story bytes known counted step asks w.said ledger' disk directory chronicle session
-      (SendsAll taken_first taken') (λ t. Deals ledger_first ledger' t.ended t.names) _ _ w.outlines (λ run plays. plays_outlined disk directory chronicle run old was plays) w.ends
+      (SendsAll taken_first taken') (λ t. Deals ledger_first ledger' t.ended t.names) _ _ w.outlines w.ends
       (λ out appends. Took-trans taken_first taken taken' out _ appends w.text) (λ o is deals. deals) (λ run plays deals. deals) (λ o is. is) (λ run plays. plays)
 
   -- or ends with it
@@ -154,7 +154,7 @@ module _ {D R C : Type 0} (disk : DiskGhosts D) (directory : DirectoryGhosts R) 
         → Story first now unread' given' Sent Devices Behind (λ run. Unit {0})
     written_ends Text Sent Devices Behind w sent owed behind =
         step_more first now taken_first taken ledger_first ledger unread unread' given given' _ _ story bytes known counted step asks w.said ledger' disk directory chronicle session
-        Sent Devices Behind (λ run. Unit {0}) w.outlines (λ run plays. plays_outlined disk directory chronicle run old was plays) w.ends sent (λ o reached deals. owed (told_by o) (record { deals = deals; reached = reached }))
+        Sent Devices Behind (λ run. Unit {0}) w.outlines w.ends sent (λ o reached deals. owed (told_by o) (record { deals = deals; reached = reached }))
         (λ run plays deals. owed (told_in run) (record { deals = deals; reached = plays_reach disk directory chronicle session is run plays })) (λ o reached. behind o) (λ run plays. tt)
 
     -- what a line leaves that was not done

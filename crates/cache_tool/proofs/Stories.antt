@@ -19,7 +19,7 @@ use Rattle.logged_disk.specs.declared.device.Disk.{Ghosts as DiskGhosts}
 use Rattle.dir_table.specs.declared.directory.Directory.{Ghosts as DirectoryGhosts}
 use Rattle.cache_chronicle.specs.declared.chronicle.Chronicle.{Ghosts as ChronicleGhosts}
 use Rattle.cache_replay.specs.declared.session.Session.{Session}
-use Rattle.cache_replay.specs.Outline.{Outline, blank, outline_after, outline_in}
+use Rattle.cache_replay.specs.Outline.{Outline, blank, called, outline_after, outline_in}
 use Rattle.cache_replay.specs.Lines.{AreAnswered, answers_of, outline_of, outline_read, reading_answer, text_of, texts_of}
 use Rattle.cache_replay.specs.Plays.{DeviceEnds, IsOutlined, Outlines}
 use Rattle.script_run.specs.Ledger.{AreReached, ComeBack, Ledger, Deals}
@@ -122,7 +122,7 @@ along_with lines answers From To Behind Behind' settle behind s = record {
   says = s.says;
   turn = s.turn;
   shows = s.shows;
-  outline = answered_with (outline_in (run_after fresh s.before s.earlier)) (s.bytes ∷ s.after) s.rest From To Behind Behind' settle behind s.outline;
+  outline = answered_with (outline_in (called (run_after fresh s.before s.earlier) s.turn)) (s.bytes ∷ s.after) s.rest From To Behind Behind' settle behind s.outline;
 }
 
 -- the story, where what is told of its text, its devices and its outline gives something else
@@ -171,12 +171,12 @@ along_more lines answers bytes said From To Behind Behind' follows s = record {
   says = ap (λ l. l ++ said ∷ []) s.says ∙ append_assoc (answers_of fresh s.before s.earlier) s.rest (said ∷ []);
   turn = s.turn;
   shows = s.shows;
-  outline = answered_more (outline_in (run_after fresh s.before s.earlier)) (s.bytes ∷ s.after) s.rest bytes said To Behind' s.outline.each (follows _ s.outline.devices s.outline.behind);
+  outline = answered_more (outline_in (called (run_after fresh s.before s.earlier) s.turn)) (s.bytes ∷ s.after) s.rest bytes said To Behind' s.outline.each (follows _ s.outline.devices s.outline.behind);
 }
 
 -- or the last one shows one
 shown_last : (lines : List (List ℕ)) (answers : List (Option StepAnswer)) (From To : Told → Type 0) (Known : Run → Type 0) (Behind : Outline → Type 0) (bytes : List ℕ) (said : Option StepAnswer) (r : Recorded lines answers From Known) (turn : Turn)
-    → LineShows (run_after fresh lines r.turns) turn bytes → AnsweredFrom (outline_in (run_after fresh lines r.turns)) (bytes ∷ []) (said ∷ []) To Behind → ShownAlong (lines ++ bytes ∷ []) (answers ++ said ∷ []) To Behind
+    → LineShows (run_after fresh lines r.turns) turn bytes → AnsweredFrom (outline_in (called (run_after fresh lines r.turns) turn)) (bytes ∷ []) (said ∷ []) To Behind → ShownAlong (lines ++ bytes ∷ []) (answers ++ said ∷ []) To Behind
 shown_last lines answers From To Known Behind bytes said r turn shows outline = record {
   before = lines;
   bytes = bytes;
@@ -212,10 +212,10 @@ module _ (first now : List SourceRead) (taken_first taken : List SinkWrite) (led
           known = subst Known (sym after) behind;
         }
 
-    -- it does, or it shows a pair in a run whose outline has the session
+    -- it does, or it shows a pair, and the outline with the calls of that turn goes on
     abbrev EndsRecords : Type 0
     EndsRecords = (r : Recorded story.lines story.answers Dealt Plays)
-        → Recorded (story.lines ++ bytes ∷ []) (story.answers ++ said ∷ []) Devices Known ⊎ ((turn : Turn) × LineShows (run_after fresh story.lines r.turns) turn bytes × Outlined (outline_in (run_after fresh story.lines r.turns)))
+        → Recorded (story.lines ++ bytes ∷ []) (story.answers ++ said ∷ []) Devices Known ⊎ ((turn : Turn) × LineShows (run_after fresh story.lines r.turns) turn bytes × AnsweredFrom (outline_in (called (run_after fresh story.lines r.turns) turn)) (bytes ∷ []) (said ∷ []) Devices Behind)
 
     pub line_more : ((o : Outline) → Dealt (told_by o) → Outlined o → AnsweredFrom o (bytes ∷ []) (said ∷ []) Devices Behind) → ((out : List ℕ) → Took taken_first taken out → Text out (out ++ text_of said))
         → EndsRecords → Story first now unread' given' Text Devices Behind Known
@@ -232,7 +232,7 @@ module _ (first now : List SourceRead) (taken_first taken : List SinkWrite) (led
       records = elim story.records [
         | inl r ↦ elim (records r) [
           | inl more ↦ inl more
-          | inr shows ↦ inr (shown_last story.lines story.answers Dealt Devices Plays Behind bytes said r shows.0 shows.1 (follows (outline_in (run_after fresh story.lines r.turns)) r.devices shows.2))
+          | inr shows ↦ inr (shown_last story.lines story.answers Dealt Devices Plays Behind bytes said r shows.0 shows.1 shows.2)
         ]
         | inr along ↦ inr (along_more story.lines story.answers bytes said Dealt Devices Outlined Behind follows along)
       ];
@@ -264,19 +264,19 @@ module _ (first now : List SourceRead) (taken_first taken : List SinkWrite) (led
       }
 
       pub step_more : (Text : (before all : List ℕ) → Type 0) (Devices : Told → Type 0) (Behind : Outline → Type 0) (Known : Run → Type 0)
-          → ((o : Outline) → Outlined o → Outlines disk directory chronicle o step new said ledger ledger') → ((run : Run) → Plays run → Outlined (outline_in run))
+          → ((o : Outline) → Outlined o → Outlines disk directory chronicle o step new said ledger ledger')
           → ((run : Run) → Plays run → DeviceEnds disk directory chronicle run step new said ledger ledger')
           → ((out : List ℕ) → Took taken_first taken out → Text out (out ++ answer_line said))
           → ((o : Outline) → IsOutlined disk directory chronicle o new → Deals ledger_first ledger' o.ended o.names → Devices (told_by o))
           → ((run : Run) → PlaysNow disk directory chronicle run new → Deals ledger_first ledger' run.ended run.names → Devices (told_in run))
           → ((o : Outline) → IsOutlined disk directory chronicle o new → Behind o) → ((run : Run) → PlaysNow disk directory chronicle run new → Known run)
           → Story first now unread' given' Text Devices Behind Known
-      step_more Text Devices Behind Known outlined outlined_in ends text settle settle_run behind knows =
+      step_more Text Devices Behind Known outlined ends text settle settle_run behind knows =
           line_more (Some said) Text Devices Behind Known (λ o deals is. step_follows Devices Behind o (outlined o is) settle behind deals) text
           (λ r. let run : Run = run_after fresh story.lines r.turns in elim (ends run r.known) [
             | inl m ↦
                 inl (recorded_more (Some said) Text Devices Behind Known r m.moves.turn (rw asks m.moves.takes) (rw asks (ap Some (sym m.moves.says)))
                 (rw asks (settle_run (after_step run m.moves.turn step) m.moves.plays (deals_all run.ended m.harms run.names m.names _ _ m.ended m.named r.devices m.deals)))
                 (rw asks (knows (after_step run m.moves.turn step) m.moves.plays)))
-            | inr shows ↦ inr (shows.0, rw asks shows.1, outlined_in run r.known)
+            | inr shows ↦ inr (shows.turn, rw asks shows.shows, step_follows Devices Behind (outline_in (called run shows.turn)) shows.outlines settle behind r.devices)
           ])

@@ -61,18 +61,18 @@ returns-in-Miss-clause-leaves g c =
     kept_leaves _ (kept_in g.C.Chronicle c.args.stripe.now) (kept_in g.C.Chronicle c.open_read.new.stripe) _ c.in_ok-reader.ensures.adds (open_leaves (state_in g.C.Chronicle c.args.stripe.now) nobody c.args.key c.args.request _)
 
 pub returns-in-Hit-clause-unharmed : goal.returns-in-Hit-clause-unharmed
-returns-in-Hit-clause-unharmed g c = λ run told owned.
+returns-in-Hit-clause-unharmed g c = λ p run covers told owned.
     let k = kept_in g.C.Chronicle c.args.stripe.now in
     stays_then (inl c.open_read.ensures.unharmed)
-    (c.read_whole.ensures.unharmed (began k c.args.key c.args.request (seen_in g.D.Disk g.R.Directory c.args.stripe.now).device.past) run
+    (c.read_whole.ensures.unharmed (began k c.args.key c.args.request (seen_in g.D.Disk g.R.Directory c.args.stripe.now).device.past) p run
     (hit_under c.reads_own.ensures k (kept_in g.C.Chronicle c.open_read.new.stripe) (seen_in g.D.Disk g.R.Directory c.args.stripe.now).device (seen_in g.D.Disk g.R.Directory c.open_read.new.stripe).device
-    c.args.key c.args.request c.open_read.ensures.unharmed.goes.made c.open_read.ensures.unharmed.goes.past c.in-Hit.reader c.in-Hit.put c.in-Hit.length (rw c.in-Hit.is at c.in_ok-reader.ensures.adds) (rw c.in-Hit.is at c.in_ok-reader.ensures.opens) (rw c.in-Hit.is at c.in_ok-reader.ensures.tells)) told owned)
+    c.args.key c.args.request c.open_read.ensures.unharmed.goes.made c.open_read.ensures.unharmed.goes.past c.in-Hit.reader c.in-Hit.put c.in-Hit.length (rw c.in-Hit.is at c.in_ok-reader.ensures.adds) (rw c.in-Hit.is at c.in_ok-reader.ensures.opens) (rw c.in-Hit.is at c.in_ok-reader.ensures.tells)) covers told owned)
 
 pub returns-in_err-close-in-Follow-clause-unharmed : goal.returns-in_err-close-in-Follow-clause-unharmed
-returns-in_err-close-in-Follow-clause-unharmed g c = λ run told owned. stays_then (inl c.open_read.ensures.unharmed) (inl c.close.ensures.unharmed)
+returns-in_err-close-in-Follow-clause-unharmed g c = λ p run covers told owned. stays_then (inl c.open_read.ensures.unharmed) (inl c.close.ensures.unharmed)
 
 pub returns-in_ok-close-in-Follow-clause-unharmed : goal.returns-in_ok-close-in-Follow-clause-unharmed
-returns-in_ok-close-in-Follow-clause-unharmed g c = λ run told owned. stays_then (inl c.open_read.ensures.unharmed) (inl c.close.ensures.unharmed)
+returns-in_ok-close-in-Follow-clause-unharmed g c = λ p run covers told owned. stays_then (inl c.open_read.ensures.unharmed) (inl c.close.ensures.unharmed)
 
 pub returns-in-Hit-clause-counts : goal.returns-in-Hit-clause-counts
 returns-in-Hit-clause-counts g c = ok_after _ c.read_whole.result (losses_then (kept_in g.C.Chronicle c.args.stripe.now) (kept_in g.C.Chronicle c.open_read.new.stripe) _ c.in_ok-reader.ensures.adds) c.read_whole.ensures.counts

@@ -3,6 +3,10 @@ use Rattle.cache_replay.proofs.WholeGets.{none_next}
 use Rattle.cache_replay.proofs.WholeLines.{line_ends, read_active}
 use Rattle.std.proofs.Common.{subst, sym, ◌≤◌}
 use Rattle.cache_replay.specs.Outline.{count_in}
+use Rattle.stripe_core.proofs.Covering.{own_covers, own_permit}
+use Rattle.script_run.specs.Asked.{get_intents}
+use Rattle.script_run.specs.Own.{IsPlacedAs}
+use Rattle.cache_replay.proofs.Shown.{in_own_step}
 use Rattle.cache_replay.proofs.getting.get_in_part.Goals as goal
 
 pub returns-in-Ok-clause-active : goal.returns-in-Ok-clause-active
@@ -26,3 +30,17 @@ returns-in-Ok-clause-ends g c = λ run slots held plays.
 
 pub returns-in-Ok-clause-counts : goal.returns-in-Ok-clause-counts
 returns-in-Ok-clause-counts g c = subst (λ said. count_in said ≤ (seen_in g.D.Disk g.R.Directory c.get.new.stripe).device.faults) (sym c.said_of.ensures) (c.in-Ok.ensures.counts c.requires.part.losses)
+
+pub returns-in-Ok-clause-unharmed : goal.returns-in-Ok-clause-unharmed
+returns-in-Ok-clause-unharmed g c = λ run told owned.
+    let s = state_in g.C.Chronicle c.args.part.now.stripe in
+    let before = (seen_in g.D.Disk g.R.Directory c.args.part.now.stripe).device.past in
+    let after = (seen_in g.D.Disk g.R.Directory c.get.new.stripe).device.past in
+    in_own_step (IsPlacedAs run.streams) run.now before after s (get_intents s c.args.key c.args.request) (c.get.ensures.unharmed (own_permit run.now before after) run (own_covers run.now before after) told owned)
+
+pub returns-in-Err-clause-unharmed : goal.returns-in-Err-clause-unharmed
+returns-in-Err-clause-unharmed g c = λ run told owned.
+    let s = state_in g.C.Chronicle c.args.part.now.stripe in
+    let before = (seen_in g.D.Disk g.R.Directory c.args.part.now.stripe).device.past in
+    let after = (seen_in g.D.Disk g.R.Directory c.get.new.stripe).device.past in
+    in_own_step (IsPlacedAs run.streams) run.now before after s (get_intents s c.args.key c.args.request) (c.get.ensures.unharmed (own_permit run.now before after) run (own_covers run.now before after) told owned)

@@ -16,7 +16,7 @@ returns-in-Err-clause-session g c =
 pub returns-in-Ok-clause-ends : goal.returns-in-Ok-clause-ends
 returns-in-Ok-clause-ends g c = λ run plays.
     session_ends g.D.Disk g.R.Directory g.C.Chronicle run c.args.session.now _ c.in-Some.part c.get_in_part.new.part c.args.key c.args.request c.in-Ok.said c.in-Some.is refl refl refl (λ m. refl) plays
-    (active g.D.Disk g.R.Directory g.C.Chronicle c.args.session.now c.in-Some.part c.in-Some.is c.requires.session) c.get_in_part.ensures.unharmed (c.in-Ok.ensures.ends run)
+    (active g.D.Disk g.R.Directory g.C.Chronicle c.args.session.now c.in-Some.part c.in-Some.is c.requires.session) c.get_in_part.ensures.goes c.get_in_part.ensures.unharmed (c.in-Ok.ensures.ends run)
 
 pub returns-in-Ok-clause-device : goal.returns-in-Ok-clause-device
 returns-in-Ok-clause-device g c =

@@ -78,27 +78,33 @@ returns-in-NotYet-clause-comes g c = λ b under.
 
 pub returns-in_err-index-clause-unharmed : goal.returns-in_err-index-clause-unharmed
 returns-in_err-index-clause-unharmed g c = λ b.
-    more_harms c.other_shows.ensures b (seen_in g.D.Disk g.R.Directory c.args.stripe.now).device.past (kept_in g.C.Chronicle c.args.stripe.now) c.args.reader.now c.args.body.now.items c.requires.hit c.requires.reader.first c.read_next.ensures.unharmed
+    more_harms c.other_shows.ensures b (seen_in g.D.Disk g.R.Directory c.args.stripe.now).device.past (seen_in g.D.Disk g.R.Directory c.read_next.new.stripe).device.past (kept_in g.C.Chronicle c.args.stripe.now) c.args.reader.now c.args.body.now.items
+    c.requires.hit c.requires.reader.first c.read_next.ensures.unharmed c.read_next.ensures.device.made c.read_next.ensures.device.past
 
 pub returns-in_err-extend_from_slice-in-Piece-clause-unharmed : goal.returns-in_err-extend_from_slice-in-Piece-clause-unharmed
 returns-in_err-extend_from_slice-in-Piece-clause-unharmed g c = λ b.
-    more_harms c.other_shows.ensures b (seen_in g.D.Disk g.R.Directory c.args.stripe.now).device.past (kept_in g.C.Chronicle c.args.stripe.now) c.args.reader.now c.args.body.now.items c.requires.hit c.requires.reader.first c.read_next.ensures.unharmed
+    more_harms c.other_shows.ensures b (seen_in g.D.Disk g.R.Directory c.args.stripe.now).device.past (seen_in g.D.Disk g.R.Directory c.read_next.new.stripe).device.past (kept_in g.C.Chronicle c.args.stripe.now) c.args.reader.now c.args.body.now.items
+    c.requires.hit c.requires.reader.first c.read_next.ensures.unharmed c.read_next.ensures.device.made c.read_next.ensures.device.past
 
 pub returns-in_ok-extend_from_slice-in-Piece-clause-unharmed : goal.returns-in_ok-extend_from_slice-in-Piece-clause-unharmed
 returns-in_ok-extend_from_slice-in-Piece-clause-unharmed g c = λ b.
-    more_harms c.other_shows.ensures b (seen_in g.D.Disk g.R.Directory c.args.stripe.now).device.past (kept_in g.C.Chronicle c.args.stripe.now) c.args.reader.now c.args.body.now.items c.requires.hit c.requires.reader.first c.read_next.ensures.unharmed
+    more_harms c.other_shows.ensures b (seen_in g.D.Disk g.R.Directory c.args.stripe.now).device.past (seen_in g.D.Disk g.R.Directory c.read_next.new.stripe).device.past (kept_in g.C.Chronicle c.args.stripe.now) c.args.reader.now c.args.body.now.items
+    c.requires.hit c.requires.reader.first c.read_next.ensures.unharmed c.read_next.ensures.device.made c.read_next.ensures.device.past
 
 pub returns-in-End-clause-unharmed : goal.returns-in-End-clause-unharmed
 returns-in-End-clause-unharmed g c = λ b.
-    more_harms c.other_shows.ensures b (seen_in g.D.Disk g.R.Directory c.args.stripe.now).device.past (kept_in g.C.Chronicle c.args.stripe.now) c.args.reader.now c.args.body.now.items c.requires.hit c.requires.reader.first c.read_next.ensures.unharmed
+    more_harms c.other_shows.ensures b (seen_in g.D.Disk g.R.Directory c.args.stripe.now).device.past (seen_in g.D.Disk g.R.Directory c.read_next.new.stripe).device.past (kept_in g.C.Chronicle c.args.stripe.now) c.args.reader.now c.args.body.now.items
+    c.requires.hit c.requires.reader.first c.read_next.ensures.unharmed c.read_next.ensures.device.made c.read_next.ensures.device.past
 
 pub returns-in-NotYet-clause-unharmed : goal.returns-in-NotYet-clause-unharmed
 returns-in-NotYet-clause-unharmed g c = λ b.
-    more_harms c.other_shows.ensures b (seen_in g.D.Disk g.R.Directory c.args.stripe.now).device.past (kept_in g.C.Chronicle c.args.stripe.now) c.args.reader.now c.args.body.now.items c.requires.hit c.requires.reader.first c.read_next.ensures.unharmed
+    more_harms c.other_shows.ensures b (seen_in g.D.Disk g.R.Directory c.args.stripe.now).device.past (seen_in g.D.Disk g.R.Directory c.read_next.new.stripe).device.past (kept_in g.C.Chronicle c.args.stripe.now) c.args.reader.now c.args.body.now.items
+    c.requires.hit c.requires.reader.first c.read_next.ensures.unharmed c.read_next.ensures.device.made c.read_next.ensures.device.past
 
 pub returns-in-Broken-clause-unharmed : goal.returns-in-Broken-clause-unharmed
 returns-in-Broken-clause-unharmed g c = λ b.
-    more_harms c.other_shows.ensures b (seen_in g.D.Disk g.R.Directory c.args.stripe.now).device.past (kept_in g.C.Chronicle c.args.stripe.now) c.args.reader.now c.args.body.now.items c.requires.hit c.requires.reader.first c.read_next.ensures.unharmed
+    more_harms c.other_shows.ensures b (seen_in g.D.Disk g.R.Directory c.args.stripe.now).device.past (seen_in g.D.Disk g.R.Directory c.read_next.new.stripe).device.past (kept_in g.C.Chronicle c.args.stripe.now) c.args.reader.now c.args.body.now.items
+    c.requires.hit c.requires.reader.first c.read_next.ensures.unharmed c.read_next.ensures.device.made c.read_next.ensures.device.past
 
 pub returns-in-Broken-clause-counts : goal.returns-in-Broken-clause-counts
 returns-in-Broken-clause-counts g c = λ none.

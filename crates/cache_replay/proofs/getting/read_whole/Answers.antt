@@ -5,6 +5,7 @@ use Rattle.cache_replay.proofs.OtherNext.{stays_then}
 use Rattle.cache_replay.proofs.WholeReads.{answered_as}
 use Rattle.logged_disk.proofs.GoingOn.{goes_further}
 use Rattle.stripe_core.proofs.Between.{accounted_then}
+use Rattle.stripe_core.proofs.Covering.{covers_first}
 use Rattle.cache_replay.proofs.getting.read_whole.Goals as goal
 
 pub returns-in_ok-close-in-Ok-clause-answers : goal.returns-in_ok-close-in-Ok-clause-answers
@@ -14,10 +15,18 @@ returns-in_ok-close-in-Ok-clause-answers g c = λ b under.
     (given_in c.in-Ok.got) (got_answer c.in-Ok.got) (got_answer c.in-Ok.got) (sym c.read_to_end.ensures.number) refl (c.in-Ok.ensures.answers b under))
 
 pub returns-in_err-close-in-Ok-clause-unharmed : goal.returns-in_err-close-in-Ok-clause-unharmed
-returns-in_err-close-in-Ok-clause-unharmed g c = λ b run under told owned. stays_then (c.read_to_end.ensures.unharmed b run under told owned) (inl c.close.ensures.unharmed)
+returns-in_err-close-in-Ok-clause-unharmed g c = λ b p run under covers told owned.
+    stays_then
+    (c.read_to_end.ensures.unharmed b p run under
+    (covers_first p b.past (seen_in g.D.Disk g.R.Directory c.read_to_end.new.stripe).device.past (seen_in g.D.Disk g.R.Directory c.close.new.stripe).device.past c.close.ensures.unharmed.goes.made c.close.ensures.unharmed.goes.past covers) told owned)
+    (inl c.close.ensures.unharmed)
 
 pub returns-in_ok-close-in-Ok-clause-unharmed : goal.returns-in_ok-close-in-Ok-clause-unharmed
-returns-in_ok-close-in-Ok-clause-unharmed g c = λ b run under told owned. stays_then (c.read_to_end.ensures.unharmed b run under told owned) (inl c.close.ensures.unharmed)
+returns-in_ok-close-in-Ok-clause-unharmed g c = λ b p run under covers told owned.
+    stays_then
+    (c.read_to_end.ensures.unharmed b p run under
+    (covers_first p b.past (seen_in g.D.Disk g.R.Directory c.read_to_end.new.stripe).device.past (seen_in g.D.Disk g.R.Directory c.close.new.stripe).device.past c.close.ensures.unharmed.goes.made c.close.ensures.unharmed.goes.past covers) told owned)
+    (inl c.close.ensures.unharmed)
 
 pub returns-in_ok-close-in-Ok-clause-counts : goal.returns-in_ok-close-in-Ok-clause-counts
 returns-in_ok-close-in-Ok-clause-counts g c = λ none. let told = c.in-Ok.ensures.counts none in omega (arith, told, c.close.ensures.later)

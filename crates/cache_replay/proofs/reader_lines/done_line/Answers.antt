@@ -7,7 +7,7 @@ use Rattle.cache_replay.proofs.reader_lines.done_line.Goals as goal
 pub returns-in-Some-clause-ends : goal.returns-in-Some-clause-ends
 returns-in-Some-clause-ends g c =
     line_answers g.D.Disk g.R.Directory g.C.Chronicle c.args.session.now _ c.in-Some.part c.done.new.part (step.Done c.args.actor.now) c.done.result (on_session (step.Done c.args.actor.now) tt)
-    c.in-Some.is refl refl (λ run plays. inl c.done.ensures.unharmed) c.done.ensures.ends
+    c.in-Some.is refl refl c.done.ensures.unharmed.goes (λ run plays. inl c.done.ensures.unharmed) c.done.ensures.ends
 
 pub returns-in-Some-clause-device : goal.returns-in-Some-clause-device
 returns-in-Some-clause-device g c =

@@ -31,7 +31,7 @@ returns-in-Some-clause-ends g c =
 pub returns-in-Some-clause-unharmed : goal.returns-in-Some-clause-unharmed
 returns-in-Some-clause-unharmed g c =
     let taken = took (slots_of c.args.actors.now) (slots_of c.number.new.self) (slots_of c.take_reader.new.actors) c.in_ok-number.number c.in-Some.reader c.in_ok-number.ensures.slots c.in-Some.ensures.slots c.in-Some.ensures.reader in
-    next_line_harms g.D.Disk g.R.Directory g.C.Chronicle c.args.part.now c.args.actors.now c.args.actor.now c.in_ok-number.number c.in-Some.reader c.in_ok-number.ensures.number taken.had c.read_on-said.ensures.unharmed
+    next_line_harms g.D.Disk g.R.Directory g.C.Chronicle c.args.part.now c.read_on-said.new.part c.args.actors.now c.args.actor.now c.in_ok-number.number c.in-Some.reader c.in_ok-number.ensures.number taken.had c.read_on-said.ensures.unharmed
 
 pub returns-in-None-clause-ends : goal.returns-in-None-clause-ends
 returns-in-None-clause-ends g c = λ run plays. inl (

@@ -36,15 +36,15 @@ returns-clause-ends g c = λ run owned reader.
 
 pub returns-in_err-piece-clause-unharmed : goal.returns-in_err-piece-clause-unharmed
 returns-in_err-piece-clause-unharmed g c =
-    next_harms c.other_shows.ensures (state_in g.C.Chronicle c.args.stripe.now) c.args.reader.now c.requires.reader.first c.read_next.ensures.unharmed
+    next_harms c.other_shows.ensures (state_in g.C.Chronicle c.args.stripe.now) (seen_in g.D.Disk g.R.Directory c.args.stripe.now).device.past (seen_in g.D.Disk g.R.Directory c.read_next.new.stripe).device.past c.args.reader.now c.requires.reader.first c.read_next.ensures.unharmed
 
 pub returns-in_err-piece_said-clause-unharmed : goal.returns-in_err-piece_said-clause-unharmed
 returns-in_err-piece_said-clause-unharmed g c =
-    next_harms c.other_shows.ensures (state_in g.C.Chronicle c.args.stripe.now) c.args.reader.now c.requires.reader.first c.read_next.ensures.unharmed
+    next_harms c.other_shows.ensures (state_in g.C.Chronicle c.args.stripe.now) (seen_in g.D.Disk g.R.Directory c.args.stripe.now).device.past (seen_in g.D.Disk g.R.Directory c.read_next.new.stripe).device.past c.args.reader.now c.requires.reader.first c.read_next.ensures.unharmed
 
 pub returns-clause-unharmed : goal.returns-clause-unharmed
 returns-clause-unharmed g c =
-    next_harms c.other_shows.ensures (state_in g.C.Chronicle c.args.stripe.now) c.args.reader.now c.requires.reader.first c.read_next.ensures.unharmed
+    next_harms c.other_shows.ensures (state_in g.C.Chronicle c.args.stripe.now) (seen_in g.D.Disk g.R.Directory c.args.stripe.now).device.past (seen_in g.D.Disk g.R.Directory c.read_next.new.stripe).device.past c.args.reader.now c.requires.reader.first c.read_next.ensures.unharmed
 
 pub returns-clause-counts : goal.returns-clause-counts
 returns-clause-counts g c = λ none.

@@ -14,7 +14,7 @@ returns-in_default g c =
     let needs = needs_session c.args.step (λ name a b d e f h i j is. c.in_default.not-Format name a b d e f h i j is) (λ at is. c.in_default.not-Now at is) in
     record {
       session = c.in_session.ensures.session;
-      ends = all_ends _ _ _ c.in_session.result c.args.step c.args.session.now c.in_session.new.session (ledger_of g.B.Bay c.args.bay.now) needs c.in_session.ensures.ends;
+      ends = all_ends _ _ _ c.in_session.result c.args.step c.args.session.now c.in_session.new.session (ledger_of g.B.Bay c.args.bay.now) needs c.requires.session c.in_session.ensures.device c.in_session.ensures.counts c.in_session.ensures.ends;
       outline = all_outlines _ _ _ c.in_session.result c.args.step c.args.session.now c.in_session.new.session (ledger_of g.B.Bay c.args.bay.now) needs c.in_session.ensures.device c.in_session.ensures.counts;
       left = all_left _ _ _ c.in_session.result c.args.step c.args.session.now c.in_session.new.session (ledger_of g.B.Bay c.args.bay.now) c.in_session.ensures.stop c.in_session.ensures.device;
       stop = all_stops c.in_session.result c.args.step c.args.session.now (g.B.Bay.past c.args.bay.now) (g.B.Bay.past c.args.bay.now) needs c.in_session.ensures.stop;
