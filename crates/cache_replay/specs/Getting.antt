@@ -136,4 +136,6 @@ pub record LineGets (run : Run) (before after : List Call) (s t : State) (key : 
 
 -- so it is, or two documents of one SHA-256 are shown
 abbrev pub LineEnds : Run → (before after : List Call) → (s t : State) → Key → List Field → (ℕ → Option Holding) → StepAnswer → Type 0
-LineEnds run before after s t key request slots said = LineGets run before after s t key request slots said ⊎ ShowsAt (IsPlacedAs run.streams) run.now before after s (get_intents s key request)
+LineEnds run before after s t key request slots said =
+    LineGets run before after s t key request slots said
+    ⊎ ShowsAt (IsPlacedAs run.streams) run.now before after s (get_intents s key request)

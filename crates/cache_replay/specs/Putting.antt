@@ -115,7 +115,8 @@ pub record Puts (p : Permit) (old new : Kept) (key : Key) (body : List ℕ) (req
   pub added : List Rec
   pub why : Option Reason
   pub adds : new ≡ with_records old added
-  pub grows : MayGrow p (state_of old) (to_do (put_intents (state_of old) key body request response)) added (record { intents = []; refused = why })
+  pub grows : MayGrow p (state_of old) (to_do (put_intents (state_of old) key body request response)) added
+      (record { intents = []; refused = why })
   pub says : said (state_of new) None why (put_said (state_of new) (state_of old).next_put) ≡ receipt_answer result
 
 -- what came of it in any step at that moment that covers the call; or two documents of one SHA-256 are shown

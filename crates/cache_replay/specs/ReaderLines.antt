@@ -89,4 +89,5 @@ pub record NextMoves (run : Run) (before after : List Call) (s t : State) (r new
 
 -- or two documents of one SHA-256 are shown
 abbrev pub NextEnds : Run → (before after : List Call) → (s t : State) → (r new : Reader) → StepAnswer → Type 0
-NextEnds run before after s t r new said = NextMoves run before after s t r new said ⊎ ShowsAt (IsPlacedAs run.streams) run.now before after s (ReadOn r.reader ∷ [])
+NextEnds run before after s t r new said =
+    NextMoves run before after s t r new said ⊎ ShowsAt (IsPlacedAs run.streams) run.now before after s (ReadOn r.reader ∷ [])

@@ -100,17 +100,21 @@ pub record WriterMoves (run : Run) (name : List ℕ) (before after : List Call) 
 
 -- so it is, or two documents of one SHA-256 are shown
 abbrev pub WriterEnds : Run → List ℕ → (before after : List Call) → State → State → WriterLine → Option Writer → StepAnswer → Type 0
-WriterEnds run name before after s t line left said = WriterMoves run name before after s t line left said ⊎ ShowsIn run before after (Some s) (step_of line name)
+WriterEnds run name before after s t line left said =
+    WriterMoves run name before after s t line left said ⊎ ShowsIn run before after (Some s) (step_of line name)
 
 -- at a moment; where memory is wanting nothing is answered
 abbrev pub WriterDoes : ℕ → (before after : List Call) → State → State → WriterLine → Writer → Option Writer → Option StepAnswer → Type 0
 WriterDoes now before after s t line w left None = Unit {0}
-WriterDoes now before after s t line w left (Some said) = (run : Run) (name : List ℕ) → run.now ≡ now → IsPlayed run name s w → WriterEnds run name before after s t line left said
+WriterDoes now before after s t line w left (Some said) =
+    (run : Run) (name : List ℕ) → run.now ≡ now → IsPlayed run name s w → WriterEnds run name before after s t line left said
 
 -- the same, at any moment, of a line that asks for a writer, of an actor that has nothing
 abbrev pub OpenDoes : (before after : List Call) → State → State → ℕ → WriterLine → Option Writer → Option StepAnswer → Type 0
 OpenDoes before after s t n line left None = Unit {0}
-OpenDoes before after s t n line left (Some said) = (run : Run) (name : List ℕ) → held_by run name ≡ None → n ≡ number_of run.actors name → WriterMoves run name before after s t line left said
+OpenDoes before after s t n line left (Some said) =
+    (run : Run) (name : List ℕ) → held_by run name ≡ None → n ≡ number_of run.actors name
+    → WriterMoves run name before after s t line left said
 
 -- what came of a writer that was closed
 abbrev pub closed_answer : Result Receipt Refusal → Option StepAnswer

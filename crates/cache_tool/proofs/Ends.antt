@@ -40,7 +40,6 @@ use Rattle.cache_tool.specs.Story.{Story, Told, Taken, Took, Recorded, ShownAlon
 use Rattle.cache_tool.specs.Ending.{Ends, FailedReads, IsOfRun}
 use Rattle.cache_tool.specs.Halt.{Written, Halts, Leaves, ending_of, last_of}
 use Rattle.cache_tool.proofs.Stories.{step_more, Deals-nothing, Deals-trans, Deals-settled, answered_with, along_with, story_with}
-use Rattle.cache_replay.proofs.Unharming.{plays_outlined}
 use Rattle.cache_tool.proofs.Halts.{Took-kept, Took-nothing, Took-trans, cuts_last, plays_reach}
 
 -- the end that the last reads met

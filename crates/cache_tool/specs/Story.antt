@@ -200,7 +200,7 @@ GoesOn first taken_first ledger_first now held given taken ledger Outlined Plays
     Story first now held given (SendsAll taken_first taken) (λ t. Deals ledger_first ledger t.ended t.names) Outlined Plays
 
 -- what a session owes once the run has ended: its devices were attached, those that it ended came back, and its own has
--- counted as far as was told, and begins its log with the calls that were told
+-- counted as far as was told, and its log is the calls that were told, or begins with them where not all were
 pub record Owes (ledger_first ledger : Ledger) (Reached : List Harm → Type 0) (t : Told) : Type 0 where
   pub deals : Deals ledger_first ledger t.ended t.names
   pub reached : Reached t.own
@@ -217,4 +217,6 @@ pub record GaveBack (ledger_first ledger : Ledger) (held : List ℕ) (given : �
 
 -- what is owed where memory was wanting, by a session that has so many devices: its own may have made calls meanwhile
 abbrev pub OwesOrGave : (ledger_first ledger : Ledger) → ℕ → (List Harm → Type 0) → (held : List ℕ) → ℕ → Told → Type 0
-OwesOrGave ledger_first ledger devices Reached held given t = Owes ledger_first ledger Reached (own_loosened t) ⊎ ((devices ≡ 0) × GaveBack ledger_first ledger held given t)
+OwesOrGave ledger_first ledger devices Reached held given t =
+    Owes ledger_first ledger Reached (own_loosened t)
+    ⊎ ((devices ≡ 0) × GaveBack ledger_first ledger held given t)

@@ -69,7 +69,7 @@ pub record EndsEarly (first read : List SourceRead) (old new : List SinkWrite) (
 -- went out, of all lines that were taken, or of all but the last, for whose text memory was wanting. The others name the
 -- cause that ended the run. All of that stands also where a line showed two documents of one SHA-256 (`ShownAlong`): what
 -- is lost then is that the records are legal, that the answers from that line on are theirs, and which calls its device
--- made from that line on (`Recorded`).
+-- made behind that line (`Recorded`).
 abbrev pub Concludes : (first read : List SourceRead) → (old new : List SinkWrite) → (bay : Refusals) → (before now : Ledger) → Status → Type 0
 Concludes first read old new bay before now status.Done = StoryUpTo first read (SendsAll old new) (λ held given. EachBack before now) (λ held given o. IsReadThrough read held)
 Concludes first read old new bay before now status.Usage = WentOut old new [] (last_line last.Usage) × (read ≡ first) × (now ≡ before)
