@@ -1,20 +1,15 @@
--- The least permit that covers one call.
-use Rattle.std.proofs.Common.{ℕ, List, [], ◌∷◌, refl, inl, inr, arith, false}
-use Rattle.std.specs.List.{AllByRecursion}
-use Rattle.cache_model.specs.Permit.{DeviceRead, IsAmong, Permit}
-use Rattle.stripe_core.specs.Covers.{Covers}
+-- The calls of a line are those that its device made between the two ends of the line.
+use Rattle.std.proofs.Common.{◌≡◌, List, [], ◌++◌, refl, sym, ◌∙◌, ap}
+use Rattle.device_log.specs.Calls.{Call}
+use Rattle.logged_disk.specs.Device.{State as Device, IsAfter}
+use Rattle.stripe_core.specs.Covers.{calls_since}
+use Rattle.stripe_core.proofs.Covering.{since_is}
 
--- at a moment, from one count of the device to another, with what was read
-abbrev pub call_permit : (now before after : ℕ) → List DeviceRead → Permit
-call_permit now before after reads = record { packed = false; now = now; faults_before = before; faults = after; reads = reads }
+-- none were made
+pub none_since : (past : List Call) → [] ≡ calls_since past past
+none_since past = sym (since_is past past [] refl)
 
-among_more : (x : DeviceRead) (ys xs : List DeviceRead) → AllByRecursion (λ r. IsAmong r ys) xs → AllByRecursion (λ r. IsAmong r (x ∷ ys)) xs
-among_more x ys [] h = tt
-among_more x ys (z ∷ xs) h = (inr h.0, among_more x ys xs h.1)
-
-all_among : (xs : List DeviceRead) → AllByRecursion (λ r. IsAmong r xs) xs
-all_among [] = tt
-all_among (x ∷ xs) = (inl refl, among_more x xs xs (all_among xs))
-
-pub call_covered : (now before after : ℕ) (reads : List DeviceRead) → Covers (call_permit now before after reads) before after reads
-call_covered now before after reads = record { plain = refl; from = omega arith; upto = omega arith; knows = all_among reads }
+-- the calls of a line, and behind them those of the lines before it, are the log of the device
+pub calls_behind : (a b : Device) (events calls : List Call) → IsAfter a b → events ≡ calls_since a.past b.past → a.past ≡ calls → b.past ≡ events ++ calls
+calls_behind a b events calls goes are before =
+    goes.past ∙ (ap (λ made. made ++ a.past) (sym (are ∙ since_is a.past b.past goes.made goes.past)) ∙ ap (λ older. events ++ older) before)

@@ -4,6 +4,7 @@ use Rattle.std.specs.Prelude.{Option, Some, None, if◌then◌else◌, option_ma
 use Rattle.std.proofs.lemmas.Bool.{eq-eqb}
 use Rattle.std.proofs.lemmas.List.{drop_all}
 use Rattle.std.proofs.lemmas.List.Sums.{sum_by-append}
+use Rattle.device_log.specs.Calls.{Call}
 use Rattle.tape_base.specs.declared.keys.Key.{Key}
 use Rattle.fragment_table.specs.Table.{TableRow, total_length}
 use Rattle.cache_model.specs.declared.cause.Cause.{Cause}
@@ -39,7 +40,9 @@ use Rattle.cache_replay.specs.Putting.{receipt_answer, refusal_answer}
 use Rattle.cache_replay.specs.WriterLines.{Closes, IsPlayed, WriterDoes, WriterEnds, closed_answer}
 use Rattle.cache_replay.specs.Shown.{Shows}
 use Rattle.cache_replay.proofs.Shown.{as_placed, key_pair, shows_behind, shows_in, weigh_reads}
-use Rattle.cache_replay.proofs.Calls.{call_covered, call_permit}
+use Rattle.stripe_core.specs.Faults.{IsAccounted}
+use Rattle.stripe_core.proofs.Between.{accounted_is}
+use Rattle.stripe_core.proofs.Covering.{own_covers, own_permit}
 use Rattle.cache_replay.proofs.WriterSteps.{LeftOpen, cuts_at, gathered_at, has_put, held_open, key_at, of_left, reason_of, whole_step}
 use Rattle.cache_replay.proofs.Endings.{AreClosing, EndsInCommit, IsEnded, ended_along, key_of, rows_then}
 
@@ -129,7 +132,7 @@ complete_said t w receipt key whole end =
     ∙ (ap (λ q. answer.Put q (total_length (rows_at_close w)) (length (rows_at_close w))) (sym whole.put)
     ∙ (ap (λ n. answer.Put receipt.put n (length (rows_at_close w))) (sym whole.bytes) ∙ ap (answer.Put receipt.put receipt.length) (sym whole.fragments)))
 
-module _ (now : ℕ) (old new : Kept) (before after : ℕ) (w last : Writer) (left : Option Writer)
+module _ (now : ℕ) (old new : Kept) (before after : List Call) (accounted : IsAccounted before after old new) (w last : Writer) (left : Option Writer)
     (quiet_then : IsQuiet (state_of new)) (writing : is_writing (state_of old) w.put ≡ true) (own : IsWriterOf (state_of old) w)
     (rested : IsRested w last) (open_left : LeftOpen (state_of new) last left) where
   abbrev s : State
@@ -148,16 +151,16 @@ module _ (now : ℕ) (old new : Kept) (before after : ℕ) (w last : Writer) (le
   ended : (p : Permit) (added : List Rec) (why : Option Reason) → IsStep p s (close_intents w) added why → t ≡ after_all s added → IsEnded why t w.put (rows_at_close w) (key_of s w.put)
   ended p added why legal there = subst (λ x. IsEnded why x w.put (rows_at_close w) (key_of s w.put)) (sym there) (closing_ended p s w added why writing own legal.grows)
 
-  closed_moves : (result : Result Receipt Refusal) (e : End) (said_ : StepAnswer) (reads : List Rattle.cache_model.specs.Permit.DeviceRead) (added : List Rec) → new ≡ with_records old added
-      → SpendsAll (call_permit now before after reads) s (close_intents w) added e
+  closed_moves : (result : Result Receipt Refusal) (e : End) (said_ : StepAnswer) (added : List Rec) → new ≡ with_records old added
+      → SpendsAll (own_permit now before after) s (close_intents w) added e
       → (IsEnded (reason_of e) t w.put (rows_at_close w) (key_of s w.put) → (stream : Stream) → IsStreamOf stream w → is_writing t w.put ≡ true → IsStreamOf (sealed_by (reason_of e) stream) last)
       → (IsEnded (reason_of e) t w.put (rows_at_close w) (key_of s w.put) → said t None (reason_of e) (put_said t w.put) ≡ said_)
-      → (run : Run) (name : List ℕ) → run.now ≡ now → IsPlayed run name s w → WriterEnds run name s t Closes left said_
-  closed_moves result e said_ reads added adds spends stream says run name moment played =
-      let p : Permit = call_permit now before after reads in
+      → (run : Run) (name : List ℕ) → run.now ≡ now → IsPlayed run name s w → WriterEnds run name before after s t Closes left said_
+  closed_moves result e said_ added adds spends stream says run name moment played =
+      let p : Permit = own_permit now before after in
       let there = state_behind old new added adds in
       let has = has_put run name s w played in
-      let legal : IsStep p s (close_intents w) added (reason_of e) = whole_step p s (close_intents w) added e spends (subst IsQuiet there quiet_then) in
+      let legal : IsStep p s (close_intents w) added (reason_of e) = whole_step p s (close_intents w) added e spends (subst IsQuiet there quiet_then) (accounted_is before after old new added accounted adds) in
       let end_ = ended p added (reason_of e) legal there in
       let turn : Turn = record { added = added; refused = reason_of e; device = p; given = [] } in
       let put_is = rested_put w last rested in
@@ -166,7 +169,8 @@ module _ (now : ℕ) (old new : Kept) (before after : ℕ) (w last : Writer) (le
       ap (λ o. of_put run o (streams_closed run (reason_of e)) last.put) has ∙ ap (λ (b : Bool). if b then x else run.streams last.put) (eq-eqb last.put w.put put_is) in
       inl (record {
         turn = turn;
-        takes = record { plain = refl; moment = sym moment; legal = subst (λ (is : List Intent). IsStep p s is added (reason_of e)) (sym (asks run name played)) legal; own = refl };
+        takes = record { plain = refl; content = refl; moment = sym moment; legal = subst (λ (is : List Intent). IsStep p s is added (reason_of e)) (sym (asks run name played)) legal; own = refl };
+        calls = refl;
         state = there;
         held = ap (still_open t) played.held ∙ held_open t w.put last left put_is open_left;
         stream = of_left (λ v. IsStreamOf (streams_behind run s t turn (step.Close name) v.put) v) t last left open_left
@@ -174,44 +178,45 @@ module _ (now : ℕ) (old new : Kept) (before after : ℕ) (w last : Writer) (le
         says = ap (λ o. Rattle.script_run.specs.Answers.if_has o (λ put. said t None (reason_of e) (put_said t put))) has ∙ says end_;
       })
 
-  shows : (p : Permit) → p.packed ≡ false → p.now ≡ now → IsKeyPair IsVectorAs p s w.key → (run : Run) (name : List ℕ) (said_ : StepAnswer) → run.now ≡ now → IsPlayed run name s w → WriterEnds run name s t Closes left said_
-  shows p plain at pair run name said_ moment played =
+  shows : (p : Permit) → p.packed ≡ false → p.area ≡ 0 → p.now ≡ now → IsKeyPair IsVectorAs p s w.key → (run : Run) (name : List ℕ) (said_ : StepAnswer) → run.now ≡ now → IsPlayed run name s w → WriterEnds run name before after s t Closes left said_
+  shows p plain content at pair run name said_ moment played =
       let weighs : Intent = Weigh w.put (length w.gathered.items) in
       let first : IsPair (IsPlacedAs run.streams) p s weighs =
       as_placed run.streams p s weighs (key_pair p s weighs w.key (weigh_reads s w.put (length w.gathered.items) w.key (key_at s w writing own)) pair) in
       inr (shows_in run s (step.Close name) (record {
         device = p;
         plain = plain;
+        content = content;
         moment = at ∙ sym moment;
         shows = subst (λ is. Shows (IsPlacedAs run.streams) p s is) (sym (asks run name played)) (shows_behind (IsPlacedAs run.streams) p s (close_intents w) [] (to_do (close_intents w)) nothing first);
       }))
 
   either : (result : Result Receipt Refusal) (said_ : StepAnswer) → ClosesAsAsked now before after old new w result
-      → ((reads : List Rattle.cache_model.specs.Permit.DeviceRead) (run : Run) (name : List ℕ) → run.now ≡ now → IsPlayed run name s w → ClosesAs (call_permit now before after reads) old new w result → WriterEnds run name s t Closes left said_)
-      → (run : Run) (name : List ℕ) → run.now ≡ now → IsPlayed run name s w → WriterEnds run name s t Closes left said_
-  either result said_ asked_ then_ run name moment played = elim (asked_.does (call_permit now before after asked_.reads) refl (call_covered now before after asked_.reads) played.told) [
-    | inl closes ↦ then_ asked_.reads run name moment played closes
-    | inr pair ↦ shows (call_permit now before after asked_.reads) refl refl pair run name said_ moment played
+      → ((run : Run) (name : List ℕ) → run.now ≡ now → IsPlayed run name s w → ClosesAs (own_permit now before after) old new w result → WriterEnds run name before after s t Closes left said_)
+      → (run : Run) (name : List ℕ) → run.now ≡ now → IsPlayed run name s w → WriterEnds run name before after s t Closes left said_
+  either result said_ asked_ then_ run name moment played = elim (asked_.does (own_permit now before after) refl (own_covers now before after) played.told) [
+    | inl closes ↦ then_ run name moment played closes
+    | inr pair ↦ shows (own_permit now before after) refl refl refl pair run name said_ moment played
   ]
 
   -- each answer
-  pub closes_line : (result : Result Receipt Refusal) → ClosesWhere s t w result → ClosesAsAsked now before after old new w result → SealsWhere w last result → WriterDoes now s t Closes w left (closed_answer result)
-  closes_line (Ok receipt) where_ does seals = either (Ok receipt) (answer.Put receipt.put receipt.length receipt.fragments) does (λ reads run name moment played closes.
-      closed_moves (Ok receipt) Done (answer.Put receipt.put receipt.length receipt.fragments) reads closes.added closes.adds closes.does
+  pub closes_line : (result : Result Receipt Refusal) → ClosesWhere s t w result → ClosesAsAsked now before after old new w result → SealsWhere w last result → WriterDoes now before after s t Closes w left (closed_answer result)
+  closes_line (Ok receipt) where_ does seals = either (Ok receipt) (answer.Put receipt.put receipt.length receipt.fragments) does (λ run name moment played closes.
+      closed_moves (Ok receipt) Done (answer.Put receipt.put receipt.length receipt.fragments) closes.added closes.adds closes.does
       (λ end_ stream of o. clashes (is_writing t w.put) end_.0 o)
       (λ end_. complete_said t w receipt (key_of s w.put) where_.1 end_) run name moment played)
-  closes_line (Err (refusal.VectorTooLarge size)) where_ does seals = either (Err (refusal.VectorTooLarge size)) (refusal_answer (refusal.VectorTooLarge size) None) does (λ reads run name moment played closes.
-      closed_moves (Err (refusal.VectorTooLarge size)) (Fails (TooLarge w.put size)) (refusal_answer (refusal.VectorTooLarge size) None) reads closes.added closes.adds closes.does
+  closes_line (Err (refusal.VectorTooLarge size)) where_ does seals = either (Err (refusal.VectorTooLarge size)) (refusal_answer (refusal.VectorTooLarge size) None) does (λ run name moment played closes.
+      closed_moves (Err (refusal.VectorTooLarge size)) (Fails (TooLarge w.put size)) (refusal_answer (refusal.VectorTooLarge size) None) closes.added closes.adds closes.does
       (λ end_ stream of o. clashes (is_writing t w.put) end_ o) (λ end_. refl) run name moment played)
-  closes_line (Err (refusal.Lost index why)) where_ does seals = either (Err (refusal.Lost index why)) (refusal_answer (refusal.Lost index why) None) does (λ reads run name moment played closes.
-      closed_moves (Err (refusal.Lost index why)) (Fails (Lost w.put index)) (refusal_answer (refusal.Lost index why) None) reads closes.added closes.adds closes.does
+  closes_line (Err (refusal.Lost index why)) where_ does seals = either (Err (refusal.Lost index why)) (refusal_answer (refusal.Lost index why) None) does (λ run name moment played closes.
+      closed_moves (Err (refusal.Lost index why)) (Fails (Lost w.put index)) (refusal_answer (refusal.Lost index why) None) closes.added closes.adds closes.does
       (λ end_ stream of o. clashes (is_writing t w.put) end_.0 o)
       (λ end_. ap (λ (c : Cause). answer.Refused (refused.Lost index c) None) (cause_at t w.put index w.key (put_of t w.put) (end_.1 ∙ key_at s w writing own) ∙ sym where_.1)) run name moment played)
-  closes_line (Err (refusal.DeviceFault count)) where_ does seals = either (Err (refusal.DeviceFault count)) (refusal_answer (refusal.DeviceFault count) None) does (λ reads run name moment played closes.
-      closed_moves (Err (refusal.DeviceFault count)) (Fails (Faulted count)) (refusal_answer (refusal.DeviceFault count) None) reads closes.added closes.adds closes.does
+  closes_line (Err (refusal.DeviceFault count)) where_ does seals = either (Err (refusal.DeviceFault count)) (refusal_answer (refusal.DeviceFault count) None) does (λ run name moment played closes.
+      closed_moves (Err (refusal.DeviceFault count)) (Fails (Faulted count)) (refusal_answer (refusal.DeviceFault count) None) closes.added closes.adds closes.does
       (λ end_ stream of o. sealed_stream stream w last of rested seals) (λ end_. refl) run name moment played)
-  closes_line (Err (refusal.Exhausted number)) where_ does seals = either (Err (refusal.Exhausted number)) (refusal_answer (refusal.Exhausted number) None) does (λ reads run name moment played closes.
-      closed_moves (Err (refusal.Exhausted number)) (Fails Exhausted) (refusal_answer (refusal.Exhausted number) None) reads closes.added closes.adds closes.does
+  closes_line (Err (refusal.Exhausted number)) where_ does seals = either (Err (refusal.Exhausted number)) (refusal_answer (refusal.Exhausted number) None) does (λ run name moment played closes.
+      closed_moves (Err (refusal.Exhausted number)) (Fails Exhausted) (refusal_answer (refusal.Exhausted number) None) closes.added closes.adds closes.does
       (λ end_ stream of o. sealed_stream stream w last of rested seals) (λ end_. refl) run name moment played)
   closes_line (Err (refusal.Memory e)) where_ does seals = tt
   closes_line (Err refusal.NoSuchWriter) where_ does seals = let clash : true ≡ false = sym writing ∙ where_ in cc

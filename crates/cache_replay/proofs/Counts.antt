@@ -3,7 +3,6 @@ use Rattle.std.proofs.Common.{◌≡◌, ℕ, ◌≤◌, ◌⊎◌, List, [], �
 use Rattle.std.specs.Prelude.{Option, Some, None, ◌==◌, if◌then◌else◌, IfErr, IfOk, IfSome, option_map, unwrap_or}
 use Rattle.std.specs.List.{AllByRecursion}
 use Rattle.std.specs.Map.{lookup}
-use Rattle.logged_disk.specs.Device.{State as Device}
 use Rattle.tape_base.specs.declared.actors.Actor.{Actor}
 use Rattle.tape_base.specs.declared.keys.Key.{Key}
 use Rattle.tape_base.specs.declared.pieces.PieceId.{PieceId}
@@ -11,20 +10,15 @@ use Rattle.tape_base.specs.Piece.{same_piece}
 use Rattle.alternate_vector.specs.Field.{Field}
 use Rattle.cache_model.specs.declared.cause.Cause.{Cause}
 use Rattle.cache_model.specs.declared.cause.Cause.TheVariants as cause
-use Rattle.cache_model.specs.declared.record.Rec.{Rec}
 use Rattle.cache_model.specs.State.{Complete, LastVector, Row, State, TakenOut, last_abort, last_vector, live_row_of, row_of, vector_piece}
 use Rattle.cache_model.specs.Kept.{Kept, state_of}
 use Rattle.cache_model.specs.Verdict.{cause_of_beginning, cause_of_last, cause_of_miss, cause_of_piece, cause_without_vector, next_piece, no_match, no_record, passed}
-use Rattle.cache_model.specs.Permit.{Commit, Done, End, Exhausted, Fails, Faulted, Finish, Flush, Fragment, GiveUp, Intent, Look, Lost, Overflow, Permit, ReadAll, ReadOn, Reason, Remove, Stays, StopReading, Weigh, Work, Write}
-use Rattle.cache_model.specs.Given.{MayCount}
-use Rattle.cache_model.specs.Legal
-use Rattle.cache_model.specs.Legal.{Advances, Does, MakesRoom, MayGrow, more, nothing}
 use Rattle.stripe_core.specs.declared.refusal.Flushed.{Flushed}
 use Rattle.stripe_core.specs.declared.refusal.Refusal.{Refusal}
 use Rattle.stripe_core.specs.declared.refusal.Refusal.TheVariants as refusal
 use Rattle.stripe_core.specs.Acts.{OpensAsAsked}
 use Rattle.stripe_core.specs.Counts.{IsCounted, IsCountedCause}
-use Rattle.stripe_core.specs.Flush.{FlushesAsAsked}
+use Rattle.stripe_core.specs.Flush.{StopsWith}
 use Rattle.stripe_core.specs.Stripe.{Answers}
 use Rattle.stripe_read.specs.declared.opening.Opened.{Opened}
 use Rattle.stripe_read.specs.declared.opening.Opened.TheVariants as opened
@@ -44,14 +38,12 @@ use Rattle.stripe_write.specs.Removals.{RemovesWhere}
 use Rattle.script_lang.specs.declared.answer.StepAnswer.{StepAnswer}
 use Rattle.script_run.specs.Answers.{broken_said, miss_said}
 use Rattle.script_run.specs.Losses.{NoLossIsAFault, is_fault}
-use Rattle.cache_replay.specs.Feeding.{FeedsWhere}
 use Rattle.cache_replay.specs.Getting.{count_in_piece}
 use Rattle.cache_replay.specs.Outline.{count_in, count_of, count_of_refusal}
 use Rattle.cache_replay.specs.Plain.{flush_refused}
 use Rattle.cache_replay.specs.Putting.{unless_memory}
 use Rattle.cache_replay.specs.ReaderLines.{next_answer, opened_answer}
 use Rattle.cache_replay.specs.WriterLines.{closed_answer, fed_answer, refused_answer}
-use Rattle.cache_replay.proofs.Calls.{call_covered, call_permit}
 use Rattle.cache_replay.proofs.PlainTurns.{removed_as}
 use Rattle.cache_replay.proofs.ReaderFrames.{losses_then}
 
@@ -108,110 +100,13 @@ miss_counts s key none = missed_counts s key (last_vector s key) none
 at_most : (n k : ℕ) → n ≡ 0 → n ≤ k
 at_most n k e = omega (arith, e)
 
--- ---- what a step that the device refused counts
-
-may_count : (p : Permit) (s : State) (n count : ℕ) → MayCount p s n → Fails (Faulted n) ≡ Fails (Faulted count) → count ≤ p.faults
-may_count p s n count m e = let same : n ≡ count = cc in subst (λ k. k ≤ p.faults) same m.reached
-
-other_end : (p : Permit) (e : End) (count : ℕ) → e ≡ Done → e ≡ Fails (Faulted count) → count ≤ p.faults
-other_end p e count done fails = cc
-
-other_reason : (p : Permit) (e : End) (why : Reason) (count : ℕ) → (why ≡ Faulted count → ⊥) → e ≡ Fails why → e ≡ Fails (Faulted count) → count ≤ p.faults
-other_reason p e why count other one fails = let same : why ≡ Faulted count = cc in absurd (other same)
-
-room_counts : (p : Permit) (s : State) (bytes : ℕ) (added : List Rec) (e : End) (count : ℕ) → MakesRoom p s bytes added e → e ≡ Fails (Faulted count) → count ≤ p.faults
-room_counts p s bytes added e count (MakesRoom.flushes x m) is = cc
-room_counts p s bytes added e count (MakesRoom.stops n x m) is = may_count p _ n count m.counts is
-room_counts p s bytes added e count (MakesRoom.exhausted x q y) is = cc
-
-pub group_counts : (p : Permit) (s : State) (i : Intent) (added : List Rec) (e : End) (count : ℕ) → Does p s i added e → e ≡ Fails (Faulted count) → count ≤ p.faults
-group_counts p s Flush added e count (Legal.DoesFlush.empty q f x) is = cc
-group_counts p s Flush added e count (Legal.DoesFlush.flushes m) is = cc
-group_counts p s Flush added e count (Legal.DoesFlush.stops n m) is = may_count p _ n count m.counts is
-group_counts p s Flush added e count (Legal.DoesFlush.exhausted q f b x) is = cc
-group_counts p s (Write actor key request response pin) added e count (Legal.DoesWrite.opens m) is = cc
-group_counts p s (Write actor key request response pin) added e count (Legal.DoesWrite.many q m x) is = cc
-group_counts p s (Write actor key request response pin) added e count (Legal.DoesWrite.exhausted q m l x) is = cc
-group_counts p s (Fragment put index payload) added e count (Legal.DoesFragment.places d m) is = other_end p e count d is
-group_counts p s (Fragment put index payload) added e count (Legal.DoesFragment.rooms w n m) is = room_counts p s _ added e count m is
-group_counts p s (Fragment put index payload) added e count (Legal.DoesFragment.exhausted w x n q) is = other_reason p e Exhausted count (λ h. cc) x is
-group_counts p s (Overflow put) added e count (Legal.DoesOverflow.aborts w q l x) is = cc
-group_counts p s (Weigh put rest) added e count (Legal.DoesWeigh.weighs w q r f x) is = cc
-group_counts p s (Weigh put rest) added e count (Legal.DoesWeigh.too_large w q r f x) is = cc
-group_counts p s (Weigh put rest) added e count (Legal.DoesWeigh.damaged w row found q live d x) is = cc
-group_counts p s (Weigh put rest) added e count (Legal.DoesWeigh.faulted w row n q live r m x) is = may_count p s n count m is
-group_counts p s (Finish put fragments) added e count (Legal.DoesFinish.places d m) is = other_end p e count d is
-group_counts p s (Finish put fragments) added e count (Legal.DoesFinish.rooms w c m) is = room_counts p s _ added e count m is
-group_counts p s (Finish put fragments) added e count (Legal.DoesFinish.loses w index d m x) is = other_reason p e (Lost put index) count (λ h. cc) d is
-group_counts p s (Finish put fragments) added e count (Legal.DoesFinish.exhausted w x c l q) is = other_reason p e Exhausted count (λ h. cc) x is
-group_counts p s (Commit put) added e count (Legal.DoesCommit.commits w f o q x) is = cc
-group_counts p s (GiveUp put) added e count (Legal.DoesGiveUp.aborts w q x) is = cc
-group_counts p s (GiveUp put) added e count (Legal.DoesGiveUp.over q o x) is = cc
-group_counts p s (Remove key) added e count (Legal.DoesRemove.removes row q l x) is = cc
-group_counts p s (Remove key) added e count (Legal.DoesRemove.absent q l x) is = cc
-group_counts p s (Look actor key request) added e count (Legal.DoesLook.looks m) is = cc
-group_counts p s (ReadOn reader) added e count (Legal.DoesReadOn.reads_on answer m) is = cc
-group_counts p s (ReadAll reader) added e count (Legal.DoesReadAll.reads_on answer x m y) is = given_end p e count (Rattle.cache_model.specs.Legal.is_given answer) y is
-  where
-    given_end : (p : Permit) (e : End) (count : ℕ) (b : Bool) → e ≡ cond b Stays Done → e ≡ Fails (Faulted count) → count ≤ p.faults
-    given_end p e count true y is = cc
-    given_end p e count false y is = cc
-group_counts p s (ReadAll reader) added e count (Legal.DoesReadAll.has_none q x y z) is = other_end p e count z is
-group_counts p s (StopReading reader) added e count (Legal.DoesStopReading.closes r q l x) is = cc
-group_counts p s (StopReading reader) added e count (Legal.DoesStopReading.closed q l x) is = cc
-
--- the work is refused so already, or the count is one that the device reached
-abbrev IsReached : Permit → Option Reason → ℕ → Type 0
-IsReached p why count = (why ≡ Some (Faulted count)) ⊎ (count ≤ p.faults)
-
-end_counts : (p : Permit) (s : State) (i : Intent) (is : List Intent) (why : Option Reason) (added : List Rec) (between : Work) (count : ℕ) (e : End) → Does p s i added e
-    → between ≡ Rattle.cache_model.specs.Permit.work_after i is why e → between.refused ≡ Some (Faulted count) → IsReached p why count
-end_counts p s i is why added between count Stays d left refused = inl (rw left at refused)
-end_counts p s i is why added between count Done d left refused = inl (rw left at refused)
-end_counts p s i is why added between count (Fails reason) d left refused =
-    let there : Some reason ≡ Some (Faulted count) = rw left at refused in
-    let same : reason ≡ Faulted count = cc in
-    inr (group_counts p s i added (Fails reason) count d (ap Fails same))
-
-one_counts : (p : Permit) (s : State) (is : List Intent) (why : Option Reason) (added : List Rec) (between : Work) (count : ℕ) → Advances p s is why added between → between.refused ≡ Some (Faulted count)
-    → IsReached p why count
-one_counts p s [] why added between count h refused = absurd h
-one_counts p s (i ∷ is) why added between count h refused = end_counts p s i is why added between count h.0 h.1 h.2 refused
-
-grown_counts : {p : Permit} {s : State} {w after : Work} {recs : List Rec} → MayGrow p s w recs after → (count : ℕ) → after.refused ≡ Some (Faulted count) → IsReached p w.refused count
-grown_counts nothing count refused = inl refused
-grown_counts {p} {s} {w} (more added between one others) count refused = elim (grown_counts others count refused) [
-  | inl before ↦ one_counts p s w.intents w.refused added between count one before
-  | inr reached ↦ inr reached
-]
-
-reached_count : (p : Permit) (count : ℕ) → IsReached p None count → count ≤ p.faults
-reached_count p count (inl before) = cc
-reached_count p count (inr reached) = reached
-
 -- ---- calls
 
-pub feed_counts : (now before after : ℕ) (old new : Kept) (w : Writer) (bytes : List ℕ) (why : Refusal) → FeedsWhere now before after old new w bytes (Some why) → count_of_refusal why ≤ after
-feed_counts now before after old new w bytes (refusal.DeviceFault count) h =
-    let p : Permit = call_permit now before after h.reads in
-    let f = h.does p refl (call_covered now before after h.reads) in
-    reached_count p count (grown_counts (f.does [] None) count refl)
-feed_counts now before after old new w bytes refusal.TooManyFragments h = omega arith
-feed_counts now before after old new w bytes (refusal.Exhausted number) h = omega arith
-feed_counts now before after old new w bytes refusal.Sealed h = omega arith
-feed_counts now before after old new w bytes (refusal.Memory e) h = omega arith
-feed_counts now before after old new w bytes refusal.TooManyWriters h = omega arith
-feed_counts now before after old new w bytes refusal.NoSuchWriter h = omega arith
-feed_counts now before after old new w bytes (refusal.VectorTooLarge size) h = omega arith
-feed_counts now before after old new w bytes (refusal.Lost index cause) h = absurd h
-
-pub flush_counts : (now : ℕ) (k new : Kept) (before : ℕ) (after : Device) (why : Refusal) → Answers {X = Flushed} (Err why) (FlushesAsAsked now k new before after) (new ≡ k)
-    → IfOk (flush_refused why) (λ said. count_in said ≤ after.faults)
-flush_counts now k new before after (refusal.DeviceFault count) h =
-    let p : Permit = call_permit now before after.faults h.reads in
-    group_counts p (state_of k) Flush h.added (Fails (Faulted count)) count (h.does p refl (call_covered now before after.faults h.reads)) refl
-flush_counts now k new before after (refusal.Exhausted number) h = omega arith
-flush_counts now k new before after _ h = tt
+-- a flush that is refused
+pub flush_counts : (s : State) (faults : ℕ) (why : Refusal) → Answers {X = Flushed} (Err why) (λ r. IfErr r (StopsWith s faults)) (Unit {0}) → IfOk (flush_refused why) (λ said. count_in said ≤ faults)
+flush_counts s faults (refusal.DeviceFault count) h = let is : count ≡ faults = h in omega (arith, is)
+flush_counts s faults (refusal.Exhausted number) h = omega arith
+flush_counts s faults _ h = tt
 
 cause_counts : (faults : ℕ) (why : Cause) → IsCountedCause faults why → count_of why ≤ faults
 cause_counts faults (cause.DeviceFault count) h = h
@@ -278,10 +173,6 @@ closed_counts (Err why) n h = refused_counts why None n h
 pub fed_counts : (size taken : ℕ) (refused : Option Refusal) (n : ℕ) → IfSome refused (λ why. count_of_refusal why ≤ n) → IfSome (fed_answer size taken refused) (λ said. count_in said ≤ n)
 fed_counts size taken None n h = omega arith
 fed_counts size taken (Some why) n h = refused_counts why (Some taken) n h
-
-pub fed_where : (now before after : ℕ) (old new : Kept) (w : Writer) (bytes : List ℕ) (refused : Option Refusal) → FeedsWhere now before after old new w bytes refused → IfSome refused (λ why. count_of_refusal why ≤ after)
-fed_where now before after old new w bytes None h = tt
-fed_where now before after old new w bytes (Some why) h = feed_counts now before after old new w bytes why h
 
 miss_said_counts : (why : Cause) → count_in (miss_said why) ≡ count_of why
 miss_said_counts (cause.DeviceFault count) = refl

@@ -9,11 +9,14 @@ use Rattle.actor_table.specs.Table.{Seen, number_of, with_actor}
 use Rattle.cache_model.specs.declared.record.Rec.TheVariants as rec
 use Rattle.cache_model.specs.State.{ReaderRow, State, reader_of, state_after}
 use Rattle.cache_model.specs.Kept.{with_records}
-use Rattle.cache_model.specs.Permit.{StopReading}
+use Rattle.cache_model.specs.Permit.{Permit, StopReading}
 use Rattle.cache_model.specs.Legal.{IsQuiet}
 use Rattle.model_laws.specs.VectorLaws.{GroupsTell}
 use Rattle.cache_model.proofs.ByNumber.{find-without}
 use Rattle.stripe_core.specs.Stripe.{IsStripe, kept_in, state_in}
+use Rattle.stripe_core.specs.Between.{Between}
+use Rattle.stripe_core.proofs.Between.{accounted_is}
+use Rattle.stripe_core.proofs.Covering.{own_permit}
 use Rattle.stripe_read.specs.declared.reader.Reader.{Reader}
 use Rattle.stripe_read.specs.Readers.{ClosesAsAsked}
 use Rattle.stripe_write.proofs.Spending.{state_behind}
@@ -26,11 +29,11 @@ use Rattle.script_run.specs.Answers as says
 use Rattle.script_run.specs.Behind.{still_open}
 use Rattle.script_run.specs.Laws.{StepsOwn}
 use Rattle.cache_replay.specs.declared.session.Part.{Part}
-use Rattle.cache_replay.specs.Session.{AreApart, IsActive, slots_of}
+use Rattle.cache_replay.specs.Session.{AreApart, IsActive, past_of, slots_of}
 use Rattle.cache_replay.specs.Plays.{PartEnds, PartMoves, PlaysPart}
 use Rattle.cache_replay.specs.ReaderLines.{reader_held}
 use Rattle.cache_replay.proofs.ReaderFrames.{closed_leaves, kept_leaves}
-use Rattle.cache_replay.proofs.ReaderLines.{Goes, Took, apart_else, goes_active, held_reader, part_behind, line_ends, reads_none, still_held, still_moves, still_permit}
+use Rattle.cache_replay.proofs.ReaderLines.{Goes, Took, apart_else, goes_active, held_reader, part_behind, line_ends, reads_none, still_held, still_moves}
 
 -- it is closed then
 closed_is_none : (s : State) (reader : ℕ) → reader_of (state_after s (rec.ReadClosed reader)) reader ≡ None
@@ -64,13 +67,14 @@ module _ {D R C : Type 0} (disk : DiskGhosts D) (directory : DirectoryGhosts R) 
   pub done_ends : (tell : GroupsTell) (own : StepsOwn) (old new : Part D R C) (before after : Seen Rattle.cache_replay.specs.declared.session.Holding.Holding) (name : List ℕ) (n : ℕ) (r : Reader)
       → n ≡ number_of before.names name → after.names ≡ with_actor before.names name → Took (slots_of before) (slots_of after) n r
       → kept_in chronicle new.stripe ≡ with_records (kept_in chronicle old.stripe) (rec.ReadClosed r.reader ∷ [])
-      → ClosesAsAsked (state_in chronicle old.stripe) r → IsQuiet (state_in chronicle new.stripe) → IsActive disk directory chronicle old (slots_of before)
-      → (run : Run) → PlaysPart chronicle run old before → PartEnds chronicle run (state_in chronicle old.stripe) (step.Done name) new after answer.Done
-  done_ends tell own old new before after name n r number names taken adds closes quiet active run plays =
+      → Between disk directory chronicle old.stripe new.stripe → ClosesAsAsked (state_in chronicle old.stripe) r → IsQuiet (state_in chronicle new.stripe) → IsActive disk directory chronicle old (slots_of before)
+      → (run : Run) → PlaysPart chronicle run old before → PartEnds disk directory chronicle run old (step.Done name) new after answer.Done
+  done_ends tell own old new before after name n r number names taken adds stays closes quiet active run plays =
       let s : State = state_in chronicle old.stripe in
+      let p : Permit = own_permit run.now (past_of disk directory old) (past_of disk directory new) in
       let by : held_by run name ≡ Some (Reads r.reader) = (held_reader disk directory chronicle run old before name n r number taken.had plays).0 in
       let reads : reader_by run name ≡ Some r.reader = ap (option_and_then reader_in) by in
-      line_ends disk directory chronicle tell own run old new before after (step.Done name) name n (StopReading r.reader) (still_permit run.now) (rec.ReadClosed r.reader ∷ []) [] r.reader None answer.Done
+      line_ends disk directory chronicle tell own run old new before after (step.Done name) name n (StopReading r.reader) p (rec.ReadClosed r.reader ∷ []) [] r.reader None answer.Done
       (record {
         actor = refl;
         number = number;
@@ -79,9 +83,12 @@ module _ {D R C : Type 0} (disk : DiskGhosts D) (directory : DirectoryGhosts R) 
         behind = state_behind (kept_in chronicle old.stripe) (kept_in chronicle new.stripe) (rec.ReadClosed r.reader ∷ []) adds;
         quiet = quiet;
         plain = refl;
+        content = refl;
         moment = refl;
+        calls = refl;
+        effects = accounted_is (past_of disk directory old) (past_of disk directory new) (kept_in chronicle old.stripe) (kept_in chronicle new.stripe) (rec.ReadClosed r.reader ∷ []) stays.accounted adds;
         asks = ap (λ (o : Option ℕ). asks.if_has o (λ reader. StopReading reader ∷ [])) reads;
-        does = closes (still_permit run.now);
+        does = closes p;
         gives = refl;
       })
       (closed_has run s name r.reader by) tt active plays (done_goes old new (slots_of before) (slots_of after) n r taken adds active.apart)
@@ -91,7 +98,7 @@ module _ {D R C : Type 0} (disk : DiskGhosts D) (directory : DirectoryGhosts R) 
   pub done_idle : (part : Part D R C) (before after : Seen Rattle.cache_replay.specs.declared.session.Holding.Holding) (name : List ℕ) (n : ℕ) (said : StepAnswer) → said ≡ says.idle
       → n ≡ number_of before.names name → after.names ≡ with_actor before.names name → ((m : ℕ) → slots_of after m ≡ slots_of before m) → None ≡ reader_held (slots_of before n)
       → IsActive disk directory chronicle part (slots_of before)
-      → (run : Run) → PlaysPart chronicle run part before → PartMoves chronicle run (state_in chronicle part.stripe) (step.Done name) part after said
+      → (run : Run) → PlaysPart chronicle run part before → PartMoves disk directory chronicle run part (step.Done name) part after said
   done_idle part before after name n said is number names same none active run plays =
       let reads : reader_by run name ≡ None = reads_none disk directory chronicle run part before name n number none plays in
       still_moves disk directory chronicle run part before after (step.Done name) name n said refl number names same

@@ -3,6 +3,7 @@ use Rattle.std.proofs.Common.{◌≡◌, ℕ, ◌+◌, ◌-◌, ◌≤◌, List,
 use Rattle.std.specs.Prelude.{Option, Some, None, if◌then◌else◌}
 use Rattle.std.proofs.lemmas.Bool.{eq-eqb}
 use Rattle.std.proofs.lemmas.List.{take-append-drop, length-take-le}
+use Rattle.device_log.specs.Calls.{Call}
 use Rattle.fragment_table.specs.Table.{TableRow, total_length}
 use Rattle.cache_model.specs.State.{State}
 use Rattle.cache_model.specs.Kept.{Kept, state_of}
@@ -13,7 +14,7 @@ use Rattle.stripe_core.specs.declared.refusal.Refusal.{Refusal}
 use Rattle.stripe_core.specs.declared.refusal.Refusal.TheVariants as refusal
 use Rattle.stripe_write.specs.declared.writer.Writer.{Writer}
 use Rattle.stripe_write.specs.Writers.{IsWriterOf}
-use Rattle.stripe_write.proofs.Spending.{state_behind}
+use Rattle.stripe_write.proofs.Spending.{nothing_more, state_behind}
 use Rattle.script_lang.specs.declared.step.Step.TheVariants as step
 use Rattle.script_lang.specs.declared.answer.Refused.TheVariants as refused
 use Rattle.script_lang.specs.declared.answer.StepAnswer.{StepAnswer}
@@ -27,7 +28,9 @@ use Rattle.cache_replay.specs.Feeding.{FeedsAsAsked, FeedsWhere, IsFed, feed_end
 use Rattle.cache_replay.specs.Plays.{IsStreamOf}
 use Rattle.cache_replay.specs.Putting.{refusal_answer}
 use Rattle.cache_replay.specs.WriterLines.{Feeds, IsPlayed, WriterDoes, fed_answer}
-use Rattle.cache_replay.proofs.Calls.{call_covered, call_permit}
+use Rattle.stripe_core.specs.Faults.{IsAccounted}
+use Rattle.stripe_core.proofs.Between.{accounted_is}
+use Rattle.stripe_core.proofs.Covering.{own_covers, own_permit}
 use Rattle.cache_replay.proofs.WriterSteps.{LeftOpen, cuts_at, gathered_at, has_put, held_open, of_left, reason_of, whole_step}
 
 -- what it took is that before and what it took now
@@ -44,7 +47,7 @@ stream_fed stream w new body taken of fed_ most =
       sealed = fed_.sealed ∙ of.sealed;
     }
 
-module _ (now : ℕ) (old new : Kept) (before after : ℕ) (w last : Writer) (body : List ℕ) (taken : ℕ) (left : Option Writer)
+module _ (now : ℕ) (old new : Kept) (before after : List Call) (accounted : IsAccounted before after old new) (w last : Writer) (body : List ℕ) (taken : ℕ) (left : Option Writer)
     (quiet : IsQuiet (state_of old)) (quiet_then : IsQuiet (state_of new)) (writing : is_writing (state_of old) w.put ≡ true) (own : IsWriterOf (state_of old) w)
     (fed_ : IsFed w body taken last) (most : taken ≤ length body) (open_left : LeftOpen (state_of new) last left) where
   abbrev s : State
@@ -71,15 +74,15 @@ module _ (now : ℕ) (old new : Kept) (before after : ℕ) (w last : Writer) (bo
   fed_moves : (e : End) (why : Option Refusal) (said_ : StepAnswer) → FeedsAsAsked now before after old new w body why → feed_end w.put why ≡ e
       → ((run : Run) → took_of run t w.put ≡ Rattle.cache_replay.specs.Feeding.taken_of t w body (Some refusal.Sealed) → Rattle.script_run.specs.Behind.taken_of run t body (reason_of e) w.put ≡ taken)
       → ((run : Run) → took_of run t w.put ≡ Rattle.cache_replay.specs.Feeding.taken_of t w body (Some refusal.Sealed) → said t (Some (took_of run t w.put)) (reason_of e) (answer.Took (length body)) ≡ said_)
-      → WriterDoes now s t (Feeds body) w left (Some said_)
+      → WriterDoes now before after s t (Feeds body) w left (Some said_)
   fed_moves e why said_ feeds is takes says = λ run name moment played.
-      let p : Permit = call_permit now before after feeds.reads in
-      let f = feeds.does p refl (call_covered now before after feeds.reads) in
+      let p : Permit = own_permit now before after in
+      let f = feeds.does p refl (own_covers now before after) in
       let there = state_behind old new f.added f.adds in
       let nope : (run.streams w.put).sealed ≡ false = sym played.stream.sealed ∙ feeds.open_still in
       let has = has_put run name s w played in
       let legal : IsStep p s (feed_intents s.geometry.fragment w.put (length w.table.rows) (w.gathered.items ++ body)) f.added (reason_of e) =
-      whole_step p s _ f.added e (subst (λ x. Rattle.stripe_write.specs.Closing.SpendsAll p s (feed_intents s.geometry.fragment w.put (length w.table.rows) (w.gathered.items ++ body)) f.added x) is f.does) (subst IsQuiet there quiet_then) in
+      whole_step p s _ f.added e (subst (λ x. Rattle.stripe_write.specs.Closing.SpendsAll p s (feed_intents s.geometry.fragment w.put (length w.table.rows) (w.gathered.items ++ body)) f.added x) is f.does) (subst IsQuiet there quiet_then) (accounted_is before after old new f.added accounted f.adds) in
       let took = took_is run name 0 played in
       let turn : Turn = record { added = f.added; refused = reason_of e; device = p; given = [] } in
       let x : Stream = fed (run.streams w.put) body (Rattle.script_run.specs.Behind.taken_of run t body (reason_of e) w.put) in
@@ -91,10 +94,12 @@ module _ (now : ℕ) (old new : Kept) (before after : ℕ) (w last : Writer) (bo
         turn = turn;
         takes = record {
           plain = refl;
+          content = refl;
           moment = sym moment;
           legal = subst (λ (is : List Intent). IsStep p s is f.added (reason_of e)) (sym (asks run name played ∙ ap (λ (b : Bool). if b then [] else feed_intents s.geometry.fragment w.put (length w.table.rows) (w.gathered.items ++ body)) nope)) legal;
           own = refl;
         };
+        calls = refl;
         state = there;
         held = ap (still_open t) played.held ∙ held_open t w.put last left fed_.put open_left;
         stream = of_left (λ v. IsStreamOf (streams_behind run s t turn (step.Feed name body) v.put) v) t last left open_left (λ o. subst (λ y. IsStreamOf y last) (sym at) (stream_fed (run.streams w.put) w last body taken played.stream fed_ most));
@@ -109,14 +114,14 @@ module _ (now : ℕ) (old new : Kept) (before after : ℕ) (w last : Writer) (bo
 
   -- a sealed writer takes nothing
   sealed_moves : w.sealed ≡ true → new ≡ old → taken ≡ Rattle.cache_replay.specs.Feeding.taken_of t w body (Some refusal.Sealed)
-      → WriterDoes now s t (Feeds body) w left (Some (refusal_answer refusal.Sealed (Some taken)))
+      → WriterDoes now before after s t (Feeds body) w left (Some (refusal_answer refusal.Sealed (Some taken)))
   sealed_moves sealed same is = λ run name moment played.
       let yea : (run.streams w.put).sealed ≡ true = sym played.stream.sealed ∙ sealed in
       let zero : taken ≡ 0 = is ∙ none_taken same in
-      let p : Permit = call_permit now before after [] in
+      let p : Permit = own_permit now before after in
       let has = has_put run name s w played in
       let turn : Turn = record { added = []; refused = None; device = p; given = [] } in
-      let legal : IsStep p s [] [] None = record { grows = nothing; quiet = quiet } in
+      let legal : IsStep p s [] [] None = record { grows = nothing; quiet = quiet; effects = accounted_is before after old new [] accounted (same ∙ sym (nothing_more old)) } in
       let stream : IsStreamOf (run.streams w.put) last =
       subst (λ (x : Stream). IsStreamOf x last) (ap (λ (b : List ℕ). let y : Stream = record { bytes = b; sealed = (run.streams w.put).sealed } in y) (ap (λ k. (run.streams w.put).bytes ++ take k body) zero ∙ append-nil (run.streams w.put).bytes))
       (stream_fed (run.streams w.put) w last body taken played.stream fed_ most) in
@@ -127,10 +132,12 @@ module _ (now : ℕ) (old new : Kept) (before after : ℕ) (w last : Writer) (bo
         turn = turn;
         takes = record {
           plain = refl;
+          content = refl;
           moment = sym moment;
           legal = subst (λ (is : List Intent). IsStep p s is [] None) (sym (asks run name played ∙ ap (λ (b : Bool). if b then [] else feed_intents s.geometry.fragment w.put (length w.table.rows) (w.gathered.items ++ body)) yea)) legal;
           own = refl;
         };
+        calls = refl;
         state = ap state_of same;
         held = ap (still_open t) played.held ∙ held_open t w.put last left fed_.put open_left;
         stream = of_left (λ v. IsStreamOf (streams_behind run s t turn (step.Feed name body) v.put) v) t last left open_left (λ o. subst (λ y. IsStreamOf y last) (sym at) stream);
@@ -141,7 +148,7 @@ module _ (now : ℕ) (old new : Kept) (before after : ℕ) (w last : Writer) (bo
 
   -- each answer
   pub feeds_line : (why : Option Refusal) → FeedsWhere now before after old new w body why → taken ≡ Rattle.cache_replay.specs.Feeding.taken_of t w body why
-      → WriterDoes now s t (Feeds body) w left (fed_answer (length body) taken why)
+      → WriterDoes now before after s t (Feeds body) w left (fed_answer (length body) taken why)
   feeds_line None h is = fed_moves Done None _ h refl (λ run took. sym is) (λ run took. refl)
   feeds_line (Some refusal.TooManyFragments) h is = fed_moves (Fails (ManyFragments w.put)) (Some refusal.TooManyFragments) _ h refl (λ run took. took ∙ sym is)
       (λ run took. ap (λ (k : ℕ). answer.Refused refused.TooManyFragments (Some k)) (took ∙ sym is))

@@ -1,9 +1,10 @@
 -- How feeding ends: one write behind the other, up to the last.
 use Rattle.std.proofs.Common.{◌≡◌, ℕ, ◌+◌, ◌-◌, ◌<◌, ◌≤◌, List, [], ◌∷◌, ◌++◌, sym, ◌∙◌, ap, subst, arith, true, false, length, take, drop}
-use Rattle.std.specs.Prelude.{Option, Some, None, ◌==◌}
+use Rattle.std.specs.Prelude.{Option, Some, None, IfSome, ◌==◌}
 use Rattle.std.proofs.lemmas.List.{append_assoc, length-append, length-drop, length-take-le}
 use Rattle.std.proofs.Math.Seq.{take-append-add, drop-append-add, take-add}
 use Rattle.std.proofs.lemmas.List.Sums.{sum_by-append}
+use Rattle.device_log.specs.Calls.{Call}
 use Rattle.logged_disk.specs.Device.{State as Device}
 use Rattle.tape_base.specs.declared.geometries.Geometry.{Geometry}
 use Rattle.fragment_table.specs.Table.{TableRow, total_length}
@@ -16,7 +17,7 @@ use Rattle.cache_model.specs.Legal.{most_fragments}
 use Rattle.stripe_core.specs.declared.refusal.Refusal.{Refusal}
 use Rattle.stripe_core.specs.declared.refusal.Refusal.TheVariants as refusal
 use Rattle.stripe_core.specs.Covers.{Spends}
-use Rattle.stripe_core.proofs.OneMore.{covers_first, covers_last}
+use Rattle.stripe_core.proofs.Covering.{covers_first, covers_last}
 use Rattle.stripe_write.specs.declared.writer.Writer.{Writer}
 use Rattle.stripe_write.specs.Closing.{SpendsAll}
 use Rattle.stripe_write.specs.Others.{AddsOfPut}
@@ -24,14 +25,16 @@ use Rattle.stripe_write.specs.Writes.{cuts_fragment, gathered_with, is_cut}
 use Rattle.stripe_write.proofs.Owning.{owns, then_owns}
 use Rattle.stripe_write.proofs.Spending.{state_behind, then_all, then_more}
 use Rattle.script_run.specs.Asked.{feed_intents, rest_behind, whole_fragments}
+use Rattle.cache_replay.specs.Outline.{count_of_refusal}
 use Rattle.cache_replay.specs.Feeding.{FeedsAsAsked, FeedsWhere, Feeds, IsCutUp, IsCutWhere, IsFed, IsOpenBehind, feed_end, taken_of}
 use Rattle.cache_replay.proofs.CutBodies.{cut_first, not_most, rest_first, whole_first}
 use Rattle.cache_replay.proofs.FeedRounds.{Cuts, Wrote, cut_next, few, within}
 
 -- ---- what holds where feeding ends
 
-pub record Ends (moment before after : ℕ) (old new : Kept) (w v : Writer) (bytes : List ℕ) (taken : ℕ) (why : Option Refusal) : Type 0 where
-  pub feeds : FeedsWhere moment before after old new w bytes why
+pub record Ends (moment : ℕ) (before : List Call) (after : Device) (old new : Kept) (w v : Writer) (bytes : List ℕ) (taken : ℕ) (why : Option Refusal) : Type 0 where
+  pub feeds : FeedsWhere moment before after.past old new w bytes why
+  pub counts : IfSome why (λ refused. count_of_refusal refused ≤ after.faults)
   pub takes : taken ≡ taken_of (state_of new) w bytes why
   pub fed : IsFed w bytes taken v
   pub cut : IsCutWhere (state_of old).geometry.fragment w bytes why v
@@ -52,8 +55,9 @@ length_more rows more row is = ap length is ∙ length-append rows (row ∷ [])
 
 -- ---- a fragment is cut, and then the rest is fed
 
-module _ (moment before : ℕ) (mid : Device) (after : ℕ) (old now new : Kept) (w v end : Writer) (bytes : List ℕ) (n : ℕ)
-    (h : Wrote moment before mid old now w v bytes n) (c : Cuts old now w v n) (cut : is_cut (state_of old).geometry w n ≡ true) (earlier : before ≤ mid.faults) (later : mid.faults ≤ after) where
+module _ (moment : ℕ) (before : List Call) (mid after : Device) (old now new : Kept) (w v end : Writer) (bytes : List ℕ) (n : ℕ)
+    (h : Wrote moment before mid old now w v bytes n) (c : Cuts old now w v n) (cut : is_cut (state_of old).geometry w n ≡ true) (made further : List Call) (earlier : mid.past ≡ made ++ before)
+    (later : after.past ≡ further ++ mid.past) where
   abbrev s : State
   s = state_of old
 
@@ -104,16 +108,15 @@ module _ (moment before : ℕ) (mid : Device) (after : ℕ) (old now new : Kept)
       ∙ (ap (λ q. feed_intents f q (length v.table.rows) (v.gathered.items ++ drop n bytes)) (sym h.gathers.put)
       ∙ ap (λ (g : Geometry). feed_intents g.fragment v.put (length v.table.rows) (v.gathered.items ++ drop n bytes)) (sym c.stands.geometry)))))
 
-  asks : (why : Option Refusal) → FeedsAsAsked moment mid.faults after now new v (drop n bytes) why → FeedsAsAsked moment before after old new w bytes why
+  asks : (why : Option Refusal) → FeedsAsAsked moment mid.past after.past now new v (drop n bytes) why → FeedsAsAsked moment before after.past old new w bytes why
   asks why rest = record {
     open_still = h.takes.0.1;
-    reads = h.does.reads ++ rest.reads;
     does = λ p at covers.
         let a : List Rec = h.does.added in
         let is : List Intent = feed_intents (state_of now).geometry.fragment v.put (length v.table.rows) (v.gathered.items ++ drop n bytes) in
         let first : Spends p s (cuts_fragment w (gathered_with w bytes n)) a Done =
-        (cut_next moment before mid old now w v bytes n h cut).1.does p at (covers_first p before mid.faults after h.does.reads rest.reads later covers) in
-        let then_ : Feeds p now new v (drop n bytes) why = rest.does p at (covers_last p before mid.faults after h.does.reads rest.reads earlier covers) in
+        (cut_next moment before mid old now w v bytes n h cut).1.does p at (covers_first p before mid.past after.past further later covers) in
+        let then_ : Feeds p now new v (drop n bytes) why = rest.does p at (covers_last p before mid.past after.past made earlier covers) in
         let others : SpendsAll p (after_all s a) is then_.added (feed_end w.put why) =
         subst (λ x. SpendsAll p x is then_.added (feed_end w.put why)) (state_behind old now a h.does.adds)
         (subst (λ q. SpendsAll p (state_of now) is then_.added (feed_end q why)) h.gathers.put then_.does) in
@@ -125,7 +128,7 @@ module _ (moment before : ℕ) (mid : Device) (after : ℕ) (old now new : Kept)
         };
   }
 
-  then_feeds : (why : Option Refusal) → FeedsWhere moment mid.faults after now new v (drop n bytes) why → FeedsWhere moment before after old new w bytes why
+  then_feeds : (why : Option Refusal) → FeedsWhere moment mid.past after.past now new v (drop n bytes) why → FeedsWhere moment before after.past old new w bytes why
   then_feeds None rest = asks None rest
   then_feeds (Some refusal.TooManyFragments) rest = asks (Some refusal.TooManyFragments) rest
   then_feeds (Some (refusal.DeviceFault count)) rest = asks (Some (refusal.DeviceFault count)) rest
@@ -186,9 +189,10 @@ module _ (moment before : ℕ) (mid : Device) (after : ℕ) (old now new : Kept)
   open_behind : (why : Option Refusal) → IsOpenBehind (state_of new) v.put why → IsOpenBehind (state_of new) w.put why
   open_behind why rest = subst (λ q. IsOpenBehind (state_of new) q why) h.gathers.put rest
 
-  pub then_ends : (more : ℕ) (why : Option Refusal) → Ends moment mid.faults after now new v end (drop n bytes) more why → Ends moment before after old new w end bytes (n + more) why
+  pub then_ends : (more : ℕ) (why : Option Refusal) → Ends moment mid.past after now new v end (drop n bytes) more why → Ends moment before after old new w end bytes (n + more) why
   then_ends more why rest = record {
     feeds = then_feeds why rest.feeds;
+    counts = rest.counts;
     takes = then_takes more why rest.grown rest.takes;
     fed = then_fed more rest.fed;
     cut = then_cut why rest.cut;

@@ -4,6 +4,7 @@ use Rattle.std.specs.Prelude.{Option, Some, option_map, unwrap_or, find, ◌==�
 use Rattle.std.proofs.lemmas.Bool.{eqb-true, eq-eqb}
 use Rattle.std.proofs.lemmas.List.{append-nil, length-append}
 use Rattle.std.proofs.Math.Seq.{take-append-add, drop-append_seam}
+use Rattle.device_log.specs.Calls.{Call}
 use Rattle.logged_disk.specs.Device.{State as Device}
 use Rattle.fragment_table.specs.Table.{total_length}
 use Rattle.cache_model.specs.declared.record.Rec.{Rec}
@@ -11,7 +12,7 @@ use Rattle.cache_model.specs.declared.record.Rec.TheVariants as rec
 use Rattle.cache_model.specs.State.{GivenUp, PutRow, State, after_all, put_of, state_after, with_writing}
 use Rattle.cache_model.specs.Kept.{Kept, state_of, with_records}
 use Rattle.cache_model.specs.Verdict.{cuts_of, is_open}
-use Rattle.cache_model.specs.Permit.{DeviceRead, Exhausted, Fails, Faulted, Fragment, Intent, ManyFragments, Overflow, Permit, Reason, is_cleanup}
+use Rattle.cache_model.specs.Permit.{Exhausted, Fails, Faulted, Fragment, Intent, ManyFragments, Overflow, Permit, Reason, is_cleanup}
 use Rattle.cache_model.specs.Legal.{MayGrow, is_writing, most_fragments}
 use Rattle.cache_model.proofs.Found.{cuts_found}
 use Rattle.stripe_core.specs.declared.refusal.Refusal.{Refusal}
@@ -27,6 +28,7 @@ use Rattle.stripe_write.proofs.Flushed.{flush_leaves}
 use Rattle.stripe_write.proofs.Owning.{owns}
 use Rattle.stripe_write.proofs.Spending.{nothing_more, one_group, state_behind}
 use Rattle.script_run.specs.Asked.{feed_intents}
+use Rattle.cache_replay.specs.Outline.{count_of_refusal}
 use Rattle.cache_replay.specs.Feeding.{FeedsAsAsked, FeedsWhere, IsOpenBehind, feed_end}
 use Rattle.cache_replay.proofs.CutBodies.{cut_first, cut_many, no_cleanup, not_most}
 use Rattle.cache_replay.proofs.FeedRounds.{few_of, found_changed, put_found, takes_within, writing_found}
@@ -68,17 +70,17 @@ module _ (s : State) (added : List Rec) (put : ℕ) (why : Refusal) (stays : is_
   none_added : added ≡ [] → Leaves s (after_all s added) put why
   none_added none = same_puts s (after_all s added) put why (ap (λ xs. (after_all s xs).puts) none) stays writing
 
-leaves : (moment : ℕ) (s : State) (before after : ℕ) (w : Writer) (bytes : List ℕ) (why : Refusal) (added : List Rec) (reads : List DeviceRead) → is_writing s w.put ≡ true
-    → WritesWhere s w bytes (Err why) → WritesAs moment s before after w bytes (Err why) added reads → Leaves s (after_all s added) w.put why
-leaves moment s before after w bytes (refusal.DeviceFault count) added reads writing where_ does = flushed s added w.put (refusal.DeviceFault count) (λ x. x) writing does.shape.kinds
-leaves moment s before after w bytes (refusal.Exhausted number) added reads writing where_ does = flushed s added w.put (refusal.Exhausted number) (λ x. x) writing does.shape.kinds
-leaves moment s before after w bytes refusal.TooManyFragments added reads writing where_ does = subst (λ xs. Leaves s (after_all s xs) w.put refusal.TooManyFragments) (sym does.0) (aborted s w writing)
-leaves moment s before after w bytes (refusal.Memory e) added reads writing where_ does = none_added s added w.put (refusal.Memory e) (λ x. x) writing does
-leaves moment s before after w bytes refusal.Sealed added reads writing where_ does = none_added s added w.put refusal.Sealed (λ x. x) writing does
-leaves moment s before after w bytes refusal.NoSuchWriter added reads writing where_ does = none_added s added w.put refusal.NoSuchWriter (λ x. x) writing does
-leaves moment s before after w bytes refusal.TooManyWriters added reads writing where_ does = absurd where_
-leaves moment s before after w bytes (refusal.VectorTooLarge size) added reads writing where_ does = absurd where_
-leaves moment s before after w bytes (refusal.Lost index cause) added reads writing where_ does = absurd where_
+leaves : (moment : ℕ) (s : State) (before : List Call) (after : Device) (w : Writer) (bytes : List ℕ) (why : Refusal) (added : List Rec) → is_writing s w.put ≡ true
+    → WritesWhere s w bytes (Err why) → WritesAs moment s before after w bytes (Err why) added → Leaves s (after_all s added) w.put why
+leaves moment s before after w bytes (refusal.DeviceFault count) added writing where_ does = flushed s added w.put (refusal.DeviceFault count) (λ x. x) writing does.shape.kinds
+leaves moment s before after w bytes (refusal.Exhausted number) added writing where_ does = flushed s added w.put (refusal.Exhausted number) (λ x. x) writing does.shape.kinds
+leaves moment s before after w bytes refusal.TooManyFragments added writing where_ does = subst (λ xs. Leaves s (after_all s xs) w.put refusal.TooManyFragments) (sym does.0) (aborted s w writing)
+leaves moment s before after w bytes (refusal.Memory e) added writing where_ does = none_added s added w.put (refusal.Memory e) (λ x. x) writing does
+leaves moment s before after w bytes refusal.Sealed added writing where_ does = none_added s added w.put refusal.Sealed (λ x. x) writing does
+leaves moment s before after w bytes refusal.NoSuchWriter added writing where_ does = none_added s added w.put refusal.NoSuchWriter (λ x. x) writing does
+leaves moment s before after w bytes refusal.TooManyWriters added writing where_ does = absurd where_
+leaves moment s before after w bytes (refusal.VectorTooLarge size) added writing where_ does = absurd where_
+leaves moment s before after w bytes (refusal.Lost index cause) added writing where_ does = absurd where_
 
 -- the first fragment fails, and nothing behind it is done
 first_fails : (p : Permit) (s : State) (i : Intent) (is : List Intent) (a : List Rec) (reason : Reason) → ((rest : List Intent) → filter is_cleanup (is ++ rest) ≡ filter is_cleanup rest)
@@ -86,7 +88,7 @@ first_fails : (p : Permit) (s : State) (i : Intent) (is : List Intent) (a : List
 first_fails p s i is a reason none h = λ rest why.
     subst (λ xs. MayGrow p s (record { intents = i ∷ (is ++ rest); refused = why }) a (record { intents = xs; refused = Some reason })) (none rest) (h (is ++ rest) why)
 
-module _ (moment before : ℕ) (after : Device) (old new : Kept) (w v : Writer) (bytes : List ℕ) (own : IsWriterOf (state_of old) w) (writing : is_writing (state_of old) w.put ≡ true) (same : SameWriter w v) where
+module _ (moment : ℕ) (before : List Call) (after : Device) (old new : Kept) (w v : Writer) (bytes : List ℕ) (own : IsWriterOf (state_of old) w) (writing : is_writing (state_of old) w.put ≡ true) (same : SameWriter w v) where
   abbrev s : State
   s = state_of old
 
@@ -117,11 +119,10 @@ module _ (moment before : ℕ) (after : Device) (old new : Kept) (w v : Writer) 
       (first_fails p s (cuts_fragment w (gathered_with w bytes n)) others a reason (no_cleanup (length (drop f all)) f w.put (length w.table.rows + 1) (drop f all)) h)
 
   stopped : (why : Refusal) (reason : Reason) → IsCutting s w bytes → (h : WritesAsAsked moment old new before after w bytes (Err why)) → feed_end w.put (Some why) ≡ Fails reason
-      → ((p : Permit) → p.now ≡ moment → Covers p before after.faults h.reads → Spends p s (cuts_fragment w (gathered_with w bytes (write_takes s.geometry w bytes))) h.added (Fails reason))
-      → FeedsAsAsked moment before after.faults old new w bytes (Some why)
+      → ((p : Permit) → p.now ≡ moment → Covers p before after.past → Spends p s (cuts_fragment w (gathered_with w bytes (write_takes s.geometry w bytes))) h.added (Fails reason))
+      → FeedsAsAsked moment before after.past old new w bytes (Some why)
   stopped why reason cutting h is spends = record {
     open_still = cutting.taking.1;
-    reads = h.reads;
     does = λ p at covers. record {
       added = h.added;
       adds = h.adds;
@@ -129,7 +130,7 @@ module _ (moment before : ℕ) (after : Device) (old new : Kept) (w v : Writer) 
     };
   }
 
-  feeds : (why : Refusal) → WritesWhere s w bytes (Err why) → WritesAsAsked moment old new before after w bytes (Err why) → FeedsWhere moment before after.faults old new w bytes (Some why)
+  feeds : (why : Refusal) → WritesWhere s w bytes (Err why) → WritesAsAsked moment old new before after w bytes (Err why) → FeedsWhere moment before after.past old new w bytes (Some why)
   feeds (refusal.DeviceFault count) where_ h = stopped (refusal.DeviceFault count) (Faulted count) where_ h refl (λ p at covers. h.does.does p at covers)
   feeds (refusal.Exhausted number) where_ h = stopped (refusal.Exhausted number) Exhausted where_ h refl (λ p at covers. h.does.does p at covers)
   feeds refusal.TooManyFragments where_ h =
@@ -137,7 +138,6 @@ module _ (moment before : ℕ) (after : Device) (old new : Kept) (w v : Writer) 
       let many : (length w.table.rows == most_fragments) ≡ true = eq-eqb (length w.table.rows) most_fragments where_.2 in
       record {
         open_still = where_.0.1;
-        reads = h.reads;
         does = λ p at covers. record {
           added = h.added;
           adds = h.adds;
@@ -152,16 +152,29 @@ module _ (moment before : ℕ) (after : Device) (old new : Kept) (w v : Writer) 
   feeds (refusal.VectorTooLarge size) where_ h = absurd where_
   feeds (refusal.Lost index cause) where_ h = absurd where_
 
-  pub refused_ends : (why : Refusal) → WritesWhere s w bytes (Err why) → WritesAsAsked moment old new before after w bytes (Err why) → Ends moment before after.faults old new w v bytes 0 (Some why)
+  -- the count that is told is the device's
+  counted : (why : Refusal) → WritesWhere s w bytes (Err why) → WritesAsAsked moment old new before after w bytes (Err why) → count_of_refusal why ≤ after.faults
+  counted (refusal.DeviceFault count) where_ h = let is : count ≡ after.faults = h.does.shape.why_is.0 in omega (arith, is)
+  counted (refusal.Exhausted number) where_ h = omega arith
+  counted refusal.TooManyFragments where_ h = omega arith
+  counted (refusal.Memory e) where_ h = omega arith
+  counted refusal.Sealed where_ h = omega arith
+  counted refusal.NoSuchWriter where_ h = omega arith
+  counted refusal.TooManyWriters where_ h = absurd where_
+  counted (refusal.VectorTooLarge size) where_ h = absurd where_
+  counted (refusal.Lost index cause) where_ h = absurd where_
+
+  pub refused_ends : (why : Refusal) → WritesWhere s w bytes (Err why) → WritesAsAsked moment old new before after w bytes (Err why) → Ends moment before after old new w v bytes 0 (Some why)
   refused_ends why where_ h =
       let o = put_found s w writing in
       let left : Leaves s (state_of new) w.put why = subst (λ x. Leaves s x w.put why) (sym (state_behind old new h.added h.adds))
-      (leaves moment s before after.faults w bytes why h.added h.reads writing where_ h.does) in
+      (leaves moment s before after w bytes why h.added writing where_ h.does) in
       let rows : cuts_of (state_of new) w.put ≡ w.table.rows = left.cuts ∙ (cuts_found s w.put o.0 o.1 ∙ (own o.0 o.1 o.2).cuts_are) in
       let total : total_length (cuts_of (state_of new) w.put) ≡ total_length w.table.rows = ap total_length rows in
       let mine : total_length v.table.rows ≡ total_length w.table.rows = ap total_length same.rows in
       record {
         feeds = feeds why where_ h;
+        counts = counted why where_ h;
         takes = let none : 0 ≡ total_length (cuts_of (state_of new) w.put) - (total_length w.table.rows + length w.gathered.items) = omega (arith, total) in none;
         fed = record {
           put = same.put;

@@ -4,6 +4,7 @@ use Rattle.std.specs.Prelude.{Option, Some, option_map, unwrap_or, find, ◌==�
 use Rattle.std.proofs.lemmas.Bool.{eqb-true, eq-eqb}
 use Rattle.std.proofs.lemmas.Bool.Decides.{eqb_tells}
 use Rattle.std.proofs.lemmas.List.{length-append, length-take-le}
+use Rattle.device_log.specs.Calls.{Call}
 use Rattle.logged_disk.specs.Device.{State as Device}
 use Rattle.tape_base.specs.Digest.{digest_of}
 use Rattle.fragment_table.specs.Table.{TableRow, made_row}
@@ -49,7 +50,7 @@ module _ (s : State) (w : Writer) (payload : List ℕ) (added : List Rec) (place
 
 -- ---- a write that took bytes
 
-pub record Wrote (moment before : ℕ) (after : Device) (old new : Kept) (w v : Writer) (bytes : List ℕ) (n : ℕ) : Type 0 where
+pub record Wrote (moment : ℕ) (before : List Call) (after : Device) (old new : Kept) (w v : Writer) (bytes : List ℕ) (n : ℕ) : Type 0 where
   pub own : IsWriterOf (state_of old) w
   pub takes : WritesWhere (state_of old) w bytes (Ok n)
   pub does : WritesAsAsked moment old new before after w bytes (Ok n)
@@ -92,7 +93,7 @@ writing_found s put row h = ap (λ (o : Option PutRow). unwrap_or (option_map is
 pub few_of : (s : State) (w : Writer) → is_writing s w.put ≡ true → IsWriterOf s w → length w.gathered.items < s.geometry.fragment
 few_of s w writing own = let o = put_found s w writing in (own o.0 o.1 o.2).few
 
-module _ (moment before : ℕ) (after : Device) (old new : Kept) (w v : Writer) (bytes : List ℕ) (n : ℕ) (h : Wrote moment before after old new w v bytes n) where
+module _ (moment : ℕ) (before : List Call) (after : Device) (old new : Kept) (w v : Writer) (bytes : List ℕ) (n : ℕ) (h : Wrote moment before after old new w v bytes n) where
   abbrev s : State
   s = state_of old
 
@@ -109,13 +110,13 @@ module _ (moment before : ℕ) (after : Device) (old new : Kept) (w v : Writer) 
   taken_size = length-append w.gathered.items (take n bytes) ∙ ap (λ k. length w.gathered.items + k) (length-take-le n bytes within.0)
 
   -- what it did
-  pub cut_next : is_cut s.geometry w n ≡ true → (placed : Placed) × CutsNext moment s before after.faults w (gathered_with w bytes n) h.does.added h.does.reads (Ok placed)
+  pub cut_next : is_cut s.geometry w n ≡ true → (placed : Placed) × CutsNext moment s before after w (gathered_with w bytes n) h.does.added (Ok placed)
   cut_next cut =
-      subst (λ b. MatchBool b ((placed : Placed) × CutsNext moment s before after.faults w (gathered_with w bytes n) h.does.added h.does.reads (Ok placed)) (h.does.added ≡ [])) cut h.does.does
+      subst (λ b. MatchBool b ((placed : Placed) × CutsNext moment s before after w (gathered_with w bytes n) h.does.added (Ok placed)) (h.does.added ≡ [])) cut h.does.does
 
   none_next : is_cut s.geometry w n ≡ false → h.does.added ≡ []
   none_next cut =
-      subst (λ b. MatchBool b ((placed : Placed) × CutsNext moment s before after.faults w (gathered_with w bytes n) h.does.added h.does.reads (Ok placed)) (h.does.added ≡ [])) cut h.does.does
+      subst (λ b. MatchBool b ((placed : Placed) × CutsNext moment s before after w (gathered_with w bytes n) h.does.added (Ok placed)) (h.does.added ≡ [])) cut h.does.does
 
   behind : t ≡ after_all s h.does.added
   behind = state_behind old new h.does.added h.does.adds

@@ -1,7 +1,8 @@
 -- A writer that is fed, between two writes.
-use Rattle.std.proofs.Common.{◌≡◌, ℕ, ◌+◌, ◌<◌, ◌≤◌, List, sym, subst, arith, true, length, drop, take, ◌-◌, Err}
+use Rattle.std.proofs.Common.{◌≡◌, ℕ, ◌+◌, ◌<◌, ◌≤◌, List, ◌++◌, sym, ◌∙◌, ap, subst, arith, true, length, drop, take, ◌-◌, Err}
 use Rattle.std.specs.Prelude.{Option, Some, None}
-use Rattle.std.proofs.lemmas.List.{drop-drop, length-drop, take_all}
+use Rattle.std.proofs.lemmas.List.{append_assoc, drop-drop, length-drop, take_all}
+use Rattle.device_log.specs.Calls.{Call}
 use Rattle.logged_disk.specs.Device.{State as Device}
 use Rattle.logged_disk.specs.declared.device.Disk.{Ghosts as DiskGhosts}
 use Rattle.dir_table.specs.declared.directory.Directory.{Ghosts as DirectoryGhosts}
@@ -22,9 +23,9 @@ use Rattle.cache_replay.proofs.FeedWhole.{last_ends}
 use Rattle.cache_replay.proofs.FeedRefused.{refused_ends}
 
 -- however it ends with what is left, so it ends with all
-abbrev pub Onward : (moment before mid : ℕ) (old now : Kept) (w v : Writer) (bytes : List ℕ) (taken : ℕ) → Type 0
+abbrev pub Onward : (moment : ℕ) (before mid : List Call) (old now : Kept) (w v : Writer) (bytes : List ℕ) (taken : ℕ) → Type 0
 Onward moment before mid old now w v bytes taken =
-    (after : ℕ) (new : Kept) (end : Writer) (more : ℕ) (why : Option Refusal) → mid ≤ after
+    (after : Device) (new : Kept) (end : Writer) (more : ℕ) (why : Option Refusal) (made : List Call) → after.past ≡ made ++ mid
     → Ends moment mid after now new v end (drop taken bytes) more why → Ends moment before after old new w end bytes (taken + more) why
 
 pub record Turned {D R C : Type 0} (disk : DiskGhosts D) (directory : DirectoryGhosts R) (chronicle : ChronicleGhosts C) (moment : ℕ) (first now : Stripe D R C) (w v : Writer) (bytes : List ℕ) (taken : ℕ) : Type 0 where
@@ -35,18 +36,18 @@ pub record Turned {D R C : Type 0} (disk : DiskGhosts D) (directory : DirectoryG
   pub within : taken ≤ length bytes
   pub later : (seen_in disk directory first).device.faults ≤ (seen_in disk directory now).device.faults
   pub unharmed : Between disk directory chronicle first now
-  pub onward : Onward moment (seen_in disk directory first).device.faults (seen_in disk directory now).device.faults (kept_in chronicle first) (kept_in chronicle now) w v bytes taken
+  pub onward : Onward moment (seen_in disk directory first).device.past (seen_in disk directory now).device.past (kept_in chronicle first) (kept_in chronicle now) w v bytes taken
 
 -- a write that left bytes over
-pub one_more : (moment before mid : ℕ) (next : Device) (old now then_ : Kept) (w v u : Writer) (bytes : List ℕ) (taken n : ℕ) → mid ≤ next.faults → n < length (drop taken bytes)
-    → Wrote moment mid next now then_ v u (drop taken bytes) n → Onward moment before mid old now w v bytes taken → Onward moment before next.faults old then_ w u bytes (taken + n)
-one_more moment before mid next old now then_ w v u bytes taken n later left h onward = λ after new end more why le ends.
+pub one_more : (moment : ℕ) (before mid : List Call) (next : Device) (old now then_ : Kept) (w v u : Writer) (bytes : List ℕ) (taken n : ℕ) (made : List Call) → next.past ≡ made ++ mid → n < length (drop taken bytes)
+    → Wrote moment mid next now then_ v u (drop taken bytes) n → Onward moment before mid old now w v bytes taken → Onward moment before next.past old then_ w u bytes (taken + n)
+one_more moment before mid next old now then_ w v u bytes taken n made earlier left h onward = λ after new end more why further later ends.
     let cut = cut_or_all moment mid next now then_ v u (drop taken bytes) n h left in
-    let rest : Ends moment next.faults after then_ new u end (drop n (drop taken bytes)) more why =
-    subst (λ xs. Ends moment next.faults after then_ new u end xs more why) (sym (drop-drop n taken bytes)) ends in
+    let rest : Ends moment next.past after then_ new u end (drop n (drop taken bytes)) more why =
+    subst (λ xs. Ends moment next.past after then_ new u end xs more why) (sym (drop-drop n taken bytes)) ends in
     subst (λ m. Ends moment before after old new w end bytes m why) (sum taken n more)
-    (onward after new end (n + more) why (omega (arith, later, le))
-    (then_ends moment mid next after now then_ new v u end (drop taken bytes) n h (cuts moment mid next now then_ v u (drop taken bytes) n h cut) cut later le more why rest))
+    (onward after new end (n + more) why (further ++ made) (later ∙ (ap (λ calls. further ++ calls) earlier ∙ sym (append_assoc further made mid)))
+    (then_ends moment mid next after now then_ new v u end (drop taken bytes) n h (cuts moment mid next now then_ v u (drop taken bytes) n h cut) cut made further earlier later more why rest))
   where
     sum : (a b c : ℕ) → a + (b + c) ≡ (a + b) + c
     sum a b c = omega arith
@@ -55,11 +56,11 @@ one_more moment before mid next old now then_ w v u bytes taken n later left h o
 
 module _ {D R C : Type 0} (disk : DiskGhosts D) (directory : DirectoryGhosts R) (chronicle : ChronicleGhosts C) (moment : ℕ) (first now next : Stripe D R C) (w v u : Writer) (bytes : List ℕ) (taken : ℕ)
     (turned : Turned disk directory chronicle moment first now w v bytes taken) where
-  abbrev before : ℕ
-  before = (seen_in disk directory first).device.faults
+  abbrev before : List Call
+  before = (seen_in disk directory first).device.past
 
-  abbrev mid : ℕ
-  mid = (seen_in disk directory now).device.faults
+  abbrev mid : List Call
+  mid = (seen_in disk directory now).device.past
 
   abbrev after : Device
   after = (seen_in disk directory next).device
@@ -100,16 +101,16 @@ module _ {D R C : Type 0} (disk : DiskGhosts D) (directory : DirectoryGhosts R) 
       let less = few moment mid after (kept_in chronicle now) (kept_in chronicle next) v u left n h in
       omega (arith, full, less)
 
-  pub all_ends : (n : ℕ) → Writes n → taken + n ≡ length bytes → mid ≤ after.faults → Ends moment before after.faults (kept_in chronicle first) (kept_in chronicle next) w u bytes (taken + n) None
-  all_ends n h whole later =
-      turned.onward after.faults (kept_in chronicle next) u n None later
+  pub all_ends : (n : ℕ) → Writes n → taken + n ≡ length bytes → (made : List Call) → after.past ≡ made ++ mid → Ends moment before after (kept_in chronicle first) (kept_in chronicle next) w u bytes (taken + n) None
+  all_ends n h whole made later =
+      turned.onward after (kept_in chronicle next) u n None made later
       (last_ends moment mid after (kept_in chronicle now) (kept_in chronicle next) v u left n h (omega (arith, whole, left_size)))
 
   pub fails_ends : (why : Refusal) → WritesWhere (state_in chronicle now) v part (Err why) → WritesAsAsked moment (kept_in chronicle now) (kept_in chronicle next) mid after v part (Err why)
-      → SameWriter v u → mid ≤ after.faults → Ends moment before after.faults (kept_in chronicle first) (kept_in chronicle next) w u bytes taken (Some why)
-  fails_ends why where_ does same later =
-      subst (λ m. Ends moment before after.faults (kept_in chronicle first) (kept_in chronicle next) w u bytes m (Some why)) (no_more taken)
-      (turned.onward after.faults (kept_in chronicle next) u 0 (Some why) later
+      → SameWriter v u → (made : List Call) → after.past ≡ made ++ mid → Ends moment before after (kept_in chronicle first) (kept_in chronicle next) w u bytes taken (Some why)
+  fails_ends why where_ does same made later =
+      subst (λ m. Ends moment before after (kept_in chronicle first) (kept_in chronicle next) w u bytes m (Some why)) (no_more taken)
+      (turned.onward after (kept_in chronicle next) u 0 (Some why) made later
       (refused_ends moment mid after (kept_in chronicle now) (kept_in chronicle next) v u left turned.writer turned.writing same why
       (subst (λ xs. WritesWhere (state_in chronicle now) v xs (Err why)) part_is where_)
       (subst (λ xs. WritesAsAsked moment (kept_in chronicle now) (kept_in chronicle next) mid after v xs (Err why)) part_is does)))
@@ -117,7 +118,7 @@ module _ {D R C : Type 0} (disk : DiskGhosts D) (directory : DirectoryGhosts R) 
       no_more : (k : ℕ) → k + 0 ≡ k
       no_more k = omega arith
 
-  pub goes_on : (n : ℕ) → Writes n → (taken + n ≡ length bytes → ⊥) → IsStripe disk directory chronicle next → IsQuiet (state_in chronicle next) → mid ≤ after.faults
+  pub goes_on : (n : ℕ) → Writes n → (taken + n ≡ length bytes → ⊥) → IsStripe disk directory chronicle next → IsQuiet (state_in chronicle next) → (seen_in disk directory now).device.faults ≤ after.faults
       → Between disk directory chronicle now next → Turned disk directory chronicle moment first next w u bytes (taken + n)
   goes_on n h other stripe quiet later stays =
       let some : n < length left = leaves_some n h other in
@@ -129,7 +130,7 @@ module _ {D R C : Type 0} (disk : DiskGhosts D) (directory : DirectoryGhosts R) 
         writer = h.next_own;
         writing = subst (λ q. is_writing (state_in chronicle next) q ≡ true) (sym h.gathers.put) c.stands.writing;
         within = bounds n h;
-        later = let earlier : before ≤ mid = turned.later in omega (arith, earlier, later);
+        later = omega (arith, turned.later, later);
         unharmed = between-trans _ _ _ _ _ _ turned.unharmed stays;
-        onward = one_more moment before mid after (kept_in chronicle first) (kept_in chronicle now) (kept_in chronicle next) w v u bytes taken n later some h turned.onward;
+        onward = one_more moment before mid after (kept_in chronicle first) (kept_in chronicle now) (kept_in chronicle next) w v u bytes taken n stays.goes.made stays.goes.past some h turned.onward;
       }

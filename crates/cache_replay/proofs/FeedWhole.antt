@@ -3,6 +3,7 @@ use Rattle.std.proofs.Common.{◌≡◌, ℕ, zero, suc, ◌+◌, ◌<◌, ◌�
 use Rattle.std.specs.Prelude.{None, ◌==◌}
 use Rattle.std.proofs.lemmas.List.{length-append, drop_all}
 use Rattle.std.proofs.Math.Seq.{take-append-add, drop-append_seam, take-length}
+use Rattle.device_log.specs.Calls.{Call}
 use Rattle.logged_disk.specs.Device.{State as Device}
 use Rattle.fragment_table.specs.Table.{total_length}
 use Rattle.cache_model.specs.State.{State}
@@ -23,7 +24,7 @@ use Rattle.cache_replay.proofs.FeedEnds.{Ends, length_more, total_more}
 
 -- ---- all is taken
 
-module _ (moment before : ℕ) (after : Device) (old new : Kept) (w v : Writer) (bytes : List ℕ) (n : ℕ) (h : Wrote moment before after old new w v bytes n) (all_taken : n ≡ length bytes) where
+module _ (moment : ℕ) (before : List Call) (after : Device) (old new : Kept) (w v : Writer) (bytes : List ℕ) (n : ℕ) (h : Wrote moment before after old new w v bytes n) (all_taken : n ≡ length bytes) where
   abbrev s : State
   s = state_of old
 
@@ -43,7 +44,7 @@ module _ (moment before : ℕ) (after : Device) (old new : Kept) (w v : Writer) 
   took = ap (λ k. take k bytes) all_taken ∙ take-length bytes
 
   -- a fragment was gathered, and no more
-  last_cut : Cuts old new w v n → is_cut s.geometry w n ≡ true → Ends moment before after.faults old new w v bytes n None
+  last_cut : Cuts old new w v n → is_cut s.geometry w n ≡ true → Ends moment before after old new w v bytes n None
   last_cut c cut =
       let rows_total : total_length v.table.rows ≡ total_length w.table.rows + f = total_more w.table.rows v.table.rows c.row c.rows ∙ ap (λ k. total_length w.table.rows + k) c.size in
       let whole : f ≤ length all = omega (arith, size, all_taken, c.full) in
@@ -58,7 +59,6 @@ module _ (moment before : ℕ) (after : Device) (old new : Kept) (w v : Writer) 
       record {
         feeds = record {
           open_still = h.takes.0.1;
-          reads = h.does.reads;
           does = λ p at covers. record {
             added = h.does.added;
             adds = h.does.adds;
@@ -66,6 +66,7 @@ module _ (moment before : ℕ) (after : Device) (old new : Kept) (w v : Writer) 
                 (last_done p s (cuts_fragment w (gathered_with w bytes n)) h.does.added ((cut_next moment before after old new w v bytes n h cut).1.does p at covers));
           };
         };
+        counts = tt;
         takes = all_taken;
         fed = record {
           put = h.gathers.put;
@@ -87,7 +88,7 @@ module _ (moment before : ℕ) (after : Device) (old new : Kept) (w v : Writer) 
       }
 
   -- it is not gathered yet
-  last_gathers : Gathers old new w v bytes n h.does.added → Ends moment before after.faults old new w v bytes n None
+  last_gathers : Gathers old new w v bytes n h.does.added → Ends moment before after old new w v bytes n None
   last_gathers c =
       let short : length all < f = omega (arith, size, all_taken, c.short) in
       let o = put_found s w h.takes.0.0 in
@@ -99,13 +100,13 @@ module _ (moment before : ℕ) (after : Device) (old new : Kept) (w v : Writer) 
       record {
         feeds = record {
           open_still = h.takes.0.1;
-          reads = h.does.reads;
           does = λ p at covers. record {
             added = [];
             adds = h.does.adds ∙ ap (with_records old) c.nothing;
             does = subst (λ x. SpendsAll p s x [] Done) (sym intents) (λ rest why. nothing);
           };
         };
+        counts = tt;
         takes = all_taken;
         fed = record {
           put = h.gathers.put;
@@ -132,9 +133,9 @@ module _ (moment before : ℕ) (after : Device) (old new : Kept) (w v : Writer) 
       may_more zero len both cuts rows sum some more same new = new (omega (arith, sum, some))
       may_more (suc g) len both cuts rows sum some more same new = let up : cuts < most_fragments = more (omega arith) in omega (arith, up, same)
 
-  ends_by : (b : Bool) → is_cut s.geometry w n ≡ b → Ends moment before after.faults old new w v bytes n None
+  ends_by : (b : Bool) → is_cut s.geometry w n ≡ b → Ends moment before after old new w v bytes n None
   ends_by true e = last_cut (cuts moment before after old new w v bytes n h e) e
   ends_by false e = last_gathers (gathers moment before after old new w v bytes n h e)
 
-  pub last_ends : Ends moment before after.faults old new w v bytes n None
+  pub last_ends : Ends moment before after old new w v bytes n None
   last_ends = ends_by (is_cut s.geometry w n) refl

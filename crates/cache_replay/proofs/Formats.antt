@@ -28,12 +28,12 @@ use Rattle.cache_replay.proofs.Dispatch.{no_deals}
 
 -- ---- what was told of devices
 
--- one device more, of which nothing was told
-pub reach_more : (harms : List Harm) (devices : List Device) (d : Device) → AreReached harms devices → AreReached (harms ++ no_harm ∷ []) (devices ++ d ∷ [])
-reach_more [] [] d h = (record { counted = omega arith; unharmed = λ trusted. refl }, tt)
-reach_more [] (x ∷ devices) d h = absurd h
-reach_more (harm ∷ harms) [] d h = absurd h
-reach_more (harm ∷ harms) (x ∷ devices) d h = (h.0, reach_more harms devices d h.1)
+-- one device more, which made no call and of which nothing was told
+pub reach_more : (harms : List Harm) (devices : List Device) (d : Device) → d.past ≡ [] → AreReached harms devices → AreReached (harms ++ no_harm ∷ []) (devices ++ d ∷ [])
+reach_more [] [] d none h = (record { made = record { later = []; is = none }; all = λ yes. none; counted = omega arith; unharmed = λ trusted. refl }, tt)
+reach_more [] (x ∷ devices) d none h = absurd h
+reach_more (harm ∷ harms) [] d none h = absurd h
+reach_more (harm ∷ harms) (x ∷ devices) d none h = (h.0, reach_more harms devices d none h.1)
 
 -- the floor behind a format stands a buffer above the tape's first place
 pub first_floor_is : (segments buckets content agg reach fragment generation alternates : ℕ) (g : Geometry) (floor : ℕ) → HasNumbers g segments buckets content agg reach fragment generation alternates
@@ -70,7 +70,7 @@ module _ {D R C : Type 0} (disk : DiskGhosts D) (directory : DirectoryGhosts R) 
   -- a session begins with the geometry of its line
   pub format_done : (run : Run) (name : List ℕ) (segments buckets content agg reach fragment generation alternates : ℕ) (g : Geometry) (floor : ℕ) (new : Session D R C) (before now : Ledger)
       → first_refusal segments buckets content agg reach fragment alternates ≡ None → floor ≡ floor_of g g.content → HasNumbers g segments buckets content agg reach fragment generation alternates
-      → Plays disk directory chronicle (formatted run name (format_records g)) new → Deals before now (harm_of run.state) (name ∷ [])
+      → Plays disk directory chronicle (formatted run name (format_records g)) new → Deals before now (harm_of run.calls run.state) (name ∷ [])
       → DeviceMoves disk directory chronicle run (step.Format name segments buckets content agg reach fragment generation alternates) new (answer.Formatted 1 g.content floor) before now
   format_done run name segments buckets content agg reach fragment generation alternates g floor new before now is floored numbers plays deals = record {
     moves = record {
@@ -79,7 +79,7 @@ module _ {D R C : Type 0} (disk : DiskGhosts D) (directory : DirectoryGhosts R) 
       plays = subst (λ o. Plays disk directory chronicle (after_format run name (format_records g) o) new) (sym is) plays;
       says = ap (format_said (format_records g)) is ∙ ap (λ n. answer.Formatted 1 g.content n) (sym floored);
     };
-    harms = harm_of run.state;
+    harms = harm_of run.calls run.state;
     ended = ap (λ o. (after_format run name (format_records g) o).ended) is;
     names = name ∷ [];
     named = ap (λ o. (after_format run name (format_records g) o).names) is;
@@ -87,14 +87,14 @@ module _ {D R C : Type 0} (disk : DiskGhosts D) (directory : DirectoryGhosts R) 
   }
 
   -- a device that was attached in vain came back behind that of the session
-  pub format_left : (harms : List Harm) (session : Session D R C) (name : List ℕ) (r0 r1 r2 r3 : List Device) (n0 n1 n2 n3 : List (List ℕ)) (d : Device)
+  pub format_left : (harms : List Harm) (session : Session D R C) (name : List ℕ) (r0 r1 r2 r3 : List Device) (n0 n1 n2 n3 : List (List ℕ)) (d : Device) → d.past ≡ []
       → AreReached harms (return_of disk directory chronicle session.part) → r1 ≡ r0 → r2 ≡ r1 ++ return_of disk directory chronicle session.part → r3 ≡ r2 ++ d ∷ []
       → n1 ≡ n0 ++ name ∷ [] → n2 ≡ n1 → n3 ≡ n2 → Deals (record { names = n0; returned = r0 }) (record { names = n3; returned = r3 }) (harms ++ no_harm ∷ []) (name ∷ [])
-  format_left harms session name r0 r1 r2 r3 n0 n1 n2 n3 d reached one two three four five six = record {
+  format_left harms session name r0 r1 r2 r3 n0 n1 n2 n3 d none reached one two three four five six = record {
     back = record {
       devices = return_of disk directory chronicle session.part ++ d ∷ [];
       returned = three ∙ (ap (λ r. r ++ d ∷ []) (two ∙ ap (λ r. r ++ return_of disk directory chronicle session.part) one) ∙ append_assoc r0 (return_of disk directory chronicle session.part) (d ∷ []));
-      reached = reach_more harms (return_of disk directory chronicle session.part) d reached;
+      reached = reach_more harms (return_of disk directory chronicle session.part) d none reached;
     };
     attached = six ∙ (five ∙ four);
   }

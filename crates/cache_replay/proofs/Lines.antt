@@ -18,6 +18,7 @@ use Rattle.stripe_write.specs.Others.{AddsOfPut, LeavesOthers, OthersStay}
 use Rattle.actor_table.specs.Table.{Seen, number_of, with_actor}
 use Rattle.std.specs.Global.{Vec}
 use Rattle.std.proofs.lemmas.List.{length-append}
+use Rattle.device_log.specs.Calls.{Call}
 use Rattle.logged_disk.specs.declared.device.Disk.{Ghosts as DiskGhosts}
 use Rattle.dir_table.specs.declared.directory.Directory.{Ghosts as DirectoryGhosts}
 use Rattle.cache_chronicle.specs.declared.chronicle.Chronicle.{Ghosts as ChronicleGhosts}
@@ -37,7 +38,7 @@ use Rattle.cache_replay.specs.Shown.{ShowsIn}
 use Rattle.script_run.specs.Laws.{StepsOwn}
 use Rattle.cache_replay.specs.declared.session.Holding.{Holding}
 use Rattle.cache_replay.specs.declared.session.Holding.TheVariants as holding
-use Rattle.cache_replay.specs.Session.{AreApart, AreHeld, Differ, IsActive, IsHeld, LeavesBut, slots_of}
+use Rattle.cache_replay.specs.Session.{AreApart, AreHeld, Differ, IsActive, IsHeld, LeavesBut, past_of, slots_of}
 use Rattle.cache_replay.specs.Plays.{IsHeldAs, IsStreamOf, PartEnds, PlaysIn, PlaysPart}
 use Rattle.cache_replay.specs.WriterLines.{Closes, Feeds, GivesUp, Opens, HasNoWriter, IsLeft, IsPlayed, OpenDoes, TakesWriter, WriterDoes, WriterEnds, WriterLine, WriterMoves, held_in, step_of, writes_in}
 use Rattle.cache_replay.proofs.Frames.{Changed, IsElse, IsMine, OthersElse, SameStreams, all_apart, all_held, all_held_as}
@@ -195,11 +196,11 @@ is_played run name s slots n w is mine plays =
     record { held = ap run.held (sym is) ∙ here.0; stream = here.1; told = plays.told }
 
 -- it plays what is left, or two documents of one SHA-256 are shown
-pub plays_on : (own : StepsOwn) (tell : StepsTell) (line : WriterLine) (run : Run) (name : List ℕ) (s t : State) (slots new : ℕ → Option Holding) (n put : ℕ) (left : Option Writer) (said : StepAnswer)
+pub plays_on : (own : StepsOwn) (tell : StepsTell) (line : WriterLine) (run : Run) (name : List ℕ) (before after : List Call) (s t : State) (slots new : ℕ → Option Holding) (n put : ℕ) (left : Option Writer) (said : StepAnswer)
     → n ≡ number_of run.actors name → IsSound s → IsQuiet s → IsPutOf run s line name put → LeavesBut (Some put) None s t → Changed slots new n (held_in left) → OthersElse slots n (Some put) None → AreHeld s slots → PlaysIn run s slots
-    → (moves : WriterMoves run name s t line left said)
+    → (moves : WriterMoves run name before after s t line left said)
     → PlaysIn (in_session run s (after_all s moves.turn.added) moves.turn (step_of line name)) t new ⊎ ShowsIn run (Some s) (step_of line name)
-plays_on own tell line run name s t slots new n put left said is sound quiet of leaves changed others held plays moves =
+plays_on own tell line run name before after s t slots new n put left said is sound quiet of leaves changed others held plays moves =
     elim (stands_behind tell own run s (after_all s moves.turn.added) moves.turn (step_of line name) slots moves.takes refl sound quiet held plays) [
       | inl there ↦ inl (plays_then there)
       | inr shows ↦ inr shows
@@ -279,6 +280,13 @@ module _ {D R C : Type 0} (disk : DiskGhosts D) (directory : DirectoryGhosts R) 
   abbrev t : State
   t = state_in chronicle new.stripe
 
+  -- what the device had been called for before, and behind it
+  abbrev earlier : List Call
+  earlier = past_of disk directory part
+
+  abbrev later : List Call
+  later = past_of disk directory new
+
   pub active_by : (put : ℕ) (left : Option Writer) → IsActive disk directory chronicle part (slots_of actors) → OthersElse (slots_of actors) n (Some put) None → Changed (slots_of actors) (slots_of last) n (held_in left)
       → IsStripe disk directory chronicle new.stripe → IsQuiet t → new.page ≡ part.page → AddsOfPut put (kept_in chronicle part.stripe) (kept_in chronicle new.stripe) → IsLeft t put left
       → IsActive disk directory chronicle new (slots_of last)
@@ -294,14 +302,15 @@ module _ {D R C : Type 0} (disk : DiskGhosts D) (directory : DirectoryGhosts R) 
   pub moves_by : (own : StepsOwn) (tell : StepsTell) (line : WriterLine) (run : Run) (name : List ℕ) (put : ℕ) (left : Option Writer) (said : StepAnswer) → n ≡ number_of actors.names name
       → IsActive disk directory chronicle part (slots_of actors) → IsPutOf run s line name put → OthersElse (slots_of actors) n (Some put) None → Changed (slots_of actors) (slots_of last) n (held_in left)
       → AddsOfPut put (kept_in chronicle part.stripe) (kept_in chronicle new.stripe) → last.names ≡ with_actor actors.names name → PlaysPart chronicle run part actors
-      → WriterEnds run name s t line left said → PartEnds chronicle run s (step_of line name) new last said
+      → WriterEnds run name earlier later s t line left said → PartEnds disk directory chronicle run part (step_of line name) new last said
   moves_by own tell line run name put left said is old of others changed adds names plays (inl moves) =
       let at : n ≡ number_of run.actors name = is ∙ ap (λ (all : List (List ℕ)). number_of all name) (sym plays.names) in
-      elim (plays_on own tell line run name s t (slots_of actors) (slots_of last) n put left said at old.part.stripe.pieces.sound old.part.quiet of (leaves_but put (kept_in chronicle part.stripe) (kept_in chronicle new.stripe) stay adds) changed others
+      elim (plays_on own tell line run name earlier later s t (slots_of actors) (slots_of last) n put left said at old.part.stripe.pieces.sound old.part.quiet of (leaves_but put (kept_in chronicle part.stripe) (kept_in chronicle new.stripe) stay adds) changed others
       old.held plays.at moves) [
         | inl on ↦ inl (record {
           turn = moves.turn;
           takes = moves.takes;
+          calls = moves.calls;
           plays = record { names = names_are run s (after_all s moves.turn.added) moves.turn (step_of line name) name actors.names last.names (actor_is line name) plays.names names; at = on };
           says = ap (λ x. session_said run s x moves.turn (step_of line name)) (sym moves.state) ∙ moves.says;
         })
@@ -319,20 +328,20 @@ module _ {D R C : Type 0} (disk : DiskGhosts D) (directory : DirectoryGhosts R) 
       → n ≡ number_of actors.names name
       → IsActive disk directory chronicle part (slots_of actors) → slots_of actors n ≡ Some (holding.Writer w) → Changed (slots_of actors) (slots_of last) n (held_in left)
       → AddsOfPut w.put (kept_in chronicle part.stripe) (kept_in chronicle new.stripe) → last.names ≡ with_actor actors.names name
-      → (now : ℕ) → WriterDoes now s t line w left answer → (run : Run) → run.now ≡ now → PlaysPart chronicle run part actors → PartEnds chronicle run s (step_of line name) new last said
+      → (now : ℕ) → WriterDoes now earlier later s t line w left answer → (run : Run) → run.now ≡ now → PlaysPart chronicle run part actors → PartEnds disk directory chronicle run part (step_of line name) new last said
   ends_by own tell line name w left None said on answered is old mine changed adds names now does = λ run moment plays. cc
   ends_by own tell line name w left (Some other) said on answered is old mine changed adds names now does = λ run moment plays.
       let same : other ≡ said = cc in
       let at : n ≡ number_of run.actors name = is ∙ ap (λ (all : List (List ℕ)). number_of all name) (sym plays.names) in
       let played = is_played run name s (slots_of actors) n w at mine plays.at in
       moves_by own tell line run name w.put left said is old (put_played line run name w on played) (others_else (slots_of actors) n w old.apart mine) changed adds names plays
-      (subst (WriterEnds run name s t line left) same (does run name moment played))
+      (subst (WriterEnds run name earlier later s t line left) same (does run name moment played))
 
   -- an actor that has nothing opens a writer
   pub opens_by : (own : StepsOwn) (tell : StepsTell) (name : List ℕ) (key : Key) (pin : ℕ) (request response : List Field) (left : Option Writer) (answer : Option StepAnswer) (said : StepAnswer) → answer ≡ Some said
       → n ≡ number_of actors.names name → IsActive disk directory chronicle part (slots_of actors) → slots_of actors n ≡ None → Changed (slots_of actors) (slots_of last) n (held_in left)
       → AddsOfPut s.next_put (kept_in chronicle part.stripe) (kept_in chronicle new.stripe) → last.names ≡ with_actor actors.names name
-      → OpenDoes s t n (Opens key pin request response) left answer → (run : Run) → PlaysPart chronicle run part actors → PartEnds chronicle run s (step.OpenWrite name key pin request response) new last said
+      → OpenDoes earlier later s t n (Opens key pin request response) left answer → (run : Run) → PlaysPart chronicle run part actors → PartEnds disk directory chronicle run part (step.OpenWrite name key pin request response) new last said
   opens_by own tell name key pin request response left None said answered is old free changed adds names does = λ run plays. cc
   opens_by own tell name key pin request response left (Some other) said answered is old free changed adds names does = λ run plays.
       let same : other ≡ said = cc in
@@ -340,12 +349,12 @@ module _ {D R C : Type 0} (disk : DiskGhosts D) (directory : DirectoryGhosts R) 
       let none : held_by run name ≡ None = ap run.held (sym at) ∙ subst (IsHeldAs run s n) free (plays.at.held n) in
       moves_by own tell (Opens key pin request response) run name s.next_put left said is old (none, refl)
       (others_are_older s (slots_of actors) n old.part.stripe.actors.puts_fall old.held) changed adds names plays
-      (inl (subst (WriterMoves run name s t (Opens key pin request response) left) same (does run name none at)))
+      (inl (subst (WriterMoves run name earlier later s t (Opens key pin request response) left) same (does run name none at)))
 
   -- an actor that has something opens none
   pub busy_in : (name : List ℕ) (key : Key) (pin : ℕ) (request response : List Field) (h : Holding) → n ≡ number_of actors.names name → IsActive disk directory chronicle part (slots_of actors) → slots_of actors n ≡ Some h
       → ((m : ℕ) → slots_of last m ≡ slots_of actors m) → last.names ≡ with_actor actors.names name → (run : Run) → PlaysPart chronicle run part actors
-      → PartEnds chronicle run s (step.OpenWrite name key pin request response) part last busy
+      → PartEnds disk directory chronicle run part (step.OpenWrite name key pin request response) part last busy
   busy_in name key pin request response h is old has same names = λ run plays.
       let x = held_some run s n h (subst (IsHeldAs run s n) has (plays.at.held n)) in
       let by : held_by run name ≡ Some x.0 = ap run.held (ap (λ (all : List (List ℕ)). number_of all name) plays.names ∙ sym is) ∙ x.1 in
@@ -355,7 +364,7 @@ module _ {D R C : Type 0} (disk : DiskGhosts D) (directory : DirectoryGhosts R) 
 
   -- an actor that has no writer
   pub idles_by : (line : WriterLine) (name : List ℕ) → IsOnWriter line → n ≡ number_of actors.names name → IsActive disk directory chronicle part (slots_of actors) → HasNoWriter (slots_of actors n)
-      → ((m : ℕ) → slots_of last m ≡ slots_of actors m) → last.names ≡ with_actor actors.names name → (run : Run) → PlaysPart chronicle run part actors → PartEnds chronicle run s (step_of line name) part last idle
+      → ((m : ℕ) → slots_of last m ≡ slots_of actors m) → last.names ≡ with_actor actors.names name → (run : Run) → PlaysPart chronicle run part actors → PartEnds disk directory chronicle run part (step_of line name) part last idle
   idles_by line name on is old nope same names = λ run plays.
       let at : n ≡ number_of run.actors name = is ∙ ap (λ (all : List (List ℕ)). number_of all name) (sym plays.names) in
       let none = none_written run s n (slots_of actors n) nope (plays.at.held n) in

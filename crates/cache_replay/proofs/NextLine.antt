@@ -2,6 +2,7 @@
 use Rattle.std.proofs.Common.{◌≡◌, ℕ, ◌≤◌, List, [], ◌∷◌, ◌++◌, length, take, refl, sym, ◌∙◌, ap, subst, false, ◌⊎◌, inl, inr, arith}
 use Rattle.std.specs.Prelude.{Option, Some, None, IfOk, Result, Ok, Err, if◌then◌else◌, ◌==◌, is_some, option_and_then, min}
 use Rattle.std.proofs.lemmas.List.{length-take}
+use Rattle.device_log.specs.Calls.{Call}
 use Rattle.logged_disk.specs.Device.{State as Device}
 use Rattle.logged_disk.specs.declared.device.Disk.{Ghosts as DiskGhosts}
 use Rattle.dir_table.specs.declared.directory.Directory.{Ghosts as DirectoryGhosts}
@@ -17,7 +18,7 @@ use Rattle.cache_model.specs.ToRead.{to_read, IsToRead}
 use Rattle.cache_model.specs.Pair.{IsPairOf}
 use Rattle.cache_model.specs.Legal.{Does, IsQuiet, answer_record, live_next}
 use Rattle.model_laws.specs.VectorLaws.{GroupsTell}
-use Rattle.cache_model.specs.Given.{IsDocumentOf}
+use Rattle.cache_model.specs.Given.{IsDocumentOf, effects_in}
 use Rattle.stripe_core.specs.Find.{cause_records}
 use Rattle.stripe_core.specs.Stripe.{state_in}
 use Rattle.stripe_read.specs.declared.reader.Reader.{Reader}
@@ -40,10 +41,13 @@ use Rattle.script_run.specs.Takes.{IsNextPiece, IsPiece}
 use Rattle.cache_replay.specs.declared.session.Holding.{Holding}
 use Rattle.cache_replay.specs.declared.session.Holding.TheVariants as holding
 use Rattle.cache_replay.specs.declared.session.Part.{Part}
-use Rattle.cache_replay.specs.Session.{AreApart, IsActive, LeavesBut, slots_of}
+use Rattle.cache_replay.specs.Session.{AreApart, IsActive, LeavesBut, past_of, slots_of}
 use Rattle.cache_replay.specs.Plays.{PartEnds, PartMoves, PlaysPart}
 use Rattle.cache_replay.specs.ReaderLines.{IsWithin, NextEnds, NextMoves, next_answer, reader_held}
-use Rattle.cache_replay.proofs.Calls.{call_covered, call_permit}
+use Rattle.stripe_core.specs.Covers.{calls_since}
+use Rattle.stripe_core.specs.Faults.{IsAccounted}
+use Rattle.stripe_core.proofs.Between.{accounted_is}
+use Rattle.stripe_core.proofs.Covering.{own_covers, own_permit}
 use Rattle.cache_replay.proofs.ReaderLines.{Goes, Took, apart_else, given_back, held_reader, line_ends, line_turn, reads_none, still_held, still_moves, still_turn}
 use Rattle.cache_replay.specs.Shown.{ShowsAt, ShowsIn}
 use Rattle.cache_replay.proofs.Shown.{shows_first, shows_in}
@@ -83,21 +87,25 @@ gives_within p s r (piece.Broken why) into h = tt
 
 pub reads_within : (s : State) (old new : Device) (r : Reader) (given : NextPiece) (into : List ℕ) → ReadsOn s old new r given into → IsWithin given into
 reads_within s old new r given into reads =
-    gives_within (call_permit 0 old.faults new.faults reads.reads) s r given into (reads.gives (call_permit 0 old.faults new.faults reads.reads) (call_covered 0 old.faults new.faults reads.reads))
+    gives_within (own_permit 0 old.past new.past) s r given into (reads.gives (own_permit 0 old.past new.past) (own_covers 0 old.past new.past))
 
 -- what comes of the answer
-module _ (own : ReadIsOwn) (run : Run) (k new : Kept) (p : Permit) (r later : Reader) (plain : p.packed ≡ false) (moment : p.now ≡ run.now) (first : 1 ≤ r.next) (owned : AreOwn (state_of k) run.streams) (reader : IsReaderOf (state_of k) r) (keeps : IsReaderOf (state_of new) later) where
+module _ (own : ReadIsOwn) (run : Run) (before after : List Call) (k new : Kept) (accounted : IsAccounted before after k new) (p : Permit) (r later : Reader) (plain : p.packed ≡ false) (content : p.area ≡ 0) (moment : p.now ≡ run.now)
+    (calls : p.events ≡ calls_since before after) (first : 1 ≤ r.next) (owned : AreOwn (state_of k) run.streams) (reader : IsReaderOf (state_of k) r) (keeps : IsReaderOf (state_of new) later) where
   moves_with : (given : NextPiece) (bytes : List ℕ) (said : StepAnswer) → new ≡ with_records k (read_adds (state_of k) r given)
       → Does p (state_of k) (ReadOn r.reader) (read_adds (state_of k) r given) Done
       → IsPiece run (state_of k) r.reader bytes (told_in (answer_record r.reader (noted (listed_length (state_of k) r) given) ∷ []))
       → says.next_said bytes (told_in (answer_record r.reader (noted (listed_length (state_of k) r) given) ∷ [])) ≡ said
-      → NextMoves run (state_of k) (state_of new) r later said
+      → NextMoves run before after (state_of k) (state_of new) r later said
   moves_with given bytes said adds does whose answers = record {
     device = p;
     added = read_adds (state_of k) r given;
     given = bytes;
     plain = plain;
     moment = moment;
+    content = content;
+    calls = calls;
+    effects = accounted_is before after k new (read_adds (state_of k) r given) accounted adds ∙ ap effects_in (sym calls);
     behind = state_behind k new (read_adds (state_of k) r given) adds;
     does = does;
     own = subst (IsPiece run (state_of k) r.reader bytes) (sym (told_last (state_of k) r given)) whose;
@@ -110,12 +118,13 @@ module _ (own : ReadIsOwn) (run : Run) (k new : Kept) (p : Permit) (r later : Re
     device = p;
     plain = plain;
     moment = moment;
+    content = content;
     shows = shows_first (IsPlacedAs run.streams) p (state_of k) (ReadOn r.reader) [] (record { row = row; read = IsToRead.asked_for reads; pair = pair });
   }
 
   ends_with : (given : NextPiece) (into : List ℕ) → new ≡ with_records k (read_adds (state_of k) r given)
       → Does p (state_of k) (ReadOn r.reader) (read_adds (state_of k) r given) Done
-      → Gives p (state_of k) r given into → NextEnds run (state_of k) (state_of new) r later (next_answer given into)
+      → Gives p (state_of k) r given into → NextEnds run before after (state_of k) (state_of new) r later (next_answer given into)
   ends_with (piece.Piece index size) into adds does h =
       elim (own p (state_of k) run.streams (row_by reader.actor r) h.row size into owned first h.live h.document) [
         | inl is ↦ inl (moves_with (piece.Piece index size) (take size into) (answer.Piece index size (take size into)) adds does
@@ -128,12 +137,12 @@ module _ (own : ReadIsOwn) (run : Run) (k new : Kept) (p : Permit) (r later : Re
   ends_with (piece.Broken why) into adds does h = inl (moves_with (piece.Broken why) [] (says.broken_said why) adds does refl refl)
 
 pub next_ends : (own : ReadIsOwn) (k new : Kept) (before after : Device) (r later : Reader) (given : NextPiece) (into : List ℕ) → new ≡ with_records k (read_adds (state_of k) r given)
-    → ReadsOn (state_of k) before after r given into → (IsReaderOf (state_of k) r → IsReaderOf (state_of new) later) → 1 ≤ r.next
-    → (run : Run) → AreOwn (state_of k) run.streams → IsReaderOf (state_of k) r → NextEnds run (state_of k) (state_of new) r later (next_answer given into)
-next_ends own k new before after r later given into adds reads keeps first run owned reader =
-    let p : Permit = call_permit run.now before.faults after.faults reads.reads in
-    let covers = call_covered run.now before.faults after.faults reads.reads in
-    ends_with own run k new p r later refl refl first owned reader (keeps reader) given into adds (reads.does p covers reader) (reads.gives p covers)
+    → IsAccounted before.past after.past k new → ReadsOn (state_of k) before after r given into → (IsReaderOf (state_of k) r → IsReaderOf (state_of new) later) → 1 ≤ r.next
+    → (run : Run) → AreOwn (state_of k) run.streams → IsReaderOf (state_of k) r → NextEnds run before.past after.past (state_of k) (state_of new) r later (next_answer given into)
+next_ends own k new before after r later given into adds accounted reads keeps first run owned reader =
+    let p : Permit = own_permit run.now before.past after.past in
+    let covers = own_covers run.now before.past after.past in
+    ends_with own run before.past after.past k new accounted p r later refl refl refl refl first owned reader (keeps reader) given into adds (reads.does p covers reader) (reads.gives p covers)
 
 -- ---- the line
 
@@ -169,8 +178,8 @@ module _ {D R C : Type 0} (disk : DiskGhosts D) (directory : DirectoryGhosts R) 
       → n ≡ number_of before.names name → after.names ≡ with_actor before.names name → slots_of before n ≡ Some (holding.Reader r)
       → later.reader ≡ r.reader → Goes r.reader (state_in chronicle old.stripe) (state_in chronicle new.stripe) (slots_of before) (slots_of after) n (Some later)
       → IsActive disk directory chronicle old (slots_of before) → IsQuiet (state_in chronicle new.stripe)
-      → ((run : Run) → AreOwn (state_in chronicle old.stripe) run.streams → IsReaderOf (state_in chronicle old.stripe) r → NextEnds run (state_in chronicle old.stripe) (state_in chronicle new.stripe) r later said)
-      → (run : Run) → PlaysPart chronicle run old before → PartEnds chronicle run (state_in chronicle old.stripe) (step.Next name) new after said
+      → ((run : Run) → AreOwn (state_in chronicle old.stripe) run.streams → IsReaderOf (state_in chronicle old.stripe) r → NextEnds run (past_of disk directory old) (past_of disk directory new) (state_in chronicle old.stripe) (state_in chronicle new.stripe) r later said)
+      → (run : Run) → PlaysPart chronicle run old before → PartEnds disk directory chronicle run old (step.Next name) new after said
   next_line_ends tell own old new before after name n r later said number names had same goes active quiet ends run plays =
       let s : State = state_in chronicle old.stripe in
       let by = held_reader disk directory chronicle run old before name n r number had plays in
@@ -186,7 +195,10 @@ module _ {D R C : Type 0} (disk : DiskGhosts D) (directory : DirectoryGhosts R) 
               behind = m.behind;
               quiet = quiet;
               plain = m.plain;
+              content = m.content;
               moment = m.moment;
+              calls = m.calls;
+              effects = m.effects;
               asks = asked_is;
               does = m.does;
               gives = subst (IsNextPiece run s (line_turn m.device m.added m.given)) (sym reads) m.own;
@@ -212,7 +224,7 @@ module _ {D R C : Type 0} (disk : DiskGhosts D) (directory : DirectoryGhosts R) 
   pub next_idle : (part : Part D R C) (before after : Seen Holding) (name : List ℕ) (n : ℕ) (said : StepAnswer) → said ≡ says.idle
       → n ≡ number_of before.names name → after.names ≡ with_actor before.names name → ((m : ℕ) → slots_of after m ≡ slots_of before m) → None ≡ reader_held (slots_of before n)
       → IsActive disk directory chronicle part (slots_of before)
-      → (run : Run) → PlaysPart chronicle run part before → PartMoves chronicle run (state_in chronicle part.stripe) (step.Next name) part after said
+      → (run : Run) → PlaysPart chronicle run part before → PartMoves disk directory chronicle run part (step.Next name) part after said
   next_idle part before after name n said is number names same none active run plays =
       let s : State = state_in chronicle part.stripe in
       let reads : reader_by run name ≡ None = reads_none disk directory chronicle run part before name n number none plays in

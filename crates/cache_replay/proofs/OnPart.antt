@@ -1,5 +1,5 @@
 -- A line on a part and its actors, as a line on a session.
-use Rattle.std.proofs.Common.{◌≡◌, ◌≤◌, ◌⊎◌, inl, inr, sym, ◌∙◌, subst, Result, Ok, Err}
+use Rattle.std.proofs.Common.{◌≡◌, ◌≤◌, ◌⊎◌, inl, inr, refl, sym, ◌∙◌, subst, Result, Ok, Err}
 use Rattle.std.specs.Prelude.{Some, None, IfErr, IfOk}
 use Rattle.logged_disk.specs.Device.{IsAfter}
 use Rattle.logged_disk.specs.declared.device.Disk.{Ghosts as DiskGhosts}
@@ -8,6 +8,7 @@ use Rattle.cache_chronicle.specs.declared.chronicle.Chronicle.{Ghosts as Chronic
 use Rattle.cache_model.specs.State.{State, after_all}
 use Rattle.stripe_core.specs.Stripe.{seen_in, state_in}
 use Rattle.stripe_core.specs.Between.{Between}
+use Rattle.stripe_core.specs.Covers.{calls_since}
 use Rattle.script_lang.specs.declared.step.Step.{Step}
 use Rattle.script_lang.specs.declared.answer.StepAnswer.{StepAnswer}
 use Rattle.script_run.specs.Run.{Run}
@@ -21,11 +22,11 @@ use Rattle.cache_replay.specs.declared.session.Session.{Session}
 use Rattle.cache_replay.specs.declared.session.Part.{Part}
 use Rattle.cache_replay.specs.declared.stop.Stop.{Stop}
 use Rattle.cache_replay.specs.declared.stop.Stop.TheVariants.{Memory}
-use Rattle.cache_replay.specs.Session.{AreLater, return_of, slots_in}
+use Rattle.cache_replay.specs.Session.{AreLater, past_of, return_of, slots_in}
 use Rattle.cache_replay.specs.Plays.{PartEnds, Plays, PlaysAt, PlaysPart, StepEnds, StepMoves}
 use Rattle.cache_replay.specs.Stop.{IsSessionStop}
 use Rattle.cache_replay.proofs.OnSession.{IsOnSession}
-use Rattle.cache_replay.proofs.Unharming.{session_unharmed}
+use Rattle.cache_replay.proofs.Unharming.{session_calls, session_unharmed}
 
 module _ {D R C : Type 0} (disk : DiskGhosts D) (directory : DirectoryGhosts R) (chronicle : ChronicleGhosts C) where
   pub part_plays : (run : Run) (session : Session D R C) (part : Part D R C) → session.part ≡ Some part → Plays disk directory chronicle run session → PlaysPart chronicle run part session.actors
@@ -37,10 +38,11 @@ module _ {D R C : Type 0} (disk : DiskGhosts D) (directory : DirectoryGhosts R) 
   pub line_moved : (run : Run) (old new : Session D R C) (before after : Part D R C) (step : Step) (said : StepAnswer) (turn : Turn) → IsOnSession step
       → old.part ≡ Some before → new.part ≡ Some after → new.now ≡ old.now → Plays disk directory chronicle run old → Between disk directory chronicle before.stripe after.stripe
       → SessionTakes run (state_in chronicle before.stripe) turn step
+      → turn.device.events ≡ calls_since (past_of disk directory before) (past_of disk directory after)
       → PlaysPart chronicle (in_session run (state_in chronicle before.stripe) (after_all (state_in chronicle before.stripe) turn.added) turn step) after new.actors
       → session_said run (state_in chronicle before.stripe) (after_all (state_in chronicle before.stripe) turn.added) turn step ≡ said
       → StepMoves disk directory chronicle run step new said
-  line_moved run old new before after step said turn on was is kept plays stays takes there says =
+  line_moved run old new before after step said turn on was is kept plays stays takes calls there says =
       let s : State = state_in chronicle before.stripe in
       let later : Run = in_session run s (after_all s turn.added) turn step in
       let state : run.state ≡ Some s = (part_plays run old before was plays).at.state in
@@ -54,6 +56,7 @@ module _ {D R C : Type 0} (disk : DiskGhosts D) (directory : DirectoryGhosts R) 
               now = plays.now ∙ sym kept;
               at = subst (λ o. PlaysAt disk directory chronicle later o (slots_in new)) (sym is) there.at;
               unharmed = session_unharmed disk directory chronicle old new before after was is stays plays.unharmed;
+              calls = session_calls disk directory chronicle run later old new before after turn.device.events was is stays.goes calls refl plays.calls;
             }));
         says = subst (λ o. step_said run turn o step ≡ said) (sym state) (on.says run s turn ∙ says);
       }
@@ -65,16 +68,16 @@ module _ {D R C : Type 0} (disk : DiskGhosts D) (directory : DirectoryGhosts R) 
 
   line_ends : (run : Run) (old new : Session D R C) (before after : Part D R C) (step : Step) (said : StepAnswer) → IsOnSession step → old.part ≡ Some before → new.part ≡ Some after → new.now ≡ old.now → Plays disk directory chronicle run old
       → Between disk directory chronicle before.stripe after.stripe ⊎ ShowsIn run (Some (state_in chronicle before.stripe)) step
-      → PartEnds chronicle run (state_in chronicle before.stripe) step after new.actors said → StepEnds disk directory chronicle run step new said
+      → PartEnds disk directory chronicle run before step after new.actors said → StepEnds disk directory chronicle run step new said
   line_ends run old new before after step said on was is kept plays (inr shown) ends = inr (line_shows run old before step was plays shown)
   line_ends run old new before after step said on was is kept plays (inl stays) (inr shown) = inr (line_shows run old before step was plays shown)
-  line_ends run old new before after step said on was is kept plays (inl stays) (inl m) = inl (line_moved run old new before after step said m.turn on was is kept plays stays m.takes m.plays m.says)
+  line_ends run old new before after step said on was is kept plays (inl stays) (inl m) = inl (line_moved run old new before after step said m.turn on was is kept plays stays m.takes m.calls m.plays m.says)
 
   -- whatever it answers
   pub line_answers : (old new : Session D R C) (before after : Part D R C) (step : Step) (result : Result StepAnswer Stop) → IsOnSession step → old.part ≡ Some before → new.part ≡ Some after → new.now ≡ old.now
       → ((run : Run) → PlaysPart chronicle run before old.actors
       → Between disk directory chronicle before.stripe after.stripe ⊎ ShowsIn run (Some (state_in chronicle before.stripe)) step)
-      → IfOk result (λ said. (run : Run) → PlaysPart chronicle run before old.actors → PartEnds chronicle run (state_in chronicle before.stripe) step after new.actors said)
+      → IfOk result (λ said. (run : Run) → PlaysPart chronicle run before old.actors → PartEnds disk directory chronicle run before step after new.actors said)
       → IfOk result (λ said. (run : Run) → Plays disk directory chronicle run old → StepEnds disk directory chronicle run step new said)
   line_answers old new before after step (Ok said) on was is kept harms ends = λ run plays.
       let there = part_plays run old before was plays in
@@ -84,7 +87,7 @@ module _ {D R C : Type 0} (disk : DiskGhosts D) (directory : DirectoryGhosts R) 
   -- one that does so at the session's moment
   pub moment_answers : (old new : Session D R C) (before after : Part D R C) (step : Step) (result : Result StepAnswer Stop) → IsOnSession step → old.part ≡ Some before → new.part ≡ Some after → new.now ≡ old.now
       → Between disk directory chronicle before.stripe after.stripe
-      → IfOk result (λ said. (run : Run) → run.now ≡ old.now → PlaysPart chronicle run before old.actors → PartEnds chronicle run (state_in chronicle before.stripe) step after new.actors said)
+      → IfOk result (λ said. (run : Run) → run.now ≡ old.now → PlaysPart chronicle run before old.actors → PartEnds disk directory chronicle run before step after new.actors said)
       → IfOk result (λ said. (run : Run) → Plays disk directory chronicle run old → StepEnds disk directory chronicle run step new said)
   moment_answers old new before after step (Ok said) on was is kept stays ends = λ run plays.
       line_ends run old new before after step said on was is kept plays (inl stays) (ends run plays.now (part_plays run old before was plays))

@@ -1,9 +1,10 @@
 -- A call of a stripe as a line on a session.
-use Rattle.std.proofs.Common.{◌≡◌, ℕ, refl, sym, ◌∙◌, ap, subst, ◌⊎◌, inl, inr, true, Result, Ok, Err}
+use Rattle.std.proofs.Common.{◌≡◌, ℕ, List, ◌++◌, refl, sym, ◌∙◌, ap, subst, ◌⊎◌, inl, inr, true, Result, Ok, Err}
 use Rattle.std.specs.Prelude.{Option, Some, None, IfSome, IfOk, option_and_then}
 use Rattle.logged_disk.specs.declared.device.Disk.{Ghosts as DiskGhosts}
 use Rattle.dir_table.specs.declared.directory.Directory.{Ghosts as DirectoryGhosts}
 use Rattle.cache_chronicle.specs.declared.chronicle.Chronicle.{Ghosts as ChronicleGhosts}
+use Rattle.device_log.specs.Calls.{Call}
 use Rattle.tape_base.specs.declared.keys.Key.{Key}
 use Rattle.cache_model.specs.State.{State, after_all}
 use Rattle.cache_model.specs.Legal.{IsQuiet, is_writing}
@@ -12,6 +13,7 @@ use Rattle.cache_model.specs.Vectors.{AreTold}
 use Rattle.model_laws.specs.VectorLaws.{StepsTell}
 use Rattle.stripe_core.specs.Stripe.{state_in}
 use Rattle.stripe_core.specs.Between.{Between}
+use Rattle.stripe_core.specs.Covers.{calls_since}
 use Rattle.script_lang.specs.declared.step.Step.{Step}
 use Rattle.script_lang.specs.declared.step.Step.TheVariants as step
 use Rattle.script_lang.specs.declared.answer.StepAnswer.{StepAnswer}
@@ -29,7 +31,7 @@ use Rattle.cache_replay.specs.declared.session.Part.{Part}
 use Rattle.cache_replay.specs.declared.session.Holding.{Holding}
 use Rattle.cache_replay.specs.declared.stop.Stop.{Stop}
 use Rattle.cache_replay.specs.declared.session.Holding.TheVariants as holding
-use Rattle.cache_replay.specs.Session.{AreHeld, IsActive, IsAt, IsHeld, IsPart, IsSession, LeavesBut, names_in, slots_in}
+use Rattle.cache_replay.specs.Session.{AreHeld, IsActive, IsAt, IsHeld, IsPart, IsSession, LeavesBut, names_in, past_of, slots_in}
 use Rattle.cache_replay.specs.Plays.{IsHeldAs, Plays, PlaysAt, PlaysIn, StepEnds, StepMoves}
 use Rattle.cache_replay.specs.Plain.{Plainly}
 use Rattle.cache_replay.specs.Shown.{ShowsIn}
@@ -37,7 +39,7 @@ use Rattle.cache_replay.proofs.Shown.{shows_placed}
 use Rattle.cache_replay.specs.Stop.{NeedsSession}
 use Rattle.cache_replay.proofs.Frames.{some_is}
 use Rattle.cache_replay.proofs.Plain.{none_else, still_held, still_plays}
-use Rattle.cache_replay.proofs.Unharming.{session_unharmed}
+use Rattle.cache_replay.proofs.Unharming.{session_calls, session_unharmed}
 
 -- ---- each put that an actor writes is open
 
@@ -61,7 +63,7 @@ pub told_behind : (tell : StepsTell) (run : Run) (s t : State) (turn : Turn) (st
 told_behind tell run s t turn step takes is sound told =
     elim (tell turn.device s (asked run s step) turn.added turn.refused sound told takes.legal) [
       | inl kept ↦ inl (subst AreTold is kept)
-      | inr v ↦ inr (turn, record { plain = takes.plain; moment = takes.moment; shows = shows_placed (streams_with run s step) turn.device s (asked run s step) turn.added v })
+      | inr v ↦ inr (turn, record { plain = takes.plain; content = takes.content; moment = takes.moment; shows = shows_placed (streams_with run s step) turn.device s (asked run s step) turn.added v })
     ]
 
 -- and so does what stands belong to what writers took
@@ -70,7 +72,7 @@ pub own_behind : (own : StepsOwn) (run : Run) (s t : State) (turn : Turn) (step 
 own_behind own run s t turn step slots takes is sound quiet held plays =
     elim (own run s turn step sound plays.told quiet plays.own (are_writing run s slots plays held) takes.legal) [
       | inl kept ↦ inl (subst (λ u. AreOwn u (streams_behind run s (after_all s turn.added) turn step)) is kept)
-      | inr shows ↦ inr (turn, record { plain = takes.plain; moment = takes.moment; shows = shows })
+      | inr shows ↦ inr (turn, record { plain = takes.plain; content = takes.content; moment = takes.moment; shows = shows })
     ]
 
 -- what stands behind a line
@@ -134,9 +136,10 @@ module _ {D R C : Type 0} (disk : DiskGhosts D) (directory : DirectoryGhosts R) 
   pub line_plays : (run : Run) (session new : Session D R C) (old part : Part D R C) → session.part ≡ Some old → new.part ≡ Some part
       → names_in new ≡ names_in session → new.now ≡ session.now → ((n : ℕ) → slots_in new n ≡ slots_in session n)
       → LeavesBut None None (state_in chronicle old.stripe) (state_in chronicle part.stripe) → Between disk directory chronicle old.stripe part.stripe → Plays disk directory chronicle run session
-      → (later : Run) → later.actors ≡ run.actors → later.now ≡ run.now → later.streams ≡ run.streams → later.held ≡ run.held → later.state ≡ Some (state_in chronicle part.stripe)
+      → (later : Run) (events : List Call) → events ≡ calls_since (past_of disk directory old) (past_of disk directory part) → later.calls ≡ events ++ run.calls
+      → later.actors ≡ run.actors → later.now ≡ run.now → later.streams ≡ run.streams → later.held ≡ run.held → later.state ≡ Some (state_in chronicle part.stripe)
       → AreTold (state_in chronicle part.stripe) → AreOwn (state_in chronicle part.stripe) run.streams → Plays disk directory chronicle later new
-  line_plays run session new old part is now names kept slots leaves stays plays later actors moment streams held state told owned =
+  line_plays run session new old part is now names kept slots leaves stays plays later events are calls actors moment streams held state told owned =
       let t : State = state_in chronicle part.stripe in
       let own : AreOwn t later.streams = subst (AreOwn t) (sym streams) owned in
       let here : PlaysIn later t (slots_in session) = still_plays None None run later (state_in chronicle old.stripe) t (slots_in session) leaves (none_else (slots_in session))
@@ -152,6 +155,7 @@ module _ {D R C : Type 0} (disk : DiskGhosts D) (directory : DirectoryGhosts R) 
           held = λ n. subst (IsHeldAs later t n) (sym (slots n)) (here.held n);
         });
         unharmed = session_unharmed disk directory chronicle session new old part is now stays plays.unharmed;
+        calls = session_calls disk directory chronicle run later session new old part events is now stays.goes are calls plays.calls;
       }
 
 -- ---- lines that are one call and have no actor
@@ -163,6 +167,7 @@ pub record IsPlain (step : Step) : Type 0 where
   pub moment : (run : Run) (s : State) (turn : Turn) → (then.behind run turn (Some s) step).now ≡ run.now
   pub streams : (run : Run) (s : State) (turn : Turn) → (then.behind run turn (Some s) step).streams ≡ run.streams
   pub held : (run : Run) (s : State) (turn : Turn) → (then.behind run turn (Some s) step).held ≡ run.held
+  pub calls : (run : Run) (s : State) (turn : Turn) → (then.behind run turn (Some s) step).calls ≡ turn.device.events ++ run.calls
   pub state : (run : Run) (s : State) (turn : Turn) → (then.behind run turn (Some s) step).state ≡ Some (after_all s turn.added)
   pub same : (run : Run) (s t : State) (turn : Turn) → streams_behind run s t turn step ≡ run.streams
 
@@ -173,6 +178,7 @@ remove_plain key = record {
   moment = λ run s turn. refl;
   streams = λ run s turn. refl;
   held = λ run s turn. refl;
+  calls = λ run s turn. refl;
   state = λ run s turn. refl;
   same = λ run s t turn. refl;
 }
@@ -184,21 +190,22 @@ flush_plain = record {
   moment = λ run s turn. refl;
   streams = λ run s turn. refl;
   held = λ run s turn. refl;
+  calls = λ run s turn. refl;
   state = λ run s turn. refl;
   same = λ run s t turn. refl;
 }
 
 -- what is so of each run is so of each at that moment
-pub at_moment : (step : Step) (s t : State) (moment : ℕ) (result : Result StepAnswer Stop) → IfOk result (λ said. (run : Run) → Plainly run step s t said)
-    → IfOk result (λ said. (run : Run) → run.now ≡ moment → Plainly run step s t said)
-at_moment step s t moment (Ok said) ends = λ run is. ends run
-at_moment step s t moment (Err why) ends = tt
+pub at_moment : (step : Step) (before after : List Call) (s t : State) (moment : ℕ) (result : Result StepAnswer Stop) → IfOk result (λ said. (run : Run) → Plainly run step before after s t said)
+    → IfOk result (λ said. (run : Run) → run.now ≡ moment → Plainly run step before after s t said)
+at_moment step before after s t moment (Ok said) ends = λ run is. ends run
+at_moment step before after s t moment (Err why) ends = tt
 
 module _ {D R C : Type 0} (disk : DiskGhosts D) (directory : DirectoryGhosts R) (chronicle : ChronicleGhosts C) where
   plain_ends : (tell : StepsTell) (owns : StepsOwn) (session new : Session D R C) (old part : Part D R C) (step : Step) (said : StepAnswer) → IsPlain step → session.part ≡ Some old → new.part ≡ Some part
       → names_in new ≡ names_in session → new.now ≡ session.now → ((n : ℕ) → slots_in new n ≡ slots_in session n) → LeavesBut None None (state_in chronicle old.stripe) (state_in chronicle part.stripe)
       → Between disk directory chronicle old.stripe part.stripe → IsSession disk directory chronicle session
-      → ((run : Run) → run.now ≡ session.now → Plainly run step (state_in chronicle old.stripe) (state_in chronicle part.stripe) said)
+      → ((run : Run) → run.now ≡ session.now → Plainly run step (past_of disk directory old) (past_of disk directory part) (state_in chronicle old.stripe) (state_in chronicle part.stripe) said)
       → (run : Run) → Plays disk directory chronicle run session → StepEnds disk directory chronicle run step new said
   plain_ends tell owns session new old part step said plain is now names kept slots leaves stays h ends run plays =
       let s : State = state_in chronicle old.stripe in
@@ -210,7 +217,7 @@ module _ {D R C : Type 0} (disk : DiskGhosts D) (directory : DirectoryGhosts R) 
         | inl there ↦
             inl (moves disk directory chronicle run s e.turn step new said p.state (plain.on.takes run s e.turn e.takes)
             (plain.on.says run s e.turn ∙ (ap (λ u. session_said run s u e.turn step) e.behind ∙ e.says))
-            (line_plays disk directory chronicle run session new old part is now names kept slots leaves stays plays (then.behind run e.turn (Some s) step)
+            (line_plays disk directory chronicle run session new old part is now names kept slots leaves stays plays (then.behind run e.turn (Some s) step) e.turn.device.events e.calls (plain.calls run s e.turn)
             (plain.actors run s e.turn) (plain.moment run s e.turn) (plain.streams run s e.turn) (plain.held run s e.turn) (plain.state run s e.turn ∙ ap Some e.behind)
             there.0 (subst (AreOwn t) (plain.same run s (after_all s e.turn.added) e.turn) there.1)))
         | inr shows ↦ inr (subst (λ o. ShowsIn run o step) (sym p.state) shows)
@@ -219,7 +226,7 @@ module _ {D R C : Type 0} (disk : DiskGhosts D) (directory : DirectoryGhosts R) 
   pub line_ends : (tell : StepsTell) (owns : StepsOwn) (session new : Session D R C) (old part : Part D R C) (step : Step) (result : Result StepAnswer Stop) → IsPlain step → session.part ≡ Some old → new.part ≡ Some part
       → names_in new ≡ names_in session → new.now ≡ session.now → ((n : ℕ) → slots_in new n ≡ slots_in session n) → LeavesBut None None (state_in chronicle old.stripe) (state_in chronicle part.stripe)
       → Between disk directory chronicle old.stripe part.stripe → IsSession disk directory chronicle session
-      → IfOk result (λ said. (run : Run) → run.now ≡ session.now → Plainly run step (state_in chronicle old.stripe) (state_in chronicle part.stripe) said)
+      → IfOk result (λ said. (run : Run) → run.now ≡ session.now → Plainly run step (past_of disk directory old) (past_of disk directory part) (state_in chronicle old.stripe) (state_in chronicle part.stripe) said)
       → IfOk result (λ said. (run : Run) → Plays disk directory chronicle run session → StepEnds disk directory chronicle run step new said)
   line_ends tell owns session new old part step (Ok said) plain is now names kept slots leaves stays h ends = plain_ends tell owns session new old part step said plain is now names kept slots leaves stays h ends
   line_ends tell owns session new old part step (Err why) plain is now names kept slots leaves stays h ends = tt

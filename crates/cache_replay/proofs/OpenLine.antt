@@ -40,12 +40,14 @@ use Rattle.script_run.specs.Own.{IsPlacedAs}
 use Rattle.cache_replay.specs.declared.session.Holding.{Holding}
 use Rattle.cache_replay.specs.declared.session.Holding.TheVariants as holding
 use Rattle.cache_replay.specs.declared.session.Part.{Part}
-use Rattle.cache_replay.specs.Session.{AreHeld, IsActive, IsHeld, slots_of}
+use Rattle.cache_replay.specs.Session.{AreHeld, IsActive, IsHeld, past_of, slots_of}
 use Rattle.cache_replay.specs.Plays.{IsHeldAs, PartEnds, PartMoves, PlaysPart}
 use Rattle.cache_replay.specs.ReaderLines.{as_held, opened_answer, reader_opened}
 use Rattle.cache_replay.proofs.Frames.{Changed, IsElse, OthersElse, some_is}
 use Rattle.cache_replay.proofs.ReaderFrames.{kept_leaves, miss_leaves, open_leaves}
-use Rattle.cache_replay.proofs.Calls.{call_covered, call_permit}
+use Rattle.stripe_core.specs.Between.{Between}
+use Rattle.stripe_core.proofs.Between.{accounted_is}
+use Rattle.stripe_core.proofs.Covering.{own_covers, own_permit}
 use Rattle.cache_replay.proofs.ReaderLines.{Goes, as_run, goes_active, part_behind, holds_none, line_ends, none_some, still_moves}
 use Rattle.cache_replay.specs.Shown.{Shows}
 use Rattle.cache_replay.proofs.Shown.{as_placed, key_pair, shows_first, shows_in}
@@ -146,15 +148,15 @@ module _ {D R C : Type 0} (disk : DiskGhosts D) (directory : DirectoryGhosts R) 
       → Tells (state_in chronicle old.stripe).next_reader given
       → Opens (state_in chronicle old.stripe) (state_in chronicle new.stripe) (seen_in disk directory old.stripe).device (seen_in disk directory new.stripe).device who key request given
       → IsActive disk directory chronicle old (slots_of before) → IsQuiet (state_in chronicle new.stripe)
-      → (run : Run) → PlaysPart chronicle run old before → PartEnds chronicle run (state_in chronicle old.stripe) (step.OpenRead name key request) new after (opened_answer given)
-  open_line_ends tell own old new before after name n who key request given number who_is names free changed adds tells opens active quiet run plays =
+      → Between disk directory chronicle old.stripe new.stripe → (run : Run) → PlaysPart chronicle run old before → PartEnds disk directory chronicle run old (step.OpenRead name key request) new after (opened_answer given)
+  open_line_ends tell own old new before after name n who key request given number who_is names free changed adds tells opens active quiet stays run plays =
       let s : State = state_in chronicle old.stripe in
       let t : State = state_in chronicle new.stripe in
       let recs : List Rec = open_adds s who key request (answer_in given) in
       let fall : FallBelow s.next_reader (reader_numbers s.readers) = active.part.stripe.actors.readers_fall in
       let behind : t ≡ after_all s recs = state_behind (kept_in chronicle old.stripe) (kept_in chronicle new.stripe) recs adds in
-      let p : Permit = call_permit run.now (seen_in disk directory old.stripe).device.faults (seen_in disk directory new.stripe).device.faults opens.reads in
-      let covers = call_covered run.now (seen_in disk directory old.stripe).device.faults (seen_in disk directory new.stripe).device.faults opens.reads in
+      let p : Permit = own_permit run.now (past_of disk directory old) (past_of disk directory new) in
+      let covers = own_covers run.now (past_of disk directory old) (past_of disk directory new) in
       let nobody : held_by run name ≡ None = holds_none disk directory chronicle run old before name n number free plays in
       let whose : who.0 ≡ number_of run.actors name = who_is ∙ (number ∙ ap (λ all. number_of all name) (sym plays.names)) in
       let asked_is : asks.asked run s (step.OpenRead name key request) ≡ Look who.0 key request ∷ [] =
@@ -169,7 +171,10 @@ module _ {D R C : Type 0} (disk : DiskGhosts D) (directory : DirectoryGhosts R) 
               behind = behind;
               quiet = quiet;
               plain = refl;
+              content = refl;
               moment = refl;
+              calls = refl;
+              effects = accounted_is (past_of disk directory old) (past_of disk directory new) (kept_in chronicle old.stripe) (kept_in chronicle new.stripe) recs stays.accounted adds;
               asks = asked_is;
               does = right.0;
               gives = refl;
@@ -182,6 +187,7 @@ module _ {D R C : Type 0} (disk : DiskGhosts D) (directory : DirectoryGhosts R) 
         | inr other ↦ inr (shows_in run s (step.OpenRead name key request) (record {
           device = p;
           plain = refl;
+          content = refl;
           moment = refl;
           shows = subst (λ is. Shows (IsPlacedAs run.streams) p s is) (sym asked_is)
               (shows_first (IsPlacedAs run.streams) p s (Look who.0 key request) [] (as_placed run.streams p s (Look who.0 key request) (key_pair p s (Look who.0 key request) key refl other)));
@@ -196,10 +202,10 @@ module _ {D R C : Type 0} (disk : DiskGhosts D) (directory : DirectoryGhosts R) 
       → Tells (state_in chronicle old.stripe).next_reader given
       → Opens (state_in chronicle old.stripe) (state_in chronicle new.stripe) (seen_in disk directory old.stripe).device (seen_in disk directory new.stripe).device who key request given
       → IsActive disk directory chronicle old (slots_of before) → IsQuiet (state_in chronicle new.stripe)
-      → (run : Run) → PlaysPart chronicle run old before → PartEnds chronicle run (state_in chronicle old.stripe) (step.OpenRead name key request) new after said
-  open_answers tell own old new before after name n who key request given said is number who_is names free changed adds tells opens active quiet run plays =
-      subst (PartEnds chronicle run (state_in chronicle old.stripe) (step.OpenRead name key request) new after) (sym is)
-      (open_line_ends tell own old new before after name n who key request given number who_is names free changed adds tells opens active quiet run plays)
+      → Between disk directory chronicle old.stripe new.stripe → (run : Run) → PlaysPart chronicle run old before → PartEnds disk directory chronicle run old (step.OpenRead name key request) new after said
+  open_answers tell own old new before after name n who key request given said is number who_is names free changed adds tells opens active quiet stays run plays =
+      subst (PartEnds disk directory chronicle run old (step.OpenRead name key request) new after) (sym is)
+      (open_line_ends tell own old new before after name n who key request given number who_is names free changed adds tells opens active quiet stays run plays)
 
   pub open_active : (old new : Part D R C) (slots later : ℕ → Option Holding) (n : ℕ) (who : Actor) (key : Key) (request : List Field) (given : Opened)
       → IsActive disk directory chronicle old slots → Changed slots later n (as_held (reader_opened given))
@@ -223,7 +229,7 @@ module _ {D R C : Type 0} (disk : DiskGhosts D) (directory : DirectoryGhosts R) 
       → n ≡ number_of before.names name → after.names ≡ with_actor before.names name → ((m : ℕ) → slots_of after m ≡ slots_of before m) → is_some (slots_of before n) ≡ true
       → IsActive disk directory chronicle part (slots_of before)
       → (run : Run) → PlaysPart chronicle run part before
-      → PartMoves chronicle run (state_in chronicle part.stripe) (step.OpenRead name key request) part after said
+      → PartMoves disk directory chronicle run part (step.OpenRead name key request) part after said
   open_busy part before after name key request n said is number names same some active run plays =
       let s : State = state_in chronicle part.stripe in
       let has = some_held run s n (slots_of before n) some (plays.at.held n) in

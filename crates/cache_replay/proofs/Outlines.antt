@@ -1,8 +1,9 @@
 -- What a line makes of an outline.
-use Rattle.std.proofs.Common.{◌≡◌, ℕ, List, [], ◌∷◌, refl, sym, ◌∙◌, ap, subst, arith, Result, Ok, Err}
-use Rattle.std.specs.Prelude.{Option, Some, None, IfOk, IfErr, IsSome, option_map}
-use Rattle.std.proofs.lemmas.List.{append-nil}
-use Rattle.logged_disk.specs.Device.{State as Device}
+use Rattle.std.proofs.Common.{◌≡◌, ℕ, List, [], ◌∷◌, ◌++◌, refl, sym, ◌∙◌, ap, subst, arith, Result, Ok, Err}
+use Rattle.std.specs.Prelude.{Option, Some, None, IfOk, IfErr, IsSome, map, option_map}
+use Rattle.std.proofs.lemmas.List.{append-nil, append_assoc}
+use Rattle.device_log.specs.Calls.{Call}
+use Rattle.logged_disk.specs.Device.{State as Device, IsAfter}
 use Rattle.logged_disk.proofs.GoingOn.{told_before}
 use Rattle.logged_disk.specs.declared.device.Disk.{Ghosts as DiskGhosts}
 use Rattle.dir_table.specs.declared.directory.Directory.{Ghosts as DirectoryGhosts}
@@ -15,28 +16,49 @@ use Rattle.script_lang.specs.declared.answer.Refused.TheVariants as refused
 use Rattle.script_lang.specs.declared.answer.StepAnswer.{StepAnswer}
 use Rattle.script_lang.specs.declared.answer.StepAnswer.TheVariants as answer
 use Rattle.script_run.specs.Answers.{number_of_bad}
-use Rattle.script_run.specs.Run.{Harm, no_harm}
+use Rattle.script_run.specs.Run.{Harm, loosened, no_harm}
 use Rattle.cache_replay.specs.declared.session.Session.{Session}
 use Rattle.cache_replay.specs.declared.session.Part.{Part}
 use Rattle.cache_replay.specs.declared.stop.Stop.{Stop}
+use Rattle.cache_replay.specs.declared.stop.Stop.TheVariants.{BayFault, Memory, NoCache}
 use Rattle.cache_replay.specs.Outline.{IsAnswerOf, Outline, begun, begun_by, count_in, format_answer, joined, outline_after, raised, told_of}
 use Rattle.cache_replay.specs.Session.{AreLater, TellsCount, return_of}
-use Rattle.cache_replay.specs.Stop.{NeedsSession}
+use Rattle.cache_replay.specs.Stop.{AttachesAs, IsSessionStop, NeedsSession}
 use Rattle.cache_replay.specs.Plays.{IsLeft, IsOutlined, Outlines, stays}
-use Rattle.script_run.specs.Ledger.{AreReached, Deals, Ledger}
+use Rattle.script_run.specs.Ledger.{AreReached, Deals, GoesOnFrom, Ledger}
 use Rattle.cache_replay.proofs.Dispatch.{no_deals}
+use Rattle.cache_replay.proofs.Unharming.{reached_loosely}
+
+-- ---- what a bay tells
+
+pub same_ledger : (names others : List (List ℕ)) (returned came : List Device) → others ≡ names → came ≡ returned
+    → (let new : Ledger = record { names = others; returned = came } in new) ≡ record { names = names; returned = returned }
+same_ledger names others returned came called back =
+    ap (λ l. let new : Ledger = record { names = l; returned = came } in new) called ∙ ap (λ l. let new : Ledger = record { names = names; returned = l } in new) back
 
 -- ---- devices that go on
 
--- what was told of a device is told of it as it goes on
-pub reached_later : (harms : List Harm) (old new : List Device) → AreLater old new → AreReached harms old → AreReached harms new
+-- the calls with which its log begins are those with which it begins as it goes on
+from_later : (calls : List Call) (old new : Device) → IsAfter old new → GoesOnFrom calls old.past → GoesOnFrom calls new.past
+from_later calls old new goes h = record {
+  later = goes.made ++ h.later;
+  is = goes.past ∙ (ap (λ made. goes.made ++ made) h.is ∙ sym (append_assoc goes.made h.later calls));
+}
+
+-- what was told of a device is told of it as it goes on, but that it made no more calls
+pub reached_later : (harms : List Harm) (old new : List Device) → AreLater old new → AreReached harms old → AreReached (map loosened harms) new
 reached_later [] [] [] later h = tt
 reached_later [] [] (d ∷ new) later h = absurd later
 reached_later [] (d ∷ old) new later h = absurd h
 reached_later (harm ∷ harms) [] new later h = absurd h
 reached_later (harm ∷ harms) (d ∷ old) [] later h = absurd later
 reached_later (harm ∷ harms) (d ∷ old) (e ∷ new) later h = (
-  record { counted = omega (arith, h.0.counted, later.0.faults); unharmed = λ told. h.0.unharmed (told_before d e later.0.goes told) },
+  record {
+    made = from_later harm.calls d e later.0.goes h.0.made;
+    all = λ no. cc;
+    counted = omega (arith, h.0.counted, later.0.faults);
+    unharmed = λ told. h.0.unharmed (told_before d e later.0.goes told);
+  },
   reached_later harms old new later.1 h.1,
 )
 
@@ -63,7 +85,7 @@ module _ {D R C : Type 0} (disk : DiskGhosts D) (directory : DirectoryGhosts R) 
   joins None count (Some a) (Some b) said is later tells h = absurd h
   joins (Some harm) count None (Some b) said is later tells h = absurd h
   joins (Some harm) count (Some a) (Some b) said is later tells h =
-      (record { counted = omega (arith, h.0.counted, later.0.faults, tells, is); unharmed = λ told. h.0.unharmed (told_before _ _ later.0.goes told) }, tt)
+      (record { made = from_later harm.calls _ _ later.0.goes h.0.made; all = λ no. cc; counted = omega (arith, h.0.counted, later.0.faults, tells, is); unharmed = λ told. h.0.unharmed (told_before _ _ later.0.goes told) }, tt)
 
   has_session : (session : Option Harm) (old new : Option (Part D R C)) (said : StepAnswer) → AreLater (Returns old) (Returns new) → TellsCount disk directory chronicle new said → AreReached (told_of session) (Returns old) → IsSome session
   has_session session old None said later tells h = absurd tells
@@ -98,16 +120,37 @@ module _ {D R C : Type 0} (disk : DiskGhosts D) (directory : DirectoryGhosts R) 
   all_outlines (Ok said) s old new ledger needs later tells = λ o h. session_outlines o s old new said ledger needs later tells h
   all_outlines (Err why) s old new ledger needs later tells = tt
 
-  pub all_left : (result : Result StepAnswer Stop) (s : Step) (old new : Session D R C) (ledger : Ledger) → AreLater (Returns old.part) (Returns new.part)
+  -- without a session there is no device of which anything was told
+  none_left : (harms : List Harm) (old new : Option (Part D R C)) → old ≡ None → AreLater (Returns old) (Returns new) → AreReached harms (Returns old) → AreReached harms (Returns new)
+  none_left harms (Some part) new none later h = cc
+  none_left [] None None none later h = tt
+  none_left [] None (Some part) none later h = absurd later
+  none_left (harm ∷ harms) None new none later h = absurd h
+
+  pub all_left : (result : Result StepAnswer Stop) (s : Step) (old new : Session D R C) (ledger : Ledger) → IfErr result (IsSessionStop old) → AreLater (Returns old.part) (Returns new.part)
       → IfErr result (λ why. (harms : List Harm) → AreReached harms (Returns old.part) → IsLeft disk directory chronicle harms s new ledger ledger why)
-  all_left (Ok said) s old new ledger later = tt
-  all_left (Err why) s old new ledger later = λ harms h. stays (reached_later harms (Returns old.part) (Returns new.part) later h) refl
+  all_left (Ok said) s old new ledger stop later = tt
+  all_left (Err Memory) s old new ledger stop later = λ harms h. stays (reached_later harms (Returns old.part) (Returns new.part) later h) refl
+  all_left (Err NoCache) s old new ledger stop later = λ harms h. stays (none_left harms old.part new.part stop later h) refl
+  all_left (Err BayFault) s old new ledger stop later = absurd stop
+
+  -- a line that ended the run before it did anything
+  pub stays_left : (harms : List Harm) (s : Step) (session : Session D R C) (before now : Ledger) (why : Stop) → now ≡ before → AreReached harms (Returns session.part) → IsLeft disk directory chronicle harms s session before now why
+  stays_left harms s session before now Memory same h = stays (reached_loosely harms (Returns session.part) h) same
+  stays_left harms s session before now NoCache same h = stays h same
+  stays_left harms s session before now BayFault same h = stays h same
+
+  -- the same, whatever it answered
+  pub all_stays_left : {T : Type 0} (result : Result T Stop) (name : List ℕ) (session : Session D R C) (before now : Ledger) → now ≡ before
+      → IfErr result (λ why. (harms : List Harm) (s : Step) → AttachesAs name s → AreReached harms (Returns session.part) → IsLeft disk directory chronicle harms s session before now why)
+  all_stays_left (Ok x) name session before now same = tt
+  all_stays_left (Err why) name session before now same = λ harms s attaches h. stays_left harms s session before now why same h
 
   -- what is told of a device by the count 0
   joins_none : (session : Option Harm) (returns : List Device) → AreReached (told_of session) returns → AreReached (told_of (option_map (raised 0) session)) returns
   joins_none None returns h = h
   joins_none (Some harm) [] h = absurd h
-  joins_none (Some harm) (d ∷ returns) h = (record { counted = omega (arith, h.0.counted); unharmed = h.0.unharmed }, h.1)
+  joins_none (Some harm) (d ∷ returns) h = (record { made = h.0.made; all = λ no. cc; counted = omega (arith, h.0.counted); unharmed = h.0.unharmed }, h.1)
 
   -- a line that begins no session and tells no count
   still_outlines : (o : Outline) (s : Step) (new : Session D R C) (said : StepAnswer) (ledger : Ledger) → (NeedsSession s → ⊥) → begun_by o s ≡ o → count_in said ≡ 0 → IsAnswerOf s said
@@ -150,7 +193,7 @@ module _ {D R C : Type 0} (disk : DiskGhosts D) (directory : DirectoryGhosts R) 
           none = λ gone. refl;
           fixed = ap (λ n. answer.Formatted 1 n floor) at ∙ (ap (answer.Formatted 1 content) low ∙ ap (format_answer content agg) (sym is));
         };
-        outlined = subst (λ (x : Outline). AreReached (told_of x.session) (Returns new.part)) (sym after) (joins_none (Some no_harm) (Returns new.part) h);
+        outlined = subst (λ (x : Outline). AreReached (told_of x.session) (Returns new.part)) (sym after) (joins_none (Some (loosened no_harm)) (Returns new.part) (reached_loosely (no_harm ∷ []) (Returns new.part) h));
         harms = told_of o.session;
         ended = ap (λ (x : Outline). x.ended) after;
         names = name ∷ [];

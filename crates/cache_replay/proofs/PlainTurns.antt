@@ -1,6 +1,7 @@
 -- Removals and flushes as lines of a run.
 use Rattle.std.proofs.Common.{◌≡◌, ℕ, ◌*◌, List, [], ◌∷◌, refl, sym, ◌∙◌, ap, subst, Result, Ok, Err}
 use Rattle.std.specs.Prelude.{IfOk, Option, Some, None, ◌==◌, find}
+use Rattle.device_log.specs.Calls.{Call}
 use Rattle.logged_disk.specs.Device.{State as Device}
 use Rattle.tape_base.specs.Geometry.{budget_of}
 use Rattle.tape_base.specs.declared.keys.Key.{Key}
@@ -16,7 +17,11 @@ use Rattle.stripe_core.specs.declared.refusal.Refusal.{Refusal}
 use Rattle.stripe_core.specs.declared.refusal.Refusal.TheVariants as refusal
 use Rattle.stripe_core.specs.Stripe.{Answers}
 use Rattle.stripe_write.proofs.Spending.{state_behind}
-use Rattle.cache_replay.proofs.Calls.{call_covered, call_permit}
+use Rattle.cache_model.specs.Given.{effects_in, effects_told}
+use Rattle.stripe_core.specs.Covers.{calls_since}
+use Rattle.stripe_core.specs.Faults.{IsAccounted}
+use Rattle.stripe_core.proofs.Between.{accounted_is}
+use Rattle.stripe_core.proofs.Covering.{own_covers, own_permit}
 use Rattle.stripe_core.specs.declared.refusal.Stop.{Stop}
 use Rattle.stripe_core.specs.declared.refusal.Stop.TheVariants as stop
 use Rattle.stripe_core.specs.Flush.{AreOfFlush, FlushesAsAsked, Tells, flush_end}
@@ -38,11 +43,11 @@ use Rattle.cache_replay.specs.Plain.{Plainly, flush_refused}
 
 -- ---- one group of records is a step
 
-pub step_done : (p : Permit) (s : State) (i : Intent) (added : List Rec) → Does p s i added Done → IsQuiet (after_all s added) → IsStep p s (i ∷ []) added None
-step_done p s i added does quiet = record { grows = grows_by p s (to_do (i ∷ [])) (record { intents = []; refused = None }) added (Done, does, refl); quiet = quiet }
+pub step_done : (p : Permit) (s : State) (i : Intent) (added : List Rec) → Does p s i added Done → IsQuiet (after_all s added) → effects_told added ≡ effects_in p.events → IsStep p s (i ∷ []) added None
+step_done p s i added does quiet effects = record { grows = grows_by p s (to_do (i ∷ [])) (record { intents = []; refused = None }) added (Done, does, refl); quiet = quiet; effects = effects }
 
-pub step_fails : (p : Permit) (s : State) (i : Intent) (added : List Rec) (why : Reason) → Does p s i added (Fails why) → IsQuiet (after_all s added) → IsStep p s (i ∷ []) added (Some why)
-step_fails p s i added why does quiet = record { grows = grows_by p s (to_do (i ∷ [])) (record { intents = []; refused = Some why }) added (Fails why, does, refl); quiet = quiet }
+pub step_fails : (p : Permit) (s : State) (i : Intent) (added : List Rec) (why : Reason) → Does p s i added (Fails why) → IsQuiet (after_all s added) → effects_told added ≡ effects_in p.events → IsStep p s (i ∷ []) added (Some why)
+step_fails p s i added why does quiet effects = record { grows = grows_by p s (to_do (i ∷ [])) (record { intents = []; refused = Some why }) added (Fails why, does, refl); quiet = quiet; effects = effects }
 
 abbrev pub turn_of : List Rec → Option Reason → Permit → Turn
 turn_of added why p = record { added = added; refused = why; device = p; given = [] }
@@ -56,20 +61,29 @@ abbrev pub removed_as : Removal → StepAnswer
 removed_as (removal.Removed put) = answer.Removed put
 removed_as (removal.Absent why) = answer.Absent why
 
-pub removes : (run : Run) (s t : State) (key : Key) (result : Removal) → t ≡ after_all s (removal_adds key result) → IsQuiet t → RemovesWhere s key result → RemovesAsIsAsked s key result → Plainly run (step.Remove key) s t (removed_as result)
-removes run s t key (removal.Removed put) is quiet where_ does =
-    let p : Permit = call_permit run.now 0 0 [] in
+pub removes : (run : Run) (before after : List Call) (s t : State) (key : Key) (result : Removal) → effects_told (removal_adds key result) ≡ effects_in (calls_since before after) → t ≡ after_all s (removal_adds key result) → IsQuiet t
+    → RemovesWhere s key result → RemovesAsIsAsked s key result → Plainly run (step.Remove key) before after s t (removed_as result)
+removes run before after s t key (removal.Removed put) effects is quiet where_ does =
+    let p : Permit = own_permit run.now before after in
     record {
       turn = turn_of (rec.Removed put key ∷ []) None p;
-      takes = record { plain = refl; moment = refl; legal = step_done p s (Remove key) (rec.Removed put key ∷ []) (does p) (quiet_behind s t (rec.Removed put key ∷ []) is quiet); own = refl };
+      takes = record {
+        plain = refl;
+        content = refl;
+        moment = refl;
+        legal = step_done p s (Remove key) (rec.Removed put key ∷ []) (does p) (quiet_behind s t (rec.Removed put key ∷ []) is quiet) effects;
+        own = refl;
+      };
+      calls = refl;
       behind = sym is;
       says = refl;
     }
-removes run s t key (removal.Absent why) is quiet where_ does =
-    let p : Permit = call_permit run.now 0 0 [] in
+removes run before after s t key (removal.Absent why) effects is quiet where_ does =
+    let p : Permit = own_permit run.now before after in
     record {
       turn = turn_of [] None p;
-      takes = record { plain = refl; moment = refl; legal = step_done p s (Remove key) [] (does p) (quiet_behind s t [] is quiet); own = refl };
+      takes = record { plain = refl; content = refl; moment = refl; legal = step_done p s (Remove key) [] (does p) (quiet_behind s t [] is quiet) effects; own = refl };
+      calls = refl;
       behind = sym is;
       says = ap answer.Absent (sym where_.1);
     }
@@ -90,51 +104,54 @@ leaves_but_none s t losses h = record {
   losses = losses;
 }
 
-module _ (run : Run) (now : ℕ) (moment : run.now ≡ now) (k new : Kept) (before : ℕ) (after : Device) (quiet : IsQuiet (state_of k)) where
+module _ (run : Run) (now : ℕ) (moment : run.now ≡ now) (k new : Kept) (before : List Call) (after : Device) (accounted : IsAccounted before after.past k new) (quiet : IsQuiet (state_of k)) where
   -- one that came to this end is the whole step
   flush_turns : (result : Result Flushed Stop) (why : Option Reason) (said : StepAnswer) → (h : FlushesAsAsked now k new before after result)
-      → ((p : Permit) → Does p (state_of k) Flush h.added (flush_end result) → IsQuiet (after_all (state_of k) h.added) → IsStep p (state_of k) (Flush ∷ []) h.added why)
-      → ((p : Permit) → session_said run (state_of k) (state_of new) (turn_of h.added why p) step.Flush ≡ said) → Plainly run step.Flush (state_of k) (state_of new) said
+      → ((p : Permit) → Does p (state_of k) Flush h.added (flush_end result) → IsQuiet (after_all (state_of k) h.added) → effects_told h.added ≡ effects_in p.events → IsStep p (state_of k) (Flush ∷ []) h.added why)
+      → ((p : Permit) → session_said run (state_of k) (state_of new) (turn_of h.added why p) step.Flush ≡ said) → Plainly run step.Flush before after.past (state_of k) (state_of new) said
   flush_turns result why said h steps says =
-      let p : Permit = call_permit run.now before after.faults h.reads in
+      let p : Permit = own_permit run.now before after.past in
       let is : state_of new ≡ after_all (state_of k) h.added = state_behind k new h.added h.adds in
       record {
         turn = turn_of h.added why p;
         takes = record {
           plain = refl;
+          content = refl;
           moment = refl;
-          legal = steps p (h.does p moment (call_covered run.now before after.faults h.reads)) (subst IsQuiet is ((flush_behind k new h.added h.adds h.kinds).pending ∙ quiet));
+          legal = steps p (h.does p moment (own_covers run.now before after.past)) (subst IsQuiet is ((flush_behind k new h.added h.adds h.kinds).pending ∙ quiet))
+              (accounted_is before after.past k new h.added accounted h.adds);
           own = refl;
         };
+        calls = refl;
         behind = sym is;
         says = says p;
       }
 
   pub flushes : (flushed : Flushed) → FlushesAsAsked now k new before after (Ok flushed) → Tells (state_of k) (state_of new) flushed
-      → Plainly run step.Flush (state_of k) (state_of new) (flushed_as flushed)
+      → Plainly run step.Flush before after.past (state_of k) (state_of new) (flushed_as flushed)
   flushes flushed h tells =
       let t : State = state_of new in
-      flush_turns (Ok flushed) None (flushed_as flushed) h (λ p does still. step_done p (state_of k) Flush h.added does still)
+      flush_turns (Ok flushed) None (flushed_as flushed) h (λ p does still effects. step_done p (state_of k) Flush h.added does still effects)
       (λ p. ap (λ n. answer.Flushed n t.cursor (floor_now t) None) (sym tells.blocks)
       ∙ (ap (λ n. answer.Flushed flushed.blocks n (floor_now t) None) (sym tells.cursor) ∙ ap (λ n. answer.Flushed flushed.blocks flushed.cursor n None) (sym tells.floor)))
 
-  pub flush_faults : (count : ℕ) → FlushesAsAsked now k new before after (Err (stop.DeviceFault count)) → Plainly run step.Flush (state_of k) (state_of new) (answer.DeviceFault count None)
+  pub flush_faults : (count : ℕ) → FlushesAsAsked now k new before after (Err (stop.DeviceFault count)) → Plainly run step.Flush before after.past (state_of k) (state_of new) (answer.DeviceFault count None)
   flush_faults count h =
-      flush_turns (Err (stop.DeviceFault count)) (Some (Faulted count)) (answer.DeviceFault count None) h (λ p does still. step_fails p (state_of k) Flush h.added (Faulted count) does still) (λ p. refl)
+      flush_turns (Err (stop.DeviceFault count)) (Some (Faulted count)) (answer.DeviceFault count None) h (λ p does still effects. step_fails p (state_of k) Flush h.added (Faulted count) does still effects) (λ p. refl)
 
-  pub flush_exhausts : (number : ℕ) → FlushesAsAsked now k new before after (Err (stop.Exhausted number)) → Plainly run step.Flush (state_of k) (state_of new) (answer.Refused refused.Exhausted None)
+  pub flush_exhausts : (number : ℕ) → FlushesAsAsked now k new before after (Err (stop.Exhausted number)) → Plainly run step.Flush before after.past (state_of k) (state_of new) (answer.Refused refused.Exhausted None)
   flush_exhausts number h =
-      flush_turns (Err (stop.Exhausted number)) (Some Exhausted) (answer.Refused refused.Exhausted None) h (λ p does still. step_fails p (state_of k) Flush h.added Exhausted does still) (λ p. refl)
+      flush_turns (Err (stop.Exhausted number)) (Some Exhausted) (answer.Refused refused.Exhausted None) h (λ p does still effects. step_fails p (state_of k) Flush h.added Exhausted does still effects) (λ p. refl)
 
 -- a flush that is refused
-pub flush_refuses : (now : ℕ) (k new : Kept) (before : ℕ) (after : Device) (why : Refusal) → Answers {X = Flushed} (Err why) (FlushesAsAsked now k new before after) (new ≡ k) → IsQuiet (state_of k)
-    → IfOk (flush_refused why) (λ said. (run : Run) → run.now ≡ now → Plainly run step.Flush (state_of k) (state_of new) said)
-flush_refuses now k new before after (refusal.DeviceFault count) h quiet = λ run moment. flush_faults run now moment k new before after quiet count h
-flush_refuses now k new before after (refusal.Exhausted number) h quiet = λ run moment. flush_exhausts run now moment k new before after quiet number h
-flush_refuses now k new before after _ h quiet = tt
+pub flush_refuses : (now : ℕ) (k new : Kept) (before : List Call) (after : Device) (why : Refusal) → Answers {X = Flushed} (Err why) (FlushesAsAsked now k new before after) (new ≡ k) → IsAccounted before after.past k new → IsQuiet (state_of k)
+    → IfOk (flush_refused why) (λ said. (run : Run) → run.now ≡ now → Plainly run step.Flush before after.past (state_of k) (state_of new) said)
+flush_refuses now k new before after (refusal.DeviceFault count) h accounted quiet = λ run moment. flush_faults run now moment k new before after accounted quiet count h
+flush_refuses now k new before after (refusal.Exhausted number) h accounted quiet = λ run moment. flush_exhausts run now moment k new before after accounted quiet number h
+flush_refuses now k new before after _ h accounted quiet = tt
 
 -- what it leaves to a cache: nothing is pending, and the page is as long as any piece
-module _ (now : ℕ) (k new : Kept) (before : ℕ) (after : Device) where
+module _ (now : ℕ) (k new : Kept) (before : List Call) (after : Device) where
   flush_leaves_all : (result : Result Flushed Refusal) → Answers result (FlushesAsAsked now k new before after) (new ≡ k) → LeavesActors (state_of k) (state_of new)
   flush_leaves_all (Ok flushed) h = flush_behind k new h.added h.adds h.kinds
   flush_leaves_all (Err (refusal.DeviceFault count)) h = flush_behind k new h.added h.adds h.kinds

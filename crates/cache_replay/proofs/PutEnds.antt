@@ -1,7 +1,8 @@
 -- A body that is fed to a new writer, which is then closed.
-use Rattle.std.proofs.Common.{◌≡◌, ℕ, ◌+◌, ◌≤◌, List, [], ◌∷◌, ◌++◌, length, refl, sym, ◌∙◌, ap, subst, arith, true, false, ◌⊎◌, inl, inr, Ok, Err, Result}
+use Rattle.std.proofs.Common.{◌≡◌, ℕ, ◌+◌, List, [], ◌∷◌, ◌++◌, length, refl, sym, ◌∙◌, ap, subst, arith, true, false, ◌⊎◌, inl, inr, Ok, Err, Result}
 use Rattle.std.specs.Prelude.{Option, Some, None, filter}
 use Rattle.std.proofs.lemmas.List.{append-nil, append_assoc}
+use Rattle.device_log.specs.Calls.{Call}
 use Rattle.fragment_table.specs.Table.{TableRow}
 use Rattle.cache_model.specs.declared.cause.Cause.{Cause}
 use Rattle.cache_model.specs.declared.record.Rec.{Rec}
@@ -17,7 +18,7 @@ use Rattle.model_laws.proofs.ToldGroups.{told_grown}
 use Rattle.cache_model.proofs.Steps.{after_all-append, grows_on}
 use Rattle.stripe_core.specs.declared.refusal.Refusal.{Refusal}
 use Rattle.stripe_core.specs.declared.refusal.Refusal.TheVariants as refusal
-use Rattle.stripe_core.proofs.OneMore.{covers_first, covers_last}
+use Rattle.stripe_core.proofs.Covering.{covers_first, covers_last}
 use Rattle.stripe_write.specs.declared.finishing.Receipt.{Receipt}
 use Rattle.stripe_write.specs.declared.writer.Writer.{Writer}
 use Rattle.stripe_write.specs.Writers.{IsWriterOf}
@@ -154,17 +155,16 @@ module _ (p : Permit) (old mid new : Kept) (w v : Writer) (body : List ℕ) (fre
 
 -- ---- all is fed, and the writer closed
 
-module _ (moment before mid after : ℕ) (old now new : Kept) (w v : Writer) (body : List ℕ) (sound : IsSound (state_of old)) (fresh : IsFresh w) (number : v.put ≡ w.put)
+module _ (moment : ℕ) (before mid after : List Call) (old now new : Kept) (w v : Writer) (body : List ℕ) (sound : IsSound (state_of old)) (fresh : IsFresh w) (number : v.put ≡ w.put)
     (cut : IsCutUp (state_of old).geometry.fragment w body v) (own_mid : IsWriterOf (state_of now) v) (writing_mid : is_writing (state_of now) v.put ≡ true)
-    (fed : FeedsAsAsked moment before mid old now w body None) (earlier : before ≤ mid) (later : mid ≤ after) where
+    (fed : FeedsAsAsked moment before mid old now w body None) (made further : List Call) (earlier : mid ≡ made ++ before) (later : after ≡ further ++ mid) where
   closed_asks : (result : Result Receipt Refusal) → ClosesAsAsked moment mid after now new v result → ClosesWhere (state_of now) (state_of new) v result
       → ((e : Rattle.std.specs.declared.alloc.AllocError.AllocError) → result ≡ Err (refusal.Memory e) → ⊥) → FillsAsAsked moment before after old new w body result
   closed_asks result closes where_ memory = record {
-    reads = fed.reads ++ closes.reads;
     does = λ p at covers told rest.
-        let here : Feeds p old now w body None = fed.does p at (covers_first p before mid after fed.reads closes.reads later covers) in
+        let here : Feeds p old now w body None = fed.does p at (covers_first p before mid after further later covers) in
         elim (fed_told p old now new w v body fresh number cut own_mid writing_mid here sound told rest) [
-          | inl there ↦ elim (closes.does p at (covers_last p before mid after fed.reads closes.reads earlier covers) there) [
+          | inl there ↦ elim (closes.does p at (covers_last p before mid after made earlier covers) there) [
             | inl c ↦ inl (closed_fills p old now new w v body fresh number cut own_mid writing_mid here result c where_ memory)
             | inr other ↦ inr (shown p old now new w v body fresh number cut own_mid writing_mid here other rest)
           ]
@@ -187,7 +187,7 @@ module _ (moment before mid after : ℕ) (old now new : Kept) (w v : Writer) (bo
 
 -- ---- a write is refused
 
-module _ (moment before after : ℕ) (old new : Kept) (w : Writer) (body : List ℕ) (fresh : IsFresh w) where
+module _ (moment : ℕ) (before after : List Call) (old new : Kept) (w : Writer) (body : List ℕ) (fresh : IsFresh w) where
   abbrev fragment : ℕ
   fragment = (state_of old).geometry.fragment
 
@@ -198,7 +198,6 @@ module _ (moment before after : ℕ) (old new : Kept) (w : Writer) (body : List 
       → said (state_of new) None (Some why) (put_said (state_of new) w.put) ≡ receipt_answer (Err result) → IsOver (state_of new) w.put (Some why)
       → FillsAsAsked moment before after old new w body (Err result)
   fails result why fed end says over = record {
-    reads = fed.reads;
     does = λ p at covers told behind.
         let here : Feeds p old new w body (Some result) = fed.does p at covers in
         let closing : List Intent = closing_of w.put (whole_fragments fragment body) (rest_behind fragment body) in

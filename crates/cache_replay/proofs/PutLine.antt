@@ -2,6 +2,7 @@
 use Rattle.std.proofs.Common.{◌≡◌, ℕ, List, [], refl, sym, ◌∙◌, ap, subst, Bool, true, false, ◌⊎◌, inl, inr, Result, Ok, Err}
 use Rattle.std.specs.Prelude.{Option, Some, None, IfOk, ◌==◌, if◌then◌else◌}
 use Rattle.std.proofs.lemmas.Bool.{eqb-true}
+use Rattle.device_log.specs.Calls.{Call}
 use Rattle.logged_disk.specs.declared.device.Disk.{Ghosts as DiskGhosts}
 use Rattle.dir_table.specs.declared.directory.Directory.{Ghosts as DirectoryGhosts}
 use Rattle.cache_chronicle.specs.declared.chronicle.Chronicle.{Ghosts as ChronicleGhosts}
@@ -10,12 +11,16 @@ use Rattle.alternate_vector.specs.Field.{Field}
 use Rattle.cache_model.specs.State.{State, after_all}
 use Rattle.cache_model.specs.Kept.{Kept, state_of}
 use Rattle.cache_model.specs.Permit.{Permit}
+use Rattle.cache_model.specs.Legal.{IsQuiet}
 use Rattle.cache_model.specs.Vectors.{AreTold}
 use Rattle.model_laws.specs.VectorLaws.{StepsTell}
 use Rattle.stripe_core.specs.declared.refusal.Refusal.{Refusal}
 use Rattle.stripe_core.specs.declared.refusal.Refusal.TheVariants as refusal
 use Rattle.stripe_core.specs.Stripe.{state_in}
 use Rattle.stripe_core.specs.Between.{Between}
+use Rattle.stripe_core.specs.Faults.{IsAccounted}
+use Rattle.stripe_core.proofs.Between.{accounted_is}
+use Rattle.stripe_core.proofs.Covering.{own_covers, own_permit}
 use Rattle.stripe_write.specs.declared.finishing.Receipt.{Receipt}
 use Rattle.stripe_write.proofs.Spending.{state_behind}
 use Rattle.script_lang.specs.declared.step.Step.TheVariants as step
@@ -28,7 +33,7 @@ use Rattle.cache_replay.specs.declared.session.Session.{Session}
 use Rattle.cache_replay.specs.declared.session.Part.{Part}
 use Rattle.cache_replay.specs.declared.session.Holding.{Holding}
 use Rattle.cache_replay.specs.declared.stop.Stop.{Stop}
-use Rattle.cache_replay.specs.Session.{IsActive, IsHeld, IsPart, IsSession, LeavesBut, names_in, slots_in}
+use Rattle.cache_replay.specs.Session.{IsActive, IsHeld, IsPart, IsSession, LeavesBut, names_in, past_of, slots_in}
 use Rattle.cache_replay.specs.Plays.{Plays, PlaysAt, PlaysIn, StepEnds}
 use Rattle.cache_replay.specs.Plain.{Plainly}
 use Rattle.script_run.specs.Asked.{put_intents}
@@ -40,23 +45,29 @@ use Rattle.cache_replay.proofs.Frames.{some_is}
 use Rattle.cache_replay.proofs.Lines.{free_of, next_is_free}
 use Rattle.cache_replay.proofs.OnSession.{StandsBehind, active, moves, playing, stands_behind}
 use Rattle.cache_replay.proofs.Plain.{AllElse, still_held, still_plays}
-use Rattle.cache_replay.proofs.Calls.{call_covered, call_permit}
-use Rattle.cache_replay.proofs.Unharming.{session_unharmed}
+use Rattle.cache_replay.proofs.Unharming.{session_calls, session_unharmed}
 
 -- ---- what a put is for a cache
 
-abbrev Ends : Run → (s t : State) → Key → List ℕ → (request response : List Field) → StepAnswer → Type 0
-Ends run s t key body request response said = Plainly run (step.Put key body request response) s t said ⊎ ShowsIn run (Some s) (step.Put key body request response)
+abbrev Ends : Run → (before after : List Call) → (s t : State) → Key → List ℕ → (request response : List Field) → StepAnswer → Type 0
+Ends run before after s t key body request response said = Plainly run (step.Put key body request response) before after s t said ⊎ ShowsIn run (Some s) (step.Put key body request response)
 
-module _ (now before after : ℕ) (k new : Kept) (key : Key) (body : List ℕ) (request response : List Field) (run : Run) (moment : run.now ≡ now) (told : AreTold (state_of k)) where
+module _ (now : ℕ) (before after : List Call) (k new : Kept) (accounted : IsAccounted before after k new) (quiet : IsQuiet (state_of new)) (key : Key) (body : List ℕ) (request response : List Field) (run : Run) (moment : run.now ≡ now) (told : AreTold (state_of k)) where
   asked_puts : (result : Result Receipt Refusal) (said : StepAnswer) → receipt_answer result ≡ said → PutsAsAsked now before after k new key body request response result
-      → Ends run (state_of k) (state_of new) key body request response said
+      → Ends run before after (state_of k) (state_of new) key body request response said
   asked_puts result said is puts =
-      let p : Permit = call_permit run.now before after puts.reads in
-      elim (puts.does p moment (call_covered run.now before after puts.reads) told) [
+      let p : Permit = own_permit run.now before after in
+      elim (puts.does p moment (own_covers run.now before after) told) [
         | inl x ↦ inl (record {
           turn = record { added = x.added; refused = x.why; device = p; given = [] };
-          takes = record { plain = refl; moment = refl; legal = x.step; own = refl };
+          takes = record {
+            plain = refl;
+            content = refl;
+            moment = refl;
+            legal = record { grows = x.grows; quiet = subst IsQuiet (state_behind k new x.added x.adds) quiet; effects = accounted_is before after k new x.added accounted x.adds };
+            own = refl;
+          };
+          calls = refl;
           behind = sym (state_behind k new x.added x.adds);
           says = x.says ∙ is;
         })
@@ -64,13 +75,14 @@ module _ (now before after : ℕ) (k new : Kept) (key : Key) (body : List ℕ) (
           device = p;
           plain = refl;
           moment = refl;
+          content = refl;
           shows = (pair.0, shows_placed (with_bytes run.streams (state_of k).next_put body) p (state_of k) (put_intents (state_of k) key body request response) pair.0 pair.1);
         }))
       ]
 
   -- a put that is answered
   pub puts : (result : Result Receipt Refusal) (said : StepAnswer) → closed_answer result ≡ Some said → PutsWhere now before after k new key body request response result
-      → Ends run (state_of k) (state_of new) key body request response said
+      → Ends run before after (state_of k) (state_of new) key body request response said
   puts (Ok receipt) said is h = asked_puts (Ok receipt) said (some_is (receipt_answer (Ok receipt)) said is) h
   puts (Err (refusal.Memory e)) said is h = cc is
   puts (Err refusal.TooManyWriters) said is h = asked_puts (Err refusal.TooManyWriters) said (some_is (receipt_answer (Err refusal.TooManyWriters)) said is) h
@@ -108,7 +120,7 @@ module _ {D R C : Type 0} (disk : DiskGhosts D) (directory : DirectoryGhosts R) 
 
   put_plays : (run : Run) (session : Session D R C) (old part : Part D R C) (key : Key) (body : List ℕ) (request response : List Field) (said : StepAnswer) → session.part ≡ Some old
       → LeavesBut (Some (state_in chronicle old.stripe).next_put) None (state_in chronicle old.stripe) (state_in chronicle part.stripe) → IsSession disk directory chronicle session → Plays disk directory chronicle run session
-      → (x : Plainly run (step.Put key body request response) (state_in chronicle old.stripe) (state_in chronicle part.stripe) said)
+      → (x : Plainly run (step.Put key body request response) (past_of disk directory old) (past_of disk directory part) (state_in chronicle old.stripe) (state_in chronicle part.stripe) said)
       → StandsBehind run (state_in chronicle old.stripe) (state_in chronicle part.stripe) x.turn (step.Put key body request response)
       → PlaysIn (in_session run (state_in chronicle old.stripe) (after_all (state_in chronicle old.stripe) x.turn.added) x.turn (step.Put key body request response)) (state_in chronicle part.stripe) (slots_in session)
   put_plays run session old part key body request response said is leaves h plays x there =
@@ -121,7 +133,7 @@ module _ {D R C : Type 0} (disk : DiskGhosts D) (directory : DirectoryGhosts R) 
   put_moves : (tell : StepsTell) (owns : StepsOwn) (session new : Session D R C) (old part : Part D R C) (key : Key) (body : List ℕ) (request response : List Field) (said : StepAnswer) → session.part ≡ Some old → new.part ≡ Some part
       → names_in new ≡ names_in session → new.now ≡ session.now → slots_in new ≡ slots_in session → LeavesBut (Some (state_in chronicle old.stripe).next_put) None (state_in chronicle old.stripe) (state_in chronicle part.stripe)
       → Between disk directory chronicle old.stripe part.stripe → IsSession disk directory chronicle session
-      → ((run : Run) → run.now ≡ session.now → AreTold (state_in chronicle old.stripe) → Ends run (state_in chronicle old.stripe) (state_in chronicle part.stripe) key body request response said)
+      → ((run : Run) → run.now ≡ session.now → AreTold (state_in chronicle old.stripe) → Ends run (past_of disk directory old) (past_of disk directory part) (state_in chronicle old.stripe) (state_in chronicle part.stripe) key body request response said)
       → (run : Run) → Plays disk directory chronicle run session → StepEnds disk directory chronicle run (step.Put key body request response) new said
   put_moves tell owns session new old part key body request response said is now names kept slots leaves stays h ends run plays =
       let s : State = state_in chronicle old.stripe in
@@ -139,6 +151,7 @@ module _ {D R C : Type 0} (disk : DiskGhosts D) (directory : DirectoryGhosts R) 
                 at = subst (λ o. PlaysAt disk directory chronicle later o (slots_in new)) (sym now)
                     (subst (PlaysIn later t) (sym slots) (put_plays run session old part key body request response said is leaves h plays x there));
                 unharmed = session_unharmed disk directory chronicle session new old part is now stays plays.unharmed;
+                calls = session_calls disk directory chronicle run later session new old part x.turn.device.events is now stays.goes x.calls refl plays.calls;
               }))
           | inr shows ↦ inr (subst (λ o. ShowsIn run o line) (sym p.state) shows)
         ]
@@ -148,7 +161,7 @@ module _ {D R C : Type 0} (disk : DiskGhosts D) (directory : DirectoryGhosts R) 
   pub put_ends : (tell : StepsTell) (owns : StepsOwn) (session new : Session D R C) (old part : Part D R C) (key : Key) (body : List ℕ) (request response : List Field) (result : Result StepAnswer Stop) → session.part ≡ Some old → new.part ≡ Some part
       → names_in new ≡ names_in session → new.now ≡ session.now → slots_in new ≡ slots_in session → LeavesBut (Some (state_in chronicle old.stripe).next_put) None (state_in chronicle old.stripe) (state_in chronicle part.stripe)
       → Between disk directory chronicle old.stripe part.stripe → IsSession disk directory chronicle session
-      → IfOk result (λ said. (run : Run) → run.now ≡ session.now → AreTold (state_in chronicle old.stripe) → Ends run (state_in chronicle old.stripe) (state_in chronicle part.stripe) key body request response said)
+      → IfOk result (λ said. (run : Run) → run.now ≡ session.now → AreTold (state_in chronicle old.stripe) → Ends run (past_of disk directory old) (past_of disk directory part) (state_in chronicle old.stripe) (state_in chronicle part.stripe) key body request response said)
       → IfOk result (λ said. (run : Run) → Plays disk directory chronicle run session → StepEnds disk directory chronicle run (step.Put key body request response) new said)
   put_ends tell owns session new old part key body request response (Ok said) is now names kept slots leaves stays h ends = put_moves tell owns session new old part key body request response said is now names kept slots leaves stays h ends
   put_ends tell owns session new old part key body request response (Err why) is now names kept slots leaves stays h ends = tt

@@ -1,7 +1,8 @@
 -- A whole put: it is opened and ends, or is not opened.
-use Rattle.std.proofs.Common.{◌≡◌, ℕ, ◌≤◌, List, [], ◌∷◌, ◌++◌, length, refl, sym, ◌∙◌, ap, subst, arith, false, inl, inr, Ok, Err, Result}
+use Rattle.std.proofs.Common.{◌≡◌, ℕ, List, [], ◌∷◌, ◌++◌, length, refl, sym, ◌∙◌, ap, subst, false, inl, inr, Ok, Err, Result}
 use Rattle.std.specs.Prelude.{Some, None, filter}
 use Rattle.std.proofs.lemmas.List.{append_assoc}
+use Rattle.device_log.specs.Calls.{Call}
 use Rattle.tape_base.specs.declared.keys.Key.{Key}
 use Rattle.tape_base.specs.declared.actors.Actor.{Actor}
 use Rattle.alternate_vector.specs.Field.{Field}
@@ -21,6 +22,7 @@ use Rattle.stripe_actors.specs.Actors.{FallBelow, put_numbers}
 use Rattle.stripe_core.specs.declared.refusal.Refusal.{Refusal}
 use Rattle.stripe_core.specs.declared.refusal.Refusal.TheVariants as refusal
 use Rattle.stripe_core.specs.Acts.{OpensAsAsked, opened_record}
+use Rattle.stripe_core.proofs.Covering.{covers_last}
 use Rattle.stripe_write.specs.declared.finishing.Receipt.{Receipt}
 use Rattle.stripe_write.specs.declared.writer.Writer.{Writer}
 use Rattle.stripe_write.specs.Others.{AddsOfPut, OthersStay}
@@ -61,8 +63,8 @@ module _ (old now : Kept) (who : Actor) (key : Key) (request response : List Fie
       leaves_but s.next_put old new stay
       (then_owns s.next_put old now new (owns_opened old now who key request response 0 adds) (subst (λ q. AddsOfPut q now new) is own))
 
-  module _ (moment before mid after : ℕ) (new : Kept) (body : List ℕ) (tells : GroupsTell) (sound : IsSound (state_of old)) (number : who.0 ≡ 0) (quiet : IsQuiet (state_of new))
-      (does : OpensAsAsked s who key request response 0 (Ok w.put)) (earlier : before ≤ mid) where
+  module _ (moment : ℕ) (before mid after : List Call) (new : Kept) (body : List ℕ) (tells : GroupsTell) (sound : IsSound (state_of old)) (number : who.0 ≡ 0)
+      (does : OpensAsAsked s who key request response 0 (Ok w.put)) (made : List Call) (earlier : mid ≡ made ++ before) where
     abbrev ending : List Intent
     ending = ending_intents (state_of now) w.put body
 
@@ -94,12 +96,11 @@ module _ (old now : Kept) (who : Actor) (key : Key) (request response : List Fie
 
     puts_behind : (p : Permit) (result : Result Receipt Refusal) → BodyEnds p now new w.put body result → Puts p old new key body request response result
     puts_behind p result b =
-        let all = then_more old now new opened b.added adds b.adds in
         record {
           added = opened ++ b.added;
           why = b.why;
-          adds = all;
-          step = record { grows = goes_on p b.added (record { intents = []; refused = b.why }) b.grows; quiet = subst IsQuiet (state_behind old new (opened ++ b.added) all) quiet };
+          adds = then_more old now new opened b.added adds b.adds;
+          grows = goes_on p b.added (record { intents = []; refused = b.why }) b.grows;
           says = subst (λ n. said (state_of new) None b.why (put_said (state_of new) n) ≡ receipt_answer result) does.0 b.says;
         }
 
@@ -111,9 +112,8 @@ module _ (old now : Kept) (who : Actor) (key : Key) (request response : List Fie
 
     puts_as : (result : Result Receipt Refusal) → BodyEndsAsAsked moment mid after now new w.put body result → PutsAsAsked moment before after old new key body request response result
     puts_as result b = record {
-      reads = b.reads;
       does = λ p at covers h.
-          elim (b.does p at (record { plain = covers.plain; from = omega (arith, earlier, covers.from); upto = covers.upto; knows = covers.knows }) (told p h)) [
+          elim (b.does p at (covers_last p before mid after made earlier covers) (told p h)) [
             | inl ends ↦ inl (puts_behind p result ends)
             | inr pair ↦ inr (shows_then p pair)
           ];
@@ -140,7 +140,7 @@ ending_cleaned s put body =
     ap (filter is_cleanup) (append_assoc (feed_intents f put 0 body) closing (GiveUp put ∷ []))
     ∙ (no_cleanup (length body) f put 0 body (closing ++ GiveUp put ∷ []) ∙ closing_is_work put (whole_fragments f body) (rest_behind f body) (GiveUp put ∷ []))
 
-module _ (moment before after : ℕ) (old new : Kept) (who : Actor) (key : Key) (body : List ℕ) (request response : List Field) (number : who.0 ≡ 0) (same : new ≡ old)
+module _ (moment : ℕ) (before after : List Call) (old new : Kept) (who : Actor) (key : Key) (body : List ℕ) (request response : List Field) (number : who.0 ≡ 0) (same : new ≡ old)
     (quiet : IsQuiet (state_of new)) (fall : FallBelow (state_of old).next_put (put_numbers (state_of old).puts)) where
   abbrev u : State
   u = state_of old
@@ -161,13 +161,12 @@ module _ (moment before after : ℕ) (old new : Kept) (who : Actor) (key : Key) 
   refused_at : (why : Reason) (result : Refusal) → ((p : Permit) → Does p u (Write who.0 key request response 0) [] (Fails why))
       → said (state_of new) None (Some why) (put_said (state_of new) u.next_put) ≡ receipt_answer (Err result) → PutsAsAsked moment before after old new key body request response (Err result)
   refused_at why result does says = record {
-    reads = [];
     does = λ p at covers told.
         inl (record {
           added = [];
           why = Some why;
           adds = same ∙ sym (nothing_more old);
-          step = record { grows = fails_at p why (does p); quiet = still };
+          grows = fails_at p why (does p);
           says = says;
         });
   }

@@ -1,6 +1,7 @@
 -- A put that is opened, fed, closed, and given up where it is still open.
-use Rattle.std.proofs.Common.{◌≡◌, ℕ, ◌≤◌, List, [], ◌∷◌, ◌++◌, refl, sym, ◌∙◌, subst, arith, true, false, inl, inr, Ok, Err, Result}
+use Rattle.std.proofs.Common.{◌≡◌, ℕ, List, [], ◌∷◌, ◌++◌, refl, sym, ◌∙◌, subst, true, false, inl, inr, Ok, Err, Result}
 use Rattle.std.specs.Prelude.{Option, Some, None}
+use Rattle.device_log.specs.Calls.{Call}
 use Rattle.tape_base.specs.declared.keys.Key.{Key}
 use Rattle.cache_model.specs.declared.record.Rec.{Rec}
 use Rattle.cache_model.specs.State.{State}
@@ -10,6 +11,7 @@ use Rattle.cache_model.specs.Legal.{Does, MayGrow, is_writing}
 use Rattle.cache_model.proofs.Steps.{grows_by, grows_on}
 use Rattle.stripe_core.specs.declared.refusal.Refusal.{Refusal}
 use Rattle.stripe_core.specs.declared.refusal.Refusal.TheVariants as refusal
+use Rattle.stripe_core.proofs.Covering.{covers_first}
 use Rattle.stripe_write.specs.declared.finishing.Receipt.{Receipt}
 use Rattle.stripe_write.specs.declared.writer.Writer.{Writer}
 use Rattle.stripe_write.specs.Writes.{AbortsAsAsked, AbortsWhere, abort_adds}
@@ -57,15 +59,14 @@ module _ (p : Permit) (old mid new : Kept) (w : Writer) (body : List ℕ) (resul
     says = says;
   }
 
-module _ (moment before mid after : ℕ) (old now new : Kept) (w : Writer) (body : List ℕ) (key : Key) (later : mid ≤ after) where
+module _ (moment : ℕ) (before mid after : List Call) (old now new : Kept) (w : Writer) (body : List ℕ) (key : Key) (made : List Call) (later : after ≡ made ++ mid) where
   abbrev Ending : Result Receipt Refusal → Type 0
   Ending result = (p : Permit) → Fills p old now w body result → BodyEnds p old new w.put body result
 
   ends_asks : (result : Result Receipt Refusal) → FillsAsAsked moment before mid old now w body result → Ending result → BodyEndsAsAsked moment before after old new w.put body result
   ends_asks result fills ending = record {
-    reads = fills.reads;
     does = λ p at covers told.
-        elim (fills.does p at (record { plain = covers.plain; from = covers.from; upto = omega (arith, later, covers.upto); knows = covers.knows }) told (GiveUp w.put ∷ [])) [
+        elim (fills.does p at (covers_first p before mid after made later covers) told (GiveUp w.put ∷ [])) [
           | inl here ↦ inl (ending p here)
           | inr pair ↦ inr pair
         ];
@@ -104,10 +105,10 @@ module _ (moment before mid after : ℕ) (old now new : Kept) (w : Writer) (body
   body_ends (Err refusal.Sealed) result fills adds where_ does = absurd where_
 
 -- the same, where the writer that is given up is the one that was fed
-pub body_ends_at : (moment before mid after : ℕ) (old now new : Kept) (w v : Writer) (body : List ℕ) (end : Result ℕ Refusal) (result answer : Result Receipt Refusal) → mid ≤ after
+pub body_ends_at : (moment : ℕ) (before mid after : List Call) (old now new : Kept) (w v : Writer) (body : List ℕ) (end : Result ℕ Refusal) (result answer : Result Receipt Refusal) (made : List Call) → after ≡ made ++ mid
     → v.put ≡ w.put → FillsWhere moment before mid old now w body result → new ≡ with_records now (abort_adds v.key end)
     → AbortsWhere (state_of now) v.put end → AbortsAsAsked (state_of now) v.put v.key end → answer ≡ unless_memory end result → BodyEndsWhere moment before after old new w.put body answer
-body_ends_at moment before mid after old now new w v body end result answer later number fills adds where_ does is =
+body_ends_at moment before mid after old now new w v body end result answer made later number fills adds where_ does is =
     subst (BodyEndsWhere moment before after old new w.put body) (sym is)
-    (body_ends moment before mid after old now new w body v.key later end result fills adds
+    (body_ends moment before mid after old now new w body v.key made later end result fills adds
     (subst (λ q. AbortsWhere (state_of now) q end) number where_) (subst (λ q. AbortsAsAsked (state_of now) q v.key end) number does))

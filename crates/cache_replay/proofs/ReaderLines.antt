@@ -15,9 +15,11 @@ use Rattle.cache_model.specs.Legal.{Does, IsQuiet, IsStep, MayGrow, is_writing, 
 use Rattle.cache_model.specs.declared.record.Rec.{Rec}
 use Rattle.cache_model.proofs.Steps.{grows_by}
 use Rattle.cache_model.specs.Tape.{IsSound}
+use Rattle.cache_model.specs.Given.{effects_in, effects_told}
 use Rattle.cache_model.specs.Vectors.{AreTold}
 use Rattle.model_laws.specs.VectorLaws.{GroupsTell}
 use Rattle.stripe_core.specs.Stripe.{IsStripe, kept_in, state_in}
+use Rattle.stripe_core.specs.Covers.{calls_since}
 use Rattle.stripe_read.specs.declared.reader.Reader.{Reader}
 use Rattle.stripe_read.specs.Readers.{IsOpenReader, IsReaderOf}
 use Rattle.script_lang.specs.declared.step.Step.{Step}
@@ -33,11 +35,11 @@ use Rattle.script_run.specs.Takes.{GivesOwn, streams_with}
 use Rattle.cache_replay.specs.declared.session.Part.{Part}
 use Rattle.cache_replay.specs.declared.session.Holding.{Holding}
 use Rattle.cache_replay.specs.declared.session.Holding.TheVariants as holding
-use Rattle.cache_replay.specs.Session.{AreApart, AreHeld, Differ, IsActive, IsHeld, IsPart, LeavesBut, slots_of}
+use Rattle.cache_replay.specs.Session.{AreApart, AreHeld, Differ, IsActive, IsHeld, IsPart, LeavesBut, past_of, slots_of}
 use Rattle.cache_replay.specs.Plays.{IsHeldAs, IsStreamOf, PartEnds, PartMoves, PlaysIn, PlaysPart}
 use Rattle.cache_replay.specs.ReaderLines.{as_held, reader_held, without_reader}
 use Rattle.cache_replay.proofs.Frames.{Changed, IsElse, IsMine, OthersElse, all_apart, all_held, all_held_as, some_is}
-use Rattle.cache_replay.proofs.Calls.{call_permit}
+use Rattle.cache_replay.proofs.Calls.{none_since}
 use Rattle.cache_replay.specs.Shown.{Shows}
 use Rattle.cache_replay.proofs.OnSession.{are_writing}
 use Rattle.cache_replay.proofs.ReaderFrames.{leaves_all}
@@ -128,7 +130,7 @@ line_turn device added given = record { added = added; refused = None; device = 
 
 -- a line that does nothing, at a moment
 abbrev pub still_permit : (now : ℕ) → Permit
-still_permit now = call_permit now 0 0 []
+still_permit now = record { packed = false; now = now; area = 0; events = [] }
 
 abbrev pub still_turn : (now : ℕ) → Turn
 still_turn now = record { added = []; refused = None; device = still_permit now; given = [] }
@@ -171,7 +173,10 @@ module _ {D R C : Type 0} (disk : DiskGhosts D) (directory : DirectoryGhosts R) 
     pub behind : state_in chronicle new.stripe ≡ after_all (state_in chronicle old.stripe) added
     pub quiet : IsQuiet (state_in chronicle new.stripe)
     pub plain : device.packed ≡ false
+    pub content : device.area ≡ 0
     pub moment : device.now ≡ run.now
+    pub calls : device.events ≡ calls_since (past_of disk directory old) (past_of disk directory new)
+    pub effects : effects_told added ≡ effects_in device.events
     pub asks : asked run (state_in chronicle old.stripe) step ≡ i ∷ []
     pub does : Does device (state_in chronicle old.stripe) i added Done
     pub gives : GivesOwn run (state_in chronicle old.stripe) (line_turn device added given) step
@@ -185,7 +190,7 @@ module _ {D R C : Type 0} (disk : DiskGhosts D) (directory : DirectoryGhosts R) 
       → PlaysPart chronicle run old before
       → Goes reader (state_in chronicle old.stripe) (state_in chronicle new.stripe) (slots_of before) (slots_of after) n has
       → session_said run (state_in chronicle old.stripe) (after_all (state_in chronicle old.stripe) added) (line_turn device added given) step ≡ said
-      → PartEnds chronicle run (state_in chronicle old.stripe) step new after said
+      → PartEnds disk directory chronicle run old step new after said
   line_ends tell own run old new before after step name n i device added given reader has said line holds mine active plays g says =
       let s : State = state_in chronicle old.stripe in
       let sound : IsSound s = active.part.stripe.pieces.sound in
@@ -193,19 +198,22 @@ module _ {D R C : Type 0} (disk : DiskGhosts D) (directory : DirectoryGhosts R) 
       let legal : IsStep device s (asked run s step) added None = record {
         grows = subst (λ is. MayGrow device s (to_do is) added (record { intents = []; refused = None })) (sym line.asks) (grows_by device s (to_do (i ∷ [])) (record { intents = []; refused = None }) added (Done, line.does, refl));
         quiet = subst IsQuiet line.behind line.quiet;
+        effects = line.effects;
       } in
       elim (tell device s i added Done sound plays.at.told line.does) [
         | inr pair ↦ inr (shows_in run s step (record {
           device = device;
           plain = line.plain;
+          content = line.content;
           moment = line.moment;
           shows = subst (λ is. Shows (IsPlacedAs (streams_with run s step)) device s is) (sym line.asks) (shows_first (IsPlacedAs (streams_with run s step)) device s i [] (as_placed (streams_with run s step) device s i pair));
         }))
         | inl told ↦ elim (own run s turn step sound plays.at.told active.part.quiet plays.at.own (are_writing run s (slots_of before) plays.at active.held) legal) [
-          | inr shown ↦ inr (turn, record { plain = line.plain; moment = line.moment; shows = shown })
+          | inr shown ↦ inr (turn, record { plain = line.plain; content = line.content; moment = line.moment; shows = shown })
           | inl owned ↦ inl (record {
             turn = turn;
-            takes = record { plain = line.plain; moment = line.moment; legal = legal; own = line.gives };
+            takes = record { plain = line.plain; content = line.content; moment = line.moment; legal = legal; own = line.gives };
+            calls = line.calls;
             plays = record {
               names = names_are run s (after_all s added) turn step name before.names after.names line.actor plays.names line.names;
               at = plays_behind run s (state_in chronicle new.stripe) turn step name n reader (slots_of before) (slots_of after) has
@@ -267,17 +275,23 @@ module _ {D R C : Type 0} (disk : DiskGhosts D) (directory : DirectoryGhosts R) 
       → session_said run (state_in chronicle part.stripe) (state_in chronicle part.stripe) (still_turn run.now) step ≡ said
       → IsQuiet (state_in chronicle part.stripe)
       → PlaysPart chronicle run part before
-      → PartMoves chronicle run (state_in chronicle part.stripe) step part after said
+      → PartMoves disk directory chronicle run part step part after said
   still_moves run part before after step name n said actor number names same nothing_asked own streams holds says quiet plays =
       let s : State = state_in chronicle part.stripe in
       record {
         turn = still_turn run.now;
         takes = record {
           plain = refl;
+          content = refl;
           moment = refl;
-          legal = record { grows = subst (λ is. MayGrow (still_permit run.now) s (to_do is) [] (record { intents = []; refused = None })) (sym nothing_asked) nothing; quiet = quiet };
+          legal = record {
+            grows = subst (λ is. MayGrow (still_permit run.now) s (to_do is) [] (record { intents = []; refused = None })) (sym nothing_asked) nothing;
+            quiet = quiet;
+            effects = refl;
+          };
           own = own;
         };
+        calls = none_since (past_of disk directory part);
         plays = record {
           names = names_are run s s (still_turn run.now) step name before.names after.names actor plays.names names;
           at = plays_still run s step name (slots_of before) (slots_of after) actor streams holds same plays.at;
@@ -313,6 +327,12 @@ twice false x y z = refl
 -- it is given one again
 pub given_back : (before mid after : ℕ → Option Holding) (n : ℕ) (x : Option Holding) → Changed before mid n None → ((m : ℕ) → after m ≡ (if m == n then x else mid m)) → Changed before after n x
 given_back before mid after n x left set = λ m. set m ∙ (ap (λ (o : Option Holding). if m == n then x else o) (left m) ∙ twice (m == n) x None (before m))
+
+-- the one that it had
+pub same_again : (before mid after : ℕ → Option Holding) (n : ℕ) (r q : Reader) → Took before mid n r → q ≡ r → ((m : ℕ) → after m ≡ (if m == n then Some (holding.Reader q) else mid m)) → (m : ℕ) → after m ≡ before m
+same_again before mid after n r q taken is set = λ m.
+    given_back before mid after n (Some (holding.Reader q)) taken.left set m
+    ∙ (ap (λ (o : Option Holding). if m == n then o else before m) (ap (λ (x : Reader). Some (holding.Reader x)) is ∙ sym taken.had) ∙ with_same before n m (m == n) refl)
 
 without_none : (o : Option Holding) → None ≡ reader_held o → without_reader o ≡ o
 without_none None e = refl

@@ -10,7 +10,7 @@ use Rattle.script_lang.specs.declared.step.Step.{Step}
 use Rattle.script_lang.specs.declared.step.Step.TheVariants as step
 use Rattle.script_lang.specs.declared.answer.StepAnswer.{StepAnswer}
 use Rattle.script_lang.specs.Grammar.{reading_of}
-use Rattle.script_run.specs.Run.{Harm, Run, no_harm}
+use Rattle.script_run.specs.Run.{Harm, Run, loosened, no_harm}
 use Rattle.script_run.specs.Turn.{Turn}
 use Rattle.script_run.specs.Behind.{after_line}
 use Rattle.script_run.specs.Takes.{output_of, reading_text}
@@ -54,7 +54,7 @@ joined_none ended (Some harm) count all =
 
 -- so it was before a session began
 begun_none : (o : Outline) (name : List ℕ) (bad : Option BadGeometry) → All IsNone (all_told (begun o name bad)) → All IsNone (all_told o)
-begun_none o name None all = All-front IsNone (all_told o) (told_of (Some no_harm)) all
+begun_none o name None all = All-front IsNone (all_told o) (told_of (Some (loosened no_harm))) all
 begun_none o name (Some bad) all = all
 
 begun_by_none : (o : Outline) (step : Step) → All IsNone (all_told (begun_by o step)) → All IsNone (all_told o)

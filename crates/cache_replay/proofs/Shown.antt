@@ -52,5 +52,5 @@ shows_first IsPlaced p s i is pair = shows_behind IsPlaced p s (i ∷ is) [] (to
 pub shows_in : (run : Run) (s : State) (step : Step) → ShowsAt (IsPlacedAs (streams_with run s step)) run.now s (asked run s step) → ShowsIn run (Some s) step
 shows_in run s step h = (
   record { added = h.shows.0; refused = None; device = h.device; given = [] },
-  record { plain = h.plain; moment = h.moment; shows = h.shows.1 },
+  record { plain = h.plain; content = h.content; moment = h.moment; shows = h.shows.1 },
 )

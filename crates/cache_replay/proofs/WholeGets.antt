@@ -1,7 +1,8 @@
 -- A lookup, what is read of what it hit, and the answer.
-use Rattle.std.proofs.Common.{◌≡◌, ℕ, ◌-◌, ◌*◌, ◌<◌, ◌≤◌, List, [], ◌∷◌, take, refl, sym, ◌∙◌, ap, subst, false, inl, inr, arith, append-nil}
+use Rattle.std.proofs.Common.{◌≡◌, ℕ, ◌-◌, ◌*◌, ◌<◌, List, [], ◌∷◌, ◌++◌, take, refl, sym, ◌∙◌, ap, subst, false, inl, inr, arith, append-nil}
 use Rattle.std.specs.Prelude.{Option, Some, None, Result, Ok, Err, IfOk, IsSome, is_some, option_map, option_and_then, unwrap_or}
 use Rattle.std.proofs.lemmas.Bool.{eq-eqb}
+use Rattle.device_log.specs.Calls.{Call}
 use Rattle.logged_disk.specs.Device.{State as Device}
 use Rattle.tape_base.specs.declared.actors.Actor.{Actor}
 use Rattle.tape_base.specs.declared.keys.Key.{Key}
@@ -97,8 +98,8 @@ opened_tells s who key request a =
 abbrev pub nobody : Actor
 nobody = record { 0 = 0 }
 
-abbrev pub began : Kept → Key → List Field → ℕ → Began
-began k key request faults = record { faults = faults; kept = k; asks = get_intents (state_of k) key request }
+abbrev pub began : Kept → Key → List Field → List Call → Began
+began k key request past = record { past = past; kept = k; asks = get_intents (state_of k) key request }
 
 found_new : (u : State) (n put : ℕ) (key : Key) (request : List Field)
     → reader_of (state_after u (rec.ReadOpened n nobody key request (read.Hit put))) n ≡ Some (record { actor = 0; reader = n; key = key; put = put; table = Some (table_of_hit u key request); next = 1 })
@@ -131,7 +132,7 @@ none_yet fragment next bytes first =
     let z : (1 - 1) * fragment ≡ 0 = omega arith in
     sym (ap (λ n. take ((n - 1) * fragment) bytes) first ∙ ap (λ n. take n bytes) z)
 
-module _ (owns : ReadsOwn) (k k1 : Kept) (old new : Device) (key : Key) (request : List Field) (rises : old.faults ≤ new.faults) where
+module _ (owns : ReadsOwn) (k k1 : Kept) (old new : Device) (key : Key) (request : List Field) (made : List Call) (later : new.past ≡ made ++ old.past) where
   abbrev adds_of : ReadAnswer → List Rec
   adds_of a = open_adds (state_of k) nobody key request a
 
@@ -154,10 +155,10 @@ module _ (owns : ReadsOwn) (k k1 : Kept) (old new : Device) (key : Key) (request
       (grown p k k1 (adds_of a) [] (to_do (get_intents (state_of k) key request)) (ReadAll (state_of k).next_reader) (StopReading (state_of k).next_reader ∷ []) Done is (looked p a d) (Legal.DoesReadAll.has_none quiet none refl refl))
 
   pub hit_under : (r : Reader) (put size : ℕ) → k1 ≡ with_records k (adds_of (read.Hit put)) → Opens (state_of k) (state_of k1) old new nobody key request (opened.Hit r put size)
-      → Tells (state_of k).next_reader (opened.Hit r put size) → IsUnderway (began k key request old.faults) new.faults k1 r []
+      → Tells (state_of k).next_reader (opened.Hit r put size) → IsUnderway (began k key request old.past) new.past k1 r []
   hit_under r put size is opens tells = record {
-    reads = opens.reads;
-    since = rises;
+    made = made;
+    since = later;
     does = λ p run covers told own.
         elim (opens.does p covers told.vectors) [
           | inl d ↦ inl (record {
@@ -177,9 +178,8 @@ module _ (owns : ReadsOwn) (k k1 : Kept) (old new : Device) (key : Key) (request
   follows_none r own none = ap (λ (o : Option ReaderRow). is_some (option_and_then (λ (x : ReaderRow). x.table) o)) own.found ∙ ap is_some none
 
   pub follow_answered : (r : Reader) (put : ℕ) → k1 ≡ with_records k (adds_of (read.Follow put)) → IsQuiet (state_of k1) → Opens (state_of k) (state_of k1) old new nobody key request (opened.Follow r put)
-      → Tells (state_of k).next_reader (opened.Follow r put) → IsAnswered (began k key request old.faults) new.faults k1 (StopReading r.reader ∷ []) [] (answer.Follow put)
+      → Tells (state_of k).next_reader (opened.Follow r put) → IsAnswered (began k key request old.past) new.past k1 (StopReading r.reader ∷ []) [] (answer.Follow put)
   follow_answered r put is quiet opens tells = record {
-    reads = opens.reads;
     does = λ p run covers told own.
         elim (opens.does p covers told.vectors) [
           | inl d ↦ inl (record {
@@ -195,14 +195,13 @@ module _ (owns : ReadsOwn) (k k1 : Kept) (old new : Device) (key : Key) (request
   }
 
   pub miss_answered : (why : Cause) → k1 ≡ with_records k (adds_of (read.Miss why)) → IsQuiet (state_of k1) → FallBelow (state_of k).next_reader (reader_numbers (state_of k).readers)
-      → Opens (state_of k) (state_of k1) old new nobody key request (opened.Miss why) → IsAnswered (began k key request old.faults) new.faults k1 [] [] (miss_said why)
+      → Opens (state_of k) (state_of k1) old new nobody key request (opened.Miss why) → IsAnswered (began k key request old.past) new.past k1 [] [] (miss_said why)
   miss_answered why is quiet fall opens =
       let n : ℕ = (state_of k).next_reader in
       let gone : reader_of (state_of k1) n ≡ None =
       ap (λ (t : State). reader_of t n) (state_behind k k1 (adds_of (read.Miss why)) is) ∙ ((miss_leaves (state_of k) nobody key request why).readers n (λ e. cc) ∙ none_next (state_of k) fall) in
       let unhit : has_hit (state_of k1) n ≡ false = ap (λ (o : Option ReaderRow). is_some (option_and_then (λ (x : ReaderRow). x.table) o)) gone in
       record {
-        reads = opens.reads;
         does = λ p run covers told own.
             elim (opens.does p covers told.vectors) [
               | inl d ↦ inl (record {
@@ -219,22 +218,21 @@ module _ (owns : ReadsOwn) (k k1 : Kept) (old new : Device) (key : Key) (request
 
 -- ---- the whole
 
-pub gets_as_asked : (before after : ℕ) (k k2 : Kept) (key : Key) (request : List Field) (got : Got) → IsQuiet (state_of k2)
+pub gets_as_asked : (before after : List Call) (k k2 : Kept) (key : Key) (request : List Field) (got : Got)
     → IsAnswered (began k key request before) after k2 [] (given_in got) (got_answer got) → GetsAsAsked before after k k2 key request got
-gets_as_asked before after k k2 key request got quiet answered = record {
-  reads = answered.reads;
+gets_as_asked before after k k2 key request got answered = record {
   does = λ p run covers told own.
       elim (answered.does p run covers told own) [
-        | inl a ↦ inl (record { added = a.added; adds = a.adds; step = record { grows = a.grows; quiet = subst IsQuiet (state_behind k k2 a.added a.adds) quiet }; body = a.body; says = a.says })
+        | inl a ↦ inl (record { added = a.added; adds = a.adds; grows = a.grows; body = a.body; says = a.says })
         | inr shows ↦ inr shows
       ];
 }
 
 -- what was hit was read whole, unless memory was wanting
-pub hit_gets : {E : Type 0} (before mid after : ℕ) (k k1 k2 : Kept) (key : Key) (request : List Field) (r : Reader) (result : Result Got E) → IsQuiet (state_of k2) → IsUnderway (began k key request before) mid k1 r []
+pub hit_gets : {E : Type 0} (before mid after : List Call) (k k1 k2 : Kept) (key : Key) (request : List Field) (r : Reader) (result : Result Got E) → IsUnderway (began k key request before) mid k1 r []
     → IfOk result (λ got. (b : Began) → IsUnderway b mid k1 r [] → IsAnswered b after k2 [] (given_in got) (got_answer got)) → IfOk result (GetsAsAsked before after k k2 key request)
-hit_gets before mid after k k1 k2 key request r (Ok got) quiet under answers = gets_as_asked before after k k2 key request got quiet (answers (began k key request before) under)
-hit_gets before mid after k k1 k2 key request r (Err e) quiet under answers = tt
+hit_gets before mid after k k1 k2 key request r (Ok got) under answers = gets_as_asked before after k k2 key request got (answers (began k key request before) under)
+hit_gets before mid after k k1 k2 key request r (Err e) under answers = tt
 
 -- the reader that opened is the one that reads and is closed
 pub leaves_closed : (s t u : State) (n : ℕ) → n ≡ s.next_reader → LeavesBut None (Some s.next_reader) s t → LeavesBut None (Some n) t u → LeavesBut None (Some s.next_reader) s u

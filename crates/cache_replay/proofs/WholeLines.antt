@@ -2,6 +2,7 @@
 use Rattle.std.proofs.Common.{◌≡◌, ℕ, ◌+◌, ◌-◌, min, take, drop, length, length-append, length-drop, length-take, List, [], ◌∷◌, ◌++◌, refl, sym, ◌∙◌, ap, subst, Bool, true, false, ◌⊎◌, inl, inr, arith}
 use Rattle.std.specs.Prelude.{Option, Some, None, IfSome, if◌then◌else◌}
 use Rattle.std.specs.List.{AllByRecursion, filter}
+use Rattle.device_log.specs.Calls.{Call}
 use Rattle.logged_disk.specs.declared.device.Disk.{Ghosts as DiskGhosts}
 use Rattle.dir_table.specs.declared.directory.Directory.{Ghosts as DirectoryGhosts}
 use Rattle.cache_chronicle.specs.declared.chronicle.Chronicle.{Ghosts as ChronicleGhosts}
@@ -38,14 +39,16 @@ use Rattle.cache_replay.specs.declared.session.Part.{Part}
 use Rattle.cache_replay.specs.declared.session.Holding.{Holding}
 use Rattle.cache_replay.specs.declared.session.Holding.TheVariants as holding
 use Rattle.cache_replay.specs.declared.getting.Got.{Got}
-use Rattle.cache_replay.specs.Session.{AreHeld, IsActive, IsHeld, IsPart, LeavesBut, names_in, slots_in}
+use Rattle.cache_replay.specs.Session.{AreHeld, IsActive, IsHeld, IsPart, LeavesBut, names_in, past_of, slots_in}
 use Rattle.cache_replay.specs.Plays.{IsHeldAs, Plays, PlaysIn, StepEnds}
 use Rattle.cache_replay.specs.Getting.{Gets, GetsAsAsked, LineEnds, given_in, got_answer}
 use Rattle.cache_replay.specs.Shown.{ShowsAt, ShowsIn}
 use Rattle.cache_replay.proofs.Shown.{shows_in}
 use Rattle.cache_replay.proofs.Frames.{IsElse, held_as_stays, held_stays}
 use Rattle.cache_replay.proofs.OnSession.{on_session, told_behind}
-use Rattle.cache_replay.proofs.Calls.{call_covered, call_permit}
+use Rattle.stripe_core.specs.Faults.{IsAccounted}
+use Rattle.stripe_core.proofs.Between.{accounted_is}
+use Rattle.stripe_core.proofs.Covering.{own_covers, own_permit}
 use Rattle.cache_replay.proofs.ReaderLines.{part_behind}
 use Rattle.cache_replay.proofs.OnPart.{line_moved, line_shows, part_plays}
 
@@ -107,43 +110,49 @@ one_held_as run new s t n m None leaves none streams same held own = ap (λ (f :
 one_held_as run new s t n m (Some h) leaves none streams same held own =
     held_as_stays None (Some n) run new s t m h leaves (λ q other. ap (λ (f : ℕ → Stream). f q) streams) (ap (λ (f : ℕ → Option Rattle.script_run.specs.Run.Holding). f m) same) (not_next s n h none held) own
 
-pub line_ends : (owns : ReadsOwn) (tell : StepsTell) (run : Run) (before after n : ℕ) (k k2 : Kept) (key : Key) (request : List Field) (slots : ℕ → Option Holding) (got : Got) (said : StepAnswer)
-    → GetsAsAsked before after k k2 key request got → said ≡ got_answer got → IsSound (state_of k) → LeavesBut None (Some n) (state_of k) (state_of k2) → reader_of (state_of k) n ≡ None → AreHeld (state_of k) slots
-    → PlaysIn run (state_of k) slots → LineEnds run (state_of k) (state_of k2) key request slots said
-line_ends owns tell run before after n k k2 key request slots got said gets is sound leaves none held plays =
-    let p : Permit = call_permit run.now before after gets.reads in
-    elim (gets.does p run (call_covered run.now before after gets.reads) plays.told plays.own) [
+pub line_ends : (owns : ReadsOwn) (tell : StepsTell) (run : Run) (before after : List Call) (n : ℕ) (k k2 : Kept) (key : Key) (request : List Field) (slots : ℕ → Option Holding) (got : Got) (said : StepAnswer)
+    → GetsAsAsked before after k k2 key request got → IsAccounted before after k k2 → IsQuiet (state_of k2) → said ≡ got_answer got → IsSound (state_of k) → LeavesBut None (Some n) (state_of k) (state_of k2) → reader_of (state_of k) n ≡ None → AreHeld (state_of k) slots
+    → PlaysIn run (state_of k) slots → LineEnds run before after (state_of k) (state_of k2) key request slots said
+line_ends owns tell run before after n k k2 key request slots got said gets accounted quiet is sound leaves none held plays =
+    elim (gets.does (own_permit run.now before after) run (own_covers run.now before after) plays.told plays.own) [
       | inl x ↦
-          let takes = takes_by p refl refl x in
-          elim (told_behind tell run (state_of k) (after_all (state_of k) x.added) (turn_by p x) (step.Get key request) takes refl sound plays.told) [
-            | inl told ↦ inl (moves p x takes told)
+          let takes = takes_by x in
+          elim (told_behind tell run (state_of k) (after_all (state_of k) x.added) (turn_by x) (step.Get key request) takes refl sound plays.told) [
+            | inl told ↦ inl (moves x takes told)
             | inr shows ↦ inr (shown_at (step.Get key request) shows)
           ]
-      | inr shows ↦ inr (record { device = p; plain = refl; moment = refl; shows = shows })
+      | inr shows ↦ inr (record { device = own_permit run.now before after; plain = refl; moment = refl; content = refl; shows = shows })
     ]
   where
     shown_at : (line : Step) → ShowsIn run (Some (state_of k)) line → ShowsAt (IsPlacedAs (streams_with run (state_of k) line)) run.now (state_of k) (asked run (state_of k) line)
-    shown_at line h = record { device = h.0.device; plain = h.1.plain; moment = h.1.moment; shows = (h.0.added, h.1.shows) }
+    shown_at line h = record { device = h.0.device; plain = h.1.plain; moment = h.1.moment; content = h.1.content; shows = (h.0.added, h.1.shows) }
 
-    turn_by : (p : Permit) → Gets p k k2 run key request got → Turn
-    turn_by p x = record { added = x.added; refused = None; device = p; given = given_in got }
+    turn_by : Gets (own_permit run.now before after) k k2 run key request got → Turn
+    turn_by x = record { added = x.added; refused = None; device = own_permit run.now before after; given = given_in got }
 
-    takes_by : (p : Permit) → p.packed ≡ false → p.now ≡ run.now → (x : Gets p k k2 run key request got) → SessionTakes run (state_of k) (turn_by p x) (step.Get key request)
-    takes_by p plain moment x = record { plain = plain; moment = moment; legal = x.step; own = x.body }
+    takes_by : (x : Gets (own_permit run.now before after) k k2 run key request got) → SessionTakes run (state_of k) (turn_by x) (step.Get key request)
+    takes_by x = record {
+      plain = refl;
+      content = refl;
+      moment = refl;
+      legal = record { grows = x.grows; quiet = subst IsQuiet (state_behind k k2 x.added x.adds) quiet; effects = accounted_is before after k k2 x.added accounted x.adds };
+      own = x.body;
+    }
 
-    moves : (p : Permit) (x : Gets p k k2 run key request got) → SessionTakes run (state_of k) (turn_by p x) (step.Get key request) → AreTold (after_all (state_of k) x.added)
-        → Rattle.cache_replay.specs.Getting.LineGets run (state_of k) (state_of k2) key request slots said
-    moves p x takes told =
-        let turn : Turn = turn_by p x in
+    moves : (x : Gets (own_permit run.now before after) k k2 run key request got) → SessionTakes run (state_of k) (turn_by x) (step.Get key request) → AreTold (after_all (state_of k) x.added)
+        → Rattle.cache_replay.specs.Getting.LineGets run before after (state_of k) (state_of k2) key request slots said
+    moves x takes told =
+        let turn : Turn = turn_by x in
         let there : state_of k2 ≡ after_all (state_of k) x.added = state_behind k k2 x.added x.adds in
         let later : Run = in_session run (state_of k) (after_all (state_of k) x.added) turn (step.Get key request) in
         record {
           turn = turn;
           takes = takes;
+          calls = refl;
           plays = record {
             state = ap Some (sym there);
             told = subst AreTold (sym there) told;
-            own = subst (λ t. AreOwn t run.streams) (sym there) (all_own owns run.streams x.step.grows (refl, (refl, (refl, tt))) plays.own);
+            own = subst (λ t. AreOwn t run.streams) (sym there) (all_own owns run.streams x.grows (refl, (refl, (refl, tt))) plays.own);
             held = λ m. one_held_as run later (state_of k) (state_of k2) n m (slots m) leaves none refl refl (held m) (plays.held m);
           };
           says = x.says ∙ sym is;
@@ -179,7 +188,7 @@ module _ {D R C : Type 0} (disk : DiskGhosts D) (directory : DirectoryGhosts R) 
       → ((m : ℕ) → slots_in new m ≡ slots_in old m) → Plays disk directory chronicle run old → IsActive disk directory chronicle part (slots_in old)
       → ((run : Run) → AreTold (state_in chronicle part.stripe) → AreOwn (state_in chronicle part.stripe) run.streams
       → Between disk directory chronicle part.stripe part2.stripe ⊎ ShowsAt (IsPlacedAs run.streams) run.now (state_in chronicle part.stripe) (get_intents (state_in chronicle part.stripe) key request))
-      → ((slots : ℕ → Option Holding) → AreHeld (state_in chronicle part.stripe) slots → PlaysIn run (state_in chronicle part.stripe) slots → LineEnds run (state_in chronicle part.stripe) (state_in chronicle part2.stripe) key request slots said)
+      → ((slots : ℕ → Option Holding) → AreHeld (state_in chronicle part.stripe) slots → PlaysIn run (state_in chronicle part.stripe) slots → LineEnds run (past_of disk directory part) (past_of disk directory part2) (state_in chronicle part.stripe) (state_in chronicle part2.stripe) key request slots said)
       → StepEnds disk directory chronicle run (step.Get key request) new said
   session_ends run old new part part2 key request said was is names kept slots plays active harms ends =
       let s : State = state_in chronicle part.stripe in
@@ -190,7 +199,7 @@ module _ {D R C : Type 0} (disk : DiskGhosts D) (directory : DirectoryGhosts R) 
         | inr shown ↦ inr (shows shown)
         | inl stays ↦ elim (ends (slots_in old) active.held there.at) [
           | inr shown ↦ inr (shows shown)
-          | inl m ↦ inl (line_moved disk directory chronicle run old new part part2 (step.Get key request) said m.turn (on_session (step.Get key request) tt) was is kept plays stays m.takes
+          | inl m ↦ inl (line_moved disk directory chronicle run old new part part2 (step.Get key request) said m.turn (on_session (step.Get key request) tt) was is kept plays stays m.takes m.calls
               (record {
                 names = plays.names ∙ sym names;
                 at = record {

@@ -1,8 +1,10 @@
 -- One fragment after the other, up to the end.
 use Rattle.std.proofs.Common.{◌≡◌, ℕ, zero, suc, min, ◌+◌, ◌-◌, ◌*◌, ◌<◌, ◌≤◌, List, [], ◌∷◌, ◌++◌, length, take, refl, sym, ◌∙◌, ap, subst, Bool, true, false, cond, ◌⊎◌, inl, inr, arith}
 use Rattle.std.specs.Prelude.{Option, Some, None, if◌then◌else◌, is_some, option_map, option_and_then, unwrap_or, slice_get}
+use Rattle.std.proofs.lemmas.List.{append_assoc}
 use Rattle.std.proofs.Math.Nat.{add-mul}
 use Rattle.std.proofs.Math.Seq.{take-add}
+use Rattle.device_log.specs.Calls.{Call}
 use Rattle.logged_disk.specs.Device.{State as Device}
 use Rattle.tape_base.specs.declared.geometries.Geometry.{Geometry}
 use Rattle.fragment_table.specs.Table.{Table, TableRow}
@@ -24,7 +26,7 @@ use Rattle.model_laws.proofs.Answered.{end_is_whole}
 use Rattle.cache_model.proofs.Found.{none_is, no_truth}
 use Rattle.cache_model.proofs.Steps.{grows_by, grows_on}
 use Rattle.stripe_core.specs.Covers.{Covers}
-use Rattle.stripe_core.proofs.OneMore.{covers_first, covers_last}
+use Rattle.stripe_core.proofs.Covering.{covers_first, covers_last, own_covers, own_permit}
 use Rattle.stripe_read.specs.declared.reader.Reader.{Reader}
 use Rattle.stripe_read.specs.declared.reading.NextPiece.{NextPiece}
 use Rattle.stripe_read.specs.declared.reading.NextPiece.TheVariants as piece
@@ -38,7 +40,6 @@ use Rattle.script_run.specs.Laws.{AllIsGiven, ReadIsOwn, ReadsOwn}
 use Rattle.script_run.specs.Own.{AreOwn, IsPlacedAs, piece_of}
 use Rattle.script_lang.specs.declared.answer.StepAnswer.{StepAnswer}
 use Rattle.script_lang.specs.declared.answer.StepAnswer.TheVariants as answer
-use Rattle.cache_replay.proofs.Calls.{call_covered, call_permit}
 use Rattle.cache_model.specs.ToRead.{to_read, IsToRead}
 use Rattle.cache_model.specs.Pair.{IsPair, IsPairOf}
 use Rattle.cache_replay.specs.Getting.{Answered, Began, IsAnswered, IsUnderway, Underway, rows_left}
@@ -319,59 +320,56 @@ module _ (owns : ReadsOwn) (reads_own_bytes : ReadIsOwn) (given_all : AllIsGiven
 -- ---- calls
 
 module _ (owns : ReadsOwn) (own_bytes : ReadIsOwn) (given_all : AllIsGiven) (b : Began) (k k2 : Kept) (old new : Device) (r : Reader) (body into : List ℕ)
-    (under : IsUnderway b old.faults k r body) (hit : is_some r.table ≡ true) (some : 1 ≤ r.next) (quiet : IsQuiet (state_of k)) (rises : old.faults ≤ new.faults) where
-  does_of : (a : NextPiece) (reading : ReadsOn (state_of k) old new r a into) (p : Permit) → Covers p b.faults new.faults (under.reads ++ reading.reads) → IsReaderOf (state_of k) r
+    (under : IsUnderway b old.past k r body) (hit : is_some r.table ≡ true) (some : 1 ≤ r.next) (quiet : IsQuiet (state_of k)) (made : List Call) (later : new.past ≡ made ++ old.past) where
+  does_of : (a : NextPiece) (reading : ReadsOn (state_of k) old new r a into) (p : Permit) → Covers p b.past new.past → IsReaderOf (state_of k) r
       → Does p (state_of k) (ReadOn r.reader) (read_adds (state_of k) r a) Done
-  does_of a reading p covers own = reading.does p (covers_last p b.faults old.faults new.faults under.reads reading.reads under.since covers) own
+  does_of a reading p covers own = reading.does p (covers_last p b.past old.past new.past under.made under.since covers) own
 
   pub piece_comes : (index size : ℕ) (r2 : Reader) → k2 ≡ with_records k (read_adds (state_of k) r (piece.Piece index size)) → ReadsOn (state_of k) old new r (piece.Piece index size) into
-      → GoesOn r (piece.Piece index size) r2 → (IsReaderOf (state_of k) r → IsReaderOf (state_of k2) r2) → IsUnderway b new.faults k2 r2 (body ++ take size into)
+      → GoesOn r (piece.Piece index size) r2 → (IsReaderOf (state_of k) r → IsReaderOf (state_of k2) r2) → IsUnderway b new.past k2 r2 (body ++ take size into)
   piece_comes index size r2 is reading goes keeps = record {
-    reads = under.reads ++ reading.reads;
-    since = let s : b.faults ≤ old.faults = under.since in omega (arith, s, rises);
+    made = made ++ under.made;
+    since = later ∙ (ap (λ calls. made ++ calls) under.since ∙ sym (append_assoc made under.made b.past));
     does = λ p run covers told own.
-        elim (under.does p run (covers_first p b.faults old.faults new.faults under.reads reading.reads rises covers) told own) [
+        elim (under.does p run (covers_first p b.past old.past new.past made later covers) told own) [
           | inl way ↦ piece_way owns own_bytes given_all p b run k k2 r body way hit some index size into r2 is (does_of (piece.Piece index size) reading p covers way.reader) goes (keeps way.reader)
-              (reading.gives p (covers_last p b.faults old.faults new.faults under.reads reading.reads under.since covers))
+              (reading.gives p (covers_last p b.past old.past new.past under.made under.since covers))
           | inr shows ↦ inr shows
         ];
   }
 
   pub end_comes : (size : ℕ) → k2 ≡ with_records k (read_adds (state_of k) r (piece.End size)) → ReadsOn (state_of k) old new r (piece.End size) into
-      → IsAnswered b new.faults k2 (StopReading r.reader ∷ []) body (answer.Got r.put size body)
+      → IsAnswered b new.past k2 (StopReading r.reader ∷ []) body (answer.Got r.put size body)
   end_comes size is reading = record {
-    reads = under.reads ++ reading.reads;
     does = λ p run covers told own.
-        elim (under.does p run (covers_first p b.faults old.faults new.faults under.reads reading.reads rises covers) told own) [
+        elim (under.does p run (covers_first p b.past old.past new.past made later covers) told own) [
           | inl way ↦ inl (end_way owns own_bytes given_all p b run k k2 r body way hit some size quiet is (does_of (piece.End size) reading p covers way.reader))
           | inr shows ↦ inr shows
         ];
   }
 
   pub broken_comes : (why : Cause) → k2 ≡ with_records k (read_adds (state_of k) r (piece.Broken why)) → ReadsOn (state_of k) old new r (piece.Broken why) into
-      → IsAnswered b new.faults k2 (StopReading r.reader ∷ []) [] (broken_said why)
+      → IsAnswered b new.past k2 (StopReading r.reader ∷ []) [] (broken_said why)
   broken_comes why is reading = record {
-    reads = under.reads ++ reading.reads;
     does = λ p run covers told own.
-        elim (under.does p run (covers_first p b.faults old.faults new.faults under.reads reading.reads rises covers) told own) [
+        elim (under.does p run (covers_first p b.past old.past new.past made later covers) told own) [
           | inl way ↦ inl (broken_way owns own_bytes given_all p b run k k2 r body way hit some why is (does_of (piece.Broken why) reading p covers way.reader))
           | inr shows ↦ inr shows
         ];
   }
 
-  pub waits_comes : (cut : ℕ) → ReadsOn (state_of k) old new r (piece.NotYet cut) into → IsAnswered b new.faults k2 (StopReading r.reader ∷ []) [] (answer.Follow r.put)
+  pub waits_comes : (cut : ℕ) → ReadsOn (state_of k) old new r (piece.NotYet cut) into → IsAnswered b new.past k2 (StopReading r.reader ∷ []) [] (answer.Follow r.put)
   waits_comes cut reading = record {
-    reads = under.reads ++ reading.reads;
     does = λ p run covers told own.
-        elim (under.does p run (covers_first p b.faults old.faults new.faults under.reads reading.reads rises covers) told own) [
+        elim (under.does p run (covers_first p b.past old.past new.past made later covers) told own) [
           | inl way ↦ waits_way owns own_bytes given_all p b run k k2 r body way hit some cut (does_of (piece.NotYet cut) reading p covers way.reader)
           | inr shows ↦ inr shows
         ];
   }
 
 pub fragment_of : (s : State) (old new : Device) (r : Reader) (index size : ℕ) (into : List ℕ) (reading : ReadsOn s old new r (piece.Piece index size) into)
-    → IsFragment (call_permit 0 old.faults new.faults reading.reads) s r index size into
-fragment_of s old new r index size into reading = reading.gives (call_permit 0 old.faults new.faults reading.reads) (call_covered 0 old.faults new.faults reading.reads)
+    → IsFragment (own_permit 0 old.past new.past) s r index size into
+fragment_of s old new r index size into reading = reading.gives (own_permit 0 old.past new.past) (own_covers 0 old.past new.past)
 
 pub size_within : (s : State) (old new : Device) (r : Reader) (index size : ℕ) (into : List ℕ) → ReadsOn s old new r (piece.Piece index size) into → size ≤ length into
 size_within s old new r index size into reading =
@@ -408,12 +406,11 @@ nearer s old new r r2 index size into reading goes hit some =
     omega (arith, cut, next, rows, some)
 
 -- a reader is closed behind its answer
-pub closed_comes : (b : Began) (old now n : ℕ) (k k2 : Kept) (given : List ℕ) (said : StepAnswer) → old ≤ now → k2 ≡ with_records k (rec.ReadClosed n ∷ [])
+pub closed_comes : (b : Began) (old now : List Call) (n : ℕ) (k k2 : Kept) (given : List ℕ) (said : StepAnswer) (made : List Call) → now ≡ made ++ old → k2 ≡ with_records k (rec.ReadClosed n ∷ [])
     → ((p : Permit) → Does p (state_of k) (StopReading n) (rec.ReadClosed n ∷ []) Done) → IsAnswered b old k (StopReading n ∷ []) given said → IsAnswered b now k2 [] given said
-closed_comes b old now n k k2 given said le is does answered = record {
-  reads = answered.reads;
+closed_comes b old now n k k2 given said made later is does answered = record {
   does = λ p run covers told own.
-      elim (answered.does p run (let u : now ≤ p.faults = covers.upto in record { plain = covers.plain; from = covers.from; upto = omega (arith, u, le); knows = covers.knows }) told own) [
+      elim (answered.does p run (covers_first p b.past old now made later covers) told own) [
         | inl a ↦ inl (record {
           added = a.added ++ rec.ReadClosed n ∷ [];
           adds = then_more b.kept k k2 a.added (rec.ReadClosed n ∷ []) a.adds is;
@@ -426,7 +423,7 @@ closed_comes b old now n k k2 given said le is does answered = record {
 }
 
 -- the same of the reader and the answer under other names
-pub answered_as : (b : Began) (now : ℕ) (k : Kept) (n m : ℕ) (given : List ℕ) (said other : StepAnswer) → n ≡ m → said ≡ other → IsAnswered b now k (StopReading n ∷ []) given said
+pub answered_as : (b : Began) (now : List Call) (k : Kept) (n m : ℕ) (given : List ℕ) (said other : StepAnswer) → n ≡ m → said ≡ other → IsAnswered b now k (StopReading n ∷ []) given said
     → IsAnswered b now k (StopReading m ∷ []) given other
 answered_as b now k n m given said other same is h =
     subst (λ x. IsAnswered b now k (StopReading m ∷ []) given x) is (subst (λ i. IsAnswered b now k (StopReading i ∷ []) given said) same h)

@@ -1,6 +1,7 @@
 -- What a line asks of a writer, and what it leaves of it.
 use Rattle.std.proofs.Common.{◌≡◌, ℕ, List, [], ◌∷◌, drop, refl, sym, ◌∙◌, ap, subst, Bool, true, false, inl, append-nil}
-use Rattle.std.specs.Prelude.{Option, Some, None, IfSome, if◌then◌else◌, option_and_then, option_map, unwrap_or}
+use Rattle.std.specs.Prelude.{Option, Some, None, Result, Ok, Err, IfSome, if◌then◌else◌, option_and_then, option_map, unwrap_or}
+use Rattle.device_log.specs.Calls.{Call}
 use Rattle.tape_base.specs.declared.keys.Key.{Key}
 use Rattle.fragment_table.specs.Table.{TableRow, total_length}
 use Rattle.cache_model.specs.declared.record.Rec.{Rec}
@@ -12,6 +13,7 @@ use Rattle.cache_model.specs.Permit.{Done, End, Fails, GiveUp, Intent, Permit, R
 use Rattle.cache_model.specs.Legal.{Does, IsQuiet, IsStep, MayGrow, is_writing}
 use Rattle.model_laws.specs.StepLaws.{WriterIsEnded}
 use Rattle.cache_model.proofs.Steps.{grows_by}
+use Rattle.stripe_core.specs.declared.refusal.Refusal.{Refusal}
 use Rattle.stripe_write.specs.declared.writer.Writer.{Writer}
 use Rattle.stripe_write.specs.Writers.{IsWriterOf}
 use Rattle.stripe_write.specs.Writes.{AbortsAsAsked, AbortsWhere, abort_adds}
@@ -23,7 +25,10 @@ use Rattle.script_lang.specs.declared.answer.StepAnswer.TheVariants as answer
 use Rattle.script_run.specs.Run.{Run, Writes, gathered_of, put_in, writer_of}
 use Rattle.script_run.specs.Behind.{still_open}
 use Rattle.cache_replay.specs.WriterLines.{GivesUp, IsPlayed, WriterDoes, writes_in}
-use Rattle.cache_replay.proofs.Calls.{call_permit}
+use Rattle.cache_model.specs.Given.{effects_in, effects_told}
+use Rattle.stripe_core.specs.Faults.{IsAccounted}
+use Rattle.stripe_core.proofs.Between.{accounted_is}
+use Rattle.stripe_core.proofs.Covering.{own_permit}
 use Rattle.cache_replay.proofs.Endings.{key_of}
 
 -- ---- the put of an actor
@@ -50,37 +55,48 @@ gathered_at run name s w played writing own =
 ended_at : (t : State) (put : ℕ) → is_writing t put ≡ false → still_open t (Some (Writes put)) ≡ None
 ended_at t put none = ap (λ (b : Bool). if b then Some (Writes put) else None) none
 
-gives_up : (law : WriterIsEnded) (old new : Kept) (w : Writer) (put : ℕ) → IsQuiet (state_of new) → new ≡ with_records old (rec.Aborted put w.key ∷ []) → put ≡ w.put
-    → ((p : Permit) → Does p (state_of old) (GiveUp w.put) (rec.Aborted put w.key ∷ []) Done) → (now : ℕ) → WriterDoes now (state_of old) (state_of new) GivesUp w None (Some (answer.Aborted put))
-gives_up law old new w put quiet adds is does now = λ run name moment played.
+gives_up : (law : WriterIsEnded) (before after : List Call) (old new : Kept) (w : Writer) (put : ℕ) → IsAccounted before after old new → IsQuiet (state_of new) → new ≡ with_records old (rec.Aborted put w.key ∷ []) → put ≡ w.put
+    → ((p : Permit) → Does p (state_of old) (GiveUp w.put) (rec.Aborted put w.key ∷ []) Done) → (now : ℕ) → WriterDoes now before after (state_of old) (state_of new) GivesUp w None (Some (answer.Aborted put))
+gives_up law before after old new w put accounted quiet adds is does now = λ run name moment played.
     let s : State = state_of old in
     let t : State = state_of new in
-    let p : Permit = call_permit run.now 0 0 [] in
+    let p : Permit = own_permit run.now before after in
     let added : List Rec = rec.Aborted put w.key ∷ [] in
     let there = state_behind old new added adds in
-    let legal : IsStep p s (GiveUp w.put ∷ []) added None = record { grows = grows_by p s (to_do (GiveUp w.put ∷ [])) (record { intents = []; refused = None }) added (Done, does p, refl); quiet = subst IsQuiet there quiet } in
+    let legal : IsStep p s (GiveUp w.put ∷ []) added None = record {
+      grows = grows_by p s (to_do (GiveUp w.put ∷ [])) (record { intents = []; refused = None }) added (Done, does p, refl);
+      quiet = subst IsQuiet there quiet;
+      effects = accounted_is before after old new added accounted adds;
+    } in
     let has = has_put run name s w played in
     inl (record {
       turn = record { added = added; refused = None; device = p; given = [] };
       takes = record {
         plain = refl;
+        content = refl;
         moment = refl;
         legal = subst (λ (asks : List Intent). IsStep p s asks added None) (sym (ap (λ o. Rattle.script_run.specs.Asked.if_has o (λ n. GiveUp n ∷ [])) has)) legal;
         own = refl;
       };
+      calls = refl;
       state = there;
       held = ap (still_open t) played.held ∙ ended_at t w.put (ap (λ x. is_writing x w.put) there ∙ law p s (GiveUp w.put ∷ []) added None w.put refl legal);
       stream = tt;
       says = ap (λ o. Rattle.script_run.specs.Answers.if_has o answer.Aborted) has ∙ ap answer.Aborted (sym is);
     })
 
-pub aborted : (law : WriterIsEnded) (old new : Kept) (w : Writer) (put : ℕ) → IsQuiet (state_of new) → new ≡ with_records old (abort_adds w.key (Rattle.std.specs.Prelude.Ok put))
-    → AbortsWhere (state_of old) w.put (Rattle.std.specs.Prelude.Ok put) → AbortsAsAsked (state_of old) w.put w.key (Rattle.std.specs.Prelude.Ok put)
-    → (now : ℕ) → WriterDoes now (state_of old) (state_of new) GivesUp w None (Some (answer.Aborted put))
-aborted law old new w put quiet adds where_ does = gives_up law old new w put quiet adds where_.0 does
+pub aborted : (law : WriterIsEnded) (before after : List Call) (old new : Kept) (w : Writer) (put : ℕ) → IsAccounted before after old new → IsQuiet (state_of new) → new ≡ with_records old (abort_adds w.key (Ok put))
+    → AbortsWhere (state_of old) w.put (Ok put) → AbortsAsAsked (state_of old) w.put w.key (Ok put)
+    → (now : ℕ) → WriterDoes now before after (state_of old) (state_of new) GivesUp w None (Some (answer.Aborted put))
+aborted law before after old new w put accounted quiet adds where_ does = gives_up law before after old new w put accounted quiet adds where_.0 does
 
 pub owns_abort : (old new : Kept) (w : Writer) (put : ℕ) → put ≡ w.put → new ≡ with_records old (rec.Aborted put w.key ∷ []) → AddsOfPut w.put old new
 owns_abort old new w put is adds = record { added = rec.Aborted put w.key ∷ []; adds = adds; own = (is, tt) }
+
+-- a call that gives a put up, or finds that it is not open
+pub owns_end : (old new : Kept) (put : ℕ) (key : Key) (end : Result ℕ Refusal) → new ≡ with_records old (abort_adds key end) → AbortsWhere (state_of old) put end → AddsOfPut put old new
+owns_end old new put key (Ok number) adds where_ = record { added = rec.Aborted number key ∷ []; adds = adds; own = (where_.0, tt) }
+owns_end old new put key (Err why) adds where_ = record { added = []; adds = adds; own = tt }
 
 -- ---- a writer that is left where its put is open
 
@@ -125,8 +141,8 @@ reason_of Done = None
 reason_of (Fails reason) = Some reason
 
 -- a whole step
-pub whole_step : (p : Permit) (s : State) (asks : List Intent) (added : List Rec) (e : End) → SpendsAll p s asks added e → IsQuiet (after_all s added) → IsStep p s asks added (reason_of e)
-whole_step p s asks added e spends quiet = record { grows = by e spends; quiet = quiet }
+pub whole_step : (p : Permit) (s : State) (asks : List Intent) (added : List Rec) (e : End) → SpendsAll p s asks added e → IsQuiet (after_all s added) → effects_told added ≡ effects_in p.events → IsStep p s asks added (reason_of e)
+whole_step p s asks added e spends quiet effects = record { grows = by e spends; quiet = quiet; effects = effects }
   where
     by : (e : End) → SpendsAll p s asks added e → MayGrow p s (to_do asks) added (record { intents = []; refused = reason_of e })
     by Stays h = subst (λ (is : List Intent). MayGrow p s (to_do is) added (record { intents = []; refused = None })) (append-nil asks) (h [] None)

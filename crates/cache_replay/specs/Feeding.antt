@@ -1,11 +1,12 @@
 -- What a writer that is fed does, and how far it comes.
 use Rattle.std.specs.Prelude.{ℕ, ◌≡◌, ◌+◌, ◌-◌, ◌≤◌, true, false, List, ◌++◌, length, take, drop, Option, Some, None}
+use Rattle.device_log.specs.Calls.{Call}
 use Rattle.fragment_table.specs.Table.{total_length}
 use Rattle.cache_model.specs.declared.record.Rec.{Rec}
 use Rattle.cache_model.specs.State.{State}
 use Rattle.cache_model.specs.Kept.{Kept, state_of, with_records}
 use Rattle.cache_model.specs.Verdict.{cuts_of}
-use Rattle.cache_model.specs.Permit.{DeviceRead, Done, End, Exhausted, Fails, Faulted, ManyFragments, Permit, Stays}
+use Rattle.cache_model.specs.Permit.{Done, End, Exhausted, Fails, Faulted, ManyFragments, Permit, Stays}
 use Rattle.cache_model.specs.Legal.{is_writing}
 use Rattle.stripe_core.specs.declared.refusal.Refusal.{Refusal}
 use Rattle.stripe_core.specs.declared.refusal.Refusal.TheVariants as refusal
@@ -30,15 +31,14 @@ pub record Feeds (p : Permit) (old new : Kept) (w : Writer) (bytes : List ℕ) (
   pub adds : new ≡ with_records old added
   pub does : SpendsAll p (state_of old) (feed_intents (state_of old).geometry.fragment w.put (length w.table.rows) (w.gathered.items ++ bytes)) added (feed_end w.put why)
 
--- a writer that is not sealed is fed at a moment: what the device gave, and what came of it in any step at
+-- a writer that is not sealed is fed at a moment, between two moments of the device's log: what came of it in any step at
 -- that moment that covers the call
-pub record FeedsAsAsked (now before after : ℕ) (old new : Kept) (w : Writer) (bytes : List ℕ) (why : Option Refusal) : Type 0 where
+pub record FeedsAsAsked (now : ℕ) (before after : List Call) (old new : Kept) (w : Writer) (bytes : List ℕ) (why : Option Refusal) : Type 0 where
   pub open_still : w.sealed ≡ false
-  pub reads : List DeviceRead
-  pub does : (p : Permit) → p.now ≡ now → Covers p before after reads → Feeds p old new w bytes why
+  pub does : (p : Permit) → p.now ≡ now → Covers p before after → Feeds p old new w bytes why
 
 -- which answers may come of the writer of an open put; of want of memory nothing is said
-abbrev pub FeedsWhere : (now before after : ℕ) → (old new : Kept) → Writer → List ℕ → Option Refusal → Type 0
+abbrev pub FeedsWhere : (now : ℕ) (before after : List Call) → (old new : Kept) → Writer → List ℕ → Option Refusal → Type 0
 FeedsWhere now before after old new w bytes (Some (refusal.Memory e)) = Unit {0}
 FeedsWhere now before after old new w bytes (Some refusal.Sealed) = (w.sealed ≡ true) × (new ≡ old)
 FeedsWhere now before after old new w bytes (Some refusal.TooManyWriters) = ⊥

@@ -1,15 +1,16 @@
 -- What a whole read does in one line.
-use Rattle.std.specs.Prelude.{ℕ, ◌≡◌, ◌+◌, ◌-◌, ◌*◌, ◌<◌, ◌≤◌, ◌⊎◌, List, [], ◌∷◌, length, take, Option, Some, None, unwrap_or}
+use Rattle.std.specs.Prelude.{ℕ, ◌≡◌, ◌+◌, ◌-◌, ◌*◌, ◌<◌, ◌⊎◌, List, [], ◌∷◌, ◌++◌, length, take, Option, Some, unwrap_or}
+use Rattle.device_log.specs.Calls.{Call}
 use Rattle.tape_base.specs.declared.keys.Key.{Key}
 use Rattle.alternate_vector.specs.Field.{Field}
 use Rattle.cache_model.specs.declared.answer.ReadAnswer.TheVariants as read
 use Rattle.cache_model.specs.declared.record.Rec.{Rec}
 use Rattle.cache_model.specs.State.{State, after_all}
 use Rattle.cache_model.specs.Kept.{Kept, state_of, with_records}
-use Rattle.cache_model.specs.Permit.{DeviceRead, Intent, Permit, ReadAll, StopReading, to_do}
-use Rattle.cache_model.specs.Legal.{IsStep, MayGrow}
+use Rattle.cache_model.specs.Permit.{Intent, Permit, ReadAll, StopReading, to_do}
+use Rattle.cache_model.specs.Legal.{MayGrow}
 use Rattle.cache_model.specs.Vectors.{AreTold}
-use Rattle.stripe_core.specs.Covers.{Covers}
+use Rattle.stripe_core.specs.Covers.{Covers, calls_since}
 use Rattle.stripe_read.specs.declared.reader.Reader.{Reader}
 use Rattle.stripe_read.specs.declared.reading.NextPiece.{NextPiece}
 use Rattle.stripe_read.specs.declared.reading.NextPiece.TheVariants as piece
@@ -53,26 +54,25 @@ count_in_piece _ = 0
 
 -- ---- a whole read
 
--- a step of a legal history with this answer, and the body is what the put's writer took
+-- all that was asked was done, by groups of records as of a legal history, with this answer, and the body is what the
+-- put's writer took
 pub record Gets (p : Permit) (old new : Kept) (run : Run) (key : Key) (request : List Field) (got : Got) : Type 0 where
   pub added : List Rec
   pub adds : new ≡ with_records old added
-  pub step : IsStep p (state_of old) (get_intents (state_of old) key request) added None
+  pub grows : MayGrow p (state_of old) (to_do (get_intents (state_of old) key request)) added (to_do [])
   pub body : IsBody run (given_in got) (told_in added) (lookup_in added)
   pub says : get_said (given_in got) (told_in added) (lookup_in added) ≡ got_answer got
 
--- what was read, and what came of it in any step that covers the call; or two documents of one SHA-256
--- are shown
-pub record GetsAsAsked (before after : ℕ) (old new : Kept) (key : Key) (request : List Field) (got : Got) : Type 0 where
-  pub reads : List DeviceRead
-  pub does : (p : Permit) (run : Run) → Covers p before after reads → AreTold (state_of old) → AreOwn (state_of old) run.streams
+-- what came of it in any step that covers the call; or two documents of one SHA-256 are shown
+pub record GetsAsAsked (before after : List Call) (old new : Kept) (key : Key) (request : List Field) (got : Got) : Type 0 where
+  pub does : (p : Permit) (run : Run) → Covers p before after → AreTold (state_of old) → AreOwn (state_of old) run.streams
       → Gets p old new run key request got ⊎ Shows (IsPlacedAs run.streams) p (state_of old) (get_intents (state_of old) key request)
 
 -- ---- on the way through it
 
--- where it began: the device's count, the records, and what was asked
+-- where it began: the device's log, the records, and what was asked
 pub record Began : Type 0 where
-  pub faults : ℕ
+  pub past : List Call
   pub kept : Kept
   pub asks : List Intent
 
@@ -87,10 +87,10 @@ pub record Underway (p : Permit) (b : Began) (new : Kept) (run : Run) (r : Reade
   pub front : body ≡ take ((r.next - 1) * (state_of new).geometry.fragment) (run.streams r.put).bytes
 
 -- so it is in any step that covers the calls until then; or two documents of one SHA-256 are shown
-pub record IsUnderway (b : Began) (now : ℕ) (new : Kept) (r : Reader) (body : List ℕ) : Type 0 where
-  pub reads : List DeviceRead
-  pub since : b.faults ≤ now
-  pub does : (p : Permit) (run : Run) → Covers p b.faults now reads → AreTold (state_of b.kept) → AreOwn (state_of b.kept) run.streams
+pub record IsUnderway (b : Began) (now : List Call) (new : Kept) (r : Reader) (body : List ℕ) : Type 0 where
+  pub made : List Call
+  pub since : now ≡ made ++ b.past
+  pub does : (p : Permit) (run : Run) → Covers p b.past now → AreTold (state_of b.kept) → AreOwn (state_of b.kept) run.streams
       → Underway p b new run r body ⊎ Shows (IsPlacedAs run.streams) p (state_of b.kept) b.asks
 
 -- this is answered, with these bytes, and so much is left to be done
@@ -102,15 +102,14 @@ pub record Answered (p : Permit) (b : Began) (new : Kept) (run : Run) (left : Li
   pub says : get_said given (told_in added) (lookup_in added) ≡ said
 
 -- so it is in any step that covers the calls; or two documents of one SHA-256 are shown
-pub record IsAnswered (b : Began) (now : ℕ) (new : Kept) (left : List Intent) (given : List ℕ) (said : StepAnswer) : Type 0 where
-  pub reads : List DeviceRead
-  pub does : (p : Permit) (run : Run) → Covers p b.faults now reads → AreTold (state_of b.kept) → AreOwn (state_of b.kept) run.streams
+pub record IsAnswered (b : Began) (now : List Call) (new : Kept) (left : List Intent) (given : List ℕ) (said : StepAnswer) : Type 0 where
+  pub does : (p : Permit) (run : Run) → Covers p b.past now → AreTold (state_of b.kept) → AreOwn (state_of b.kept) run.streams
       → Answered p b new run left given said ⊎ Shows (IsPlacedAs run.streams) p (state_of b.kept) b.asks
 
 -- ---- one fragment after the other
 
 -- what comes of the next one, by what the reader was told; none that hit something waits
-abbrev pub ComesOf : Began → ℕ → Kept → ℕ → Reader → List ℕ → NextPiece → Type 0
+abbrev pub ComesOf : Began → List Call → Kept → ℕ → Reader → List ℕ → NextPiece → Type 0
 ComesOf b now new put r body (piece.Piece index size) = IsUnderway b now new r body
 ComesOf b now new put r body (piece.End size) = IsAnswered b now new (StopReading r.reader ∷ []) body (answer.Got put size body)
 ComesOf b now new put r body (piece.NotYet cut) = IsAnswered b now new (StopReading r.reader ∷ []) [] (answer.Follow put)
@@ -127,13 +126,14 @@ IsNearer old _ new = Unit {0}
 
 -- ---- the line
 
--- it did what it must, and this is its answer
-pub record LineGets (run : Run) (s t : State) (key : Key) (request : List Field) (slots : ℕ → Option Holding) (said : StepAnswer) : Type 0 where
+-- it did what it must, by the calls of the device between two moments of its log, and this is its answer
+pub record LineGets (run : Run) (before after : List Call) (s t : State) (key : Key) (request : List Field) (slots : ℕ → Option Holding) (said : StepAnswer) : Type 0 where
   pub turn : Turn
   pub takes : SessionTakes run s turn (step.Get key request)
+  pub calls : turn.device.events ≡ calls_since before after
   pub plays : PlaysIn (in_session run s (after_all s turn.added) turn (step.Get key request)) t slots
   pub says : session_said run s (after_all s turn.added) turn (step.Get key request) ≡ said
 
 -- so it is, or two documents of one SHA-256 are shown
-abbrev pub LineEnds : Run → (s t : State) → Key → List Field → (ℕ → Option Holding) → StepAnswer → Type 0
-LineEnds run s t key request slots said = LineGets run s t key request slots said ⊎ ShowsAt (IsPlacedAs run.streams) run.now s (get_intents s key request)
+abbrev pub LineEnds : Run → (before after : List Call) → (s t : State) → Key → List Field → (ℕ → Option Holding) → StepAnswer → Type 0
+LineEnds run before after s t key request slots said = LineGets run before after s t key request slots said ⊎ ShowsAt (IsPlacedAs run.streams) run.now s (get_intents s key request)

@@ -1,6 +1,6 @@
 -- What the answers of a run tell of its devices, whatever its records are worth: whether a session stands, which
 -- devices were given back, and up to which count their faults were told.
-use Rattle.std.specs.Prelude.{ℕ, ◌≡◌, max, List, [], ◌∷◌, ◌++◌, IsSome, Option, Some, None, option_map, ⊤}
+use Rattle.std.specs.Prelude.{ℕ, ◌≡◌, max, false, List, [], ◌∷◌, ◌++◌, IsSome, Option, Some, None, option_map, ⊤}
 use Rattle.tape_base.specs.declared.geometries.BadGeometry.{BadGeometry}
 use Rattle.tape_base.specs.Limits.{first_refusal}
 use Rattle.cache_model.specs.declared.cause.Cause.{Cause}
@@ -13,7 +13,7 @@ use Rattle.script_lang.specs.declared.answer.Refused.{Refused}
 use Rattle.script_lang.specs.declared.answer.Refused.TheVariants as refused
 use Rattle.script_lang.specs.declared.answer.StepAnswer.{StepAnswer}
 use Rattle.script_lang.specs.declared.answer.StepAnswer.TheVariants as answer
-use Rattle.script_run.specs.Run.{Harm, Run, no_harm}
+use Rattle.script_run.specs.Run.{Harm, Run, loosened, no_harm}
 use Rattle.script_run.specs.Answers.{number_of_bad}
 use Rattle.script_run.specs.Behind.{harm_in}
 use Rattle.cache_replay.specs.Stop.{NeedsSession}
@@ -58,13 +58,13 @@ pub record Outline : Type 0 where
 abbrev pub blank : Outline
 blank = record { session = None; ended = []; names = [] }
 
--- what a run tells of its devices
+-- what a run tells of its devices, of which that of the session may make more calls then
 abbrev pub outline_in : Run → Outline
-outline_in run = record { session = option_map harm_in run.state; ended = run.ended; names = run.names }
+outline_in run = record { session = option_map (λ s. loosened (harm_in run.calls s)) run.state; ended = run.ended; names = run.names }
 
--- a count that is told raises what was told; of damage it tells nothing
+-- a count that is told raises what was told; of damage it tells nothing, nor of the calls that were made meanwhile
 abbrev pub raised : ℕ → Harm → Harm
-raised count harm = record { fault = max count harm.fault; damaged = harm.damaged }
+raised count harm = record { fault = max count harm.fault; damaged = harm.damaged; calls = harm.calls; whole = false }
 
 -- of the device of a session, where there is one
 abbrev pub told_of : Option Harm → List Harm
@@ -78,7 +78,7 @@ all_told o = o.ended ++ told_of o.session
 -- a format whose numbers are accepted ends the session before it, and begins one on the device of its name
 abbrev pub begun : Outline → List ℕ → Option BadGeometry → Outline
 begun o name (Some bad) = o
-begun o name None = record { session = Some no_harm; ended = all_told o; names = o.names ++ name ∷ [] }
+begun o name None = record { session = Some (loosened no_harm); ended = all_told o; names = o.names ++ name ∷ [] }
 
 -- no other step ends a session, or begins one
 abbrev pub begun_by : Outline → Step → Outline

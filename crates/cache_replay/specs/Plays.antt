@@ -1,11 +1,12 @@
 -- What a session is for the run that it serves, and what a line makes of it.
-use Rattle.std.specs.Prelude.{ℕ, ◌≡◌, ◌≤◌, ◌⊎◌, List, [], ◌∷◌, ◌++◌, length, drop, Option, Some, None}
+use Rattle.std.specs.Prelude.{ℕ, ◌≡◌, ◌≤◌, ◌⊎◌, List, [], ◌∷◌, ◌++◌, length, drop, map, Option, Some, None}
 use Rattle.logged_disk.specs.declared.device.Disk.{Ghosts as DiskGhosts}
 use Rattle.dir_table.specs.declared.directory.Directory.{Ghosts as DirectoryGhosts}
 use Rattle.cache_chronicle.specs.declared.chronicle.Chronicle.{Ghosts as ChronicleGhosts}
 use Rattle.fragment_table.specs.Table.{total_length}
 use Rattle.cache_model.specs.State.{State, after_all}
 use Rattle.cache_model.specs.Vectors.{AreTold}
+use Rattle.stripe_core.specs.Covers.{calls_since}
 use Rattle.stripe_core.specs.Stripe.{seen_in, state_in}
 use Rattle.stripe_core.specs.Unharmed.{IsUnharmed}
 use Rattle.stripe_write.specs.declared.writer.Writer.{Writer}
@@ -14,7 +15,7 @@ use Rattle.actor_table.specs.Table.{Seen}
 use Rattle.script_lang.specs.declared.step.Step.{Step}
 use Rattle.script_lang.specs.declared.answer.StepAnswer.{StepAnswer}
 use Rattle.script_run.specs.Ledger.{AreReached, Deals, Ledger}
-use Rattle.script_run.specs.Run.{Harm, Run, Stream, Writes, Reads, no_harm}
+use Rattle.script_run.specs.Run.{Harm, Run, Stream, Writes, Reads, loosened, no_harm}
 use Rattle.script_run.specs.Turn.{Turn}
 use Rattle.script_run.specs.Answers.{session_said, step_answer}
 use Rattle.script_run.specs.Behind.{after_step, harm_of, in_session}
@@ -29,7 +30,7 @@ use Rattle.cache_replay.specs.declared.stop.Stop.TheVariants.{Memory}
 use Rattle.cache_replay.specs.Stop.{AttachesAs}
 use Rattle.cache_replay.specs.Outline.{IsAnswered, Outline, outline_after, told_of}
 use Rattle.cache_replay.specs.Shown.{ShowsIn}
-use Rattle.cache_replay.specs.Session.{IsSession, names_in, return_of, slots_in, slots_of}
+use Rattle.cache_replay.specs.Session.{IsSession, names_in, past_of, return_of, slots_in, slots_of}
 
 -- ---- a session beside a run
 
@@ -68,6 +69,11 @@ module _ {D R C : Type 0} (disk : DiskGhosts D) (directory : DirectoryGhosts R) 
   IsUnharmedAt None = Unit {0}
   IsUnharmedAt (Some part) = IsUnharmed (seen_in disk directory part.stripe).device (state_in chronicle part.stripe)
 
+  -- its device made the calls of the run, and no others
+  abbrev pub CallsAt : Run → Option (Part D R C) → Type 0
+  CallsAt run None = Unit {0}
+  CallsAt run (Some part) = past_of disk directory part ≡ run.calls
+
   -- a session as the run has it, as long as no two documents of one SHA-256 were shown
   pub record Plays (run : Run) (session : Session D R C) : Type 0 where
     pub names : run.actors ≡ names_in session
@@ -75,10 +81,12 @@ module _ {D R C : Type 0} (disk : DiskGhosts D) (directory : DirectoryGhosts R) 
     pub at : PlaysAt run session.part (slots_in session)
     -- of a device that tells its content no piece was told as damaged
     pub unharmed : IsUnharmedAt session.part
+    -- all calls of its device are those of the lines since its attach
+    pub calls : CallsAt run session.part
 
   -- its device is as it was told
   abbrev pub HasReached : Run → Session D R C → Type 0
-  HasReached run session = AreReached (harm_of run.state) (return_of disk directory chronicle session.part)
+  HasReached run session = AreReached (harm_of run.calls run.state) (return_of disk directory chronicle session.part)
 
   -- a session as the run has it has a device that is as it was told
   abbrev pub PlaysReach : Type 0
@@ -99,22 +107,23 @@ module _ {D R C : Type 0} (disk : DiskGhosts D) (directory : DirectoryGhosts R) 
 
 -- ---- a line on a part
 
-module _ {D R C : Type 0} (chronicle : ChronicleGhosts C) where
-  -- a part and the actors as the run has them
-  pub record PlaysPart (run : Run) (part : Part D R C) (actors : Seen Holding) : Type 0 where
-    pub names : run.actors ≡ actors.names
-    pub at : PlaysIn run (state_in chronicle part.stripe) (slots_of actors)
+-- a part and the actors as the run has them
+pub record PlaysPart {D R C : Type 0} (chronicle : ChronicleGhosts C) (run : Run) (part : Part D R C) (actors : Seen Holding) : Type 0 where
+  pub names : run.actors ≡ actors.names
+  pub at : PlaysIn run (state_in chronicle part.stripe) (slots_of actors)
 
-  -- a line on a session with these records did what it must, and this is its answer
-  pub record PartMoves (run : Run) (s : State) (step : Step) (part : Part D R C) (actors : Seen Holding) (said : StepAnswer) : Type 0 where
+module _ {D R C : Type 0} (disk : DiskGhosts D) (directory : DirectoryGhosts R) (chronicle : ChronicleGhosts C) where
+  -- a line on a session did what it must, by the calls that its device made meanwhile, and this is its answer
+  pub record PartMoves (run : Run) (old : Part D R C) (step : Step) (part : Part D R C) (actors : Seen Holding) (said : StepAnswer) : Type 0 where
     pub turn : Turn
-    pub takes : SessionTakes run s turn step
-    pub plays : PlaysPart (in_session run s (after_all s turn.added) turn step) part actors
-    pub says : session_said run s (after_all s turn.added) turn step ≡ said
+    pub takes : SessionTakes run (state_in chronicle old.stripe) turn step
+    pub calls : turn.device.events ≡ calls_since (past_of disk directory old) (past_of disk directory part)
+    pub plays : PlaysPart chronicle (in_session run (state_in chronicle old.stripe) (after_all (state_in chronicle old.stripe) turn.added) turn step) part actors
+    pub says : session_said run (state_in chronicle old.stripe) (after_all (state_in chronicle old.stripe) turn.added) turn step ≡ said
 
   -- so it is, or two documents of one SHA-256 are shown
-  abbrev pub PartEnds : Run → State → Step → Part D R C → Seen Holding → StepAnswer → Type 0
-  PartEnds run s step part actors said = PartMoves run s step part actors said ⊎ ShowsIn run (Some s) step
+  abbrev pub PartEnds : Run → Part D R C → Step → Part D R C → Seen Holding → StepAnswer → Type 0
+  PartEnds run old step part actors said = PartMoves run old step part actors said ⊎ ShowsIn run (Some (state_in chronicle old.stripe)) step
 
 -- ---- devices
 
@@ -134,6 +143,11 @@ DeviceEnds disk directory chronicle run step new said before now =
 
 -- ---- whatever the records are worth
 
+-- what was told of a device stands where a line ended the run, but for want of memory that line may have made calls
+abbrev pub left_by : Stop → List Harm → List Harm
+left_by Memory harms = map loosened harms
+left_by _ harms = harms
+
 module _ {D R C : Type 0} (disk : DiskGhosts D) (directory : DirectoryGhosts R) (chronicle : ChronicleGhosts C) where
   -- an outline has a session where there is one, of whose device no count above its own was told
   abbrev pub IsOutlined : Outline → Session D R C → Type 0
@@ -149,10 +163,10 @@ module _ {D R C : Type 0} (disk : DiskGhosts D) (directory : DirectoryGhosts R) 
     pub named : (outline_after o step said).names ≡ o.names ++ names
     pub deals : Deals before now harms names
 
-  -- What a line leaves that ended the run for this reason, where so much was told of the session's device: the device
-  -- and the bay as they were; or, of a format that wanted memory once its device was attached, both devices came back,
+  -- What a line leaves that ended the run for this reason, where so much was told of the session's device: the device as
+  -- it was, which may have made calls where memory was wanting, and the bay; or, of a format that wanted memory once its device was attached, both devices came back,
   -- that of the session first, and there is no session.
   pub data IsLeft (harms : List Harm) (step : Step) (new : Session D R C) (before now : Ledger) (why : Stop) : Type 0 where
-    stays : AreReached harms (return_of disk directory chronicle new.part) → now ≡ before → IsLeft harms step new before now why
+    stays : AreReached (left_by why harms) (return_of disk directory chronicle new.part) → now ≡ before → IsLeft harms step new before now why
     ended : (name : List ℕ) → AttachesAs name step → new.part ≡ None → Deals before now (harms ++ no_harm ∷ []) (name ∷ []) → why ≡ Memory
         → IsLeft harms step new before now why

@@ -1,12 +1,13 @@
 -- What a whole put does in one line.
 use Rattle.std.specs.Prelude.{ℕ, ◌≡◌, ◌⊎◌, ◌++◌, false, List, [], ◌∷◌, filter, Option, Some, None, Result, Ok, Err}
+use Rattle.device_log.specs.Calls.{Call}
 use Rattle.tape_base.specs.declared.keys.Key.{Key}
 use Rattle.alternate_vector.specs.Field.{Field}
 use Rattle.cache_model.specs.declared.record.Rec.{Rec}
 use Rattle.cache_model.specs.State.{State}
 use Rattle.cache_model.specs.Kept.{Kept, state_of, with_records}
-use Rattle.cache_model.specs.Permit.{DeviceRead, GiveUp, Intent, Lost, Permit, Reason, Work, is_cleanup, to_do}
-use Rattle.cache_model.specs.Legal.{IsStep, MayGrow, is_writing}
+use Rattle.cache_model.specs.Permit.{GiveUp, Intent, Lost, Permit, Reason, Work, is_cleanup, to_do}
+use Rattle.cache_model.specs.Legal.{MayGrow, is_writing}
 use Rattle.cache_model.specs.Vectors.{AreTold, IsVectorAs}
 use Rattle.stripe_core.specs.declared.refusal.Refusal.{Refusal}
 use Rattle.stripe_core.specs.declared.refusal.Refusal.TheVariants as refusal
@@ -67,15 +68,14 @@ pub record Fills (p : Permit) (old new : Kept) (w : Writer) (body : List ℕ) (r
   pub says : said (state_of new) None why (put_said (state_of new) w.put) ≡ receipt_answer result
   pub over : IsOver (state_of new) w.put why
 
--- what the device gave, and what came of it in any step at that moment that covers the call; or whatever
--- is asked behind it, two documents of one SHA-256 are shown
-pub record FillsAsAsked (now before after : ℕ) (old new : Kept) (w : Writer) (body : List ℕ) (result : Result Receipt Refusal) : Type 0 where
-  pub reads : List DeviceRead
-  pub does : (p : Permit) → p.now ≡ now → Covers p before after reads → AreTold (state_of old) → (rest : List Intent)
+-- what came of it in any step at that moment that covers the call; or whatever is asked behind it, two documents of one
+-- SHA-256 are shown
+pub record FillsAsAsked (now : ℕ) (before after : List Call) (old new : Kept) (w : Writer) (body : List ℕ) (result : Result Receipt Refusal) : Type 0 where
+  pub does : (p : Permit) → p.now ≡ now → Covers p before after → AreTold (state_of old) → (rest : List Intent)
       → Fills p old new w body result ⊎ Shows IsVectorAs p (state_of old) (body_intents (state_of old).geometry.fragment w.put body ++ rest)
 
 -- where memory is wanting nothing is said
-abbrev pub FillsWhere : (now before after : ℕ) → (old new : Kept) → Writer → List ℕ → Result Receipt Refusal → Type 0
+abbrev pub FillsWhere : (now : ℕ) (before after : List Call) → (old new : Kept) → Writer → List ℕ → Result Receipt Refusal → Type 0
 FillsWhere now before after old new w body (Err (refusal.Memory e)) = Unit {0}
 FillsWhere now before after old new w body result = FillsAsAsked now before after old new w body result
 
@@ -94,13 +94,12 @@ pub record BodyEnds (p : Permit) (old new : Kept) (put : ℕ) (body : List ℕ) 
   pub says : said (state_of new) None why (put_said (state_of new) put) ≡ receipt_answer result
 
 -- so it is in any step at that moment that covers the call; or two documents of one SHA-256 are shown
-pub record BodyEndsAsAsked (now before after : ℕ) (old new : Kept) (put : ℕ) (body : List ℕ) (result : Result Receipt Refusal) : Type 0 where
-  pub reads : List DeviceRead
-  pub does : (p : Permit) → p.now ≡ now → Covers p before after reads → AreTold (state_of old)
+pub record BodyEndsAsAsked (now : ℕ) (before after : List Call) (old new : Kept) (put : ℕ) (body : List ℕ) (result : Result Receipt Refusal) : Type 0 where
+  pub does : (p : Permit) → p.now ≡ now → Covers p before after → AreTold (state_of old)
       → BodyEnds p old new put body result ⊎ Shows IsVectorAs p (state_of old) (ending_intents (state_of old) put body)
 
 -- where memory is wanting nothing is said
-abbrev pub BodyEndsWhere : (now before after : ℕ) → (old new : Kept) → ℕ → List ℕ → Result Receipt Refusal → Type 0
+abbrev pub BodyEndsWhere : (now : ℕ) (before after : List Call) → (old new : Kept) → ℕ → List ℕ → Result Receipt Refusal → Type 0
 BodyEndsWhere now before after old new put body (Err (refusal.Memory e)) = Unit {0}
 BodyEndsWhere now before after old new put body result = BodyEndsAsAsked now before after old new put body result
 
@@ -111,22 +110,20 @@ unless_memory end result = result
 
 -- ---- a whole put
 
--- a step of a legal history, with this answer
+-- all that was asked was done or refused, by groups of records as of a legal history, with this answer
 pub record Puts (p : Permit) (old new : Kept) (key : Key) (body : List ℕ) (request response : List Field) (result : Result Receipt Refusal) : Type 0 where
   pub added : List Rec
   pub why : Option Reason
   pub adds : new ≡ with_records old added
-  pub step : IsStep p (state_of old) (put_intents (state_of old) key body request response) added why
+  pub grows : MayGrow p (state_of old) (to_do (put_intents (state_of old) key body request response)) added (record { intents = []; refused = why })
   pub says : said (state_of new) None why (put_said (state_of new) (state_of old).next_put) ≡ receipt_answer result
 
--- what the device gave, and what came of it in any step at that moment that covers the call; or two
--- documents of one SHA-256 are shown
-pub record PutsAsAsked (now before after : ℕ) (old new : Kept) (key : Key) (body : List ℕ) (request response : List Field) (result : Result Receipt Refusal) : Type 0 where
-  pub reads : List DeviceRead
-  pub does : (p : Permit) → p.now ≡ now → Covers p before after reads → AreTold (state_of old)
+-- what came of it in any step at that moment that covers the call; or two documents of one SHA-256 are shown
+pub record PutsAsAsked (now : ℕ) (before after : List Call) (old new : Kept) (key : Key) (body : List ℕ) (request response : List Field) (result : Result Receipt Refusal) : Type 0 where
+  pub does : (p : Permit) → p.now ≡ now → Covers p before after → AreTold (state_of old)
       → Puts p old new key body request response result ⊎ Shows IsVectorAs p (state_of old) (put_intents (state_of old) key body request response)
 
 -- where memory is wanting nothing is said
-abbrev pub PutsWhere : (now before after : ℕ) → (old new : Kept) → Key → List ℕ → (request response : List Field) → Result Receipt Refusal → Type 0
+abbrev pub PutsWhere : (now : ℕ) (before after : List Call) → (old new : Kept) → Key → List ℕ → (request response : List Field) → Result Receipt Refusal → Type 0
 PutsWhere now before after old new key body request response (Err (refusal.Memory e)) = Unit {0}
 PutsWhere now before after old new key body request response result = PutsAsAsked now before after old new key body request response result

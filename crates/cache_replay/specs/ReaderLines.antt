@@ -1,9 +1,12 @@
 -- What the lines of readers make of a part, and of what the actors have.
 use Rattle.std.specs.Prelude.{ℕ, ◌≡◌, ◌⊎◌, ◌≤◌, false, List, [], ◌∷◌, length, take, Option, Some, None, option_map}
+use Rattle.device_log.specs.Calls.{Call}
 use Rattle.cache_model.specs.declared.record.Rec.{Rec}
 use Rattle.cache_model.specs.State.{State, after_all}
 use Rattle.cache_model.specs.Permit.{Done, Permit, ReadOn}
 use Rattle.cache_model.specs.Legal.{Does}
+use Rattle.cache_model.specs.Given.{effects_in, effects_told}
+use Rattle.stripe_core.specs.Covers.{calls_since}
 use Rattle.stripe_read.specs.declared.reader.Reader.{Reader}
 use Rattle.stripe_read.specs.declared.opening.Opened.{Opened}
 use Rattle.stripe_read.specs.declared.opening.Opened.TheVariants as opened
@@ -67,13 +70,17 @@ IsWithin _ into = Unit {0}
 
 -- ---- a reader that reads on
 
--- its records are a step of a legal history, and what it is given is what was put
-pub record NextMoves (run : Run) (s t : State) (r new : Reader) (said : StepAnswer) : Type 0 where
+-- its records are a step of a legal history by the calls of the device between two moments of its log, and what it is
+-- given is what was put
+pub record NextMoves (run : Run) (before after : List Call) (s t : State) (r new : Reader) (said : StepAnswer) : Type 0 where
   pub device : Permit
   pub added : List Rec
   pub given : List ℕ
   pub plain : device.packed ≡ false
   pub moment : device.now ≡ run.now
+  pub content : device.area ≡ 0
+  pub calls : device.events ≡ calls_since before after
+  pub effects : effects_told added ≡ effects_in device.events
   pub behind : t ≡ after_all s added
   pub does : Does device s (ReadOn r.reader) added Done
   pub own : IsPiece run s r.reader given (told_in added)
@@ -81,5 +88,5 @@ pub record NextMoves (run : Run) (s t : State) (r new : Reader) (said : StepAnsw
   pub keeps : IsReaderOf t new
 
 -- or two documents of one SHA-256 are shown
-abbrev pub NextEnds : Run → (s t : State) → (r new : Reader) → StepAnswer → Type 0
-NextEnds run s t r new said = NextMoves run s t r new said ⊎ ShowsAt (IsPlacedAs run.streams) run.now s (ReadOn r.reader ∷ [])
+abbrev pub NextEnds : Run → (before after : List Call) → (s t : State) → (r new : Reader) → StepAnswer → Type 0
+NextEnds run before after s t r new said = NextMoves run before after s t r new said ⊎ ShowsAt (IsPlacedAs run.streams) run.now s (ReadOn r.reader ∷ [])

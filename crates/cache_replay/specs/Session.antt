@@ -1,6 +1,7 @@
 -- What holds of a session between lines, whatever its device gave.
 use Rattle.std.specs.Prelude.{ℕ, ◌≡◌, ◌*◌, ◌≤◌, ⊤, true, List, [], ◌∷◌, length, Option, Some, None, IfSome}
 use Rattle.tape_base.specs.Geometry.{budget_of}
+use Rattle.device_log.specs.Calls.{Call}
 use Rattle.logged_disk.specs.Device.{State as Device, IsAfter}
 use Rattle.logged_disk.specs.declared.device.Disk.{Ghosts as DiskGhosts}
 use Rattle.dir_table.specs.declared.directory.Directory.{Ghosts as DirectoryGhosts}
@@ -62,6 +63,10 @@ parts_of (Some x) = 1
 -- how many devices a session has: that of its part, once a format began one
 abbrev pub devices_of : {D R C : Type 0} → Session D R C → ℕ
 devices_of session = parts_of session.part
+
+-- the calls that the device of a part made since its attach, the newest first
+abbrev pub past_of : {D R C : Type 0} → DiskGhosts D → DirectoryGhosts R → Part D R C → List Call
+past_of disk directory part = (seen_in disk directory part.stripe).device.past
 
 module _ {D R C : Type 0} (disk : DiskGhosts D) (directory : DirectoryGhosts R) (chronicle : ChronicleGhosts C) where
   -- its stripe, none of whose pieces was lost by a fault of the device, and a page that takes any piece

@@ -13,11 +13,13 @@ use Rattle.script_run.specs.Takes.{StepShows}
 abbrev pub Shows : Documents → Permit → State → List Intent → Type 0
 Shows IsPlaced p s asks = (added : List Rec) × ShowsPair IsPlaced p s asks added
 
--- the same in some step at a moment, with a directory that displaces nothing
+-- the same in some step at a moment, with a directory that displaces nothing, on a device whose content area begins at the
+-- first block
 pub record ShowsAt (IsPlaced : Documents) (now : ℕ) (s : State) (asks : List Intent) : Type 0 where
   pub device : Permit
   pub plain : device.packed ≡ false
   pub moment : device.now ≡ now
+  pub content : device.area ≡ 0
   pub shows : Shows IsPlaced device s asks
 
 -- a step of a script shows one in its turn

@@ -1,10 +1,12 @@
 -- What a line makes of an actor's writer.
 use Rattle.std.specs.Prelude.{ℕ, ◌≡◌, ◌==◌, ◌⊎◌, true, if◌then◌else◌, List, Option, Some, None, IfSome, Result, Ok, Err}
+use Rattle.device_log.specs.Calls.{Call}
 use Rattle.tape_base.specs.declared.keys.Key.{Key}
 use Rattle.alternate_vector.specs.Field.{Field}
 use Rattle.cache_model.specs.State.{State, after_all}
 use Rattle.cache_model.specs.Vectors.{AreTold}
 use Rattle.cache_model.specs.Legal.{is_writing}
+use Rattle.stripe_core.specs.Covers.{calls_since}
 use Rattle.stripe_core.specs.declared.refusal.Refusal.{Refusal}
 use Rattle.stripe_core.specs.declared.refusal.Refusal.TheVariants as refusal
 use Rattle.stripe_write.specs.declared.finishing.Receipt.{Receipt}
@@ -85,28 +87,30 @@ abbrev pub IsLeft : State → ℕ → Option Writer → Type 0
 IsLeft t put None = Unit {0}
 IsLeft t put (Some w) = (w.put ≡ put) × (is_writing t put ≡ true) × IsWriterOf t w
 
--- a line did what it must: this writer is left, and this is its answer
-pub record WriterMoves (run : Run) (name : List ℕ) (s t : State) (line : WriterLine) (left : Option Writer) (said : StepAnswer) : Type 0 where
+-- a line did what it must, by the calls of the device between two moments of its log: this writer is left, and this is
+-- its answer
+pub record WriterMoves (run : Run) (name : List ℕ) (before after : List Call) (s t : State) (line : WriterLine) (left : Option Writer) (said : StepAnswer) : Type 0 where
   pub turn : Turn
   pub takes : SessionTakes run s turn (step_of line name)
+  pub calls : turn.device.events ≡ calls_since before after
   pub state : t ≡ after_all s turn.added
   pub held : holds_behind run s t (step_of line name) name ≡ writes_in left
   pub stream : IfSome left (λ v. IsStreamOf (streams_behind run s t turn (step_of line name) v.put) v)
   pub says : session_said run s t turn (step_of line name) ≡ said
 
 -- so it is, or two documents of one SHA-256 are shown
-abbrev pub WriterEnds : Run → List ℕ → State → State → WriterLine → Option Writer → StepAnswer → Type 0
-WriterEnds run name s t line left said = WriterMoves run name s t line left said ⊎ ShowsIn run (Some s) (step_of line name)
+abbrev pub WriterEnds : Run → List ℕ → (before after : List Call) → State → State → WriterLine → Option Writer → StepAnswer → Type 0
+WriterEnds run name before after s t line left said = WriterMoves run name before after s t line left said ⊎ ShowsIn run (Some s) (step_of line name)
 
 -- at a moment; where memory is wanting nothing is answered
-abbrev pub WriterDoes : ℕ → State → State → WriterLine → Writer → Option Writer → Option StepAnswer → Type 0
-WriterDoes now s t line w left None = Unit {0}
-WriterDoes now s t line w left (Some said) = (run : Run) (name : List ℕ) → run.now ≡ now → IsPlayed run name s w → WriterEnds run name s t line left said
+abbrev pub WriterDoes : ℕ → (before after : List Call) → State → State → WriterLine → Writer → Option Writer → Option StepAnswer → Type 0
+WriterDoes now before after s t line w left None = Unit {0}
+WriterDoes now before after s t line w left (Some said) = (run : Run) (name : List ℕ) → run.now ≡ now → IsPlayed run name s w → WriterEnds run name before after s t line left said
 
 -- the same, at any moment, of a line that asks for a writer, of an actor that has nothing
-abbrev pub OpenDoes : State → State → ℕ → WriterLine → Option Writer → Option StepAnswer → Type 0
-OpenDoes s t n line left None = Unit {0}
-OpenDoes s t n line left (Some said) = (run : Run) (name : List ℕ) → held_by run name ≡ None → n ≡ number_of run.actors name → WriterMoves run name s t line left said
+abbrev pub OpenDoes : (before after : List Call) → State → State → ℕ → WriterLine → Option Writer → Option StepAnswer → Type 0
+OpenDoes before after s t n line left None = Unit {0}
+OpenDoes before after s t n line left (Some said) = (run : Run) (name : List ℕ) → held_by run name ≡ None → n ≡ number_of run.actors name → WriterMoves run name before after s t line left said
 
 -- what came of a writer that was closed
 abbrev pub closed_answer : Result Receipt Refusal → Option StepAnswer

@@ -50,8 +50,8 @@ pub fn begin<D: Disk>(alloc: Global) -> Cache<D>
     }
 }
 
-/// A session's device has counted as far as the run was told, and where it tells its content no piece was told
-/// as damaged.
+/// A session's device has counted as far as the run was told, its calls are those of the lines since its attach, and
+/// where it tells its content no piece was told as damaged.
 pub fn plays_reach<D: Disk, R: Directory + Drop, C: Chronicle>()
     ensures { PlaysReach D.Disk R.Directory C.Chronicle }
 {}

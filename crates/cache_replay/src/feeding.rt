@@ -1,10 +1,11 @@
 // Writers are fed: bytes are given until all are taken or the writer is refused.
-ghost use Rattle.std.specs.Prelude.{◌≡◌, ◌≤◌, true, length};
+ghost use Rattle.std.specs.Prelude.{◌≡◌, ◌≤◌, true, length, IfSome};
 ghost use Rattle.cache_model.specs.Legal.{IsQuiet, is_writing};
 ghost use Rattle.stripe_core.specs.Stripe.{IsStripe, kept_in, seen_in, state_in};
 ghost use Rattle.stripe_core.specs.Between.{Between};
 ghost use Rattle.stripe_write.specs.Others.{AddsOfPut};
 ghost use Rattle.stripe_write.specs.Writers.{IsWriterOf};
+ghost use Rattle.cache_replay.specs.Outline.{count_of_refusal};
 ghost use Rattle.cache_replay.specs.Feeding.{FeedsWhere, IsCutWhere, IsFed, IsOpenBehind, taken_of};
 
 use cache_chronicle::Chronicle;
@@ -34,8 +35,9 @@ pub(crate) fn feed<D: Disk, R: Directory + Drop, C: Chronicle>(
     ensures stripe { IsStripe D.Disk R.Directory C.Chronicle stripe.new }
     ensures quiet { IsQuiet (state_in C.Chronicle stripe.new) }
     ensures writer { IsWriterOf (state_in C.Chronicle stripe.new) writer.new }
-    ensures feeds { FeedsWhere now (seen_in D.Disk R.Directory stripe.old).device.faults (seen_in D.Disk R.Directory stripe.new).device.faults
+    ensures feeds { FeedsWhere now (seen_in D.Disk R.Directory stripe.old).device.past (seen_in D.Disk R.Directory stripe.new).device.past
         (kept_in C.Chronicle stripe.old) (kept_in C.Chronicle stripe.new) writer.old bytes.now result.refused }
+    ensures counts { IfSome result.refused (λ why. count_of_refusal why ≤ (seen_in D.Disk R.Directory stripe.new).device.faults) }
     ensures most { result.taken ≤ length bytes.now }
     ensures taken { result.taken ≡ taken_of (state_in C.Chronicle stripe.new) writer.old bytes.now result.refused }
     ensures fed { IsFed writer.old bytes.now result.taken writer.new }

@@ -8,6 +8,7 @@ ghost use Rattle.cache_model.specs.Vectors.{AreTold};
 ghost use Rattle.logged_disk.specs.Device.{IsAfter};
 ghost use Rattle.stripe_core.specs.Stripe.{IsStripe, kept_in, seen_in, state_in};
 ghost use Rattle.stripe_core.specs.Between.{Between};
+ghost use Rattle.stripe_core.specs.Faults.{IsAccounted};
 ghost use Rattle.stripe_read.specs.Readers.{IsOpenReader};
 ghost use Rattle.script_lang.specs.declared.answer.StepAnswer.{StepAnswer};
 ghost use Rattle.script_lang.specs.declared.step.Step.TheVariants as step;
@@ -18,7 +19,7 @@ ghost use Rattle.script_run.specs.Own.{AreOwn, IsPlacedAs};
 ghost use Rattle.cache_replay.specs.declared.session.Holding.{Holding};
 ghost use Rattle.cache_replay.specs.Outline.{count_in};
 ghost use Rattle.cache_replay.specs.Shown.{ShowsAt};
-ghost use Rattle.cache_replay.specs.Session.{AreHeld, AreLater, IsActive, IsPart, IsSession, LeavesBut, TellsCount, devices_of, names_in, return_of};
+ghost use Rattle.cache_replay.specs.Session.{AreHeld, AreLater, IsActive, IsPart, IsSession, LeavesBut, TellsCount, devices_of, names_in, past_of, return_of};
 ghost use Rattle.cache_replay.specs.Plays.{Plays, PlaysIn, StepEnds};
 ghost use Rattle.cache_replay.specs.Stop.{IsSessionStop};
 ghost use Rattle.cache_replay.specs.Getting.{Began, ComesOf, GetsAsAsked, IsAnswered, IsNearer, IsUnderway, LineEnds, count_in_piece, given_in, got_answer};
@@ -67,7 +68,7 @@ pub(crate) fn get<D: Disk, R: Directory + Drop, C: Chronicle>(
     requires page { length page.old ≡ 512 * budget_of (state_in C.Chronicle stripe.old).geometry }
     ensures stripe { IsStripe D.Disk R.Directory C.Chronicle stripe.new }
     ensures quiet { IsQuiet (state_in C.Chronicle stripe.new) }
-    ensures gets { IfOk result (GetsAsAsked (seen_in D.Disk R.Directory stripe.old).device.faults (seen_in D.Disk R.Directory stripe.new).device.faults
+    ensures gets { IfOk result (GetsAsAsked (seen_in D.Disk R.Directory stripe.old).device.past (seen_in D.Disk R.Directory stripe.new).device.past
         (kept_in C.Chronicle stripe.old) (kept_in C.Chronicle stripe.new) key request) }
     ensures leaves { LeavesBut None (Some (state_in C.Chronicle stripe.old).next_reader) (state_in C.Chronicle stripe.old) (state_in C.Chronicle stripe.new) }
     ensures counts { IfOk result (λ got. NoLossIsAFault (state_in C.Chronicle stripe.old)
@@ -76,6 +77,7 @@ pub(crate) fn get<D: Disk, R: Directory + Drop, C: Chronicle>(
     ensures unharmed { (run : Run) → AreTold (state_in C.Chronicle stripe.old) → AreOwn (state_in C.Chronicle stripe.old) run.streams
         → Between D.Disk R.Directory C.Chronicle stripe.old stripe.new ⊎ ShowsAt (IsPlacedAs run.streams) run.now (state_in C.Chronicle stripe.old) (get_intents (state_in C.Chronicle stripe.old) key request) }
     ensures goes { IsAfter (seen_in D.Disk R.Directory stripe.old).device (seen_in D.Disk R.Directory stripe.new).device }
+    ensures accounted { IsAccounted (seen_in D.Disk R.Directory stripe.old).device.past (seen_in D.Disk R.Directory stripe.new).device.past (kept_in C.Chronicle stripe.old) (kept_in C.Chronicle stripe.new) }
 {
     reads_own();
     match open_read(stripe, Actor(0), key, request)? {
@@ -104,15 +106,16 @@ fn read_whole<D: Disk, R: Directory + Drop, C: Chronicle>(
     requires page { length page.old ≡ 512 * budget_of (state_in C.Chronicle stripe.old).geometry }
     ensures stripe { IsStripe D.Disk R.Directory C.Chronicle stripe.new }
     ensures quiet { IsQuiet (state_in C.Chronicle stripe.new) }
-    ensures answers { IfOk result (λ got. (b : Began) → IsUnderway b (seen_in D.Disk R.Directory stripe.old).device.faults (kept_in C.Chronicle stripe.old) reader []
-        → IsAnswered b (seen_in D.Disk R.Directory stripe.new).device.faults (kept_in C.Chronicle stripe.new) [] (given_in got) (got_answer got)) }
+    ensures answers { IfOk result (λ got. (b : Began) → IsUnderway b (seen_in D.Disk R.Directory stripe.old).device.past (kept_in C.Chronicle stripe.old) reader []
+        → IsAnswered b (seen_in D.Disk R.Directory stripe.new).device.past (kept_in C.Chronicle stripe.new) [] (given_in got) (got_answer got)) }
     ensures leaves { LeavesBut None (Some reader.reader) (state_in C.Chronicle stripe.old) (state_in C.Chronicle stripe.new) }
     ensures counts { IfOk result (λ got. NoLossIsAFault (state_in C.Chronicle stripe.old)
         → count_in (got_answer got) ≤ (seen_in D.Disk R.Directory stripe.new).device.faults) }
     ensures later { (seen_in D.Disk R.Directory stripe.old).device.faults ≤ (seen_in D.Disk R.Directory stripe.new).device.faults }
-    ensures unharmed { (b : Began) (run : Run) → IsUnderway b (seen_in D.Disk R.Directory stripe.old).device.faults (kept_in C.Chronicle stripe.old) reader []
+    ensures unharmed { (b : Began) (run : Run) → IsUnderway b (seen_in D.Disk R.Directory stripe.old).device.past (kept_in C.Chronicle stripe.old) reader []
         → AreTold (state_of b.kept) → AreOwn (state_of b.kept) run.streams → Between D.Disk R.Directory C.Chronicle stripe.old stripe.new ⊎ ShowsAt (IsPlacedAs run.streams) run.now (state_of b.kept) b.asks }
     ensures goes { IsAfter (seen_in D.Disk R.Directory stripe.old).device (seen_in D.Disk R.Directory stripe.new).device }
+    ensures accounted { IsAccounted (seen_in D.Disk R.Directory stripe.old).device.past (seen_in D.Disk R.Directory stripe.new).device.past (kept_in C.Chronicle stripe.old) (kept_in C.Chronicle stripe.new) }
 {
     let mut reader = reader;
     match read_to_end(alloc, stripe, page, &mut reader, put) {
@@ -142,15 +145,16 @@ fn read_to_end<D: Disk, R: Directory + Drop, C: Chronicle>(
     ensures quiet { IsQuiet (state_in C.Chronicle stripe.new) }
     ensures reader { IsOpenReader (state_in C.Chronicle stripe.new) reader.new }
     ensures number { reader.new.reader ≡ reader.old.reader }
-    ensures answers { IfOk result (λ got. (b : Began) → IsUnderway b (seen_in D.Disk R.Directory stripe.old).device.faults (kept_in C.Chronicle stripe.old) reader.old []
-        → IsAnswered b (seen_in D.Disk R.Directory stripe.new).device.faults (kept_in C.Chronicle stripe.new) (StopReading reader.old.reader ∷ []) (given_in got) (got_answer got)) }
+    ensures answers { IfOk result (λ got. (b : Began) → IsUnderway b (seen_in D.Disk R.Directory stripe.old).device.past (kept_in C.Chronicle stripe.old) reader.old []
+        → IsAnswered b (seen_in D.Disk R.Directory stripe.new).device.past (kept_in C.Chronicle stripe.new) (StopReading reader.old.reader ∷ []) (given_in got) (got_answer got)) }
     ensures leaves { LeavesBut None (Some reader.old.reader) (state_in C.Chronicle stripe.old) (state_in C.Chronicle stripe.new) }
     ensures counts { IfOk result (λ got. NoLossIsAFault (state_in C.Chronicle stripe.old)
         → count_in (got_answer got) ≤ (seen_in D.Disk R.Directory stripe.new).device.faults) }
     ensures later { (seen_in D.Disk R.Directory stripe.old).device.faults ≤ (seen_in D.Disk R.Directory stripe.new).device.faults }
-    ensures unharmed { (b : Began) (run : Run) → IsUnderway b (seen_in D.Disk R.Directory stripe.old).device.faults (kept_in C.Chronicle stripe.old) reader.old []
+    ensures unharmed { (b : Began) (run : Run) → IsUnderway b (seen_in D.Disk R.Directory stripe.old).device.past (kept_in C.Chronicle stripe.old) reader.old []
         → AreTold (state_of b.kept) → AreOwn (state_of b.kept) run.streams → Between D.Disk R.Directory C.Chronicle stripe.old stripe.new ⊎ ShowsAt (IsPlacedAs run.streams) run.now (state_of b.kept) b.asks }
     ensures goes { IsAfter (seen_in D.Disk R.Directory stripe.old).device (seen_in D.Disk R.Directory stripe.new).device }
+    ensures accounted { IsAccounted (seen_in D.Disk R.Directory stripe.old).device.past (seen_in D.Disk R.Directory stripe.new).device.past (kept_in C.Chronicle stripe.old) (kept_in C.Chronicle stripe.new) }
 {
     let mut body = Vec::new(alloc);
     loop {
@@ -181,16 +185,17 @@ fn read_more<D: Disk, R: Directory + Drop, C: Chronicle>(
     ensures number { reader.new.reader ≡ reader.old.reader }
     ensures put { reader.new.put ≡ reader.old.put }
     ensures table { reader.new.table ≡ reader.old.table }
-    ensures comes { IfOk result (λ next. (b : Began) → IsUnderway b (seen_in D.Disk R.Directory stripe.old).device.faults (kept_in C.Chronicle stripe.old) reader.old body.old.items
-        → ComesOf b (seen_in D.Disk R.Directory stripe.new).device.faults (kept_in C.Chronicle stripe.new) reader.old.put reader.new body.new.items next) }
+    ensures comes { IfOk result (λ next. (b : Began) → IsUnderway b (seen_in D.Disk R.Directory stripe.old).device.past (kept_in C.Chronicle stripe.old) reader.old body.old.items
+        → ComesOf b (seen_in D.Disk R.Directory stripe.new).device.past (kept_in C.Chronicle stripe.new) reader.old.put reader.new body.new.items next) }
     ensures nearer { IfOk result (λ next. IsNearer reader.old next reader.new) }
     ensures leaves { LeavesBut None (Some reader.old.reader) (state_in C.Chronicle stripe.old) (state_in C.Chronicle stripe.new) }
     ensures counts { IfOk result (λ next. NoLossIsAFault (state_in C.Chronicle stripe.old)
         → count_in_piece next ≤ (seen_in D.Disk R.Directory stripe.new).device.faults) }
     ensures later { (seen_in D.Disk R.Directory stripe.old).device.faults ≤ (seen_in D.Disk R.Directory stripe.new).device.faults }
-    ensures unharmed { (b : Began) (run : Run) → IsUnderway b (seen_in D.Disk R.Directory stripe.old).device.faults (kept_in C.Chronicle stripe.old) reader.old body.old.items
+    ensures unharmed { (b : Began) (run : Run) → IsUnderway b (seen_in D.Disk R.Directory stripe.old).device.past (kept_in C.Chronicle stripe.old) reader.old body.old.items
         → AreTold (state_of b.kept) → AreOwn (state_of b.kept) run.streams → Between D.Disk R.Directory C.Chronicle stripe.old stripe.new ⊎ ShowsAt (IsPlacedAs run.streams) run.now (state_of b.kept) b.asks }
     ensures goes { IsAfter (seen_in D.Disk R.Directory stripe.old).device (seen_in D.Disk R.Directory stripe.new).device }
+    ensures accounted { IsAccounted (seen_in D.Disk R.Directory stripe.old).device.past (seen_in D.Disk R.Directory stripe.new).device.past (kept_in C.Chronicle stripe.old) (kept_in C.Chronicle stripe.new) }
 {
     read_is_own();
     other_shows();
@@ -218,8 +223,8 @@ fn close<D: Disk, R: Directory + Drop, C: Chronicle>(
     ensures stripe { IsStripe D.Disk R.Directory C.Chronicle stripe.new }
     ensures quiet { IsQuiet (state_in C.Chronicle stripe.new) }
     ensures answers { OnOk result ((b : Began) (given : List ℕ) (said : StepAnswer)
-        → IsAnswered b (seen_in D.Disk R.Directory stripe.old).device.faults (kept_in C.Chronicle stripe.old) (StopReading reader.reader ∷ []) given said
-        → IsAnswered b (seen_in D.Disk R.Directory stripe.new).device.faults (kept_in C.Chronicle stripe.new) [] given said) }
+        → IsAnswered b (seen_in D.Disk R.Directory stripe.old).device.past (kept_in C.Chronicle stripe.old) (StopReading reader.reader ∷ []) given said
+        → IsAnswered b (seen_in D.Disk R.Directory stripe.new).device.past (kept_in C.Chronicle stripe.new) [] given said) }
     ensures leaves { LeavesBut None (Some reader.reader) (state_in C.Chronicle stripe.old) (state_in C.Chronicle stripe.new) }
     ensures later { (seen_in D.Disk R.Directory stripe.old).device.faults ≤ (seen_in D.Disk R.Directory stripe.new).device.faults }
     ensures unharmed { Between D.Disk R.Directory C.Chronicle stripe.old stripe.new }
@@ -266,7 +271,7 @@ fn get_in_part<D: Disk, R: Directory + Drop, C: Chronicle>(
     ensures active { (slots : ℕ → Option Holding) → IsActive D.Disk R.Directory C.Chronicle part.old slots → IsActive D.Disk R.Directory C.Chronicle part.new slots }
     ensures ends { IfOk result (λ said. (run : Run) (slots : ℕ → Option Holding) → AreHeld (state_in C.Chronicle part.old.stripe) slots
         → PlaysIn run (state_in C.Chronicle part.old.stripe) slots
-        → LineEnds run (state_in C.Chronicle part.old.stripe) (state_in C.Chronicle part.new.stripe) key request slots said) }
+        → LineEnds run (past_of D.Disk R.Directory part.old) (past_of D.Disk R.Directory part.new) (state_in C.Chronicle part.old.stripe) (state_in C.Chronicle part.new.stripe) key request slots said) }
     ensures counts { IfOk result (TellsCount D.Disk R.Directory C.Chronicle (Some part.new)) }
     ensures later { (seen_in D.Disk R.Directory part.old.stripe).device.faults ≤ (seen_in D.Disk R.Directory part.new.stripe).device.faults }
     ensures unharmed { (run : Run) → AreTold (state_in C.Chronicle part.old.stripe) → AreOwn (state_in C.Chronicle part.old.stripe) run.streams

@@ -4,7 +4,7 @@ ghost use Rattle.script_lang.specs.declared.step.Step.TheVariants as step;
 ghost use Rattle.stripe_core.specs.Stripe.{seen_in, state_in};
 ghost use Rattle.stripe_core.specs.Between.{Between};
 ghost use Rattle.script_run.specs.Run.{Run};
-ghost use Rattle.cache_replay.specs.Session.{AreLater, IsPart, IsSession, LeavesBut, TellsCount, devices_of, names_in, return_of};
+ghost use Rattle.cache_replay.specs.Session.{AreLater, IsPart, IsSession, LeavesBut, TellsCount, devices_of, names_in, past_of, return_of};
 ghost use Rattle.cache_replay.specs.Plays.{Plays, StepEnds};
 ghost use Rattle.cache_replay.specs.Plain.{Plainly, flush_refused};
 ghost use Rattle.cache_replay.specs.Stop.{IsSessionStop};
@@ -52,7 +52,7 @@ fn remove_from<D: Disk, R: Directory + Drop, C: Chronicle>(
     requires part { IsPart D.Disk R.Directory C.Chronicle part.old }
     ensures part { IsPart D.Disk R.Directory C.Chronicle part.new }
     ensures leaves { LeavesBut None None (state_in C.Chronicle part.old.stripe) (state_in C.Chronicle part.new.stripe) }
-    ensures ends { IfOk result (λ said. (run : Run) → Plainly run (step.Remove key) (state_in C.Chronicle part.old.stripe) (state_in C.Chronicle part.new.stripe) said) }
+    ensures ends { IfOk result (λ said. (run : Run) → Plainly run (step.Remove key) (past_of D.Disk R.Directory part.old) (past_of D.Disk R.Directory part.new) (state_in C.Chronicle part.old.stripe) (state_in C.Chronicle part.new.stripe) said) }
     ensures stop { IfErr result (λ stop. stop ≡ Stop.Memory) }
     ensures counts { IfOk result (TellsCount D.Disk R.Directory C.Chronicle (Some part.new)) }
     ensures later { (seen_in D.Disk R.Directory part.old.stripe).device.faults ≤ (seen_in D.Disk R.Directory part.new.stripe).device.faults }
@@ -95,7 +95,7 @@ fn flush<D: Disk, R: Directory + Drop, C: Chronicle>(
     requires part { IsPart D.Disk R.Directory C.Chronicle part.old }
     ensures part { IsPart D.Disk R.Directory C.Chronicle part.new }
     ensures leaves { LeavesBut None None (state_in C.Chronicle part.old.stripe) (state_in C.Chronicle part.new.stripe) }
-    ensures ends { IfOk result (λ said. (run : Run) → run.now ≡ now → Plainly run step.Flush (state_in C.Chronicle part.old.stripe) (state_in C.Chronicle part.new.stripe) said) }
+    ensures ends { IfOk result (λ said. (run : Run) → run.now ≡ now → Plainly run step.Flush (past_of D.Disk R.Directory part.old) (past_of D.Disk R.Directory part.new) (state_in C.Chronicle part.old.stripe) (state_in C.Chronicle part.new.stripe) said) }
     ensures stop { IfErr result (λ stop. stop ≡ Stop.Memory) }
     ensures counts { IfOk result (TellsCount D.Disk R.Directory C.Chronicle (Some part.new)) }
     ensures later { (seen_in D.Disk R.Directory part.old.stripe).device.faults ≤ (seen_in D.Disk R.Directory part.new.stripe).device.faults }

@@ -6,7 +6,7 @@ ghost use Rattle.stripe_core.specs.Between.{Between};
 ghost use Rattle.script_lang.specs.declared.step.Step.TheVariants as step;
 ghost use Rattle.script_run.specs.Run.{Run};
 ghost use Rattle.cache_replay.specs.Shown.{ShowsIn};
-ghost use Rattle.cache_replay.specs.Session.{AreLater, IsPart, IsSession, LeavesBut, TellsCount, devices_of, names_in, return_of};
+ghost use Rattle.cache_replay.specs.Session.{AreLater, IsPart, IsSession, LeavesBut, TellsCount, devices_of, names_in, past_of, return_of};
 ghost use Rattle.cache_replay.specs.Plays.{Plays, StepEnds};
 ghost use Rattle.cache_replay.specs.Plain.{Plainly};
 ghost use Rattle.cache_replay.specs.Stop.{IsSessionStop};
@@ -64,7 +64,7 @@ fn put_in<D: Disk, R: Directory + Drop, C: Chronicle>(
     ensures part { IsPart D.Disk R.Directory C.Chronicle part.new }
     ensures leaves { LeavesBut (Some (state_in C.Chronicle part.old.stripe).next_put) None (state_in C.Chronicle part.old.stripe) (state_in C.Chronicle part.new.stripe) }
     ensures ends { IfOk result (λ said. (run : Run) → run.now ≡ now → AreTold (state_in C.Chronicle part.old.stripe)
-        → Plainly run (step.Put key body.now request response) (state_in C.Chronicle part.old.stripe) (state_in C.Chronicle part.new.stripe) said
+        → Plainly run (step.Put key body.now request response) (past_of D.Disk R.Directory part.old) (past_of D.Disk R.Directory part.new) (state_in C.Chronicle part.old.stripe) (state_in C.Chronicle part.new.stripe) said
         ⊎ ShowsIn run (Some (state_in C.Chronicle part.old.stripe)) (step.Put key body.now request response)) }
     ensures stop { IfErr result (λ stop. stop ≡ Stop.Memory) }
     ensures counts { IfOk result (TellsCount D.Disk R.Directory C.Chronicle (Some part.new)) }

@@ -33,7 +33,7 @@ pub(crate) fn put<D: Disk, R: Directory + Drop, C: Chronicle>(
     requires quiet { IsQuiet (state_in C.Chronicle stripe.old) }
     ensures stripe { IsStripe D.Disk R.Directory C.Chronicle stripe.new }
     ensures quiet { IsQuiet (state_in C.Chronicle stripe.new) }
-    ensures puts { PutsWhere now (seen_in D.Disk R.Directory stripe.old).device.faults (seen_in D.Disk R.Directory stripe.new).device.faults
+    ensures puts { PutsWhere now (seen_in D.Disk R.Directory stripe.old).device.past (seen_in D.Disk R.Directory stripe.new).device.past
         (kept_in C.Chronicle stripe.old) (kept_in C.Chronicle stripe.new) key body.now request response result }
     ensures leaves { LeavesBut (Some (state_in C.Chronicle stripe.old).next_put) None (state_in C.Chronicle stripe.old) (state_in C.Chronicle stripe.new) }
     ensures counts { IfErr result (λ why. NoLossIsAFault (state_in C.Chronicle stripe.old)
@@ -65,7 +65,7 @@ fn put_open<D: Disk, R: Directory + Drop, C: Chronicle>(
     requires fresh { IsFresh writer.old }
     ensures stripe { IsStripe D.Disk R.Directory C.Chronicle stripe.new }
     ensures quiet { IsQuiet (state_in C.Chronicle stripe.new) }
-    ensures ends { BodyEndsWhere now (seen_in D.Disk R.Directory stripe.old).device.faults (seen_in D.Disk R.Directory stripe.new).device.faults
+    ensures ends { BodyEndsWhere now (seen_in D.Disk R.Directory stripe.old).device.past (seen_in D.Disk R.Directory stripe.new).device.past
         (kept_in C.Chronicle stripe.old) (kept_in C.Chronicle stripe.new) writer.old.put body.now result }
     ensures own { AddsOfPut writer.old.put (kept_in C.Chronicle stripe.old) (kept_in C.Chronicle stripe.new) }
     ensures counts { IfErr result (λ why. NoLossIsAFault (state_in C.Chronicle stripe.old)
@@ -107,7 +107,7 @@ fn fill<D: Disk, R: Directory + Drop, C: Chronicle>(
     ensures quiet { IsQuiet (state_in C.Chronicle stripe.new) }
     ensures writer { IsWriterOf (state_in C.Chronicle stripe.new) writer.new }
     ensures put { writer.new.put ≡ writer.old.put }
-    ensures fills { FillsWhere now (seen_in D.Disk R.Directory stripe.old).device.faults (seen_in D.Disk R.Directory stripe.new).device.faults
+    ensures fills { FillsWhere now (seen_in D.Disk R.Directory stripe.old).device.past (seen_in D.Disk R.Directory stripe.new).device.past
         (kept_in C.Chronicle stripe.old) (kept_in C.Chronicle stripe.new) writer.old body.now result }
     ensures own { AddsOfPut writer.old.put (kept_in C.Chronicle stripe.old) (kept_in C.Chronicle stripe.new) }
     ensures counts { IfErr result (λ why. NoLossIsAFault (state_in C.Chronicle stripe.old)

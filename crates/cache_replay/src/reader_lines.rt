@@ -15,7 +15,7 @@ ghost use Rattle.script_run.specs.Own.{AreOwn, IsPlacedAs};
 ghost use Rattle.cache_replay.specs.declared.stop.Stop.TheVariants as stop;
 ghost use Rattle.cache_replay.specs.Outline.{count_in};
 ghost use Rattle.cache_replay.specs.Shown.{ShowsAt, ShowsIn};
-ghost use Rattle.cache_replay.specs.Session.{AreLater, IsActive, IsPart, IsSession, LeavesBut, TellsCount, devices_of, names_in, return_of, slots_of};
+ghost use Rattle.cache_replay.specs.Session.{AreLater, IsActive, IsPart, IsSession, LeavesBut, TellsCount, devices_of, names_in, past_of, return_of, slots_of};
 ghost use Rattle.cache_replay.specs.Plays.{PartEnds, Plays, PlaysPart, StepEnds};
 ghost use Rattle.cache_replay.specs.Stop.{IsSessionStop};
 ghost use Rattle.cache_replay.specs.ReaderLines.{IsWithin, NextEnds, as_held, next_answer, opened_answer, reader_held, reader_opened, without_reader};
@@ -72,7 +72,7 @@ fn open_reader<D: Disk, R: Directory + Drop, C: Chronicle>(
     requires few { length actors.old.names < 2 ^ 32 - 1 }
     ensures active { IsActive D.Disk R.Directory C.Chronicle part.new (slots_of actors.new) }
     ensures ends { IfOk result (λ said. (run : Run) → PlaysPart C.Chronicle run part.old actors.old
-        → PartEnds C.Chronicle run (state_in C.Chronicle part.old.stripe) (step.OpenRead actor.now key request) part.new actors.new said) }
+        → PartEnds D.Disk R.Directory C.Chronicle run part.old (step.OpenRead actor.now key request) part.new actors.new said) }
     ensures unharmed { Between D.Disk R.Directory C.Chronicle part.old.stripe part.new.stripe }
     ensures stop { IfErr result (λ why. why ≡ stop.Memory) }
     ensures names { length actors.new.names ≤ length actors.old.names + 1 }
@@ -154,7 +154,7 @@ fn next<D: Disk, R: Directory + Drop, C: Chronicle>(
     requires few { length actors.old.names < 2 ^ 32 - 1 }
     ensures active { IsActive D.Disk R.Directory C.Chronicle part.new (slots_of actors.new) }
     ensures ends { IfOk result (λ said. (run : Run) → PlaysPart C.Chronicle run part.old actors.old
-        → PartEnds C.Chronicle run (state_in C.Chronicle part.old.stripe) (step.Next actor.now) part.new actors.new said) }
+        → PartEnds D.Disk R.Directory C.Chronicle run part.old (step.Next actor.now) part.new actors.new said) }
     ensures unharmed { (run : Run) → PlaysPart C.Chronicle run part.old actors.old
         → Between D.Disk R.Directory C.Chronicle part.old.stripe part.new.stripe ⊎ ShowsIn run (Some (state_in C.Chronicle part.old.stripe)) (step.Next actor.now) }
     ensures goes { IsAfter (seen_in D.Disk R.Directory part.old.stripe).device (seen_in D.Disk R.Directory part.new.stripe).device }
@@ -189,7 +189,7 @@ fn read_on<D: Disk, R: Directory + Drop, C: Chronicle>(
     ensures same { reader.new.reader ≡ reader.old.reader }
     ensures leaves { LeavesBut None (Some reader.old.reader) (state_in C.Chronicle part.old.stripe) (state_in C.Chronicle part.new.stripe) }
     ensures ends { IfOk result (λ said. (run : Run) → AreOwn (state_in C.Chronicle part.old.stripe) run.streams → IsReaderOf (state_in C.Chronicle part.old.stripe) reader.old
-        → NextEnds run (state_in C.Chronicle part.old.stripe) (state_in C.Chronicle part.new.stripe) reader.old reader.new said) }
+        → NextEnds run (past_of D.Disk R.Directory part.old) (past_of D.Disk R.Directory part.new) (state_in C.Chronicle part.old.stripe) (state_in C.Chronicle part.new.stripe) reader.old reader.new said) }
     ensures unharmed { (run : Run) → AreOwn (state_in C.Chronicle part.old.stripe) run.streams → IsReaderOf (state_in C.Chronicle part.old.stripe) reader.old
         → Between D.Disk R.Directory C.Chronicle part.old.stripe part.new.stripe ⊎ ShowsAt (IsPlacedAs run.streams) run.now (state_in C.Chronicle part.old.stripe) (ReadOn reader.old.reader ∷ []) }
     ensures goes { IsAfter (seen_in D.Disk R.Directory part.old.stripe).device (seen_in D.Disk R.Directory part.new.stripe).device }
@@ -216,7 +216,7 @@ fn read_to<D: Disk, R: Directory + Drop, C: Chronicle>(
     ensures same { reader.new.reader ≡ reader.old.reader }
     ensures leaves { LeavesBut None (Some reader.old.reader) (state_in C.Chronicle stripe.old) (state_in C.Chronicle stripe.new) }
     ensures ends { IfOk result (λ said. (run : Run) → AreOwn (state_in C.Chronicle stripe.old) run.streams → IsReaderOf (state_in C.Chronicle stripe.old) reader.old
-        → NextEnds run (state_in C.Chronicle stripe.old) (state_in C.Chronicle stripe.new) reader.old reader.new said) }
+        → NextEnds run (seen_in D.Disk R.Directory stripe.old).device.past (seen_in D.Disk R.Directory stripe.new).device.past (state_in C.Chronicle stripe.old) (state_in C.Chronicle stripe.new) reader.old reader.new said) }
     ensures unharmed { (run : Run) → AreOwn (state_in C.Chronicle stripe.old) run.streams → IsReaderOf (state_in C.Chronicle stripe.old) reader.old
         → Between D.Disk R.Directory C.Chronicle stripe.old stripe.new ⊎ ShowsAt (IsPlacedAs run.streams) run.now (state_in C.Chronicle stripe.old) (ReadOn reader.old.reader ∷ []) }
     ensures goes { IsAfter (seen_in D.Disk R.Directory stripe.old).device (seen_in D.Disk R.Directory stripe.new).device }
@@ -283,7 +283,7 @@ fn done<D: Disk, R: Directory + Drop, C: Chronicle>(
     requires few { length actors.old.names < 2 ^ 32 - 1 }
     ensures active { IsActive D.Disk R.Directory C.Chronicle part.new (slots_of actors.new) }
     ensures ends { IfOk result (λ said. (run : Run) → PlaysPart C.Chronicle run part.old actors.old
-        → PartEnds C.Chronicle run (state_in C.Chronicle part.old.stripe) (step.Done actor.now) part.new actors.new said) }
+        → PartEnds D.Disk R.Directory C.Chronicle run part.old (step.Done actor.now) part.new actors.new said) }
     ensures unharmed { Between D.Disk R.Directory C.Chronicle part.old.stripe part.new.stripe }
     ensures stop { IfErr result (λ why. why ≡ stop.Memory) }
     ensures names { length actors.new.names ≤ length actors.old.names + 1 }

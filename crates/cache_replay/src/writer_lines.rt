@@ -183,7 +183,7 @@ fn open_write_in<D: Disk, R: Directory + Drop, C: Chronicle>(
     requires few { length actors.old.names < 2 ^ 32 - 1 }
     ensures active { IsActive D.Disk R.Directory C.Chronicle part.new (slots_of actors.new) }
     ensures ends { IfOk result (λ said. (run : Run) → PlaysPart C.Chronicle run part.old actors.old
-        → PartEnds C.Chronicle run (state_in C.Chronicle part.old.stripe) (step.OpenWrite actor.now key pin request response) part.new actors.new said) }
+        → PartEnds D.Disk R.Directory C.Chronicle run part.old (step.OpenWrite actor.now key pin request response) part.new actors.new said) }
     ensures stop { IfErr result (λ why. why ≡ stop.Memory) }
     ensures counts { IfOk result (TellsCount D.Disk R.Directory C.Chronicle (Some part.new)) }
     ensures later { (seen_in D.Disk R.Directory part.old.stripe).device.faults ≤ (seen_in D.Disk R.Directory part.new.stripe).device.faults }
@@ -225,7 +225,7 @@ fn begin<D: Disk, R: Directory + Drop, C: Chronicle>(
     ensures unharmed { Between D.Disk R.Directory C.Chronicle stripe.old stripe.new }
     ensures own { AddsOfPut (state_in C.Chronicle stripe.old).next_put (kept_in C.Chronicle stripe.old) (kept_in C.Chronicle stripe.new) }
     ensures left { IsLeft (state_in C.Chronicle stripe.new) (state_in C.Chronicle stripe.old).next_put result.left }
-    ensures does { OpenDoes (state_in C.Chronicle stripe.old) (state_in C.Chronicle stripe.new) actor.0 (Opens key pin request response) result.left result.answer }
+    ensures does { OpenDoes (seen_in D.Disk R.Directory stripe.old).device.past (seen_in D.Disk R.Directory stripe.new).device.past (state_in C.Chronicle stripe.old) (state_in C.Chronicle stripe.new) actor.0 (Opens key pin request response) result.left result.answer }
 {
     match open_write(stripe, actor, key, request, response, pin) {
         Ok(writer) => Outcome {
@@ -275,7 +275,7 @@ fn data_in<D: Disk, R: Directory + Drop, C: Chronicle>(
     requires few { length actors.old.names < 2 ^ 32 - 1 }
     ensures active { IsActive D.Disk R.Directory C.Chronicle part.new (slots_of actors.new) }
     ensures ends { IfOk result (λ said. (run : Run) → run.now ≡ now → PlaysPart C.Chronicle run part.old actors.old
-        → PartEnds C.Chronicle run (state_in C.Chronicle part.old.stripe) (step.Feed actor.now body.now) part.new actors.new said) }
+        → PartEnds D.Disk R.Directory C.Chronicle run part.old (step.Feed actor.now body.now) part.new actors.new said) }
     ensures stop { IfErr result (λ why. why ≡ stop.Memory) }
     ensures counts { IfOk result (TellsCount D.Disk R.Directory C.Chronicle (Some part.new)) }
     ensures later { (seen_in D.Disk R.Directory part.old.stripe).device.faults ≤ (seen_in D.Disk R.Directory part.new.stripe).device.faults }
@@ -317,7 +317,7 @@ fn give_bytes<D: Disk, R: Directory + Drop, C: Chronicle>(
     ensures unharmed { Between D.Disk R.Directory C.Chronicle stripe.old stripe.new }
     ensures own { AddsOfPut writer.put (kept_in C.Chronicle stripe.old) (kept_in C.Chronicle stripe.new) }
     ensures left { IsLeft (state_in C.Chronicle stripe.new) writer.put result.left }
-    ensures does { WriterDoes now (state_in C.Chronicle stripe.old) (state_in C.Chronicle stripe.new) (Feeds body.now) writer result.left result.answer }
+    ensures does { WriterDoes now (seen_in D.Disk R.Directory stripe.old).device.past (seen_in D.Disk R.Directory stripe.new).device.past (state_in C.Chronicle stripe.old) (state_in C.Chronicle stripe.new) (Feeds body.now) writer result.left result.answer }
 {
     let Fed { taken, refused } = feed(stripe, &mut writer, body, now);
     Outcome {
@@ -369,7 +369,7 @@ fn close_in<D: Disk, R: Directory + Drop, C: Chronicle>(
     requires few { length actors.old.names < 2 ^ 32 - 1 }
     ensures active { IsActive D.Disk R.Directory C.Chronicle part.new (slots_of actors.new) }
     ensures ends { IfOk result (λ said. (run : Run) → run.now ≡ now → PlaysPart C.Chronicle run part.old actors.old
-        → PartEnds C.Chronicle run (state_in C.Chronicle part.old.stripe) (step.Close actor.now) part.new actors.new said) }
+        → PartEnds D.Disk R.Directory C.Chronicle run part.old (step.Close actor.now) part.new actors.new said) }
     ensures stop { IfErr result (λ why. why ≡ stop.Memory) }
     ensures counts { IfOk result (TellsCount D.Disk R.Directory C.Chronicle (Some part.new)) }
     ensures later { (seen_in D.Disk R.Directory part.old.stripe).device.faults ≤ (seen_in D.Disk R.Directory part.new.stripe).device.faults }
@@ -410,7 +410,7 @@ fn finish<D: Disk, R: Directory + Drop, C: Chronicle>(
     ensures unharmed { Between D.Disk R.Directory C.Chronicle stripe.old stripe.new }
     ensures own { AddsOfPut writer.put (kept_in C.Chronicle stripe.old) (kept_in C.Chronicle stripe.new) }
     ensures left { IsLeft (state_in C.Chronicle stripe.new) writer.put result.left }
-    ensures does { WriterDoes now (state_in C.Chronicle stripe.old) (state_in C.Chronicle stripe.new) Closes writer result.left result.answer }
+    ensures does { WriterDoes now (seen_in D.Disk R.Directory stripe.old).device.past (seen_in D.Disk R.Directory stripe.new).device.past (state_in C.Chronicle stripe.old) (state_in C.Chronicle stripe.new) Closes writer result.left result.answer }
 {
     let result = close_write(stripe, &mut writer, now);
     Outcome {
@@ -452,7 +452,7 @@ fn abort_in<D: Disk, R: Directory + Drop, C: Chronicle>(
     requires few { length actors.old.names < 2 ^ 32 - 1 }
     ensures active { IsActive D.Disk R.Directory C.Chronicle part.new (slots_of actors.new) }
     ensures ends { IfOk result (λ said. (run : Run) → PlaysPart C.Chronicle run part.old actors.old
-        → PartEnds C.Chronicle run (state_in C.Chronicle part.old.stripe) (step.Abort actor.now) part.new actors.new said) }
+        → PartEnds D.Disk R.Directory C.Chronicle run part.old (step.Abort actor.now) part.new actors.new said) }
     ensures stop { IfErr result (λ why. why ≡ stop.Memory) }
     ensures counts { IfOk result (TellsCount D.Disk R.Directory C.Chronicle (Some part.new)) }
     ensures later { (seen_in D.Disk R.Directory part.old.stripe).device.faults ≤ (seen_in D.Disk R.Directory part.new.stripe).device.faults }
@@ -492,7 +492,7 @@ fn give_up<D: Disk, R: Directory + Drop, C: Chronicle>(
     ensures unharmed { Between D.Disk R.Directory C.Chronicle stripe.old stripe.new }
     ensures own { AddsOfPut writer.put (kept_in C.Chronicle stripe.old) (kept_in C.Chronicle stripe.new) }
     ensures left { IsLeft (state_in C.Chronicle stripe.new) writer.put result.left }
-    ensures does { (now : ℕ) → WriterDoes now (state_in C.Chronicle stripe.old) (state_in C.Chronicle stripe.new) GivesUp writer result.left result.answer }
+    ensures does { (now : ℕ) → WriterDoes now (seen_in D.Disk R.Directory stripe.old).device.past (seen_in D.Disk R.Directory stripe.new).device.past (state_in C.Chronicle stripe.old) (state_in C.Chronicle stripe.new) GivesUp writer result.left result.answer }
 {
     writer_is_ended();
     match abort_write(stripe, &mut writer) {

@@ -1,10 +1,10 @@
 -- How each line that is not answered ends a run.
-use Rattle.std.proofs.Common.{◌≡◌, ℕ, ◌+◌, ◌-◌, ◌^◌, ◌≤◌, min, List, [], ◌∷◌, ◌++◌, length, length-append, append_assoc, append-nil, Option, Some, None, Ok, Err, refl, sym, ◌∙◌, ap, subst, arith, inl, inr, ◌⊎◌, lit≤}
+use Rattle.std.proofs.Common.{◌≡◌, ℕ, ◌+◌, ◌-◌, ◌^◌, min, List, [], ◌∷◌, ◌++◌, length, length-append, append_assoc, append-nil, Option, Some, None, Ok, Err, refl, sym, ◌∙◌, ap, subst, arith, inl, inr, ◌⊎◌, lit≤}
+use Rattle.std.specs.Prelude.{map}
 use Rattle.device_log.specs.Faults.{next_count}
 use Rattle.device_log.specs.Streams.{SourceRead, SinkWrite, GaveBytes, CameToEnd, RefusedRead, refused_reads}
-use Rattle.edge_io.specs.Causes.{Rose}
 use Rattle.edge_io.specs.Lines.{GivesLine}
-use Rattle.edge_io.specs.Source.{IsEnded, LastReadFailed, NoReadFailed}
+use Rattle.edge_io.specs.Source.{LastReadFailed, NoReadFailed}
 use Rattle.edge_io.specs.Text.{text_after}
 use Rattle.edge_io.specs.LineReader.{Answers, AreNeeded, Fails, IsDecided}
 use Rattle.edge_io.specs.declared.reader.LineFault.{LineFault}
@@ -20,7 +20,7 @@ use Rattle.script_lang.specs.declared.last.LastLine.{LastLine}
 use Rattle.script_lang.specs.declared.last.LastLine.TheVariants as last
 use Rattle.script_lang.specs.Texts.{answer_line}
 use Rattle.script_lang.specs.Grammar.{reading_of}
-use Rattle.script_run.specs.Run.{Harm, Run, fresh, no_harm}
+use Rattle.script_run.specs.Run.{Harm, Run, fresh, loosened, no_harm}
 use Rattle.script_run.specs.Behind.{harm_of}
 use Rattle.script_run.specs.Takes.{run_after}
 use Rattle.cache_replay.specs.Outline.{Outline, blank, told_of}
@@ -36,7 +36,7 @@ use Rattle.cache_tool.specs.declared.run.Ending.{Ending}
 use Rattle.cache_tool.specs.declared.run.Ending.TheVariants as ending
 use Rattle.cache_tool.specs.declared.run.Halt.{Halt}
 use Rattle.cache_tool.specs.declared.run.Halt.TheVariants.{Stop, WriteFault, Memory}
-use Rattle.cache_tool.specs.Story.{Story, Told, Taken, Took, Recorded, ShownAlong, GoesOn, GaveBack, IsReadThrough, Owes, OwesOrGave, SendsAll, SendsBefore, SendsFront, CutsLast, Refusals, refusals, Because, all_in, told_by, told_in}
+use Rattle.cache_tool.specs.Story.{Story, Told, Taken, Took, Recorded, ShownAlong, GoesOn, GaveBack, IsReadThrough, Owes, OwesOrGave, SendsAll, SendsBefore, SendsFront, CutsLast, Refusals, refusals, Because, all_in, own_loosened, told_by, told_in}
 use Rattle.cache_tool.specs.Ending.{Ends, FailedReads, IsOfRun}
 use Rattle.cache_tool.specs.Halt.{Written, Halts, Leaves, ending_of, last_of}
 use Rattle.cache_tool.proofs.Stories.{step_more, Deals-nothing, Deals-trans, Deals-settled, answered_with, along_with, story_with}
@@ -63,7 +63,7 @@ holds_none given before (CameToEnd ∷ more) old now count grew failed needed = 
 holds_none given before (RefusedRead k ∷ more) old now count grew failed needed = needed.0
 
 module _ (first now : List SourceRead) (taken_first taken : List SinkWrite) (ledger_first ledger : Ledger) (unread : List ℕ) (given : ℕ) (Outlined : Outline → Type 0) (Plays' : Run → Type 0)
-    (Reached : List Harm → Type 0) (devices : ℕ) (reach : (o : Outline) → Outlined o → Reached (told_of o.session)) (reach_run : (run : Run) → Plays' run → Reached (harm_of run.state))
+    (Reached : List Harm → Type 0) (loosely : (harms : List Harm) → Reached harms → Reached (map loosened harms)) (devices : ℕ) (reach : (o : Outline) → Outlined o → Reached (told_of o.session)) (reach_run : (run : Run) → Plays' run → Reached (harm_of run.calls run.state))
     (story : GoesOn first taken_first ledger_first now unread given taken ledger Outlined Plays') where
   -- what the records are worth as they stand
   still_recorded : (Devices : Told → Type 0) (Behind : Outline → Type 0) → ((t : Told) → Deals ledger_first ledger t.ended t.names → Reached t.own → Devices t) → ((o : Outline) → Outlined o → Behind o)
@@ -99,7 +99,7 @@ module _ (first now : List SourceRead) (taken_first taken : List SinkWrite) (led
   done_ends bay through = record { held = unread; given = given; story = still (SendsAll taken_first taken) _ _ story.text owes (λ o is. through) }
 
   pub memory_ends : (bay : Refusals) → Ends first now taken_first taken bay (Owes ledger_first ledger Reached) Wants ending.OutOfMemory
-  memory_ends bay = inl (record { held = unread; given = given; story = still (SendsAll taken_first taken) _ _ story.text (λ t deals reached. inl (owes t deals reached)) (λ o is. tt) })
+  memory_ends bay = inl (record { held = unread; given = given; story = still (SendsAll taken_first taken) _ _ story.text (λ t deals reached. inl (owes (own_loosened t) deals (loosely t.own reached))) (λ o is. tt) })
 
   stopped : (bay : Refusals) (why : LastLine) → ((o : Outline) → Outlined o → Because bay unread given o why) → Ends first now taken_first taken bay (Owes ledger_first ledger Reached) Wants (ending.Stopped why)
   stopped bay why because = record { held = unread; given = given; story = still (SendsAll taken_first taken) _ _ story.text owes because }
@@ -175,7 +175,7 @@ module _ {D R C : Type 0} (disk : DiskGhosts D) (directory : DirectoryGhosts R) 
           records = elim story.records [
             | inl r ↦
                 let run : Run = run_after fresh story.lines r.turns in
-                inl (record { turns = r.turns; legal = r.legal; says = r.says; devices = settle (told_in run) r.devices (leaves (harm_of run.state) (plays_reach disk directory chronicle old was run r.known)); known = tt })
+                inl (record { turns = r.turns; legal = r.legal; says = r.says; devices = settle (told_in run) r.devices (leaves (harm_of run.calls run.state) (plays_reach disk directory chronicle old was run r.known)); known = tt })
             | inr along ↦ inr (along_with story.lines story.answers (λ t. Deals ledger_first ledger t.ended t.names) Devices Before Behind left behind along)
           ];
         }
@@ -184,8 +184,11 @@ module _ {D R C : Type 0} (disk : DiskGhosts D) (directory : DirectoryGhosts R) 
     stays_owes t deals reached same = record { deals = rw same deals; reached = reached }
 
     not_ended : (by : Stopped) → (by ≡ stop.Memory → ⊥) → (t : Told) → Deals ledger_first ledger t.ended t.names → IsLeft disk directory chronicle t.own step session ledger ledger' by → Owes ledger_first ledger' Reaches t
-    not_ended by other t deals (stays reached same) = stays_owes t deals reached same
-    not_ended by other t deals (ended name attaches none more wanting) = absurd (other wanting)
+    not_ended stop.Memory other t deals left = absurd (other refl)
+    not_ended stop.NoCache other t deals (stays reached same) = stays_owes t deals reached same
+    not_ended stop.NoCache other t deals (ended name attaches none more wanting) = absurd (other wanting)
+    not_ended stop.BayFault other t deals (stays reached same) = stays_owes t deals reached same
+    not_ended stop.BayFault other t deals (ended name attaches none more wanting) = absurd (other wanting)
 
     halted : (why : LastLine) (by : Stopped) → (by ≡ stop.Memory → ⊥) → Leaves disk directory chronicle old step session ledger ledger' by → taken' ≡ taken → ((o : Outline) → Before o → Because bay unread given o why)
         → Ends first now taken_first taken' bay (Owes ledger_first ledger' Reaches) Wanting (ending.Stopped why)
@@ -197,7 +200,7 @@ module _ {D R C : Type 0} (disk : DiskGhosts D) (directory : DirectoryGhosts R) 
 
     -- what is owed where memory was wanting
     wants : (t : Told) → Deals ledger_first ledger t.ended t.names → IsLeft disk directory chronicle t.own step session ledger ledger' stop.Memory → Wanting unread given t
-    wants t deals (stays reached same) = inl (stays_owes t deals reached same)
+    wants t deals (stays reached same) = inl (stays_owes (own_loosened t) deals reached same)
     wants t deals (ended name attaches none more wanting) = inr (
       rw none refl,
       record {

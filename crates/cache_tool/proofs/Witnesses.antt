@@ -1,5 +1,5 @@
 -- What no pair of documents gives leave to say.
-use Rattle.std.proofs.Common.{◌≡◌, ℕ, List, [], ◌∷◌, Option, None, inl, lit<, refl, sym, ◌∙◌, subst}
+use Rattle.std.proofs.Common.{◌≡◌, ℕ, List, [], ◌∷◌, None, inl, lit<, refl, sym, ◌∙◌, subst}
 use Rattle.std.specs.Prelude.{codes}
 use Rattle.device_log.specs.Streams.{SourceRead, SinkWrite, GaveBytes, RefusedRead, refused_reads}
 use Rattle.edge_io.specs.Text.{text_read}

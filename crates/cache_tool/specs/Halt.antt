@@ -1,5 +1,5 @@
 -- What a step of a run does to its session and its sink, and why it may end the run.
-use Rattle.std.specs.Prelude.{◌≡◌, ℕ, List, [], Bool, true, false}
+use Rattle.std.specs.Prelude.{◌≡◌, ℕ, List, [], Bool, false}
 use Rattle.device_log.specs.Streams.{SinkWrite}
 use Rattle.edge_io.specs.declared.reader.LineFault.{LineFault}
 use Rattle.edge_io.specs.declared.reader.LineFault.TheVariants as fault

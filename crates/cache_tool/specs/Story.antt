@@ -1,8 +1,7 @@
 -- How far a run has come, and how it may end.
-use Rattle.std.specs.Prelude.{◌≡◌, ℕ, ◌+◌, ◌≤◌, ◌⊎◌, List, [], ◌∷◌, ◌++◌, length, Option, Some, None, ⊤}
+use Rattle.std.specs.Prelude.{◌≡◌, ℕ, ◌+◌, ◌≤◌, ◌⊎◌, List, [], ◌∷◌, ◌++◌, length, map, Option, None}
 use Rattle.device_log.specs.Faults.{next_count}
 use Rattle.device_log.specs.Streams.{SourceRead, SinkWrite, RefusedWrite, taken_by, refused_writes, write_faults}
-use Rattle.edge_io.specs.Causes.{Rose}
 use Rattle.edge_io.specs.declared.reader.TheConstants.{MAX_LINES}
 use Rattle.edge_io.specs.Source.{IsEnded}
 use Rattle.edge_io.specs.Text.{spelled, text_read}
@@ -16,7 +15,7 @@ use Rattle.script_lang.specs.declared.last.LastLine.TheVariants as last
 use Rattle.script_lang.specs.declared.answer.StepAnswer.{StepAnswer}
 use Rattle.script_lang.specs.Texts.{answer_line}
 use Rattle.script_lang.specs.Grammar.{reading_of}
-use Rattle.script_run.specs.Run.{Harm, Run, fresh, no_harm}
+use Rattle.script_run.specs.Run.{Harm, Run, fresh, loosened, no_harm}
 use Rattle.script_run.specs.Turn.{Turn}
 use Rattle.script_run.specs.Behind.{harm_of}
 use Rattle.script_run.specs.Takes.{IsRun, run_after, LineShows}
@@ -40,13 +39,17 @@ pub record Told : Type 0 where
   pub own : List Harm
   pub names : List (List ℕ)
 
--- by an outline: of answers alone, counts of faults
+-- by an outline: of answers alone, counts of faults, and what the records told before it, as they did
 abbrev pub told_by : Outline → Told
 told_by o = record { ended = o.ended; own = told_of o.session; names = o.names }
 
--- by the records: counts of faults, and damage
+-- by the records: counts of faults, damage, and of each session all calls that its lines made
 abbrev pub told_in : Run → Told
-told_in run = record { ended = run.ended; own = harm_of run.state; names = run.names }
+told_in run = record { ended = run.ended; own = harm_of run.calls run.state; names = run.names }
+
+-- the same, where the session's own device may have made more calls
+abbrev pub own_loosened : Told → Told
+own_loosened t = record { ended = t.ended; own = map loosened t.own; names = t.names }
 
 -- of all devices, once the last one is given back
 abbrev pub all_in : Told → List Harm
@@ -197,7 +200,7 @@ GoesOn first taken_first ledger_first now held given taken ledger Outlined Plays
     Story first now held given (SendsAll taken_first taken) (λ t. Deals ledger_first ledger t.ended t.names) Outlined Plays
 
 -- what a session owes once the run has ended: its devices were attached, those that it ended came back, and its own has
--- counted as far as was told
+-- counted as far as was told, and begins its log with the calls that were told
 pub record Owes (ledger_first ledger : Ledger) (Reached : List Harm → Type 0) (t : Told) : Type 0 where
   pub deals : Deals ledger_first ledger t.ended t.names
   pub reached : Reached t.own
@@ -212,6 +215,6 @@ pub record GaveBack (ledger_first ledger : Ledger) (held : List ℕ) (given : �
   pub attaches : AttachesAs name step
   pub deals : Deals ledger_first ledger (all_in t ++ no_harm ∷ []) (t.names ++ name ∷ [])
 
--- what is owed where memory was wanting, by a session that has so many devices
+-- what is owed where memory was wanting, by a session that has so many devices: its own may have made calls meanwhile
 abbrev pub OwesOrGave : (ledger_first ledger : Ledger) → ℕ → (List Harm → Type 0) → (held : List ℕ) → ℕ → Told → Type 0
-OwesOrGave ledger_first ledger devices Reached held given t = Owes ledger_first ledger Reached t ⊎ ((devices ≡ 0) × GaveBack ledger_first ledger held given t)
+OwesOrGave ledger_first ledger devices Reached held given t = Owes ledger_first ledger Reached (own_loosened t) ⊎ ((devices ≡ 0) × GaveBack ledger_first ledger held given t)

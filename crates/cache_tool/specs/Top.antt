@@ -11,7 +11,7 @@ use Rattle.script_lang.specs.Texts.{last_line}
 use Rattle.script_run.specs.Ledger.{Ledger, Deals}
 use Rattle.cache_tool.specs.declared.top.Status.{Status}
 use Rattle.cache_tool.specs.declared.top.Status.TheVariants as status
-use Rattle.cache_tool.specs.Story.{Because, IsReadThrough, Refusals, SendsAll, SendsFront, CutsLast, GaveBack, Told, Took, all_in}
+use Rattle.cache_tool.specs.Story.{Because, IsReadThrough, Refusals, SendsAll, SendsFront, CutsLast, GaveBack, Told, Took, all_in, own_loosened}
 use Rattle.cache_tool.specs.Ending.{StoryUpTo, WantsMemory}
 
 -- the one word `replay`
@@ -46,14 +46,16 @@ abbrev pub WentOut : (old new : List SinkWrite) → (before text : List ℕ) →
 WentOut old new before text = Took old new (before ++ text) ⊎ SendsFront old new before text
 
 -- the devices that were attached have the names of the lines that asked for them, in order, and as many came back, the
--- n-th with a count that none told in the n-th session exceeds; where it told its content to the end no piece was told as
--- damaged in that session
+-- n-th with a count that none told in the n-th session exceeds, and with a log that is the calls of the lines of the n-th
+-- session, one behind the other, as their turns have them, and no other (it begins with them where no records tell of later
+-- lines); where it told its content to the end no piece was told as damaged in that session
 abbrev pub EachBack : Ledger → Ledger → Told → Type 0
 EachBack before now t = Deals before now (all_in t) t.names
 
--- so it is, or the format of the next line, which wanted memory, gave back one device more
+-- so it is, but that the next line, which wanted memory, may have called the last device; or it is a format that gave back
+-- one device more
 abbrev pub EachBackOrMore : Ledger → Ledger → (held : List ℕ) → ℕ → Told → Type 0
-EachBackOrMore before now held given t = EachBack before now t ⊎ GaveBack before now held given t
+EachBackOrMore before now held given t = EachBack before now (own_loosened t) ⊎ GaveBack before now held given t
 
 -- a run that ended early: the answers of the lines before went out, and behind them the last line or a front of it
 pub record EndsEarly (first read : List SourceRead) (old new : List SinkWrite) (bay : Refusals) (before now : Ledger) (s : Status) : Type 0 where
@@ -66,7 +68,8 @@ pub record EndsEarly (first read : List SourceRead) (old new : List SinkWrite) (
 -- out. WriteFault: a write failed, and no line was taken behind the one whose answer was cut. OutOfMemory: whole answers
 -- went out, of all lines that were taken, or of all but the last, for whose text memory was wanting. The others name the
 -- cause that ended the run. All of that stands also where a line showed two documents of one SHA-256 (`ShownAlong`): what
--- is lost then is that the records are legal, and that the answers from that line on are theirs (`Recorded`).
+-- is lost then is that the records are legal, that the answers from that line on are theirs, and which calls its device
+-- made from that line on (`Recorded`).
 abbrev pub Concludes : (first read : List SourceRead) → (old new : List SinkWrite) → (bay : Refusals) → (before now : Ledger) → Status → Type 0
 Concludes first read old new bay before now status.Done = StoryUpTo first read (SendsAll old new) (λ held given. EachBack before now) (λ held given o. IsReadThrough read held)
 Concludes first read old new bay before now status.Usage = WentOut old new [] (last_line last.Usage) × (read ≡ first) × (now ≡ before)

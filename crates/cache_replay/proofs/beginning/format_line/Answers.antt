@@ -18,7 +18,7 @@ returns-in-Err-clause-outline g c = λ o h. refused_outlines _ _ _ o c.args.name
 pub returns-in_ok-format-in-Ok-clause-ends : goal.returns-in_ok-format-in-Ok-clause-ends
 returns-in_ok-format-in-Ok-clause-ends g c = λ run plays.
     format_done _ _ _ run c.args.name.now _ _ _ _ _ _ _ _ c.in-Ok.geometry _ _ _ _ (sym c.in-Ok.ensures.refused) c.floor_of.ensures c.in-Ok.ensures.numbers (c.in_ok-format-in-Ok.ensures.plays run plays)
-    (c.in_ok-format-in-Ok.ensures.deals (harm_of run.state) (plays_reached _ _ _ run c.args.session.now c.requires.session plays))
+    (c.in_ok-format-in-Ok.ensures.deals (harm_of run.calls run.state) (plays_reached _ _ _ run c.args.session.now c.requires.session plays))
 
 pub returns-in_ok-format-in-Ok-clause-outline : goal.returns-in_ok-format-in-Ok-clause-outline
 returns-in_ok-format-in-Ok-clause-outline g c = λ o h.

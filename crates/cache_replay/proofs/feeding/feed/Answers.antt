@@ -7,14 +7,17 @@ use Rattle.cache_replay.proofs.FeedTurns.{all_ends, bounds, fails_ends, goes_on,
 use Rattle.cache_replay.proofs.feeding.feed.Given.{Over}
 use Rattle.cache_replay.proofs.feeding.feed.Goals as goal
 
-refused : (g : Over) (c : goal.In-Err g) → Ends c.args.now (seen_in g.D.Disk g.R.Directory c.args.stripe.now).device.faults (seen_in g.D.Disk g.R.Directory c.write.new.stripe).device.faults
+refused : (g : Over) (c : goal.In-Err g) → Ends c.args.now (seen_in g.D.Disk g.R.Directory c.args.stripe.now).device.past (seen_in g.D.Disk g.R.Directory c.write.new.stripe).device
     (kept_in g.C.Chronicle c.args.stripe.now) (kept_in g.C.Chronicle c.write.new.stripe) c.args.writer.now c.write.new.writer c.args.bytes.now c.feed.taken (Some c.in-Err.why)
 refused g c =
     fails_ends g.D.Disk g.R.Directory g.C.Chronicle c.args.now c.args.stripe.now c.feed.stripe c.write.new.stripe c.args.writer.now c.feed.writer c.write.new.writer c.args.bytes.now c.feed.taken
-    c.feed.invariant c.in-Err.why c.in-Err.ensures.writes c.in-Err.ensures.does c.in-Err.ensures.same c.write.ensures.later
+    c.feed.invariant c.in-Err.why c.in-Err.ensures.writes c.in-Err.ensures.does c.in-Err.ensures.same c.write.ensures.unharmed.goes.made c.write.ensures.unharmed.goes.past
 
 pub returns-in-Err-clause-feeds : goal.returns-in-Err-clause-feeds
 returns-in-Err-clause-feeds g c = (refused g c).feeds
+
+pub returns-in-Err-clause-counts : goal.returns-in-Err-clause-counts
+returns-in-Err-clause-counts g c = (refused g c).counts
 
 pub returns-in-Err-clause-taken : goal.returns-in-Err-clause-taken
 returns-in-Err-clause-taken g c = (refused g c).takes
@@ -28,14 +31,14 @@ returns-in-Err-clause-writing g c = (refused g c).writing
 pub returns-in-Err-clause-own : goal.returns-in-Err-clause-own
 returns-in-Err-clause-own g c = (refused g c).own
 
-whole : (g : Over) (c : goal.Then-taken-bytes g) → Ends c.args.now (seen_in g.D.Disk g.R.Directory c.args.stripe.now).device.faults (seen_in g.D.Disk g.R.Directory c.write.new.stripe).device.faults
+whole : (g : Over) (c : goal.Then-taken-bytes g) → Ends c.args.now (seen_in g.D.Disk g.R.Directory c.args.stripe.now).device.past (seen_in g.D.Disk g.R.Directory c.write.new.stripe).device
     (kept_in g.C.Chronicle c.args.stripe.now) (kept_in g.C.Chronicle c.write.new.stripe) c.args.writer.now c.write.new.writer c.args.bytes.now (c.feed.taken + c.in-Ok.count) None
 whole g c =
     all_ends g.D.Disk g.R.Directory g.C.Chronicle c.args.now c.args.stripe.now c.feed.stripe c.write.new.stripe c.args.writer.now c.feed.writer c.write.new.writer c.args.bytes.now c.feed.taken
     c.feed.invariant c.in-Ok.count
     (wrote g.D.Disk g.R.Directory g.C.Chronicle c.args.now c.args.stripe.now c.feed.stripe c.write.new.stripe c.args.writer.now c.feed.writer c.write.new.writer c.args.bytes.now c.feed.taken c.feed.invariant c.in-Ok.count
     (record { own = c.feed.invariant.writer; takes = c.in-Ok.ensures.writes; does = c.in-Ok.ensures.does; gathers = c.in-Ok.ensures.gathers; next_own = c.write.ensures.writer }))
-    c.if-taken-bytes.true c.write.ensures.later
+    c.if-taken-bytes.true c.write.ensures.unharmed.goes.made c.write.ensures.unharmed.goes.past
 
 pub returns-then-taken-bytes-clause-feeds : goal.returns-then-taken-bytes-clause-feeds
 returns-then-taken-bytes-clause-feeds g c = (whole g c).feeds

@@ -8,15 +8,16 @@ use Rattle.stripe_read.specs.declared.opening.Opened.TheVariants as opened
 use Rattle.cache_replay.proofs.Counts.{missed_tells, ok_after}
 use Rattle.cache_replay.proofs.ReaderFrames.{losses_then}
 use Rattle.logged_disk.proofs.GoingOn.{goes_further}
+use Rattle.stripe_core.proofs.Between.{accounted_then}
 use Rattle.cache_replay.proofs.getting.get.Goals as goal
 
 pub returns-in-Hit-clause-gets : goal.returns-in-Hit-clause-gets
 returns-in-Hit-clause-gets g c =
     let k = kept_in g.C.Chronicle c.args.stripe.now in
-    hit_gets (seen_in g.D.Disk g.R.Directory c.args.stripe.now).device.faults (seen_in g.D.Disk g.R.Directory c.open_read.new.stripe).device.faults (seen_in g.D.Disk g.R.Directory c.read_whole.new.stripe).device.faults
-    k (kept_in g.C.Chronicle c.open_read.new.stripe) (kept_in g.C.Chronicle c.read_whole.new.stripe) c.args.key c.args.request c.in-Hit.reader c.read_whole.result c.read_whole.ensures.quiet
+    hit_gets (seen_in g.D.Disk g.R.Directory c.args.stripe.now).device.past (seen_in g.D.Disk g.R.Directory c.open_read.new.stripe).device.past (seen_in g.D.Disk g.R.Directory c.read_whole.new.stripe).device.past
+    k (kept_in g.C.Chronicle c.open_read.new.stripe) (kept_in g.C.Chronicle c.read_whole.new.stripe) c.args.key c.args.request c.in-Hit.reader c.read_whole.result
     (hit_under c.reads_own.ensures k (kept_in g.C.Chronicle c.open_read.new.stripe) (seen_in g.D.Disk g.R.Directory c.args.stripe.now).device (seen_in g.D.Disk g.R.Directory c.open_read.new.stripe).device
-    c.args.key c.args.request c.open_read.ensures.later c.in-Hit.reader c.in-Hit.put c.in-Hit.length (rw c.in-Hit.is at c.in_ok-reader.ensures.adds) (rw c.in-Hit.is at c.in_ok-reader.ensures.opens) (rw c.in-Hit.is at c.in_ok-reader.ensures.tells))
+    c.args.key c.args.request c.open_read.ensures.unharmed.goes.made c.open_read.ensures.unharmed.goes.past c.in-Hit.reader c.in-Hit.put c.in-Hit.length (rw c.in-Hit.is at c.in_ok-reader.ensures.adds) (rw c.in-Hit.is at c.in_ok-reader.ensures.opens) (rw c.in-Hit.is at c.in_ok-reader.ensures.tells))
     c.read_whole.ensures.answers
 
 pub returns-in-Hit-clause-leaves : goal.returns-in-Hit-clause-leaves
@@ -28,11 +29,11 @@ returns-in-Hit-clause-leaves g c =
 pub returns-in_ok-close-in-Follow-clause-gets : goal.returns-in_ok-close-in-Follow-clause-gets
 returns-in_ok-close-in-Follow-clause-gets g c =
     let k = kept_in g.C.Chronicle c.args.stripe.now in
-    gets_as_asked (seen_in g.D.Disk g.R.Directory c.args.stripe.now).device.faults (seen_in g.D.Disk g.R.Directory c.close.new.stripe).device.faults k (kept_in g.C.Chronicle c.close.new.stripe) c.args.key c.args.request
-    (got.Follow c.in-Follow.put) c.close.ensures.quiet
-    (c.in_ok-close-in-Follow.ensures.answers (began k c.args.key c.args.request (seen_in g.D.Disk g.R.Directory c.args.stripe.now).device.faults) [] _
+    gets_as_asked (seen_in g.D.Disk g.R.Directory c.args.stripe.now).device.past (seen_in g.D.Disk g.R.Directory c.close.new.stripe).device.past k (kept_in g.C.Chronicle c.close.new.stripe) c.args.key c.args.request
+    (got.Follow c.in-Follow.put)
+    (c.in_ok-close-in-Follow.ensures.answers (began k c.args.key c.args.request (seen_in g.D.Disk g.R.Directory c.args.stripe.now).device.past) [] _
     (follow_answered c.reads_own.ensures k (kept_in g.C.Chronicle c.open_read.new.stripe) (seen_in g.D.Disk g.R.Directory c.args.stripe.now).device (seen_in g.D.Disk g.R.Directory c.open_read.new.stripe).device
-    c.args.key c.args.request c.open_read.ensures.later c.in-Follow.reader c.in-Follow.put (rw c.in-Follow.is at c.in_ok-reader.ensures.adds) c.open_read.ensures.quiet (rw c.in-Follow.is at c.in_ok-reader.ensures.opens)
+    c.args.key c.args.request c.open_read.ensures.unharmed.goes.made c.open_read.ensures.unharmed.goes.past c.in-Follow.reader c.in-Follow.put (rw c.in-Follow.is at c.in_ok-reader.ensures.adds) c.open_read.ensures.quiet (rw c.in-Follow.is at c.in_ok-reader.ensures.opens)
     (rw c.in-Follow.is at c.in_ok-reader.ensures.tells)))
 
 pub returns-in_ok-close-in-Follow-clause-leaves : goal.returns-in_ok-close-in-Follow-clause-leaves
@@ -50,10 +51,10 @@ returns-in_err-close-in-Follow-clause-leaves g c =
 pub returns-in-Miss-clause-gets : goal.returns-in-Miss-clause-gets
 returns-in-Miss-clause-gets g c =
     let k = kept_in g.C.Chronicle c.args.stripe.now in
-    gets_as_asked (seen_in g.D.Disk g.R.Directory c.args.stripe.now).device.faults (seen_in g.D.Disk g.R.Directory c.open_read.new.stripe).device.faults k (kept_in g.C.Chronicle c.open_read.new.stripe) c.args.key c.args.request
-    (got.Miss c.in-Miss.why) c.open_read.ensures.quiet
+    gets_as_asked (seen_in g.D.Disk g.R.Directory c.args.stripe.now).device.past (seen_in g.D.Disk g.R.Directory c.open_read.new.stripe).device.past k (kept_in g.C.Chronicle c.open_read.new.stripe) c.args.key c.args.request
+    (got.Miss c.in-Miss.why)
     (miss_answered c.reads_own.ensures k (kept_in g.C.Chronicle c.open_read.new.stripe) (seen_in g.D.Disk g.R.Directory c.args.stripe.now).device (seen_in g.D.Disk g.R.Directory c.open_read.new.stripe).device
-    c.args.key c.args.request c.open_read.ensures.later c.in-Miss.why (rw c.in-Miss.is at c.in_ok-reader.ensures.adds) c.open_read.ensures.quiet c.requires.stripe.actors.readers_fall (rw c.in-Miss.is at c.in_ok-reader.ensures.opens))
+    c.args.key c.args.request c.open_read.ensures.unharmed.goes.made c.open_read.ensures.unharmed.goes.past c.in-Miss.why (rw c.in-Miss.is at c.in_ok-reader.ensures.adds) c.open_read.ensures.quiet c.requires.stripe.actors.readers_fall (rw c.in-Miss.is at c.in_ok-reader.ensures.opens))
 
 pub returns-in-Miss-clause-leaves : goal.returns-in-Miss-clause-leaves
 returns-in-Miss-clause-leaves g c =
@@ -63,9 +64,9 @@ pub returns-in-Hit-clause-unharmed : goal.returns-in-Hit-clause-unharmed
 returns-in-Hit-clause-unharmed g c = λ run told owned.
     let k = kept_in g.C.Chronicle c.args.stripe.now in
     stays_then (inl c.open_read.ensures.unharmed)
-    (c.read_whole.ensures.unharmed (began k c.args.key c.args.request (seen_in g.D.Disk g.R.Directory c.args.stripe.now).device.faults) run
+    (c.read_whole.ensures.unharmed (began k c.args.key c.args.request (seen_in g.D.Disk g.R.Directory c.args.stripe.now).device.past) run
     (hit_under c.reads_own.ensures k (kept_in g.C.Chronicle c.open_read.new.stripe) (seen_in g.D.Disk g.R.Directory c.args.stripe.now).device (seen_in g.D.Disk g.R.Directory c.open_read.new.stripe).device
-    c.args.key c.args.request c.open_read.ensures.later c.in-Hit.reader c.in-Hit.put c.in-Hit.length (rw c.in-Hit.is at c.in_ok-reader.ensures.adds) (rw c.in-Hit.is at c.in_ok-reader.ensures.opens) (rw c.in-Hit.is at c.in_ok-reader.ensures.tells)) told owned)
+    c.args.key c.args.request c.open_read.ensures.unharmed.goes.made c.open_read.ensures.unharmed.goes.past c.in-Hit.reader c.in-Hit.put c.in-Hit.length (rw c.in-Hit.is at c.in_ok-reader.ensures.adds) (rw c.in-Hit.is at c.in_ok-reader.ensures.opens) (rw c.in-Hit.is at c.in_ok-reader.ensures.tells)) told owned)
 
 pub returns-in_err-close-in-Follow-clause-unharmed : goal.returns-in_err-close-in-Follow-clause-unharmed
 returns-in_err-close-in-Follow-clause-unharmed g c = λ run told owned. stays_then (inl c.open_read.ensures.unharmed) (inl c.close.ensures.unharmed)
@@ -89,3 +90,12 @@ returns-in_err-close-in-Follow-clause-goes g c = goes_further _ _ _ c.open_read.
 
 pub returns-in_ok-close-in-Follow-clause-goes : goal.returns-in_ok-close-in-Follow-clause-goes
 returns-in_ok-close-in-Follow-clause-goes g c = goes_further _ _ _ c.open_read.ensures.unharmed.goes c.close.ensures.unharmed.goes
+
+pub returns-in-Hit-clause-accounted : goal.returns-in-Hit-clause-accounted
+returns-in-Hit-clause-accounted g c = accounted_then _ _ _ _ _ _ c.open_read.ensures.unharmed.accounted c.read_whole.ensures.accounted
+
+pub returns-in_err-close-in-Follow-clause-accounted : goal.returns-in_err-close-in-Follow-clause-accounted
+returns-in_err-close-in-Follow-clause-accounted g c = accounted_then _ _ _ _ _ _ c.open_read.ensures.unharmed.accounted c.close.ensures.unharmed.accounted
+
+pub returns-in_ok-close-in-Follow-clause-accounted : goal.returns-in_ok-close-in-Follow-clause-accounted
+returns-in_ok-close-in-Follow-clause-accounted g c = accounted_then _ _ _ _ _ _ c.open_read.ensures.unharmed.accounted c.close.ensures.unharmed.accounted

@@ -20,8 +20,8 @@ returns-in-Err-clause-active g c = λ slots active.
 pub returns-in-Ok-clause-ends : goal.returns-in-Ok-clause-ends
 returns-in-Ok-clause-ends g c = λ run slots held plays.
     let s = state_in g.C.Chronicle c.args.part.now.stripe in
-    line_ends c.reads_own.ensures c.steps_tell.ensures run (seen_in g.D.Disk g.R.Directory c.args.part.now.stripe).device.faults (seen_in g.D.Disk g.R.Directory c.get.new.stripe).device.faults s.next_reader
-    (kept_in g.C.Chronicle c.args.part.now.stripe) (kept_in g.C.Chronicle c.get.new.stripe) c.args.key c.args.request slots c.in-Ok.got c.said_of.result c.in-Ok.ensures.gets c.said_of.ensures c.requires.part.stripe.pieces.sound c.get.ensures.leaves
+    line_ends c.reads_own.ensures c.steps_tell.ensures run (seen_in g.D.Disk g.R.Directory c.args.part.now.stripe).device.past (seen_in g.D.Disk g.R.Directory c.get.new.stripe).device.past s.next_reader
+    (kept_in g.C.Chronicle c.args.part.now.stripe) (kept_in g.C.Chronicle c.get.new.stripe) c.args.key c.args.request slots c.in-Ok.got c.said_of.result c.in-Ok.ensures.gets c.get.ensures.accounted c.get.ensures.quiet c.said_of.ensures c.requires.part.stripe.pieces.sound c.get.ensures.leaves
     (none_next s c.requires.part.stripe.actors.readers_fall) held plays
 
 pub returns-in-Ok-clause-counts : goal.returns-in-Ok-clause-counts

@@ -49,56 +49,56 @@ returns-in_ok-extend_from_slice-in-Piece-clause-nearer g c =
 pub returns-in_ok-extend_from_slice-in-Piece-clause-comes : goal.returns-in_ok-extend_from_slice-in-Piece-clause-comes
 returns-in_ok-extend_from_slice-in-Piece-clause-comes g c = λ b under.
     let items : c.extend_from_slice.new.self.items ≡ c.args.body.now.items ++ take c.in-Piece.length c.read_next.new.into = c.in_ok-extend_from_slice-in-Piece.ensures.items in
-    subst (λ xs. IsUnderway b (seen_in g.D.Disk g.R.Directory c.read_next.new.stripe).device.faults (kept_in g.C.Chronicle c.read_next.new.stripe) c.read_next.new.reader xs) (sym items)
+    subst (λ xs. IsUnderway b (seen_in g.D.Disk g.R.Directory c.read_next.new.stripe).device.past (kept_in g.C.Chronicle c.read_next.new.stripe) c.read_next.new.reader xs) (sym items)
     (piece_comes c.reads_own.ensures c.read_is_own.ensures c.all_is_given.ensures b (kept_in g.C.Chronicle c.args.stripe.now) (kept_in g.C.Chronicle c.read_next.new.stripe)
     (seen_in g.D.Disk g.R.Directory c.args.stripe.now).device (seen_in g.D.Disk g.R.Directory c.read_next.new.stripe).device c.args.reader.now c.args.body.now.items c.read_next.new.into under c.requires.hit c.requires.reader.first
-    c.requires.quiet c.read_next.ensures.later c.in-Piece.index c.in-Piece.length c.read_next.new.reader (rw c.in-Piece.is at c.in_ok-index.ensures.adds) (rw c.in-Piece.is at c.in_ok-index.ensures.reads)
+    c.requires.quiet c.read_next.ensures.device.made c.read_next.ensures.device.past c.in-Piece.index c.in-Piece.length c.read_next.new.reader (rw c.in-Piece.is at c.in_ok-index.ensures.adds) (rw c.in-Piece.is at c.in_ok-index.ensures.reads)
     (rw c.in-Piece.is at c.in_ok-index.ensures.goes) c.read_next.ensures.keeps)
 
 pub returns-in-End-clause-comes : goal.returns-in-End-clause-comes
 returns-in-End-clause-comes g c = λ b under.
-    subst (λ n. IsAnswered b (seen_in g.D.Disk g.R.Directory c.read_next.new.stripe).device.faults (kept_in g.C.Chronicle c.read_next.new.stripe) (StopReading n ∷ []) c.args.body.now.items (answer.Got c.args.reader.now.put c.in-End.length c.args.body.now.items)) (sym c.in_ok-index.ensures.goes.reader)
+    subst (λ n. IsAnswered b (seen_in g.D.Disk g.R.Directory c.read_next.new.stripe).device.past (kept_in g.C.Chronicle c.read_next.new.stripe) (StopReading n ∷ []) c.args.body.now.items (answer.Got c.args.reader.now.put c.in-End.length c.args.body.now.items)) (sym c.in_ok-index.ensures.goes.reader)
     (end_comes c.reads_own.ensures c.read_is_own.ensures c.all_is_given.ensures b (kept_in g.C.Chronicle c.args.stripe.now) (kept_in g.C.Chronicle c.read_next.new.stripe)
     (seen_in g.D.Disk g.R.Directory c.args.stripe.now).device (seen_in g.D.Disk g.R.Directory c.read_next.new.stripe).device c.args.reader.now c.args.body.now.items c.read_next.new.into under c.requires.hit c.requires.reader.first
-    c.requires.quiet c.read_next.ensures.later c.in-End.length (rw c.in-End.is at c.in_ok-index.ensures.adds) (rw c.in-End.is at c.in_ok-index.ensures.reads))
+    c.requires.quiet c.read_next.ensures.device.made c.read_next.ensures.device.past c.in-End.length (rw c.in-End.is at c.in_ok-index.ensures.adds) (rw c.in-End.is at c.in_ok-index.ensures.reads))
 
 pub returns-in-Broken-clause-comes : goal.returns-in-Broken-clause-comes
 returns-in-Broken-clause-comes g c = λ b under.
-    subst (λ n. IsAnswered b (seen_in g.D.Disk g.R.Directory c.read_next.new.stripe).device.faults (kept_in g.C.Chronicle c.read_next.new.stripe) (StopReading n ∷ []) [] (broken_said c.in-Broken.why)) (sym c.in_ok-index.ensures.goes.reader)
+    subst (λ n. IsAnswered b (seen_in g.D.Disk g.R.Directory c.read_next.new.stripe).device.past (kept_in g.C.Chronicle c.read_next.new.stripe) (StopReading n ∷ []) [] (broken_said c.in-Broken.why)) (sym c.in_ok-index.ensures.goes.reader)
     (broken_comes c.reads_own.ensures c.read_is_own.ensures c.all_is_given.ensures b (kept_in g.C.Chronicle c.args.stripe.now) (kept_in g.C.Chronicle c.read_next.new.stripe)
     (seen_in g.D.Disk g.R.Directory c.args.stripe.now).device (seen_in g.D.Disk g.R.Directory c.read_next.new.stripe).device c.args.reader.now c.args.body.now.items c.read_next.new.into under c.requires.hit c.requires.reader.first
-    c.requires.quiet c.read_next.ensures.later c.in-Broken.why (rw c.in-Broken.is at c.in_ok-index.ensures.adds) (rw c.in-Broken.is at c.in_ok-index.ensures.reads))
+    c.requires.quiet c.read_next.ensures.device.made c.read_next.ensures.device.past c.in-Broken.why (rw c.in-Broken.is at c.in_ok-index.ensures.adds) (rw c.in-Broken.is at c.in_ok-index.ensures.reads))
 
 pub returns-in-NotYet-clause-comes : goal.returns-in-NotYet-clause-comes
 returns-in-NotYet-clause-comes g c = λ b under.
-    subst (λ n. IsAnswered b (seen_in g.D.Disk g.R.Directory c.read_next.new.stripe).device.faults (kept_in g.C.Chronicle c.read_next.new.stripe) (StopReading n ∷ []) [] (answer.Follow c.args.reader.now.put)) (sym c.in_ok-index.ensures.goes.reader)
+    subst (λ n. IsAnswered b (seen_in g.D.Disk g.R.Directory c.read_next.new.stripe).device.past (kept_in g.C.Chronicle c.read_next.new.stripe) (StopReading n ∷ []) [] (answer.Follow c.args.reader.now.put)) (sym c.in_ok-index.ensures.goes.reader)
     (waits_comes c.reads_own.ensures c.read_is_own.ensures c.all_is_given.ensures b (kept_in g.C.Chronicle c.args.stripe.now) (kept_in g.C.Chronicle c.read_next.new.stripe)
     (seen_in g.D.Disk g.R.Directory c.args.stripe.now).device (seen_in g.D.Disk g.R.Directory c.read_next.new.stripe).device c.args.reader.now c.args.body.now.items c.read_next.new.into under c.requires.hit c.requires.reader.first
-    c.requires.quiet c.read_next.ensures.later c.in-NotYet.cut (rw c.in-NotYet.is at c.in_ok-index.ensures.reads))
+    c.requires.quiet c.read_next.ensures.device.made c.read_next.ensures.device.past c.in-NotYet.cut (rw c.in-NotYet.is at c.in_ok-index.ensures.reads))
 
 pub returns-in_err-index-clause-unharmed : goal.returns-in_err-index-clause-unharmed
 returns-in_err-index-clause-unharmed g c = λ b.
-    more_harms c.other_shows.ensures b (seen_in g.D.Disk g.R.Directory c.args.stripe.now).device.faults (kept_in g.C.Chronicle c.args.stripe.now) c.args.reader.now c.args.body.now.items c.requires.hit c.requires.reader.first c.read_next.ensures.unharmed
+    more_harms c.other_shows.ensures b (seen_in g.D.Disk g.R.Directory c.args.stripe.now).device.past (kept_in g.C.Chronicle c.args.stripe.now) c.args.reader.now c.args.body.now.items c.requires.hit c.requires.reader.first c.read_next.ensures.unharmed
 
 pub returns-in_err-extend_from_slice-in-Piece-clause-unharmed : goal.returns-in_err-extend_from_slice-in-Piece-clause-unharmed
 returns-in_err-extend_from_slice-in-Piece-clause-unharmed g c = λ b.
-    more_harms c.other_shows.ensures b (seen_in g.D.Disk g.R.Directory c.args.stripe.now).device.faults (kept_in g.C.Chronicle c.args.stripe.now) c.args.reader.now c.args.body.now.items c.requires.hit c.requires.reader.first c.read_next.ensures.unharmed
+    more_harms c.other_shows.ensures b (seen_in g.D.Disk g.R.Directory c.args.stripe.now).device.past (kept_in g.C.Chronicle c.args.stripe.now) c.args.reader.now c.args.body.now.items c.requires.hit c.requires.reader.first c.read_next.ensures.unharmed
 
 pub returns-in_ok-extend_from_slice-in-Piece-clause-unharmed : goal.returns-in_ok-extend_from_slice-in-Piece-clause-unharmed
 returns-in_ok-extend_from_slice-in-Piece-clause-unharmed g c = λ b.
-    more_harms c.other_shows.ensures b (seen_in g.D.Disk g.R.Directory c.args.stripe.now).device.faults (kept_in g.C.Chronicle c.args.stripe.now) c.args.reader.now c.args.body.now.items c.requires.hit c.requires.reader.first c.read_next.ensures.unharmed
+    more_harms c.other_shows.ensures b (seen_in g.D.Disk g.R.Directory c.args.stripe.now).device.past (kept_in g.C.Chronicle c.args.stripe.now) c.args.reader.now c.args.body.now.items c.requires.hit c.requires.reader.first c.read_next.ensures.unharmed
 
 pub returns-in-End-clause-unharmed : goal.returns-in-End-clause-unharmed
 returns-in-End-clause-unharmed g c = λ b.
-    more_harms c.other_shows.ensures b (seen_in g.D.Disk g.R.Directory c.args.stripe.now).device.faults (kept_in g.C.Chronicle c.args.stripe.now) c.args.reader.now c.args.body.now.items c.requires.hit c.requires.reader.first c.read_next.ensures.unharmed
+    more_harms c.other_shows.ensures b (seen_in g.D.Disk g.R.Directory c.args.stripe.now).device.past (kept_in g.C.Chronicle c.args.stripe.now) c.args.reader.now c.args.body.now.items c.requires.hit c.requires.reader.first c.read_next.ensures.unharmed
 
 pub returns-in-NotYet-clause-unharmed : goal.returns-in-NotYet-clause-unharmed
 returns-in-NotYet-clause-unharmed g c = λ b.
-    more_harms c.other_shows.ensures b (seen_in g.D.Disk g.R.Directory c.args.stripe.now).device.faults (kept_in g.C.Chronicle c.args.stripe.now) c.args.reader.now c.args.body.now.items c.requires.hit c.requires.reader.first c.read_next.ensures.unharmed
+    more_harms c.other_shows.ensures b (seen_in g.D.Disk g.R.Directory c.args.stripe.now).device.past (kept_in g.C.Chronicle c.args.stripe.now) c.args.reader.now c.args.body.now.items c.requires.hit c.requires.reader.first c.read_next.ensures.unharmed
 
 pub returns-in-Broken-clause-unharmed : goal.returns-in-Broken-clause-unharmed
 returns-in-Broken-clause-unharmed g c = λ b.
-    more_harms c.other_shows.ensures b (seen_in g.D.Disk g.R.Directory c.args.stripe.now).device.faults (kept_in g.C.Chronicle c.args.stripe.now) c.args.reader.now c.args.body.now.items c.requires.hit c.requires.reader.first c.read_next.ensures.unharmed
+    more_harms c.other_shows.ensures b (seen_in g.D.Disk g.R.Directory c.args.stripe.now).device.past (kept_in g.C.Chronicle c.args.stripe.now) c.args.reader.now c.args.body.now.items c.requires.hit c.requires.reader.first c.read_next.ensures.unharmed
 
 pub returns-in-Broken-clause-counts : goal.returns-in-Broken-clause-counts
 returns-in-Broken-clause-counts g c = λ none.

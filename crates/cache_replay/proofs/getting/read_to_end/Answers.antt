@@ -1,34 +1,37 @@
 use Rattle.std.proofs.Common.{[], ◌∷◌, subst, sym, ap, ◌∙◌, arith}
 use Rattle.std.proofs.lemmas.Grind.{common_steps}
-use Rattle.std.specs.Prelude.{is_some}
+use Rattle.std.specs.Prelude.{Some, None, is_some}
 use Rattle.logged_disk.proofs.GoingOn.{goes_further}
 use Rattle.cache_model.specs.Permit.{StopReading}
-use Rattle.stripe_core.specs.Stripe.{kept_in, seen_in}
+use Rattle.stripe_core.specs.Stripe.{kept_in, seen_in, state_in}
+use Rattle.stripe_core.proofs.Between.{accounted_then}
 use Rattle.script_run.specs.Answers.{broken_said}
 use Rattle.script_lang.specs.declared.answer.StepAnswer.TheVariants as answer
 use Rattle.cache_replay.specs.Getting.{IsAnswered}
+use Rattle.cache_replay.specs.Session.{LeavesBut}
 use Rattle.cache_replay.proofs.OtherNext.{stays_then}
+use Rattle.cache_replay.proofs.ReaderFrames.{leaves_then}
 use Rattle.cache_replay.proofs.WholeReads.{answered_as}
 use Rattle.cache_replay.proofs.Counts.{broken_tells}
 use Rattle.cache_replay.proofs.getting.read_to_end.Goals as goal
 
 pub returns-in-End-clause-answers : goal.returns-in-End-clause-answers
 returns-in-End-clause-answers g c = λ b under.
-    answered_as b (seen_in g.D.Disk g.R.Directory c.read_more.new.stripe).device.faults (kept_in g.C.Chronicle c.read_more.new.stripe) _ c.args.reader.now.reader c.read_more.new.body.items
+    answered_as b (seen_in g.D.Disk g.R.Directory c.read_more.new.stripe).device.past (kept_in g.C.Chronicle c.read_more.new.stripe) _ c.args.reader.now.reader c.read_more.new.body.items
     (answer.Got c.loop-body.reader.put c.in-End.length c.read_more.new.body.items) (answer.Got c.args.put c.in-End.length c.read_more.new.body.items)
     (c.read_more.ensures.number ∙ c.loop-body.invariant.number) (ap (λ n. answer.Got n c.in-End.length c.read_more.new.body.items) (c.loop-body.invariant.put ∙ sym c.requires.put))
     ((rw c.in-End.is at c.in_ok-read_more.ensures.comes) b (c.loop-body.invariant.under b under))
 
 pub returns-in-NotYet-clause-answers : goal.returns-in-NotYet-clause-answers
 returns-in-NotYet-clause-answers g c = λ b under.
-    answered_as b (seen_in g.D.Disk g.R.Directory c.read_more.new.stripe).device.faults (kept_in g.C.Chronicle c.read_more.new.stripe) _ c.args.reader.now.reader []
+    answered_as b (seen_in g.D.Disk g.R.Directory c.read_more.new.stripe).device.past (kept_in g.C.Chronicle c.read_more.new.stripe) _ c.args.reader.now.reader []
     (answer.Follow c.loop-body.reader.put) (answer.Follow c.args.put)
     (c.read_more.ensures.number ∙ c.loop-body.invariant.number) (ap (λ n. answer.Follow n) (c.loop-body.invariant.put ∙ sym c.requires.put))
     ((rw c.in-NotYet.is at c.in_ok-read_more.ensures.comes) b (c.loop-body.invariant.under b under))
 
 pub returns-in-Broken-clause-answers : goal.returns-in-Broken-clause-answers
 returns-in-Broken-clause-answers g c = λ b under.
-    subst (λ n. IsAnswered b (seen_in g.D.Disk g.R.Directory c.read_more.new.stripe).device.faults (kept_in g.C.Chronicle c.read_more.new.stripe) (StopReading n ∷ []) [] (broken_said c.in-Broken.why))
+    subst (λ n. IsAnswered b (seen_in g.D.Disk g.R.Directory c.read_more.new.stripe).device.past (kept_in g.C.Chronicle c.read_more.new.stripe) (StopReading n ∷ []) [] (broken_said c.in-Broken.why))
     (c.read_more.ensures.number ∙ c.loop-body.invariant.number)
     ((rw c.in-Broken.is at c.in_ok-read_more.ensures.comes) b (c.loop-body.invariant.under b under))
 
@@ -42,9 +45,10 @@ loop-body-preserved g c = record {
   hit = ap is_some c.read_more.ensures.table ∙ c.loop-body.invariant.hit;
   page = grind (arith, common_steps);
   under = λ b under. (rw c.in-Piece.is at c.in_ok-read_more.ensures.comes) b (c.loop-body.invariant.under b under);
-  leaves = grind (arith, common_steps);
+  leaves = leaves_then None (Some c.args.reader.now.reader) _ _ _ c.loop-body.invariant.leaves (subst (λ n. LeavesBut None (Some n) (state_in g.C.Chronicle c.loop-body.stripe) (state_in g.C.Chronicle c.read_more.new.stripe)) c.loop-body.invariant.number c.read_more.ensures.leaves);
   harms = λ b run under told owned. stays_then (c.loop-body.invariant.harms b run under told owned) (c.read_more.ensures.unharmed b run (c.loop-body.invariant.under b under) told owned);
   goes = goes_further _ _ _ c.loop-body.invariant.goes c.read_more.ensures.goes;
+  accounted = accounted_then _ _ _ _ _ _ c.loop-body.invariant.accounted c.read_more.ensures.accounted;
   later = omega (arith, c.read_more.ensures.later, c.loop-body.invariant.later);
 }
 
@@ -79,3 +83,15 @@ returns-in-NotYet-clause-goes g c = goes_further _ _ _ c.loop-body.invariant.goe
 
 pub returns-in-Broken-clause-goes : goal.returns-in-Broken-clause-goes
 returns-in-Broken-clause-goes g c = goes_further _ _ _ c.loop-body.invariant.goes c.read_more.ensures.goes
+
+pub returns-in_err-read_more-clause-accounted : goal.returns-in_err-read_more-clause-accounted
+returns-in_err-read_more-clause-accounted g c = accounted_then _ _ _ _ _ _ c.loop-body.invariant.accounted c.read_more.ensures.accounted
+
+pub returns-in-End-clause-accounted : goal.returns-in-End-clause-accounted
+returns-in-End-clause-accounted g c = accounted_then _ _ _ _ _ _ c.loop-body.invariant.accounted c.read_more.ensures.accounted
+
+pub returns-in-NotYet-clause-accounted : goal.returns-in-NotYet-clause-accounted
+returns-in-NotYet-clause-accounted g c = accounted_then _ _ _ _ _ _ c.loop-body.invariant.accounted c.read_more.ensures.accounted
+
+pub returns-in-Broken-clause-accounted : goal.returns-in-Broken-clause-accounted
+returns-in-Broken-clause-accounted g c = accounted_then _ _ _ _ _ _ c.loop-body.invariant.accounted c.read_more.ensures.accounted

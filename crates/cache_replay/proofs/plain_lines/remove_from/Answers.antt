@@ -1,6 +1,7 @@
 use Rattle.std.proofs.Common.{subst}
 use Rattle.stripe_core.specs.Stripe.{kept_in, state_in}
 use Rattle.stripe_write.specs.Removals.{removal_adds}
+use Rattle.stripe_core.proofs.Between.{accounted_is}
 use Rattle.stripe_write.proofs.Spending.{state_behind}
 use Rattle.script_lang.specs.declared.step.Step.TheVariants as step
 use Rattle.cache_replay.specs.Plain.{Plainly}
@@ -14,9 +15,12 @@ pub returns-in-Ok-Removed-clause-ends : goal.returns-in-Ok-Removed-clause-ends
 returns-in-Ok-Removed-clause-ends g c = λ run.
     let s = state_in g.C.Chronicle c.args.part.now.stripe in
     let t = state_in g.C.Chronicle c.remove.new.stripe in
+    let before = (seen_in g.D.Disk g.R.Directory c.args.part.now.stripe).device.past in
+    let after = (seen_in g.D.Disk g.R.Directory c.remove.new.stripe).device.past in
     let a = c.in-Ok-Removed.field-0 in
-    subst (λ r. Plainly run (step.Remove c.args.key) s t (removed_as r)) c.in-Ok-Removed.field-0-is
-    (removes run s t c.args.key a
+    subst (λ r. Plainly run (step.Remove c.args.key) before after s t (removed_as r)) c.in-Ok-Removed.field-0-is
+    (removes run before after s t c.args.key a
+    (accounted_is before after (kept_in g.C.Chronicle c.args.part.now.stripe) (kept_in g.C.Chronicle c.remove.new.stripe) (removal_adds c.args.key a) c.remove.ensures.unharmed.accounted c.in-Ok-Removed.ensures.adds)
     (state_behind (kept_in g.C.Chronicle c.args.part.now.stripe) (kept_in g.C.Chronicle c.remove.new.stripe) (removal_adds c.args.key a) c.in-Ok-Removed.ensures.adds)
     c.in-Ok-Removed.ensures.quiet c.in-Ok-Removed.ensures.removes c.in-Ok-Removed.ensures.does)
 
@@ -24,9 +28,12 @@ pub returns-in-Ok-Absent-clause-ends : goal.returns-in-Ok-Absent-clause-ends
 returns-in-Ok-Absent-clause-ends g c = λ run.
     let s = state_in g.C.Chronicle c.args.part.now.stripe in
     let t = state_in g.C.Chronicle c.remove.new.stripe in
+    let before = (seen_in g.D.Disk g.R.Directory c.args.part.now.stripe).device.past in
+    let after = (seen_in g.D.Disk g.R.Directory c.remove.new.stripe).device.past in
     let a = c.in-Ok-Absent.field-0 in
-    subst (λ r. Plainly run (step.Remove c.args.key) s t (removed_as r)) c.in-Ok-Absent.field-0-is
-    (removes run s t c.args.key a
+    subst (λ r. Plainly run (step.Remove c.args.key) before after s t (removed_as r)) c.in-Ok-Absent.field-0-is
+    (removes run before after s t c.args.key a
+    (accounted_is before after (kept_in g.C.Chronicle c.args.part.now.stripe) (kept_in g.C.Chronicle c.remove.new.stripe) (removal_adds c.args.key a) c.remove.ensures.unharmed.accounted c.in-Ok-Absent.ensures.adds)
     (state_behind (kept_in g.C.Chronicle c.args.part.now.stripe) (kept_in g.C.Chronicle c.remove.new.stripe) (removal_adds c.args.key a) c.in-Ok-Absent.ensures.adds)
     c.in-Ok-Absent.ensures.quiet c.in-Ok-Absent.ensures.removes c.in-Ok-Absent.ensures.does)
 

@@ -1,5 +1,6 @@
 use Rattle.std.proofs.Common.{refl}
 use Rattle.stripe_core.specs.Stripe.{state_in}
+use Rattle.cache_replay.specs.Session.{past_of}
 use Rattle.script_lang.specs.declared.step.Step.TheVariants as step
 use Rattle.cache_replay.proofs.OnPart.{line_device, no_device}
 use Rattle.cache_replay.proofs.OnSession.{at_moment, line_ends, line_session, remove_plain}
@@ -13,7 +14,7 @@ pub returns-in-Some-clause-ends : goal.returns-in-Some-clause-ends
 returns-in-Some-clause-ends g c =
     line_ends g.D.Disk g.R.Directory g.C.Chronicle c.steps_tell.ensures c.steps_own.ensures c.args.session.now _ c.in-Some.part c.remove_from.new.part _ c.remove_from.result (remove_plain c.args.key)
     c.in-Some.is refl refl refl (λ n. refl) c.remove_from.ensures.leaves c.remove_from.ensures.unharmed c.requires.session
-    (at_moment (step.Remove c.args.key) (state_in g.C.Chronicle c.in-Some.part.stripe) (state_in g.C.Chronicle c.remove_from.new.part.stripe) _ c.remove_from.result c.remove_from.ensures.ends)
+    (at_moment (step.Remove c.args.key) (past_of g.D.Disk g.R.Directory c.in-Some.part) (past_of g.D.Disk g.R.Directory c.remove_from.new.part) (state_in g.C.Chronicle c.in-Some.part.stripe) (state_in g.C.Chronicle c.remove_from.new.part.stripe) _ c.remove_from.result c.remove_from.ensures.ends)
 
 pub returns-in-Some-clause-device : goal.returns-in-Some-clause-device
 returns-in-Some-clause-device g c =

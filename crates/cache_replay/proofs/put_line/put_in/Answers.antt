@@ -9,8 +9,8 @@ use Rattle.cache_replay.proofs.put_line.put_in.Goals as goal
 
 pub returns-in-Some-clause-ends : goal.returns-in-Some-clause-ends
 returns-in-Some-clause-ends g c = λ run moment told.
-    puts c.args.now (seen_in g.D.Disk g.R.Directory c.args.part.now.stripe).device.faults (seen_in g.D.Disk g.R.Directory c.put.new.stripe).device.faults
-    (kept_in g.C.Chronicle c.args.part.now.stripe) (kept_in g.C.Chronicle c.put.new.stripe) c.args.key c.args.body.now c.args.request c.args.response run moment told
+    puts c.args.now (seen_in g.D.Disk g.R.Directory c.args.part.now.stripe).device.past (seen_in g.D.Disk g.R.Directory c.put.new.stripe).device.past
+    (kept_in g.C.Chronicle c.args.part.now.stripe) (kept_in g.C.Chronicle c.put.new.stripe) c.put.ensures.unharmed.accounted c.put.ensures.quiet c.args.key c.args.body.now c.args.request c.args.response run moment told
     c.put.result c.in-Some.said (sym c.closed_answer.ensures ∙ c.in-Some.is) c.put.ensures.puts
 
 pub returns-in-Some-clause-counts : goal.returns-in-Some-clause-counts

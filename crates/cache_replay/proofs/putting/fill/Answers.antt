@@ -7,7 +7,7 @@ use Rattle.cache_replay.specs.Feeding.{FeedsWhere, IsCutWhere, IsOpenBehind}
 use Rattle.cache_replay.proofs.PutEnds.{closes_fill, refused_fill}
 use Rattle.std.proofs.Common.{◌≤◌}
 use Rattle.cache_replay.specs.Outline.{count_of_refusal}
-use Rattle.cache_replay.proofs.Counts.{close_counts, err_when, feed_counts, losses_own}
+use Rattle.cache_replay.proofs.Counts.{close_counts, err_when, losses_own, some_at}
 use Rattle.stripe_core.proofs.Between.{between-trans}
 use Rattle.cache_replay.proofs.putting.fill.Goals as goal
 
@@ -16,15 +16,15 @@ returns-in-None-clause-fills g c =
     let first = c.args.stripe.now in
     let now = c.feed.new.stripe in
     let w = c.args.writer.now in
-    let b = (seen_in g.D.Disk g.R.Directory first).device.faults in
-    let m = (seen_in g.D.Disk g.R.Directory now).device.faults in
+    let b = (seen_in g.D.Disk g.R.Directory first).device.past in
+    let m = (seen_in g.D.Disk g.R.Directory now).device.past in
     let number = c.feed.ensures.fed.put in
     let writing = subst (λ q. is_writing (state_in g.C.Chronicle now) q ≡ true) (sym number) (subst (IsOpenBehind (state_in g.C.Chronicle now) w.put) c.in-None.is c.feed.ensures.writing) in
-    closes_fill c.args.now b m (seen_in g.D.Disk g.R.Directory c.close_write.new.stripe).device.faults (kept_in g.C.Chronicle first) (kept_in g.C.Chronicle now) (kept_in g.C.Chronicle c.close_write.new.stripe)
+    closes_fill c.args.now b m (seen_in g.D.Disk g.R.Directory c.close_write.new.stripe).device.past (kept_in g.C.Chronicle first) (kept_in g.C.Chronicle now) (kept_in g.C.Chronicle c.close_write.new.stripe)
     w c.feed.new.writer c.args.body.now c.requires.stripe.pieces.sound c.requires.fresh number
     (subst (λ o. IsCutWhere (state_in g.C.Chronicle first).geometry.fragment w c.args.body.now o c.feed.new.writer) c.in-None.is c.feed.ensures.cut) c.feed.ensures.writer writing
     (subst (FeedsWhere c.args.now b m (kept_in g.C.Chronicle first) (kept_in g.C.Chronicle now) w c.args.body.now) c.in-None.is c.feed.ensures.feeds)
-    c.feed.ensures.later c.close_write.ensures.later c.close_write.result c.close_write.ensures.does c.close_write.ensures.closes
+    c.feed.ensures.unharmed.goes.made c.close_write.ensures.unharmed.goes.made c.feed.ensures.unharmed.goes.past c.close_write.ensures.unharmed.goes.past c.close_write.result c.close_write.ensures.does c.close_write.ensures.closes
 
 pub returns-in-None-clause-own : goal.returns-in-None-clause-own
 returns-in-None-clause-own g c =
@@ -33,8 +33,8 @@ returns-in-None-clause-own g c =
 
 pub returns-in-Some-clause-fills : goal.returns-in-Some-clause-fills
 returns-in-Some-clause-fills g c =
-    let b = (seen_in g.D.Disk g.R.Directory c.args.stripe.now).device.faults in
-    let m = (seen_in g.D.Disk g.R.Directory c.feed.new.stripe).device.faults in
+    let b = (seen_in g.D.Disk g.R.Directory c.args.stripe.now).device.past in
+    let m = (seen_in g.D.Disk g.R.Directory c.feed.new.stripe).device.past in
     refused_fill c.args.now b m (kept_in g.C.Chronicle c.args.stripe.now) (kept_in g.C.Chronicle c.feed.new.stripe) c.args.writer.now c.args.body.now c.requires.fresh c.in-Some.why
     (subst (FeedsWhere c.args.now b m (kept_in g.C.Chronicle c.args.stripe.now) (kept_in g.C.Chronicle c.feed.new.stripe) c.args.writer.now c.args.body.now) c.in-Some.is c.feed.ensures.feeds)
 
@@ -47,10 +47,7 @@ returns-in-None-clause-counts g c =
 
 pub returns-in-Some-clause-counts : goal.returns-in-Some-clause-counts
 returns-in-Some-clause-counts g c = λ none.
-    let b = (seen_in g.D.Disk g.R.Directory c.args.stripe.now).device.faults in
-    let m = (seen_in g.D.Disk g.R.Directory c.feed.new.stripe).device.faults in
-    feed_counts c.args.now b m (kept_in g.C.Chronicle c.args.stripe.now) (kept_in g.C.Chronicle c.feed.new.stripe) c.args.writer.now c.args.body.now c.in-Some.why
-    (subst (FeedsWhere c.args.now b m (kept_in g.C.Chronicle c.args.stripe.now) (kept_in g.C.Chronicle c.feed.new.stripe) c.args.writer.now c.args.body.now) c.in-Some.is c.feed.ensures.feeds)
+    some_at (λ why. count_of_refusal why ≤ (seen_in g.D.Disk g.R.Directory c.feed.new.stripe).device.faults) c.feed.result.refused c.in-Some.why c.in-Some.is c.feed.ensures.counts
 
 pub returns-in-None-clause-unharmed : goal.returns-in-None-clause-unharmed
 returns-in-None-clause-unharmed g c = between-trans _ _ _ _ _ _ c.feed.ensures.unharmed c.close_write.ensures.unharmed

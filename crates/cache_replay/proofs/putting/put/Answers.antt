@@ -5,6 +5,7 @@ use Rattle.cache_replay.proofs.PutOpens.{is_fresh, leaves_opened, puts_opened, p
 use Rattle.stripe_core.specs.Stripe.{state_in}
 use Rattle.cache_replay.proofs.Counts.{err_after, open_counts}
 use Rattle.cache_replay.proofs.ReaderFrames.{losses_then}
+use Rattle.stripe_core.proofs.Between.{between-trans}
 use Rattle.cache_replay.proofs.putting.put.Goals as goal
 
 abbrev nobody : Actor
@@ -20,8 +21,8 @@ pub returns-in-Ok-clause-puts : goal.returns-in-Ok-clause-puts
 returns-in-Ok-clause-puts g c =
     let opened = c.in-Ok.ensures in
     puts_opened (kept_in g.C.Chronicle c.args.stripe.now) (kept_in g.C.Chronicle c.open_write.new.stripe) nobody c.args.key c.args.request c.args.response c.in-Ok.writer opened.adds
-    c.args.now (seen_in g.D.Disk g.R.Directory c.args.stripe.now).device.faults (seen_in g.D.Disk g.R.Directory c.open_write.new.stripe).device.faults (seen_in g.D.Disk g.R.Directory c.put_open.new.stripe).device.faults
-    (kept_in g.C.Chronicle c.put_open.new.stripe) c.args.body.now c.groups_tell.ensures c.requires.stripe.pieces.sound refl c.put_open.ensures.quiet opened.does c.open_write.ensures.later c.put_open.result c.put_open.ensures.ends
+    c.args.now (seen_in g.D.Disk g.R.Directory c.args.stripe.now).device.past (seen_in g.D.Disk g.R.Directory c.open_write.new.stripe).device.past (seen_in g.D.Disk g.R.Directory c.put_open.new.stripe).device.past
+    (kept_in g.C.Chronicle c.put_open.new.stripe) c.args.body.now c.groups_tell.ensures c.requires.stripe.pieces.sound refl opened.does c.open_write.ensures.unharmed.goes.made c.open_write.ensures.unharmed.goes.past c.put_open.result c.put_open.ensures.ends
 
 pub returns-in-Ok-clause-leaves : goal.returns-in-Ok-clause-leaves
 returns-in-Ok-clause-leaves g c =
@@ -32,7 +33,7 @@ returns-in-Ok-clause-leaves g c =
 pub returns-in-Err-clause-puts : goal.returns-in-Err-clause-puts
 returns-in-Err-clause-puts g c =
     let refused = c.in-Err.ensures in
-    puts_refused c.args.now (seen_in g.D.Disk g.R.Directory c.args.stripe.now).device.faults (seen_in g.D.Disk g.R.Directory c.open_write.new.stripe).device.faults
+    puts_refused c.args.now (seen_in g.D.Disk g.R.Directory c.args.stripe.now).device.past (seen_in g.D.Disk g.R.Directory c.open_write.new.stripe).device.past
     (kept_in g.C.Chronicle c.args.stripe.now) (kept_in g.C.Chronicle c.open_write.new.stripe) nobody c.args.key c.args.body.now c.args.request c.args.response refl
     refused.err c.open_write.ensures.quiet c.requires.stripe.actors.puts_fall c.in-Err.why refused.does
 
@@ -41,3 +42,6 @@ returns-in-Ok-clause-counts g c = err_after _ c.put_open.result (losses_then (ke
 
 pub returns-in-Err-clause-counts : goal.returns-in-Err-clause-counts
 returns-in-Err-clause-counts g c = λ none. open_counts (state_in g.C.Chronicle c.args.stripe.now) nobody c.args.key c.args.request c.args.response 0 _ c.in-Err.why c.in-Err.ensures.does
+
+pub returns-in-Ok-clause-unharmed : goal.returns-in-Ok-clause-unharmed
+returns-in-Ok-clause-unharmed g c = between-trans _ _ _ _ _ _ c.open_write.ensures.unharmed c.put_open.ensures.unharmed

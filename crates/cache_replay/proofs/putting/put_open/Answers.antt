@@ -5,15 +5,18 @@ use Rattle.std.specs.Prelude.{IfErr}
 use Rattle.cache_replay.specs.Outline.{count_of_refusal}
 use Rattle.cache_replay.proofs.Counts.{err_now, err_when, unless_counts}
 use Rattle.stripe_core.proofs.Between.{between-trans}
+use Rattle.stripe_write.specs.Others.{AddsOfPut}
+use Rattle.stripe_write.proofs.Owning.{then_owns}
+use Rattle.cache_replay.proofs.WriterSteps.{owns_end}
 use Rattle.cache_replay.proofs.putting.put_open.Goals as goal
 
 pub returns-clause-ends : goal.returns-clause-ends
 returns-clause-ends g c =
     let fed = c.fill-result in
     let given = c.abort_write-end in
-    body_ends_at c.args.now (seen_in g.D.Disk g.R.Directory c.args.stripe.now).device.faults (seen_in g.D.Disk g.R.Directory fed.new.stripe).device.faults (seen_in g.D.Disk g.R.Directory given.new.stripe).device.faults
+    body_ends_at c.args.now (seen_in g.D.Disk g.R.Directory c.args.stripe.now).device.past (seen_in g.D.Disk g.R.Directory fed.new.stripe).device.past (seen_in g.D.Disk g.R.Directory given.new.stripe).device.past
     (kept_in g.C.Chronicle c.args.stripe.now) (kept_in g.C.Chronicle fed.new.stripe) (kept_in g.C.Chronicle given.new.stripe) c.args.writer.now fed.new.writer c.args.body.now given.result fed.result c.unless_memory.result
-    given.ensures.later fed.ensures.put fed.ensures.fills given.ensures.adds given.ensures.aborts given.ensures.does c.unless_memory.ensures
+    given.ensures.unharmed.goes.made given.ensures.unharmed.goes.past fed.ensures.put fed.ensures.fills given.ensures.adds given.ensures.aborts given.ensures.does c.unless_memory.ensures
 
 pub returns-clause-counts : goal.returns-clause-counts
 returns-clause-counts g c =
@@ -25,3 +28,10 @@ returns-clause-counts g c =
 
 pub returns-clause-unharmed : goal.returns-clause-unharmed
 returns-clause-unharmed g c = between-trans _ _ _ _ _ _ c.fill-result.ensures.unharmed c.abort_write-end.ensures.unharmed
+
+pub returns-clause-own : goal.returns-clause-own
+returns-clause-own g c =
+    let mid = kept_in g.C.Chronicle c.fill-result.new.stripe in
+    let new = kept_in g.C.Chronicle c.abort_write-end.new.stripe in
+    then_owns c.args.writer.now.put (kept_in g.C.Chronicle c.args.stripe.now) mid new c.fill-result.ensures.own (subst (λ q. AddsOfPut q mid new) c.fill-result.ensures.put
+    (owns_end mid new c.fill-result.new.writer.put c.fill-result.new.writer.key c.abort_write-end.result c.abort_write-end.ensures.adds c.abort_write-end.ensures.aborts))

@@ -45,7 +45,7 @@ returns-clause-ends g c =
     c.in_ok-number.ensures.number refl (c.give_reader.ensures.names ∙ c.in_ok-number.ensures.names)
     (sym (c.in_ok-number.ensures.slots c.in_ok-number.number) ∙ none_there (slots_of c.number.new.self c.in_ok-number.number) (sym c.has_something.ensures ∙ c.if-has_something.false))
     (changed_from (slots_of c.args.actors.now) (slots_of c.number.new.self) (slots_of c.give_reader.new.actors) c.in_ok-number.number (as_held (reader_opened c.in_ok-opened.opened)) c.in_ok-number.ensures.slots c.give_reader.ensures.slots)
-    c.in_ok-opened.ensures.adds c.in_ok-opened.ensures.tells c.in_ok-opened.ensures.opens c.requires.active c.in_ok-opened.ensures.quiet
+    c.in_ok-opened.ensures.adds c.in_ok-opened.ensures.tells c.in_ok-opened.ensures.opens c.requires.active c.in_ok-opened.ensures.quiet c.in_ok-opened.ensures.unharmed
 
 pub returns-clause-counts : goal.returns-clause-counts
 returns-clause-counts g c =

@@ -28,11 +28,11 @@ returns-clause-leaves g c =
 
 pub returns-clause-ends : goal.returns-clause-ends
 returns-clause-ends g c = λ run owned reader.
-    subst (NextEnds run (state_in g.C.Chronicle c.args.stripe.now) (state_in g.C.Chronicle c.read_next.new.stripe) c.args.reader.now c.read_next.new.reader)
+    subst (NextEnds run (seen_in g.D.Disk g.R.Directory c.args.stripe.now).device.past (seen_in g.D.Disk g.R.Directory c.read_next.new.stripe).device.past (state_in g.C.Chronicle c.args.stripe.now) (state_in g.C.Chronicle c.read_next.new.stripe) c.args.reader.now c.read_next.new.reader)
     (sym c.in_ok-piece_said.ensures)
     (next_ends c.read_is_own.ensures (kept_in g.C.Chronicle c.args.stripe.now) (kept_in g.C.Chronicle c.read_next.new.stripe)
     (seen_in g.D.Disk g.R.Directory c.args.stripe.now).device (seen_in g.D.Disk g.R.Directory c.read_next.new.stripe).device
-    c.args.reader.now c.read_next.new.reader c.in_ok-piece.piece c.read_next.new.into c.in_ok-piece.ensures.adds c.in_ok-piece.ensures.reads c.in_ok-piece.ensures.keeps c.requires.reader.first run owned reader)
+    c.args.reader.now c.read_next.new.reader c.in_ok-piece.piece c.read_next.new.into c.in_ok-piece.ensures.adds c.in_ok-piece.ensures.accounted c.in_ok-piece.ensures.reads c.in_ok-piece.ensures.keeps c.requires.reader.first run owned reader)
 
 pub returns-in_err-piece-clause-unharmed : goal.returns-in_err-piece-clause-unharmed
 returns-in_err-piece-clause-unharmed g c =

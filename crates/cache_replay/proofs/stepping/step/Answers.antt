@@ -1,4 +1,4 @@
-use Rattle.std.proofs.Common.{ap, arith, sym, inl, ◌+◌}
+use Rattle.std.proofs.Common.{ap, sym, inl, ◌+◌}
 use Rattle.script_run.specs.Ledger.{ledger_of}
 use Rattle.device_bay.specs.Calls.{out_of}
 use Rattle.dir_table.specs.contracts.list.ListDirectoryDirectory.TheImpl.{ghosts as listed}
@@ -16,7 +16,7 @@ returns-in_default g c =
       session = c.in_session.ensures.session;
       ends = all_ends _ _ _ c.in_session.result c.args.step c.args.session.now c.in_session.new.session (ledger_of g.B.Bay c.args.bay.now) needs c.in_session.ensures.ends;
       outline = all_outlines _ _ _ c.in_session.result c.args.step c.args.session.now c.in_session.new.session (ledger_of g.B.Bay c.args.bay.now) needs c.in_session.ensures.device c.in_session.ensures.counts;
-      left = all_left _ _ _ c.in_session.result c.args.step c.args.session.now c.in_session.new.session (ledger_of g.B.Bay c.args.bay.now) c.in_session.ensures.device;
+      left = all_left _ _ _ c.in_session.result c.args.step c.args.session.now c.in_session.new.session (ledger_of g.B.Bay c.args.bay.now) c.in_session.ensures.stop c.in_session.ensures.device;
       stop = all_stops c.in_session.result c.args.step c.args.session.now (g.B.Bay.past c.args.bay.now) (g.B.Bay.past c.args.bay.now) needs c.in_session.ensures.stop;
       out = ap (λ n. out_of (g.B.Bay.past c.args.bay.now) + n) (sym c.in_session.ensures.devices);
       names = c.in_session.ensures.names;

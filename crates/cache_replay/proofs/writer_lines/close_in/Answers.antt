@@ -36,7 +36,7 @@ returns-in-Some-clause-ends g c =
 pub returns-in-None-clause-ends : goal.returns-in-None-clause-ends
 returns-in-None-clause-ends g c = λ run moment plays.
     let n = c.in-Ok.number in
-    subst (PartEnds g.C.Chronicle run (state_in g.C.Chronicle c.args.part.now.stripe) (step.Close c.args.actor.now) c.args.part.now c.take_writer.new.actors) (sym c.idle.ensures)
+    subst (PartEnds g.D.Disk g.R.Directory g.C.Chronicle run c.args.part.now (step.Close c.args.actor.now) c.args.part.now c.take_writer.new.actors) (sym c.idle.ensures)
     (idles_by g.D.Disk g.R.Directory g.C.Chronicle c.others_stay.ensures c.args.part.now c.args.part.now c.args.actors.now c.take_writer.new.actors n Closes c.args.actor.now tt c.in-Ok.ensures.number c.requires.active
     (no_taken c.args.actors.now c.number.new.self c.take_writer.new.actors n c.number.ensures.slots c.in-None.ensures.takes)
     (none_changed c.args.actors.now c.number.new.self c.take_writer.new.actors n c.number.ensures.slots c.in-None.ensures.takes) (c.in-None.ensures.names ∙ c.in-Ok.ensures.names) run plays)

@@ -17,8 +17,8 @@ returns-clause-left g c =
 
 pub returns-clause-does : goal.returns-clause-does
 returns-clause-does g c =
-    subst (WriterDoes c.args.now (state_in g.C.Chronicle c.args.stripe.now) (state_in g.C.Chronicle c.close_write-result.new.stripe) Closes c.args.writer c.keep_open.result) (sym c.closed_answer.ensures)
-    (closes_line c.args.now (kept_in g.C.Chronicle c.args.stripe.now) (kept_in g.C.Chronicle c.close_write-result.new.stripe) _ _ c.args.writer c.close_write-result.new.writer c.keep_open.result
+    subst (WriterDoes c.args.now (seen_in g.D.Disk g.R.Directory c.args.stripe.now).device.past (seen_in g.D.Disk g.R.Directory c.close_write-result.new.stripe).device.past (state_in g.C.Chronicle c.args.stripe.now) (state_in g.C.Chronicle c.close_write-result.new.stripe) Closes c.args.writer c.keep_open.result) (sym c.closed_answer.ensures)
+    (closes_line c.args.now (kept_in g.C.Chronicle c.args.stripe.now) (kept_in g.C.Chronicle c.close_write-result.new.stripe) _ _ c.close_write-result.ensures.unharmed.accounted c.args.writer c.close_write-result.new.writer c.keep_open.result
     c.close_write-result.ensures.quiet c.requires.writing c.requires.writer c.close_write-result.ensures.rested c.keep_open.ensures
     c.close_write-result.result c.close_write-result.ensures.closes c.close_write-result.ensures.does c.close_write-result.ensures.seals)
 

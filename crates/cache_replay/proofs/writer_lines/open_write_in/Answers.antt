@@ -10,7 +10,7 @@ use Rattle.cache_replay.proofs.writer_lines.open_write_in.Goals as goal
 
 pub returns-in-Some-clause-ends : goal.returns-in-Some-clause-ends
 returns-in-Some-clause-ends g c = λ run plays.
-    subst (PartEnds g.C.Chronicle run (state_in g.C.Chronicle c.args.part.now.stripe) (step.OpenWrite c.args.actor.now c.args.key c.args.pin c.args.request c.args.response) c.args.part.now c.number.new.self) (sym c.busy.ensures)
+    subst (PartEnds g.D.Disk g.R.Directory g.C.Chronicle run c.args.part.now (step.OpenWrite c.args.actor.now c.args.key c.args.pin c.args.request c.args.response) c.args.part.now c.number.new.self) (sym c.busy.ensures)
     (busy_in g.D.Disk g.R.Directory g.C.Chronicle c.others_stay.ensures c.args.part.now c.args.part.now c.args.actors.now c.number.new.self c.in-Ok.number c.args.actor.now c.args.key c.args.pin c.args.request c.args.response
     c.in-Some.field-0.now c.in-Ok.ensures.number c.requires.active (sym (c.number.ensures.slots c.in-Ok.number) ∙ sym c.in-Some.ensures) c.number.ensures.slots c.in-Ok.ensures.names run plays)
 

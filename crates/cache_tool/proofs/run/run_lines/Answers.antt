@@ -1,5 +1,5 @@
 use Rattle.std.proofs.Common.{[], refl, ◌∙◌, arith, length, ap}
-use Rattle.edge_io.specs.LineReader.{held, source_of}
+use Rattle.edge_io.specs.LineReader.{source_of}
 use Rattle.edge_io.proofs.Draws.{draws_more, draws_nothing}
 use Rattle.script_run.specs.Ledger.{ledger_of}
 use Rattle.device_bay.specs.Calls.{refusals_of}
