@@ -166,9 +166,9 @@ module _ {D R C : Type 0} (disk : DiskGhosts D) (directory : DirectoryGhosts R) 
     pub named : (outline_after o step said).names ≡ o.names ++ names
     pub deals : Deals before now harms names
 
-  -- What a line leaves that ended the run for this reason, where so much was told of the session's device: the device, which
-  -- may have made calls where memory was wanting, and the bay as it was; or, of a format that wanted memory once its device
-  -- was attached, both devices came back, that of the session first, and there is no session.
+  -- What a line leaves that ended the run for this reason, where so much was told of the session's device: the bay as it
+  -- was, and the device, which may have made calls where memory was wanting; or, of a format that wanted memory once its
+  -- device was attached, both devices came back, that of the session first, and there is no session.
   pub data IsLeft (harms : List Harm) (step : Step) (new : Session D R C) (before now : Ledger) (why : Stop) : Type 0 where
     stays : AreReached (left_by why harms) (return_of disk directory chronicle new.part) → now ≡ before
         → IsLeft harms step new before now why
