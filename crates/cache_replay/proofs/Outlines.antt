@@ -27,7 +27,7 @@ use Rattle.cache_replay.specs.declared.stop.Stop.TheVariants.{BayFault, Memory, 
 use Rattle.cache_replay.specs.Outline.{IsAnswerOf, Outline, called, outline_in, begun, begun_by, count_in, format_answer, joined, outline_after, raised, told_of}
 use Rattle.cache_replay.specs.Session.{AreLater, TellsCount, return_of}
 use Rattle.cache_replay.specs.Stop.{AttachesAs, IsSessionStop, NeedsSession}
-use Rattle.cache_replay.specs.Plays.{CallsAt, IsLeft, IsOutlined, Outlines, stays}
+use Rattle.cache_replay.specs.Plays.{CallsAt, IsLeft, IsOutlined, Outlines, stays, tried}
 use Rattle.script_run.specs.Ledger.{AreReached, Deals, GoesOnFrom, Ledger}
 use Rattle.cache_replay.proofs.Unharming.{reached_loosely}
 
@@ -159,24 +159,18 @@ module _ {D R C : Type 0} (disk : DiskGhosts D) (directory : DirectoryGhosts R) 
   none_left [] None (Some part) none later h = absurd later
   none_left (harm ∷ harms) None new none later h = absurd h
 
-  pub all_left : (result : Result StepAnswer Stop) (s : Step) (old new : Session D R C) (ledger : Ledger) → IfErr result (IsSessionStop old) → AreLater (Returns old.part) (Returns new.part)
+  pub all_left : (result : Result StepAnswer Stop) (s : Step) (old new : Session D R C) (ledger : Ledger) → NeedsSession s → IfErr result (IsSessionStop old) → AreLater (Returns old.part) (Returns new.part)
       → IfErr result (λ why. (harms : List Harm) → AreReached harms (Returns old.part) → IsLeft disk directory chronicle harms s new ledger ledger why)
-  all_left (Ok said) s old new ledger stop later = tt
-  all_left (Err Memory) s old new ledger stop later = λ harms h. stays (reached_later harms (Returns old.part) (Returns new.part) later h) refl
-  all_left (Err NoCache) s old new ledger stop later = λ harms h. stays (none_left harms old.part new.part stop later h) refl
-  all_left (Err BayFault) s old new ledger stop later = absurd stop
+  all_left (Ok said) s old new ledger needs stop later = tt
+  all_left (Err Memory) s old new ledger needs stop later = λ harms h. tried needs refl (reached_later harms (Returns old.part) (Returns new.part) later h) refl
+  all_left (Err NoCache) s old new ledger needs stop later = λ harms h. stays (none_left harms old.part new.part stop later h) refl
+  all_left (Err BayFault) s old new ledger needs stop later = absurd stop
 
-  -- a line that ended the run before it did anything
-  pub stays_left : (harms : List Harm) (s : Step) (session : Session D R C) (before now : Ledger) (why : Stop) → now ≡ before → AreReached harms (Returns session.part) → IsLeft disk directory chronicle harms s session before now why
-  stays_left harms s session before now Memory same h = stays (reached_loosely harms (Returns session.part) h) same
-  stays_left harms s session before now NoCache same h = stays h same
-  stays_left harms s session before now BayFault same h = stays h same
-
-  -- the same, whatever it answered
+  -- a format that ended the run before it did anything, whatever it answered
   pub all_stays_left : {T : Type 0} (result : Result T Stop) (name : List ℕ) (session : Session D R C) (before now : Ledger) → now ≡ before
       → IfErr result (λ why. (harms : List Harm) (s : Step) → AttachesAs name s → AreReached harms (Returns session.part) → IsLeft disk directory chronicle harms s session before now why)
   all_stays_left (Ok x) name session before now same = tt
-  all_stays_left (Err why) name session before now same = λ harms s attaches h. stays_left harms s session before now why same h
+  all_stays_left (Err why) name session before now same = λ harms s attaches h. stays h same
 
   -- what is told of a device by the count 0
   joins_none : (session : Option Harm) (returns : List Device) → AreReached (told_of session) returns → AreReached (told_of (option_map (raised 0) session)) returns

@@ -27,7 +27,7 @@ use Rattle.cache_replay.specs.declared.session.Holding.{Holding}
 use Rattle.cache_replay.specs.declared.session.Holding.TheVariants as holding
 use Rattle.cache_replay.specs.declared.stop.Stop.{Stop}
 use Rattle.cache_replay.specs.declared.stop.Stop.TheVariants.{Memory}
-use Rattle.cache_replay.specs.Stop.{AttachesAs}
+use Rattle.cache_replay.specs.Stop.{AttachesAs, NeedsSession}
 use Rattle.cache_replay.specs.Outline.{IsAnswered, Outline, called, outline_after, outline_in, told_of}
 use Rattle.cache_replay.specs.Shown.{ShowsIn}
 use Rattle.cache_replay.specs.Session.{IsSession, names_in, past_of, return_of, slots_in, slots_of}
@@ -146,11 +146,6 @@ pub record DeviceMoves {D R C : Type 0} (disk : DiskGhosts D) (directory : Direc
 
 -- ---- whatever the records are worth
 
--- what was told of a device stands where a line ended the run, but for want of memory that line may have made calls
-abbrev pub left_by : Stop → List Harm → List Harm
-left_by Memory harms = map loosened harms
-left_by _ harms = harms
-
 module _ {D R C : Type 0} (disk : DiskGhosts D) (directory : DirectoryGhosts R) (chronicle : ChronicleGhosts C) where
   -- an outline has a session where there is one, of whose device no count above its own was told
   abbrev pub IsOutlined : Outline → Session D R C → Type 0
@@ -166,11 +161,13 @@ module _ {D R C : Type 0} (disk : DiskGhosts D) (directory : DirectoryGhosts R) 
     pub named : (outline_after o step said).names ≡ o.names ++ names
     pub deals : Deals before now harms names
 
-  -- What a line leaves that ended the run for this reason, where so much was told of the session's device: the bay as it
-  -- was, and the device, which may have made calls where memory was wanting; or, of a format that wanted memory once its
-  -- device was attached, both devices came back, that of the session first, and there is no session.
+  -- What a line leaves that ended the run for this reason, where so much was told of the session's device: it and the bay
+  -- are as they were; or the line works on the session and wanted memory, and may have made calls of the device; or, of a
+  -- format that wanted memory once its device was attached, both devices came back, that of the session first, and there is
+  -- no session.
   pub data IsLeft (harms : List Harm) (step : Step) (new : Session D R C) (before now : Ledger) (why : Stop) : Type 0 where
-    stays : AreReached (left_by why harms) (return_of disk directory chronicle new.part) → now ≡ before
+    stays : AreReached harms (return_of disk directory chronicle new.part) → now ≡ before → IsLeft harms step new before now why
+    tried : NeedsSession step → why ≡ Memory → AreReached (map loosened harms) (return_of disk directory chronicle new.part) → now ≡ before
         → IsLeft harms step new before now why
     ended : (name : List ℕ) → AttachesAs name step → new.part ≡ None → Deals before now (harms ++ no_harm ∷ []) (name ∷ []) → why ≡ Memory
         → IsLeft harms step new before now why

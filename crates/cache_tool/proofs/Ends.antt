@@ -1,6 +1,5 @@
 -- How each line that is not answered ends a run.
 use Rattle.std.proofs.Common.{◌≡◌, ℕ, ◌+◌, ◌-◌, ◌^◌, min, List, [], ◌∷◌, ◌++◌, length, length-append, append_assoc, append-nil, Option, Some, None, Ok, Err, refl, sym, ◌∙◌, ap, subst, arith, inl, inr, ◌⊎◌, lit≤}
-use Rattle.std.specs.Prelude.{map}
 use Rattle.device_log.specs.Faults.{next_count}
 use Rattle.device_log.specs.Streams.{SourceRead, SinkWrite, GaveBytes, CameToEnd, RefusedRead, refused_reads}
 use Rattle.edge_io.specs.Lines.{GivesLine}
@@ -20,7 +19,7 @@ use Rattle.script_lang.specs.declared.last.LastLine.{LastLine}
 use Rattle.script_lang.specs.declared.last.LastLine.TheVariants as last
 use Rattle.script_lang.specs.Texts.{answer_line}
 use Rattle.script_lang.specs.Grammar.{reading_of}
-use Rattle.script_run.specs.Run.{Harm, Run, fresh, loosened, no_harm}
+use Rattle.script_run.specs.Run.{Harm, Run, fresh, no_harm}
 use Rattle.script_run.specs.Behind.{harm_of}
 use Rattle.script_run.specs.Takes.{run_after}
 use Rattle.cache_replay.specs.Outline.{Outline, blank, told_of}
@@ -30,13 +29,13 @@ use Rattle.cache_replay.specs.declared.stop.Stop.TheVariants as stop
 use Rattle.cache_replay.specs.declared.session.Part.{Part}
 use Rattle.cache_replay.specs.declared.stop.Stop.{Stop as Stopped}
 use Rattle.cache_replay.specs.Session.{IsSession, devices_of, parts_of, return_of}
-use Rattle.cache_replay.specs.Plays.{IsLeft, IsOutlined, stays, ended, Plays}
+use Rattle.cache_replay.specs.Plays.{IsLeft, IsOutlined, stays, tried, ended, Plays}
 use Rattle.script_run.specs.Ledger.{AreReached, ComeBack, Deals, Ledger}
 use Rattle.cache_tool.specs.declared.run.Ending.{Ending}
 use Rattle.cache_tool.specs.declared.run.Ending.TheVariants as ending
 use Rattle.cache_tool.specs.declared.run.Halt.{Halt}
 use Rattle.cache_tool.specs.declared.run.Halt.TheVariants.{Stop, WriteFault, Memory}
-use Rattle.cache_tool.specs.Story.{Story, Told, Taken, Took, Recorded, ShownAlong, GoesOn, GaveBack, IsReadThrough, Owes, OwesOrGave, SendsAll, SendsBefore, SendsFront, CutsLast, Refusals, refusals, Because, all_in, own_loosened, told_by, told_in}
+use Rattle.cache_tool.specs.Story.{Story, Told, Taken, Took, Recorded, ShownAlong, GoesOn, GaveBack, IsReadThrough, Owes, OwesOrGave, SendsAll, SendsBefore, SendsFront, CutsLast, WantsInLine, Refusals, refusals, Because, all_in, own_loosened, told_by, told_in}
 use Rattle.cache_tool.specs.Ending.{Ends, FailedReads, IsOfRun}
 use Rattle.cache_tool.specs.Halt.{Written, Halts, Leaves, ending_of, last_of}
 use Rattle.cache_tool.proofs.Stories.{step_more, Deals-nothing, Deals-trans, Deals-settled, answered_with, along_with, story_with}
@@ -62,7 +61,7 @@ holds_none given before (CameToEnd ∷ more) old now count grew failed needed = 
 holds_none given before (RefusedRead k ∷ more) old now count grew failed needed = needed.0
 
 module _ (first now : List SourceRead) (taken_first taken : List SinkWrite) (ledger_first ledger : Ledger) (unread : List ℕ) (given : ℕ) (Outlined : Outline → Type 0) (Plays' : Run → Type 0)
-    (Reached : List Harm → Type 0) (loosely : (harms : List Harm) → Reached harms → Reached (map loosened harms)) (devices : ℕ) (reach : (o : Outline) → Outlined o → Reached (told_of o.session)) (reach_run : (run : Run) → Plays' run → Reached (harm_of run.calls run.state))
+    (Reached : List Harm → Type 0) (devices : ℕ) (reach : (o : Outline) → Outlined o → Reached (told_of o.session)) (reach_run : (run : Run) → Plays' run → Reached (harm_of run.calls run.state))
     (story : GoesOn first taken_first ledger_first now unread given taken ledger Outlined Plays') where
   -- what the records are worth as they stand
   still_recorded : (Devices : Told → Type 0) (Behind : Outline → Type 0) → ((t : Told) → Deals ledger_first ledger t.ended t.names → Reached t.own → Devices t) → ((o : Outline) → Outlined o → Behind o)
@@ -98,7 +97,7 @@ module _ (first now : List SourceRead) (taken_first taken : List SinkWrite) (led
   done_ends bay through = record { held = unread; given = given; story = still (SendsAll taken_first taken) _ _ story.text owes (λ o is. through) }
 
   pub memory_ends : (bay : Refusals) → Ends first now taken_first taken bay (Owes ledger_first ledger Reached) Wants ending.OutOfMemory
-  memory_ends bay = inl (record { held = unread; given = given; story = still (SendsAll taken_first taken) _ _ story.text (λ t deals reached. inl (owes (own_loosened t) deals (loosely t.own reached))) (λ o is. tt) })
+  memory_ends bay = inl (record { held = unread; given = given; story = still (SendsAll taken_first taken) _ _ story.text (λ t deals reached. inl (owes t deals reached)) (λ o is. tt) })
 
   stopped : (bay : Refusals) (why : LastLine) → ((o : Outline) → Outlined o → Because bay unread given o why) → Ends first now taken_first taken bay (Owes ledger_first ledger Reached) Wants (ending.Stopped why)
   stopped bay why because = record { held = unread; given = given; story = still (SendsAll taken_first taken) _ _ story.text owes because }
@@ -185,8 +184,10 @@ module _ {D R C : Type 0} (disk : DiskGhosts D) (directory : DirectoryGhosts R) 
     not_ended : (by : Stopped) → (by ≡ stop.Memory → ⊥) → (t : Told) → Deals ledger_first ledger t.ended t.names → IsLeft disk directory chronicle t.own step session ledger ledger' by → Owes ledger_first ledger' Reaches t
     not_ended stop.Memory other t deals left = absurd (other refl)
     not_ended stop.NoCache other t deals (stays reached same) = stays_owes t deals reached same
+    not_ended stop.NoCache other t deals (tried needs wanting reached same) = absurd (other wanting)
     not_ended stop.NoCache other t deals (ended name attaches none more wanting) = absurd (other wanting)
     not_ended stop.BayFault other t deals (stays reached same) = stays_owes t deals reached same
+    not_ended stop.BayFault other t deals (tried needs wanting reached same) = absurd (other wanting)
     not_ended stop.BayFault other t deals (ended name attaches none more wanting) = absurd (other wanting)
 
     halted : (why : LastLine) (by : Stopped) → (by ≡ stop.Memory → ⊥) → Leaves disk directory chronicle old step session ledger ledger' by → taken' ≡ taken → ((o : Outline) → Before o → Because bay unread given o why)
@@ -199,8 +200,10 @@ module _ {D R C : Type 0} (disk : DiskGhosts D) (directory : DirectoryGhosts R) 
 
     -- what is owed where memory was wanting
     wants : (t : Told) → Deals ledger_first ledger t.ended t.names → IsLeft disk directory chronicle t.own step session ledger ledger' stop.Memory → Wanting unread given t
-    wants t deals (stays reached same) = inl (stays_owes (own_loosened t) deals reached same)
-    wants t deals (ended name attaches none more wanting) = inr (
+    wants t deals (stays reached same) = inl (stays_owes t deals reached same)
+    wants t deals (tried needs wanting reached same) =
+        inr (inl (record { bytes = bytes; next = (unread', known); step = step; asks = asks; needs = needs; devices = stays_owes (own_loosened t) deals reached same }))
+    wants t deals (ended name attaches none more wanting) = inr (inr (
       rw none refl,
       record {
         bytes = bytes;
@@ -211,7 +214,7 @@ module _ {D R C : Type 0} (disk : DiskGhosts D) (directory : DirectoryGhosts R) 
         attaches = attaches;
         deals = rw append_assoc (Deals-trans ledger_first ledger ledger' t.ended (t.own ++ no_harm ∷ []) t.names (name ∷ []) deals more);
       },
-    )
+    ))
 
     -- without a session there is none in the outline
     none_found : (told : Option Harm) (part : Option (Part D R C)) → part ≡ None → AreReached (told_of told) (return_of disk directory chronicle part) → told ≡ None
@@ -347,6 +350,15 @@ module _ (bay : Refusals) (first now : List SourceRead) (old new : List SinkWrit
     | inl n ↦ inl (record { held = n.held; given = n.given; story = settled n.held n.given (SendsAll old new) (Wanting n.held n.given) (Wanting' n.held n.given) _ _ (settle_wanting n.held n.given) n.story })
     | inr l ↦ inr (record { held = l.held; given = l.given; story = settled l.held l.given (SendsBefore old new) Devices Devices' _ _ settle l.story })
   ]
+
+-- what is owed where memory was wanting, whatever comes of it
+pub wants_settled : (first ledger closed : Ledger) (devices : ℕ) (Reached : List Harm → Type 0) (held : List ℕ) (given : ℕ) (t : Told) → ((u : Told) → Owes first ledger Reached u → Deals first closed (all_in u) u.names)
+    → (devices ≡ 0 → GaveBack first ledger held given t → GaveBack first closed held given t) → OwesOrGave first ledger devices Reached held given t
+    → Deals first closed (all_in t) t.names ⊎ WantsInLine held given (Deals first closed (all_in (own_loosened t)) (own_loosened t).names) ⊎ GaveBack first closed held given t
+wants_settled first ledger closed devices Reached held given t settle gave (inl owes) = inl (settle t owes)
+wants_settled first ledger closed devices Reached held given t settle gave (inr (inl w)) =
+    inr (inl (record { bytes = w.bytes; next = w.next; step = w.step; asks = w.asks; needs = w.needs; devices = settle (own_loosened t) w.devices }))
+wants_settled first ledger closed devices Reached held given t settle gave (inr (inr g)) = inr (inr (gave g.0 g.1))
 
 -- no device was attached
 pub nothing_back : (ledger : Ledger) (t : Told) → t.ended ≡ [] → t.own ≡ [] → t.names ≡ [] → Deals ledger ledger (all_in t) t.names

@@ -10,8 +10,7 @@ use Rattle.script_lang.specs.declared.step.Step.{Step}
 use Rattle.script_lang.specs.declared.answer.StepAnswer.{StepAnswer}
 use Rattle.script_lang.specs.Grammar.{reading_of}
 use Rattle.script_lang.specs.Texts.{answer_line}
-use Rattle.std.specs.Prelude.{map}
-use Rattle.script_run.specs.Run.{Harm, Run, fresh, loosened}
+use Rattle.script_run.specs.Run.{Harm, Run, fresh}
 use Rattle.script_run.specs.Turn.{Turn, no_turn}
 use Rattle.script_run.specs.Behind.{after_line, after_step}
 use Rattle.script_run.specs.Takes.{LineShows, LineTakes, run_after}
@@ -22,8 +21,7 @@ use Rattle.cache_replay.specs.declared.session.Session.{Session}
 use Rattle.cache_replay.specs.Outline.{Outline, blank, called, outline_after, outline_in}
 use Rattle.cache_replay.specs.Lines.{AreAnswered, answers_of, outline_of, outline_read, reading_answer, text_of, texts_of}
 use Rattle.cache_replay.specs.Plays.{DeviceEnds, IsOutlined, Outlines}
-use Rattle.script_run.specs.Ledger.{AreReached, ComeBack, Ledger, Deals}
-use Rattle.cache_replay.proofs.Unharming.{reached_loosely}
+use Rattle.script_run.specs.Ledger.{ComeBack, Ledger, Deals}
 use Rattle.cache_replay.specs.Plays.{Plays as PlaysNow}
 use Rattle.cache_tool.specs.Story.{AnsweredFrom, Story, Told, Taken, Took, Recorded, ShownAlong, GoesOn, SendsAll, told_by, told_in}
 use Rattle.cache_tool.proofs.Runs.{AreAnswered-more, IsRun-more, answers_of-more, outline_of-more, run_after-more, texts_before-more, texts_of-more, AreReached-append}
@@ -76,18 +74,6 @@ ComeBack-trans a b c harms more first second = record {
   devices = first.devices ++ second.devices;
   returned = second.returned ∙ ap (λ l. l ++ second.devices) first.returned ∙ append_assoc a first.devices second.devices;
   reached = AreReached-append harms more first.devices second.devices first.reached second.reached;
-}
-
--- the same of what was told, where the last devices may have made more calls
-loosely : (harms own : List Harm) (devices : List Device) → AreReached (harms ++ own) devices → AreReached (harms ++ map loosened own) devices
-loosely [] own devices h = reached_loosely own devices h
-loosely (harm ∷ harms) own [] h = absurd h
-loosely (harm ∷ harms) own (d ∷ devices) h = (h.0, loosely harms own devices h.1)
-
-pub Deals-loosely : (a b : Ledger) (harms own : List Harm) (names : List (List ℕ)) → Deals a b (harms ++ own) names → Deals a b (harms ++ map loosened own) names
-Deals-loosely a b harms own names h = record {
-  back = record { devices = h.back.devices; returned = h.back.returned; reached = loosely harms own h.back.devices h.back.reached };
-  attached = h.attached;
 }
 
 pub Deals-nothing : (a : Ledger) → Deals a a [] []

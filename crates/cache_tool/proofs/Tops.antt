@@ -12,7 +12,7 @@ use Rattle.cache_tool.specs.Story.{Because, MeetsBayFault, Refusals, SendsAll, T
 use Rattle.cache_tool.specs.Ending.{FailedReads, IsOfRun, StoryUpTo, is_bay_ending}
 use Rattle.cache_tool.specs.Top.{WentOut, EachBack, ReadsFailed, AttachesRefused, RefusedOne, status_of, EndsEarly, Concludes}
 use Rattle.cache_tool.proofs.Halts.{Took-kept, Took-trans, front_more}
-use Rattle.cache_tool.proofs.Stories.{Deals-loosely, story_with}
+use Rattle.cache_tool.proofs.Stories.{story_with}
 
 module _ (first read : List SourceRead) (old mid new : List SinkWrite) (bay : Refusals) (before now : Ledger) where
   went_out : (out text : List ℕ) → Took old mid out → WentOut mid new [] text → WentOut old new out text
@@ -34,7 +34,7 @@ module _ (first read : List SourceRead) (old mid new : List SinkWrite) (bay : Re
     forgotten keeps = inl (record {
       held = upto.held;
       given = upto.given;
-      story = story_with first read upto.held upto.given (SendsAll old mid) _ _ _ _ _ _ (λ before all sent. Took-kept old mid new all sent keeps) (λ t back. inl (Deals-loosely before now t.ended t.own t.names back)) (λ o because. tt) upto.story;
+      story = story_with first read upto.held upto.given (SendsAll old mid) _ _ _ _ _ _ (λ before all sent. Took-kept old mid new all sent keeps) (λ t back. inl back) (λ o because. tt) upto.story;
     })
 
   -- the last line went out

@@ -215,8 +215,19 @@ pub record GaveBack (ledger_first ledger : Ledger) (held : List ℕ) (given : �
   pub attaches : AttachesAs name step
   pub deals : Deals ledger_first ledger (all_in t ++ no_harm ∷ []) (t.names ++ name ∷ [])
 
--- what is owed where memory was wanting, by a session that has so many devices: its own may have made calls meanwhile
+-- memory was wanting in the next line, which works on the session, and this stands of the devices
+pub record WantsInLine (held : List ℕ) (given : ℕ) (Devices : Type 0) : Type 0 where
+  pub bytes : List ℕ
+  pub next : IsNext given held bytes
+  pub step : Step
+  pub asks : reading_of bytes ≡ line.Step step
+  pub needs : NeedsSession step
+  pub devices : Devices
+
+-- What is owed where memory was wanting, by a session that has so many devices: where a line on it wanted memory, its own
+-- may have made calls meanwhile.
 abbrev pub OwesOrGave : (ledger_first ledger : Ledger) → ℕ → (List Harm → Type 0) → (held : List ℕ) → ℕ → Told → Type 0
 OwesOrGave ledger_first ledger devices Reached held given t =
-    Owes ledger_first ledger Reached (own_loosened t)
+    Owes ledger_first ledger Reached t
+    ⊎ WantsInLine held given (Owes ledger_first ledger Reached (own_loosened t))
     ⊎ ((devices ≡ 0) × GaveBack ledger_first ledger held given t)

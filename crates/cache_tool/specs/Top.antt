@@ -11,7 +11,7 @@ use Rattle.script_lang.specs.Texts.{last_line}
 use Rattle.script_run.specs.Ledger.{Ledger, Deals}
 use Rattle.cache_tool.specs.declared.top.Status.{Status}
 use Rattle.cache_tool.specs.declared.top.Status.TheVariants as status
-use Rattle.cache_tool.specs.Story.{Because, IsReadThrough, Refusals, SendsAll, SendsFront, CutsLast, GaveBack, Told, Took, all_in, own_loosened}
+use Rattle.cache_tool.specs.Story.{Because, IsReadThrough, Refusals, SendsAll, SendsFront, CutsLast, GaveBack, Told, Took, WantsInLine, all_in, own_loosened}
 use Rattle.cache_tool.specs.Ending.{StoryUpTo, WantsMemory}
 
 -- the one word `replay`
@@ -52,10 +52,13 @@ WentOut old new before text = Took old new (before ++ text) ⊎ SendsFront old n
 abbrev pub EachBack : Ledger → Ledger → Told → Type 0
 EachBack before now t = Deals before now (all_in t) t.names
 
--- so it is, but that the next line, which wanted memory, may have called the last device; or it is a format that gave back
--- one device more
+-- so it is; or the next line works on the session and wanted memory, and may have made calls of the last device; or it is a
+-- format that gave back one device more
 abbrev pub EachBackOrMore : Ledger → Ledger → (held : List ℕ) → ℕ → Told → Type 0
-EachBackOrMore before now held given t = EachBack before now (own_loosened t) ⊎ GaveBack before now held given t
+EachBackOrMore before now held given t =
+    EachBack before now t
+    ⊎ WantsInLine held given (EachBack before now (own_loosened t))
+    ⊎ GaveBack before now held given t
 
 -- a run that ended early: the answers of the lines before went out, and behind them the last line or a front of it
 pub record EndsEarly (first read : List SourceRead) (old new : List SinkWrite) (bay : Refusals) (before now : Ledger) (s : Status) : Type 0 where

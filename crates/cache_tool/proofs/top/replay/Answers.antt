@@ -1,6 +1,4 @@
-use Rattle.std.specs.Prelude.{map}
-use Rattle.script_run.specs.Run.{loosened}
-use Rattle.std.proofs.Common.{◌≡◌, [], ap, inl, refl, sym, ◌∙◌, List, length, subst}
+use Rattle.std.proofs.Common.{◌≡◌, [], inl, refl, sym, ◌∙◌, List, length, subst}
 use Rattle.edge_io.proofs.Draws.{draws_nothing}
 use Rattle.edge_io.specs.LineReader.{source_of}
 use Rattle.device_bay.specs.Calls.{gifts_of, refusals_of}
@@ -10,11 +8,10 @@ use Rattle.cache_replay.specs.Session.{return_of}
 use Rattle.cache_replay.proofs.Order.{none_back, none_out, order_closed, order_then}
 use Rattle.logged_disk.specs.Device.{State as Device}
 use Rattle.script_run.specs.Ledger.{AreLast, AreReached, ledger_of}
-use Rattle.cache_tool.specs.Story.{Owes, Told, own_loosened, refusals}
+use Rattle.cache_tool.specs.Story.{Owes, Told, refusals}
 use Rattle.cache_tool.specs.Top.{EachBack, EachBackOrMore}
-use Rattle.cache_tool.proofs.Halts.{either-both}
 use Rattle.cache_tool.proofs.Stories.{Deals-settled}
-use Rattle.cache_tool.proofs.Ends.{nothing_back, none_own, nothing_ends, Ends-settled, gave_settled}
+use Rattle.cache_tool.proofs.Ends.{nothing_back, none_own, nothing_ends, Ends-settled, gave_settled, wants_settled}
 use Rattle.cache_tool.proofs.Unfailed.{unfailed_in_order}
 use Rattle.cache_tool.proofs.top.replay.Goals as goal
 
@@ -22,7 +19,7 @@ pub returns-in_default-clause-ends : goal.returns-in_default-clause-ends
 returns-in_default-clause-ends g c =
     let ledger = ledger_of g.B.Bay c.args.bay.now in
     nothing_ends (g.S.Source.reads c.args.source.now) (g.K.Sink.writes c.args.sink.now) (EachBack ledger ledger) (EachBackOrMore ledger ledger)
-    (λ t none own names. inl (nothing_back ledger (own_loosened t) none (ap (map loosened) own) names)) (refusals [] [])
+    (λ t none own names. inl (nothing_back ledger t none own names)) (refusals [] [])
 
 pub returns-clause-ends : goal.returns-clause-ends
 returns-clause-ends g c =
@@ -37,7 +34,7 @@ returns-clause-ends g c =
     λ t owes. Deals-settled _ _ _ t.ended _ t.names owes.deals (c.close.ensures.back t.own owes.reached) c.close.ensures.names in
     let ends = Ends-settled bay (g.S.Source.reads (source_of reader).now) (g.S.Source.reads (source_of after).now) (g.K.Sink.writes c.args.sink.now) (g.K.Sink.writes c.run_lines-ending.new.sink) _ (EachBack ledger closed)
     _ (EachBackOrMore ledger closed) settle
-    (λ held given t wants. either-both (settle (own_loosened t)) (λ gave. gave_settled g.B.Dev.Disk listed chronicled c.run_lines-ending.new.session _ _ _ held given t c.close.ensures.back c.close.ensures.names gave.0 gave.1) wants) c.run_lines-ending.result c.run_lines-ending.ensures.ends in
+    (λ held given t. wants_settled ledger _ closed _ _ held given t settle (λ none gave. gave_settled g.B.Dev.Disk listed chronicled c.run_lines-ending.new.session _ _ _ held given t c.close.ensures.back c.close.ensures.names none gave)) c.run_lines-ending.result c.run_lines-ending.ensures.ends in
     rw (back, c.close.ensures.refusals, ← c.with_buffer-reader.ensures.now) ends
 
 pub returns-clause-reads : goal.returns-clause-reads
