@@ -5,8 +5,6 @@ mod laws;
 mod parts;
 mod progress;
 mod run;
-#[cfg(test)]
-mod tests;
 
 pub use laws::{a_copy_is_shut_or_whole, runs_go_on};
 pub use progress::Progress;

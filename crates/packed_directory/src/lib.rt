@@ -13,6 +13,3 @@ pub use fault::ImageFault;
 pub use packed::PackedDirectory;
 pub use stored::StoredDirectory;
 pub use walks::AllWalk;
-
-#[cfg(test)]
-mod tests;
