@@ -6,6 +6,7 @@ pub mod Rows
 pub mod Steps
 pub mod Sound
 pub mod Aside
+pub mod Syncing
 pub mod Onward
 pub mod Known
 pub mod Merged

@@ -12,7 +12,7 @@ use Rattle.cache_model.specs.declared.findings.FoundRow.{FoundRow}
 use Rattle.cache_model.specs.Opening.{Opening}
 use Rattle.cache_model.specs.Openings.{IsFloorOfCopy, IsOpening, opened_records}
 use Rattle.cache_model.specs.State.{State, after_all, nothing_yet, floor_now, low_of, place_of_found, row_of_found}
-use Rattle.cache_model.specs.Permit.{Permit, Intent, Flush, Write, Fragment, Overflow, Weigh, Finish, Commit, GiveUp, Remove, Look, ReadOn, ReadAll, StopReading, End, Work, Reason}
+use Rattle.cache_model.specs.Permit.{Permit, Setting, Intent, Flush, Sync, SyncBegin, SyncStep, Drain, CleanSync, Write, Fragment, Overflow, Weigh, Finish, Commit, GiveUp, Remove, Look, ReadOn, ReadAll, StopReading, End, Work, Reason}
 use Rattle.cache_model.specs.Legal
 use Rattle.cache_model.specs.Legal.{Does, Advances, MayGrow, nothing, more, IsStep, IsLegal, Course, format_records}
 use Rattle.cache_model.specs.Tape.{AreKnown, AreRising, IsSound}
@@ -22,6 +22,8 @@ use Rattle.cache_model.proofs.Steps.{after_all-append, all_append}
 use Rattle.cache_model.proofs.Aside.{IsAside, aside_leaves, lookup_aside, one_aside, reading_on_aside}
 use Rattle.cache_model.proofs.Sound.{AllLeaveTape, IsLater, later_self, later_trans, later_leaves, later_insert, displaced_leave}
 use Rattle.cache_model.proofs.SoundFlush.{flush_is_later, stopped_aside}
+use Rattle.cache_model.specs.Syncing.{AtOnce, InParts, WhereDue}
+use Rattle.cache_model.proofs.Syncing.{clean_aside, drain_splits, split_is_later, step_aside, sync_splits, unmark_aside}
 
 leaving : (s : State) (added other : List Rec) → added ≡ other → AllLeaveTape other → IsSound s → IsLater s (after_all s added)
 leaving s added other is leave h = later_leaves s added (subst AllLeaveTape (sym is) leave) h
@@ -36,6 +38,7 @@ roomed : (p : Permit) (s : State) (bytes : ℕ) (added : List Rec) (e : End) →
 roomed p s bytes added e (Legal.MakesRoom.flushes x m) h = flushed p s added m h
 roomed p s bytes added e (Legal.MakesRoom.stops count x m) h = stopped p s count added m h
 roomed p s bytes added e (Legal.MakesRoom.exhausted x q is) h = leaving s added [] is tt h
+roomed p s bytes added e (Legal.MakesRoom.syncs f x d is) h = split_is_later p WhereDue s added (sync_splits p WhereDue s added f d) h
 
 read_on : (p : Permit) (s : State) (reader : ℕ) (answer : NextAnswer) (added : List Rec) → Legal.MayReadOn p s reader answer added → IsSound s → IsLater s (after_all s added)
 read_on p s reader answer added m h = leaving s added _ m.is (aside_leaves _ (reading_on_aside p s reader answer added m)) h
@@ -45,6 +48,12 @@ later_group p s Flush added e (Legal.DoesFlush.empty q f is) h = leaving s added
 later_group p s Flush added e (Legal.DoesFlush.flushes m) h = flushed p s added m h
 later_group p s Flush added e (Legal.DoesFlush.stops count m) h = stopped p s count added m h
 later_group p s Flush added e (Legal.DoesFlush.exhausted q f b is) h = leaving s added [] is tt h
+later_group p s Flush added e (Legal.DoesFlush.syncs d) h = split_is_later p WhereDue s added (sync_splits p WhereDue s added e d) h
+later_group p s Sync added e d h = split_is_later p AtOnce s added (sync_splits p AtOnce s added e d) h
+later_group p s SyncBegin added e d h = split_is_later p InParts s added (sync_splits p InParts s added e d) h
+later_group p s (SyncStep last) added e d h = leaving s added added refl (aside_leaves added (step_aside p s last added e d)) h
+later_group p s Drain added e d h = split_is_later p AtOnce s added (drain_splits p s added e d) h
+later_group p s CleanSync added e d h = leaving s added added refl (aside_leaves added (clean_aside p s added e d)) h
 later_group p s (Write actor key request response pin) added e (Legal.DoesWrite.opens m) h = leaving s added _ m.is (tt, tt) h
 later_group p s (Write actor key request response pin) added e (Legal.DoesWrite.many q m is) h = leaving s added [] is tt h
 later_group p s (Write actor key request response pin) added e (Legal.DoesWrite.exhausted q m l is) h = leaving s added [] is tt h
@@ -52,6 +61,7 @@ later_group p s (Fragment put index payload) added e (Legal.DoesFragment.places 
     let room : s.filled + blocks_of (length payload) ≤ s.geometry.agg = leb-true (s.filled + blocks_of (length payload)) s.geometry.agg m.place.room in
     let leave : AllLeaveTape (rec.Cut put index (length payload) (digest_of payload) ∷ m.displaced) = (tt, displaced_leave p s _ m.displaced m.displaces) in
     subst (λ xs. IsLater s (after_all s xs)) (sym m.is) (later_insert s (rec.Cut put index (length payload) (digest_of payload) ∷ m.displaced) _ (length payload) _ _ leave room h)
+later_group p s (Fragment put index payload) added e (Legal.DoesFragment.unmarks w n q d) h = leaving s added added refl (aside_leaves added (unmark_aside p s added e d)) h
 later_group p s (Fragment put index payload) added e (Legal.DoesFragment.rooms w n m) h = roomed p s _ added e m h
 later_group p s (Fragment put index payload) added e (Legal.DoesFragment.exhausted w x n q) h = leaving s added [] q.is tt h
 later_group p s (Overflow put) added e (Legal.DoesOverflow.aborts w q l is) h = leaving s added _ is (tt, tt) h
@@ -62,6 +72,7 @@ later_group p s (Weigh put rest) added e (Legal.DoesWeigh.faulted w row count q 
 later_group p s (Finish put fragments) added e (Legal.DoesFinish.places d m) h =
     let room : s.filled + blocks_of (Legal.vector_length s put) ≤ s.geometry.agg = leb-true (s.filled + blocks_of (Legal.vector_length s put)) s.geometry.agg m.place.room in
     subst (λ xs. IsLater s (after_all s xs)) (sym m.is) (later_insert s m.displaced _ (Legal.vector_length s put) _ _ (displaced_leave p s _ m.displaced m.displaces) room h)
+later_group p s (Finish put fragments) added e (Legal.DoesFinish.unmarks w c l q d) h = leaving s added added refl (aside_leaves added (unmark_aside p s added e d)) h
 later_group p s (Finish put fragments) added e (Legal.DoesFinish.rooms w c m) h = roomed p s _ added e m h
 later_group p s (Finish put fragments) added e (Legal.DoesFinish.exhausted w x c l q) h = leaving s added [] q.is tt h
 later_group p s (Finish put fragments) added e (Legal.DoesFinish.loses w index d m is) h = leaving s added _ is (tt, tt) h
@@ -131,8 +142,8 @@ opening_is_sound packed g o h = record {
   known = known_found (max g.content o.floor) o.found o.cursor h.rising;
 }
 
-pub legal_is_sound : (packed : Bool) (courses : List Course) (recs : List Rec) → IsLegal packed courses recs → IsSound (after_all nothing_yet recs)
-legal_is_sound packed courses recs (Legal.IsLegal.begins geometry) = fresh geometry
-legal_is_sound packed courses recs (Legal.IsLegal.opens geometry o opening) = opening_is_sound packed geometry o opening
-legal_is_sound packed courses recs (Legal.IsLegal.steps {before = before} {added = added} course e legal step) =
-    subst IsSound (sym (after_all-append nothing_yet before added)) (later_grown step.grows (legal_is_sound packed _ before legal)).sound
+pub legal_is_sound : (setting : Setting) (courses : List Course) (recs : List Rec) → IsLegal setting courses recs → IsSound (after_all nothing_yet recs)
+legal_is_sound setting courses recs (Legal.IsLegal.begins geometry) = fresh geometry
+legal_is_sound setting courses recs (Legal.IsLegal.opens geometry o opening) = opening_is_sound setting.packed geometry o opening
+legal_is_sound setting courses recs (Legal.IsLegal.steps {before = before} {added = added} course e legal step) =
+    subst IsSound (sym (after_all-append nothing_yet before added)) (later_grown step.grows (legal_is_sound setting _ before legal)).sound

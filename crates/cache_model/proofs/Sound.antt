@@ -86,7 +86,7 @@ leaves_one s (rec.Placed piece place blocks digest pin) h = absurd h
 leaves_one s (rec.Moved piece from place digest) h = absurd h
 leaves_one s (rec.Displaced piece segment live) h = same_with s _ refl refl refl refl refl (part-filter _ s.rows)
 leaves_one s (rec.Damaged piece place kept found) h = same_with s _ refl refl refl refl refl (part-filter _ s.rows)
-leaves_one s (rec.Committed put key length) h = same_with s _ refl refl refl refl refl (earlier_part key put (last_vector s key) s.rows)
+leaves_one s (rec.Committed put key length list) h = same_with s _ refl refl refl refl refl (earlier_part key put (last_vector s key) s.rows)
 leaves_one s (rec.Removed put key) h = same_with s _ refl refl refl refl refl (part-filter _ s.rows)
 leaves_one s _ h = same_with s _ refl refl refl refl refl (part_all s.rows)
 

@@ -176,7 +176,7 @@ stopped_aside_of row (Copied bytes) = tt
 stopped_aside_of row (Spoiled found) = one_aside
 stopped_aside_of row (Refused count) = one_aside
 
-stopped_front_aside : (rows : List Row) (outcomes : List Outcome) → AllAside (stopped_front_of rows outcomes)
+pub stopped_front_aside : (rows : List Row) (outcomes : List Outcome) → AllAside (stopped_front_of rows outcomes)
 stopped_front_aside [] outcomes = tt
 stopped_front_aside (row ∷ rows) [] = tt
 stopped_front_aside (row ∷ rows) (o ∷ outcomes) =

@@ -4,11 +4,12 @@ use Rattle.std.specs.Prelude.{ℕ, ◌==◌, Bool, not, ◌&&◌, ◌||◌, nat_
 use Rattle.std.specs.List.{list_any}
 use Rattle.tape_base.specs.declared.pieces.PieceId.{PieceId}
 use Rattle.tape_base.specs.Piece.{is_vector}
-use Rattle.cache_model.specs.State.{State, Row, ReaderRow, floor_next, live_rows}
+use Rattle.cache_model.specs.State.{State, Row, ReaderRow, floor_next, live_rows, most_fragments}
 
--- a reader has still to be given the piece: a fragment of its put, of an index that it has not taken
+-- a reader has still to be given the piece: a fragment of its put, of an index that it has not taken; a piece of an index
+-- above those of fragments is due to nobody
 abbrev pub is_due_to : PieceId → ReaderRow → Bool
-is_due_to id r = not (is_vector id) && (r.put == id.put && nat_le r.next id.index)
+is_due_to id r = not (is_vector id) && (nat_le id.index most_fragments && (r.put == id.put && nat_le r.next id.index))
 
 -- so it is with some open reader, whether that hit the put or follows it
 abbrev pub is_awaited : State → PieceId → Bool

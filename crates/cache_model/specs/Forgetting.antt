@@ -99,6 +99,7 @@ without_puts puts s = record s {
   unsaved = filter (λ place. not (is_place_of puts s place)) s.unsaved;
   lost = filter (λ (l : PieceId × Cause). not (is_among puts l.0.put)) s.lost;
   vectors = filter (λ (v : Key × LastVector). not (is_last_of puts s v.0 || is_among puts (put_of_last v.1))) s.vectors;
+  counts = filter (λ (c : PieceId × ℕ). not (is_among puts c.0.put)) s.counts;
   puts = filter (λ (p : PutRow). not (is_among puts p.put)) s.puts;
   aborts = filter (λ (a : Key × ℕ). not (is_among puts a.1)) s.aborts;
   dropped = s.dropped + length puts;

@@ -24,14 +24,15 @@ use Rattle.cache_model.specs.declared.answer.NextAnswer.{NextAnswer}
 use Rattle.cache_model.specs.declared.answer.NextAnswer.TheVariants as next
 use Rattle.cache_model.specs.declared.record.Rec.{Rec}
 use Rattle.cache_model.specs.declared.record.Rec.TheVariants as rec
-use Rattle.cache_model.specs.State.{State, Row, PutRow, ReaderRow, Open, after_all, nothing_yet, alternate_of, fragment_piece, place_now, list_of_put, live_row_of, put_of, reader_of, vector_piece, with_cut}
+use Rattle.cache_model.specs.State.{State, Row, PutRow, ReaderRow, Open, most_fragments, after_all, nothing_yet, alternate_of, fragment_piece, place_now, list_of_piece, list_of_put, live_row_of, put_of, reader_of, vector_piece, with_cut}
 use Rattle.cache_model.specs.Verdict.{is_open, live_vector_of, lookup_verdict, next_piece, next_row, reader_verdict}
-use Rattle.cache_model.specs.Permit.{Permit, Intent, Flush, Write, Fragment, Overflow, Weigh, Finish, Commit, GiveUp, Remove, Look, ReadOn, ReadAll, StopReading, Reason, ManyWriters, Exhausted, ManyFragments, TooLarge, Lost, Faulted, End, Stays, Done, Fails, Work, to_do, work_after}
-use Rattle.cache_model.specs.Given.{CountsRead, CountsWrite, IsDamaged, IsGiven, IsReadWhereLive, IsWritten, TakesBuffer, Trouble, effects_in, effects_told, damage_cause, damage_record}
+use Rattle.cache_model.specs.Permit.{Permit, Setting, IsSetBy, Intent, Flush, Sync, SyncBegin, SyncStep, Drain, CleanSync, Write, Fragment, Overflow, Weigh, Finish, Commit, GiveUp, Remove, Look, ReadOn, ReadAll, StopReading, Reason, ManyWriters, Exhausted, ManyFragments, TooLarge, Lost, Faulted, StillOpen, End, Stays, Done, Fails, Work, to_do, work_after}
+use Rattle.cache_model.specs.Given.{AreSyncsTold, CountsRead, CountsWrite, IsDamaged, IsGiven, IsReadWhereLive, IsWritten, TakesBuffer, Trouble, denials, effects_in, effects_told, damage_cause, damage_record}
 use Rattle.cache_model.specs.Due.{due_pieces}
 use Rattle.cache_model.specs.Outcomes.{AreOutcomes, Outcome, flush_records, stopped_front_of, stopped_records}
 use Rattle.cache_model.specs.Opening.{Opening}
 use Rattle.cache_model.specs.Openings.{IsOpening, opened_records}
+use Rattle.cache_model.specs.Syncing.{AtOnce, CannotEnd, DoesCleanSync, DoesSync, DoesSyncStep, InParts, Unmarks, WhereDue, ended_records, must_unmark}
 use Rattle.cache_model.specs.Room.{limit, placed_record, greatest_pin, has_room, is_flush_exhausted, HasPlace, MayDisplace}
 
 -- no vector was placed that is not committed yet
@@ -41,10 +42,6 @@ IsQuiet s = s.pending ≡ None
 -- how many writers may be open at once, of all keys
 abbrev pub most_writers : ℕ
 most_writers = 64
-
--- how many fragments a put may have: as many as a table may have rows; its vector does not count
-abbrev pub most_fragments : ℕ
-most_fragments = 4096
 
 -- the puts that are neither closed nor given up, also where the device or the limit stopped a close
 abbrev pub open_writers : State → ℕ
@@ -68,8 +65,10 @@ pub record CanFlush (s : State) : Type 0 where
   pub filled : 0 < s.filled
   pub below : is_flush_exhausted s ≡ false
 
--- the device takes the buffer, the next one begins, and what is due is copied into it within its budget
+-- of a stripe that does not sync the device takes the buffer, the next one begins, and what is due is copied into it
+-- within its budget
 pub record MayFlush (p : Permit) (s : State) (added : List Rec) : Type 0 where
+  pub unsynced : p.syncs ≡ false
   pub outcomes : List Outcome
   pub can : CanFlush s
   pub takes : TakesBuffer p s
@@ -78,6 +77,7 @@ pub record MayFlush (p : Permit) (s : State) (added : List Rec) : Type 0 where
 
 -- the device refused to take the buffer, behind the reads of what is due
 pub record MayStop (p : Permit) (s : State) (count : ℕ) (added : List Rec) : Type 0 where
+  pub unsynced : p.syncs ≡ false
   pub outcomes : List Outcome
   pub can : CanFlush s
   pub are : AreOutcomes p s (budget_of s.geometry) (due_pieces s p.now) outcomes
@@ -90,12 +90,28 @@ pub data DoesFlush (p : Permit) (s : State) (added : List Rec) : End → Type 0 
   flushes : MayFlush p s added → DoesFlush p s added Done
   stops : (count : ℕ) → MayStop p s count added → DoesFlush p s added (Fails (Faulted count))
   exhausted : IsQuiet s → 0 < s.filled → is_flush_exhausted s ≡ true → added ≡ [] → DoesFlush p s added (Fails Exhausted)
+  syncs : {e : End} → DoesSync p WhereDue s added e → DoesFlush p s added e
+
+-- nobody writes or reads; the sync in parts is ended, and a buffer that is not empty is written out with a sync
+pub data DoesDrain (p : Permit) (s : State) (added : List Rec) : End → Type 0 where
+  still_open : p.syncs ≡ true → IsQuiet s → 0 < open_writers s + length s.readers → added ≡ []
+      → DoesDrain p s added (Fails (StillOpen (open_writers s) (length s.readers)))
+  empty : p.syncs ≡ true → IsQuiet s → open_writers s + length s.readers ≡ 0 → s.filled ≡ 0 → added ≡ ended_records s → DoesDrain p s added Done
+  stays : (count : ℕ) → p.syncs ≡ true → IsQuiet s → open_writers s + length s.readers ≡ 0 → s.filled ≡ 0 → CannotEnd p s count added
+      → DoesDrain p s added (Fails (Faulted count))
+  syncs : {e : End} → open_writers s + length s.readers ≡ 0 → 0 < s.filled → DoesSync p AtOnce s added e → DoesDrain p s added e
+
+-- behind a flush for room what was asked is still to be done
+abbrev pub stays_behind : End → End
+stays_behind Done = Stays
+stays_behind e = e
 
 -- a piece of so many bytes that is about to be placed has no room: a flush is tried
 pub data MakesRoom (p : Permit) (s : State) (bytes : ℕ) (added : List Rec) : End → Type 0 where
   flushes : has_room s bytes ≡ false → MayFlush p s added → MakesRoom p s bytes added Stays
   stops : (count : ℕ) → has_room s bytes ≡ false → MayStop p s count added → MakesRoom p s bytes added (Fails (Faulted count))
   exhausted : has_room s bytes ≡ false → is_flush_exhausted s ≡ true → added ≡ [] → MakesRoom p s bytes added (Fails Exhausted)
+  syncs : {e : End} (f : End) → has_room s bytes ≡ false → DoesSync p WhereDue s added f → e ≡ stays_behind f → MakesRoom p s bytes added e
 
 -- it has room, and would end at the limit or above
 pub record HasNoPlace (s : State) (bytes : ℕ) (added : List Rec) : Type 0 where
@@ -142,13 +158,16 @@ pub record MayPlaceFragment (p : Permit) (s : State) (put index : ℕ) (payload 
   pub w : PutRow
   pub displaced : List Rec
   pub cut : IsNext s put index payload w
+  pub unmarked : must_unmark p s ≡ false
   pub place : HasPlace s (length payload)
   pub displaces : MayDisplace p s (next_fragment_of w) displaced
   pub is : added ≡ rec.Cut put index (length payload) (digest_of payload)
       ∷ (displaced ++ placed_record s (next_fragment_of w) w.pin (total_length w.cuts) (length payload) payload ∷ [])
 
--- without room a flush is tried, behind which it is still to be cut; with room the limit is tested
+-- without room a flush is tried, behind which it is still to be cut; with room the limit is tested, and then a clean mark is
+-- taken back, behind which it is still to be cut too
 pub data DoesFragment (p : Permit) (s : State) (put index : ℕ) (payload : List ℕ) (added : List Rec) (e : End) : Type 0 where
+  unmarks : (w : PutRow) → IsNext s put index payload w → HasPlace s (length payload) → Unmarks p s added e → DoesFragment p s put index payload added e
   places : e ≡ Done → MayPlaceFragment p s put index payload added → DoesFragment p s put index payload added e
   rooms : (w : PutRow) → IsNext s put index payload w → MakesRoom p s (length payload) added e → DoesFragment p s put index payload added e
   exhausted : (w : PutRow) → e ≡ Fails Exhausted → IsNext s put index payload w → HasNoPlace s (length payload) added → DoesFragment p s put index payload added e
@@ -211,6 +230,7 @@ pub record MayPlaceVector (p : Permit) (s : State) (put fragments : ℕ) (added 
   pub w : PutRow
   pub displaced : List Rec
   pub cut : IsCut s put fragments w
+  pub unmarked : must_unmark p s ≡ false
   pub whole : AreLiveTo s w fragments
   pub place : HasPlace s (vector_length s put)
   pub displaces : MayDisplace p s (vector_piece w.key put) displaced
@@ -225,18 +245,20 @@ pub record HasLost (s : State) (put fragments index : ℕ) (w : PutRow) : Type 0
   pub before : AreLiveTo s w (index - 1)
   pub lost : live_row_of s (fragment_piece w.key put index) ≡ None
 
--- a flush for room is tried first, then the fragments are looked at, then the place
+-- a flush for room is tried first, then the fragments are looked at, then the place, and then a clean mark is taken back
 pub data DoesFinish (p : Permit) (s : State) (put fragments : ℕ) (added : List Rec) (e : End) : Type 0 where
+  unmarks : (w : PutRow) → IsCut s put fragments w → AreLiveTo s w fragments → HasPlace s (vector_length s put) → Unmarks p s added e
+      → DoesFinish p s put fragments added e
   places : e ≡ Done → MayPlaceVector p s put fragments added → DoesFinish p s put fragments added e
   rooms : (w : PutRow) → IsCut s put fragments w → MakesRoom p s (vector_length s put) added e → DoesFinish p s put fragments added e
   loses : (w : PutRow) (index : ℕ) → e ≡ Fails (Lost put index) → HasLost s put fragments index w → added ≡ aborted_record w ∷ [] → DoesFinish p s put fragments added e
   exhausted : (w : PutRow) → e ≡ Fails Exhausted → IsCut s put fragments w → AreLiveTo s w fragments → HasNoPlace s (vector_length s put) added
       → DoesFinish p s put fragments added e
 
--- the put is open and its vector is the pending one; the record tells the length of its body
+-- the put is open and its vector is the pending one; the record tells the length of its body, and what the vector lists
 pub data DoesCommit (s : State) (put : ℕ) (added : List Rec) : End → Type 0 where
   commits : (w : PutRow) → put_of s put ≡ Some w → w.writing ≡ Open → s.pending ≡ Some (vector_piece w.key put)
-      → added ≡ rec.Committed put w.key (total_length w.cuts) ∷ [] → DoesCommit s put added Done
+      → added ≡ rec.Committed put w.key (total_length w.cuts) (list_of_piece s (vector_piece w.key put)) ∷ [] → DoesCommit s put added Done
 
 -- an open put is aborted; one that is over, or that no record knows, is left
 pub data DoesGiveUp (s : State) (put : ℕ) (added : List Rec) : End → Type 0 where
@@ -343,6 +365,11 @@ pub data DoesStopReading (s : State) (reader : ℕ) (added : List Rec) : End →
 -- these records come next, together, for what is asked
 abbrev pub Does : Permit → State → Intent → List Rec → End → Type 0
 Does p s Flush added e = DoesFlush p s added e
+Does p s Sync added e = DoesSync p AtOnce s added e
+Does p s SyncBegin added e = DoesSync p InParts s added e
+Does p s (SyncStep last) added e = DoesSyncStep p s last added e
+Does p s Drain added e = DoesDrain p s added e
+Does p s CleanSync added e = DoesCleanSync p s added e
 Does p s (Write actor key request response pin) added e = DoesWrite s actor key request response pin added e
 Does p s (Fragment put index payload) added e = DoesFragment p s put index payload added e
 Does p s (Overflow put) added e = DoesOverflow s put added e
@@ -368,12 +395,15 @@ pub data MayGrow (p : Permit) : State → Work → List Rec → Work → Type 0 
       → Advances p s w.intents w.refused added between
       → MayGrow p (after_all s added) between rest after → MayGrow p s w (added ++ rest) after
 
--- a whole step: nothing is left but what a refusal excused, no vector is pending, and each call of the device
--- that was no read has its record, in order, and no other is there
+-- a whole step: nothing is left but what a refusal excused, no vector is pending, each call that the device refused has its
+-- record, in order, and no other fault is there; of a stripe that does not sync so has each call that was no read, and of one
+-- that syncs each that ended a sync
 pub record IsStep (p : Permit) (s : State) (intents : List Intent) (added : List Rec) (refused : Option Reason) : Type 0 where
   pub grows : MayGrow p s (to_do intents) added (record { intents = []; refused = refused })
   pub quiet : IsQuiet (after_all s added)
-  pub effects : effects_told added ≡ effects_in p.events
+  pub faults : denials (effects_told added) ≡ denials (effects_in p.events)
+  pub effects : p.syncs ≡ false → effects_told added ≡ effects_in p.events
+  pub synced : p.syncs ≡ true → AreSyncsTold p added refused
 
 -- ---- a chronicle
 
@@ -387,11 +417,11 @@ pub record Course : Type 0 where
   pub intents : List Intent
   pub refused : Option Reason
 
--- the records of a session up to the end of a step, from a format or an opening on and by its steps, with a
--- directory that displaces or does not
-pub data IsLegal (packed : Bool) : List Course → List Rec → Type 0 where
-  begins : (geometry : Geometry) → IsLegal packed [] (format_records geometry)
-  opens : (geometry : Geometry) (o : Opening) → IsOpening packed geometry o → IsLegal packed [] (opened_records geometry o)
-  steps : {courses : List Course} {before added : List Rec} (course : Course) → course.permit.packed ≡ packed
-      → IsLegal packed courses before → IsStep course.permit (after_all nothing_yet before) course.intents added course.refused
-      → IsLegal packed (courses ++ course ∷ []) (before ++ added)
+-- the records of a session up to the end of a step, from a format or an opening on and by its steps, of a stripe of one
+-- setting
+pub data IsLegal (setting : Setting) : List Course → List Rec → Type 0 where
+  begins : (geometry : Geometry) → IsLegal setting [] (format_records geometry)
+  opens : (geometry : Geometry) (o : Opening) → IsOpening setting.packed geometry o → IsLegal setting [] (opened_records geometry o)
+  steps : {courses : List Course} {before added : List Rec} (course : Course) → IsSetBy setting course.permit
+      → IsLegal setting courses before → IsStep course.permit (after_all nothing_yet before) course.intents added course.refused
+      → IsLegal setting (courses ++ course ∷ []) (before ++ added)

@@ -6,6 +6,7 @@ pub mod Room
 pub mod Given
 pub mod Due
 pub mod Outcomes
+pub mod Syncing
 pub mod Legal
 pub mod ToRead
 pub mod Kept

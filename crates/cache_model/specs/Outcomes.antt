@@ -108,8 +108,11 @@ moved_records s (c ∷ copies) = moved_record s c ∷ moved_records (state_after
 abbrev pub began_record : State → Rec
 began_record s = rec.Began (cursor_next s) (floor_next s)
 
--- behind the records of what is not copied the next buffer begins, and the copies stand first in it
+-- the next buffer begins behind the records of what is not copied, and the copies stand first in it
+abbrev pub flush_tail : State → List Row → List Outcome → List Rec
+flush_tail s rows outcomes =
+    began_record s ∷ moved_records (state_after (after_all s (front_of rows outcomes)) (began_record s)) (copies_of rows outcomes)
+
+-- a flush without a sync: what is not copied, and the next buffer
 abbrev pub flush_records : State → List Row → List Outcome → List Rec
-flush_records s rows outcomes =
-    let front : List Rec = front_of rows outcomes in
-    front ++ began_record s ∷ moved_records (state_after (after_all s front) (began_record s)) (copies_of rows outcomes)
+flush_records s rows outcomes = front_of rows outcomes ++ flush_tail s rows outcomes

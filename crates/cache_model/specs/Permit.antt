@@ -6,8 +6,18 @@ use Rattle.alternate_vector.specs.Field.{Field}
 
 -- what a step is asked to do, one after the other
 pub data Intent : Type 0 where
-  -- it writes out the buffer
+  -- it writes out the buffer, and syncs where that is due
   Flush : Intent
+  -- it writes out the buffer, and syncs
+  Sync : Intent
+  -- it does so with a sync that later steps write in parts
+  SyncBegin : Intent
+  -- it writes the next part of that sync, which may be the last one
+  SyncStep : (last : Bool) → Intent
+  -- nobody writes or reads any more: it empties the buffer with a sync, which may leave copies in the next one
+  Drain : Intent
+  -- it syncs an empty buffer, and promises that nothing is placed before a sync that is not clean has finished
+  CleanSync : Intent
   -- it opens a writer
   Write : (actor : ℕ) (key : Key) (request response : List Field) (pin : ℕ) → Intent
   -- it cuts these bytes as that fragment, and places it
@@ -45,6 +55,14 @@ pub data Reason : Type 0 where
   Lost : (put index : ℕ) → Reason
   -- the device refused a call, and its count then stood here
   Faulted : (count : ℕ) → Reason
+  -- the sync of this serial is written in parts
+  SyncRuns : (serial : ℕ) → Reason
+  -- none is
+  NoSync : Reason
+  -- so many writers and readers are open
+  StillOpen : (writers readers : ℕ) → Reason
+  -- so many blocks were copied into the next buffer
+  StillMoving : (blocks : ℕ) → Reason
 
 -- what a group of records makes of what was asked first
 pub data End : Type 0 where
@@ -74,13 +92,28 @@ work_after i rest why Stays = record { intents = i ∷ rest; refused = why }
 work_after i rest why Done = record { intents = rest; refused = why }
 work_after i rest why (Fails reason) = record { intents = filter is_cleanup rest; refused = Some reason }
 
--- whether the directory displaces entries, the moment that pins are weighed by, the block at which the device's content
--- area begins, and the calls that the device made in the step, the newest first
+-- what a stripe is for the whole of its session: whether its directory displaces entries, whether it syncs, and the block
+-- at which the device's content area begins
+pub record Setting : Type 0 where
+  pub packed : Bool
+  pub syncs : Bool
+  pub area : ℕ
+
+-- the same of a step, with the moment that pins are weighed by; how many blocks of the buffer with which it begins were
+-- written before and made durable by a sync of the device since; and the calls that the device made in it, the newest first
 pub record Permit : Type 0 where
   pub packed : Bool
+  pub syncs : Bool
   pub now : ℕ
   pub area : ℕ
+  pub durable : ℕ
   pub events : List Call
+
+-- the step is one of such a session
+pub record IsSetBy (setting : Setting) (p : Permit) : Type 0 where
+  pub packed : p.packed ≡ setting.packed
+  pub syncs : p.syncs ≡ setting.syncs
+  pub area : p.area ≡ setting.area
 
 -- the value stands in the list, once or more often
 abbrev pub IsAmong : {X : Type 0} → X → List X → Type 0

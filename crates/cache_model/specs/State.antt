@@ -1,5 +1,5 @@
 -- What the records of a session stand for: one record of values, and what each record makes of it.
-use Rattle.std.specs.Prelude.{ℕ, max, ◌+◌, ◌-◌, ◌*◌, ◌==◌, nat_le, Bool, true, false, not, if◌then◌else◌, List, [], ◌∷◌, ◌++◌, map, filter, find, fold, Option, Some, None, option_map, option_and_then, option_to_list, slice_get, unwrap_or}
+use Rattle.std.specs.Prelude.{ℕ, max, ◌+◌, ◌-◌, ◌*◌, ◌==◌, nat_le, Bool, true, false, not, if◌then◌else◌, List, [], ◌∷◌, ◌++◌, map, filter, find, fold, Option, Some, None, option_map, option_and_then, option_to_list, slice_get, unwrap_or, length}
 use Rattle.std.specs.Map.{lookup}
 use Rattle.std.specs.List.{flat_map}
 use Rattle.std.proofs.Math.Dec.{lit≤, lit<}
@@ -94,6 +94,8 @@ pub record State : Type 0 where
   pub lost : List (PieceId × Cause)
   -- the commits and removals of each key, the last first
   pub vectors : List (Key × LastVector)
+  -- how many alternates each vector lists, as its commit or the opening told it, the last first
+  pub counts : List (PieceId × ℕ)
   -- the puts, the last first
   pub puts : List PutRow
   -- a vector that was placed and is not committed yet
@@ -108,6 +110,8 @@ pub record State : Type 0 where
   pub next_reader : ℕ
   -- the device's count at its last fault
   pub fault : ℕ
+  -- a call failed since the buffer began, which may have been written before
+  pub tried : Bool
   -- the floor of the opening with which the session began; 0 behind a format
   pub least : ℕ
   -- the serial of that opening
@@ -166,6 +170,7 @@ formatted geometry = record {
   displaced = [];
   lost = [];
   vectors = [];
+  counts = [];
   puts = [];
   pending = None;
   next_put = 1;
@@ -173,6 +178,7 @@ formatted geometry = record {
   readers = [];
   next_reader = 1;
   fault = 0;
+  tried = false;
   least = 0;
   opened = None;
   marks = mark_of_format geometry ∷ [];
@@ -205,6 +211,10 @@ abbrev pub floor_next : State → ℕ
 floor_next s = max s.least (floor_of s.geometry (cursor_next s))
 
 -- ---- pieces
+
+-- how many fragments a put may have: as many as a table may have rows; its vector does not count
+abbrev pub most_fragments : ℕ
+most_fragments = 4096
 
 -- the vector of a put: index 0 under the key
 abbrev pub vector_piece : Key → ℕ → PieceId
@@ -256,6 +266,10 @@ place_of_found f = (f.place, f.id)
 abbrev pub vector_of_found : FoundRow → List (Key × LastVector)
 vector_of_found f = if is_vector f.id then (f.id.first, Complete f.id.put) ∷ [] else []
 
+-- and lists so many alternates
+abbrev pub count_of_found : FoundRow → List (PieceId × ℕ)
+count_of_found f = if is_vector f.id then (f.id, length (unwrap_or f.alternates [])) ∷ [] else []
+
 -- what the copy holds that an opening took
 abbrev pub mark_of_opening : Opening → Mark
 mark_of_opening o =
@@ -268,6 +282,7 @@ state_of_opening geometry o = record (formatted geometry) {
   rows = map row_of_found o.found;
   places = map place_of_found o.found;
   vectors = flat_map vector_of_found o.found;
+  counts = flat_map count_of_found o.found;
   next_put = o.next_put;
   least = o.floor;
   opened = Some o.serial;
@@ -276,7 +291,8 @@ state_of_opening geometry o = record (formatted geometry) {
   marked = o.clean;
 }
 
--- a clean sync names from the floor on, another one from the place up to which the cursor may come before the next
+-- a clean sync names from the floor on, another one from a lap below the place up to which the cursor may come before the
+-- next
 abbrev pub low_of_sync : State → ℕ → Bool → ℕ
 low_of_sync s cursor clean = if clean then floor_now s else low_of s.geometry cursor
 
@@ -327,6 +343,14 @@ last_abort s key = lookup (λ k. same_key k key) s.aborts
 -- the alternate that a put stands for
 abbrev pub alternate_of : PutRow → Stored
 alternate_of p = record { put = p.put; pin = p.pin; length = total_length p.cuts; request = p.request; response = p.response; table = p.cuts }
+
+-- what a vector lists that stands, live or not
+abbrev pub list_of_piece : State → PieceId → List Stored
+list_of_piece s id = unwrap_or (option_and_then (λ (row : Row). row.alternates) (row_of s id)) []
+
+-- how many alternates a vector lists, as it was told
+abbrev pub count_of_vector : State → PieceId → ℕ
+count_of_vector s id = unwrap_or (lookup (λ i. same_piece i id) s.counts) 0
 
 -- the alternates of a vector that may be read
 abbrev pub list_of_row : State → Row → List Stored
@@ -432,7 +456,7 @@ abbrev pub state_after : State → Rec → State
 state_after s (rec.Formatted geometry) = formatted geometry
 state_after s (rec.Opened geometry serial cursor floor next_put clean list) =
     state_of_opening geometry (record { serial = serial; cursor = cursor; floor = floor; next_put = next_put; clean = clean; found = list })
-state_after s (rec.Began cursor floor) = record s { cursor = cursor; filled = 0 }
+state_after s (rec.Began cursor floor) = record s { cursor = cursor; filled = 0; tried = false }
 state_after s (rec.Placed piece place blocks digest pin) = record s {
   filled = s.filled + blocks;
   rows = without piece s.rows ++ placed_row s piece place blocks digest pin ∷ [];
@@ -460,9 +484,10 @@ state_after s (rec.WriteOpened actor put key request response pin) = record s {
   next_put = put + 1;
 }
 state_after s (rec.Cut put index length digest) = record s { puts = change_put put (with_cut (made_row length digest.0)) s.puts }
-state_after s (rec.Committed put key length) = record s {
+state_after s (rec.Committed put key bytes alternates) = record s {
   rows = without_earlier key put (last_vector s key) s.rows;
   vectors = (key, Complete put) ∷ s.vectors;
+  counts = (vector_piece key put, length alternates) ∷ s.counts;
   puts = change_put put (with_writing Closed) s.puts;
   pending = None;
 }
@@ -493,7 +518,7 @@ state_after s (rec.SyncDone serial) = record s {
   running = None;
   marked = if is_clean_sync s serial then s.marked else false;
 }
-state_after s (rec.Fault count) = record s { fault = count }
+state_after s (rec.Fault count) = record s { fault = count; tried = true }
 
 -- the state behind records, one after the other
 abbrev pub after_all : State → List Rec → State

@@ -4,7 +4,7 @@ use Rattle.std.specs.Prelude.{ℕ, ◌≡◌, ◌≤◌, Bool, true, false, not,
 use Rattle.tape_base.specs.Geometry.{budget_of}
 use Rattle.cache_model.specs.State.{State, Row, PutRow, after_all, put_of, reader_of}
 use Rattle.cache_model.specs.Verdict.{live_vector_of}
-use Rattle.cache_model.specs.Permit.{Permit, Intent, Flush, Fragment, Weigh, Finish, Look, ReadOn, ReadAll}
+use Rattle.cache_model.specs.Permit.{Permit, Intent, Flush, Sync, SyncBegin, Drain, Fragment, Weigh, Finish, Look, ReadOn, ReadAll}
 use Rattle.cache_model.specs.Room.{has_room}
 use Rattle.cache_model.specs.Given.{IsWritten}
 use Rattle.cache_model.specs.Due.{due_pieces}
@@ -22,6 +22,9 @@ to_read s _ = None
 -- what is asked begins with a flush: it is one, or a piece is to be placed that has no room
 abbrev pub flushes_first : State → Intent → Bool
 flushes_first s Flush = true
+flushes_first s Sync = true
+flushes_first s SyncBegin = true
+flushes_first s Drain = true
 flushes_first s (Fragment put index payload) = not (has_room s (length payload))
 flushes_first s (Finish put fragments) = not (has_room s (vector_length s put))
 flushes_first s _ = false

@@ -17,7 +17,7 @@ use Rattle.cache_model.specs.declared.answer.ReadAnswer.{ReadAnswer}
 use Rattle.cache_model.specs.declared.answer.ReadAnswer.TheVariants as read
 use Rattle.cache_model.specs.declared.answer.NextAnswer.{NextAnswer}
 use Rattle.cache_model.specs.declared.answer.NextAnswer.TheVariants as next
-use Rattle.cache_model.specs.State.{State, Row, PutRow, ReaderRow, LastVector, Complete, TakenOut, Writing, Open, Closed, GivenUp, alternates_of, floor_now, fragment_piece, last_abort, last_match, last_vector, live_row_of, put_of, row_of, vector_piece}
+use Rattle.cache_model.specs.State.{State, Row, PutRow, ReaderRow, LastVector, Complete, TakenOut, Writing, Open, Closed, GivenUp, alternates_of, count_of_vector, floor_now, fragment_piece, last_abort, last_match, last_vector, live_row_of, put_of, row_of, vector_piece}
 
 -- ---- causes
 
@@ -48,12 +48,12 @@ abbrev pub cause_of_piece : State → PieceId → Cause
 cause_of_piece s id = unwrap_or (cause_of_loss s id) (unwrap_or (option_map (passed s) (row_of s id)) (no_record s))
 
 -- the vector is live: how many alternates it lists, of which none answers
-abbrev pub no_match : Row → Cause
-no_match row = cause.NoMatch (length (unwrap_or row.alternates []))
+abbrev pub no_match : State → PieceId → Cause
+no_match s id = cause.NoMatch (count_of_vector s id)
 
 -- why a key's vector answers nothing: it is live and none matches, or it is not live
 abbrev pub cause_of_vector : State → PieceId → Cause
-cause_of_vector s id = unwrap_or (option_map no_match (live_row_of s id)) (cause_of_piece s id)
+cause_of_vector s id = unwrap_or (option_map (λ (row : Row). no_match s id) (live_row_of s id)) (cause_of_piece s id)
 
 -- behind a commit it is that of the vector, behind a removal the removal itself
 abbrev pub cause_of_last : State → Key → LastVector → Cause

@@ -3,7 +3,7 @@
 use crate::answer::ReadAnswer;
 use crate::cause::Cause;
 use crate::findings::FoundList;
-use alternate_vector::Fields;
+use alternate_vector::{Fields, Vector};
 use tape_base::{Actor, Digest, Geometry, Key, PieceId};
 
 /// One record of a chronicle. Places and blocks count 512-byte blocks, lengths count bytes.
@@ -79,11 +79,12 @@ pub enum Rec {
         length: u32,
         digest: Digest,
     },
-    /// A put is complete: its vector is the piece placed last.
+    /// A put is complete: its vector is the piece placed last, and lists these alternates.
     Committed {
         put: u64,
         key: Key,
         length: u64,
+        alternates: Vector,
     },
     /// A writer gave up, or was given up.
     Aborted {
@@ -128,8 +129,9 @@ pub enum Rec {
     ReadClosed {
         reader: u64,
     },
-    /// A sync takes its image of the directory. A clean one promises that nothing is placed before the next
-    /// sync; one in parts is written by later calls. The cursor is that of the buffer behind it.
+    /// A sync takes its image of the directory. A clean one promises that nothing is placed before a sync
+    /// that is not clean has finished; one in parts is written by later calls. The cursor is that of the
+    /// buffer behind it.
     SyncBegun {
         serial: u64,
         cursor: u64,
