@@ -23,7 +23,7 @@ use Rattle.cache_model.specs.declared.record.Rec.TheVariants as rec
 use Rattle.cache_model.specs.declared.cause.Cause.TheVariants as cause
 use Rattle.cache_model.specs.declared.answer.ReadAnswer.TheVariants as read
 use Rattle.cache_model.specs.declared.answer.NextAnswer.TheVariants as next
-use Rattle.cache_model.specs.State.{State, Row, PutRow, Open, Complete, nothing_yet, after_all, list_of_put, vector_piece}
+use Rattle.cache_model.specs.State.{State, Row, PutRow, Open, Complete, nothing_yet, after_all, list_of_piece, list_of_put, vector_piece}
 use Rattle.cache_model.specs.Permit.{Permit, Intent, Write, Fragment, Weigh, Finish, Commit, GiveUp, Look, ReadAll, StopReading, End, Stays, Done, Fails, Reason, Faulted, work_after}
 use Rattle.cache_model.specs.Room.{doc_at, placed_record, greatest_pin}
 use Rattle.cache_model.specs.Given
@@ -32,13 +32,13 @@ use Rattle.cache_model.specs.Legal.{Does, MayGrow, IsStep, AreLiveTo, IsWriting,
 use Rattle.cache_model.proofs.Steps.{grows_on, grows_by}
 
 -- one group
-group : (p : Permit) (s : State) (i : Intent) (rest : List Intent) (why : Option Reason) (e : End) (added : List Rec) → Does p s i added e
+pub group : (p : Permit) (s : State) (i : Intent) (rest : List Intent) (why : Option Reason) (e : End) (added : List Rec) → Does p s i added e
     → MayGrow p s (record { intents = i ∷ rest; refused = why }) added (work_after i rest why e)
 group p s i rest why e added does = grows_by p s (record { intents = i ∷ rest; refused = why }) (work_after i rest why e) added (e, does, refl)
 
 -- ---- the session
 
-abbrev geometry : Geometry
+abbrev pub geometry : Geometry
 geometry = record {
   segments = 1;
   buckets = 64;
@@ -59,15 +59,15 @@ geometry = record {
   keeps = record { some = lit≤ tt; few = lit≤ tt };
 }
 
-abbrev k : Key
+abbrev pub k : Key
 k = record { number = 1 }
 
-abbrev formatted : State
+abbrev pub formatted : State
 formatted = after_all nothing_yet (format_records geometry)
 
 -- a device that did this in the step, the newest first
 abbrev did : List Call → Permit
-did events = record { packed = false; now = 0; area = 0; events = events }
+did events = record { packed = false; syncs = false; now = 0; area = 0; durable = 0; events = events }
 
 -- a device that did nothing
 abbrev idle : Permit
@@ -75,16 +75,16 @@ idle = did []
 
 -- ---- a put of four bytes
 
-abbrev body : List ℕ
+abbrev pub body : List ℕ
 body = codes "abcd"
 
-abbrev opened : List Rec
+abbrev pub opened : List Rec
 opened = rec.WriteOpened (record { 0 = 0 }) 1 k [] [] 0 ∷ []
 
 abbrev s1 : State
 s1 = after_all formatted opened
 
-abbrev w1 : PutRow
+abbrev pub w1 : PutRow
 w1 = record { actor = 0; put = 1; key = k; request = []; response = []; pin = 0; cuts = []; writing = Open }
 
 abbrev cut : List Rec
@@ -103,12 +103,12 @@ abbrev s3 : State
 s3 = after_all s2 vector
 
 abbrev committed : List Rec
-committed = rec.Committed 1 k 4 ∷ []
+committed = rec.Committed 1 k 4 (list_of_piece s3 (vector_piece k 1)) ∷ []
 
 abbrev s4 : State
 s4 = after_all s3 committed
 
-no_fields : AreFields []
+pub no_fields : AreFields []
 no_fields = record { few = lit≤ tt; each = tt; rising = tt }
 
 opens : Does idle formatted (Write 0 k [] [] 0) opened Done
@@ -122,6 +122,7 @@ places = Legal.DoesFragment.places refl (record {
   w = w1;
   displaced = [];
   cut = record { writing = is_writing_1; next = refl; few = lit< tt; full = refl; some = lit< tt; small = lit≤ tt; of_bytes = bytes_by_test body refl };
+  unmarked = refl;
   place = record { small = lit≤ tt; room = refl; below = lit< tt };
   displaces = record { purged = []; full = (λ h. let f : false ≡ true = h in cc); free = (λ h. refl); is = refl };
   is = refl;
@@ -141,6 +142,7 @@ finishes = Legal.DoesFinish.places refl (record {
   w = w2;
   displaced = [];
   cut = record { writing = is_writing_2; count = refl; alone = lit≤ tt };
+  unmarked = refl;
   whole = all_live;
   place = record { small = lit≤ tt; room = refl; below = lit< tt };
   displaces = record { purged = []; full = (λ h. let f : false ≡ true = h in cc); free = (λ h. refl); is = refl };
@@ -162,7 +164,9 @@ a_put_is_a_step = record {
       (group idle formatted _ _ _ Done opened opens) (group idle s1 _ _ _ Done cut places)) (group idle s2 _ _ _ Done [] weighs))
       (group idle s2 _ _ _ Done vector finishes)) (group idle s3 _ _ _ Done committed commits)) (group idle s4 _ _ _ Done [] over);
   quiet = refl;
-  effects = refl;
+  faults = refl;
+  effects = λ off. refl;
+  synced = λ on. cc;
 }
 
 -- ---- a get that hits it and reads to the end
@@ -208,7 +212,9 @@ a_get_is_a_step = record {
   grows = grows_on (grows_on (grows_on
       (group idle s4 _ _ _ Done hit looks) (group idle r0 _ _ _ Stays given gives)) (group idle r1 _ _ _ Done ended ends)) (group idle r2 _ _ _ Done stopped stops);
   quiet = refl;
-  effects = refl;
+  faults = refl;
+  effects = λ off. refl;
+  synced = λ on. cc;
 }
 
 -- ---- a put whose fragment finds a full buffer, and whose flush meets a fault
@@ -238,6 +244,7 @@ faults : Does faulty f1 (Fragment 1 1 body) fault (Fails (Faulted 1))
 faults = Legal.DoesFragment.rooms w1
     (record { writing = record { quiet = refl; found = refl; is_open = refl }; next = refl; few = lit< tt; full = refl; some = lit< tt; small = lit≤ tt; of_bytes = bytes_by_test body refl })
     (Legal.MakesRoom.stops 1 refl (record {
+      unsynced = refl;
       outcomes = [];
       can = record { quiet = refl; filled = lit< tt; below = refl };
       are = tt;
@@ -253,7 +260,9 @@ a_refused_put_is_a_step = record {
   grows = grows_on (grows_on
       (group faulty full _ _ _ Done opened opens_full) (group faulty f1 _ _ _ (Fails (Faulted 1)) fault faults)) (group faulty f2 _ _ _ Done aborted gives_up);
   quiet = refl;
-  effects = refl;
+  faults = refl;
+  effects = λ off. refl;
+  synced = λ on. cc;
 }
 
 -- ---- a close whose vector finds a full buffer, which begins with the fragment
@@ -314,6 +323,7 @@ all_live_c1 i low high = let one : i ≡ 1 = omega arith in rw one (_, refl)
 flushes : (bytes : List ℕ) → IsBuffer bytes → Does (taking bytes) full_of (Finish 1 1) began Stays
 flushes bytes buffer = Legal.DoesFinish.rooms w2 (record { writing = is_writing_full; count = refl; alone = lit≤ tt })
     (Legal.MakesRoom.flushes refl (record {
+      unsynced = refl;
       outcomes = [];
       can = record { quiet = refl; filled = lit< tt; below = refl };
       takes = record { bytes = bytes; written = inl refl; whole = ap (λ n. n / 512) buffer.whole; holds = ((λ within. begins_with_fragment bytes buffer), tt) };
@@ -326,6 +336,7 @@ finishes_behind bytes = Legal.DoesFinish.places refl (record {
   w = w2;
   displaced = [];
   cut = record { writing = is_writing_c1; count = refl; alone = lit≤ tt };
+  unmarked = refl;
   whole = all_live_c1;
   place = record { small = lit≤ tt; room = refl; below = lit< tt };
   displaces = record { purged = []; full = (λ h. let f : false ≡ true = h in cc); free = (λ h. refl); is = refl };
@@ -343,7 +354,9 @@ a_close_that_flushes_is_a_step bytes buffer = record {
       (group (taking bytes) c1 _ _ _ Done vector_behind (finishes_behind bytes)))
       (group (taking bytes) c2 _ _ _ Done committed (commits_behind bytes));
   quiet = refl;
-  effects = refl;
+  faults = refl;
+  effects = λ off. refl;
+  synced = λ on. cc;
 }
 
 -- ---- a get of a vector for which the device gives other bytes
@@ -396,7 +409,9 @@ a_get_of_a_damaged_vector_is_a_step kept differ = record {
   grows = grows_on (grows_on (group reading (behind_vector kept) _ _ _ Done (missed kept) (misses kept differ)) (group reading (d1 kept) _ _ _ Done [] (reads_nothing kept)))
       (group reading (d1 kept) _ _ _ Done [] (stops_nothing kept));
   quiet = refl;
-  effects = refl;
+  faults = refl;
+  effects = λ off. refl;
+  synced = λ on. cc;
 }
 
 -- ---- a get of a vector that the device gives
@@ -446,5 +461,7 @@ a_get_of_what_the_device_gives_is_a_step bytes whole small = record {
   grows = grows_on (grows_on (group (giving bytes) (kept_state bytes) _ _ _ Done hit (looks_up bytes whole small))
       (group (giving bytes) (g1 bytes) _ _ _ Done ended_empty (ends_empty bytes))) (group (giving bytes) (g2 bytes) _ _ _ Done stopped (stops_empty bytes));
   quiet = refl;
-  effects = refl;
+  faults = refl;
+  effects = λ off. refl;
+  synced = λ on. cc;
 }

@@ -1,6 +1,6 @@
 -- What comes of a piece depends on the state through the geometry, where its buffer begins, how far that is filled and its last
 -- fault alone.
-use Rattle.std.proofs.Common.{◌≡◌, ℕ, ◌+◌, List, refl, sym, ◌∙◌, subst, arith}
+use Rattle.std.proofs.Common.{◌≡◌, ℕ, ◌+◌, List, [], ◌∷◌, refl, sym, ◌∙◌, subst, arith}
 use Rattle.edge_io.specs.Causes.{Rose}
 use Rattle.device_log.specs.Calls.{Asked, ToRead, ToWrite, Read}
 use Rattle.tape_base.specs.Place.{slot_of}
@@ -8,7 +8,7 @@ use Rattle.cache_model.specs.State.{State, Row, after_all}
 use Rattle.cache_model.specs.Permit.{Permit, IsAmong}
 use Rattle.cache_model.specs.Given.{CountsRead, CountsWrite, IsDamaged, IsGiven, IsWritten, MayCount}
 use Rattle.tape_base.specs.declared.digests.Digest.{Digest}
-use Rattle.cache_model.specs.Outcomes.{Copied, IsOutcome, NoRoom, Outcome, Refused, Spoiled, records_of, stopped_records_of}
+use Rattle.cache_model.specs.Outcomes.{AreOutcomes, Copied, IsOutcome, NoRoom, Outcome, Refused, Spoiled, left_behind, records_of, stopped_records_of}
 
 -- ---- states alike
 
@@ -69,7 +69,24 @@ outcome_alike p s t left row (Copied bytes) a h = (h.0, given_alike p s t row by
 outcome_alike p s t left row (Spoiled found) a h = (h.0, damaged_alike p s t row found a.0 h.1)
 outcome_alike p s t left row (Refused count) a h = (h.0, written_alike s t row a.0.1 h.1, read_alike p s t row count a h.2)
 
--- the records of a piece leave two states alike, also those of a flush that stops
+-- the records of a piece leave two states alike
+alike_records : (s t : State) (row : Row) (o : Outcome) → IsAlike s t → IsAlike (after_all s (records_of row o)) (after_all t (records_of row o))
+alike_records s t row NoRoom a = a
+alike_records s t row (Copied bytes) a = a
+alike_records s t row (Spoiled found) a = a
+alike_records s t row (Refused count) a = (a.0, a.1, refl)
+
+-- so one behind the other
+pub outcomes_alike : (p : Permit) (s t : State) (left : ℕ) (rows : List Row) (outcomes : List Outcome) → IsAlike s t → AreOutcomes p s left rows outcomes → AreOutcomes p t left rows outcomes
+outcomes_alike p s t left [] [] a h = tt
+outcomes_alike p s t left [] (o ∷ outcomes) a h = absurd h
+outcomes_alike p s t left (row ∷ rows) [] a h = absurd h
+outcomes_alike p s t left (row ∷ rows) (o ∷ outcomes) a h = (
+  outcome_alike p s t left row o a h.0,
+  outcomes_alike p (after_all s (records_of row o)) (after_all t (records_of row o)) (left_behind left row o) rows outcomes (alike_records s t row o a) h.1,
+)
+
+-- and so do those of a flush that stops
 pub alike_stopped : (s t : State) (row : Row) (o : Outcome) → IsAlike s t → IsAlike (after_all s (records_of row o)) (after_all t (stopped_records_of row o))
 alike_stopped s t row NoRoom a = a
 alike_stopped s t row (Copied bytes) a = a

@@ -86,12 +86,12 @@ own_stays key put (Some (Complete old)) rows = kept_by key old put rows (old == 
 own_stays key put (Some (TakenOut old)) rows = refl
 own_stays key put None rows = refl
 
-module _ (s : State) (w : PutRow) (place blocks pin n : ℕ) (digest : Digest) (found : put_of s w.put ≡ Some w) (live : floor_now s ≤ place) where
+module _ (s : State) (w : PutRow) (place blocks pin n : ℕ) (digest : Digest) (told : List Stored) (found : put_of s w.put ≡ Some w) (live : floor_now s ≤ place) where
   abbrev there : Row
   there = placed_row s (vector_piece w.key w.put) place blocks digest pin
 
   abbrev complete : State
-  complete = after_all s (rec.Placed (vector_piece w.key w.put) place blocks digest pin ∷ rec.Committed w.put w.key n ∷ [])
+  complete = after_all s (rec.Placed (vector_piece w.key w.put) place blocks digest pin ∷ rec.Committed w.put w.key n told ∷ [])
 
   row_is : row_in complete.rows (vector_piece w.key w.put) ≡ Some there
   row_is =
@@ -101,14 +101,14 @@ module _ (s : State) (w : PutRow) (place blocks pin n : ℕ) (digest : Digest) (
   list_is : alternates_of complete w.key ≡ merged_list s w
   list_is = rw (same_key-same w.key, row_is, le-leb (floor_now s) place live, found) refl
 
-pub complete_is_hit : (s : State) (w : PutRow) (place blocks pin n : ℕ) (digest : Digest) (request : List Field)
+pub complete_is_hit : (s : State) (w : PutRow) (place blocks pin n : ℕ) (digest : Digest) (told : List Stored) (request : List Field)
     → put_of s w.put ≡ Some w → is_match request (alternate_of w) ≡ true → vector_size (alternate_of w ∷ []) ≤ most_payload s.geometry → floor_now s ≤ place
-    → lookup_verdict (after_all s (rec.Placed (vector_piece w.key w.put) place blocks digest pin ∷ rec.Committed w.put w.key n ∷ [])) w.key request ≡ read.Hit w.put
-complete_is_hit s w place blocks pin n digest request found fits small live =
+    → lookup_verdict (after_all s (rec.Placed (vector_piece w.key w.put) place blocks digest pin ∷ rec.Committed w.put w.key n told ∷ [])) w.key request ≡ read.Hit w.put
+complete_is_hit s w place blocks pin n digest told request found fits small live =
     let before : List Stored = Rattle.std.specs.List.filter (λ a. not (is_match w.request a)) (State.list_among s (s.displaced ++ s.rows) w.key) in
     let ends : (kept : List Stored) × (merged_list s w ≡ kept ++ alternate_of w ∷ []) = longest_ends s.geometry.alternates (most_payload s.geometry) before (alternate_of w) s.geometry.keeps.some small in
-    let list : alternates_of (complete s w place blocks pin n digest found live) w.key ≡ ends.0 ++ alternate_of w ∷ [] = list_is s w place blocks pin n digest found live ∙ ends.1 in
-    let hits : hit (complete s w place blocks pin n digest found live) w.key request ≡ Some (alternate_of w) = ap (last_match request) list ∙ last_matches request ends.0 (alternate_of w) fits in
+    let list : alternates_of (complete s w place blocks pin n digest told found live) w.key ≡ ends.0 ++ alternate_of w ∷ [] = list_is s w place blocks pin n digest told found live ∙ ends.1 in
+    let hits : hit (complete s w place blocks pin n digest told found live) w.key request ≡ Some (alternate_of w) = ap (last_match request) list ∙ last_matches request ends.0 (alternate_of w) fits in
     rw hits refl
 
 -- ---- misses

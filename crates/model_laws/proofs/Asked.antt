@@ -12,11 +12,14 @@ use Rattle.cache_model.specs.declared.record.Rec.{Rec}
 use Rattle.cache_model.specs.declared.record.Rec.TheVariants as rec
 use Rattle.cache_model.specs.State.{State, Row, PutRow, place_now, put_of}
 use Rattle.cache_model.specs.Verdict.{live_vector_of}
-use Rattle.cache_model.specs.Permit.{Permit, Intent, Flush, Write, Fragment, Overflow, Weigh, Finish, Commit, GiveUp, Remove, Look, ReadOn, ReadAll, StopReading, Reason, End, Stays, Done}
+use Rattle.cache_model.specs.Permit.{Permit, Intent, Flush, Sync, SyncBegin, SyncStep, Drain, CleanSync, Write, Fragment, Overflow, Weigh, Finish, Commit, GiveUp, Remove, Look, ReadOn, ReadAll, StopReading, Reason, End, Stays, Done}
 use Rattle.cache_model.specs.Room.{limit, has_room}
 use Rattle.cache_model.specs.Legal
 use Rattle.cache_model.specs.Legal.{Does, IsStep, size_alone}
+use Rattle.cache_model.specs.Syncing
+use Rattle.cache_model.specs.Syncing.{DoesSync, WhereDue, must_unmark}
 use Rattle.model_laws.specs.StepLaws.{is_single}
+use Rattle.model_laws.proofs.Unsynced.{clean_ends, drain_ends, must_of, step_ends, sync_ends}
 use Rattle.cache_model.proofs.Steps.{alone, none_left}
 use Rattle.cache_model.proofs.Found.{no_truth, none_is, same_some}
 
@@ -27,6 +30,12 @@ single_ends p s Flush t added e (Legal.DoesFlush.empty q f is) h = cc
 single_ends p s Flush t added e (Legal.DoesFlush.flushes m) h = cc
 single_ends p s Flush t added e (Legal.DoesFlush.stops count m) h = cc
 single_ends p s Flush t added e (Legal.DoesFlush.exhausted q f b is) h = cc
+single_ends p s Flush t added e (Legal.DoesFlush.syncs d) h = sync_ends d h
+single_ends p s Sync t added e d h = sync_ends d h
+single_ends p s SyncBegin t added e d h = sync_ends d h
+single_ends p s (SyncStep last) t added e d h = step_ends d h
+single_ends p s Drain t added e d h = drain_ends d h
+single_ends p s CleanSync t added e d h = clean_ends d h
 single_ends p s (Write actor key request response pin) t added e (Legal.DoesWrite.opens m) h = cc
 single_ends p s (Write actor key request response pin) t added e (Legal.DoesWrite.many q m is) h = cc
 single_ends p s (Write actor key request response pin) t added e (Legal.DoesWrite.exhausted q m l is) h = cc
@@ -55,13 +64,15 @@ nothing_asked p s added why h = let n = none_left p s None added _ h.grows in (n
 -- ---- each intent
 
 pub fragment_is_cut : (p : Permit) (s : State) (put index : ℕ) (payload : List ℕ) (added : List Rec) (e : End)
-    → has_room s (length payload) ≡ true → place_now s + blocks_of (length payload) < limit → Does p s (Fragment put index payload) added e
-    → (e ≡ Done) × ((behind : List Rec) × (added ≡ rec.Cut put index (length payload) (digest_of payload) ∷ behind))
-fragment_is_cut p s put index payload added e room below (Legal.DoesFragment.places done m) = (done, (_, m.is))
-fragment_is_cut p s put index payload added e room below (Legal.DoesFragment.rooms w n (Legal.MakesRoom.flushes h m)) = no_truth (sym room ∙ h)
-fragment_is_cut p s put index payload added e room below (Legal.DoesFragment.rooms w n (Legal.MakesRoom.stops count h m)) = no_truth (sym room ∙ h)
-fragment_is_cut p s put index payload added e room below (Legal.DoesFragment.rooms w n (Legal.MakesRoom.exhausted h q is)) = no_truth (sym room ∙ h)
-fragment_is_cut p s put index payload added e room below (Legal.DoesFragment.exhausted w x n q) = let above : limit ≤ place_now s + blocks_of (length payload) = q.above in absurd (omega arith)
+    → must_unmark p s ≡ false → has_room s (length payload) ≡ true → place_now s + blocks_of (length payload) < limit
+    → Does p s (Fragment put index payload) added e → (e ≡ Done) × ((behind : List Rec) × (added ≡ rec.Cut put index (length payload) (digest_of payload) ∷ behind))
+fragment_is_cut p s put index payload added e unmarked room below (Legal.DoesFragment.unmarks w n q u) = no_truth (sym (must_of u) ∙ unmarked)
+fragment_is_cut p s put index payload added e unmarked room below (Legal.DoesFragment.rooms w n (Legal.MakesRoom.syncs end h d is)) = no_truth (sym room ∙ h)
+fragment_is_cut p s put index payload added e unmarked room below (Legal.DoesFragment.places done m) = (done, (_, m.is))
+fragment_is_cut p s put index payload added e unmarked room below (Legal.DoesFragment.rooms w n (Legal.MakesRoom.flushes h m)) = no_truth (sym room ∙ h)
+fragment_is_cut p s put index payload added e unmarked room below (Legal.DoesFragment.rooms w n (Legal.MakesRoom.stops count h m)) = no_truth (sym room ∙ h)
+fragment_is_cut p s put index payload added e unmarked room below (Legal.DoesFragment.rooms w n (Legal.MakesRoom.exhausted h q is)) = no_truth (sym room ∙ h)
+fragment_is_cut p s put index payload added e unmarked room below (Legal.DoesFragment.exhausted w x n q) = let above : limit ≤ place_now s + blocks_of (length payload) = q.above in absurd (omega arith)
 
 pub live_is_removed : (p : Permit) (s : State) (key : Key) (row : Row) (added : List Rec) (e : End)
     → live_vector_of s key ≡ Some row → Does p s (Remove key) added e → added ≡ rec.Removed row.id.put key ∷ []
@@ -71,11 +82,22 @@ live_is_removed p s key row added e live (Legal.DoesRemove.removes other q l is)
     is ∙ ap (λ n. rec.Removed n key ∷ []) put
 live_is_removed p s key row added e live (Legal.DoesRemove.absent q l is) = none_is (sym l ∙ live)
 
+-- where no sync is asked for an empty buffer is left
+pub none_due : (p : Permit) (s : State) (added : List Rec) (e : End) → s.filled ≡ 0 → DoesSync p WhereDue s added e → ⊥
+none_due p s added e z (Syncing.DoesSync.goes m) = let f : 0 < s.filled = m.filled in omega arith
+none_due p s added e z (Syncing.DoesSync.stops count m) = let f : 0 < s.filled = m.filled in omega arith
+none_due p s added e z (Syncing.DoesSync.empty m) = no_truth (sym m.asked)
+none_due p s added e z (Syncing.DoesSync.empty_stops count m) = no_truth (sym m.asked)
+none_due p s added e z (Syncing.DoesSync.stays count can first c) = let f : 0 < s.filled = can.may.some refl in omega arith
+none_due p s added e z (Syncing.DoesSync.exhausted may high is) = let f : 0 < s.filled = may.some refl in omega arith
+none_due p s added e z (Syncing.DoesSync.runs serial on quiet parts runs is) = no_truth (sym parts)
+
 pub empty_flush : (p : Permit) (s : State) (added : List Rec) (e : End) → s.filled ≡ 0 → Does p s Flush added e → (added ≡ []) × (e ≡ Done)
 empty_flush p s added e z (Legal.DoesFlush.empty q f is) = (is, refl)
 empty_flush p s added e z (Legal.DoesFlush.flushes m) = let f : 0 < s.filled = m.can.filled in absurd (omega arith)
 empty_flush p s added e z (Legal.DoesFlush.stops count m) = let f : 0 < s.filled = m.can.filled in absurd (omega arith)
 empty_flush p s added e z (Legal.DoesFlush.exhausted q f b is) = absurd (omega arith)
+empty_flush p s added e z (Legal.DoesFlush.syncs d) = absurd (none_due p s added e z d)
 
 looked : (p : Permit) (s : State) (key : Key) (request : List Field) (before : List Rec) (answer : ReadAnswer)
     → live_vector_of s key ≡ None → Legal.IsLookup p s key request before answer → before ≡ []
@@ -97,6 +119,7 @@ too_large s put fragments w v h big c =
 pub too_large_is_not_placed : (p : Permit) (s : State) (put fragments : ℕ) (w : PutRow) (added : List Rec) (e : End)
     → put_of s put ≡ Some w → budget_of s.geometry < blocks_of (size_alone w 0) → Does p s (Finish put fragments) added e → ⊥
 too_large_is_not_placed p s put fragments w added e h big (Legal.DoesFinish.places d m) = too_large s put fragments w m.w h big m.cut
+too_large_is_not_placed p s put fragments w added e h big (Legal.DoesFinish.unmarks v c l q u) = too_large s put fragments w v h big c
 too_large_is_not_placed p s put fragments w added e h big (Legal.DoesFinish.rooms v c m) = too_large s put fragments w v h big c
 too_large_is_not_placed p s put fragments w added e h big (Legal.DoesFinish.exhausted v x c l q) = too_large s put fragments w v h big c
 too_large_is_not_placed p s put fragments w added e h big (Legal.DoesFinish.loses v index d m is) = too_large s put fragments w v h big m.cut
@@ -109,6 +132,7 @@ not_cut s put fragments w v h n c =
 pub all_is_cut_first : (p : Permit) (s : State) (put fragments : ℕ) (w : PutRow) (added : List Rec) (e : End)
     → put_of s put ≡ Some w → (length w.cuts == fragments) ≡ false → Does p s (Finish put fragments) added e → ⊥
 all_is_cut_first p s put fragments w added e h n (Legal.DoesFinish.places d m) = not_cut s put fragments w m.w h n m.cut
+all_is_cut_first p s put fragments w added e h n (Legal.DoesFinish.unmarks v c l q u) = not_cut s put fragments w v h n c
 all_is_cut_first p s put fragments w added e h n (Legal.DoesFinish.rooms v c m) = not_cut s put fragments w v h n c
 all_is_cut_first p s put fragments w added e h n (Legal.DoesFinish.exhausted v x c l q) = not_cut s put fragments w v h n c
 all_is_cut_first p s put fragments w added e h n (Legal.DoesFinish.loses v index d m is) = not_cut s put fragments w v h n m.cut

@@ -1,6 +1,6 @@
 -- Each record of a step at the state before it: the device did what damage and faults say, faults are new,
 -- and numbers follow.
-use Rattle.std.proofs.Common.{◌≡◌, ℕ, List, [], ◌∷◌, ◌++◌, refl, sym, ap, subst, inl, inr}
+use Rattle.std.proofs.Common.{◌≡◌, ℕ, List, [], ◌∷◌, ◌++◌, refl, sym, ap, subst, true, false, inl, inr, Bool}
 use Rattle.std.specs.Prelude.{Option, map, length}
 use Rattle.device_log.specs.Calls.{Asked}
 use Rattle.tape_base.specs.Digest.{digest_of}
@@ -16,16 +16,21 @@ use Rattle.cache_model.specs.declared.record.Rec.{Rec}
 use Rattle.alternate_vector.specs.Field.{Field}
 use Rattle.tape_base.specs.declared.keys.Key.{Key}
 use Rattle.cache_model.specs.declared.record.Rec.TheVariants as rec
-use Rattle.cache_model.specs.State.{State, Row, ReaderRow, state_after, after_all}
-use Rattle.cache_model.specs.Permit.{Permit, Intent, Flush, Write, Fragment, Overflow, Weigh, Finish, Commit, GiveUp, Remove, Look, ReadOn, ReadAll, StopReading, End, Work, Reason}
+use Rattle.cache_model.specs.State.{State, Row, ReaderRow, state_after, after_all, cursor_next}
+use Rattle.cache_model.specs.Permit.{Permit, Intent, Flush, Sync, SyncBegin, SyncStep, Drain, CleanSync, Write, Fragment, Overflow, Weigh, Finish, Commit, GiveUp, Remove, Look, ReadOn, ReadAll, StopReading, End, Work, Reason}
 use Rattle.cache_model.specs.Room.{MayDisplace, displaced_record}
 use Rattle.cache_model.specs.Given
 use Rattle.cache_model.specs.Legal
 use Rattle.cache_model.specs.Legal.{Does, Advances, MayGrow, nothing, more, IsStep, answer_record}
 use Rattle.model_laws.specs.StepLaws.{AllAlong, IsBacked, IsNumbered, IsRisen}
 use Rattle.cache_model.specs.Due.{due_pieces}
-use Rattle.cache_model.specs.Outcomes.{Copied, Copy, NoRoom, Outcome, Refused, Spoiled, began_record, copies_of, front_of, moved_record, moved_records, records_of, stopped_front_of, stopped_records_of}
-use Rattle.model_laws.proofs.BackedFlush.{along_append, front_is_backed, risen, stopped_is_backed}
+use Rattle.cache_model.specs.Outcomes.{Copied, Copy, NoRoom, Outcome, Refused, Spoiled, copies_of, flush_tail, front_of, moved_record, moved_records, records_of, stopped_front_of, stopped_records_of}
+use Rattle.cache_model.specs.Syncing
+use Rattle.cache_model.specs.Syncing.{CannotEnd, DoesCleanSync, DoesSync, DoesSyncStep, MayStopSync, MaySyncBehind, StopsBehind, Syncing, Unmarks, at_first, begun_record, behind_records, ended_records, first_records, sync_records}
+use Rattle.cache_model.proofs.Steps.{all_append}
+use Rattle.cache_model.proofs.Syncing.{AreOfSyncs, IsOfSync, after_syncs, behind_of, ended_of, first_of, sync_of, unmark_of}
+use Rattle.model_laws.proofs.Alike.{IsAlike, counts_alike, outcomes_alike}
+use Rattle.model_laws.proofs.BackedFlush.{along_append, front_is_backed, risen, stopped_front, stopped_is_backed}
 
 -- what is said of a record, all together
 abbrev IsRight : Permit → State → Rec → Type 0
@@ -94,17 +99,19 @@ stopped_numbered s (row ∷ rows) (o ∷ outcomes) =
     along_append IsNumbered s (stopped_records_of row o) (stopped_front_of rows outcomes) (one_stopped_numbered s row o)
     (stopped_numbered (after_all s (stopped_records_of row o)) rows outcomes)
 
-copies_right : (p : Permit) (s : State) (copies : List Copy) → AllRight p s (moved_records s copies)
-copies_right p s [] = tt
-copies_right p s (c ∷ copies) = ((tt, tt, tt), copies_right p (state_after s (moved_record s c)) copies)
+copies_right : (p : Permit) (s t : State) (copies : List Copy) → AllRight p s (moved_records t copies)
+copies_right p s t [] = tt
+copies_right p s t (c ∷ copies) = ((tt, tt, tt), copies_right p (state_after s (moved_record t c)) (state_after t (moved_record t c)) copies)
+
+tail_right : (p : Permit) (s t : State) (rows : List Row) (outcomes : List Outcome) → AllRight p s (flush_tail t rows outcomes)
+tail_right p s t rows outcomes = ((tt, tt, tt), copies_right p _ _ (copies_of rows outcomes))
 
 flush : (p : Permit) (s : State) (added : List Rec) → Legal.MayFlush p s added → AllRight p s added
 flush p s added m =
     let rows : List Row = due_pieces s p.now in
     let front : List Rec = front_of rows m.outcomes in
-    let began : State = state_after (after_all s front) (began_record s) in
     let right : AllRight p s front = all_right p s front (front_is_backed p s (budget_of s.geometry) rows m.outcomes m.are) (front_numbered s rows m.outcomes) in
-    as_given p s added _ m.is (along_append (IsRight p) s front _ right ((tt, tt, tt), copies_right p began (copies_of rows m.outcomes)))
+    as_given p s added _ m.is (along_append (IsRight p) s front _ right (tail_right p (after_all s front) s rows m.outcomes))
 
 stop : (p : Permit) (s : State) (count : ℕ) (added : List Rec) → Legal.MayStop p s count added → AllRight p s added
 stop p s count added m =
@@ -113,10 +120,116 @@ stop p s count added m =
     let numbered : AllAlong IsNumbered s (front ++ rec.Fault count ∷ []) = along_append IsNumbered s front _ (stopped_numbered s rows m.outcomes) (tt, tt) in
     as_given p s added _ m.is (all_right p s _ (stopped_is_backed p s (budget_of s.geometry) rows m.outcomes _ count m.are m.counts.counts) numbered)
 
+-- ---- syncs
+
+-- their records tell no trouble, and number nothing
+sync_right : (p : Permit) (s : State) (r : Rec) → IsOfSync r → IsRight p s r
+sync_right p s (rec.SyncBegun serial cursor clean in_parts) h = (tt, tt, tt)
+sync_right p s (rec.SyncDone serial) h = (tt, tt, tt)
+sync_right p s _ h = absurd h
+
+syncs_right : (p : Permit) (s : State) (recs : List Rec) → AreOfSyncs recs → AllRight p s recs
+syncs_right p s [] h = tt
+syncs_right p s (r ∷ recs) h = (sync_right p s r h.0, syncs_right p (state_after s r) recs h.1)
+
+-- and leave a state that tells as much of pieces
+syncs_alike : (s : State) (recs : List Rec) → AreOfSyncs recs → IsAlike s (after_all s recs)
+syncs_alike s recs h = subst (IsAlike s) (sym (after_syncs s recs h)) ((refl, refl), refl, refl)
+
+-- a fault that was counted before them may stand behind them
+fault_behind : (p : Permit) (s : State) (recs : List Rec) (asked : Asked) (count : ℕ) → AreOfSyncs recs → Given.MayCount p s asked count → AllRight p s (recs ++ rec.Fault count ∷ [])
+fault_behind p s recs asked count h m =
+    let t : State = after_all s recs in
+    along_append (IsRight p) s recs _ (syncs_right p s recs h) (fault p t asked count (counts_alike p s t asked count (syncs_alike s recs h).2 m), tt)
+
+-- behind the end of a sync in parts too
+ended_fault : (p : Permit) (s : State) (r : Rec) (count : ℕ) → IsOfSync r → Given.CountsSync p s count → AllRight p s (ended_records s ++ r ∷ rec.Fault count ∷ [])
+ended_fault p s r count h c =
+    let ended : List Rec = ended_records s in
+    let t : State = after_all s ended in
+    let of_ended : AreOfSyncs ended = ended_of s in
+    along_append (IsRight p) s ended _ (syncs_right p s ended of_ended)
+    (fault_behind p t (r ∷ []) c.asked count (h, tt) (counts_alike p s t c.asked count (syncs_alike s ended of_ended).2 c.counts))
+
+goes : (p : Permit) (k : Syncing) (s : State) (added : List Rec) → MaySyncBehind p k s added → AllRight p s added
+goes p k s added m =
+    let rows : List Row = due_pieces s p.now in
+    let first : List Rec = first_records k s in
+    let f : State = at_first k s in
+    let front : List Rec = front_of rows m.outcomes in
+    let behind : List Rec = behind_records k f in
+    let t : State = after_all f front in
+    let are = outcomes_alike p s f (budget_of s.geometry) rows m.outcomes (syncs_alike s first (first_of k s)) m.are in
+    let right : AllRight p f front = all_right p f front (front_is_backed p f (budget_of s.geometry) rows m.outcomes are) (front_numbered f rows m.outcomes) in
+    as_given p s added _ m.is (along_append (IsRight p) s first _ (syncs_right p s first (first_of k s))
+    (along_append (IsRight p) f front _ right
+    (along_append (IsRight p) t behind _ (syncs_right p t behind (behind_of k f)) (tail_right p (after_all t behind) s rows m.outcomes))))
+
+-- what was begun before the device stopped the flush, and the call for which it did
+begun_of : (p : Permit) (k : Syncing) (s : State) (front : List Rec) (count : ℕ) (begun : List Rec) → StopsBehind p k s front count begun
+    → AreOfSyncs begun × ((asked : Asked) × Given.MayCount p (after_all s front) asked count)
+begun_of p k s front count begun (Syncing.StopsBehind.buffer c) = (tt, (_, c.counts))
+begun_of p k s front count begun (Syncing.StopsBehind.ended t n r c) = (tt, (c.asked, c.counts))
+begun_of p k s front count begun (Syncing.StopsBehind.whole t n c) =
+    (all_append IsOfSync (ended_records s) (begun_record s (cursor_next s) false false ∷ []) (ended_of s) (tt, tt), (c.asked, c.counts))
+
+stops : (p : Permit) (k : Syncing) (s : State) (count : ℕ) (added : List Rec) → MayStopSync p k s count added → AllRight p s added
+stops p k s count added m =
+    let rows : List Row = due_pieces s p.now in
+    let first : List Rec = first_records k s in
+    let f : State = at_first k s in
+    let front : List Rec = stopped_front_of rows m.outcomes in
+    let begun = begun_of p k f front count m.begun m.stops in
+    let backed = stopped_front p s f (budget_of s.geometry) rows m.outcomes (syncs_alike s first (first_of k s)) m.are in
+    let right : AllRight p f front = all_right p f front backed (stopped_numbered f rows m.outcomes) in
+    as_given p s added _ m.is (along_append (IsRight p) s first _ (syncs_right p s first (first_of k s))
+    (along_append (IsRight p) f front _ right (fault_behind p (after_all f front) m.begun begun.1.0 count begun.0 begun.1.1)))
+
+cannot_end : (p : Permit) (s : State) (count : ℕ) (added : List Rec) → CannotEnd p s count added → AllRight p s added
+cannot_end p s count added c = as_given p s added _ c.is (fault p s c.counts.asked count c.counts.counts, tt)
+
+sync : (p : Permit) (k : Syncing) (s : State) (added : List Rec) (e : End) → DoesSync p k s added e → AllRight p s added
+sync p k s added e (Syncing.DoesSync.goes m) = goes p k s added m
+sync p k s added e (Syncing.DoesSync.stops count m) = stops p k s count added m
+sync p k s added e (Syncing.DoesSync.empty m) =
+    as_given p s added _ m.is (syncs_right p s _ (all_append IsOfSync (ended_records s) (sync_records k s s.cursor) (ended_of s) (sync_of k s s.cursor)))
+sync p k s added e (Syncing.DoesSync.empty_stops count m) = as_given p s added _ m.is (ended_fault p s _ count tt m.counts)
+sync p k s added e (Syncing.DoesSync.stays count can first c) = cannot_end p s count added c
+sync p k s added e (Syncing.DoesSync.exhausted may high is) = as_given p s added [] is tt
+sync p k s added e (Syncing.DoesSync.runs serial on quiet parts runs is) = as_given p s added [] is tt
+
+sync_step : (p : Permit) (s : State) (last : Bool) (added : List Rec) (e : End) → DoesSyncStep p s last added e → AllRight p s added
+sync_step p s last added e (Syncing.DoesSyncStep.none on quiet none is) = as_given p s added [] is tt
+sync_step p s last added e (Syncing.DoesSyncStep.part on quiet runs front takes is) = as_given p s added [] is tt
+sync_step p s last added e (Syncing.DoesSyncStep.ends on quiet runs end is) = as_given p s added _ is (syncs_right p s _ (ended_of s))
+sync_step p s last added e (Syncing.DoesSyncStep.stays count on quiet c) = cannot_end p s count added c
+
+clean_sync : (p : Permit) (s : State) (added : List Rec) (e : End) → DoesCleanSync p s added e → AllRight p s added
+clean_sync p s added e (Syncing.DoesCleanSync.moving on quiet some is) = as_given p s added [] is tt
+clean_sync p s added e (Syncing.DoesCleanSync.syncs on quiet none rests below is) = as_given p s added _ is ((tt, tt, tt), silent)
+clean_sync p s added e (Syncing.DoesCleanSync.stops count on quiet none rests below c is) =
+    as_given p s added _ is (fault_behind p s (begun_record s s.cursor true false ∷ []) c.asked count (tt, tt) c.counts)
+clean_sync p s added e (Syncing.DoesCleanSync.exhausted on quiet none rests high is) = as_given p s added [] is tt
+
+drain : (p : Permit) (s : State) (added : List Rec) (e : End) → Legal.DoesDrain p s added e → AllRight p s added
+drain p s added e (Legal.DoesDrain.still_open on quiet some is) = as_given p s added [] is tt
+drain p s added e (Legal.DoesDrain.empty on quiet none filled is) = as_given p s added _ is (syncs_right p s _ (ended_of s))
+drain p s added e (Legal.DoesDrain.stays count on quiet none filled c) = cannot_end p s count added c
+drain p s added e (Legal.DoesDrain.syncs none some d) = sync p Syncing.AtOnce s added e d
+
+unmark : (p : Permit) (s : State) (added : List Rec) (e : End) → Unmarks p s added e → AllRight p s added
+unmark p s added e (Syncing.Unmarks.unmarks must below is) = as_given p s added _ is (syncs_right p s _ (unmark_of s))
+unmark p s added e (Syncing.Unmarks.stays count must below c) = cannot_end p s count added c
+unmark p s added e (Syncing.Unmarks.stops count must below marked c is) = as_given p s added _ is (ended_fault p s _ count tt c)
+unmark p s added e (Syncing.Unmarks.exhausted must high is) = as_given p s added [] is tt
+
+-- ---- room
+
 room : (p : Permit) (s : State) (bytes : ℕ) (added : List Rec) (e : End) → Legal.MakesRoom p s bytes added e → AllRight p s added
 room p s bytes added e (Legal.MakesRoom.flushes h m) = flush p s added m
 room p s bytes added e (Legal.MakesRoom.stops count h m) = stop p s count added m
 room p s bytes added e (Legal.MakesRoom.exhausted h q is) = as_given p s added [] is tt
+room p s bytes added e (Legal.MakesRoom.syncs end h d is) = sync p Syncing.WhereDue s added end d
 
 -- ---- lookups and readers
 
@@ -150,11 +263,18 @@ group p s Flush added e (Legal.DoesFlush.empty q f is) = as_given p s added [] i
 group p s Flush added e (Legal.DoesFlush.flushes m) = flush p s added m
 group p s Flush added e (Legal.DoesFlush.stops count m) = stop p s count added m
 group p s Flush added e (Legal.DoesFlush.exhausted q f b is) = as_given p s added [] is tt
+group p s Flush added e (Legal.DoesFlush.syncs d) = sync p Syncing.WhereDue s added e d
+group p s Sync added e d = sync p Syncing.AtOnce s added e d
+group p s SyncBegin added e d = sync p Syncing.InParts s added e d
+group p s (SyncStep last) added e d = sync_step p s last added e d
+group p s Drain added e d = drain p s added e d
+group p s CleanSync added e d = clean_sync p s added e d
 group p s (Write actor key request response pin) added e (Legal.DoesWrite.opens m) = as_given p s added _ m.is ((tt, (refl, m.below), tt), tt)
 group p s (Write actor key request response pin) added e (Legal.DoesWrite.many q m is) = as_given p s added [] is tt
 group p s (Write actor key request response pin) added e (Legal.DoesWrite.exhausted q m l is) = as_given p s added [] is tt
 group p s (Fragment put index payload) added e (Legal.DoesFragment.places d m) =
     as_given p s added _ m.is ((tt, tt, tt), along_append (IsRight p) (state_after s (rec.Cut put index (length payload) (digest_of payload))) m.displaced _ (displaced p s _ _ m.displaced m.displaces) silent)
+group p s (Fragment put index payload) added e (Legal.DoesFragment.unmarks w n q u) = unmark p s added e u
 group p s (Fragment put index payload) added e (Legal.DoesFragment.rooms w n m) = room p s _ added e m
 group p s (Fragment put index payload) added e (Legal.DoesFragment.exhausted w x n q) = as_given p s added [] q.is tt
 group p s (Overflow put) added e (Legal.DoesOverflow.aborts w q l is) = as_given p s added _ is silent
@@ -163,6 +283,7 @@ group p s (Weigh put rest) added e (Legal.DoesWeigh.too_large w q r f is) = as_g
 group p s (Weigh put rest) added e (Legal.DoesWeigh.damaged w row found q live d is) = as_given p s added _ is (damage p s row found d, tt)
 group p s (Weigh put rest) added e (Legal.DoesWeigh.faulted w row count q live r m is) = as_given p s added _ is (fault p s _ count m, tt)
 group p s (Finish put fragments) added e (Legal.DoesFinish.places d m) = as_given p s added _ m.is (along_append (IsRight p) s m.displaced _ (displaced p s s _ m.displaced m.displaces) silent)
+group p s (Finish put fragments) added e (Legal.DoesFinish.unmarks w c l q u) = unmark p s added e u
 group p s (Finish put fragments) added e (Legal.DoesFinish.rooms w c m) = room p s _ added e m
 group p s (Finish put fragments) added e (Legal.DoesFinish.exhausted w x c l q) = as_given p s added [] q.is tt
 group p s (Finish put fragments) added e (Legal.DoesFinish.loses w index d m is) = as_given p s added _ is silent

@@ -59,7 +59,7 @@ one_stopped_backed p s left row (Spoiled found) h =
 one_stopped_backed p s left row (Refused count) h = ((_, h.2.refused), tt)
 
 -- s is behind the records of a whole flush, t behind those of one that stops
-stopped_front : (p : Permit) (s t : State) (left : ℕ) (rows : List Row) (outcomes : List Outcome) → IsAlike s t → AreOutcomes p s left rows outcomes
+pub stopped_front : (p : Permit) (s t : State) (left : ℕ) (rows : List Row) (outcomes : List Outcome) → IsAlike s t → AreOutcomes p s left rows outcomes
     → AllAlong (IsRisen p) t (stopped_front_of rows outcomes) × AllAlong (IsBacked p) t (stopped_front_of rows outcomes)
 stopped_front p s t left [] [] a h = (tt, tt)
 stopped_front p s t left [] (o ∷ outcomes) a h = absurd h

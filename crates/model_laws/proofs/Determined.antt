@@ -13,10 +13,10 @@ use Rattle.cache_model.specs.declared.answer.ReadAnswer.{ReadAnswer}
 use Rattle.cache_model.specs.declared.answer.NextAnswer.{NextAnswer}
 use Rattle.cache_model.specs.declared.record.Rec.{Rec}
 use Rattle.cache_model.specs.declared.record.Rec.TheVariants as rec
-use Rattle.cache_model.specs.State.{State, Row, PutRow, ReaderRow, Open, Closed, GivenUp, fragment_piece, list_of_put, live_row_of, vector_piece}
+use Rattle.cache_model.specs.State.{State, Row, PutRow, ReaderRow, Open, Closed, GivenUp, fragment_piece, list_of_piece, list_of_put, live_row_of, vector_piece}
 use Rattle.cache_model.specs.Verdict.{is_open, lookup_verdict, reader_verdict}
 use Rattle.tape_base.specs.declared.pieces.PieceId.{PieceId}
-use Rattle.cache_model.specs.Permit.{Permit, Intent, Flush, Write, Fragment, Overflow, Weigh, Finish, Commit, GiveUp, Remove, Look, ReadOn, ReadAll, StopReading, TooLarge, Lost, End, Stays, Done, Fails}
+use Rattle.cache_model.specs.Permit.{Permit, Intent, Flush, Sync, SyncBegin, SyncStep, Drain, CleanSync, Write, Fragment, Overflow, Weigh, Finish, Commit, GiveUp, Remove, Look, ReadOn, ReadAll, StopReading, TooLarge, Lost, End, Stays, Done, Fails}
 use Rattle.tape_base.specs.Blocks.{blocks_of}
 use Rattle.cache_model.specs.Room.{HasPlace, MayDisplace, displaced_record, greatest_pin, has_room, is_full_for, placed_record, rows_of_segment, segment_of_piece}
 use Rattle.cache_model.specs.Given
@@ -29,6 +29,7 @@ use Rattle.model_laws.specs.Agreeing.{AreLike, IsOtherAsked, IsOtherCopy, IsUntr
 use Rattle.cache_model.specs.ToRead.{flushes_first}
 use Rattle.model_laws.proofs.AgreeingFlush.{flushes_agree}
 use Rattle.model_laws.proofs.ToldFlush.{as_shown}
+use Rattle.model_laws.proofs.Unsynced.{clean_on, drain_on, never, step_on, sync_on, unmark_on}
 use Rattle.cache_model.proofs.Found.{no_truth, number_of, same_some}
 
 abbrev Same : List Rec → List Rec → End → End → Type 0
@@ -82,6 +83,8 @@ flushed (inr shown) = inr shown
 same_flush : {p q : Permit} {s : State} {a b : List Rec} {e f : End} → AreLike p q → IsUntroubled a → IsUntroubled b → DoesFlush p s a e → DoesFlush q s b f → Agree (Copies p q s) a b e f
 same_flush like calm calm2 (Legal.DoesFlush.stops count stop) h = absurd (stop_told stop calm)
 same_flush like calm calm2 h (Legal.DoesFlush.stops count stop) = absurd (stop_told stop calm2)
+same_flush like calm calm2 (Legal.DoesFlush.syncs d) h = never like.unsynced (sync_on d)
+same_flush like calm calm2 h (Legal.DoesFlush.syncs d) = never like.other_unsynced (sync_on d)
 same_flush like calm calm2 (Legal.DoesFlush.empty quiet is none) (Legal.DoesFlush.empty quiet2 is2 none2) = inl (none ∙ sym none2, refl)
 same_flush like calm calm2 (Legal.DoesFlush.empty quiet is none) (Legal.DoesFlush.flushes flush) = let some = flush.can.filled in absurd (omega (arith, is, some))
 same_flush like calm calm2 (Legal.DoesFlush.empty quiet is none) (Legal.DoesFlush.exhausted quiet2 some high none2) = absurd (omega (arith, is, some))
@@ -95,6 +98,8 @@ same_flush like calm calm2 (Legal.DoesFlush.exhausted quiet some high none) (Leg
 same_room : {p q : Permit} {s : State} {bytes : ℕ} {a b : List Rec} {e f : End} → AreLike p q → IsUntroubled a → IsUntroubled b → MakesRoom p s bytes a e → MakesRoom q s bytes b f → Agree (CopiesFor p q s bytes) a b e f
 same_room like calm calm2 (Legal.MakesRoom.stops count room stop) h = absurd (stop_told stop calm)
 same_room like calm calm2 h (Legal.MakesRoom.stops count room stop) = absurd (stop_told stop calm2)
+same_room like calm calm2 (Legal.MakesRoom.syncs end room d is) h = never like.unsynced (sync_on d)
+same_room like calm calm2 h (Legal.MakesRoom.syncs end room d is) = never like.other_unsynced (sync_on d)
 same_room like calm calm2 (Legal.MakesRoom.flushes room flush) (Legal.MakesRoom.flushes room2 flush2) = flushed (as_shown (λ shown. (room, shown)) (same_records like calm calm2 flush flush2))
 same_room like calm calm2 (Legal.MakesRoom.flushes room flush) (Legal.MakesRoom.exhausted room2 high none) = let below = flush.can.below in absurd cc
 same_room like calm calm2 (Legal.MakesRoom.exhausted room2 high none) (Legal.MakesRoom.flushes room flush) = let below = flush.can.below in absurd cc
@@ -138,6 +143,7 @@ is_full : {p : Permit} {s : State} {bytes : ℕ} {added : List Rec} {e : End} �
 is_full (Legal.MakesRoom.flushes room flush) = room
 is_full (Legal.MakesRoom.stops count room stop) = room
 is_full (Legal.MakesRoom.exhausted room high none) = room
+is_full (Legal.MakesRoom.syncs end room d is) = room
 
 no_room : {p : Permit} {s : State} {bytes : ℕ} {added : List Rec} {e : End} → has_room s bytes ≡ true → MakesRoom p s bytes added e → ⊥
 no_room has room = let none = is_full room in let f : true ≡ false = sym has ∙ none in cc
@@ -150,6 +156,8 @@ no_place place none =
 
 same_fragment : {p q : Permit} {s : State} {put index : ℕ} {payload : List ℕ} {a b : List Rec} {e f : End} → AreLike p q → IsUntroubled a → IsUntroubled b
     → DoesFragment p s put index payload a e → DoesFragment q s put index payload b f → Agree (CopiesFor p q s (length payload)) a b e f
+same_fragment like calm calm2 (Legal.DoesFragment.unmarks w cut place u) h = never like.unsynced (unmark_on u)
+same_fragment like calm calm2 h (Legal.DoesFragment.unmarks w cut place u) = never like.other_unsynced (unmark_on u)
 same_fragment like calm calm2 (Legal.DoesFragment.places is m) (Legal.DoesFragment.places is2 n) = inl (placed_alike like m n, is ∙ sym is2)
 same_fragment like calm calm2 (Legal.DoesFragment.places is m) (Legal.DoesFragment.rooms w cut room) = absurd (no_room m.place.room room)
 same_fragment like calm calm2 (Legal.DoesFragment.places is m) (Legal.DoesFragment.exhausted w is2 cut none) = absurd (no_place m.place none)
@@ -215,6 +223,8 @@ whole_or_lost {s} {put} {index = index} {w = w} {v = v} m whole n =
 
 same_finish : {p q : Permit} {s : State} {put fragments : ℕ} {a b : List Rec} {e f : End} → AreLike p q → IsUntroubled a → IsUntroubled b
     → DoesFinish p s put fragments a e → DoesFinish q s put fragments b f → Agree (CopiesFor p q s (vector_length s put)) a b e f
+same_finish like calm calm2 (Legal.DoesFinish.unmarks w cut live place u) h = never like.unsynced (unmark_on u)
+same_finish like calm calm2 h (Legal.DoesFinish.unmarks w cut live place u) = never like.other_unsynced (unmark_on u)
 same_finish like calm calm2 (Legal.DoesFinish.places is m) (Legal.DoesFinish.places is2 n) = inl (vectors_alike like m n, is ∙ sym is2)
 same_finish like calm calm2 (Legal.DoesFinish.places is m) (Legal.DoesFinish.rooms w cut room) = absurd (no_room m.place.room room)
 same_finish like calm calm2 (Legal.DoesFinish.places is m) (Legal.DoesFinish.loses w index is2 n gone) = absurd (whole_or_lost m.cut.writing m.whole n)
@@ -237,8 +247,8 @@ same_finish {put = put} like calm calm2 (Legal.DoesFinish.loses w index is m gon
     inl (same_aborted m.cut.writing n.cut.writing gone gone2, is ∙ ap (λ i. Fails (Lost put i)) same ∙ sym is2)
 
 same_commit : {s : State} {put : ℕ} {a b : List Rec} {e f : End} → DoesCommit s put a e → DoesCommit s put b f → Same a b e f
-same_commit {put = put} (Legal.DoesCommit.commits w found writing pending is) (Legal.DoesCommit.commits v found2 open2 pending2 is2) =
-    (is ∙ ap (λ x. rec.Committed put x.key (total_length x.cuts) ∷ []) (same_some w v _ found found2) ∙ sym is2, refl)
+same_commit {s} {put = put} (Legal.DoesCommit.commits w found writing pending is) (Legal.DoesCommit.commits v found2 open2 pending2 is2) =
+    (is ∙ ap (λ x. rec.Committed put x.key (total_length x.cuts) (list_of_piece s (vector_piece x.key put)) ∷ []) (same_some w v _ found found2) ∙ sym is2, refl)
 
 open_is_writing : {s : State} {put : ℕ} {w : PutRow} → IsWriting s put w → is_writing s put ≡ true
 open_is_writing {s} {put} {w} m = ap (λ o. unwrap_or (option_map is_open o) false) m.found ∙ ap (λ t. elim t [ Open ↦ true | Closed ↦ false | GivenUp ↦ false ]) m.is_open
@@ -333,6 +343,11 @@ asked_full p q s i bytes first shown = record { flushes = first shown.0; can = s
 pub groups_agree : (p q : Permit) (s : State) (i : Intent) (one other : List Rec) (e f : End) → AreLike p q → IsUntroubled one → IsUntroubled other
     → Does p s i one e → Does q s i other f → ((one ≡ other) × (e ≡ f)) ⊎ IsOtherAsked p q s i
 groups_agree p q s Flush one other e f like calm calm2 h k = as_shown (λ shown. record { flushes = refl; can = shown.0; copy = shown.1 }) (same_flush like calm calm2 h k)
+groups_agree p q s Sync one other e f like calm calm2 h k = never like.unsynced (sync_on h)
+groups_agree p q s SyncBegin one other e f like calm calm2 h k = never like.unsynced (sync_on h)
+groups_agree p q s (SyncStep last) one other e f like calm calm2 h k = never like.unsynced (step_on h)
+groups_agree p q s Drain one other e f like calm calm2 h k = never like.unsynced (drain_on h)
+groups_agree p q s CleanSync one other e f like calm calm2 h k = never like.unsynced (clean_on h)
 groups_agree p q s (Write actor key request response pin) one other e f like calm calm2 h k = inl (same_write h k)
 groups_agree p q s (Fragment put index payload) one other e f like calm calm2 h k = as_shown (λ shown. asked_full p q s (Fragment put index payload) (length payload) (ap not) shown) (same_fragment like calm calm2 h k)
 groups_agree p q s (Overflow put) one other e f like calm calm2 h k = inl (same_overflow h k)

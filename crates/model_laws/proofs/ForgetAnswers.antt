@@ -23,7 +23,7 @@ use Rattle.cache_model.specs.Tape.{IsSound}
 use Rattle.cache_model.specs.Forgetting.{forget, forgotten_puts, has_reader, is_among, is_forgotten, put_of_last, without_puts}
 use Rattle.cache_model.proofs.Found.{no_truth}
 use Rattle.model_laws.specs.ForgetLaws.{IsAnsweredAlike, IsKeyKept, IsNoRecord}
-use Rattle.model_laws.proofs.Forgetting.{AreDead, forgetting_leaves, forgotten_is_dead, kept_if, loss_stays, lookup_kept, any_found, not_true, passed_stays, piece_stays, put_kept, vector_gone, vector_kept, vector_none, with_reader}
+use Rattle.model_laws.proofs.Forgetting.{AreDead, count_stays, forgetting_leaves, forgotten_is_dead, kept_if, loss_stays, lookup_kept, any_found, not_true, passed_stays, piece_stays, put_kept, vector_gone, vector_kept, vector_none, with_reader}
 
 -- ---- why a key is missed
 
@@ -44,13 +44,13 @@ piece_is s id = sym (unwrap_other (cause_of_loss s id) (option_map (passed s) (r
 
 -- so it is of a key's vector
 abbrev on_last : State → Key → LastVector → Option Cause
-on_last s key (Complete put) = or_other (option_map no_match (live_row_of s (vector_piece key put))) (on_piece s (vector_piece key put))
+on_last s key (Complete put) = or_other (option_map (λ (row : Row). no_match s (vector_piece key put)) (live_row_of s (vector_piece key put))) (on_piece s (vector_piece key put))
 on_last s key (TakenOut put) = Some cause.Removed
 
 last_is_told : (s : State) (key : Key) (last : LastVector) → cause_of_last s key last ≡ unwrap_or (on_last s key last) (no_record s)
 last_is_told s key (Complete put) =
-    ap (unwrap_or (option_map no_match (live_row_of s (vector_piece key put)))) (piece_is s (vector_piece key put))
-    ∙ sym (unwrap_other (option_map no_match (live_row_of s (vector_piece key put))) (on_piece s (vector_piece key put)) (no_record s))
+    ap (unwrap_or (option_map (λ (row : Row). no_match s (vector_piece key put)) (live_row_of s (vector_piece key put)))) (piece_is s (vector_piece key put))
+    ∙ sym (unwrap_other (option_map (λ (row : Row). no_match s (vector_piece key put)) (live_row_of s (vector_piece key put))) (on_piece s (vector_piece key put)) (no_record s))
 last_is_told s key (TakenOut put) = refl
 
 -- and of a key
@@ -72,8 +72,9 @@ module _ (s : State) (puts : List ℕ) (dead : AreDead s puts) (h : IsSound s) w
 
   on_last_stays : (key : Key) (last : LastVector) → is_among puts (put_of_last last) ≡ false → on_last after key last ≡ on_last s key last
   on_last_stays key (Complete put) k =
-      ap (λ o. or_other (option_map no_match o) (on_piece after (vector_piece key put))) (piece_stays s puts dead (vector_piece key put))
-      ∙ ap (or_other (option_map no_match (live_row_of s (vector_piece key put)))) (on_piece_stays (vector_piece key put) k)
+      ap (λ o. or_other (option_map (λ (row : Row). no_match after (vector_piece key put)) o) (on_piece after (vector_piece key put))) (piece_stays s puts dead (vector_piece key put))
+      ∙ ap (λ n. or_other (option_map (λ (row : Row). cause.NoMatch n) (live_row_of s (vector_piece key put))) (on_piece after (vector_piece key put))) (count_stays s puts (vector_piece key put) k)
+      ∙ ap (or_other (option_map (λ (row : Row). no_match s (vector_piece key put)) (live_row_of s (vector_piece key put)))) (on_piece_stays (vector_piece key put) k)
   on_last_stays key (TakenOut put) k = refl
 
   abort_stays : (key : Key) → ((put : ℕ) → last_abort s key ≡ Some put → is_among puts put ≡ false) → last_abort after key ≡ last_abort s key

@@ -15,7 +15,7 @@ use Rattle.tape_base.proofs.NameLaws.{same_key-true, same_piece-true}
 use Rattle.alternate_vector.specs.Field.{Field}
 use Rattle.cache_model.specs.declared.cause.Cause.TheVariants as cause
 use Rattle.cache_model.specs.State
-use Rattle.cache_model.specs.State.{State, Mark, Row, PutRow, ReaderRow, LastVector, Complete, TakenOut, Writing, Open, Closed, GivenUp, alternates_of, is_live, last_abort, last_match, last_vector, list_of_last, list_of_row, live_row_of, live_rows, only_live, put_of, reader_of, row_in, row_of, vector_piece}
+use Rattle.cache_model.specs.State.{State, Mark, Row, PutRow, ReaderRow, LastVector, Complete, TakenOut, Writing, Open, Closed, GivenUp, alternates_of, count_of_vector, is_live, last_abort, last_match, last_vector, list_of_last, list_of_row, live_row_of, live_rows, only_live, put_of, reader_of, row_in, row_of, vector_piece}
 use Rattle.cache_model.specs.Verdict
 use Rattle.cache_model.specs.Verdict.{cause_of_last, cause_of_loss, cause_of_miss, cause_of_piece, cuts_of, follow_answer, followed, hit, hit_answer, is_open, is_unsaved, lookup_verdict, may_follow, next_piece, next_row, no_match, no_record, passed, piece_at, reader_verdict, table_of}
 use Rattle.cache_model.specs.Permit.{IsAmong}
@@ -221,7 +221,7 @@ module _ (s : State) (puts : List ℕ) (dead : AreDead s puts) where
   pub rows_stay : live_rows t ≡ live_rows s
   rows_stay = filter_kept (is_live s) keeps_row s.rows (λ row m live. ap not (live_kept row m live))
 
-  row_kept : (id : PieceId) → is_among puts id.put ≡ false → row_of t id ≡ row_of s id
+  pub row_kept : (id : PieceId) → is_among puts id.put ≡ false → row_of t id ≡ row_of s id
   row_kept id k = find_kept (λ (row : Row). same_piece row.id id) keeps_row s.rows (λ row found. ap not (ap (λ (i : PieceId). is_among puts i.put) (own_piece id s.rows row found) ∙ k))
 
   row_gone : (id : PieceId) → is_among puts id.put ≡ true → row_of t id ≡ None
@@ -311,7 +311,7 @@ module _ (s : State) (puts : List ℕ) (dead : AreDead s puts) where
   put_kept put k = find_kept (λ (p : PutRow). p.put == put) keeps_put s.puts (λ p found.
       ap not (ap (is_among puts) (eqb-true p.put put (found_passes (λ q. q.put == put) s.puts p found)) ∙ k))
 
-  put_gone : (put : ℕ) → is_among puts put ≡ true → put_of t put ≡ None
+  pub put_gone : (put : ℕ) → is_among puts put ≡ true → put_of t put ≡ None
   put_gone put k = find_gone (λ (p : PutRow). p.put == put) keeps_put s.puts (λ p is. ap not (ap (is_among puts) (eqb-true p.put put is) ∙ k))
 
   left : IsLeft s t
@@ -392,7 +392,7 @@ module _ (s : State) (puts : List ℕ) (dead : AreDead s puts) where
     known = known_stay s.rows h.known;
   }
 
-  puts_by : (put : ℕ) (w : PutRow) (b : Bool) → is_among puts put ≡ b → put_of (without_puts puts s) put ≡ Some w → put_of s put ≡ Some w
+  pub puts_by : (put : ℕ) (w : PutRow) (b : Bool) → is_among puts put ≡ b → put_of (without_puts puts s) put ≡ Some w → put_of s put ≡ Some w
   puts_by put w true k found = none_is (sym (put_gone s puts dead put k) ∙ found)
   puts_by put w false k found = sym (put_kept s puts dead put k) ∙ found
 
@@ -423,6 +423,12 @@ module _ (s : State) (puts : List ℕ) (dead : AreDead s puts) where
   pub loss_stays : (id : PieceId) → is_among puts id.put ≡ false → cause_of_loss (without_puts puts s) id ≡ cause_of_loss s id
   loss_stays id k = lookup-filter-keys (λ (l : PieceId). same_piece l id) (λ (l : PieceId). not (is_among puts l.put)) true
       (λ l is. ap not (ap (λ (i : PieceId). is_among puts i.put) (same_piece-true l id is) ∙ k)) s.lost
+
+module _ (s : State) (puts : List ℕ) where
+  -- and as many alternates of a vector are told
+  pub count_stays : (id : PieceId) → is_among puts id.put ≡ false → count_of_vector (without_puts puts s) id ≡ count_of_vector s id
+  count_stays id k = ap (λ o. unwrap_or o 0) (lookup-filter-keys (λ (l : PieceId). same_piece l id) (λ (l : PieceId). not (is_among puts l.put)) true
+      (λ l is. ap not (ap (λ (i : PieceId). is_among puts i.put) (same_piece-true l id is) ∙ k)) s.counts)
 
 pub forgetting_tells : (cap : ℕ) (s : State) → AreTold s → AreTold (forget cap s)
 forgetting_tells cap s = told_left s (forgotten_puts cap s) (forgotten_is_dead cap s)

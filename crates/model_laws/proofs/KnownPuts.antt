@@ -308,6 +308,7 @@ nothing_goes s =
     let unsaved : (without_puts [] s).unsaved ≡ s.unsaved = filter_all _ s.unsaved (λ place. no_place (lookup (λ p. p == place) s.places)) in
     let lost : (without_puts [] s).lost ≡ s.lost = filter_all _ s.lost (λ l. refl) in
     let vectors : (without_puts [] s).vectors ≡ s.vectors = filter_all _ s.vectors (λ v. no_last (last_vector s v.0)) in
+    let counts : (without_puts [] s).counts ≡ s.counts = filter_all _ s.counts (λ c. refl) in
     let puts : (without_puts [] s).puts ≡ s.puts = filter_all _ s.puts (λ p. refl) in
     let aborts : (without_puts [] s).aborts ≡ s.aborts = filter_all _ s.aborts (λ a. refl) in
     let dropped : s.dropped + 0 ≡ s.dropped = omega arith in
@@ -317,6 +318,7 @@ nothing_goes s =
       unsaved = unsaved i;
       lost = lost i;
       vectors = vectors i;
+      counts = counts i;
       puts = puts i;
       aborts = aborts i;
       dropped = dropped i;

@@ -6,14 +6,26 @@ mod Cleanup
 pub mod Backed
 mod WorkedSessions
 mod AcceptedSteps
+mod SyncedSteps
+pub mod Unsynced
+pub mod Grouped
+mod Asks
+pub mod Marks
+mod AskSyncs
+mod Serials
+mod MarkedEmpty
 mod Determined
 pub mod Buckets
 mod Purged
 pub mod Fitting
+pub mod FewerRows
+pub mod Fits
 mod Possible
 mod Tried
 pub mod Told
 pub mod ToldGroups
+pub mod CountedRecords
+pub mod Counted
 pub mod Alike
 mod Chosen
 pub mod BackedFlush
@@ -28,4 +40,5 @@ mod ReadPairs
 mod Syncs
 pub mod Forgetting
 pub mod ForgetAnswers
+mod CountedForgetting
 pub mod KnownPuts

@@ -11,6 +11,7 @@ use Rattle.std.proofs.lemmas.Bool.{leb-true}
 use Rattle.tape_base.proofs.NameLaws.{same_piece-true, same_piece-same, same_key-same}
 use Rattle.cache_model.specs.declared.record.Rec.{Rec}
 use Rattle.cache_model.specs.declared.record.Rec.TheVariants as rec
+use Rattle.alternate_vector.specs.Alternates.{Stored}
 use Rattle.cache_model.specs.State.{State, Row, LastVector, Complete, TakenOut, after_all, state_after, last_vector, place_of, row_in, row_of, without, without_earlier, vector_piece, placed_row, moved_row, is_live, only_live, live_row_of, floor_now}
 use Rattle.tape_base.specs.declared.geometries.Geometry.{Geometry}
 use Rattle.cache_model.specs.Opening.{Opening}
@@ -72,7 +73,7 @@ place_follows s (rec.Placed piece place blocks digest pin) id =
 place_follows s (rec.Displaced piece segment live) id = without_at s.rows piece id
 place_follows s (rec.Damaged piece place kept found) id = without_at s.rows piece id
 place_follows s (rec.Moved piece from place digest) id = moved_at s.rows piece place digest id
-place_follows s (rec.Committed put key length) id = earlier_at s.rows key put (last_vector s key) id
+place_follows s (rec.Committed put key length list) id = earlier_at s.rows key put (last_vector s key) id
 place_follows s (rec.Removed put key) id = rw (same_piece-sym id (vector_piece key put)) (without_at s.rows (vector_piece key put) id)
 place_follows s _ id = refl
 
@@ -109,7 +110,7 @@ record_leaves s (rec.Placed piece place blocks digest pin) id before h = rw h re
 record_leaves s (rec.Displaced piece segment live) id before h = rw h refl
 record_leaves s (rec.Damaged piece place kept found) id before h = rw h refl
 record_leaves s (rec.Moved piece from place digest) id before h = rw h refl
-record_leaves s (rec.Committed put key length) id before h = rw (commit_leaves (last_vector s key) key put id h) refl
+record_leaves s (rec.Committed put key length list) id before h = rw (commit_leaves (last_vector s key) key put id h) refl
 record_leaves s (rec.Removed put key) id before h = rw (removal_leaves key put id (same_piece id (vector_piece key put)) refl h) refl
 record_leaves s _ id before h = refl
 
@@ -144,10 +145,10 @@ pub taken_is_nowhere : (s : State) (id : PieceId) (gone : Rec) (behind : List Re
     → place_of (after_all s (gone ∷ behind)) id ≡ None
 taken_is_nowhere s id gone behind h k = place-left (state_after s gone) id behind k ∙ gone_at s id gone h
 
-pub replaced_is_nowhere : (s : State) (key : Key) (old put length : ℕ) → last_vector s key ≡ Some (Complete old) → (old == put) ≡ false
-    → place_of (after_all s (rec.Committed put key length ∷ [])) (vector_piece key old) ≡ None
-replaced_is_nowhere s key old put length h e =
-    place_follows s (rec.Committed put key length) (vector_piece key old) ∙ rw (h, e, same_piece-same (vector_piece key old)) refl
+pub replaced_is_nowhere : (s : State) (key : Key) (old put length : ℕ) (list : List Stored) → last_vector s key ≡ Some (Complete old) → (old == put) ≡ false
+    → place_of (after_all s (rec.Committed put key length list ∷ [])) (vector_piece key old) ≡ None
+replaced_is_nowhere s key old put length list h e =
+    place_follows s (rec.Committed put key length list) (vector_piece key old) ∙ rw (h, e, same_piece-same (vector_piece key old)) refl
 
 -- ---- what stands below the floor, and what stands last
 
@@ -161,7 +162,7 @@ passed_is_not_live s id row e h = rw e (below_by s row (is_live s row) refl h)
 vector_stays : (s : State) (key : Key) (r : Rec) → is_about key r ≡ false → last_vector (state_after s r) key ≡ last_vector s key
 vector_stays s key (rec.Formatted geometry) h = no_truth h
 vector_stays s key (rec.Opened geometry serial cursor floor next_put clean list) h = no_truth h
-vector_stays s key (rec.Committed put k length) h = rw h refl
+vector_stays s key (rec.Committed put k length list) h = rw h refl
 vector_stays s key (rec.Removed put k) h = rw h refl
 vector_stays s key _ h = refl
 
@@ -172,7 +173,7 @@ vector-left s key (r ∷ recs) h = vector-left (state_after s r) key recs h.1 �
 vector_is : (s : State) (key : Key) (said : Rec) → is_about key said ≡ true → last_vector (state_after s said) key ≡ vector_said key said
 vector_is s key (rec.Formatted geometry) h = refl
 vector_is s key (rec.Opened geometry serial cursor floor next_put clean list) h = refl
-vector_is s key (rec.Committed put k length) h = rw h refl
+vector_is s key (rec.Committed put k length list) h = rw h refl
 vector_is s key (rec.Removed put k) h = rw h refl
 vector_is s key _ h = cc
 

@@ -19,7 +19,7 @@ use Rattle.tape_base.specs.Geometry.{budget_of}
 use Rattle.alternate_vector.specs.Alternates.{Stored, is_within, longest_within, vector_size, is_match}
 use Rattle.cache_model.specs.declared.record.Rec.{Rec}
 use Rattle.cache_model.specs.State.{State, Row, PutRow, ReaderRow, Writing, Open, Closed, GivenUp, put_of, reader_of, alternate_of, fragment_piece, list_among, live_row_of, merged_list, most_payload, place_now, vector_piece}
-use Rattle.cache_model.specs.Permit.{Permit, Intent, Flush, Write, Fragment, Overflow, Weigh, Finish, Commit, GiveUp, Remove, Look, ReadOn, ReadAll, StopReading, End, Done}
+use Rattle.cache_model.specs.Permit.{Permit, Intent, Flush, Sync, SyncBegin, SyncStep, Drain, CleanSync, Write, Fragment, Overflow, Weigh, Finish, Commit, GiveUp, Remove, Look, ReadOn, ReadAll, StopReading, End, Done}
 use Rattle.cache_model.specs.Room.{HasPlace, has_room, is_flush_exhausted, limit}
 use Rattle.cache_model.specs.Given
 use Rattle.cache_model.specs.Legal
@@ -31,6 +31,7 @@ use Rattle.cache_model.specs.ToRead.{to_read}
 use Rattle.cache_model.specs.Tape.{IsSound}
 use Rattle.cache_model.proofs.Found.{none_is, number_of}
 use Rattle.model_laws.proofs.Purged.{can_displace}
+use Rattle.model_laws.proofs.Unsynced.{unmarked_where}
 use Rattle.model_laws.proofs.TriedFlush.{Flushes, flush_comes, made, stopped}
 
 -- ---- sizes
@@ -93,35 +94,35 @@ room_by : (p : Permit) (s : State) (bytes : ℕ) → has_room s bytes ≡ false 
 room_by p s bytes none (made added m) = makes added _ (Legal.MakesRoom.flushes none m)
 room_by p s bytes none (stopped count added m) = makes added _ (Legal.MakesRoom.stops count none m)
 
-room_case : (p : Permit) (s : State) (bytes : ℕ) (room flush place : Bool) → IsQuiet s → blocks_of bytes ≤ budget_of s.geometry
+room_case : (p : Permit) (s : State) (bytes : ℕ) (room flush place : Bool) → p.syncs ≡ false → IsQuiet s → blocks_of bytes ≤ budget_of s.geometry
     → (has_room s bytes ≡ false → CanFlush s → IsFlushTried p s) → has_room s bytes ≡ room → is_flush_exhausted s ≡ flush → nat_le limit (place_now s + blocks_of bytes) ≡ place → Room p s bytes
-room_case p s bytes true flush false quiet small due room below place =
+room_case p s bytes true flush false off quiet small due room below place =
     has (record { small = small; room = room; below = leb-false limit (place_now s + blocks_of bytes) place })
-room_case p s bytes true flush true quiet small due room below place =
+room_case p s bytes true flush true off quiet small due room below place =
     ends (record { room = room; above = leb-true limit (place_now s + blocks_of bytes) place; is = refl })
-room_case p s bytes false false place quiet small due room below end =
+room_case p s bytes false false place off quiet small due room below end =
     let can : CanFlush s = record { quiet = quiet; filled = filled_by s bytes small room; below = below } in
-    room_by p s bytes room (flush_comes p s can (due room can))
-room_case p s bytes false true place quiet small due room below end = makes [] _ (Legal.MakesRoom.exhausted room below refl)
+    room_by p s bytes room (flush_comes p s off can (due room can))
+room_case p s bytes false true place off quiet small due room below end = makes [] _ (Legal.MakesRoom.exhausted room below refl)
 
-room_of : (p : Permit) (s : State) (bytes : ℕ) → IsQuiet s → blocks_of bytes ≤ budget_of s.geometry → (not (has_room s bytes) ≡ true → CanFlush s → IsFlushTried p s) → Room p s bytes
-room_of p s bytes quiet small due = room_case p s bytes _ _ _ quiet small (λ none. due (ap not none)) refl refl refl
+room_of : (p : Permit) (s : State) (bytes : ℕ) → p.syncs ≡ false → IsQuiet s → blocks_of bytes ≤ budget_of s.geometry → (not (has_room s bytes) ≡ true → CanFlush s → IsFlushTried p s) → Room p s bytes
+room_of p s bytes off quiet small due = room_case p s bytes _ _ _ off quiet small (λ none. due (ap not none)) refl refl refl
 
 -- ---- fragments
 
-fragment_by_room : (p : Permit) (s : State) (put index : ℕ) (payload : List ℕ) (w : PutRow) → IsSound s → IsNext s put index payload w
+fragment_by_room : (p : Permit) (s : State) (put index : ℕ) (payload : List ℕ) (w : PutRow) → p.syncs ≡ false → IsSound s → IsNext s put index payload w
     → Room p s (length payload) → (added : List Rec) × (e : End) × DoesFragment p s put index payload added e
-fragment_by_room p s put index payload w sound cut (has place) =
+fragment_by_room p s put index payload w off sound cut (has place) =
     let gone = can_displace p s (next_fragment_of w) sound in
-    (_, Done, Legal.DoesFragment.places refl (record { w = w; displaced = gone.0; cut = cut; place = place; displaces = gone.1; is = refl }))
-fragment_by_room p s put index payload w sound cut (ends none) = ([], _, Legal.DoesFragment.exhausted w refl cut none)
-fragment_by_room p s put index payload w sound cut (makes added e room) = (added, e, Legal.DoesFragment.rooms w cut room)
+    (_, Done, Legal.DoesFragment.places refl (record { w = w; displaced = gone.0; cut = cut; unmarked = unmarked_where p s off; place = place; displaces = gone.1; is = refl }))
+fragment_by_room p s put index payload w off sound cut (ends none) = ([], _, Legal.DoesFragment.exhausted w refl cut none)
+fragment_by_room p s put index payload w off sound cut (makes added e room) = (added, e, Legal.DoesFragment.rooms w cut room)
 
 -- the next fragment of an open put is placed, or a flush for it is made, or it is refused
-a_fragment_can_be_asked : (p : Permit) (s : State) (put index : ℕ) (payload : List ℕ) (w : PutRow) → IsSound s → IsNext s put index payload w
+a_fragment_can_be_asked : (p : Permit) (s : State) (put index : ℕ) (payload : List ℕ) (w : PutRow) → p.syncs ≡ false → IsSound s → IsNext s put index payload w
     → AreDueTried p s (Fragment put index payload) → (added : List Rec) × (e : End) × DoesFragment p s put index payload added e
-a_fragment_can_be_asked p s put index payload w sound cut due =
-    fragment_by_room p s put index payload w sound cut (room_of p s (length payload) cut.writing.quiet (fragment_fits cut) due)
+a_fragment_can_be_asked p s put index payload w off sound cut due =
+    fragment_by_room p s put index payload w off sound cut (room_of p s (length payload) off cut.writing.quiet (fragment_fits cut) due)
 
 -- ---- vectors
 
@@ -168,22 +169,22 @@ loses_at p s put fragments w cut room index some within before gone = (
   }) refl,
 )
 
-finish_case : (p : Permit) (s : State) (put fragments : ℕ) (w : PutRow) (room : Bool) → IsSound s → IsCut s put fragments w → has_room s (vector_length s put) ≡ room
+finish_case : (p : Permit) (s : State) (put fragments : ℕ) (w : PutRow) (room : Bool) → p.syncs ≡ false → IsSound s → IsCut s put fragments w → has_room s (vector_length s put) ≡ room
     → Lives s w fragments → Room p s (vector_length s put) → (added : List Rec) × (e : End) × DoesFinish p s put fragments added e
-finish_case p s put fragments w true sound cut room (lost index some within before gone) r = loses_at p s put fragments w cut room index some within before gone
-finish_case p s put fragments w true sound cut room (all whole) (has place) =
+finish_case p s put fragments w true off sound cut room (lost index some within before gone) r = loses_at p s put fragments w cut room index some within before gone
+finish_case p s put fragments w true off sound cut room (all whole) (has place) =
     let gone = can_displace p s (vector_piece w.key put) sound in
-    (_, Done, Legal.DoesFinish.places refl (record { w = w; displaced = gone.0; cut = cut; whole = whole; place = place; displaces = gone.1; is = refl }))
-finish_case p s put fragments w true sound cut room (all whole) (ends none) = ([], _, Legal.DoesFinish.exhausted w refl cut whole none)
-finish_case p s put fragments w false sound cut room lives (has place) = let other = place.room in let f : true ≡ false = sym other ∙ room in cc
-finish_case p s put fragments w false sound cut room lives (ends none) = let other = none.room in let f : true ≡ false = sym other ∙ room in cc
-finish_case p s put fragments w room sound cut is lives (makes added e m) = (added, e, Legal.DoesFinish.rooms w cut m)
+    (_, Done, Legal.DoesFinish.places refl (record { w = w; displaced = gone.0; cut = cut; unmarked = unmarked_where p s off; whole = whole; place = place; displaces = gone.1; is = refl }))
+finish_case p s put fragments w true off sound cut room (all whole) (ends none) = ([], _, Legal.DoesFinish.exhausted w refl cut whole none)
+finish_case p s put fragments w false off sound cut room lives (has place) = let other = place.room in let f : true ≡ false = sym other ∙ room in cc
+finish_case p s put fragments w false off sound cut room lives (ends none) = let other = none.room in let f : true ≡ false = sym other ∙ room in cc
+finish_case p s put fragments w room off sound cut is lives (makes added e m) = (added, e, Legal.DoesFinish.rooms w cut m)
 
 -- the vector of a put that is cut is placed, or a flush for it is made, or it is refused
-a_vector_can_be_asked : (p : Permit) (s : State) (put fragments : ℕ) (w : PutRow) → IsSound s → IsCut s put fragments w
+a_vector_can_be_asked : (p : Permit) (s : State) (put fragments : ℕ) (w : PutRow) → p.syncs ≡ false → IsSound s → IsCut s put fragments w
     → AreDueTried p s (Finish put fragments) → (added : List Rec) × (e : End) × DoesFinish p s put fragments added e
-a_vector_can_be_asked p s put fragments w sound cut due =
-    finish_case p s put fragments w _ sound cut refl (lives_of s w fragments) (room_of p s (vector_length s put) cut.writing.quiet (vector_fits cut) due)
+a_vector_can_be_asked p s put fragments w off sound cut due =
+    finish_case p s put fragments w _ off sound cut refl (lives_of s w fragments) (room_of p s (vector_length s put) off cut.writing.quiet (vector_fits cut) due)
 
 -- ---- what has to be read
 
@@ -239,12 +240,12 @@ flush_by : (p : Permit) (s : State) → Flushes p s → (added : List Rec) × (e
 flush_by p s (made added m) = (_, _, Legal.DoesFlush.flushes m)
 flush_by p s (stopped count added m) = (_, _, Legal.DoesFlush.stops count m)
 
-flush_case : (p : Permit) (s : State) (empty below : Bool) → IsQuiet s → (CanFlush s → IsFlushTried p s) → nat_le s.filled 0 ≡ empty → is_flush_exhausted s ≡ below → (added : List Rec) × (e : End) × DoesFlush p s added e
-flush_case p s true below quiet due empty is = let least = leb-true s.filled 0 empty in (_, _, Legal.DoesFlush.empty quiet (omega (arith, least)) refl)
-flush_case p s false false quiet due empty is =
+flush_case : (p : Permit) (s : State) (empty below : Bool) → p.syncs ≡ false → IsQuiet s → (CanFlush s → IsFlushTried p s) → nat_le s.filled 0 ≡ empty → is_flush_exhausted s ≡ below → (added : List Rec) × (e : End) × DoesFlush p s added e
+flush_case p s true below off quiet due empty is = let least = leb-true s.filled 0 empty in (_, _, Legal.DoesFlush.empty quiet (omega (arith, least)) refl)
+flush_case p s false false off quiet due empty is =
     let can : CanFlush s = record { quiet = quiet; filled = leb-false s.filled 0 empty; below = is } in
-    flush_by p s (flush_comes p s can (due can))
-flush_case p s false true quiet due empty is = (_, _, Legal.DoesFlush.exhausted quiet (leb-false s.filled 0 empty) is refl)
+    flush_by p s (flush_comes p s off can (due can))
+flush_case p s false true off quiet due empty is = (_, _, Legal.DoesFlush.exhausted quiet (leb-false s.filled 0 empty) is refl)
 
 write_case : (s : State) (actor : ℕ) (key : Key) (request response : List Field) (pin : ℕ) (many high : Bool) → MayAskWrite s actor request response pin
     → nat_le most_writers (open_writers s) ≡ many → nat_le limit (s.next_put + 1) ≡ high → (added : List Rec) × (e : End) × DoesWrite s actor key request response pin added e
@@ -365,20 +366,25 @@ look_asked : (p : Permit) (s : State) (actor : ℕ) (key : Key) (request : List 
 look_asked p s actor key request who number quiet tried =
     subst (λ n. (added : List Rec) × (e : End) × DoesLook p s n key request added e) number (look_by p s who key request quiet (looked p s (live_vector_of s key) tried))
 
-pub asked_is_answered : (p : Permit) (s : State) (i : Intent) → IsSound s → MayAsk s i → IsTriedWhereLive p s (to_read s i) → AreDueTried p s i
+pub asked_is_answered : (p : Permit) (s : State) (i : Intent) → IsSound s → p.syncs ≡ false → MayAsk s i → IsTriedWhereLive p s (to_read s i) → AreDueTried p s i
     → (added : List Rec) × (e : End) × Does p s i added e
-asked_is_answered p s Flush sound may tried due = flush_case p s _ _ may (due refl) refl refl
-asked_is_answered p s (Write actor key request response pin) sound may tried due = write_case s actor key request response pin _ _ may refl refl
-asked_is_answered p s (Fragment put index payload) sound may tried due = a_fragment_can_be_asked p s put index payload may.0 sound may.1 due
-asked_is_answered p s (Overflow put) sound may tried due = (_, _, Legal.DoesOverflow.aborts may.0 may.1 may.2 refl)
-asked_is_answered p s (Weigh put rest) sound may tried due =
+asked_is_answered p s Flush sound off may tried due = flush_case p s _ _ off may (due refl) refl refl
+asked_is_answered p s Sync sound off may tried due = absurd may
+asked_is_answered p s SyncBegin sound off may tried due = absurd may
+asked_is_answered p s (SyncStep last) sound off may tried due = absurd may
+asked_is_answered p s Drain sound off may tried due = absurd may
+asked_is_answered p s CleanSync sound off may tried due = absurd may
+asked_is_answered p s (Write actor key request response pin) sound off may tried due = write_case s actor key request response pin _ _ may refl refl
+asked_is_answered p s (Fragment put index payload) sound off may tried due = a_fragment_can_be_asked p s put index payload may.0 off sound may.1 due
+asked_is_answered p s (Overflow put) sound off may tried due = (_, _, Legal.DoesOverflow.aborts may.0 may.1 may.2 refl)
+asked_is_answered p s (Weigh put rest) sound off may tried due =
     close_by p s put rest may.0 may.1
     (looked p s (live_vector_of s may.0.key) (subst (λ o. IsTriedWhereLive p s (option_and_then (λ (w : PutRow). live_vector_of s w.key) o)) may.1.found tried))
-asked_is_answered p s (Finish put fragments) sound may tried due = a_vector_can_be_asked p s put fragments may.0 sound may.1 due
-asked_is_answered p s (Commit put) sound may tried due = (_, _, Legal.DoesCommit.commits may.0 may.1.found may.1.is_open may.1.pending refl)
-asked_is_answered p s (GiveUp put) sound may tried due = give_up_case s put _ may refl
-asked_is_answered p s (Remove key) sound may tried due = remove_case s key _ may refl
-asked_is_answered p s (Look actor key request) sound may tried due = look_asked p s actor key request may.1.0 may.1.1 may.0 tried
-asked_is_answered p s (ReadOn reader) sound may tried due = read_on_asked p s reader may.1.0 may.0 may.1.1 tried
-asked_is_answered p s (ReadAll reader) sound may tried due = read_all_asked p s reader _ refl may tried
-asked_is_answered p s (StopReading reader) sound may tried due = stop_case s reader _ may refl
+asked_is_answered p s (Finish put fragments) sound off may tried due = a_vector_can_be_asked p s put fragments may.0 off sound may.1 due
+asked_is_answered p s (Commit put) sound off may tried due = (_, _, Legal.DoesCommit.commits may.0 may.1.found may.1.is_open may.1.pending refl)
+asked_is_answered p s (GiveUp put) sound off may tried due = give_up_case s put _ may refl
+asked_is_answered p s (Remove key) sound off may tried due = remove_case s key _ may refl
+asked_is_answered p s (Look actor key request) sound off may tried due = look_asked p s actor key request may.1.0 may.1.1 may.0 tried
+asked_is_answered p s (ReadOn reader) sound off may tried due = read_on_asked p s reader may.1.0 may.0 may.1.1 tried
+asked_is_answered p s (ReadAll reader) sound off may tried due = read_all_asked p s reader _ refl may tried
+asked_is_answered p s (StopReading reader) sound off may tried due = stop_case s reader _ may refl

@@ -143,7 +143,7 @@ puts_left s (rec.Opened geometry serial cursor floor next_put clean list) h each
 puts_left s (rec.Displaced piece segment live) h each = absurd h
 puts_left s (rec.WriteOpened actor put key request response pin) h each = absurd h
 puts_left s (rec.Cut put index length digest) h each = absurd h
-puts_left s (rec.Committed put key length) h each = puts_ended put Closed s.puts each
+puts_left s (rec.Committed put key bytes list) h each = puts_ended put Closed s.puts each
 puts_left s (rec.Aborted put key) h each = puts_ended put GivenUp s.puts each
 puts_left s _ h each = each
 

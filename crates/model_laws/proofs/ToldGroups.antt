@@ -21,11 +21,12 @@ use Rattle.cache_model.specs.declared.record.Rec.TheVariants as rec
 use Rattle.cache_model.specs.Opening.{Opening}
 use Rattle.cache_model.specs.Openings.{IsOpening, opened_records}
 use Rattle.cache_model.specs.State.{State, after_all, list_of_put, nothing_yet, opened_put, place_now, placed_row, state_after, state_of_opening, vector_piece}
-use Rattle.cache_model.specs.Permit.{Permit, IsAmong, Intent, Flush, Write, Fragment, Overflow, Weigh, Finish, Commit, GiveUp, Remove, Look, ReadOn, ReadAll, StopReading, End, Work, Reason}
+use Rattle.cache_model.specs.Permit.{Setting, Permit, IsAmong, Intent, Flush, Sync, SyncBegin, SyncStep, Drain, CleanSync, Write, Fragment, Overflow, Weigh, Finish, Commit, GiveUp, Remove, Look, ReadOn, ReadAll, StopReading, End, Work, Reason}
 use Rattle.cache_model.specs.Room.{MayDisplace, greatest_pin, has_room}
 use Rattle.cache_model.specs.Legal
 use Rattle.cache_model.specs.Legal.{Does, Advances, MayGrow, nothing, more, IsStep, IsLegal, Course, format_records, next_fragment_of, vector_length}
 use Rattle.cache_model.specs.Due.{due_pieces}
+use Rattle.cache_model.specs.Syncing.{AtOnce, InParts, MaySyncBehind, Syncing, WhereDue}
 use Rattle.cache_model.specs.Tape.{IsSound}
 use Rattle.cache_model.specs.ToRead.{flushes_first}
 use Rattle.cache_model.specs.ToRead
@@ -38,6 +39,8 @@ use Rattle.cache_model.proofs.Sound.{AllLeaveTape, IsLater, buffer_left, displac
 use Rattle.cache_model.proofs.Onward.{later_advanced, legal_is_sound}
 use Rattle.cache_model.proofs.Aside.{AllAside, IsAside, lookup_aside, one_aside, reading_on_aside}
 use Rattle.cache_model.proofs.Merged.{IsMerged, put_told}
+use Rattle.cache_model.proofs.Syncing.{clean_aside, drain_splits, flush_among_syncs, resynced, step_aside, sync_splits, unmark_aside}
+use Rattle.model_laws.proofs.Unsynced.{may_flush}
 use Rattle.model_laws.proofs.Told.{AreFit, IsBehind, displaced_behind, no_puts, puts_cut, puts_opened, told_aside, vectors_leave, vectors_part, vectors_placed}
 use Rattle.model_laws.proofs.ToldFlush.{as_shown, flush_tells, stopped_tells}
 
@@ -60,11 +63,30 @@ stopped {Shown} p s count added m told = subst (Tells Shown s) (sym m.is) (inl (
 pub pair_of_copy : (IsPlaced : Documents) (p : Permit) (s : State) (i : Intent) → flushes_first s i ≡ true → Legal.CanFlush s → IsCopyPair IsPlaced p s p.now (budget_of s.geometry) → IsPair IsPlaced p s i
 pair_of_copy IsPlaced p s i first can c = record { row = c.row; read = ToRead.IsToRead.copied first can c.copied; pair = c.pair }
 
+-- what is known of syncs tells nothing of vectors and puts
+told_resynced : (u s : State) → AreTold s → AreTold (resynced u s)
+told_resynced u s told = record { vectors = vectors_part s (resynced u s) refl (part_all s.rows) told.vectors; puts = told.puts; displaced = told.displaced }
+
+-- a flush among syncs
+synced : (p : Permit) (k : Syncing) (s : State) (added : List Rec) → MaySyncBehind p k s added → IsSound s → AreTold s → Tells (IsCopyPair IsVectorAs p s p.now (budget_of s.geometry)) s added
+synced p k s added m h told =
+    let all = flush_among_syncs p k s added m in
+    elim (flush_tells p s p.now (budget_of s.geometry) m.outcomes h told m.are) [
+      | inl last ↦ inl (subst AreTold (sym all.1) (told_resynced all.0 _ last))
+      | inr pair ↦ inr pair
+    ]
+
+-- or what stands beside the pieces
+split : (p : Permit) (k : Syncing) (s : State) (i : Intent) (added : List Rec) → flushes_first s i ≡ true → MaySyncBehind p k s added ⊎ AllAside added → IsSound s → AreTold s → Tells (IsPair IsVectorAs p s i) s added
+split p k s i added first (inl m) h told = as_shown (pair_of_copy IsVectorAs p s i first (may_flush m)) (synced p k s added m h told)
+split p k s i added first (inr beside) h told = aside s added added refl beside told
+
 roomed : (p : Permit) (s : State) (i : Intent) (bytes : ℕ) (added : List Rec) (e : End) → (has_room s bytes ≡ false → flushes_first s i ≡ true) → Legal.MakesRoom p s bytes added e → IsSound s → AreTold s
     → Tells (IsPair IsVectorAs p s i) s added
 roomed p s i bytes added e first (Legal.MakesRoom.flushes x m) h told = as_shown (pair_of_copy IsVectorAs p s i (first x) m.can) (flushed p s added m h told)
 roomed p s i bytes added e first (Legal.MakesRoom.stops count x m) h told = stopped p s count added m told
 roomed p s i bytes added e first (Legal.MakesRoom.exhausted x q is) h told = aside s added [] is tt told
+roomed p s i bytes added e first (Legal.MakesRoom.syncs end x d is) h told = split p WhereDue s i added (first x) (sync_splits p WhereDue s added end d) h told
 
 opened : (s : State) (actor : ℕ) (key : Key) (request response : List Field) (pin : ℕ) (added : List Rec) → Legal.MayOpenWrite s actor key request response pin added → AreTold s → AreTold (after_all s added)
 opened s actor key request response pin added m told =
@@ -147,10 +169,17 @@ told_group p s Flush added e h told (Legal.DoesFlush.empty q f is) = aside s add
 told_group p s Flush added e h told (Legal.DoesFlush.flushes m) = as_shown (pair_of_copy IsVectorAs p s Flush refl m.can) (flushed p s added m h told)
 told_group p s Flush added e h told (Legal.DoesFlush.stops count m) = stopped p s count added m told
 told_group p s Flush added e h told (Legal.DoesFlush.exhausted q f b is) = aside s added [] is tt told
+told_group p s Flush added e h told (Legal.DoesFlush.syncs d) = split p WhereDue s Flush added refl (sync_splits p WhereDue s added e d) h told
+told_group p s Sync added e h told d = split p AtOnce s Sync added refl (sync_splits p AtOnce s added e d) h told
+told_group p s SyncBegin added e h told d = split p InParts s SyncBegin added refl (sync_splits p InParts s added e d) h told
+told_group p s (SyncStep last) added e h told d = aside s added added refl (step_aside p s last added e d) told
+told_group p s Drain added e h told d = split p AtOnce s Drain added refl (drain_splits p s added e d) h told
+told_group p s CleanSync added e h told d = aside s added added refl (clean_aside p s added e d) told
 told_group p s (Write actor key request response pin) added e h told (Legal.DoesWrite.opens m) = inl (opened s actor key request response pin added m told)
 told_group p s (Write actor key request response pin) added e h told (Legal.DoesWrite.many q m is) = aside s added [] is tt told
 told_group p s (Write actor key request response pin) added e h told (Legal.DoesWrite.exhausted q m l is) = aside s added [] is tt told
 told_group p s (Fragment put index payload) added e h told (Legal.DoesFragment.places d m) = inl (fragment_placed p s put index payload added m told)
+told_group p s (Fragment put index payload) added e h told (Legal.DoesFragment.unmarks w n q u) = aside s added added refl (unmark_aside p s added e u) told
 told_group p s (Fragment put index payload) added e h told (Legal.DoesFragment.rooms w n m) = roomed p s (Fragment put index payload) _ added e (λ none. rw none refl) m h told
 told_group p s (Fragment put index payload) added e h told (Legal.DoesFragment.exhausted w x n q) = aside s added [] q.is tt told
 told_group p s (Overflow put) added e h told (Legal.DoesOverflow.aborts w q l is) = aside s added _ is one_aside told
@@ -159,6 +188,7 @@ told_group p s (Weigh put rest) added e h told (Legal.DoesWeigh.too_large w q r 
 told_group p s (Weigh put rest) added e h told (Legal.DoesWeigh.damaged w row found q live d is) = aside s added _ is one_aside told
 told_group p s (Weigh put rest) added e h told (Legal.DoesWeigh.faulted w row count q live r m is) = aside s added _ is one_aside told
 told_group p s (Finish put fragments) added e h told (Legal.DoesFinish.places d m) = inl (vector_placed p s put fragments added m told)
+told_group p s (Finish put fragments) added e h told (Legal.DoesFinish.unmarks w c l q u) = aside s added added refl (unmark_aside p s added e u) told
 told_group p s (Finish put fragments) added e h told (Legal.DoesFinish.rooms w c m) = roomed p s (Finish put fragments) _ added e (λ none. rw none refl) m h told
 told_group p s (Finish put fragments) added e h told (Legal.DoesFinish.exhausted w x c l q) = aside s added [] q.is tt told
 told_group p s (Finish put fragments) added e h told (Legal.DoesFinish.loses w index d m is) = aside s added _ is one_aside told
@@ -260,18 +290,18 @@ told_opening s geometry o vectors =
 pub openings_tell : (packed : Bool) (s : State) (geometry : Geometry) (o : Opening) → IsOpening packed geometry o → AreTold (after_all s (opened_records geometry o))
 openings_tell packed s geometry o opening = told_opening s geometry o opening.vectors
 
-told_legal : (packed : Bool) (courses : List Course) (recs : List Rec) → IsLegal packed courses recs → AreTold (after_all nothing_yet recs) ⊎ IsShownIn courses recs
-told_legal packed courses recs (Legal.IsLegal.begins geometry) = inl (told_format nothing_yet geometry)
-told_legal packed courses recs (Legal.IsLegal.opens geometry o opening) = inl (told_opening nothing_yet geometry o opening.vectors)
-told_legal packed courses recs (Legal.IsLegal.steps {courses = earlier} {before = before} {added = added} course e legal step) =
-    elim (told_legal packed earlier before legal) [
+told_legal : (setting : Setting) (courses : List Course) (recs : List Rec) → IsLegal setting courses recs → AreTold (after_all nothing_yet recs) ⊎ IsShownIn courses recs
+told_legal setting courses recs (Legal.IsLegal.begins geometry) = inl (told_format nothing_yet geometry)
+told_legal setting courses recs (Legal.IsLegal.opens geometry o opening) = inl (told_opening nothing_yet geometry o opening.vectors)
+told_legal setting courses recs (Legal.IsLegal.steps {courses = earlier} {before = before} {added = added} course e legal step) =
+    elim (told_legal setting earlier before legal) [
       | inr v ↦ inr (shown_before earlier course before added v)
-      | inl told ↦ elim (told_step course.permit (after_all nothing_yet before) course.intents added course.refused (legal_is_sound packed earlier before legal) told step) [
+      | inl told ↦ elim (told_step course.permit (after_all nothing_yet before) course.intents added course.refused (legal_is_sound setting earlier before legal) told step) [
         | inl last ↦ inl (subst AreTold (sym (after_all-append nothing_yet before added)) last)
         | inr v ↦ inr (shown_last earlier course before added v)
       ]
     ]
 
-pub vectors_are_kept : (packed : Bool) (courses : List Course) (recs : List Rec) → IsLegal packed courses recs
+pub vectors_are_kept : (setting : Setting) (courses : List Course) (recs : List Rec) → IsLegal setting courses recs
     → AreVectors (after_all nothing_yet recs) ⊎ IsShownIn courses recs
-vectors_are_kept packed courses recs legal = elim (told_legal packed courses recs legal) [ inl told ↦ inl told.vectors | inr v ↦ inr v ]
+vectors_are_kept setting courses recs legal = elim (told_legal setting courses recs legal) [ inl told ↦ inl told.vectors | inr v ↦ inr v ]

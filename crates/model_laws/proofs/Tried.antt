@@ -1,5 +1,5 @@
 -- What a group has read.
-use Rattle.std.proofs.Common.{◌≡◌, ℕ, List, length, refl, sym, ◌∙◌, ap, subst, arith, true, inl, inr}
+use Rattle.std.proofs.Common.{◌≡◌, ℕ, List, length, refl, sym, ◌∙◌, ap, subst, arith, true, false, inl, inr}
 use Rattle.std.specs.Prelude.{Option, Some, None, not, option_and_then, option_map, unwrap_or}
 use Rattle.tape_base.specs.declared.keys.Key.{Key}
 use Rattle.alternate_vector.specs.Field.{Field}
@@ -13,7 +13,7 @@ use Rattle.cache_model.specs.declared.record.Rec.{Rec}
 use Rattle.cache_model.specs.State.{State, Row, PutRow, ReaderRow, live_row_of, put_of, reader_of}
 use Rattle.cache_model.specs.Verdict
 use Rattle.cache_model.specs.Verdict.{live_vector_of, next_piece, next_row}
-use Rattle.cache_model.specs.Permit.{Permit, Intent, Flush, Fragment, Weigh, Finish, Look, ReadOn, ReadAll, End}
+use Rattle.cache_model.specs.Permit.{Permit, Intent, Flush, Sync, SyncBegin, Drain, Fragment, Weigh, Finish, Look, ReadOn, ReadAll, End}
 use Rattle.cache_model.specs.Room.{has_room, is_flush_exhausted}
 use Rattle.cache_model.specs.Given
 use Rattle.cache_model.specs.Legal
@@ -25,6 +25,7 @@ use Rattle.cache_model.specs.ToRead.{to_read}
 use Rattle.cache_model.proofs.Found.{end_gives_none, no_truth}
 use Rattle.model_laws.proofs.Answered.{given_in}
 use Rattle.model_laws.proofs.TriedFlush.{made_is_tried, stopped_is_tried}
+use Rattle.model_laws.proofs.Unsynced.{drain_on, never, sync_on, unmark_on}
 
 -- ---- tried
 
@@ -88,28 +89,35 @@ exhausted_not p s high can = no_truth (sym high ∙ can.below)
 room_not : (p : Permit) (s : State) (bytes : ℕ) → has_room s bytes ≡ true → not (has_room s bytes) ≡ true → IsFlushTried p s
 room_not p s bytes room first = no_truth (sym first ∙ ap not room)
 
-room_is_tried : (p : Permit) (s : State) (bytes : ℕ) (added : List Rec) (e : End) → MakesRoom p s bytes added e → CanFlush s → IsFlushTried p s
-room_is_tried p s bytes added e (Legal.MakesRoom.flushes none m) can = made_is_tried p s added m
-room_is_tried p s bytes added e (Legal.MakesRoom.stops count none m) can = stopped_is_tried p s count added m
-room_is_tried p s bytes added e (Legal.MakesRoom.exhausted none high is) can = exhausted_not p s high can
+room_is_tried : (p : Permit) (s : State) (bytes : ℕ) (added : List Rec) (e : End) → p.syncs ≡ false → MakesRoom p s bytes added e → CanFlush s → IsFlushTried p s
+room_is_tried p s bytes added e off (Legal.MakesRoom.flushes none m) can = made_is_tried p s added m
+room_is_tried p s bytes added e off (Legal.MakesRoom.stops count none m) can = stopped_is_tried p s count added m
+room_is_tried p s bytes added e off (Legal.MakesRoom.exhausted none high is) can = exhausted_not p s high can
+room_is_tried p s bytes added e off (Legal.MakesRoom.syncs end none d is) can = never off (sync_on d)
 
-due_is_tried : (p : Permit) (s : State) (i : Intent) (added : List Rec) (e : End) → Does p s i added e → AreDueTried p s i
-due_is_tried p s Flush added e (Legal.DoesFlush.empty q none is) first can = let some = can.filled in absurd (omega (arith, none, some))
-due_is_tried p s Flush added e (Legal.DoesFlush.flushes m) first can = made_is_tried p s added m
-due_is_tried p s Flush added e (Legal.DoesFlush.stops count m) first can = stopped_is_tried p s count added m
-due_is_tried p s Flush added e (Legal.DoesFlush.exhausted q some high is) first can = exhausted_not p s high can
-due_is_tried p s (Fragment put index payload) added e (Legal.DoesFragment.places d m) first can = room_not p s (length payload) m.place.room first
-due_is_tried p s (Fragment put index payload) added e (Legal.DoesFragment.rooms w n m) first can = room_is_tried p s (length payload) added e m can
-due_is_tried p s (Fragment put index payload) added e (Legal.DoesFragment.exhausted w x n none) first can = room_not p s (length payload) none.room first
-due_is_tried p s (Finish put fragments) added e (Legal.DoesFinish.places d m) first can = room_not p s (vector_length s put) m.place.room first
-due_is_tried p s (Finish put fragments) added e (Legal.DoesFinish.rooms w c m) first can = room_is_tried p s (vector_length s put) added e m can
-due_is_tried p s (Finish put fragments) added e (Legal.DoesFinish.loses w index x m is) first can = room_not p s (vector_length s put) m.room first
-due_is_tried p s (Finish put fragments) added e (Legal.DoesFinish.exhausted w x c l none) first can = room_not p s (vector_length s put) none.room first
-due_is_tried p s _ added e d first can = no_truth (sym first)
+due_is_tried : (p : Permit) (s : State) (i : Intent) (added : List Rec) (e : End) → p.syncs ≡ false → Does p s i added e → AreDueTried p s i
+due_is_tried p s Flush added e off (Legal.DoesFlush.empty q none is) first can = let some = can.filled in absurd (omega (arith, none, some))
+due_is_tried p s Flush added e off (Legal.DoesFlush.flushes m) first can = made_is_tried p s added m
+due_is_tried p s Flush added e off (Legal.DoesFlush.stops count m) first can = stopped_is_tried p s count added m
+due_is_tried p s Flush added e off (Legal.DoesFlush.exhausted q some high is) first can = exhausted_not p s high can
+due_is_tried p s Flush added e off (Legal.DoesFlush.syncs d) first can = never off (sync_on d)
+due_is_tried p s Sync added e off d first can = never off (sync_on d)
+due_is_tried p s SyncBegin added e off d first can = never off (sync_on d)
+due_is_tried p s Drain added e off d first can = never off (drain_on d)
+due_is_tried p s (Fragment put index payload) added e off (Legal.DoesFragment.unmarks w n q u) first can = never off (unmark_on u)
+due_is_tried p s (Fragment put index payload) added e off (Legal.DoesFragment.places d m) first can = room_not p s (length payload) m.place.room first
+due_is_tried p s (Fragment put index payload) added e off (Legal.DoesFragment.rooms w n m) first can = room_is_tried p s (length payload) added e off m can
+due_is_tried p s (Fragment put index payload) added e off (Legal.DoesFragment.exhausted w x n none) first can = room_not p s (length payload) none.room first
+due_is_tried p s (Finish put fragments) added e off (Legal.DoesFinish.unmarks w c l q u) first can = never off (unmark_on u)
+due_is_tried p s (Finish put fragments) added e off (Legal.DoesFinish.places d m) first can = room_not p s (vector_length s put) m.place.room first
+due_is_tried p s (Finish put fragments) added e off (Legal.DoesFinish.rooms w c m) first can = room_is_tried p s (vector_length s put) added e off m can
+due_is_tried p s (Finish put fragments) added e off (Legal.DoesFinish.loses w index x m is) first can = room_not p s (vector_length s put) m.room first
+due_is_tried p s (Finish put fragments) added e off (Legal.DoesFinish.exhausted w x c l none) first can = room_not p s (vector_length s put) none.room first
+due_is_tried p s _ added e off d first can = no_truth (sym first)
 
 pub answered_is_tried : (p : Permit) (s : State) (i : Intent) (added : List Rec) (e : End) → Does p s i added e
-    → IsTriedWhereLive p s (to_read s i) × AreDueTried p s i
-answered_is_tried p s i added e d = (asked_is_tried p s i added e d, due_is_tried p s i added e d)
+    → IsTriedWhereLive p s (to_read s i) × (p.syncs ≡ false → AreDueTried p s i)
+answered_is_tried p s i added e d = (asked_is_tried p s i added e d, λ off. due_is_tried p s i added e off d)
 
 -- ---- read
 

@@ -113,14 +113,14 @@ pub data Flushes (p : Permit) (s : State) : Type 0 where
   made : (added : List Rec) → MayFlush p s added → Flushes p s
   stopped : (count : ℕ) (added : List Rec) → MayStop p s count added → Flushes p s
 
-comes_to : (p : Permit) (s behind : State) → CanFlush s → Comes p s s (budget_of s.geometry) (due_pieces s p.now) behind → IsBufferTried p s behind → Flushes p s
-comes_to p s behind can r (Choices.IsBufferTried.taken takes) = made _ (record { outcomes = r.outcomes; can = can; takes = takes; are = r.are; is = refl })
-comes_to p s behind can r (Choices.IsBufferTried.refused count counts) =
-    stopped count _ (record { outcomes = r.outcomes; can = can; are = r.are; counts = write_alike p behind _ count r.alike counts; is = refl })
+comes_to : (p : Permit) (s behind : State) → p.syncs ≡ false → CanFlush s → Comes p s s (budget_of s.geometry) (due_pieces s p.now) behind → IsBufferTried p s behind → Flushes p s
+comes_to p s behind off can r (Choices.IsBufferTried.taken takes) = made _ (record { unsynced = off; outcomes = r.outcomes; can = can; takes = takes; are = r.are; is = refl })
+comes_to p s behind off can r (Choices.IsBufferTried.refused count counts) =
+    stopped count _ (record { unsynced = off; outcomes = r.outcomes; can = can; are = r.are; counts = write_alike p behind _ count r.alike counts; is = refl })
 
-pub flush_comes : (p : Permit) (s : State) → CanFlush s → IsFlushTried p s → Flushes p s
-flush_comes p s can h =
-    comes_to p s h.behind can (comes p s s s h.behind (budget_of s.geometry) (due_pieces s p.now) (alike_self s) (alike_self s) h.due) h.buffer
+pub flush_comes : (p : Permit) (s : State) → p.syncs ≡ false → CanFlush s → IsFlushTried p s → Flushes p s
+flush_comes p s off can h =
+    comes_to p s h.behind off can (comes p s s s h.behind (budget_of s.geometry) (due_pieces s p.now) (alike_self s) (alike_self s) h.due) h.buffer
 
 pub made_is_tried : (p : Permit) (s : State) (added : List Rec) → MayFlush p s added → IsFlushTried p s
 made_is_tried p s added m =

@@ -87,7 +87,7 @@ pub one_that_does_not_fit_leaves_the_budget : kept_within 4 (map (λ (row : Row)
 one_that_does_not_fit_leaves_the_budget = refl
 
 abbrev none_read : Permit
-none_read = record { packed = false; now = 0; area = 0; events = RefusedCall (ToRead 5 1) 2 ∷ RefusedCall (ToRead 0 3) 1 ∷ [] }
+none_read = record { packed = false; syncs = false; now = 0; area = 0; durable = 0; events = RefusedCall (ToRead 5 1) 2 ∷ RefusedCall (ToRead 0 3) 1 ∷ [] }
 
 -- a read that is refused uses the budget too
 pub two_are_refused : AreOutcomes none_read (at_120 pinned []) 4 pinned (Refused 1 ∷ NoRoom ∷ Refused 2 ∷ [])

@@ -20,7 +20,7 @@ use Rattle.cache_model.specs.declared.answer.NextAnswer.{NextAnswer}
 use Rattle.cache_model.specs.declared.answer.NextAnswer.TheVariants as next
 use Rattle.cache_model.specs.declared.record.Rec.{Rec}
 use Rattle.cache_model.specs.declared.record.Rec.TheVariants as rec
-use Rattle.cache_model.specs.State.{State, Row, PutRow, ReaderRow, nothing_yet, state_after, after_all, cursor_next, floor_next, floor_now, fragment_piece, list_of_put, live_row_of, place_now, put_of, reader_of, vector_piece}
+use Rattle.cache_model.specs.State.{State, Row, PutRow, ReaderRow, nothing_yet, state_after, after_all, cursor_next, floor_next, floor_now, fragment_piece, list_of_piece, list_of_put, live_row_of, place_now, put_of, reader_of, vector_piece}
 use Rattle.cache_model.specs.Verdict.{cause_of_miss, cause_of_piece, live_vector_of, lookup_verdict, reader_verdict, table_of}
 use Rattle.cache_model.specs.Room.{greatest_pin, has_room, is_full_for, rows_of_segment}
 use Rattle.cache_model.specs.Forgetting.{forget}
@@ -119,11 +119,13 @@ is_lost s w index = not (is_some (live_row_of s (fragment_piece w.key w.put inde
 abbrev lose : PutRow → Session → ℕ → Session
 lose w m index = give_up w (Lost index (cause_of_piece m.state (fragment_piece w.key w.put index))) m
 
-abbrev commit : PutRow → Line
-commit w m =
-    tell (add (place (vector_piece w.key w.put) (vector_length m.state w.put) (greatest_pin (list_of_put m.state w.put)) m)
-    (rec.Committed w.put w.key (total_length w.cuts)))
+abbrev commit_placed : PutRow → Line
+commit_placed w m =
+    tell (add m (rec.Committed w.put w.key (total_length w.cuts) (list_of_piece m.state (vector_piece w.key w.put))))
     (Stored w.put (total_length w.cuts) (length w.cuts))
+
+abbrev commit : PutRow → Line
+commit w m = commit_placed w (place (vector_piece w.key w.put) (vector_length m.state w.put) (greatest_pin (list_of_put m.state w.put)) m)
 
 abbrev finish : PutRow → Line
 finish w m = unwrap_or (option_map (lose w m) (find (is_lost m.state w) (range_with_len 1 (length w.cuts)))) (commit w m)

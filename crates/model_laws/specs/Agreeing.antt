@@ -24,10 +24,13 @@ is_trouble _ = false
 abbrev pub IsUntroubled : List Rec → Type 0
 IsUntroubled added = AllByRecursion (λ (r : Rec). is_trouble r ≡ false) added
 
--- both directories displace nothing, and pins are weighed by one moment; of their areas and calls nothing is said
+-- both directories displace nothing, neither stripe syncs, and pins are weighed by one moment; of their areas and calls
+-- nothing is said
 pub record AreLike (p q : Permit) : Type 0 where
   pub one : p.packed ≡ false
   pub other : q.packed ≡ false
+  pub unsynced : p.syncs ≡ false
+  pub other_unsynced : q.syncs ≡ false
   pub moment : p.now ≡ q.now
 
 -- for a piece to which both their flushes come, with so much of the budget left, both devices gave bytes of its digest,

@@ -14,14 +14,14 @@ use Rattle.alternate_vector.specs.Field.{Field, AreFields}
 use Rattle.cache_model.specs.declared.answer.ReadAnswer.TheVariants as read
 use Rattle.cache_model.specs.declared.answer.NextAnswer.TheVariants as next
 use Rattle.cache_model.specs.declared.record.Rec.{Rec}
-use Rattle.cache_model.specs.State.{State, Row, PutRow, ReaderRow, Open, live_row_of, put_of, reader_of, vector_piece}
+use Rattle.cache_model.specs.State.{State, Row, PutRow, ReaderRow, Open, live_row_of, put_of, reader_of, vector_piece, most_fragments}
 use Rattle.cache_model.specs.Verdict.{live_vector_of, next_piece, next_row}
-use Rattle.cache_model.specs.Permit.{Permit, IsAmong, Intent, Flush, Write, Fragment, Overflow, Weigh, Finish, Commit, GiveUp, Remove, Look, ReadOn, ReadAll, StopReading, End}
+use Rattle.cache_model.specs.Permit.{Permit, IsAmong, Intent, Flush, Sync, SyncBegin, SyncStep, Drain, CleanSync, Write, Fragment, Overflow, Weigh, Finish, Commit, GiveUp, Remove, Look, ReadOn, ReadAll, StopReading, End}
 use Rattle.cache_model.specs.Due.{due_pieces}
 use Rattle.cache_model.specs.Tape.{IsSound}
 use Rattle.cache_model.specs.Given.{CountsRead, CountsWrite, IsGiven, IsWritten, TakesBuffer, block_at}
 use Rattle.cache_model.specs.ToRead.{flushes_first, to_read}
-use Rattle.cache_model.specs.Legal.{CanFlush, Does, IsCut, IsNext, IsLookup, IsQuiet, IsReading, IsWriting, most_fragments}
+use Rattle.cache_model.specs.Legal.{CanFlush, Does, IsCut, IsNext, IsLookup, IsQuiet, IsReading, IsWriting}
 
 -- ---- one at most
 
@@ -41,9 +41,9 @@ pub record IsFaithful (p : Permit) (s : State) : Type 0 where
   pub listed : (reader : ℕ) (r : ReaderRow) (entry : TableRow) (row : Row) (bytes : List ℕ) → reader_of s reader ≡ Some r → next_row s r ≡ Some entry
       → live_row_of s (next_piece r) ≡ Some row → IsGiven p s row bytes → entry.digest ≡ (digest_of (payload_of bytes)).0
 
--- there, and on a sound tape, what is asked fixes the records of a group, and how it ends
+-- there, on a sound tape and of a stripe that does not sync, what is asked fixes the records of a group, and how it ends
 abbrev pub GroupIsFixed : Type 0
-GroupIsFixed = (p : Permit) (s : State) (i : Intent) (one other : List Rec) (e f : End) → IsSound s → IsFaithful p s
+GroupIsFixed = (p : Permit) (s : State) (i : Intent) (one other : List Rec) (e f : End) → IsSound s → p.syncs ≡ false → IsFaithful p s
     → Does p s i one e → Does p s i other f → (one ≡ other) × (e ≡ f)
 
 -- ---- one at least
@@ -114,9 +114,15 @@ pub record MayAskWrite (s : State) (actor : ℕ) (request response : List Field)
   pub response_fits : AreFields response
   pub pin_fits : pin < 2 ^ 64
 
--- this may be asked here: no vector is pending but that of a commit, and what is spoken of is open
+-- this may be asked here of a stripe that does not sync, and so no sync: no vector is pending but that of a commit, and what
+-- is spoken of is open
 abbrev pub MayAsk : State → Intent → Type 0
 MayAsk s Flush = IsQuiet s
+MayAsk s Sync = ⊥
+MayAsk s SyncBegin = ⊥
+MayAsk s (SyncStep last) = ⊥
+MayAsk s Drain = ⊥
+MayAsk s CleanSync = ⊥
 MayAsk s (Write actor key request response pin) = MayAskWrite s actor request response pin
 MayAsk s (Fragment put index payload) = (w : PutRow) × IsNext s put index payload w
 MayAsk s (Overflow put) = (w : PutRow) × IsWriting s put w × (length w.cuts ≡ most_fragments)
@@ -130,18 +136,18 @@ MayAsk s (ReadOn reader) = IsQuiet s × ((r : ReaderRow) × (reader_of s reader 
 MayAsk s (ReadAll reader) = IsQuiet s
 MayAsk s (StopReading reader) = IsQuiet s
 
--- on a sound tape what may be asked can be done, or is refused, whatever the device gives
+-- on a sound tape what may be asked of a stripe that does not sync can be done, or is refused, whatever the device gives
 abbrev pub AskedIsAnswered : Type 0
-AskedIsAnswered = (p : Permit) (s : State) (i : Intent) → IsSound s → MayAsk s i → IsTriedWhereLive p s (to_read s i) → AreDueTried p s i
+AskedIsAnswered = (p : Permit) (s : State) (i : Intent) → IsSound s → p.syncs ≡ false → MayAsk s i → IsTriedWhereLive p s (to_read s i) → AreDueTried p s i
     → (added : List Rec) × (e : End) × Does p s i added e
 
 -- ---- what was read
 
--- what has to be read for an answer was in the buffer, or was read or refused in the step, and so was
--- what a flush is to copy, and the buffer that it writes out was taken or refused
+-- what has to be read for an answer was in the buffer, or was read or refused in the step, and of a stripe that does not
+-- sync so was what a flush is to copy, and the buffer that it writes out was taken or refused
 abbrev pub AnsweredIsTried : Type 0
 AnsweredIsTried = (p : Permit) (s : State) (i : Intent) (added : List Rec) (e : End) → Does p s i added e
-    → IsTriedWhereLive p s (to_read s i) × AreDueTried p s i
+    → IsTriedWhereLive p s (to_read s i) × (p.syncs ≡ false → AreDueTried p s i)
 
 -- a piece is in the buffer, or the device gave its blocks in this step, with the digest that was kept
 abbrev pub WasRead : Permit → State → Row → Type 0

@@ -12,6 +12,7 @@ use Rattle.cache_model.specs.Verdict.{followed, lookup_verdict, no_record, piece
 use Rattle.cache_model.specs.Permit.{IsAmong}
 use Rattle.cache_model.specs.Syncs.{IsAllowed}
 use Rattle.cache_model.specs.Tape.{IsSound}
+use Rattle.model_laws.specs.VectorLaws.{AreCounted}
 use Rattle.cache_model.specs.Vectors.{AreTold}
 use Rattle.cache_model.specs.Forgetting.{forget, is_among, is_dead, is_forgotten, known_puts, put_of_last}
 
@@ -86,6 +87,10 @@ ForgettingIsSound = (cap : ℕ) (s : State) → IsSound s → IsLeftSound s (for
 -- vectors spell their alternates as before, and puts may be kept
 abbrev pub ForgettingTells : Type 0
 ForgettingTells = (cap : ℕ) (s : State) → AreTold s → AreTold (forget cap s)
+
+-- and where the last vector of a key stands it lists as many alternates as are told of it
+abbrev pub ForgettingCounts : Type 0
+ForgettingCounts = (cap : ℕ) (s : State) → AreCounted s → AreCounted (forget cap s)
 
 -- ---- what is answered
 

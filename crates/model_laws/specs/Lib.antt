@@ -8,5 +8,6 @@ pub mod VectorLaws
 pub mod FlushLaws
 pub mod Agreeing
 pub mod SyncLaws
+pub mod AskLaws
 pub mod ForgetLaws
 pub mod RoomLaws

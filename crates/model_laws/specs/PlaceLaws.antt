@@ -3,6 +3,7 @@ use Rattle.std.specs.Prelude.{ℕ, max, map, ◌≡◌, ◌<◌, ◌==◌, Bool,
 use Rattle.std.specs.List.{AllByRecursion, flat_map}
 use Rattle.std.specs.Map.{lookup}
 use Rattle.tape_base.specs.declared.geometries.Geometry.{Geometry}
+use Rattle.alternate_vector.specs.Alternates.{Stored}
 use Rattle.cache_model.specs.declared.findings.FoundRow.{FoundRow}
 use Rattle.cache_model.specs.Opening.{Opening}
 use Rattle.cache_model.specs.Openings.{opened_record}
@@ -33,7 +34,7 @@ place_after s (rec.Placed piece place blocks digest pin) id before = if same_pie
 place_after s (rec.Moved piece from place digest) id before = if same_piece piece id then option_map (λ old. place) before else before
 place_after s (rec.Displaced piece segment live) id before = if same_piece piece id then None else before
 place_after s (rec.Damaged piece place kept found) id before = if same_piece piece id then None else before
-place_after s (rec.Committed put key length) id before = if is_replaced (last_vector s key) key put id then None else before
+place_after s (rec.Committed put key length list) id before = if is_replaced (last_vector s key) key put id then None else before
 place_after s (rec.Removed put key) id before = if same_piece id (vector_piece key put) then None else before
 place_after s _ id before = before
 
@@ -50,7 +51,7 @@ may_move id (rec.Placed piece place blocks digest pin) = same_piece piece id
 may_move id (rec.Moved piece from place digest) = same_piece piece id
 may_move id (rec.Displaced piece segment live) = same_piece piece id
 may_move id (rec.Damaged piece place kept found) = same_piece piece id
-may_move id (rec.Committed put key length) = is_vector id && (same_key id.first key && not (id.put == put))
+may_move id (rec.Committed put key length list) = is_vector id && (same_key id.first key && not (id.put == put))
 may_move id (rec.Removed put key) = is_vector id && same_key id.first key
 may_move id _ = false
 
@@ -87,8 +88,9 @@ TakenIsNowhere = (s : State) (id : PieceId) (gone : Rec) (behind : List Rec) →
 
 -- nor does a key's vector once another put of the key was committed
 abbrev pub ReplacedIsNowhere : Type 0
-ReplacedIsNowhere = (s : State) (key : Key) (old put length : ℕ) → last_vector s key ≡ Some (Complete old) → (old == put) ≡ false
-    → place_of (after_all s (rec.Committed put key length ∷ [])) (vector_piece key old) ≡ None
+ReplacedIsNowhere = (s : State) (key : Key) (old put length : ℕ) (list : List Stored)
+    → last_vector s key ≡ Some (Complete old) → (old == put) ≡ false
+    → place_of (after_all s (rec.Committed put key length list ∷ [])) (vector_piece key old) ≡ None
 
 -- a piece that begins below the floor is not live, wherever it ends
 abbrev pub PassedIsNotLive : Type 0
@@ -98,7 +100,7 @@ PassedIsNotLive = (s : State) (id : PieceId) (row : Row) → row_of s id ≡ Som
 abbrev pub is_about : Key → Rec → Bool
 is_about key (rec.Formatted geometry) = true
 is_about key (rec.Opened geometry serial cursor floor next_put clean list) = true
-is_about key (rec.Committed put k length) = same_key k key
+is_about key (rec.Committed put k length list) = same_key k key
 is_about key (rec.Removed put k) = same_key k key
 is_about key _ = false
 
@@ -109,7 +111,7 @@ vector_found found key = lookup (λ k. same_key k key) (flat_map vector_of_found
 -- what an opening, a commit or a removal makes of the key's last vector
 abbrev pub vector_said : Key → Rec → Option LastVector
 vector_said key (rec.Opened geometry serial cursor floor next_put clean list) = vector_found list key
-vector_said key (rec.Committed put k length) = Some (Complete put)
+vector_said key (rec.Committed put k length list) = Some (Complete put)
 vector_said key (rec.Removed put k) = Some (TakenOut put)
 vector_said key _ = None
 

@@ -1,13 +1,16 @@
 -- What an entry displaces, and that each segment has room for what is live of it.
-use Rattle.std.specs.Prelude.{ℕ, ◌≡◌, true, false, List, [], ◌∷◌, ◌++◌}
+use Rattle.std.specs.Prelude.{ℕ, ◌≡◌, ◌⊎◌, true, false, List, [], ◌∷◌, ◌++◌, Option, Some}
 use Rattle.tape_base.specs.declared.pieces.PieceId.{PieceId}
 use Rattle.tape_base.specs.declared.digests.Digest.{Digest}
 use Rattle.cache_model.specs.declared.record.Rec.{Rec}
 use Rattle.cache_model.specs.declared.record.Rec.TheVariants as rec
-use Rattle.cache_model.specs.State.{State, after_all}
-use Rattle.cache_model.specs.Permit.{Permit}
-use Rattle.cache_model.specs.Room.{MayDisplace, is_full_for}
+use Rattle.cache_model.specs.State.{State, Row, after_all, live_row_of, nothing_yet, without}
+use Rattle.cache_model.specs.Permit.{Setting, Permit, Intent, Reason, End}
+use Rattle.cache_model.specs.Room.{MayDisplace, bucket_of_piece, is_full_for, is_full_with, rows_of_segment, segment_of_piece}
 use Rattle.cache_model.specs.Openings.{FitsSegment}
+use Rattle.cache_model.specs.Tape.{AreApart, IsSound}
+use Rattle.cache_model.specs.Legal.{Course, Does, IsLegal, IsStep, MayFlush}
+use Rattle.cache_model.specs.Syncing.{MaySyncBehind, Syncing}
 
 -- each segment has slots for its live pieces
 abbrev pub AllFit : State → Type 0
@@ -22,3 +25,48 @@ SlotIsMade = (p : Permit) (s : State) (piece : PieceId) (added : List Rec) → p
 abbrev pub InsertFits : Type 0
 InsertFits = (p : Permit) (s : State) (piece : PieceId) (added : List Rec) (place blocks pin : ℕ) (digest : Digest) → p.packed ≡ true
     → MayDisplace p s piece added → AllFit s → AllFit (after_all s (added ++ rec.Placed piece place blocks digest pin ∷ []))
+
+-- ---- whole sessions
+
+-- the piece is live
+abbrev pub IsLivePiece : State → PieceId → Type 0
+IsLivePiece s id = (row : Row) × (live_row_of s id ≡ Some row)
+
+-- no piece is live in t that is not in s
+abbrev pub HasNoMoreLive : State → State → Type 0
+HasNoMoreLive s t = (id : PieceId) → IsLivePiece t id → IsLivePiece s id
+
+-- where no piece becomes live, and none has two rows, there is room as before
+abbrev pub LessFits : Type 0
+LessFits = (s t : State) → AreApart t.rows → t.geometry ≡ s.geometry → HasNoMoreLive s t → AllFit s → AllFit t
+
+-- where a directory displaces, each group of records leaves room for all that is live
+abbrev pub GroupFits : Type 0
+GroupFits = (p : Permit) (s : State) (i : Intent) (added : List Rec) (e : End) → p.packed ≡ true
+    → IsSound s → AllFit s → Does p s i added e → AllFit (after_all s added)
+
+-- so does each step
+abbrev pub StepFits : Type 0
+StepFits = (p : Permit) (s : State) (intents : List Intent) (added : List Rec) (why : Option Reason) → p.packed ≡ true
+    → IsSound s → AllFit s → IsStep p s intents added why → AllFit (after_all s added)
+
+-- so it is in each legal chronicle
+abbrev pub LegalFits : Type 0
+LegalFits = (setting : Setting) (courses : List Course) (recs : List Rec) → setting.packed ≡ true → IsLegal setting courses recs → AllFit (after_all nothing_yet recs)
+
+-- ---- the copies of a flush
+
+-- the buffer is written out and the next one begins, with syncs or without
+abbrev pub GoesThrough : Permit → State → List Rec → Type 0
+GoesThrough p s added = MayFlush p s added ⊎ ((k : Syncing) × MaySyncBehind p k s added)
+
+-- once the piece has left its old place there is a slot for it in its segment
+abbrev pub HasSlotForCopy : State → PieceId → Type 0
+HasSlotForCopy s piece =
+    is_full_with s (bucket_of_piece s piece) (without piece (rows_of_segment s (segment_of_piece s piece))) ≡ false
+
+-- each copy of a flush has a slot just before it is recorded, so that it displaces nothing
+abbrev pub MoveDisplacesNothing : Type 0
+MoveDisplacesNothing = (p : Permit) (s : State) (added before behind : List Rec) (piece : PieceId) (from place : ℕ) (digest : Digest)
+    → IsSound s → AllFit s → GoesThrough p s added → added ≡ before ++ rec.Moved piece from place digest ∷ behind
+    → HasSlotForCopy (after_all s before) piece

@@ -19,6 +19,7 @@ use Rattle.cache_model.specs.Verdict.{live_vector_of}
 use Rattle.cache_model.specs.Permit.{Permit, IsAmong, Intent, Flush, Fragment, Weigh, Finish, GiveUp, Remove, Look, ReadAll, StopReading, Reason, End, Done, Fails, Work, work_after}
 use Rattle.cache_model.specs.Room.{limit, has_room}
 use Rattle.cache_model.specs.Given.{block_at}
+use Rattle.cache_model.specs.Syncing.{must_unmark}
 use Rattle.cache_model.specs.Legal.{Does, IsStep, MayGrow, is_writing, size_alone}
 
 -- what is asked is done by one group of records, and not by several
@@ -38,11 +39,11 @@ OneGroup = (p : Permit) (s : State) (i : Intent) (added : List Rec) (why : Optio
 abbrev pub NothingAsked : Type 0
 NothingAsked = (p : Permit) (s : State) (added : List Rec) (why : Option Reason) → IsStep p s [] added why → (added ≡ []) × (why ≡ None)
 
--- a fragment that has room and a place is cut at once
+-- a fragment that has room and a place is cut at once, where no mark is to be taken back
 abbrev pub FragmentIsCut : Type 0
 FragmentIsCut = (p : Permit) (s : State) (put index : ℕ) (payload : List ℕ) (added : List Rec) (e : End)
-    → has_room s (length payload) ≡ true → place_now s + blocks_of (length payload) < limit → Does p s (Fragment put index payload) added e
-    → (e ≡ Done) × ((behind : List Rec) × (added ≡ rec.Cut put index (length payload) (digest_of payload) ∷ behind))
+    → must_unmark p s ≡ false → has_room s (length payload) ≡ true → place_now s + blocks_of (length payload) < limit
+    → Does p s (Fragment put index payload) added e → (e ≡ Done) × ((behind : List Rec) × (added ≡ rec.Cut put index (length payload) (digest_of payload) ∷ behind))
 
 -- a live vector that is asked to be removed is removed, and what is not there is left
 abbrev pub LiveIsRemoved : Type 0

@@ -7,13 +7,13 @@ use Rattle.cache_model.specs.Opening.{Opening}
 use Rattle.cache_model.specs.Openings.{IsOpening, opened_records}
 use Rattle.cache_model.specs.State.{State, Row, after_all, floor_now, live_row_of, nothing_yet}
 use Rattle.cache_model.specs.Verdict.{piece_at}
-use Rattle.cache_model.specs.Permit.{Permit, Intent, Reason}
+use Rattle.cache_model.specs.Permit.{Setting, Permit, Intent, Reason}
 use Rattle.cache_model.specs.Legal.{Course, IsLegal, IsStep}
 use Rattle.cache_model.specs.Tape.{IsSound}
 
 -- each legal chronicle is sound
 abbrev pub LegalIsSound : Type 0
-LegalIsSound = (packed : Bool) (courses : List Course) (recs : List Rec) → IsLegal packed courses recs → IsSound (after_all nothing_yet recs)
+LegalIsSound = (setting : Setting) (courses : List Course) (recs : List Rec) → IsLegal setting courses recs → IsSound (after_all nothing_yet recs)
 
 -- so is what an opening takes up, whatever the session before it was
 abbrev pub OpeningsAreSound : Type 0

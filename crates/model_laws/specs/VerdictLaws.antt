@@ -21,9 +21,10 @@ HitMatches = (s : State) (key : Key) (request : List Field) (a : Stored) → hit
 
 -- a put that is complete and has its place is what requests that match it hit, whatever stood before
 abbrev pub CompleteIsHit : Type 0
-CompleteIsHit = (s : State) (w : PutRow) (place blocks pin n : ℕ) (digest : Digest) (request : List Field)
+CompleteIsHit = (s : State) (w : PutRow) (place blocks pin n : ℕ) (digest : Digest) (list : List Stored) (request : List Field)
     → put_of s w.put ≡ Some w → is_match request (alternate_of w) ≡ true → vector_size (alternate_of w ∷ []) ≤ most_payload s.geometry → floor_now s ≤ place
-    → lookup_verdict (after_all s (rec.Placed (vector_piece w.key w.put) place blocks digest pin ∷ rec.Committed w.put w.key n ∷ [])) w.key request ≡ read.Hit w.put
+    → lookup_verdict (after_all s (rec.Placed (vector_piece w.key w.put) place blocks digest pin
+    ∷ rec.Committed w.put w.key n list ∷ [])) w.key request ≡ read.Hit w.put
 
 -- a removed object is missed, unless a writer may be followed
 abbrev pub RemovedIsMissed : Type 0

@@ -8,10 +8,11 @@ ghost use Rattle.model_laws.specs.TapeLaws.{OpeningsAreSound, StepsAreSound, Leg
 ghost use Rattle.model_laws.specs.FlushLaws.{DueAreFound, FlushIsSound, FrontIsBacked, GivenAreTried, KeptAreChosen, OutcomesAreFixed, OutcomesAreFound, OutcomesAreTried, StoppedIsBacked, StoppedIsSound, WalkFinds, WalkGoesOn};
 ghost use Rattle.model_laws.specs.Agreeing.{GroupsAgree, OtherCopiesAreBytes, StepsAgree};
 ghost use Rattle.model_laws.specs.PairLaws.{CopiedIsDueAndFits, LookupReadsItsKey, NothingAskedReadsNone, PairsAreBytes, PairsAreGiven, ReaderReadsItsNext};
-ghost use Rattle.model_laws.specs.VectorLaws.{FlushTells, StoppedTells, FormatsTell, OpeningsTell, GroupsTell, StepsTell, VectorsAreKept, MergedIsSpelled};
+ghost use Rattle.model_laws.specs.VectorLaws.{FlushTells, StoppedTells, FormatsTell, OpeningsTell, GroupsTell, StepsTell, VectorsAreKept, MergedIsSpelled, CountIsListed, FormatsCount, GroupsCount, OpeningsCount, StepsCount, UnansweredIsCounted};
 ghost use Rattle.model_laws.specs.SyncLaws.{FinishedIsLast, FollowerAllowsSync, FollowerHasSync, MarksStay, OnlyLaterAreAllowed, OpenedIsTold, SyncIsHeld};
-ghost use Rattle.model_laws.specs.RoomLaws.{InsertFits, SlotIsMade};
-ghost use Rattle.model_laws.specs.ForgetLaws.{FewAreDead, ForgettingIsSound, ForgettingLeaves, ForgettingTells, ForgettingTwice, ForgottenIsDead, ForgottenIsUnrecorded, GivenStays, GreatestAreKept, KeptIsAnswered, KnownAreFalling, NamedIsKept, NoRecordIsTold, ReaderIsAnswered, WrittenIsKept};
+ghost use Rattle.model_laws.specs.AskLaws.{DueIsSynced, EndedFirst, FlushBegins, LegalSerialsRise, MarkIsTakenBack, MarkedIsEmpty, MarkedPlacesNothing, MarkedStaysEmpty, NoSyncIsRecorded, RoomBegins, SerialsFollow, SerialsRise, StepsTellNoSync, SyncIsDueOrAsked};
+ghost use Rattle.model_laws.specs.RoomLaws.{GroupFits, InsertFits, LegalFits, LessFits, MoveDisplacesNothing, SlotIsMade, StepFits};
+ghost use Rattle.model_laws.specs.ForgetLaws.{FewAreDead, ForgettingCounts, ForgettingIsSound, ForgettingLeaves, ForgettingTells, ForgettingTwice, ForgottenIsDead, ForgottenIsUnrecorded, GivenStays, GreatestAreKept, KeptIsAnswered, KnownAreFalling, NamedIsKept, NoRecordIsTold, ReaderIsAnswered, WrittenIsKept};
 ghost use Rattle.cache_model.specs.Vectors.{IsVectorAs, LiveVectorIsListed, VectorIsReadBack};
 
 /// What each record makes of the place of each piece.
@@ -253,6 +254,37 @@ pub fn vectors_are_kept()
     ensures { VectorsAreKept }
 {}
 
+/// A session that a format begins tells of the last vector of each key how many alternates it lists.
+pub fn formats_count()
+    ensures { FormatsCount }
+{}
+
+/// So does one that an opening begins.
+pub fn openings_count()
+    ensures { OpeningsCount }
+{}
+
+/// Each group of records leaves it so.
+pub fn groups_count()
+    ensures { GroupsCount }
+{}
+
+/// And so does each step.
+pub fn steps_count()
+    ensures { StepsCount }
+{}
+
+/// In each legal chronicle the last vector of a key, where it stands, lists as many alternates as are told
+/// of it.
+pub fn count_is_listed()
+    ensures { CountIsListed }
+{}
+
+/// A request that nothing answers is told how many alternates the key has, where its last vector is live.
+pub fn unanswered_is_counted()
+    ensures { UnansweredIsCounted }
+{}
+
 /// The vector that a put is to have is a piece, where that of its own alternate alone is one.
 pub fn merged_is_spelled()
     ensures { MergedIsSpelled }
@@ -419,6 +451,11 @@ pub fn forgetting_tells()
     ensures { ForgettingTells }
 {}
 
+/// Forgetting leaves told of the last vector of each key how many alternates it lists.
+pub fn forgetting_counts()
+    ensures { ForgettingCounts }
+{}
+
 /// What a lookup gives is given as before, also of a key of which puts were forgotten: at most the cause of a miss
 /// becomes another one.
 pub fn given_stays()
@@ -469,4 +506,75 @@ pub fn slot_is_made()
 /// An insert leaves a slot for each live piece, in each segment.
 pub fn insert_fits()
     ensures { InsertFits }
+{}
+
+/// Where no piece is live that was not, each segment has slots as before.
+pub fn less_fits()
+    ensures { LessFits }
+{}
+
+/// Each group of records leaves a slot for each live piece, in each segment.
+pub fn group_fits()
+    ensures { GroupFits }
+{}
+
+/// So does each step.
+pub fn step_fits()
+    ensures { StepFits }
+{}
+
+/// So it is in each legal chronicle.
+pub fn legal_fits()
+    ensures { LegalFits }
+{}
+
+/// Each copy of a flush has a slot, so that it displaces nothing.
+pub fn move_displaces_nothing()
+    ensures { MoveDisplacesNothing }
+{}
+
+/// A stripe that does not sync records no sync.
+pub fn no_sync_is_recorded()
+    ensures group { NoSyncIsRecorded }
+    ensures step { StepsTellNoSync }
+{}
+
+/// While a clean copy may be found, nothing is placed in an empty buffer, and what is to be placed
+/// waits until the mark is taken back.
+pub fn marked_places_nothing()
+    ensures none { MarkedPlacesNothing }
+    ensures back { MarkIsTakenBack }
+{}
+
+/// And the buffer is empty then.
+pub fn marked_is_empty()
+    ensures group { MarkedStaysEmpty }
+    ensures legal { MarkedIsEmpty }
+{}
+
+/// Where a sync is asked for, or the buffer ends out of reach, the sync in parts is ended before all
+/// else.
+pub fn ended_first()
+    ensures { EndedFirst }
+{}
+
+/// Where a whole sync is due or asked for behind the buffer, the next buffer begins only once that
+/// sync went through; and a flush is done, also one for room, only where the next buffer begins.
+pub fn due_is_synced()
+    ensures due { DueIsSynced }
+    ensures flush { FlushBegins }
+    ensures room { RoomBegins }
+{}
+
+/// A sync begins only where it is asked for, where a clean mark is taken back, or where it is due
+/// behind the buffer.
+pub fn sync_is_due_or_asked()
+    ensures { SyncIsDueOrAsked }
+{}
+
+/// Each sync takes the next serial, so that the last one that began has the greatest of the session.
+pub fn serials_rise()
+    ensures follow { SerialsFollow }
+    ensures group { SerialsRise }
+    ensures legal { LegalSerialsRise }
 {}
