@@ -1,20 +1,21 @@
 -- Sessions with syncs and openings, each worked by hand.
-use Rattle.std.specs.Prelude.{ℕ, ◌≡◌, true, false, List, [], ◌∷◌, ◌++◌, Some, None, length, codes}
+use Rattle.std.specs.Prelude.{ℕ, ◌≡◌, true, false, List, [], ◌∷◌, ◌++◌, Some, None, length, map, fold, codes}
 use Rattle.tape_base.specs.declared.keys.Key.{Key}
-use Rattle.fragment_table.specs.Table.{made_row}
+use Rattle.tape_base.specs.declared.pieces.PieceId.{PieceId}
 use Rattle.alternate_vector.specs.Alternates.{Stored}
-use Rattle.alternate_vector.specs.Field.{Field}
 use Rattle.cache_model.specs.declared.answer.ReadAnswer.TheVariants as read
 use Rattle.cache_model.specs.declared.cause.Cause.TheVariants as cause
 use Rattle.cache_model.specs.declared.findings.FoundRow.{FoundRow}
-use Rattle.cache_model.specs.declared.record.Rec.{Rec}
 use Rattle.cache_model.specs.declared.record.Rec.TheVariants as rec
 use Rattle.cache_model.specs.Opening.{Opening}
 use Rattle.cache_model.specs.Openings.{IsOpening}
 use Rattle.cache_model.specs.Syncs.{Follows}
-use Rattle.cache_model.specs.State.{State, mark_of_format, fragment_piece, list_of_put, mark_now, vector_piece}
+use Rattle.cache_model.specs.State.{State, Mark, after_all, mark_of_format, floor_now, least_geometry, list_of_piece, mark_now, nothing_yet, vector_piece}
 use Rattle.cache_model.specs.Verdict.{lookup_verdict, vector_of}
-use Rattle.record_rows.specs.Worked.{Told, a, allowed, b, behind_format, behind_opening, language, no_digest, other, put_at, put_with, small, synced, taking, told, varies}
+use Rattle.cache_model.specs.Legal.{format_records}
+use Rattle.cache_model.specs.Room.{MayDisplace, is_full_for}
+use Rattle.cache_model.specs.Syncing.{InParts, WhereDue, at_first, first_records}
+use Rattle.record_rows.specs.Worked.{a, b, behind_format, behind_opening, fillers, flush_here, flushed, language, last, late, no_digest, of_packed, one_byte, other, placed_here, put_at, put_here, put_with, small, synced, taking, told, varies}
 
 -- ---- a sync, and what comes behind it
 
@@ -103,12 +104,16 @@ WhatIsWrittenUnmarks = (once_written.marked ≡ false)
 
 -- an alternate of one fragment, for one language
 abbrev pub stored_in : ℕ → List ℕ → Stored
-stored_in put value = record { put = put; pin = 0; length = 1; request = language value; response = varies; table = made_row 1 [] ∷ [] }
+stored_in put value = one_byte (language value) varies put
 
 -- a vector that an opening finds
 abbrev pub vector_at : ℕ → ℕ → Key → List Stored → FoundRow
 vector_at place put key list =
     record { id = vector_piece key put; place = place; blocks = 1; digest = no_digest; payload = no_digest; pin = 0; alternates = Some list }
+
+-- two alternates of one key
+abbrev pub two_languages : List Stored
+two_languages = stored_in 3 (codes "de") ∷ stored_in 4 (codes "fr") ∷ []
 
 -- one with two alternates, and one with a single alternate, which no line varies
 abbrev pub two_vectors : Opening
@@ -118,7 +123,7 @@ two_vectors = record {
   floor = 22;
   next_put = 6;
   clean = false;
-  found = vector_at 64 4 a (stored_in 3 (codes "de") ∷ stored_in 4 (codes "fr") ∷ [])
+  found = vector_at 64 4 a two_languages
       ∷ vector_at 65 5 b (record { put = 5; pin = 0; length = 0; request = []; response = []; table = [] } ∷ []) ∷ [];
 }
 
@@ -133,11 +138,70 @@ AFoundVectorIsKnown = (vector_of (behind_opening two_vectors []) a ≡ Some (vec
 
 -- an object of one more language
 abbrev pub once_merged : State
-once_merged = behind_opening two_vectors (put_with (language (codes "it")) varies 70 6 a)
+once_merged = behind_opening two_vectors (put_with two_languages (language (codes "it")) varies 70 6 a)
 
--- stands beside those that were found, whose vector goes
+-- stands beside those that were found, whose vector goes; the commit tells what its vector lists
 abbrev pub AnotherPutMerges : Type 0
-AnotherPutMerges = (lookup_verdict once_merged a (language (codes "it")) ≡ read.Hit 6)
+AnotherPutMerges = (list_of_piece once_merged (vector_piece a 6) ≡ two_languages ++ stored_in 6 (codes "it") ∷ [])
+    × (lookup_verdict once_merged a (language (codes "it")) ≡ read.Hit 6)
     × (lookup_verdict once_merged a (language (codes "de")) ≡ read.Hit 3)
     × (lookup_verdict once_merged a (language (codes "es")) ≡ read.Miss (cause.NoMatch 3))
     × (length once_merged.rows ≡ 3)
+
+-- ---- syncs that are due
+
+-- the last of eight puts fills the last buffer of a lap
+abbrev pub at_lap_end : State
+at_lap_end = flushed WhereDue (fillers 8 (behind_format []))
+
+-- the flush of that buffer makes the fifth sync, and the next buffer begins the next lap; an empty buffer is left
+abbrev pub ALapEndsWithASync : Type 0
+ALapEndsWithASync = (at_lap_end.cursor ≡ 128)
+    × (floor_now at_lap_end ≡ 72)
+    × (flush_here WhereDue (fillers 8 (behind_format [])) ≡ rec.SyncBegun 5 128 false false ∷ rec.SyncDone 5 ∷ rec.Began 128 72 ∷ [])
+    × (map (λ (m : Mark). m.cursor) at_lap_end.marks ≡ 128 ∷ 112 ∷ 96 ∷ 80 ∷ 64 ∷ [])
+
+-- an object of no bytes stands alone in that buffer
+abbrev pub with_one_block : State
+with_one_block = put_here b 0 (fillers 7 (behind_format []))
+
+-- so it is of a buffer of one block
+abbrev pub AShortBufferEndsTheLap : Type 0
+AShortBufferEndsTheLap = (with_one_block.filled ≡ 1)
+    × (flush_here WhereDue with_one_block ≡ rec.SyncBegun 5 128 false false ∷ rec.SyncDone 5 ∷ rec.Began 128 72 ∷ [])
+
+-- a sync in parts was begun at the end of a lap, and a buffer was filled behind it
+abbrev pub past_its_reach : State
+past_its_reach = fillers 1 (flushed InParts (fillers 8 (behind_format [])))
+
+-- it is ended before that buffer is written, and holds the pieces of six puts, and one vector
+abbrev pub ARunningSyncIsEndedFirst : Type 0
+ARunningSyncIsEndedFirst = (past_its_reach.running ≡ Some 5)
+    × (first_records WhereDue past_its_reach ≡ rec.SyncDone 5 ∷ [])
+    × (told (at_first WhereDue past_its_reach) ≡ record { serial = 5; cursor = 128; floor = 80; found = 43; clean = false } ∷ [])
+
+-- ---- a full segment
+
+-- objects of no bytes, each a vector alone, in a directory of one bucket
+abbrev pub objects : List Key → State
+objects keys = fold (λ s key. put_here key 0 s) (after_all nothing_yet (format_records least_geometry)) keys
+
+-- four of them use all its slots
+abbrev pub with_four : State
+with_four = objects (a ∷ b ∷ other ∷ last ∷ [])
+
+-- the vector of a fifth
+abbrev pub fifth : PieceId
+fifth = vector_piece late 5
+
+-- its entry displaces the first object
+abbrev pub once_displaced : State
+once_displaced = placed_here (rec.Displaced (vector_piece a 1) 0 4 ∷ []) fifth with_four
+
+-- exactly one piece goes, which is a tenth of the slots that are no roots, and leaves a slot; where there is one nothing goes
+abbrev pub AFullSegmentLosesATenth : Type 0
+AFullSegmentLosesATenth = MayDisplace of_packed with_four fifth (rec.Displaced (vector_piece a 1) 0 4 ∷ [])
+    × (is_full_for with_four fifth ≡ true)
+    × (is_full_for (objects (a ∷ b ∷ other ∷ [])) fifth ≡ false)
+    × (lookup_verdict once_displaced a [] ≡ read.Miss (cause.Displaced 0 4))
+    × (lookup_verdict once_displaced b [] ≡ read.Hit 2)

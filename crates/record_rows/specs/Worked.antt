@@ -1,10 +1,13 @@
 -- How a row is put together: a small geometry, the records of a put and of a sync, and what an opening has.
-use Rattle.std.specs.Prelude.{ℕ, ◌+◌, ◌*◌, nat_le, Bool, false, true, refl, List, [], ◌∷◌, ◌++◌, length, map, filter, codes}
+use Rattle.std.specs.Prelude.{ℕ, zero, suc, ◌+◌, ◌*◌, nat_le, Bool, false, true, if◌then◌else◌, refl, List, [], ◌∷◌, ◌++◌, length, map, filter, codes}
+use Rattle.std.specs.List.{range_with_len}
 use Rattle.std.proofs.Math.Dec.{lit≤, lit<}
-use Rattle.tape_base.specs.declared.actors.Actor.{Actor}
 use Rattle.tape_base.specs.declared.digests.Digest.{Digest}
 use Rattle.tape_base.specs.declared.geometries.Geometry.{Geometry}
 use Rattle.tape_base.specs.declared.keys.Key.{Key}
+use Rattle.tape_base.specs.declared.pieces.PieceId.{PieceId}
+use Rattle.fragment_table.specs.Table.{made_row}
+use Rattle.alternate_vector.specs.Alternates.{Stored}
 use Rattle.alternate_vector.specs.Field.{Field}
 use Rattle.cache_model.specs.declared.findings.FoundRow.{FoundRow}
 use Rattle.cache_model.specs.declared.record.Rec.{Rec}
@@ -12,7 +15,11 @@ use Rattle.cache_model.specs.declared.record.Rec.TheVariants as rec
 use Rattle.cache_model.specs.Legal.{format_records}
 use Rattle.cache_model.specs.Opening.{Opening}
 use Rattle.cache_model.specs.Openings.{opened_records}
-use Rattle.cache_model.specs.State.{State, Mark, Row, after_all, fragment_piece, nothing_yet, vector_piece}
+use Rattle.cache_model.specs.Outcomes.{flush_tail}
+use Rattle.cache_model.specs.Permit.{Permit}
+use Rattle.cache_model.specs.Room.{has_room}
+use Rattle.cache_model.specs.Syncing.{Syncing, WhereDue, at_first, behind_records, first_records}
+use Rattle.cache_model.specs.State.{State, Mark, Row, after_all, fragment_piece, list_of_piece, nothing_yet, place_now, vector_piece}
 
 -- 64 blocks, buffers of 8, a reach of 16, fragments of 4 bytes
 abbrev pub small : Geometry
@@ -45,29 +52,83 @@ b = record { number = 2 }
 abbrev pub other : Key
 other = record { number = 3 }
 
+abbrev pub last : Key
+last = record { number = 4 }
+
+abbrev pub late : Key
+late = record { number = 5 }
+
+-- a step of a directory that displaces, in which the device does nothing
+abbrev pub of_packed : Permit
+of_packed = record { packed = true; syncs = true; now = 0; area = 0; durable = 0; events = [] }
+
 -- no verdict reads one
 abbrev pub no_digest : Digest
 no_digest = record { 0 = [] }
 
 -- ---- records
 
--- a put of one byte: its fragment at a place, its vector behind that
-abbrev pub put_with : List Field → List Field → ℕ → ℕ → Key → List Rec
-put_with request response place put key =
+-- the alternate of a put of one byte
+abbrev pub one_byte : List Field → List Field → ℕ → Stored
+one_byte request response put =
+    record { put = put; pin = 0; length = 1; request = request; response = response; table = made_row 1 [] ∷ [] }
+
+-- a put of one byte: its fragment at a place, its vector behind that, which lists it behind these alternates
+abbrev pub put_with : List Stored → List Field → List Field → ℕ → ℕ → Key → List Rec
+put_with before request response place put key =
     rec.WriteOpened (record { 0 = 0 }) put key request response 0
     ∷ rec.Cut put 1 1 no_digest
     ∷ rec.Placed (fragment_piece key put 1) place 1 no_digest 0
     ∷ rec.Placed (vector_piece key put) (place + 1) 1 no_digest 0
-    ∷ rec.Committed put key 1
+    ∷ rec.Committed put key 1 (before ++ one_byte request response put ∷ [])
     ∷ []
 
--- the same with no lines
+-- the same with no lines, alone in its vector
 abbrev pub put_at : ℕ → ℕ → Key → List Rec
-put_at place put key = put_with [] [] place put key
+put_at place put key = put_with [] [] [] place put key
 
 -- a whole sync
 abbrev pub synced : ℕ → ℕ → Bool → List Rec
 synced serial cursor clean = rec.SyncBegun serial cursor clean false ∷ rec.SyncDone serial ∷ []
+
+-- ---- steps, each by the state before it
+
+-- a flush that copies nothing, with the syncs that it needs
+abbrev pub flush_here : Syncing → State → List Rec
+flush_here k s = first_records k s ++ (behind_records k (at_first k s) ++ flush_tail s [] [])
+
+abbrev pub flushed : Syncing → State → State
+flushed k s = after_all s (flush_here k s)
+
+-- where a piece of one block has no room the buffer is flushed
+abbrev pub with_room : State → State
+with_room s = if has_room s 1 then s else flushed WhereDue s
+
+-- a piece of one block is placed, behind these records
+abbrev pub placed_here : List Rec → PieceId → State → State
+placed_here before id s = after_all (with_room s) (before ++ rec.Placed id (place_now (with_room s)) 1 no_digest 0 ∷ [])
+
+-- the next fragment of a put, of four bytes
+abbrev pub cut_here : Key → ℕ → ℕ → State → State
+cut_here key put index s = placed_here (rec.Cut put index 4 no_digest ∷ []) (fragment_piece key put index) s
+
+-- fragments of these indices, and then the vector
+abbrev pub pieces_here : Key → ℕ → List ℕ → State → State
+pieces_here key put [] s = placed_here [] (vector_piece key put) s
+pieces_here key put (index ∷ indices) s = pieces_here key put indices (cut_here key put index s)
+
+-- a put of so many fragments
+abbrev pub put_here : Key → ℕ → State → State
+put_here key fragments s =
+    let put : ℕ = s.next_put in
+    let opened : State = after_all s (rec.WriteOpened (record { 0 = 0 }) put key [] [] 0 ∷ []) in
+    let placed : State = pieces_here key put (range_with_len 1 fragments) opened in
+    after_all placed (rec.Committed put key (4 * fragments) (list_of_piece placed (vector_piece key put)) ∷ [])
+
+-- so many puts of 28 bytes under one key, each of which fills a buffer
+abbrev pub fillers : ℕ → State → State
+fillers zero s = s
+fillers (suc n) s = fillers n (put_here a 7 s)
 
 -- ---- sessions
 

@@ -1,7 +1,8 @@
 //! Sessions with openings and syncs, worked by hand and computed by the definitions over records.
 #![tactic(auto)]
 
-ghost use Rattle.record_rows.specs.Rows.{AClosedStripeOpensClean, AFinishedSyncIsTaken, AFormatMayBeOpened, AFoundVectorIsKnown, AnOpeningFollows, AnotherPutMerges, ARemovalComesBack, ARunningSyncMayBeTaken, LaterPutsAreLost, WhatIsWrittenUnmarks};
+ghost use Rattle.record_rows.specs.Steps.{AClosedStripeIsAStep, ALastPartIsAStep, AMarkedStripeMayBeClosed, APartWithoutAWriteIsNoStep, ARefusedEndIsAStep, ARefusedPartIsAStep, ASecondOneIsRefused, ASyncBehindAShutGateIsNoStep, ASyncWithoutCallsIsNoStep, AnEmptySyncIsAStep, AnEndBehindItIsNoStep, NoPartWithoutASync};
+ghost use Rattle.record_rows.specs.Rows.{AClosedStripeOpensClean, AFinishedSyncIsTaken, AFormatMayBeOpened, AFoundVectorIsKnown, AFullSegmentLosesATenth, ALapEndsWithASync, AnOpeningFollows, AnotherPutMerges, ARemovalComesBack, ARunningSyncIsEndedFirst, ARunningSyncMayBeTaken, AShortBufferEndsTheLap, LaterPutsAreLost, WhatIsWrittenUnmarks};
 
 /// What was put behind the last sync is lost, and told by the serial of the opening.
 pub fn later_puts_are_lost()
@@ -51,4 +52,84 @@ pub fn a_found_vector_is_known()
 /// A put behind an opening is merged into the vector that was found.
 pub fn another_put_merges()
     ensures { AnotherPutMerges }
+{}
+
+/// The flush of the last buffer of a lap syncs.
+pub fn a_lap_ends_with_a_sync()
+    ensures { ALapEndsWithASync }
+{}
+
+/// So does that of a buffer of one block.
+pub fn a_short_buffer_ends_the_lap()
+    ensures { AShortBufferEndsTheLap }
+{}
+
+/// A sync in parts is ended before a buffer is written that lies outside the reach of the sync before.
+pub fn a_running_sync_is_ended_first()
+    ensures { ARunningSyncIsEndedFirst }
+{}
+
+/// A full segment loses a tenth of its slots, and then has one for the new entry.
+pub fn a_full_segment_loses_a_tenth()
+    ensures { AFullSegmentLosesATenth }
+{}
+
+/// A sync of an empty buffer is a step on its calls.
+pub fn an_empty_sync_is_a_step()
+    ensures { AnEmptySyncIsAStep }
+{}
+
+/// Without them it is none.
+pub fn a_sync_without_calls_is_no_step()
+    ensures { ASyncWithoutCallsIsNoStep }
+{}
+
+/// Nor where its gate stays shut.
+pub fn a_sync_behind_a_shut_gate_is_no_step()
+    ensures { ASyncBehindAShutGateIsNoStep }
+{}
+
+/// While a sync in parts goes on, another one is refused.
+pub fn a_second_one_is_refused()
+    ensures { ASecondOneIsRefused }
+{}
+
+/// The last part of a sync ends it.
+pub fn a_last_part_is_a_step()
+    ensures { ALastPartIsAStep }
+{}
+
+/// A part that the device refuses leaves the sync.
+pub fn a_refused_part_is_a_step()
+    ensures { ARefusedPartIsAStep }
+{}
+
+/// A part that was not written is none.
+pub fn a_part_without_a_write_is_no_step()
+    ensures { APartWithoutAWriteIsNoStep }
+{}
+
+/// Where no sync goes on there is no part.
+pub fn no_part_without_a_sync()
+    ensures { NoPartWithoutASync }
+{}
+
+/// Where a sync in parts cannot be ended, that is a fault alone.
+pub fn a_refused_end_is_a_step()
+    ensures { ARefusedEndIsAStep }
+{}
+
+/// It is not its end with another sync behind it.
+pub fn an_end_behind_it_is_no_step()
+    ensures { AnEndBehindItIsNoStep }
+{}
+
+/// A stripe with an empty buffer is closed by one clean sync.
+pub fn a_closed_stripe_is_a_step()
+    ensures { AClosedStripeIsAStep }
+{}
+
+/// So is one that was opened clean.
+pub fn a_marked_stripe_may_be_closed()
+    ensures { AMarkedStripeMayBeClosed }
 {}

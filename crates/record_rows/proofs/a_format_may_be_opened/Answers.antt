@@ -1,4 +1,4 @@
-use Rattle.std.proofs.Common.{refl, arith, false}
+use Rattle.std.proofs.Common.{refl, arith}
 use Rattle.record_rows.proofs.a_format_may_be_opened.Goals as goal
 
 pub returns : goal.returns

@@ -4,4 +4,4 @@ use Rattle.record_rows.proofs.another_put_merges.Goals as goal
 
 pub returns : goal.returns
 unfolding is_token_byte
-returns c = (refl, refl, refl, refl)
+returns c = (refl, refl, refl, refl, refl)

@@ -1,0 +1,90 @@
+-- Steps of a stripe that syncs, with the calls of the device on which they rest, each worked by hand; and records that are
+-- no step, since a call is missing or is another one.
+use Rattle.std.specs.Prelude.{ℕ, ◌≡◌, ◌*◌, true, false, List, [], ◌∷◌, Some, None, length}
+use Rattle.device_log.specs.Calls.{Call, RefusedCall, Synced, ToWrite, Wrote}
+use Rattle.cache_model.specs.declared.record.Rec.TheVariants as rec
+use Rattle.cache_model.specs.Legal.{IsStep}
+use Rattle.cache_model.specs.Permit.{CleanSync, Drain, Faulted, NoSync, Permit, Sync, SyncBegin, SyncRuns, SyncStep}
+use Rattle.record_rows.specs.Worked.{behind_format, behind_opening, synced}
+use Rattle.record_rows.specs.Rows.{clean_sync, while_it_runs}
+
+-- a step of a stripe that syncs, whose content area begins behind two copies of six blocks of directory
+abbrev pub with_calls : List Call → Permit
+with_calls events = record { packed = true; syncs = true; now = 0; area = 19; durable = 0; events = events }
+
+-- a gate that is opened, as far as it is looked at
+abbrev pub opened : ℕ → Call
+opened gate = Wrote gate (1 ∷ [])
+
+-- the calls of a sync into the second copy, the newest first: its gate is known to be shut
+abbrev pub calls_of_sync : List ℕ → List Call
+calls_of_sync body = Synced ∷ opened 2 ∷ Synced ∷ Wrote 11 body ∷ Synced ∷ []
+
+-- a body: a header, six blocks of directory and a footer
+abbrev pub IsBody : List ℕ → Type 0
+IsBody body = length body ≡ 512 * 8
+
+-- ---- a sync of an empty buffer
+
+-- it is recorded with its end, on those calls
+abbrev pub AnEmptySyncIsAStep : Type 0
+AnEmptySyncIsAStep = (body : List ℕ) → IsBody body
+    → IsStep (with_calls (calls_of_sync body)) (behind_format []) (Sync ∷ []) (synced 2 64 false) None
+
+-- and not without them
+abbrev pub ASyncWithoutCallsIsNoStep : Type 0
+ASyncWithoutCallsIsNoStep = IsStep (with_calls []) (behind_format []) (Sync ∷ []) (synced 2 64 false) None → ⊥
+
+-- nor where the gate is shut once more
+abbrev pub ASyncBehindAShutGateIsNoStep : Type 0
+ASyncBehindAShutGateIsNoStep = (body : List ℕ)
+    → IsStep (with_calls (Synced ∷ Wrote 2 (0 ∷ []) ∷ Synced ∷ Wrote 11 body ∷ Synced ∷ [])) (behind_format []) (Sync ∷ []) (synced 2 64 false) None → ⊥
+
+-- ---- a sync in parts
+
+-- while one goes on another one is refused, with its serial, and the device is asked nothing
+abbrev pub ASecondOneIsRefused : Type 0
+ASecondOneIsRefused = IsStep (with_calls []) while_it_runs (SyncBegin ∷ []) [] (Some (SyncRuns 2))
+
+-- its last part ends it
+abbrev pub ALastPartIsAStep : Type 0
+ALastPartIsAStep = (body : List ℕ) → IsBody body
+    → IsStep (with_calls (Synced ∷ opened 2 ∷ Synced ∷ Wrote 11 body ∷ [])) while_it_runs (SyncStep true ∷ []) (rec.SyncDone 2 ∷ []) None
+
+-- a part that the device refuses leaves it
+abbrev pub ARefusedPartIsAStep : Type 0
+ARefusedPartIsAStep = IsStep (with_calls (RefusedCall (ToWrite 11 8 []) 1 ∷ [])) while_it_runs (SyncStep true ∷ []) (rec.Fault 1 ∷ []) (Some (Faulted 1))
+
+-- a part that was not written is none
+abbrev pub APartWithoutAWriteIsNoStep : Type 0
+APartWithoutAWriteIsNoStep = IsStep (with_calls []) while_it_runs (SyncStep false ∷ []) [] None → ⊥
+
+-- where none goes on there is no part to write
+abbrev pub NoPartWithoutASync : Type 0
+NoPartWithoutASync = IsStep (with_calls []) (behind_format []) (SyncStep true ∷ []) [] (Some NoSync)
+
+-- ---- behind a refused call
+
+-- the device refuses to take the gate with which the sync in parts was to be ended, before another one
+abbrev pub refused_gate : List Call
+refused_gate = RefusedCall (ToWrite 1 1 []) 1 ∷ []
+
+-- that is the fault alone
+abbrev pub ARefusedEndIsAStep : Type 0
+ARefusedEndIsAStep = IsStep (with_calls refused_gate) while_it_runs (Sync ∷ []) (rec.Fault 1 ∷ []) (Some (Faulted 1))
+
+-- and no end, behind which another one was begun
+abbrev pub AnEndBehindItIsNoStep : Type 0
+AnEndBehindItIsNoStep = IsStep (with_calls refused_gate) while_it_runs (Sync ∷ []) (rec.SyncDone 2 ∷ rec.SyncBegun 3 66 false false ∷ rec.Fault 1 ∷ []) (Some (Faulted 1)) → ⊥
+
+-- ---- a stripe that is closed
+
+-- a clean copy of an empty buffer, behind a drain that finds nothing to write
+abbrev pub AClosedStripeIsAStep : Type 0
+AClosedStripeIsAStep = (body : List ℕ) → IsBody body
+    → IsStep (with_calls (calls_of_sync body)) (behind_format []) (Drain ∷ CleanSync ∷ []) (synced 2 64 true) None
+
+-- behind its opening it is closed again, under the next serial
+abbrev pub AMarkedStripeMayBeClosed : Type 0
+AMarkedStripeMayBeClosed = (body : List ℕ) → IsBody body
+    → IsStep (with_calls (calls_of_sync body)) (behind_opening clean_sync []) (Drain ∷ CleanSync ∷ []) (synced 4 66 true) None
