@@ -1,5 +1,5 @@
 -- A list from one place on.
-use Rattle.std.proofs.Common.{◌≡◌, ℕ, ◌-◌, ◌<◌, zero, suc, List, [], ◌∷◌, Option, Some, drop, ap, sym, subst, arith}
+use Rattle.std.proofs.Common.{◌≡◌, ℕ, ◌-◌, ◌<◌, zero, suc, List, [], ◌∷◌, Some, drop, ap, subst, arith}
 use Rattle.std.specs.List.{slice_get}
 
 first_of : {X : Type 0} (n : ℕ) (list : List X) (x : X) → slice_get list n ≡ Some x → drop n list ≡ x ∷ drop (suc n) list

@@ -11,6 +11,16 @@ use Rattle.cache_model.proofs.Lists.{row_in-copied}
 use Rattle.cache_chronicle.specs.declared.pieces.Standing.{Standing}
 use Rattle.cache_chronicle.specs.Tables.{HasRows, standing_of}
 
+named_by : (rows : List Row) (id : PieceId) (row there : Row) (b : Bool) → same_piece row.id id ≡ b → (row_in rows id ≡ Some there → there.id ≡ id)
+    → cond b (Some row) (row_in rows id) ≡ Some there → there.id ≡ id
+named_by rows id row there true h known found = let same : row ≡ there = cc in sym (ap (λ (r : Row). r.id) same) ∙ same_piece-true row.id id h
+named_by rows id row there false h known found = known found
+
+-- a row that is found has the name
+pub row_in-named : (rows : List Row) (id : PieceId) (there : Row) → row_in rows id ≡ Some there → there.id ≡ id
+row_in-named [] id there found = let t : None ≡ Some there = found in cc
+row_in-named (row ∷ rows) id there found = named_by rows id row there (same_piece row.id id) refl (row_in-named rows id there) found
+
 -- the row goes out
 out_here : (id other : PieceId) (row : Row) (found : Option Row) → same_piece row.id id ≡ true → cond (same_piece id other) None found ≡ cond (same_piece id other) None (cond (same_piece row.id other) (Some row) found)
 out_here id other row found e = by_tests (same_piece id other) (same_piece row.id other) (ap (λ n. same_piece n other) (same_piece-true row.id id e))

@@ -4,12 +4,14 @@ use Rattle.std.specs.HashMap.{spare}
 use Rattle.std.specs.HashSet.{spare as set_spare}
 use Rattle.cache_model.specs.State.{State}
 use Rattle.cache_chronicle.specs.TapeTable.{HasTape}
-use Rattle.cache_chronicle.specs.Tables.{HasRows, HasLosses, HasPlaces, HasUnsaved, HasVectors, HasAborts}
+use Rattle.cache_chronicle.specs.Tables.{HasRows, HasLosses, HasPlaces, HasUnsaved, HasVectors, HasAborts, HasCounts}
 use Rattle.cache_chronicle.specs.declared.tables.Tables.{Tables}
 
 -- how many more records can be noted without memory
 abbrev pub spare_of : Tables → ℕ
-spare_of t = min (min (spare t.pieces) (spare t.losses)) (min (min (spare t.places) (set_spare t.unsaved)) (min (spare t.vectors) (spare t.aborts)))
+spare_of t =
+    min (min (spare t.pieces) (spare t.losses))
+    (min (min (spare t.places) (set_spare t.unsaved)) (min (spare t.vectors) (min (spare t.aborts) (spare t.counts))))
 
 -- the tables have what a state says
 pub record HasTables (t : Tables) (s : State) : Type 0 where
@@ -20,3 +22,4 @@ pub record HasTables (t : Tables) (s : State) : Type 0 where
   pub unsaved : HasUnsaved t.unsaved s.unsaved
   pub vectors : HasVectors t.vectors s.vectors
   pub aborts : HasAborts t.aborts s.aborts
+  pub counts : HasCounts t.counts s.counts

@@ -3,17 +3,15 @@ use Rattle.std.specs.Prelude.{◌-◌, min, vec_len, vec_capacity}
 use Rattle.cache_model.specs.State.{nothing_yet, after_all}
 use Rattle.cache_chronicle.specs.Full.{History}
 use Rattle.cache_chronicle.specs.Indexed.{HasTables, spare_of}
-use Rattle.cache_chronicle.specs.Listings.{HasLists, spare_of_lists}
 use Rattle.cache_chronicle.specs.declared.full.FullChronicle.TheInside.{Inside}
 
--- the records; there is room for one more only where the tables and lists beside them have some too
+-- the records; there is room for one more only where the tables beside them have some too
 abbrev pub history_of : Inside → History
 history_of c = record {
   records = c.records.items;
-  room = min (vec_capacity c.records - vec_len c.records) (min (spare_of c.tables) (spare_of_lists c.lists));
+  room = min (vec_capacity c.records - vec_len c.records) (spare_of c.tables);
 }
 
--- the tables and lists have what the state behind the records says
+-- the tables have what the state behind the records says
 pub record IsIndexed (c : Inside) : Type 0 where
   pub tables : HasTables c.tables (after_all nothing_yet c.records.items)
-  pub lists : HasLists c.lists c.records.items (after_all nothing_yet c.records.items)

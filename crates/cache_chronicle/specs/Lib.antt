@@ -1,10 +1,6 @@
 pub mod Full
 pub mod Indexed
 pub mod Inside
-pub mod Listing
-pub mod Listings
-pub mod Lists
 pub mod Tables
 pub mod TapeTable
 pub mod Weight
-pub mod Shown

@@ -59,3 +59,7 @@ HasVectors m vectors = (key : Key) → option_map told_vector (get same_key m ke
 -- of each key the put that was given up last
 abbrev pub HasAborts : {S : Type 0} → HashMap Key ℕ S → List (Key × ℕ) → Type 0
 HasAborts m aborts = (key : Key) → get same_key m key ≡ lookup (λ k. same_key k key) aborts
+
+-- of each vector how many alternates it lists
+abbrev pub HasCounts : {S : Type 0} → HashMap PieceId ℕ S → List (PieceId × ℕ) → Type 0
+HasCounts m counts = (id : PieceId) → get same_piece m id ≡ lookup (λ i. same_piece i id) counts

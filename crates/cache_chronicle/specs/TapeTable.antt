@@ -8,7 +8,6 @@ pub record HasTape (t : Tape) (s : State) : Type 0 where
   pub cursor : t.cursor ≡ s.cursor
   pub content : t.content ≡ s.geometry.content
   pub agg : t.agg ≡ s.geometry.agg
-  pub alternates : t.alternates ≡ s.geometry.alternates
   pub least : t.least ≡ s.least
   pub opened : t.opened ≡ s.opened
   pub dropped : s.dropped ≡ 0

@@ -1,5 +1,5 @@
 -- How much room a record takes in a chronicle.
-use Rattle.std.specs.Prelude.{ℕ, ◌+◌, Bool, true, false, length}
+use Rattle.std.specs.Prelude.{ℕ, ◌+◌, length}
 use Rattle.cache_model.specs.declared.record.Rec.{Rec}
 use Rattle.cache_model.specs.declared.record.Rec.TheVariants as rec
 
@@ -7,8 +7,3 @@ use Rattle.cache_model.specs.declared.record.Rec.TheVariants as rec
 abbrev pub weight_of : Rec → ℕ
 weight_of (rec.Opened geometry serial cursor floor next_put clean list) = 1 + length list
 weight_of _ = 1
-
--- the record is that of an opening
-abbrev pub is_opening : Rec → Bool
-is_opening (rec.Opened geometry serial cursor floor next_put clean list) = true
-is_opening _ = false

@@ -1,6 +1,6 @@
 // What a chronicle answers.
-ghost use Rattle.std.specs.Prelude.{◌≡◌, ◌+◌, ◌≤◌, ◌<◌, ℕ, None, length, OnOk};
-ghost use Rattle.cache_model.specs.Kept.{Kept, state_of, with_record};
+ghost use Rattle.std.specs.Prelude.{◌≡◌, ◌+◌, ◌≤◌, ◌<◌, ℕ, None, OnOk};
+ghost use Rattle.cache_model.specs.Kept.{Kept, count_of, state_of, with_record};
 ghost use Rattle.cache_model.specs.State.{live_row_of};
 ghost use Rattle.cache_model.specs.Verdict.{cause_of_miss, cause_of_piece, vector_of, piece_at, digest_of_piece, size_of, pin_of};
 ghost use Rattle.cache_chronicle.specs.Weight.{weight_of};
@@ -29,7 +29,7 @@ pub trait Chronicle {
 
     /// How many records there are.
     fn count(&self) -> u64
-        ensures { result ≡ length (kept self.now).since };
+        ensures { result ≡ count_of (kept self.now) };
 
     /// Why a lookup of the key gives neither a stored alternate nor a writer to follow.
     fn why(&self, key: Key) -> Cause

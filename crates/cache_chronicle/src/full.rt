@@ -1,14 +1,13 @@
 // A chronicle that keeps every record.
 ghost use Rattle.std.specs.Prelude.{◌≡◌, ◌-◌, ◌<◌, [], length, slice_get, Some, option_map};
 ghost use Rattle.std.specs.HashMap.{get};
-ghost use Rattle.cache_model.specs.State.{floor_now, live_row_of, row_of, vector_piece};
+ghost use Rattle.cache_model.specs.State.{count_of_vector, floor_now, live_row_of, row_of, vector_piece};
 ghost use Rattle.cache_model.specs.Verdict.{cause_of_piece, cause_of_vector, cause_without_vector};
 ghost use Rattle.cache_model.specs.Kept.{all_of};
 ghost use Rattle.cache_chronicle.specs.Full.{state_in, kept_of};
 ghost use Rattle.cache_chronicle.specs.Tables.{standing_of};
 
 use crate::Chronicle;
-use crate::lists::Lists;
 use crate::pieces::{Standing, vector_piece};
 use crate::tables::Tables;
 use crate::vectors::{LastVector, last_of};
@@ -22,7 +21,6 @@ use tape_base::{Digest, Key, PieceId};
 pub struct FullChronicle {
     records: Vec<Rec>,
     tables: Tables,
-    lists: Lists,
 }
 
 impl Model for FullChronicle {
@@ -44,7 +42,6 @@ impl FullChronicle {
         FullChronicle {
             records: Vec::new(alloc),
             tables: Tables::new(alloc),
-            lists: Lists::new(alloc),
         }
     }
 
@@ -102,13 +99,23 @@ impl FullChronicle {
         }
     }
 
+    // How many alternates a vector lists.
+    fn count_of(&self, id: PieceId) -> u32
+        ensures { result ≡ count_of_vector (state_in self.now) id }
+    {
+        match self.tables.counts.get(&id).copied() {
+            Some(count) => count,
+            None => 0,
+        }
+    }
+
     fn cause_of_vector(&self, key: Key, put: u64) -> Cause
         ensures { result ≡ cause_of_vector (state_in self.now) (vector_piece key put) }
     {
         let id = vector_piece(key, put);
         match self.live_of(id) {
             Some(_) => Cause::NoMatch {
-                count: self.lists.listing_of(id).len() as u32,
+                count: self.count_of(id),
             },
             None => self.cause_of_piece(id),
         }
@@ -133,12 +140,10 @@ impl Chronicle for FullChronicle {
 
     fn reserve(&mut self, more: usize) -> Result<(), AllocError> {
         self.records.reserve(more)?;
-        self.tables.reserve(more)?;
-        self.lists.reserve(more)
+        self.tables.reserve(more)
     }
 
     fn push(&mut self, rec: Rec) {
-        self.lists.note(&self.records, &self.tables, &rec);
         self.tables.note(&rec);
         self.records.push_reserved(rec);
     }

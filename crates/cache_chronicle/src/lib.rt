@@ -2,14 +2,11 @@
 #![tactic(auto)]
 
 mod chronicle;
-mod found;
+mod counts;
 mod full;
-mod listing;
-mod lists;
 mod losses;
 mod opened;
 mod pieces;
-mod puts;
 mod tables;
 mod tape;
 mod vectors;

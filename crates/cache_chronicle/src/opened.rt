@@ -1,15 +1,17 @@
 // What the tables have of the pieces that an opening found.
-ghost use Rattle.std.specs.Prelude.{ℕ, ◌+◌, ◌≤◌, ◌<◌, ◌∷◌, ◌++◌, [], List, length, map};
+ghost use Rattle.std.specs.Prelude.{ℕ, ◌≡◌, ◌+◌, ◌≤◌, ◌<◌, ◌∷◌, ◌++◌, [], List, length, map, unwrap_or};
 ghost use Rattle.std.specs.HashMap.{spare};
 ghost use Rattle.std.specs.List.{flat_map};
 ghost use Rattle.tape_base.specs.declared.keys.Key.{Key as Key'};
 ghost use Rattle.tape_base.specs.declared.pieces.PieceId.{PieceId as PieceId'};
-ghost use Rattle.cache_model.specs.State.{Row, LastVector as LastVector', place_of_found, row_of_found, vector_of_found};
-ghost use Rattle.cache_chronicle.specs.Tables.{HasPlaces, HasRows, HasVectors};
+ghost use Rattle.cache_model.specs.State.{Row, LastVector as LastVector', count_of_found, place_of_found, row_of_found, vector_of_found};
+ghost use Rattle.cache_chronicle.specs.Tables.{HasCounts, HasPlaces, HasRows, HasVectors};
 
+use crate::counts::Counts;
 use crate::losses::Places;
 use crate::pieces::{Pieces, Standing};
 use crate::vectors::{LastVector, Vectors};
+use alternate_vector::Vector;
 use cache_model::{FoundList, FoundRow};
 
 /// Notes the pieces. Of two rows with one name the first counts.
@@ -91,5 +93,39 @@ fn note_first_vector(vectors: &mut Vectors, found: &FoundRow)
             LastVector::Complete(found.id.put),
         );
         let _ = noted.unwrap();
+    }
+}
+
+/// Notes how many alternates the vectors list. Of two with one name the first counts.
+pub(crate) fn note_found_counts(counts: &mut Counts, list: &FoundList)
+    requires empty { HasCounts counts.old [] }
+    requires room { length list.now ≤ spare counts.old }
+    ensures has { HasCounts counts.new (flat_map count_of_found list.now) }
+    ensures spare { spare counts.old ≤ spare counts.new + length list.now }
+{
+    let mut left = list.len();
+    while left > 0 {
+        left -= 1;
+        note_first_count(counts, list.get(left));
+    }
+}
+
+fn note_first_count(counts: &mut Counts, found: &FoundRow)
+    requires { 0 < spare counts.old }
+    ensures has { (rest : List (PieceId' × ℕ)) → HasCounts counts.old rest → HasCounts counts.new (count_of_found found.now ++ rest) }
+    ensures spare { spare counts.old ≤ spare counts.new + 1 }
+{
+    if found.id.index == 0 {
+        let noted: Result<_, _> = counts.insert(found.id, count_of(&found.alternates));
+        let _ = noted.unwrap();
+    }
+}
+
+fn count_of(alternates: &Option<Vector>) -> u32
+    ensures { result ≡ length (unwrap_or alternates.now []) }
+{
+    match alternates {
+        Some(vector) => vector.len() as u32,
+        None => 0,
     }
 }

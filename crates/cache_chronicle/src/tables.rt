@@ -1,9 +1,10 @@
 // The tables of what the records say last of each piece, place and key.
 ghost use Rattle.std.specs.Prelude.{◌≡◌, ◌+◌, ◌≤◌, ◌<◌, OnOk};
-ghost use Rattle.cache_model.specs.State.{State, nothing_yet, place_of, state_after};
+ghost use Rattle.cache_model.specs.State.{State, nothing_yet, state_after};
 ghost use Rattle.cache_chronicle.specs.Indexed.{HasTables, spare_of};
 ghost use Rattle.cache_chronicle.specs.Weight.{weight_of};
 
+use crate::counts::{Counts, note_count};
 use crate::losses::{
     Aborts, Losses, Places, Unsaved, note_abort, note_loss, note_place, note_unsaved,
 };
@@ -13,7 +14,6 @@ use crate::vectors::{Vectors, note_vector};
 use cache_model::Rec;
 use std::alloc::{AllocError, Global};
 use std::collections::{HashMap, HashSet};
-use tape_base::PieceId;
 
 #[derive(Drop)]
 pub(crate) struct Tables {
@@ -24,6 +24,7 @@ pub(crate) struct Tables {
     pub(crate) unsaved: Unsaved,
     pub(crate) vectors: Vectors,
     pub(crate) aborts: Aborts,
+    pub(crate) counts: Counts,
 }
 
 impl Tables {
@@ -38,6 +39,7 @@ impl Tables {
             unsaved: HashSet::new(alloc),
             vectors: HashMap::new(alloc),
             aborts: HashMap::new(alloc),
+            counts: HashMap::new(alloc),
         }
     }
 
@@ -51,14 +53,8 @@ impl Tables {
         self.places.reserve(more)?;
         self.unsaved.reserve(more)?;
         self.vectors.reserve(more)?;
-        self.aborts.reserve(more)
-    }
-
-    pub(crate) fn place_of(&self, id: PieceId) -> Option<u64>
-        ensures { (s : State) → HasTables self.now s → result ≡ place_of s id }
-    {
-        let standing = self.pieces.get(&id)?;
-        Some(standing.place)
+        self.aborts.reserve(more)?;
+        self.counts.reserve(more)
     }
 
     /// Notes what a record says.
@@ -73,6 +69,7 @@ impl Tables {
         note_unsaved(&mut self.unsaved, rec);
         note_vector(&mut self.vectors, rec);
         note_abort(&mut self.aborts, rec);
+        note_count(&mut self.counts, rec);
         self.tape = self.tape.after(rec);
     }
 }

@@ -1,7 +1,7 @@
-// Where the buffer begins, and what a vector may hold.
+// Where the buffer begins, and how the session began.
 ghost use Rattle.std.specs.Prelude.{◌≡◌, ◌+◌, ◌-◌, ◌≤◌};
 ghost use Rattle.cache_model.specs.Verdict.{no_record};
-ghost use Rattle.cache_model.specs.State.{State, floor_now, most_payload, nothing_yet, state_after};
+ghost use Rattle.cache_model.specs.State.{State, floor_now, nothing_yet, state_after};
 
 use cache_model::{Cause, Rec};
 
@@ -11,12 +11,10 @@ pub(crate) struct Tape {
     cursor: u64,
     content: u64,
     agg: u32,
-    alternates: u32,
     // The floor and the serial of the opening with which the session began; 0 and none behind a format.
     least: u64,
     opened: Option<u64>,
     ghost narrow: { agg ≤ content },
-    ghost few: { alternates ≤ 16 },
 }
 
 impl Tape {
@@ -30,7 +28,6 @@ impl Tape {
             cursor: 32,
             content: 32,
             agg: 8,
-            alternates: 5,
             least: 0,
             opened: None,
         }
@@ -60,21 +57,6 @@ impl Tape {
         0
     }
 
-    /// The most bytes of payload that one piece may have.
-    pub(crate) fn most_payload(&self) -> u64
-        ensures { (s : State) → HasTape self.now s → result ≡ most_payload s.geometry }
-    {
-        (512 * (self.agg as u64 / 2)).saturating_sub(128)
-    }
-
-    /// The most alternates that a vector may list.
-    pub(crate) fn most_alternates(&self) -> u32
-        ensures most { (s : State) → HasTape self.now s → result ≡ s.geometry.alternates }
-        ensures few { result ≤ 16 }
-    {
-        self.alternates
-    }
-
     /// The tape behind one more record.
     pub(crate) fn after(self, rec: &Rec) -> Tape
         ensures { (s : State) → HasTape self s → HasTape result (state_after s rec.now) }
@@ -84,7 +66,6 @@ impl Tape {
                 cursor: geometry.content,
                 content: geometry.content,
                 agg: geometry.agg,
-                alternates: geometry.alternates,
                 least: 0,
                 opened: None,
             },
@@ -98,7 +79,6 @@ impl Tape {
                 cursor,
                 content: geometry.content,
                 agg: geometry.agg,
-                alternates: geometry.alternates,
                 least: floor,
                 opened: Some(serial),
             },
@@ -106,7 +86,6 @@ impl Tape {
                 cursor,
                 content: self.content,
                 agg: self.agg,
-                alternates: self.alternates,
                 least: self.least,
                 opened: self.opened,
             },

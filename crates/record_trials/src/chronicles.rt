@@ -1,13 +1,13 @@
-// What no clause of `cache_chronicle` says, and no script shows: what a live piece is told, and a
-// list that was displaced.
+// What no clause of `cache_chronicle` says, and no script shows: what a live piece is told, and how many
+// alternates a vector lists beside one that was displaced.
 ghost use Rattle.std.specs.Prelude.{◌≤◌};
 ghost use Rattle.cache_chronicle.specs.Weight.{weight_of};
 
-use alternate_vector::{FieldFault, Fields};
+use alternate_vector::Vector;
 use cache_chronicle::{Cause, Chronicle, FullChronicle, Rec};
 use std::alloc::AllocError;
 use std::test::Fail;
-use tape_base::{Actor, Digest, Geometry, Key, PieceId};
+use tape_base::{Digest, Geometry, Key, PieceId};
 
 fn piece(put: u64, index: u32) -> PieceId {
     PieceId {
@@ -63,50 +63,38 @@ fn a_live_piece_is_told_as_it_was_placed(rt: HostRuntime) -> Result<(), Fail> {
     Ok(())
 }
 
-fn append(fields: &mut Fields, name: &str, value: &str) -> Result<(), Fail> {
-    let added = fields.append(name.as_bytes(), value.as_bytes());
-    Ok(added.map_err(|_: FieldFault| "refused")?)
-}
-
-// A writer opens whose response varies by the field X, of which its request has this value.
-fn open(
+// The vector of the put lists the alternates that these bytes spell.
+fn commit(
     rt: &impl AllocGlobal,
     chronicle: &mut FullChronicle,
     put: u64,
-    value: &str,
+    spelled: &[u8],
 ) -> Result<(), Fail> {
-    let mut request = Fields::new(rt.alloc());
-    append(&mut request, "X", value)?;
-    let mut response = Fields::new(rt.alloc());
-    append(&mut response, "Vary", "X")?;
-    let rec = Rec::WriteOpened {
-        actor: Actor(1),
-        put,
-        key: Key::new([1; 16]),
-        request,
-        response,
-        pin: 0,
-    };
-    Ok(add(chronicle, rec)?)
-}
-
-fn commit(chronicle: &mut FullChronicle, put: u64) -> Result<(), AllocError> {
+    let read = Vector::decode(rt.alloc(), spelled);
     let rec = Rec::Committed {
         put,
         key: Key::new([1; 16]),
         length: 0,
+        alternates: read.ok().ok_or("the bytes are a vector")?,
     };
-    add(chronicle, rec)
+    Ok(add(chronicle, rec)?)
 }
 
 #[test]
-fn a_list_counts_what_the_insert_displaces(rt: HostRuntime) -> Result<(), Fail> {
+fn a_vector_counts_what_its_commit_told(rt: HostRuntime) -> Result<(), Fail> {
+    // alternates without lines and fragments, of which each takes 32 bytes
+    let mut one = [0; 36];
+    one[0] = 1;
+    let mut two = [0; 68];
+    two[0] = 2;
     let mut chronicle = FullChronicle::new(rt.alloc());
     begin(&mut chronicle)?;
-    open(&rt, &mut chronicle, 1, "1")?;
     place(&mut chronicle, piece(1, 0), 64)?;
-    commit(&mut chronicle, 1)?;
-    open(&rt, &mut chronicle, 2, "2")?;
+    commit(&rt, &mut chronicle, 1, &one)?;
+    assert_eq!(rt;
+        chronicle.why(Key::new([1; 16])),
+        Cause::NoMatch { count: 1 }
+    );
     let displaced = Rec::Displaced {
         piece: piece(1, 0),
         segment: 0,
@@ -119,7 +107,7 @@ fn a_list_counts_what_the_insert_displaces(rt: HostRuntime) -> Result<(), Fail> 
     };
     assert_eq!(rt; chronicle.why(Key::new([1; 16])), gone);
     place(&mut chronicle, piece(2, 0), 66)?;
-    commit(&mut chronicle, 2)?;
+    commit(&rt, &mut chronicle, 2, &two)?;
     assert_eq!(rt;
         chronicle.why(Key::new([1; 16])),
         Cause::NoMatch { count: 2 }

@@ -7,6 +7,7 @@ use Rattle.tape_base.specs.declared.actors.Actor.{Actor}
 use Rattle.tape_base.specs.declared.digests.Digest.{Digest}
 use Rattle.tape_base.specs.declared.geometries.Geometry.{Geometry}
 use Rattle.alternate_vector.specs.Field.{Field}
+use Rattle.alternate_vector.specs.Alternates.{Stored}
 use Rattle.fragment_table.specs.Table.{TableRow, made_row}
 use Rattle.open_directory.specs.declared.kept.Writer.{Writer}
 use Rattle.open_directory.specs.declared.kept.KeptPut.{KeptPut}
@@ -168,11 +169,11 @@ ended_in_step s held new next_put next_reader put writing ends rise is h =
     again q false t =
         ap (λ (o : Option KeptPut). cond (is_number put q) (unless_done o) o) (found_changed (with_phase (phase_of writing)) put q held.puts) ∙ rw t refl
 
-pub closed_in_step : (s : State) (held new : Held) (next_put next_reader put : ℕ) (key : Key) (length : ℕ)
+pub closed_in_step : (s : State) (held new : Held) (next_put next_reader put : ℕ) (key : Key) (length : ℕ) (list : List Stored)
     → RiseWithin 1 next_put held.puts → new ≡ ended_in (phase_of Closed) put held
-    → AreActors s (seen_of held next_put next_reader) → AreActors (state_after s (rec.Committed put key length)) (seen_of new next_put next_reader)
-closed_in_step s held new next_put next_reader put key length rise is h =
-    alike_in_step (record s { puts = change_put put (with_writing Closed) s.puts }) (state_after s (rec.Committed put key length)) (seen_of new next_put next_reader) refl refl refl refl
+    → AreActors s (seen_of held next_put next_reader) → AreActors (state_after s (rec.Committed put key length list)) (seen_of new next_put next_reader)
+closed_in_step s held new next_put next_reader put key length list rise is h =
+    alike_in_step (record s { puts = change_put put (with_writing Closed) s.puts }) (state_after s (rec.Committed put key length list)) (seen_of new next_put next_reader) refl refl refl refl
     (ended_in_step s held new next_put next_reader put Closed (λ p. refl) rise is h)
 
 pub aborted_in_step : (s : State) (held new : Held) (next_put next_reader put : ℕ) (key : Key)

@@ -5,6 +5,7 @@ use Rattle.tape_base.specs.declared.actors.Actor.{Actor}
 use Rattle.tape_base.specs.declared.digests.Digest.{Digest}
 use Rattle.tape_base.specs.declared.geometries.Geometry.{Geometry}
 use Rattle.alternate_vector.specs.Field.{Field}
+use Rattle.alternate_vector.specs.Alternates.{Stored}
 use Rattle.cache_model.specs.declared.cause.Cause.{Cause}
 use Rattle.cache_model.specs.declared.answer.ReadAnswer.TheVariants as read
 use Rattle.cache_model.specs.declared.record.Rec.{Rec}
@@ -70,7 +71,7 @@ CutsNext put length digest old new = (index : ℕ) → KeepUpWith (rec.Cut put i
 
 -- the put is complete
 abbrev pub Commits : ℕ → Seen → Seen → Type 0
-Commits put old new = (key : Key) (length : ℕ) → KeepUpWith (rec.Committed put key length) old new
+Commits put old new = (key : Key) (length : ℕ) (list : List Stored) → KeepUpWith (rec.Committed put key length list) old new
 
 -- the put is given up
 abbrev pub GivesUp : ℕ → Seen → Seen → Type 0

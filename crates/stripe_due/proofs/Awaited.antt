@@ -11,7 +11,7 @@ use Rattle.open_directory.specs.declared.kept.Reader.{Reader}
 use Rattle.open_directory.specs.Directory.{Held, is_number, least_next, min_with, reader_at}
 use Rattle.open_directory.proofs.Followers.{is_number_self, same_number}
 use Rattle.open_directory.proofs.Rising.{absent_below}
-use Rattle.cache_model.specs.State.{State, ReaderRow, reader_of}
+use Rattle.cache_model.specs.State.{State, ReaderRow, most_fragments, reader_of}
 use Rattle.cache_model.specs.Due.{is_awaited, is_due_to}
 use Rattle.stripe_actors.specs.Actors.{AreActors, FallBelow, IsNumbered, IsReaderAs, IsReaderOf, RiseWithin, Seen, reader_numbers}
 use Rattle.stripe_actors.proofs.Numbered.{rises_within}
@@ -172,16 +172,21 @@ none_due : (rows : List ReaderRow) → list_any {X = ReaderRow} (λ r. false) ro
 none_due [] = refl
 none_due (r ∷ rows) = none_due rows
 
-of_fragments : (id : PieceId) (rows : List ReaderRow) → (not (is_vector id) && list_any (row_awaits id.put id.index) rows) ≡ list_any (is_due_to id) rows
+-- where a test holds that asks nothing of the reader
+with_test : (b : Bool) (P : ReaderRow → Bool) (rows : List ReaderRow) → (b && list_any P rows) ≡ list_any (λ (r : ReaderRow). b && P r) rows
+with_test true P rows = refl
+with_test false P rows = sym (none_due rows)
+
+of_fragments : (id : PieceId) (rows : List ReaderRow)
+    → (not (is_vector id) && (nat_le id.index most_fragments && list_any (row_awaits id.put id.index) rows)) ≡ list_any (is_due_to id) rows
 of_fragments id rows =
-    elim (not (is_vector id)) as (λ b. (b && list_any (row_awaits id.put id.index) rows) ≡ list_any (λ (r : ReaderRow). b && row_awaits id.put id.index r) rows) [
-      | true ↦ refl
-      | false ↦ sym (none_due rows)
-    ]
+    ap (λ b. not (is_vector id) && b) (with_test (nat_le id.index most_fragments) (row_awaits id.put id.index) rows)
+    ∙ with_test (not (is_vector id)) (λ (r : ReaderRow). nat_le id.index most_fragments && row_awaits id.put id.index r) rows
 
 pub awaited_is : (s : State) (a : Seen) (held : Held) (id : PieceId) → IsNumbered a → AreActors s a → held ≡ a.held
     → is_left id (least_next id.put (values_of held.readers)) ≡ is_awaited s id
 awaited_is s a held id numbered h same =
     ap (λ (seen : Held). is_left id (least_next id.put (values_of seen.readers))) same
-    ∙ (ap (λ b. not (is_vector id) && b) (within_fold id.put id.index (values_of a.held.readers) None ∙ same_readers id.put id.index s a numbered h)
+    ∙ (ap (λ b. not (is_vector id) && (nat_le id.index most_fragments && b))
+    (within_fold id.put id.index (values_of a.held.readers) None ∙ same_readers id.put id.index s a numbered h)
     ∙ of_fragments id s.readers)

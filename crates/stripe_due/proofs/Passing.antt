@@ -1,18 +1,17 @@
 -- One place of the walk, and its ends.
-use Rattle.std.proofs.Common.{◌≡◌, ℕ, ◌+◌, ◌-◌, ◌^◌, ◌<◌, ◌≤◌, inl, inr, min, true, false, List, [], ◌∷◌, ◌++◌, Option, Some, None, refl, sym, ap, ◌∙◌, arith, append_assoc, append-nil}
+use Rattle.std.proofs.Common.{◌≡◌, ℕ, ◌+◌, ◌<◌, ◌≤◌, true, false, List, [], ◌∷◌, ◌++◌, Option, Some, None, refl, sym, ap, ◌∙◌, arith, append_assoc, append-nil}
 use Rattle.std.specs.Prelude.{Bool, ◌&&◌, ◌||◌, ◌==◌, nat_le, nat_lt, if◌then◌else◌, map, filter, option_and_then, option_map}
-use Rattle.std.specs.List.{AllByRecursion}
 use Rattle.std.specs.Map.{lookup}
-use Rattle.std.proofs.lemmas.Bool.{cases_lt, eqb-true}
+use Rattle.std.proofs.lemmas.Bool.{eqb-true}
 use Rattle.std.proofs.lemmas.Bool.Decides.{nat_tests}
 use Rattle.tape_base.specs.declared.pieces.PieceId.{PieceId}
 use Rattle.evacuator.specs.declared.choosing.Candidate.{Candidate}
-use Rattle.cache_model.specs.State.{State, Row, floor_next, floor_now, is_live, live_row_of, only_live, place_now, row_of}
+use Rattle.cache_model.specs.State.{State, Row, floor_next, floor_now, is_live, live_row_of, only_live, row_of}
 use Rattle.cache_model.specs.Verdict.{if_at, if_still_at, piece_at}
-use Rattle.cache_model.specs.Tape.{AreRising, IsSound}
+use Rattle.cache_model.specs.Tape.{IsSound}
 use Rattle.cache_model.specs.Due.{is_awaited, is_due, rows_from}
 use Rattle.cache_model.proofs.Found.{none_is, same_some}
-use Rattle.cache_model.proofs.Lists.{found_row, own_piece}
+use Rattle.cache_model.proofs.Lists.{own_piece}
 use Rattle.cache_model.proofs.Walks.{due_are_found, walk_finds, walk_goes_on}
 use Rattle.stripe_due.specs.Finding.{candidate_of, candidates_of}
 use Rattle.stripe_due.specs.Walk.{candidates_from, pinned, row_at}

@@ -3,7 +3,7 @@ use Rattle.std.specs.Prelude.{ℕ, ◌&&◌, Bool, false, not, nat_le, List, map
 use Rattle.tape_base.specs.declared.pieces.PieceId.{PieceId}
 use Rattle.tape_base.specs.Piece.{is_vector}
 use Rattle.evacuator.specs.declared.choosing.Candidate.{Candidate}
-use Rattle.cache_model.specs.State.{Row, State, live_row_of}
+use Rattle.cache_model.specs.State.{Row, State, live_row_of, most_fragments}
 use Rattle.cache_model.specs.Verdict.{piece_at}
 use Rattle.cache_model.specs.Due.{is_due, rows_from}
 use Rattle.stripe_due.specs.Finding.{candidate_of}
@@ -25,6 +25,7 @@ abbrev pub is_within : ℕ → Option ℕ → Bool
 is_within index None = false
 is_within index (Some next) = nat_le next index
 
--- a fragment is left to the reader that takes the least index next; a vector to none
+-- a fragment is left to the reader that takes the least index next; a vector to none, and no piece of an index above
+-- those of fragments
 abbrev pub is_left : PieceId → Option ℕ → Bool
-is_left id least = not (is_vector id) && is_within id.index least
+is_left id least = not (is_vector id) && (nat_le id.index most_fragments && is_within id.index least)

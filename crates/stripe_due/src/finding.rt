@@ -13,6 +13,10 @@ use evacuator::Candidate;
 use stripe_actors::Actors;
 use tape_base::PieceId;
 
+// How many fragments a put may have. An opening may find a piece of a higher index, which is due to
+// no reader.
+const MOST_FRAGMENTS: u32 = 4096;
+
 /// Brings to `into` the live pieces from `floor` on, up to the next floor `next`, that are pinned past
 /// `now` or that an open reader has still to be given, in rising place.
 pub fn find_due<C: Chronicle>(
@@ -103,12 +107,13 @@ pub(crate) fn is_awaited(actors: &Actors, id: PieceId) -> bool
     is_left(id, actors.open_directory().readers_of(id.put))
 }
 
-// The piece is a fragment, and the least index that a reader takes next does not stand behind it.
+// The piece is a fragment, of an index that a put may have, and the least index that a reader takes
+// next does not stand behind it.
 fn is_left(id: PieceId, least: Option<u32>) -> bool
     ensures { result ≡ is_left id least }
 {
     match least {
-        Some(next) => id.index != 0 && next <= id.index,
+        Some(next) => id.index != 0 && id.index <= MOST_FRAGMENTS && next <= id.index,
         None => false,
     }
 }

@@ -1,4 +1,4 @@
-use Rattle.std.proofs.Common.{◌-◌, drop, subst, sym, arith}
+use Rattle.std.proofs.Common.{drop, subst, sym, arith}
 use Rattle.std.specs.Prelude.{map}
 use Rattle.cache_model.specs.State.{row_of_found}
 use Rattle.cache_chronicle.specs.Tables.{HasRows}

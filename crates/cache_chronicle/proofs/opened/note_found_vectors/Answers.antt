@@ -1,4 +1,4 @@
-use Rattle.std.proofs.Common.{◌-◌, drop, subst, sym, arith}
+use Rattle.std.proofs.Common.{drop, subst, sym, arith}
 use Rattle.std.specs.List.{flat_map}
 use Rattle.cache_model.specs.State.{vector_of_found}
 use Rattle.cache_chronicle.specs.Tables.{HasVectors}

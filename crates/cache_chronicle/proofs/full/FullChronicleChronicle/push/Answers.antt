@@ -3,7 +3,6 @@ use Rattle.cache_model.specs.declared.record.Rec.{Rec}
 use Rattle.cache_model.specs.State.{State, nothing_yet, after_all, state_after}
 use Rattle.cache_model.proofs.Steps.{after_all-append}
 use Rattle.cache_chronicle.specs.Indexed.{HasTables}
-use Rattle.cache_chronicle.specs.Listings.{HasLists}
 use Rattle.cache_chronicle.proofs.full.FullChronicleChronicle.push.Goals as goal
 
 pub invariant_of-self : goal.invariant_of-self
@@ -11,11 +10,8 @@ invariant_of-self c =
     let before : List Rec = c.self.inside.records.items in
     let s : State = after_all nothing_yet before in
     let behind : after_all nothing_yet (before ++ c.args.rec ∷ []) ≡ state_after s c.args.rec = after_all-append nothing_yet before (c.args.rec ∷ []) in
-    let listed = rw c.deref.ensures.value at c.note.ensures.has in
     let items : c.push_reserved.new.self.items ≡ before ++ c.args.rec ∷ [] = c.push_reserved.ensures.items in
     record {
-      tables = subst (λ (recs : List Rec). HasTables c.note-2.new.self (after_all nothing_yet recs)) (sym items)
-          (subst (HasTables c.note-2.new.self) (sym behind) (c.note-2.ensures.has s c.self.invariant.tables));
-      lists = subst (λ (recs : List Rec). HasLists c.note.new.self recs (after_all nothing_yet recs)) (sym items)
-          (subst (HasLists c.note.new.self (before ++ c.args.rec ∷ [])) (sym behind) (listed s c.self.invariant.tables c.self.invariant.lists));
+      tables = subst (λ (recs : List Rec). HasTables c.note.new.self (after_all nothing_yet recs)) (sym items)
+          (subst (HasTables c.note.new.self) (sym behind) (c.note.ensures.has s c.self.invariant.tables));
     }

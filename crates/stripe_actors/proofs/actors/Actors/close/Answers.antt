@@ -11,7 +11,7 @@ invariant_of-self c =
     ended_numbered c.self.inside.open c.close.new.self c.self.inside.next_put c.self.inside.next_reader c.args.put (phase_of Closed) is c.self.invariant
 
 pub returns-clause-commits : goal.returns-clause-commits
-returns-clause-commits c key length s h =
+returns-clause-commits c key length list s h =
     let is = rw c.unwrap.ensures at c.close.ensures.ok in
-    closed_in_step s c.self.inside.open c.close.new.self c.self.inside.next_put c.self.inside.next_reader c.args.put key length c.self.invariant.puts is
+    closed_in_step s c.self.inside.open c.close.new.self c.self.inside.next_put c.self.inside.next_reader c.args.put key length list c.self.invariant.puts is
     (subst (λ (a : Seen). AreActors s a) (sym c.self.view_is) h)
