@@ -52,10 +52,10 @@ effects_then a b c xs ys first next = record {
 -- ---- each has its record
 
 with_none : (k : Kept) → k ≡ with_records k []
-with_none k = ap (λ recs. let l : Kept = record { base = k.base; since = recs } in l) (sym (append-nil k.since))
+with_none k = ap (λ recs. let l : Kept = record { told = k.told; base = k.base; since = recs } in l) (sym (append-nil k.since))
 
 with_more : (k : Kept) (xs ys : List Rec) → with_records (with_records k xs) ys ≡ with_records k (xs ++ ys)
-with_more k xs ys = ap (λ recs. let l : Kept = record { base = k.base; since = recs } in l) (append_assoc k.since xs ys)
+with_more k xs ys = ap (λ recs. let l : Kept = record { told = k.told; base = k.base; since = recs } in l) (append_assoc k.since xs ys)
 
 pub accounted_quiet : (a b : List Call) (k l : Kept) (recs : List Rec) → b ≡ a → l ≡ with_records k recs → effects_told recs ≡ [] → IsAccounted a b k l
 accounted_quiet a b k l recs same is none = record { added = recs; adds = is; faults = subst (HasEffects a b) (sym none) (effects_none a b same) }

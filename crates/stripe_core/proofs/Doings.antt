@@ -6,12 +6,13 @@ use Rattle.tape_base.specs.declared.keys.Key.{Key}
 use Rattle.tape_base.specs.declared.pieces.PieceId.{PieceId}
 use Rattle.fragment_table.specs.Table.{total_length}
 use Rattle.alternate_vector.specs.Field.{Field, AreFields}
+use Rattle.alternate_vector.specs.Alternates.{Stored}
 use Rattle.cyclone.specs.Cyclone.{Seen}
 use Rattle.cache_model.specs.declared.answer.NextAnswer.{NextAnswer}
 use Rattle.cache_model.specs.declared.answer.NextAnswer.TheVariants as next
 use Rattle.cache_model.specs.declared.record.Rec.{Rec}
 use Rattle.cache_model.specs.declared.record.Rec.TheVariants as rec
-use Rattle.cache_model.specs.State.{Row, State, live_row_of, row_in, state_after, vector_piece}
+use Rattle.cache_model.specs.State.{Row, State, list_of_piece, live_row_of, row_in, state_after, vector_piece}
 use Rattle.cache_model.specs.Verdict.{cuts_of, live_vector_of, vector_of}
 use Rattle.cache_model.specs.Kept.{Kept, state_of, with_records}
 use Rattle.cache_model.specs.Permit.{Commit, Done, Exhausted, Fails, GiveUp, ManyWriters, Permit, Remove, Write}
@@ -98,10 +99,13 @@ gives_up p s put key g =
     DoesGiveUp.aborts g.w g.writing
     (ap (λ n. rec.Aborted n key ∷ []) (sym (number_of s put g.w g.writing.found)) ∙ ap (λ k. rec.Aborted g.w.put k ∷ []) (sym g.key_is))
 
-pub commits : (p : Permit) (s : State) (put : ℕ) (key : Key) → IsCommitting s put key → Does p s (Commit put) (committed_record s put key ∷ []) Done
-commits p s put key g =
+pub commits : (p : Permit) (s : State) (put : ℕ) (key : Key) (list : List Stored) → IsCommitting s put key → list ≡ list_of_piece s (vector_piece key put)
+    → Does p s (Commit put) (committed_record s put key list ∷ []) Done
+commits p s put key list g lists =
     DoesCommit.commits g.w g.found g.is_open g.pending
-    (ap (λ k. rec.Committed put k (total_length (cuts_of s put)) ∷ []) (sym g.key_is) ∙ ap (λ cuts. rec.Committed put g.w.key (total_length cuts) ∷ []) (cuts_found s put g.w g.found))
+    (ap (λ k. rec.Committed put k (total_length (cuts_of s put)) list ∷ []) (sym g.key_is)
+    ∙ (ap (λ cuts. rec.Committed put g.w.key (total_length cuts) list ∷ []) (cuts_found s put g.w g.found)
+    ∙ ap (λ l. rec.Committed put g.w.key (total_length g.w.cuts) l ∷ []) (lists ∙ ap (λ k. list_of_piece s (vector_piece k put)) (sym g.key_is))))
 
 some_row : (o : Option Row) → IsSome o → (row : Row) × (o ≡ Some row)
 some_row (Some row) h = (row, refl)

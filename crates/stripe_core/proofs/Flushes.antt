@@ -28,10 +28,10 @@ state_of-with_records k recs = after_all-append k.base k.since recs
 
 -- some, and others behind them
 pub with_records-append : (k : Kept) (a b : List Rec) → with_records (with_records k a) b ≡ with_records k (a ++ b)
-with_records-append k a b = ap (λ recs. record { base = k.base; since = recs }) (append_assoc k.since a b)
+with_records-append k a b = ap (λ recs. record { told = k.told; base = k.base; since = recs }) (append_assoc k.since a b)
 
 pub with_records-nil : (k : Kept) → with_records k [] ≡ k
-with_records-nil k = ap (λ recs. record { base = k.base; since = recs }) (append-nil k.since)
+with_records-nil k = ap (λ recs. record { told = k.told; base = k.base; since = recs }) (append-nil k.since)
 
 -- ---- what it may add
 

@@ -19,6 +19,7 @@ use Rattle.cache_model.specs.State.{PutRow, Row, State, list_of_put, moved_row, 
 use Rattle.cache_model.specs.Kept.{Kept, state_of, with_records}
 use Rattle.cache_model.specs.Permit.{End, Exhausted, Fails, Finish, Fragment, Intent, Permit, Stays, work_after}
 use Rattle.cache_model.specs.Room.{greatest_pin, MayDisplace, has_room, is_full_for, limit, placed_record}
+use Rattle.cache_model.specs.Syncing.{must_unmark}
 use Rattle.cache_model.specs.Legal.{AreLiveTo, Does, DoesFinish, DoesFragment, vector_length, vector_payload, MakesRoom, MayGrow, next_fragment_of}
 use Rattle.cache_model.proofs.Lists.{row_in-copied, row_in-without}
 use Rattle.cache_model.proofs.Found.{cuts_found}
@@ -34,7 +35,7 @@ use Rattle.stripe_core.proofs.Flushes.{state_of-with_records, with_records-appen
 use Rattle.cache_model.specs.Given.{effects_told}
 use Rattle.stripe_core.specs.Faults.{HasEffects}
 use Rattle.stripe_core.proofs.Between.{told_append}
-use Rattle.stripe_core.proofs.Covering.{own_covers, own_permit}
+use Rattle.stripe_core.proofs.Covering.{never_syncs, own_covers, own_permit}
 use Rattle.stripe_core.proofs.Naming.{SamePuts, same_puts}
 
 -- ---- groups one behind the other
@@ -59,6 +60,11 @@ displaces_nothing p s piece plain = record {
   is = refl;
 }
 
+-- ---- no mark is taken back
+
+pub never_unmarks : (p : Permit) (s : State) → p.syncs ≡ false → must_unmark p s ≡ false
+never_unmarks p s off = ap (λ b. b && s.marked) off
+
 -- ---- a fragment that has room
 
 pub no_vector : (n index : ℕ) → index ≡ n + 1 → (index == 0) ≡ false
@@ -77,20 +83,21 @@ fragment_is s id pin start payload f =
     ∙ (ap (λ n. rec.Cut id.put id.index (length payload) (digest_of payload) ∷ placed_record s (next_fragment_of f.w) n start (length payload) payload ∷ []) f.pin_is
     ∙ ap (λ n. rec.Cut id.put id.index (length payload) (digest_of payload) ∷ placed_record s (next_fragment_of f.w) f.w.pin n (length payload) payload ∷ []) f.start_is))
 
-pub fragment_group : (p : Permit) (s : State) (id : PieceId) (pin start : ℕ) (payload : List ℕ) (result : Result Placed Stop) → p.packed ≡ false
+pub fragment_group : (p : Permit) (s : State) (id : PieceId) (pin start : ℕ) (payload : List ℕ) (result : Result Placed Stop) → p.packed ≡ false → p.syncs ≡ false
     → IsFragmentOf s id pin start payload → blocks_of (length payload) ≤ budget_of s.geometry → has_room s (length payload) ≡ true → PlacesAt s payload result
     → Does p s (Fragment id.put id.index payload) (place_adds s id pin start payload result) (place_end result)
-fragment_group p s id pin start payload (Ok placed) plain f small room at = DoesFragment.places refl (record {
+fragment_group p s id pin start payload (Ok placed) plain off f small room at = DoesFragment.places refl (record {
   w = f.w;
   displaced = [];
   cut = f.next;
+  unmarked = never_unmarks p s off;
   place = record { small = small; room = room; below = at.2 };
   displaces = displaces_nothing p s (next_fragment_of f.w) plain;
   is = fragment_is s id pin start payload f;
 })
-fragment_group p s id pin start payload (Err (stop.Exhausted number)) plain f small room at =
+fragment_group p s id pin start payload (Err (stop.Exhausted number)) plain off f small room at =
     DoesFragment.exhausted f.w refl f.next (record { room = room; above = omega (arith, at.0, at.1); is = refl })
-fragment_group p s id pin start payload (Err (stop.DeviceFault count)) plain f small room at = absurd at
+fragment_group p s id pin start payload (Err (stop.DeviceFault count)) plain off f small room at = absurd at
 
 -- ---- the same behind a flush
 
@@ -182,19 +189,19 @@ module _ (now : ℕ) (old mid : Kept) (before : List Call) (device : Device) (id
       subst (λ b. MatchBool b (r.added ≡ []) (MakesRoom (own_permit now before device.past) s (length payload) r.added Stays)) h
       (r.does (own_permit now before device.past) refl (own_covers now before device.past))
 
-  by_room : (p : Permit) (result : Result Placed Stop) → p.packed ≡ false → RoomIsMade p s (length payload) r.added (Ok u) → IsFragmentOf s id pin start payload → blocks_of (length payload) ≤ budget_of s.geometry
+  by_room : (p : Permit) (result : Result Placed Stop) → p.packed ≡ false → p.syncs ≡ false → RoomIsMade p s (length payload) r.added (Ok u) → IsFragmentOf s id pin start payload → blocks_of (length payload) ≤ budget_of s.geometry
       → has_room t (length payload) ≡ true → PlacesAt t payload result → (b : Bool) → has_room s (length payload) ≡ b
       → Spends p s (Fragment id.put id.index payload) (r.added ++ place_adds t id pin start payload result) (place_end result)
-  by_room p result plain made f small room at true h =
+  by_room p result plain off made f small room at true h =
       let none : r.added ≡ [] = none_added h in
       let same : t ≡ s = ap (after_all s) none in
       subst (λ xs. Spends p s (Fragment id.put id.index payload) (xs ++ place_adds (after_all s xs) id pin start payload result) (place_end result)) (sym none)
-      (one_group p s _ _ _ (fragment_group p s id pin start payload result plain f small h (subst (λ x. PlacesAt x payload result) same at)))
-  by_room p result plain made f small room at false h =
+      (one_group p s _ _ _ (fragment_group p s id pin start payload result plain off f small h (subst (λ x. PlacesAt x payload result) same at)))
+  by_room p result plain off made f small room at false h =
       let makes : MakesRoom p s (length payload) r.added Stays = subst (λ b. MatchBool b (r.added ≡ []) (MakesRoom p s (length payload) r.added Stays)) h made in
       let same : SamePuts s t = same_puts s r.added r.kinds in
       two_groups p s _ _ _ _ (DoesFragment.rooms f.w f.next makes)
-      (fragment_group p t id pin start payload result plain (later_fragment s t id pin start payload same f) (rw same.geometry small) room at)
+      (fragment_group p t id pin start payload result plain off (later_fragment s t id pin start payload same f) (rw same.geometry small) room at)
 
   shape_by : (faults : ℕ) (result : Result Placed Stop) → has_room t (length payload) ≡ true → PlacesAt t payload result
       → IsFragmentAs s faults id pin start payload (r.added ++ place_adds t id pin start payload result) result
@@ -232,22 +239,23 @@ module _ (now : ℕ) (old mid : Kept) (before : List Call) (device : Device) (id
         unharmed = λ told. all_append (λ r. tells_damage r ≡ false) r.added _ (r.unharmed (subst TellsAll still told)) (no_damage_adds t id pin start payload result);
         faults = subst (λ (d : Device). HasEffects before d.past (effects_told (r.added ++ place_adds t id pin start payload result))) (sym still) (subst (HasEffects before device.past) (sym (quiet_adds r.added (place_adds t id pin start payload result) (place_quiet t id pin start payload result))) r.faults);
         does = λ p moment covers.
-            by_room p result covers.plain (r.does p moment (subst (λ (d : Device). Covers p before d.past) still covers)) f small here there (has_room s (length payload)) refl;
+            by_room p result covers.plain covers.unsynced (r.does p moment (subst (λ (d : Device). Covers p before d.past) still covers)) f small here there (has_room s (length payload)) refl;
       }
 
 -- ---- no room could be made
 
-made_exhausted : (p : Permit) (s : State) (bytes : ℕ) (added : List Rec) → MakesRoom p s bytes added (Fails Exhausted) → added ≡ []
-made_exhausted p s bytes added (MakesRoom.exhausted h above is) = is
+made_exhausted : (p : Permit) (s : State) (bytes : ℕ) (added : List Rec) → p.syncs ≡ false → MakesRoom p s bytes added (Fails Exhausted) → added ≡ []
+made_exhausted p s bytes added off (MakesRoom.exhausted h above is) = is
+made_exhausted p s bytes added off (MakesRoom.syncs f h sync behind) = absurd (never_syncs off sync)
 
 -- nothing is added where the tape has an end
 abbrev MakesNone : List Rec → Stop → Type 0
 MakesNone added (stop.DeviceFault count) = Unit {0}
 MakesNone added (stop.Exhausted number) = added ≡ []
 
-none_by : (p : Permit) (s : State) (bytes : ℕ) (added : List Rec) (why : Stop) → MakesRoom p s bytes added (stop_end why) → MakesNone added why
-none_by p s bytes added (stop.DeviceFault count) m = tt
-none_by p s bytes added (stop.Exhausted number) m = made_exhausted p s bytes added m
+none_by : (p : Permit) (s : State) (bytes : ℕ) (added : List Rec) (why : Stop) → p.syncs ≡ false → MakesRoom p s bytes added (stop_end why) → MakesNone added why
+none_by p s bytes added (stop.DeviceFault count) off m = tt
+none_by p s bytes added (stop.Exhausted number) off m = made_exhausted p s bytes added off m
 
 stopped_by : (s : State) (faults bytes : ℕ) (added : List Rec) (why : Stop) → has_room s bytes ≡ false → StopsWith s faults why → MakesNone added why → StopsBehind s (after_all s added) faults bytes why
 stopped_by s faults bytes added (stop.DeviceFault count) full stops none = (stops, full)
@@ -268,7 +276,7 @@ cuts_stop now old new before after id pin start payload why f full stops r =
       shape = record {
         kinds = r.kinds;
         live = subst (LiveBefore s) state r.live;
-        why_is = stopped_by s after.faults (length payload) r.added why full stops (none_by own s (length payload) r.added why (r.does own refl (own_covers now before after.past)));
+        why_is = stopped_by s after.faults (length payload) r.added why full stops (none_by own s (length payload) r.added why refl (r.does own refl (own_covers now before after.past)));
       };
       unharmed = r.unharmed;
       faults = r.faults;
@@ -291,15 +299,16 @@ vector_is s id pin start payload v kind =
     ∙ (ap (λ n. placed_record s (vector_piece v.w.key id.put) (greatest_pin (list_of_put s id.put)) 0 n payload ∷ []) v.length_is
     ∙ ap (λ p. placed_record s (vector_piece v.w.key id.put) (greatest_pin (list_of_put s id.put)) 0 (vector_length s id.put) p ∷ []) v.payload_is))))
 
-pub vector_group : (p : Permit) (s : State) (id : PieceId) (pin start : ℕ) (payload : List ℕ) (result : Result Placed Stop) → p.packed ≡ false
+pub vector_group : (p : Permit) (s : State) (id : PieceId) (pin start : ℕ) (payload : List ℕ) (result : Result Placed Stop) → p.packed ≡ false → p.syncs ≡ false
     → IsVectorOf s id pin start payload → is_vector id ≡ true → blocks_of (length payload) ≤ budget_of s.geometry → PlacesAt s payload result
     → Does p s (Finish id.put (length (cuts_of s id.put))) (place_adds s id pin start payload result) (place_end result)
-vector_group p s id pin start payload (Ok placed) plain v kind small at =
+vector_group p s id pin start payload (Ok placed) plain off v kind small at =
     let count : length (cuts_of s id.put) ≡ length v.w.cuts = vector_cuts s id.put v.w v.cut.writing.found in
     DoesFinish.places refl (record {
       w = v.w;
       displaced = [];
       cut = record { writing = v.cut.writing; count = sym count; alone = v.cut.alone };
+      unmarked = never_unmarks p s off;
       whole = subst (AreLiveTo s v.w) (sym count) v.whole;
       place = record {
         small = subst (λ n. blocks_of n ≤ budget_of s.geometry) v.length_is small;
@@ -309,8 +318,8 @@ vector_group p s id pin start payload (Ok placed) plain v kind small at =
       displaces = displaces_nothing p s (vector_piece v.w.key id.put) plain;
       is = vector_is s id pin start payload v kind;
     })
-vector_group p s id pin start payload (Err (stop.Exhausted number)) plain v kind small at =
+vector_group p s id pin start payload (Err (stop.Exhausted number)) plain off v kind small at =
     let count : length (cuts_of s id.put) ≡ length v.w.cuts = vector_cuts s id.put v.w v.cut.writing.found in
     DoesFinish.exhausted v.w refl (record { writing = v.cut.writing; count = sym count; alone = v.cut.alone }) (subst (AreLiveTo s v.w) (sym count) v.whole)
     (record { room = subst (λ n. has_room s n ≡ true) v.length_is v.room; above = subst (λ n. limit ≤ place_now s + blocks_of n) v.length_is (omega (arith, at.0, at.1)); is = refl })
-vector_group p s id pin start payload (Err (stop.DeviceFault count)) plain v kind small at = absurd at
+vector_group p s id pin start payload (Err (stop.DeviceFault count)) plain off v kind small at = absurd at

@@ -290,6 +290,7 @@ flush_asked now old new before mid after a flushed sound able looks taken is =
       faults = subst (HasEffects before.past after.past) (sym (flush_counts now s before mid a sound looks))
           (effects_then before.past mid.past after.past (effects_among looks.outcomes) (Took ∷ []) looks.faults one);
       does = λ p moment covers. Legal.DoesFlush.flushes (record {
+        unsynced = covers.unsynced;
         outcomes = looks.outcomes;
         can = able;
         takes = record {
@@ -346,6 +347,7 @@ stop_asked now old new before mid after a sound able low first looks left rose i
       faults = subst (HasEffects before.past after.past) (sym (stopped_counts now s before mid a sound looks count))
           (effects_then before.past mid.past after.past (effects_among looks.outcomes) (Denied count ∷ []) looks.faults one);
       does = λ p moment covers. Legal.DoesFlush.stops count (record {
+        unsynced = covers.unsynced;
         outcomes = looks.outcomes;
         can = able;
         are = subst (λ n. AreOutcomes p s (budget_of s.geometry) (due_pieces s n) looks.outcomes) (sym moment)

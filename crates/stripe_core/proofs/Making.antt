@@ -57,10 +57,12 @@ done_makes p s bytes added none small (DoesFlush.empty quiet nothing is) =
     let above : s.geometry.agg < s.filled + blocks_of bytes = leb-false (s.filled + blocks_of bytes) s.geometry.agg none in
     absurd (omega (arith, above, small, nothing))
 done_makes p s bytes added none small (DoesFlush.flushes m) = MakesRoom.flushes none m
+done_makes p s bytes added none small (DoesFlush.syncs sync) = MakesRoom.syncs Done none sync refl
 
 fails_makes : (p : Permit) (s : State) (bytes : ℕ) (added : List Rec) (why : Reason) → has_room s bytes ≡ false → DoesFlush p s added (Fails why) → MakesRoom p s bytes added (Fails why)
 fails_makes p s bytes added why none (DoesFlush.stops count m) = MakesRoom.stops count none m
 fails_makes p s bytes added why none (DoesFlush.exhausted quiet some above is) = MakesRoom.exhausted none above is
+fails_makes p s bytes added why none (DoesFlush.syncs sync) = MakesRoom.syncs (Fails why) none sync refl
 
 stop_makes : (p : Permit) (s : State) (bytes : ℕ) (added : List Rec) (why : Stop) → has_room s bytes ≡ false → DoesFlush p s added (stop_end why) → MakesRoom p s bytes added (stop_end why)
 stop_makes p s bytes added (stop.DeviceFault count) none does = fails_makes p s bytes added _ none does

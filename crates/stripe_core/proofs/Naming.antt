@@ -14,6 +14,7 @@ use Rattle.tape_base.specs.Piece.{is_vector, same_piece}
 use Rattle.tape_base.proofs.NameLaws.{same_piece-true}
 use Rattle.fragment_table.specs.Table.{TableRow, made_row}
 use Rattle.alternate_vector.specs.Field.{Field}
+use Rattle.alternate_vector.specs.Alternates.{Stored}
 use Rattle.alternate_vector.proofs.Loops.{each_push}
 use Rattle.cache_model.specs.declared.answer.NextAnswer.{NextAnswer}
 use Rattle.cache_model.specs.declared.answer.NextAnswer.TheVariants as next
@@ -21,7 +22,7 @@ use Rattle.cache_model.specs.declared.cause.Cause.{Cause}
 use Rattle.cache_model.specs.declared.cause.Cause.TheVariants as cause
 use Rattle.cache_model.specs.declared.record.Rec.{Rec}
 use Rattle.cache_model.specs.declared.record.Rec.TheVariants as rec
-use Rattle.cache_model.specs.State.{Closed, Complete, GivenUp, LastVector, Open, PutRow, Row, State, TakenOut, Writing, after_all, change_put, last_vector, live_row_of, moved_row, opened_put, placed_row, put_of, row_in, row_of, state_after, vector_piece, with_cut, with_writing, without, without_earlier}
+use Rattle.cache_model.specs.State.{Closed, Complete, GivenUp, LastVector, Open, PutRow, Row, State, TakenOut, Writing, after_all, change_put, last_vector, live_row_of, most_fragments, moved_row, opened_put, placed_row, put_of, row_in, row_of, state_after, vector_piece, with_cut, with_writing, without, without_earlier}
 use Rattle.cache_model.specs.Kept.{Kept, state_of, with_records}
 use Rattle.cache_model.specs.Legal.{answer_record}
 use Rattle.cache_model.proofs.Steps.{all_as}
@@ -46,7 +47,7 @@ leaves_names (rec.Opened geometry serial cursor floor next_put clean list) = fal
 leaves_names (rec.Placed piece place blocks digest pin) = false
 leaves_names (rec.WriteOpened actor put key request response pin) = false
 leaves_names (rec.Cut put index length digest) = false
-leaves_names (rec.Committed put key length) = false
+leaves_names (rec.Committed put key length list) = false
 leaves_names (rec.Aborted put key) = false
 leaves_names _ = true
 
@@ -118,10 +119,9 @@ found_later put q row puts is below = by (row.put == q) refl
 pub named_opened : (s : State) (who : Actor) (key : Key) (request response : List Field) (pin : ℕ) → IsNamed s → IsNamed (state_after s (rec.WriteOpened who s.next_put key request response pin))
 named_opened s who key request response pin h =
     all_as (IsOwn s) (IsOwn (state_after s (rec.WriteOpened who s.next_put key request response pin)))
-    (λ row own. let begun : row.id.put < s.next_put = own.begun in
-    record {
-      begun = omega (arith, begun);
-      own = rw (found_later s.next_put row.id.put (opened_put who.0 s.next_put key request response pin) s.puts refl begun) own.own;
+    (λ row own. record {
+      begun = λ few. let begun : row.id.put < s.next_put = own.begun few in omega (arith, begun);
+      own = λ few. rw (found_later s.next_put row.id.put (opened_put who.0 s.next_put key request response pin) s.puts refl (own.begun few)) (own.own few);
     }) s.rows h
 
 -- ---- a put that changes
@@ -140,8 +140,8 @@ named_changed s put f pending rows keeps here there all =
     all_as (IsOwn s) (IsOwn (record s { puts = change_put put f s.puts; pending = pending }))
     (λ row own. record {
       begun = own.begun;
-      own = rw (find-changed (λ (p : PutRow). p.put) f keeps put row.id.put s.puts)
-          (own_changed f (put == row.id.put) (put_of s row.id.put) s.pending pending row.id (λ b x. here (put_of s row.id.put) row.id x) (λ b x. there (put_of s row.id.put) row b x) own.own);
+      own = λ few. rw (find-changed (λ (p : PutRow). p.put) f keeps put row.id.put s.puts)
+          (own_changed f (put == row.id.put) (put_of s row.id.put) s.pending pending row.id (λ b x. here (put_of s row.id.put) row.id x) (λ b x. there (put_of s row.id.put) row b x) (own.own few));
     }) rows all
 
 longer : (row : TableRow) (pending : Option PieceId) (x : Option PutRow) (id : PieceId) → IsOwnOf x pending id → IsOwnOf (option_map (with_cut row) x) pending id
@@ -194,9 +194,9 @@ earlier_left P key put (Some (Complete old)) rows all = by (old == put)
     by false = all_left P (vector_piece key old) rows all
 
 -- a put is complete
-pub named_committed : (s : State) (put length : ℕ) (key : Key) → s.pending ≡ Some (vector_piece key put) → IsNamed s → IsNamed (state_after s (rec.Committed put key length))
-named_committed s put length key is h =
-    all_as (IsOwn (record s { puts = change_put put (with_writing Closed) s.puts; pending = None })) (IsOwn (state_after s (rec.Committed put key length))) (λ row own. record { begun = own.begun; own = own.own })
+pub named_committed : (s : State) (put length : ℕ) (key : Key) (list : List Stored) → s.pending ≡ Some (vector_piece key put) → IsNamed s → IsNamed (state_after s (rec.Committed put key length list))
+named_committed s put length key list is h =
+    all_as (IsOwn (record s { puts = change_put put (with_writing Closed) s.puts; pending = None })) (IsOwn (state_after s (rec.Committed put key length list))) (λ row own. record { begun = own.begun; own = own.own })
     (without_earlier key put (last_vector s key) s.rows)
     (named_changed s put (with_writing Closed) None (without_earlier key put (last_vector s key) s.rows) (λ w. refl) (ended Closed (λ e. cc) s.pending None) (λ x row e own. other_vector s.pending key put x row.id is e own)
     (earlier_left (IsOwn s) key put (last_vector s key) s.rows h))
@@ -215,10 +215,10 @@ pub named_placed : (s : State) (id : PieceId) (place blocks pin : ℕ) (digest :
 named_placed s id place blocks pin digest w h quiet begun found cut =
     let t : State = state_after s (rec.Placed id place blocks digest pin) in
     each_push (IsOwn t) (without id s.rows) (placed_row s id place blocks digest pin)
-    (all_as (IsOwn s) (IsOwn t) (λ row own. record { begun = own.begun; own = none_pending s.pending t.pending (put_of s row.id.put) row.id quiet own.own }) (without id s.rows) (all_left (IsOwn s) id s.rows h))
+    (all_as (IsOwn s) (IsOwn t) (λ row own. record { begun = own.begun; own = λ few. none_pending s.pending t.pending (put_of s row.id.put) row.id quiet (own.own few) }) (without id s.rows) (all_left (IsOwn s) id s.rows h))
     (record {
-      begun = begun;
-      own = rw found (λ o. record { cut = cut; vector = λ v. rw v refl });
+      begun = λ few. begun;
+      own = λ few. rw found (λ o. record { cut = cut; vector = λ v. rw v refl });
     })
 
 -- ---- what is not there
@@ -231,9 +231,10 @@ none_in : (id : PieceId) (rows : List Row) → AllByRecursion (λ (row : Row). r
 none_in id [] all = refl
 none_in id (row ∷ rows) all = none_by id row (row_in rows id) (same_piece row.id id) refl all.0 (none_in id rows all.1)
 
-own_of : (s : State) (id : PieceId) (w : PutRow) (row : Row) → put_of s id.put ≡ Some w → w.writing ≡ Open → row.id ≡ id → IsOwn s row → IsPieceOf w s.pending id
-own_of s id w row found o is own =
-    let there : IsOwnOf (put_of s id.put) s.pending id = subst (λ (i : PieceId). IsOwnOf (put_of s i.put) s.pending i) is own.own in
+own_of : (s : State) (id : PieceId) (w : PutRow) (row : Row) → put_of s id.put ≡ Some w → w.writing ≡ Open → id.index ≤ most_fragments → row.id ≡ id → IsOwn s row → IsPieceOf w s.pending id
+own_of s id w row found o few is own =
+    let there : IsOwnOf (put_of s id.put) s.pending id =
+    subst (λ (i : PieceId). i.index ≤ most_fragments → IsOwnOf (put_of s i.put) s.pending i) is own.own few in
     (subst (λ x. IsOwnOf x s.pending id) found there) o
 
 -- the next fragment of a put stands nowhere
@@ -241,7 +242,7 @@ pub fragment_nowhere : (s : State) (id : PieceId) (pin start : ℕ) (payload : L
 fragment_nowhere s id pin start payload f h =
     none_in id s.rows (all_as (IsOwn s) (λ (row : Row). row.id ≡ id → ⊥)
     (λ row own is.
-    let piece : IsPieceOf f.w s.pending id = own_of s id f.w row f.next.writing.found f.next.writing.is_open is own in
+    let piece : IsPieceOf f.w s.pending id = own_of s id f.w row f.next.writing.found f.next.writing.is_open (omega (arith, f.next.next, f.next.few)) is own in
     let cut : id.index ≤ length f.w.cuts = piece.cut in
     let next : id.index ≡ length f.w.cuts + 1 = f.next.next in
     omega (arith, cut, next)) s.rows h)
@@ -251,7 +252,8 @@ pub vector_nowhere : (s : State) (id : PieceId) (start : ℕ) (payload : List �
 vector_nowhere s id start payload v kind h =
     none_in id s.rows (all_as (IsOwn s) (λ (row : Row). row.id ≡ id → ⊥)
     (λ row own is.
-    let piece : IsPieceOf v.w s.pending id = own_of s id v.w row v.writing.found v.writing.is_open is own in
+    let first : id.index ≡ 0 = eqb-true id.index 0 kind in
+    let piece : IsPieceOf v.w s.pending id = own_of s id v.w row v.writing.found v.writing.is_open (omega (arith, first)) is own in
     let clash : None ≡ Some id = sym v.writing.quiet ∙ piece.vector kind in
     cc) s.rows h)
 

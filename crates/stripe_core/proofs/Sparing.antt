@@ -19,7 +19,7 @@ use Rattle.cache_model.specs.declared.cause.Cause.TheVariants as cause
 use Rattle.cache_model.specs.declared.record.Rec.{Rec}
 use Rattle.cache_model.specs.declared.record.Rec.TheVariants as rec
 use Rattle.cache_model.specs.State.{Row, State, after_all, live_row_of, state_after}
-use Rattle.cache_model.specs.Kept.{Kept, state_of, with_records}
+use Rattle.cache_model.specs.Kept.{Kept, count_of, state_of, with_records}
 use Rattle.cache_model.specs.Room.{has_room, placed_record}
 use Rattle.cache_model.proofs.Steps.{after_all-append}
 use Rattle.stripe_actors.specs.Calls.{CutsNext}
@@ -58,7 +58,7 @@ reader_stays s (rec.Formatted geometry) h = cc
 reader_stays s (rec.Opened geometry serial cursor floor next_put clean list) h = cc
 reader_stays s (rec.WriteOpened actor put key request response pin) h = cc
 reader_stays s (rec.Cut put index length digest) h = cc
-reader_stays s (rec.Committed put key length) h = cc
+reader_stays s (rec.Committed put key length list) h = cc
 reader_stays s (rec.Aborted put key) h = cc
 reader_stays s (rec.ReadOpened reader actor key request answer) h = cc
 reader_stays s (rec.Gave reader index length) h = cc
@@ -69,14 +69,18 @@ pub readers_stay : (s : State) (recs : List Rec) → AllOthers recs → (after_a
 readers_stay s [] all = refl
 readers_stay s (r ∷ recs) all = readers_stay (state_after s r) recs all.1 ∙ reader_stays s r all.0
 
+-- how many records there are behind more of them
+count_with : (k : Kept) (recs : List Rec) → count_of (with_records k recs) ≡ count_of k + length recs
+count_with k recs = let both : length (k.since ++ recs) ≡ length k.since + length recs = length-append k.since recs in omega (arith, both)
+
 -- each reader has a record, behind more of them
 pub numbered_by : (k new : Kept) (recs : List Rec) (more : ℕ) → new ≡ with_records k recs → (state_of new).next_reader ≡ (state_of k).next_reader + more → more ≤ length recs
-    → (state_of k).next_reader < length k.since → (state_of new).next_reader < length new.since
+    → (state_of k).next_reader < count_of k → (state_of new).next_reader < count_of new
 numbered_by k new recs more is reader few h =
-    let count : length new.since ≡ length k.since + length recs = ap (λ (x : Kept). length x.since) is ∙ length-append k.since recs in
+    let count : count_of new ≡ count_of k + length recs = ap count_of is ∙ count_with k recs in
     omega (arith, count, reader, few, h)
 
-pub numbered_others : (k new : Kept) (recs : List Rec) → new ≡ with_records k recs → AllOthers recs → (state_of k).next_reader < length k.since → (state_of new).next_reader < length new.since
+pub numbered_others : (k new : Kept) (recs : List Rec) → new ≡ with_records k recs → AllOthers recs → (state_of k).next_reader < count_of k → (state_of new).next_reader < count_of new
 numbered_others k new recs is all h =
     let same : (state_of new).next_reader ≡ (state_of k).next_reader = ap (λ x. (state_of x).next_reader) is ∙ (ap (λ (t : State). t.next_reader) (state_of-with_records k recs) ∙ readers_stay (state_of k) recs all) in
     numbered_by k new recs 0 is (omega (arith, same)) (omega arith) h

@@ -16,7 +16,7 @@ use Rattle.stripe_core.specs.Held.{IsHeld, times}
 pub fresh_is_held : (g : Geometry) (c : Seen) (device : Device) → IsFresh c g device → IsTurning c → IsHeld (after_all nothing_yet (format_records g)) c
 fresh_is_held g c device fresh turning = record {
   turning = turning;
-  sound = legal_is_sound false [] (format_records g) (Legal.IsLegal.begins g);
+  sound = legal_is_sound (record { packed = false; syncs = false; area = 0 }) [] (format_records g) (Legal.IsLegal.begins g);
   geometry = fresh.geometry;
   cursor = ap (λ (b : Buffer). b.cursor) fresh.buffer;
   filled = ap filled_of fresh.buffer;

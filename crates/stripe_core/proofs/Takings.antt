@@ -4,6 +4,7 @@ use Rattle.std.specs.Prelude.{IsPermutation, Option, Some, None, option_and_then
 use Rattle.std.specs.Bool.{OnTrue}
 use Rattle.std.proofs.lemmas.Bool.{eq-eqb, eqb-true}
 use Rattle.tape_base.specs.declared.keys.Key.{Key}
+use Rattle.alternate_vector.specs.Alternates.{Stored}
 use Rattle.tape_base.specs.declared.pieces.PieceId.{PieceId}
 use Rattle.tape_base.specs.declared.digests.Digest.{Digest}
 use Rattle.dir_table.specs.Rows.{has_row}
@@ -71,19 +72,19 @@ earlier_is key put (Some (Complete old)) rows id h other =
     let differs : (old == put) ≡ false = ap (λ (i : PieceId). i.put == put) same ∙ other in
     rw differs (ap (λ i. without i rows) same)
 
-committed_sound : (s : State) (put length : ℕ) (key : Key) → IsSound s → IsSound (state_after s (rec.Committed put key length))
-committed_sound s put length key sound = (later_leaves s (rec.Committed put key length ∷ []) (tt, tt) sound).sound
+committed_sound : (s : State) (put length : ℕ) (key : Key) (list : List Stored) → IsSound s → IsSound (state_after s (rec.Committed put key length list))
+committed_sound s put length key list sound = (later_leaves s (rec.Committed put key length list ∷ []) (tt, tt) sound).sound
 
-pub committed_without : (s : State) (put length : ℕ) (key : Key) (id : PieceId) → IsSound s → vector_of s key ≡ Some id → (id.put == put) ≡ false
-    → IsWithout s (state_after s (rec.Committed put key length)) id
-committed_without s put length key id sound h other = record {
+pub committed_without : (s : State) (put length : ℕ) (key : Key) (list : List Stored) (id : PieceId) → IsSound s → vector_of s key ≡ Some id → (id.put == put) ≡ false
+    → IsWithout s (state_after s (rec.Committed put key length list)) id
+committed_without s put length key list id sound h other = record {
   geometry = refl;
   cursor = refl;
   least = refl;
   filled = refl;
   rows = earlier_is key put (last_vector s key) s.rows id h other;
   fault = refl;
-  sound = committed_sound s put length key sound;
+  sound = committed_sound s put length key list sound;
 }
 
 -- the pieces stay where the key had no vector before
@@ -107,11 +108,11 @@ own_earlier s key put id h own = by (last_vector s key) h
         let same : old ≡ put = ap (λ (i : PieceId). i.put) piece ∙ own in
         rw (eq-eqb old put same) refl
 
-pub committed_is_held : (s : State) (c : Seen) (put length : ℕ) (key : Key) → IsHeld s c → without_earlier key put (last_vector s key) s.rows ≡ s.rows
-    → IsHeld (state_after s (rec.Committed put key length)) c
-committed_is_held s c put length key held rows =
-    alike_is_held s (state_after s (rec.Committed put key length)) c held
-    (record { geometry = refl; cursor = refl; least = refl; filled = refl; rows = rows; sound = committed_sound s put length key held.sound }) held.faults
+pub committed_is_held : (s : State) (c : Seen) (put length : ℕ) (key : Key) (list : List Stored) → IsHeld s c → without_earlier key put (last_vector s key) s.rows ≡ s.rows
+    → IsHeld (state_after s (rec.Committed put key length list)) c
+committed_is_held s c put length key list held rows =
+    alike_is_held s (state_after s (rec.Committed put key length list)) c held
+    (record { geometry = refl; cursor = refl; least = refl; filled = refl; rows = rows; sound = committed_sound s put length key list held.sound }) held.faults
 
 pub other_put : (a b : ℕ) → (a ≡ b → ⊥) → (a == b) ≡ false
 other_put a b h = by (a == b) refl

@@ -4,18 +4,19 @@ use Rattle.tape_base.specs.declared.actors.Actor.{Actor}
 use Rattle.tape_base.specs.declared.keys.Key.{Key}
 use Rattle.fragment_table.specs.Table.{total_length}
 use Rattle.alternate_vector.specs.Field.{Field}
+use Rattle.alternate_vector.specs.Alternates.{Stored}
 use Rattle.cache_model.specs.declared.answer.NextAnswer.{NextAnswer}
 use Rattle.cache_model.specs.declared.answer.NextAnswer.TheVariants as next
 use Rattle.cache_model.specs.declared.answer.ReadAnswer.{ReadAnswer}
 use Rattle.cache_model.specs.declared.answer.ReadAnswer.TheVariants as read
 use Rattle.cache_model.specs.declared.record.Rec.{Rec}
 use Rattle.cache_model.specs.declared.record.Rec.TheVariants as rec
-use Rattle.cache_model.specs.State.{Open, PutRow, State, put_of, state_after, vector_piece}
+use Rattle.cache_model.specs.State.{Open, PutRow, State, list_of_piece, put_of, state_after, vector_piece, most_fragments}
 use Rattle.stripe_actors.specs.Actors.{AreActors, Seen}
 use Rattle.cache_model.specs.Verdict.{cuts_of}
 use Rattle.cache_model.specs.Permit.{Commit, Done, Exhausted, Fails, GiveUp, ManyWriters, Permit, Remove, Write}
 use Rattle.cache_model.specs.Room.{limit}
-use Rattle.cache_model.specs.Legal.{Does, IsWriting, is_writing, most_fragments, most_writers, open_writers}
+use Rattle.cache_model.specs.Legal.{Does, IsWriting, is_writing, most_writers, open_writers}
 use Rattle.stripe_actors.specs.Calls.{HasNumber}
 use Rattle.stripe_core.specs.declared.refusal.Refusal.{Refusal}
 use Rattle.stripe_core.specs.declared.refusal.Refusal.TheVariants as refusal
@@ -58,13 +59,13 @@ pub record IsCommitting (s : State) (put : ℕ) (key : Key) : Type 0 where
   pub key_is : w.key ≡ key
   pub pending : s.pending ≡ Some (vector_piece w.key put)
 
--- the record of a put that is complete, with the bytes of all its fragments
-abbrev pub committed_record : State → ℕ → Key → Rec
-committed_record s put key = rec.Committed put key (total_length (cuts_of s put))
+-- the record of a put that is complete, with the bytes of all its fragments and the list of its vector
+abbrev pub committed_record : State → ℕ → Key → List Stored → Rec
+committed_record s put key list = rec.Committed put key (total_length (cuts_of s put)) list
 
--- that record does what committing asks, in any step
-abbrev pub CommitsAsAsked : State → ℕ → Key → Type 0
-CommitsAsAsked s put key = (p : Permit) → Does p s (Commit put) (committed_record s put key ∷ []) Done
+-- where the list is what the vector lists that was placed, that record does what committing asks, in any step
+abbrev pub CommitsAsAsked : State → ℕ → Key → List Stored → Type 0
+CommitsAsAsked s put key list = list ≡ list_of_piece s (vector_piece key put) → (p : Permit) → Does p s (Commit put) (committed_record s put key list ∷ []) Done
 
 -- the put of that key is open, and none of its pieces is a vector
 pub record IsGivingUp (s : State) (put : ℕ) (key : Key) : Type 0 where

@@ -1,6 +1,6 @@
 -- What contracts see of a stripe: its pieces and its actors, in step with the records, and the memory
 -- that is made for calls to come.
-use Rattle.std.specs.Prelude.{ℕ, ◌≡◌, ◌*◌, ◌<◌, ◌≤◌, false, length, Result, Ok, Err}
+use Rattle.std.specs.Prelude.{ℕ, ◌≡◌, ◌*◌, ◌<◌, ◌≤◌, false, Result, Ok, Err}
 use Rattle.tape_base.specs.declared.pieces.PieceId.{PieceId}
 use Rattle.tape_base.specs.Piece.{is_vector}
 use Rattle.logged_disk.specs.Device.{IsAfter, SeenStays, State as Device}
@@ -8,7 +8,7 @@ use Rattle.logged_disk.specs.declared.device.Disk.{Ghosts as DiskGhosts}
 use Rattle.dir_table.specs.declared.directory.Directory.{Ghosts as DirectoryGhosts}
 use Rattle.cyclone.specs.Cyclone.{Seen}
 use Rattle.cache_model.specs.State.{State}
-use Rattle.cache_model.specs.Kept.{Kept}
+use Rattle.cache_model.specs.Kept.{Kept, count_of}
 use Rattle.cache_chronicle.specs.declared.chronicle.Chronicle.{Ghosts as ChronicleGhosts}
 use Rattle.open_directory.specs.Directory.{room_of}
 use Rattle.stripe_actors.specs.Actors.{AreActors, reader_room_of, Seen as Actors}
@@ -82,14 +82,14 @@ pub record IsStripe {D R C : Type 0} (disk : DiskGhosts D) (directory : Director
   -- its directory displaces nothing
   pub plain : directory.purges ≡ false
   pub spared : IsSpared t.units t.flushes (chronicle.room t.pieces.chronicle) (seen_in disk directory t)
-  -- each piece is one of a put that has begun, and of an open put one that it has cut
+  -- each piece of an index that a put may have is one of a put that has begun, and of an open put one that it has cut
   pub named : IsNamed (state_in chronicle t)
   -- a call may open a reader
   pub readers : t.units ≤ reader_room_of t.actors
   -- there is memory for what a flush copies
   pub ahead : IsMadeFor (state_in chronicle t).geometry t.ahead
   -- each reader has a record
-  pub numbered : (state_in chronicle t).next_reader < length (kept_in chronicle t).since
+  pub numbered : (state_in chronicle t).next_reader < count_of (kept_in chronicle t)
 
 -- what a call answers that the tape may stop: what holds of the answer, and what holds where memory is
 -- wanting

@@ -12,7 +12,7 @@ ghost use Rattle.stripe_core.specs.Acts.{AnswersLookup, CommitsAsAsked, GivesUpA
 use crate::pieces::records_of;
 use crate::refusal::Refusal;
 use crate::{Stripe, records};
-use alternate_vector::Fields;
+use alternate_vector::{Fields, Vector};
 use cache_chronicle::Chronicle;
 use cache_model::{NextAnswer, ReadAnswer};
 use dir_table::Directory;
@@ -27,22 +27,22 @@ impl<D: Disk, R: Directory + Drop, C: Chronicle> Stripe<D, R, C> {
     ghost use Rattle.stripe_core.specs.Stripe.{IsStill, IsStripe, kept_in, seen_in, state_in, units_in};
     ghost use Rattle.stripe_core.specs.Between.{Between};
 
-    /// Commits a put, whose vector is the piece that was placed last. The key's vector before it
-    /// goes.
-    pub fn commit(&mut self, put: u64, key: Key)
+    /// Commits a put, whose vector is the piece that was placed last and lists these alternates.
+    /// The key's vector before it goes.
+    pub fn commit(&mut self, put: u64, key: Key, alternates: Vector)
         requires stripe { IsStripe D.Disk R.Directory C.Chronicle self.old }
         requires unit { 1 ≤ units_in self.old }
         requires committing { IsCommitting (state_in C.Chronicle self.old) put key }
         ensures stripe { IsStripe D.Disk R.Directory C.Chronicle self.new }
         ensures unharmed { Between D.Disk R.Directory C.Chronicle self.old self.new }
         ensures adds { kept_in C.Chronicle self.new
-            ≡ with_records (kept_in C.Chronicle self.old) (committed_record (state_in C.Chronicle self.old) put key ∷ []) }
-        ensures does { CommitsAsAsked (state_in C.Chronicle self.old) put key }
+            ≡ with_records (kept_in C.Chronicle self.old) (committed_record (state_in C.Chronicle self.old) put key alternates ∷ []) }
+        ensures does { CommitsAsAsked (state_in C.Chronicle self.old) put key alternates }
         ensures still { (seen_in D.Disk R.Directory self.new).device ≡ (seen_in D.Disk R.Directory self.old).device }
         ensures unit { units_in self.new + 1 ≡ units_in self.old }
     {
         let length = self.actors.open_directory().length(put);
-        self.pieces.commit(put, key, length);
+        self.pieces.commit(put, key, length, alternates);
         self.actors.close(put);
         self.units -= 1;
     }

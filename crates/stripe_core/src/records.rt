@@ -7,7 +7,7 @@ ghost use Rattle.cache_model.specs.Legal.{answer_record, format_records};
 ghost use Rattle.cache_model.specs.declared.record.Rec.TheVariants.{Aborted, Began, Committed, Damaged, Fault, Moved, Placed, ReadClosed, ReadOpened, Removed, Unsaved, WriteOpened};
 ghost use Rattle.stripe_core.specs.Place.{cut_record_of};
 
-use alternate_vector::Fields;
+use alternate_vector::{Fields, Vector};
 use cache_chronicle::Chronicle;
 use cache_model::{NextAnswer, ReadAnswer, Rec};
 use cyclone::Put;
@@ -129,13 +129,24 @@ pub fn moved<C: Chronicle>(chronicle: &mut C, piece: PieceId, from: u64, place: 
     });
 }
 
-/// A put is complete.
-pub fn committed<C: Chronicle>(chronicle: &mut C, put: u64, key: Key, length: u64)
+/// A put is complete, and its vector lists these alternates.
+pub fn committed<C: Chronicle>(
+    chronicle: &mut C,
+    put: u64,
+    key: Key,
+    length: u64,
+    alternates: Vector,
+)
     requires { 1 ≤ C.room chronicle.old }
-    ensures kept { C.kept chronicle.new ≡ with_records (C.kept chronicle.old) (Committed put key length ∷ []) }
+    ensures kept { C.kept chronicle.new ≡ with_records (C.kept chronicle.old) (Committed put key length alternates ∷ []) }
     ensures room { C.room chronicle.old ≤ C.room chronicle.new + 1 }
 {
-    chronicle.push(Rec::Committed { put, key, length });
+    chronicle.push(Rec::Committed {
+        put,
+        key,
+        length,
+        alternates,
+    });
 }
 
 /// An object was removed.

@@ -1,5 +1,6 @@
 // How pieces go before they are passed.
-ghost use Rattle.std.specs.Prelude.{◌≡◌, ◌≤◌, ℕ, [], ◌∷◌, Some, IsSome};
+ghost use Rattle.std.specs.Prelude.{◌≡◌, ◌≤◌, ℕ, List, [], ◌∷◌, Some, IsSome};
+ghost use Rattle.alternate_vector.specs.Alternates.{Stored};
 ghost use Rattle.cyclone.specs.Cyclone.{SameButRows};
 ghost use Rattle.cache_model.specs.Kept.{with_records};
 ghost use Rattle.cache_model.specs.State.{State, state_after, vector_piece};
@@ -10,6 +11,7 @@ ghost use Rattle.stripe_core.specs.Records.{IsWithout};
 ghost use Rattle.stripe_core.specs.Covers.{Uses};
 
 use crate::{Pieces, records};
+use alternate_vector::Vector;
 use cache_chronicle::Chronicle;
 use dir_table::Directory;
 use logged_disk::Disk;
@@ -50,7 +52,8 @@ impl<D: Disk, R: Directory + Drop, C: Chronicle> Pieces<D, R, C> {
     /// Takes the vector of a key out, where that is not the put's own.
     fn take_earlier(&mut self, put: u64, key: Key)
         requires pieces { ArePieces D.Disk R.Directory C.Chronicle self.old }
-        ensures held { (length : ℕ) → IsHeld (state_after (state_now C.Chronicle self.old) (Committed put key length)) (seen_of D.Disk R.Directory self.new) }
+        ensures held { (length : ℕ) (list : List Stored)
+            → IsHeld (state_after (state_now C.Chronicle self.old) (Committed put key length list)) (seen_of D.Disk R.Directory self.new) }
         ensures chronicle { self.new.chronicle ≡ self.old.chronicle }
         ensures rest { SameButRows (seen_of D.Disk R.Directory self.old) (seen_of D.Disk R.Directory self.new) }
     {
@@ -61,18 +64,20 @@ impl<D: Disk, R: Directory + Drop, C: Chronicle> Pieces<D, R, C> {
         }
     }
 
-    /// Records that a put of so many bytes is complete. The key's vector before it goes.
-    pub fn commit(&mut self, put: u64, key: Key, length: u64)
+    /// Records that a put of so many bytes is complete, and what its vector lists. The key's vector
+    /// before it goes.
+    pub fn commit(&mut self, put: u64, key: Key, length: u64, alternates: Vector)
         requires pieces { ArePieces D.Disk R.Directory C.Chronicle self.old }
         requires record { 1 ≤ C.room self.old.chronicle }
         ensures pieces { ArePieces D.Disk R.Directory C.Chronicle self.new }
-        ensures adds { kept_of C.Chronicle self.new ≡ with_records (kept_of C.Chronicle self.old) (Committed put key length ∷ []) }
+        ensures adds { kept_of C.Chronicle self.new
+            ≡ with_records (kept_of C.Chronicle self.old) (Committed put key length alternates ∷ []) }
         ensures still { (seen_of D.Disk R.Directory self.new).device ≡ (seen_of D.Disk R.Directory self.old).device }
         ensures uses { Uses 1 0 0 0 (C.room self.old.chronicle) (C.room self.new.chronicle)
             (seen_of D.Disk R.Directory self.old) (seen_of D.Disk R.Directory self.new) }
     {
         self.take_earlier(put, key);
-        records::committed(&mut self.chronicle, put, key, length);
+        records::committed(&mut self.chronicle, put, key, length, alternates);
     }
 
     /// Records that a key's live vector was removed, takes it out, and gives its put.

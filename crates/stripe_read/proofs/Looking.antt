@@ -92,7 +92,7 @@ pub hit_adds : (s : State) (key : Key) (put : ℕ) → lookup_adds s key (read.H
 hit_adds s key put = hit_by (live_vector_of s key) put
 
 pub nothing_recorded : (k new : Kept) → new ≡ with_records k [] → new ≡ k
-nothing_recorded k new is = is ∙ ap (λ recs. let x : Kept = record { base = k.base; since = recs } in x) (append-nil k.since)
+nothing_recorded k new is = is ∙ ap (λ recs. let x : Kept = record { told = k.told; base = k.base; since = recs } in x) (append-nil k.since)
 
 absent_by : (k new : Kept) (o : Option Row) → new ≡ with_records k (trouble_records o vector.Absent) → new ≡ k
 absent_by k new None is = nothing_recorded k new is

@@ -119,7 +119,7 @@ readers_stay s t r same = (
 -- ---- the records of each call
 
 pub owns_none : (reader : ℕ) (old new : Kept) → new ≡ old → AddsOfReader reader old new
-owns_none reader old new h = record { added = []; adds = h ∙ sym (ap (λ recs. let k : Kept = record { base = old.base; since = recs } in k) (append-nil old.since)); own = tt }
+owns_none reader old new h = record { added = []; adds = h ∙ sym (ap (λ recs. let k : Kept = record { told = old.told; base = old.base; since = recs } in k) (append-nil old.since)); own = tt }
 
 pub owns : (reader : ℕ) (old new : Kept) (added : List Rec) → new ≡ with_records old added → AllByRecursion (IsOfReader reader) added → AddsOfReader reader old new
 owns reader old new added adds own = record { added = added; adds = adds; own = own }

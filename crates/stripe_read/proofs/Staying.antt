@@ -28,7 +28,7 @@ state_behind k new recs is = ap state_of is ∙ after_all-append k.base k.since 
 
 pub two_calls : (k k1 k2 : Kept) (a b : List Rec) → k1 ≡ with_records k a → k2 ≡ with_records k1 b → k2 ≡ with_records k (a ++ b)
 two_calls k k1 k2 a b e f =
-    f ∙ (ap (λ x. with_records x b) e ∙ ap (λ recs. let new : Kept = record { base = k.base; since = recs } in new) (append_assoc k.since a b))
+    f ∙ (ap (λ x. with_records x b) e ∙ ap (λ recs. let new : Kept = record { told = k.told; base = k.base; since = recs } in new) (append_assoc k.since a b))
 
 -- ---- the readers and the pending vector stay
 
@@ -156,5 +156,5 @@ broken_behind k k1 k2 o answer reader why e f = leaves_both (state_of k) (state_
 
 -- what was found is not recorded
 pub found_same : (k k1 : Kept) (o : Option Row) (size : ℕ) → k1 ≡ with_records k (found_records o (found.Found size)) → k1 ≡ k
-found_same k k1 None size is = is ∙ ap (λ recs. let new : Kept = record { base = k.base; since = recs } in new) (append-nil k.since)
-found_same k k1 (Some row) size is = is ∙ ap (λ recs. let new : Kept = record { base = k.base; since = recs } in new) (append-nil k.since)
+found_same k k1 None size is = is ∙ ap (λ recs. let new : Kept = record { told = k.told; base = k.base; since = recs } in new) (append-nil k.since)
+found_same k k1 (Some row) size is = is ∙ ap (λ recs. let new : Kept = record { told = k.told; base = k.base; since = recs } in new) (append-nil k.since)

@@ -1,8 +1,8 @@
 // How the fragment that a reader takes next is read.
+ghost use Rattle.cache_model.specs.State.{most_fragments};
 ghost use Rattle.std.specs.Prelude.{◌≡◌, ◌+◌, ◌-◌, ◌*◌, ◌≤◌, ◌⊎◌, IfOk, IfSome, OnErr, None, length, option_map, slice_get, take};
 ghost use Rattle.tape_base.specs.Geometry.{budget_of};
 ghost use Rattle.cache_model.specs.Kept.{with_records};
-ghost use Rattle.cache_model.specs.Legal.{most_fragments};
 ghost use Rattle.cache_model.specs.Verdict.{next_row};
 ghost use Rattle.open_directory.specs.Directory.{table_row};
 ghost use Rattle.stripe_core.specs.Find.{find_adds};

@@ -13,9 +13,10 @@ use Rattle.stripe_vectors.specs.declared.spelling.Spelled.{Spelled}
 abbrev pub listed_with : Geometry → List Stored → Stored → List Stored
 listed_with g list new = merged g.alternates (most_payload g) list new
 
--- the bytes and the pin of that vector, which is a piece
+-- the bytes and the pin of that vector, which is a piece, and its list
 pub record IsSpelled (g : Geometry) (list : List Stored) (new : Stored) (spelled : Spelled) : Type 0 where
   pub bytes : spelled.bytes.items ≡ vector_bytes (listed_with g list new)
   pub size : length spelled.bytes.items ≡ vector_size (listed_with g list new)
   pub pin : spelled.pin ≡ greatest_pin (listed_with g list new)
   pub small : blocks_of (length spelled.bytes.items) ≤ budget_of g
+  pub lists : spelled.list ≡ listed_with g list new

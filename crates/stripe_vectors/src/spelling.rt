@@ -11,11 +11,12 @@ use alternate_vector::{Alternate, Vector};
 use std::alloc::{AllocError, Global};
 use tape_base::{BLOCK, Geometry, HEADER};
 
-/// A vector's bytes, and the greatest pin of its alternates.
+/// A vector's bytes, the greatest pin of its alternates, and the list of these.
 #[derive(Debug, Drop)]
 pub struct Spelled {
     pub bytes: Vec<u8>,
     pub pin: u64,
+    pub list: Vector,
 }
 
 /// Spells what a vector lists when a new alternate, which alone fits a piece, comes to those of a
@@ -37,6 +38,7 @@ pub fn spell(
     Ok(Spelled {
         bytes,
         pin: greatest_pin(&merged),
+        list: merged,
     })
 }
 

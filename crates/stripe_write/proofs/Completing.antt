@@ -6,6 +6,8 @@ use Rattle.std.proofs.lemmas.List.{append-nil}
 use Rattle.tape_base.specs.declared.geometries.Geometry.{Geometry}
 use Rattle.tape_base.specs.declared.keys.Key.{Key}
 use Rattle.tape_base.specs.declared.pieces.PieceId.{PieceId}
+use Rattle.tape_base.specs.declared.digests.Digest.{Digest}
+use Rattle.tape_base.proofs.NameLaws.{same_piece-same}
 use Rattle.tape_base.specs.Blocks.{blocks_of}
 use Rattle.tape_base.specs.Geometry.{budget_of}
 use Rattle.device_log.specs.Calls.{Call}
@@ -14,7 +16,7 @@ use Rattle.alternate_vector.specs.Alternates.{Stored, vector_size}
 use Rattle.alternate_vector.specs.Spelling.{vector_bytes}
 use Rattle.cache_model.specs.declared.record.Rec.{Rec}
 use Rattle.cache_model.specs.declared.record.Rec.TheVariants as rec
-use Rattle.cache_model.specs.State.{Closed, Complete, LastVector, Open, PutRow, Row, State, TakenOut, alternate_of, alternates_of, fragment_piece, is_live, last_vector, list_among, list_of_last, list_of_put, list_of_row, live_row_of, merged_list, only_live, put_of, row_in, state_after, vector_piece, with_writing, after_all}
+use Rattle.cache_model.specs.State.{Closed, Complete, LastVector, Open, PutRow, Row, State, TakenOut, alternate_of, alternates_of, fragment_piece, is_live, last_vector, list_among, list_of_last, list_of_piece, list_of_put, list_of_row, live_row_of, merged_list, only_live, placed_row, put_of, row_in, state_after, vector_piece, with_writing, after_all}
 use Rattle.cache_model.specs.Verdict.{cuts_of, live_vector_of, vector_of_last}
 use Rattle.cache_model.specs.Legal.{AreLiveTo, FitsAlone, IsCut, IsQuiet, IsWriting, is_writing, Does}
 use Rattle.cache_model.specs.Room.{greatest_pin, has_room}
@@ -22,6 +24,7 @@ use Rattle.cache_model.proofs.ByNumber.{find-changed}
 use Rattle.cache_model.specs.Kept.{Kept, state_of, with_records}
 use Rattle.cache_model.specs.Permit.{Commit, Done, Exhausted, Fails, Finish}
 use Rattle.cache_model.proofs.Found.{cuts_found}
+use Rattle.cache_model.proofs.Lists.{row_in-placed}
 use Rattle.stripe_core.specs.declared.refusal.Placed.{Placed}
 use Rattle.stripe_core.specs.declared.refusal.Refusal.{Refusal}
 use Rattle.stripe_core.specs.declared.refusal.Refusal.TheVariants as refusal
@@ -127,7 +130,13 @@ is_current s w v c none spelled read =
       payload = here.bytes ∙ ap vector_bytes (sym list);
       size = here.size ∙ ap vector_size (sym list);
       pin = here.pin ∙ ap greatest_pin (sym list);
+      lists = here.lists ∙ sym list;
     }
+
+-- whatever flag tells that the key's vector is live
+pub picked_lists : (s : State) (w : Writer) (v : Vectors) (c : IsClosing s w) (live : Bool) (list : List Stored) → live ≡ is_some (live_vector_of s w.key) → list ≡ (picked v live).list
+    → AreSpelled s.geometry w v → s.displaced ≡ [] → IsReadFor s w v → list ≡ list_of_put s w.put
+picked_lists s w v c live list is lists spelled none read = lists ∙ (ap (λ b. (picked v b).list) is ∙ (is_current s w v c none spelled read).lists)
 
 -- ---- its vector
 
@@ -185,10 +194,20 @@ closed : (o : Option PutRow) (row : PutRow) → option_map (with_writing Closed)
 closed None row h o = cc
 closed (Some first) row h o = let same : with_writing Closed first ≡ row = cc in let clash : Closed ≡ Open = ap (λ (p : PutRow). p.writing) same ∙ o in cc
 
-pub closed_writer : (s : State) (w : Writer) (key : Key) (bytes : ℕ) → IsWriterOf (state_after s (rec.Committed w.put key bytes)) w
-closed_writer s w key bytes = λ row found o.
+pub closed_writer : (s : State) (w : Writer) (key : Key) (bytes : ℕ) (list : List Stored) → IsWriterOf (state_after s (rec.Committed w.put key bytes list)) w
+closed_writer s w key bytes list = λ row found o.
     absurd (closed (put_of s w.put) row
     (sym (find-changed (λ (p : PutRow). p.put) (with_writing Closed) (λ p. refl) w.put w.put s.puts ∙ ap (λ b. cond b (option_map (with_writing Closed) (put_of s w.put)) (put_of s w.put)) (eq-eqb w.put w.put refl)) ∙ found) o)
+
+-- ---- a vector that was placed lists what its put was to have
+
+placed_lists : (s : State) (key : Key) (put place blocks pin : ℕ) (digest : Digest)
+    → list_of_piece (state_after s (rec.Placed (vector_piece key put) place blocks digest pin)) (vector_piece key put) ≡ list_of_put s put
+placed_lists s key put place blocks pin digest =
+    let id : PieceId = vector_piece key put in
+    let row : Row = placed_row s id place blocks digest pin in
+    ap (λ (o : Option Row). unwrap_or (option_and_then (λ (r : Row). r.alternates) o) [])
+    (row_in-placed id s.rows row ∙ ap (λ b. if b then Some row else row_in s.rows id) (same_piece-same id))
 
 -- ---- what it makes of the records
 
@@ -230,20 +249,22 @@ module _ (now : ℕ) (old new : Kept) (before after : List Call) (w : Writer) (v
   refused_finishes (refusal.Memory e) h memory = absurd memory
   refused_finishes _ h memory = absurd h
 
-  pub completes : (mid : Kept) (between : List Call) (placed : Placed) (receipt : Receipt) → after ≡ between → PlacesVector old mid before between id pin 0 payload (Ok placed)
-      → new ≡ with_records mid (committed_record (state_of mid) w.put w.key ∷ []) → CommitsAsAsked (state_of mid) w.put w.key → FinishesAsRead now before after old new w v (Ok receipt)
-  completes mid between placed receipt same h last commits = record {
+  pub completes : (mid : Kept) (between : List Call) (placed : Placed) (receipt : Receipt) (list : List Stored) → (s.displaced ≡ [] → IsReadFor s w v → list ≡ list_of_put s w.put)
+      → after ≡ between → PlacesVector old mid before between id pin 0 payload (Ok placed)
+      → new ≡ with_records mid (committed_record (state_of mid) w.put w.key list ∷ []) → CommitsAsAsked (state_of mid) w.put w.key list → FinishesAsRead now before after old new w v (Ok receipt)
+  completes mid between placed receipt list lists same h last commits = record {
     does = λ p at covers none read.
         let a : List Rec = place_adds s id pin 0 payload (Ok placed) in
-        let b : Rec = committed_record (state_of mid) w.put w.key in
+        let b : Rec = committed_record (state_of mid) w.put w.key list in
         let there : state_of mid ≡ after_all s a = state_behind old mid a h.adds in
         let early : Covers p before between = subst (Covers p before) same covers in
+        let stands : list ≡ list_of_piece (state_of mid) id = lists none read ∙ (sym (placed_lists s w.key w.put _ _ _ _) ∙ ap (λ t. list_of_piece t id) (sym there)) in
         let d : Does p s (Finish w.put (length w.table.rows)) a Done = subst (λ n. Does p s (Finish w.put n) a Done) (fragments s w c) (h.does (of none read) p early) in
         record {
           added = a ++ b ∷ [];
           adds = then_more old mid new a (b ∷ []) h.adds last;
           does = then_all p s (Finish w.put (length w.table.rows)) (Commit w.put ∷ []) a (b ∷ []) Done (one_group p s (Finish w.put (length w.table.rows)) a Done d)
-              (last_done p (after_all s a) (Commit w.put) (b ∷ []) (one_group p (after_all s a) (Commit w.put) (b ∷ []) Done (subst (λ t. Does p t (Commit w.put) (b ∷ []) Done) there (commits p))));
+              (last_done p (after_all s a) (Commit w.put) (b ∷ []) (one_group p (after_all s a) (Commit w.put) (b ∷ []) Done (subst (λ t. Does p t (Commit w.put) (b ∷ []) Done) there (commits stands p))));
           number = tt;
         };
   }

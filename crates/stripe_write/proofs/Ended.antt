@@ -6,10 +6,10 @@ use Rattle.tape_base.specs.declared.actors.Actor.{Actor}
 use Rattle.tape_base.specs.declared.keys.Key.{Key}
 use Rattle.alternate_vector.specs.Field.{Field}
 use Rattle.cache_model.specs.declared.record.Rec.TheVariants as rec
-use Rattle.cache_model.specs.State.{Closed, GivenUp, Open, PutRow, Row, State, opened_put, put_of, state_after, with_writing}
+use Rattle.cache_model.specs.State.{Closed, GivenUp, Open, PutRow, Row, State, opened_put, put_of, state_after, with_writing, most_fragments}
 use Rattle.cache_model.specs.Verdict.{is_open, live_vector_of}
 use Rattle.cache_model.specs.Permit.{Done, Fails, GiveUp, ManyFragments, Overflow, Permit, Remove}
-use Rattle.cache_model.specs.Legal.{Does, DoesGiveUp, DoesOverflow, DoesRemove, IsQuiet, is_writing, most_fragments}
+use Rattle.cache_model.specs.Legal.{Does, DoesGiveUp, DoesOverflow, DoesRemove, IsQuiet, is_writing}
 use Rattle.cache_model.proofs.ByNumber.{find-changed}
 use Rattle.stripe_core.specs.Acts.{IsGivingUp, opened_record}
 use Rattle.stripe_write.specs.declared.writer.Writer.{Writer}

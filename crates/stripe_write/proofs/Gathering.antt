@@ -10,11 +10,11 @@ use Rattle.tape_base.specs.declared.pieces.PieceId.{PieceId}
 use Rattle.fragment_table.specs.Table.{TableRow, total_length}
 use Rattle.cache_model.specs.declared.record.Rec.{Rec}
 use Rattle.cache_model.specs.declared.record.Rec.TheVariants as rec
-use Rattle.cache_model.specs.State.{PutRow, State, fragment_piece, put_of}
+use Rattle.cache_model.specs.State.{PutRow, State, fragment_piece, put_of, most_fragments}
 use Rattle.cache_model.specs.Kept.{Kept, state_of, with_records}
 use Rattle.device_log.specs.Calls.{Call}
 use Rattle.logged_disk.specs.Device.{State as Device}
-use Rattle.cache_model.specs.Legal.{is_writing, most_fragments}
+use Rattle.cache_model.specs.Legal.{is_writing}
 use Rattle.stripe_core.specs.declared.refusal.Placed.{Placed}
 use Rattle.stripe_core.specs.declared.refusal.Refusal.{Refusal}
 use Rattle.stripe_core.specs.declared.refusal.Refusal.TheVariants as refusal

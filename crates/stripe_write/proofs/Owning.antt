@@ -57,7 +57,7 @@ one_record put s (rec.Formatted geometry) h = absurd h
 one_record put s (rec.Opened geometry serial cursor floor next_put clean list) h = absurd h
 one_record put s (rec.WriteOpened actor q key request response pin) h = record { puts = λ n other. find_other put n _ s.puts h other; readers = refl; geometry = refl }
 one_record put s (rec.Cut q index size digest) h = record { puts = λ n other. changed_other q n _ s.puts (λ x. refl) (λ e. other (e ∙ h)); readers = refl; geometry = refl }
-one_record put s (rec.Committed q key size) h = record { puts = λ n other. changed_other q n _ s.puts (λ x. refl) (λ e. other (e ∙ h)); readers = refl; geometry = refl }
+one_record put s (rec.Committed q key size list) h = record { puts = λ n other. changed_other q n _ s.puts (λ x. refl) (λ e. other (e ∙ h)); readers = refl; geometry = refl }
 one_record put s (rec.Aborted q key) h = record { puts = λ n other. changed_other q n _ s.puts (λ x. refl) (λ e. other (e ∙ h)); readers = refl; geometry = refl }
 one_record put s (rec.ReadOpened reader actor key request answer) h = absurd h
 one_record put s (rec.Gave reader index size) h = absurd h

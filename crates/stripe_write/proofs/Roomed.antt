@@ -25,7 +25,7 @@ use Rattle.stripe_core.specs.declared.refusal.Stop.TheVariants as stop
 use Rattle.stripe_core.specs.Flush.{LiveBefore, StopsWith}
 use Rattle.stripe_core.specs.Place.{ReachesLimit, RoomsAsAsked}
 use Rattle.stripe_core.specs.Stripe.{Answers}
-use Rattle.stripe_core.proofs.Covering.{covers_first, covers_last, own_covers, own_permit}
+use Rattle.stripe_core.proofs.Covering.{covers_first, covers_last, never_syncs, own_covers, own_permit}
 use Rattle.stripe_write.specs.declared.finishing.Receipt.{Receipt}
 use Rattle.stripe_write.specs.declared.weighing.Vectors.{Vectors}
 use Rattle.stripe_write.specs.declared.writer.Writer.{Writer}
@@ -104,10 +104,11 @@ module _ (now : ℕ) (old mid new : Kept) (first between last : Device) (w : Wri
   }
 
 -- a flush that stops at the limit adds nothing
-exhausted_empty : {p : Permit} {s : State} {bytes : ℕ} {added : List Rec} {e : End} → MakesRoom p s bytes added e → e ≡ Fails Exhausted → added ≡ []
-exhausted_empty (MakesRoom.flushes full m) q = cc
-exhausted_empty (MakesRoom.stops count full m) q = cc
-exhausted_empty (MakesRoom.exhausted full above is) q = is
+exhausted_empty : {p : Permit} {s : State} {bytes : ℕ} {added : List Rec} {e : End} → p.syncs ≡ false → MakesRoom p s bytes added e → e ≡ Fails Exhausted → added ≡ []
+exhausted_empty off (MakesRoom.flushes full m) q = cc
+exhausted_empty off (MakesRoom.stops count full m) q = cc
+exhausted_empty off (MakesRoom.exhausted full above is) q = is
+exhausted_empty off (MakesRoom.syncs f full sync behind) q = absurd (never_syncs off sync)
 
 -- no room is made
 module _ (now : ℕ) (old new : Kept) (before : List Call) (after : Device) (w : Writer) (v : Vectors) (c : IsClosing (state_of old) w) (spelled : AreSpelled (state_of old).geometry w v) where
@@ -133,7 +134,7 @@ module _ (now : ℕ) (old new : Kept) (before : List Call) (after : Device) (w :
   no_room_ends (refusal.Exhausted number) room full stops = record {
     does = λ p at covers none read.
         let makes = room.does p at covers in
-        let same : new ≡ old = room.adds ∙ (ap (with_records old) (exhausted_empty makes refl) ∙ nothing_more old) in
+        let same : new ≡ old = room.adds ∙ (ap (with_records old) (exhausted_empty covers.unsynced makes refl) ∙ nothing_more old) in
         record {
           added = room.added;
           adds = room.adds;
@@ -146,22 +147,23 @@ module _ (now : ℕ) (old new : Kept) (before : List Call) (after : Device) (w :
 -- ---- room for either vector
 
 -- the copies of a flush take half a buffer at most
-flush_filled : {p : Permit} {s : State} {bytes : ℕ} {added : List Rec} {e : End} → IsSound s → MakesRoom p s bytes added e → e ≡ Stays → (after_all s added).filled ≤ budget_of s.geometry
-flush_filled {p} {s} sound (MakesRoom.flushes full m) q =
+flush_filled : {p : Permit} {s : State} {bytes : ℕ} {added : List Rec} {e : End} → p.syncs ≡ false → IsSound s → MakesRoom p s bytes added e → e ≡ Stays → (after_all s added).filled ≤ budget_of s.geometry
+flush_filled {p} {s} off sound (MakesRoom.flushes full m) q =
     subst (λ recs. (after_all s recs).filled ≤ budget_of s.geometry) (sym m.is) (flush_is_sound p s p.now m.outcomes sound m.are).2
-flush_filled sound (MakesRoom.stops count full m) q = cc
-flush_filled sound (MakesRoom.exhausted full above is) q = cc
+flush_filled off sound (MakesRoom.stops count full m) q = cc
+flush_filled off sound (MakesRoom.exhausted full above is) q = cc
+flush_filled off sound (MakesRoom.syncs f full sync behind) q = absurd (never_syncs off sync)
 
 half_fits : (filled blocks agg : ℕ) → filled ≤ agg / 2 → blocks ≤ agg / 2 → filled + blocks ≤ agg
 half_fits filled blocks agg a b = omega (arith, a, b)
 
-room_for_either : (p : Permit) (s t : State) (w : Writer) (v : Vectors) (added : List Rec) (b : Bool) → IsSound s → t ≡ after_all s added → t.geometry ≡ s.geometry → AreSpelled s.geometry w v
+room_for_either : (p : Permit) (s t : State) (w : Writer) (v : Vectors) (added : List Rec) (b : Bool) → p.syncs ≡ false → IsSound s → t ≡ after_all s added → t.geometry ≡ s.geometry → AreSpelled s.geometry w v
     → MatchBool b (added ≡ []) (MakesRoom p s (bytes_now s w v) added Stays) → has_room t (bytes_now s w v) ≡ true → has_room t (bytes_now t w v) ≡ true
-room_for_either p s t w v added true sound is g spelled none room =
+room_for_either p s t w v added true off sound is g spelled none room =
     let same : t ≡ s = is ∙ ap (after_all s) none in
     subst (λ x. has_room t (bytes_now x w v) ≡ true) (sym same) room
-room_for_either p s t w v added false sound is g spelled makes room =
-    let filled : t.filled ≤ budget_of s.geometry = subst (λ (x : State). x.filled ≤ budget_of s.geometry) (sym is) (flush_filled sound makes refl) in
+room_for_either p s t w v added false off sound is g spelled makes room =
+    let filled : t.filled ≤ budget_of s.geometry = subst (λ (x : State). x.filled ≤ budget_of s.geometry) (sym is) (flush_filled off sound makes refl) in
     let small = small_picked s.geometry w v (is_some (live_vector_of t w.key)) spelled in
     le-leb (t.filled + blocks_of (bytes_now t w v)) t.geometry.agg
     (subst (λ (x : Geometry). t.filled + blocks_of (bytes_now t w v) ≤ x.agg) (sym g) (half_fits t.filled (blocks_of (bytes_now t w v)) s.geometry.agg filled small))
@@ -171,5 +173,5 @@ pub room_is_made : (now : ℕ) (old new : Kept) (before : List Call) (after : De
 room_is_made now old new before after w v u sound spelled h room =
     let s : State = state_of old in
     let p : Permit = own_permit now before after.past in
-    room_for_either p s (state_of new) w v h.added (has_room s (bytes_now s w v)) sound (state_behind old new h.added h.adds) (room_leaves now old new before after (bytes_now s w v) (Ok u) h).geometry spelled
+    room_for_either p s (state_of new) w v h.added (has_room s (bytes_now s w v)) refl sound (state_behind old new h.added h.adds) (room_leaves now old new before after (bytes_now s w v) (Ok u) h).geometry spelled
     (h.does p refl (own_covers now before after.past)) room

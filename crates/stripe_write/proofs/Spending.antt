@@ -25,11 +25,11 @@ last_done p s i a h = λ rest why. h rest why
 -- ---- records that are kept
 
 pub nothing_more : (k : Kept) → with_records k [] ≡ k
-nothing_more k = ap (λ recs. let x : Kept = record { base = k.base; since = recs } in x) (append-nil k.since)
+nothing_more k = ap (λ recs. let x : Kept = record { told = k.told; base = k.base; since = recs } in x) (append-nil k.since)
 
 -- one behind the other
 pub then_more : (old mid new : Kept) (a b : List Rec) → mid ≡ with_records old a → new ≡ with_records mid b → new ≡ with_records old (a ++ b)
-then_more old mid new a b first last = last ∙ (ap (λ k. with_records k b) first ∙ ap (λ recs. let k : Kept = record { base = old.base; since = recs } in k) (append_assoc old.since a b))
+then_more old mid new a b first last = last ∙ (ap (λ k. with_records k b) first ∙ ap (λ recs. let k : Kept = record { told = old.told; base = old.base; since = recs } in k) (append_assoc old.since a b))
 
 pub state_behind : (kept new : Kept) (recs : List Rec) → new ≡ with_records kept recs → state_of new ≡ after_all (state_of kept) recs
 state_behind kept new recs is = ap state_of is ∙ after_all-append kept.base kept.since recs

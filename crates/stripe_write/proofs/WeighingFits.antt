@@ -13,12 +13,12 @@ use Rattle.alternate_vector.specs.Field.{Field}
 use Rattle.alternate_vector.specs.Alternates.{Stored, fields_size, vector_size}
 use Rattle.cache_model.specs.declared.record.Rec.{Rec}
 use Rattle.cache_model.specs.declared.record.Rec.TheVariants as rec
-use Rattle.cache_model.specs.State.{PutRow, Row, State, after_all, alternate_of, alternates_of, put_of, with_cut}
+use Rattle.cache_model.specs.State.{PutRow, Row, State, after_all, alternate_of, alternates_of, put_of, with_cut, most_fragments}
 use Rattle.cache_model.specs.Kept.{Kept, state_of, with_records}
 use Rattle.cache_model.specs.Verdict.{live_vector_of}
 use Rattle.cache_model.specs.Permit.{Done, End, Fails, Faulted, Permit, Stays, TooLarge, Weigh, work_after}
 use Rattle.cache_model.specs.Given.{IsReadWhereLive}
-use Rattle.cache_model.specs.Legal.{DoesWeigh, IsQuiet, IsWriting, MayGrow, aborted_record, is_writing, most_fragments, nothing, size_alone}
+use Rattle.cache_model.specs.Legal.{DoesWeigh, IsQuiet, IsWriting, MayGrow, aborted_record, is_writing, nothing, size_alone}
 use Rattle.cache_model.specs.Pair.{IsKeyPair}
 use Rattle.cache_model.specs.Vectors.{AreVectors, IsVectorAs}
 use Rattle.cache_model.proofs.Steps.{grows_by, grows_on}
@@ -157,7 +157,7 @@ wants kept new before after w e result is same seen =
       seen = seen;
       does = λ p covers. record {
         added = [];
-        adds = same ∙ ap (λ recs. let k : Kept = record { base = kept.base; since = recs } in k) (sym (append-nil kept.since));
+        adds = same ∙ ap (λ recs. let k : Kept = record { told = kept.told; base = kept.base; since = recs } in k) (sym (append-nil kept.since));
         does = λ rest why. nothing;
         told = tt;
       };
@@ -225,7 +225,7 @@ weighs law kept mid new before during after w answer result h =
           fit_does p (state_of mid) w o.0 (list_in answer) result (record { quiet = h.quiet_then; found = o.1; is_open = o.2 }) here readable h.fits in
           record {
             added = first ++ fit_adds w result;
-            adds = h.adds ∙ (ap (λ k. with_records k (fit_adds w result)) h.reads ∙ ap (λ recs. let k : Kept = record { base = kept.base; since = recs } in k) (append_assoc kept.since first (fit_adds w result)));
+            adds = h.adds ∙ (ap (λ k. with_records k (fit_adds w result)) h.reads ∙ ap (λ recs. let k : Kept = record { told = kept.told; base = kept.base; since = recs } in k) (append_assoc kept.since first (fit_adds w result)));
             does = spends_on p s w.put (length w.gathered.items) first (fit_adds w result) (weigh_end w result) far.grows (subst (λ t. Spends p t (Weigh w.put (length w.gathered.items)) (fit_adds w result) (weigh_end w result)) there last);
             told = no_more mid new w s p result h.adds (told_by p s (state_of mid) w answer result h.fits
                 (subst (λ t. AreVectors s → ((row : Row) → live_vector_of t w.key ≡ Some row → list_in answer ≡ Some (alternates_of t w.key)) ⊎ IsKeyPair IsVectorAs p s w.key) (sym there) far.listed));

@@ -19,8 +19,7 @@ use Rattle.cache_model.specs.Given.{CountsRead, IsDamaged, IsRead, IsReadWhereLi
 use Rattle.cache_model.specs.Legal.{DoesWeigh, IsWriting, is_writing}
 use Rattle.cache_model.specs.Pair.{IsKeyPair}
 use Rattle.cache_model.specs.Vectors.{AreVectors, IsVectorAs}
-use Rattle.cache_chronicle.proofs.ListLemmas.{row_in-named}
-use Rattle.cache_chronicle.proofs.RowLemmas.{row_in-without}
+use Rattle.cache_chronicle.proofs.RowLemmas.{row_in-named, row_in-without}
 use Rattle.stripe_core.specs.Find.{cause_records}
 use Rattle.stripe_vectors.specs.declared.reading.KeyVector.{KeyVector}
 use Rattle.stripe_vectors.specs.declared.reading.KeyVector.TheVariants as found

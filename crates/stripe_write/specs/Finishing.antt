@@ -39,6 +39,7 @@ pub record IsCurrent (s : State) (w : Writer) (spelled : Spelled) : Type 0 where
   pub payload : spelled.bytes.items ≡ vector_payload s w.put
   pub size : length spelled.bytes.items ≡ vector_length s w.put
   pub pin : spelled.pin ≡ greatest_pin (list_of_put s w.put)
+  pub lists : spelled.list ≡ list_of_put s w.put
 
 -- ---- fragments that are not live any more
 

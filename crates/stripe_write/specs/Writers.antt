@@ -2,8 +2,7 @@
 use Rattle.std.specs.Prelude.{◌≡◌, ◌*◌, ◌<◌, true, [], length, Some, ◌⊎◌}
 use Rattle.fragment_table.specs.Table.{total_length}
 use Rattle.tape_base.specs.declared.geometries.Geometry.{Geometry}
-use Rattle.cache_model.specs.State.{Open, PutRow, State, put_of}
-use Rattle.cache_model.specs.Legal.{most_fragments}
+use Rattle.cache_model.specs.State.{Open, PutRow, State, put_of, most_fragments}
 use Rattle.stripe_write.specs.declared.writer.Writer.{Writer}
 
 -- the writer is sealed, and all that it took is in fragments

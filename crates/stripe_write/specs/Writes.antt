@@ -7,10 +7,10 @@ use Rattle.tape_base.specs.declared.pieces.PieceId.{PieceId}
 use Rattle.fragment_table.specs.Table.{total_length}
 use Rattle.cache_model.specs.declared.record.Rec.{Rec}
 use Rattle.cache_model.specs.declared.record.Rec.TheVariants as rec
-use Rattle.cache_model.specs.State.{Open, PutRow, State, fragment_piece, put_of}
+use Rattle.cache_model.specs.State.{Open, PutRow, State, fragment_piece, put_of, most_fragments}
 use Rattle.cache_model.specs.Kept.{Kept, state_of, with_records}
 use Rattle.cache_model.specs.Permit.{Done, Fails, Fragment, GiveUp, Intent, ManyFragments, Overflow, Permit}
-use Rattle.cache_model.specs.Legal.{Does, is_writing, most_fragments}
+use Rattle.cache_model.specs.Legal.{Does, is_writing}
 use Rattle.device_log.specs.Calls.{Call}
 use Rattle.logged_disk.specs.Device.{State as Device, TellsAll}
 use Rattle.stripe_core.specs.declared.refusal.Placed.{Placed}

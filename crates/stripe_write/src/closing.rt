@@ -106,7 +106,7 @@ fn close_open<D: Disk, R: Directory + Drop, C: Chronicle>(
     ensures own { AddsOfPut writer.old.put (kept_in C.Chronicle stripe.old) (kept_in C.Chronicle stripe.new) }
 {
     match weigh(stripe, writer) {
-        Ok(vectors) => end(stripe, writer, &vectors, now),
+        Ok(vectors) => end(stripe, writer, vectors, now),
         Err(why) => {
             writer.sealed = is_sealed_by(&why, writer.sealed);
             Err(why)
@@ -128,14 +128,14 @@ fn is_sealed_by(why: &Refusal, sealed: bool) -> bool
 fn end<D: Disk, R: Directory + Drop, C: Chronicle>(
     stripe: &mut Stripe<D, R, C>,
     writer: &mut Writer,
-    vectors: &Vectors,
+    vectors: Vectors,
     now: u64,
 ) -> Result<Receipt, Refusal>
     requires stripe { IsStripe D.Disk R.Directory C.Chronicle stripe.old }
     requires quiet { IsQuiet (state_in C.Chronicle stripe.old) }
     requires writer { IsWriterOf (state_in C.Chronicle stripe.old) writer.old }
     requires open { is_writing (state_in C.Chronicle stripe.old) writer.old.put ≡ true }
-    requires spelled { AreSpelled (state_in C.Chronicle stripe.old).geometry writer.old vectors.now }
+    requires spelled { AreSpelled (state_in C.Chronicle stripe.old).geometry writer.old vectors }
     requires units { 4 ≤ units_in stripe.old }
     requires row { 0 < room_for writer.old.put stripe.old.actors }
     requires table { 0 < writer.old.table.room }
@@ -144,7 +144,7 @@ fn end<D: Disk, R: Directory + Drop, C: Chronicle>(
     ensures quiet { IsQuiet (state_in C.Chronicle stripe.new) }
     ensures ends { EndsWhere (state_in C.Chronicle stripe.new) writer.old result }
     ensures does { EndsAsAsked now (seen_in D.Disk R.Directory stripe.old).device.past (seen_in D.Disk R.Directory stripe.new).device.past
-        (kept_in C.Chronicle stripe.old) (kept_in C.Chronicle stripe.new) writer.old vectors.now result }
+        (kept_in C.Chronicle stripe.old) (kept_in C.Chronicle stripe.new) writer.old vectors result }
     ensures writer { IsWriterOf (state_in C.Chronicle stripe.new) writer.new }
     ensures sealed { writer.new.sealed ≡ true }
     ensures rested { IsRested writer.old writer.new }

@@ -1,10 +1,10 @@
 // How a put whose fragments are all cut is finished.
-ghost use Rattle.std.specs.Prelude.{◌≡◌, ◌+◌, ◌≤◌, ◌<◌, [], ◌∷◌, true, false, length, None, Some, IfErr, OnOk, OnErr};
+ghost use Rattle.std.specs.Prelude.{◌≡◌, ◌+◌, ◌≤◌, ◌<◌, [], ◌∷◌, true, false, is_some, length, None, Some, IfErr, OnOk, OnErr};
 ghost use Rattle.cache_model.specs.Kept.{with_records};
 ghost use Rattle.cache_model.specs.Legal.{IsQuiet, is_writing};
 ghost use Rattle.cache_model.specs.Room.{has_room};
 ghost use Rattle.cache_model.specs.State.{fragment_piece, live_row_of};
-ghost use Rattle.cache_model.specs.Verdict.{cause_of_piece};
+ghost use Rattle.cache_model.specs.Verdict.{cause_of_piece, live_vector_of};
 ghost use Rattle.cache_model.specs.declared.record.Rec.TheVariants as rec;
 ghost use Rattle.stripe_core.specs.declared.refusal.Refusal.TheVariants as refusal;
 ghost use Rattle.stripe_core.specs.Acts.{CommitsAsAsked, IsCommitting, committed_record};
@@ -16,10 +16,11 @@ ghost use Rattle.stripe_core.specs.Between.{Between};
 ghost use Rattle.stripe_write.specs.Others.{AddsOfPut};
 ghost use Rattle.stripe_write.specs.Writers.{IsWriterOf};
 ghost use Rattle.stripe_write.specs.Closing.{AreSpelled};
-ghost use Rattle.stripe_write.specs.Finishing.{AreLive, FinishesAsRead, FinishesWhere, IsFirstLost, IsReceiptOf, bytes_now, picked, vector_now};
+ghost use Rattle.stripe_write.specs.Finishing.{AreLive, FinishesAsRead, FinishesWhere, IsFirstLost, IsReceiptOf, bytes_now, picked};
 
 use crate::Writer;
 use crate::weighing::Vectors;
+use alternate_vector::Vector;
 use cache_chronicle::Chronicle;
 use dir_table::Directory;
 use logged_disk::Disk;
@@ -46,25 +47,35 @@ impl Vectors {
             _ => &self.alone,
         }
     }
+
+    // The list of that one.
+    fn into_list(self, live: bool) -> Vector
+        ensures { result ≡ (picked self live).list }
+    {
+        let Vectors { merged, alone } = self;
+        match merged {
+            Some(merged) if live => merged.list,
+            _ => alone.list,
+        }
+    }
 }
 
-// The vector that is placed now.
-fn current<'a, D: Disk, R: Directory + Drop, C: Chronicle>(
+// Whether the key's vector is live, so that the put's vector lists what it listed.
+fn is_live<D: Disk, R: Directory + Drop, C: Chronicle>(
     stripe: &Stripe<D, R, C>,
     writer: &Writer,
-    vectors: &'a Vectors,
-) -> &'a Spelled
+) -> bool
     requires { IsStripe D.Disk R.Directory C.Chronicle stripe.now }
-    ensures { result.now ≡ vector_now (state_in C.Chronicle stripe.now) writer.now vectors.now }
+    ensures { result ≡ is_some (live_vector_of (state_in C.Chronicle stripe.now) writer.now.key) }
 {
-    vectors.pick(live_vector(stripe, writer.key).is_some())
+    live_vector(stripe, writer.key).is_some()
 }
 
 // Finishes a put, behind a flush where its vector has no room, unless a fragment is lost.
 pub(crate) fn finish<D: Disk, R: Directory + Drop, C: Chronicle>(
     stripe: &mut Stripe<D, R, C>,
     writer: &Writer,
-    vectors: &Vectors,
+    vectors: Vectors,
     now: u64,
 ) -> Result<Receipt, Refusal>
     requires stripe { IsStripe D.Disk R.Directory C.Chronicle stripe.old }
@@ -72,20 +83,20 @@ pub(crate) fn finish<D: Disk, R: Directory + Drop, C: Chronicle>(
     requires writer { IsWriterOf (state_in C.Chronicle stripe.old) writer.now }
     requires open { is_writing (state_in C.Chronicle stripe.old) writer.now.put ≡ true }
     requires cut { writer.now.gathered.items ≡ [] }
-    requires spelled { AreSpelled (state_in C.Chronicle stripe.old).geometry writer.now vectors.now }
+    requires spelled { AreSpelled (state_in C.Chronicle stripe.old).geometry writer.now vectors }
     requires units { 3 ≤ units_in stripe.old }
     ensures stripe { IsStripe D.Disk R.Directory C.Chronicle stripe.new }
     ensures unharmed { Between D.Disk R.Directory C.Chronicle stripe.old stripe.new }
     ensures quiet { IsQuiet (state_in C.Chronicle stripe.new) }
     ensures finishes { FinishesWhere (state_in C.Chronicle stripe.new) writer.now result }
     ensures does { FinishesAsRead now (seen_in D.Disk R.Directory stripe.old).device.past (seen_in D.Disk R.Directory stripe.new).device.past
-        (kept_in C.Chronicle stripe.old) (kept_in C.Chronicle stripe.new) writer.now vectors.now result }
+        (kept_in C.Chronicle stripe.old) (kept_in C.Chronicle stripe.new) writer.now vectors result }
     ensures later { (seen_in D.Disk R.Directory stripe.old).device.faults ≤ (seen_in D.Disk R.Directory stripe.new).device.faults }
     ensures counts { IfErr result (IsCounted (seen_in D.Disk R.Directory stripe.new).device.faults) }
     ensures writer { IsWriterOf (state_in C.Chronicle stripe.new) writer.now }
     ensures own { AddsOfPut writer.now.put (kept_in C.Chronicle stripe.old) (kept_in C.Chronicle stripe.new) }
 {
-    match make_room(stripe, writer, vectors, now) {
+    match make_room(stripe, writer, &vectors, now) {
         Ok(()) => end(stripe, writer, vectors, now),
         Err(why) => Err(why),
     }
@@ -95,7 +106,7 @@ pub(crate) fn finish<D: Disk, R: Directory + Drop, C: Chronicle>(
 fn end<D: Disk, R: Directory + Drop, C: Chronicle>(
     stripe: &mut Stripe<D, R, C>,
     writer: &Writer,
-    vectors: &Vectors,
+    vectors: Vectors,
     now: u64,
 ) -> Result<Receipt, Refusal>
     requires stripe { IsStripe D.Disk R.Directory C.Chronicle stripe.old }
@@ -103,15 +114,15 @@ fn end<D: Disk, R: Directory + Drop, C: Chronicle>(
     requires writer { IsWriterOf (state_in C.Chronicle stripe.old) writer.now }
     requires open { is_writing (state_in C.Chronicle stripe.old) writer.now.put ≡ true }
     requires cut { writer.now.gathered.items ≡ [] }
-    requires spelled { AreSpelled (state_in C.Chronicle stripe.old).geometry writer.now vectors.now }
-    requires room { has_room (state_in C.Chronicle stripe.old) (bytes_now (state_in C.Chronicle stripe.old) writer.now vectors.now) ≡ true }
+    requires spelled { AreSpelled (state_in C.Chronicle stripe.old).geometry writer.now vectors }
+    requires room { has_room (state_in C.Chronicle stripe.old) (bytes_now (state_in C.Chronicle stripe.old) writer.now vectors) ≡ true }
     requires units { 2 ≤ units_in stripe.old }
     ensures stripe { IsStripe D.Disk R.Directory C.Chronicle stripe.new }
     ensures unharmed { Between D.Disk R.Directory C.Chronicle stripe.old stripe.new }
     ensures quiet { IsQuiet (state_in C.Chronicle stripe.new) }
     ensures finishes { FinishesWhere (state_in C.Chronicle stripe.new) writer.now result }
     ensures does { FinishesAsRead now (seen_in D.Disk R.Directory stripe.old).device.past (seen_in D.Disk R.Directory stripe.new).device.past
-        (kept_in C.Chronicle stripe.old) (kept_in C.Chronicle stripe.new) writer.now vectors.now result }
+        (kept_in C.Chronicle stripe.old) (kept_in C.Chronicle stripe.new) writer.now vectors result }
     ensures later { (seen_in D.Disk R.Directory stripe.old).device.faults ≤ (seen_in D.Disk R.Directory stripe.new).device.faults }
     ensures counts { IfErr result (IsCounted (seen_in D.Disk R.Directory stripe.new).device.faults) }
     ensures writer { IsWriterOf (state_in C.Chronicle stripe.new) writer.now }
@@ -145,7 +156,7 @@ fn make_room<D: Disk, R: Directory + Drop, C: Chronicle>(
     ensures later { (seen_in D.Disk R.Directory stripe.old).device.faults ≤ (seen_in D.Disk R.Directory stripe.new).device.faults }
     ensures unit { units_in stripe.old ≤ units_in stripe.new + 1 }
 {
-    let bytes = current(stripe, writer, vectors).bytes.len() as u32;
+    let bytes = vectors.pick(is_live(stripe, writer)).bytes.len() as u32;
     stripe.make_room(bytes, now)
 }
 
@@ -204,7 +215,7 @@ fn lose<D: Disk, R: Directory + Drop, C: Chronicle>(
 fn complete<D: Disk, R: Directory + Drop, C: Chronicle>(
     stripe: &mut Stripe<D, R, C>,
     writer: &Writer,
-    vectors: &Vectors,
+    vectors: Vectors,
     now: u64,
 ) -> Result<Receipt, Refusal>
     requires stripe { IsStripe D.Disk R.Directory C.Chronicle stripe.old }
@@ -212,8 +223,8 @@ fn complete<D: Disk, R: Directory + Drop, C: Chronicle>(
     requires writer { IsWriterOf (state_in C.Chronicle stripe.old) writer.now }
     requires open { is_writing (state_in C.Chronicle stripe.old) writer.now.put ≡ true }
     requires cut { writer.now.gathered.items ≡ [] }
-    requires spelled { AreSpelled (state_in C.Chronicle stripe.old).geometry writer.now vectors.now }
-    requires room { has_room (state_in C.Chronicle stripe.old) (bytes_now (state_in C.Chronicle stripe.old) writer.now vectors.now) ≡ true }
+    requires spelled { AreSpelled (state_in C.Chronicle stripe.old).geometry writer.now vectors }
+    requires room { has_room (state_in C.Chronicle stripe.old) (bytes_now (state_in C.Chronicle stripe.old) writer.now vectors) ≡ true }
     requires whole { AreLive (state_in C.Chronicle stripe.old) writer.now (length writer.now.table.rows) }
     requires units { 2 ≤ units_in stripe.old }
     ensures stripe { IsStripe D.Disk R.Directory C.Chronicle stripe.new }
@@ -221,28 +232,30 @@ fn complete<D: Disk, R: Directory + Drop, C: Chronicle>(
     ensures quiet { IsQuiet (state_in C.Chronicle stripe.new) }
     ensures finishes { FinishesWhere (state_in C.Chronicle stripe.new) writer.now result }
     ensures does { FinishesAsRead now (seen_in D.Disk R.Directory stripe.old).device.past (seen_in D.Disk R.Directory stripe.new).device.past
-        (kept_in C.Chronicle stripe.old) (kept_in C.Chronicle stripe.new) writer.now vectors.now result }
+        (kept_in C.Chronicle stripe.old) (kept_in C.Chronicle stripe.new) writer.now vectors result }
     ensures later { (seen_in D.Disk R.Directory stripe.old).device.faults ≤ (seen_in D.Disk R.Directory stripe.new).device.faults }
     ensures counts { IfErr result (IsCounted (seen_in D.Disk R.Directory stripe.new).device.faults) }
     ensures writer { IsWriterOf (state_in C.Chronicle stripe.new) writer.now }
     ensures own { AddsOfPut writer.now.put (kept_in C.Chronicle stripe.old) (kept_in C.Chronicle stripe.new) }
 {
-    let spelled = current(stripe, writer, vectors);
+    let live = is_live(stripe, writer);
+    let spelled = vectors.pick(live);
     let id = PieceId {
         first: writer.key,
         put: writer.put,
         index: 0,
     };
     match stripe.place_piece(id, spelled.pin, 0, &spelled.bytes, now) {
-        Ok(_) => Ok(commit(stripe, writer)),
+        Ok(_) => Ok(commit(stripe, writer, vectors.into_list(live))),
         Err(why) => Err(why),
     }
 }
 
-// Commits the put whose vector was placed.
+// Commits the put whose vector was placed and lists these alternates.
 fn commit<D: Disk, R: Directory + Drop, C: Chronicle>(
     stripe: &mut Stripe<D, R, C>,
     writer: &Writer,
+    alternates: Vector,
 ) -> Receipt
     requires stripe { IsStripe D.Disk R.Directory C.Chronicle stripe.old }
     requires committing { IsCommitting (state_in C.Chronicle stripe.old) writer.now.put writer.now.key }
@@ -250,14 +263,14 @@ fn commit<D: Disk, R: Directory + Drop, C: Chronicle>(
     ensures stripe { IsStripe D.Disk R.Directory C.Chronicle stripe.new }
     ensures unharmed { Between D.Disk R.Directory C.Chronicle stripe.old stripe.new }
     ensures quiet { IsQuiet (state_in C.Chronicle stripe.new) }
-    ensures adds { kept_in C.Chronicle stripe.new
-        ≡ with_records (kept_in C.Chronicle stripe.old) (committed_record (state_in C.Chronicle stripe.old) writer.now.put writer.now.key ∷ []) }
-    ensures does { CommitsAsAsked (state_in C.Chronicle stripe.old) writer.now.put writer.now.key }
+    ensures adds { kept_in C.Chronicle stripe.new ≡ with_records (kept_in C.Chronicle stripe.old)
+        (committed_record (state_in C.Chronicle stripe.old) writer.now.put writer.now.key alternates ∷ []) }
+    ensures does { CommitsAsAsked (state_in C.Chronicle stripe.old) writer.now.put writer.now.key alternates }
     ensures receipt { IsReceiptOf writer.now result }
     ensures still { (seen_in D.Disk R.Directory stripe.new).device ≡ (seen_in D.Disk R.Directory stripe.old).device }
     ensures writer { IsWriterOf (state_in C.Chronicle stripe.new) writer.now }
 {
-    stripe.commit(writer.put, writer.key);
+    stripe.commit(writer.put, writer.key, alternates);
     Receipt {
         put: writer.put,
         length: writer.table.total(),

@@ -3,7 +3,8 @@ ghost use Rattle.std.specs.Prelude.{◌≡◌, ◌+◌, ◌≤◌, ◌<◌, [], 
 ghost use Rattle.tape_base.specs.Digest.{digest_of};
 ghost use Rattle.fragment_table.specs.Table.{made_row};
 ghost use Rattle.cache_model.specs.Kept.{with_records};
-ghost use Rattle.cache_model.specs.Legal.{IsQuiet, is_writing, most_fragments};
+ghost use Rattle.cache_model.specs.Legal.{IsQuiet, is_writing};
+ghost use Rattle.cache_model.specs.State.{most_fragments};
 ghost use Rattle.stripe_actors.specs.Calls.{HasNumber};
 ghost use Rattle.stripe_core.specs.Acts.{OpensAsAsked, opened_record};
 ghost use Rattle.stripe_core.specs.Place.{CutsAsAsked};

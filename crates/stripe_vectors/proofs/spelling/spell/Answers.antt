@@ -26,4 +26,5 @@ returns c =
       size = size;
       pin = c.greatest_pin.ensures ∙ ap greatest_pin same;
       small = blocks_fit (length c.encode.new.into.items) (budget_of g) budget (omega (arith, size, within));
+      lists = same;
     }

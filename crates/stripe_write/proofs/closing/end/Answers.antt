@@ -24,7 +24,7 @@ finish-requires-clause-spelled g c =
     let w = c.args.writer.now in
     let sealed : Writer = record { put = w.put; key = w.key; request = w.request; response = w.response; pin = w.pin; gathered = w.gathered; table = w.table; sealed = Rattle.std.proofs.Common.true } in
     let is : IsSealed w sealed = record { put = refl; key = refl; request = refl; response = refl; pin = refl; gathered = refl; rows = refl; sealed = refl } in
-    spelled_same _ _ w c.cut_rest.new.writer c.args.vectors.now (keeps_rest c.args.now (kept_in g.C.Chronicle c.args.stripe.now) (kept_in g.C.Chronicle c.cut_rest.new.stripe) _ _ sealed c.in-Ok.field-0 c.in-Ok.ensures.does).geometry
+    spelled_same _ _ w c.cut_rest.new.writer c.args.vectors (keeps_rest c.args.now (kept_in g.C.Chronicle c.args.stripe.now) (kept_in g.C.Chronicle c.cut_rest.new.stripe) _ _ sealed c.in-Ok.field-0 c.in-Ok.ensures.does).geometry
     (then_same w sealed c.cut_rest.new.writer (sealed_same w sealed is) (cut_same sealed c.cut_rest.new.writer c.cut_rest.ensures.rest c.in-Ok.ensures.rows c.in-Ok.ensures.empty)) c.requires.spelled
 
 pub returns-in-Ok-clause-does : goal.returns-in-Ok-clause-does
@@ -32,7 +32,7 @@ returns-in-Ok-clause-does g c =
     let w = c.args.writer.now in
     let sealed : Writer = record { put = w.put; key = w.key; request = w.request; response = w.response; pin = w.pin; gathered = w.gathered; table = w.table; sealed = Rattle.std.proofs.Common.true } in
     rest_then_finish c.args.now (kept_in g.C.Chronicle c.args.stripe.now) (kept_in g.C.Chronicle c.cut_rest.new.stripe) (kept_in g.C.Chronicle c.finish.new.stripe)
-    (seen_in g.D.Disk g.R.Directory c.args.stripe.now).device (seen_in g.D.Disk g.R.Directory c.cut_rest.new.stripe).device (seen_in g.D.Disk g.R.Directory c.finish.new.stripe).device w sealed c.cut_rest.new.writer c.args.vectors.now c.in-Ok.field-0 c.finish.result
+    (seen_in g.D.Disk g.R.Directory c.args.stripe.now).device (seen_in g.D.Disk g.R.Directory c.cut_rest.new.stripe).device (seen_in g.D.Disk g.R.Directory c.finish.new.stripe).device w sealed c.cut_rest.new.writer c.args.vectors c.in-Ok.field-0 c.finish.result
     (record { put = refl; key = refl; request = refl; response = refl; pin = refl; gathered = refl; rows = refl; sealed = refl }) c.cut_rest.ensures.rest c.in-Ok.ensures.rows c.in-Ok.ensures.empty
     c.cut_rest.ensures.unharmed.goes c.finish.ensures.unharmed.goes c.in-Ok.ensures.does c.finish.ensures.finishes c.finish.ensures.does
 
@@ -40,7 +40,7 @@ pub returns-in-Err-clause-does : goal.returns-in-Err-clause-does
 returns-in-Err-clause-does g c =
     let w = c.args.writer.now in
     let sealed : Writer = record { put = w.put; key = w.key; request = w.request; response = w.response; pin = w.pin; gathered = w.gathered; table = w.table; sealed = Rattle.std.proofs.Common.true } in
-    no_rest_ends c.args.now (kept_in g.C.Chronicle c.args.stripe.now) (kept_in g.C.Chronicle c.cut_rest.new.stripe) _ _ w sealed c.args.vectors.now c.in-Err.why
+    no_rest_ends c.args.now (kept_in g.C.Chronicle c.args.stripe.now) (kept_in g.C.Chronicle c.cut_rest.new.stripe) _ _ w sealed c.args.vectors c.in-Err.why
     (record { put = refl; key = refl; request = refl; response = refl; pin = refl; gathered = refl; rows = refl; sealed = refl }) c.requires.open c.requires.writer c.in-Err.ensures.some c.in-Err.ensures.number
     c.in-Err.ensures.does
 

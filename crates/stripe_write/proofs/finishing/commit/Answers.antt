@@ -14,5 +14,5 @@ returns-clause-writer g c =
     let kept = kept_in g.C.Chronicle c.args.stripe.now in
     let s = state_in g.C.Chronicle c.args.stripe.now in
     let w = c.args.writer.now in
-    subst (λ t. IsWriterOf t w) (sym (ap state_of c.commit.ensures.adds ∙ after_all-append kept.base kept.since (committed_record s w.put w.key ∷ [])))
-    (closed_writer s w w.key (total_length (cuts_of s w.put)))
+    subst (λ t. IsWriterOf t w) (sym (ap state_of c.commit.ensures.adds ∙ after_all-append kept.base kept.since (committed_record s w.put w.key c.args.alternates ∷ [])))
+    (closed_writer s w w.key (total_length (cuts_of s w.put)) c.args.alternates)

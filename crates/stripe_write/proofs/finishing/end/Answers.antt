@@ -11,7 +11,7 @@ pub returns-in-Some-clause-does : goal.returns-in-Some-clause-does
 returns-in-Some-clause-does g c =
     let s = state_in g.C.Chronicle c.args.stripe.now in
     let w = c.args.writer.now in
-    loses c.args.now (kept_in g.C.Chronicle c.args.stripe.now) (kept_in g.C.Chronicle c.lose.new.stripe) _ _ w c.args.vectors.now (is_closing s w c.requires.quiet c.requires.open c.requires.writer c.requires.cut) c.in-Some.index _ c.lose.result
+    loses c.args.now (kept_in g.C.Chronicle c.args.stripe.now) (kept_in g.C.Chronicle c.lose.new.stripe) _ _ w c.args.vectors (is_closing s w c.requires.quiet c.requires.open c.requires.writer c.requires.cut) c.in-Some.index _ c.lose.result
     c.requires.spelled c.requires.room (subst (IsFirstLost s w) c.in-Some.is c.first_lost.ensures) c.lose.ensures.lost c.lose.ensures.adds
 
 pub returns-in-Some-clause-own : goal.returns-in-Some-clause-own

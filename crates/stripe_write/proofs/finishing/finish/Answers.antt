@@ -23,12 +23,12 @@ end-requires-clause-open g c =
 
 pub end-requires-clause-spelled : goal.end-requires-clause-spelled
 end-requires-clause-spelled g c =
-    subst (λ x. AreSpelled x c.args.writer.now c.args.vectors.now)
+    subst (λ x. AreSpelled x c.args.writer.now c.args.vectors)
     (sym (room_leaves c.args.now (kept_in g.C.Chronicle c.args.stripe.now) (kept_in g.C.Chronicle c.make_room.new.stripe) _ _ _ _ c.in-Ok.ensures.does).geometry) c.requires.spelled
 
 pub end-requires-clause-room : goal.end-requires-clause-room
 end-requires-clause-room g c =
-    room_is_made c.args.now (kept_in g.C.Chronicle c.args.stripe.now) (kept_in g.C.Chronicle c.make_room.new.stripe) _ _ c.args.writer.now c.args.vectors.now c.in-Ok.field-0 c.requires.stripe.pieces.sound c.requires.spelled
+    room_is_made c.args.now (kept_in g.C.Chronicle c.args.stripe.now) (kept_in g.C.Chronicle c.make_room.new.stripe) _ _ c.args.writer.now c.args.vectors c.in-Ok.field-0 c.requires.stripe.pieces.sound c.requires.spelled
     c.in-Ok.ensures.does c.in-Ok.ensures.room
 
 pub returns-in-Ok-clause-unharmed : goal.returns-in-Ok-clause-unharmed
@@ -44,7 +44,7 @@ returns-in-Ok-clause-does g c =
     let s = state_in g.C.Chronicle c.args.stripe.now in
     let w = c.args.writer.now in
     behind_room c.args.now (kept_in g.C.Chronicle c.args.stripe.now) (kept_in g.C.Chronicle c.make_room.new.stripe) (kept_in g.C.Chronicle c.end.new.stripe)
-    (seen_in g.D.Disk g.R.Directory c.args.stripe.now).device (seen_in g.D.Disk g.R.Directory c.make_room.new.stripe).device (seen_in g.D.Disk g.R.Directory c.end.new.stripe).device w c.args.vectors.now
+    (seen_in g.D.Disk g.R.Directory c.args.stripe.now).device (seen_in g.D.Disk g.R.Directory c.make_room.new.stripe).device (seen_in g.D.Disk g.R.Directory c.end.new.stripe).device w c.args.vectors
     (is_closing s w c.requires.quiet c.requires.open c.requires.writer c.requires.cut) c.requires.spelled c.in-Ok.field-0 c.end.result c.make_room.ensures.unharmed.goes c.end.ensures.unharmed.goes
     c.in-Ok.ensures.does c.end.ensures.does
 
@@ -52,19 +52,19 @@ pub returns-in-Err-clause-does : goal.returns-in-Err-clause-does
 returns-in-Err-clause-does g c =
     let s = state_in g.C.Chronicle c.args.stripe.now in
     let w = c.args.writer.now in
-    no_room_ends c.args.now (kept_in g.C.Chronicle c.args.stripe.now) (kept_in g.C.Chronicle c.make_room.new.stripe) _ _ w c.args.vectors.now (is_closing s w c.requires.quiet c.requires.open c.requires.writer c.requires.cut)
+    no_room_ends c.args.now (kept_in g.C.Chronicle c.args.stripe.now) (kept_in g.C.Chronicle c.make_room.new.stripe) _ _ w c.args.vectors (is_closing s w c.requires.quiet c.requires.open c.requires.writer c.requires.cut)
     c.requires.spelled c.in-Err.why c.in-Err.ensures.does c.in-Err.ensures.full c.in-Err.ensures.stops
 
 pub returns-in-Err-clause-quiet : goal.returns-in-Err-clause-quiet
 returns-in-Err-clause-quiet g c =
     let stopped = stop_in (RoomsAsAsked c.args.now (kept_in g.C.Chronicle c.args.stripe.now) (kept_in g.C.Chronicle c.make_room.new.stripe) (seen_in g.D.Disk g.R.Directory c.args.stripe.now).device.past
-    (seen_in g.D.Disk g.R.Directory c.make_room.new.stripe).device (bytes_now (state_in g.C.Chronicle c.args.stripe.now) c.args.writer.now c.args.vectors.now)) c.in-Err.why c.in-Err.ensures.does in
+    (seen_in g.D.Disk g.R.Directory c.make_room.new.stripe).device (bytes_now (state_in g.C.Chronicle c.args.stripe.now) c.args.writer.now c.args.vectors)) c.in-Err.why c.in-Err.ensures.does in
     (room_leaves c.args.now (kept_in g.C.Chronicle c.args.stripe.now) (kept_in g.C.Chronicle c.make_room.new.stripe) _ _ _ _ stopped.1).pending ∙ c.requires.quiet
 
 pub returns-in-Err-clause-writer : goal.returns-in-Err-clause-writer
 returns-in-Err-clause-writer g c =
     let stopped = stop_in (RoomsAsAsked c.args.now (kept_in g.C.Chronicle c.args.stripe.now) (kept_in g.C.Chronicle c.make_room.new.stripe) (seen_in g.D.Disk g.R.Directory c.args.stripe.now).device.past
-    (seen_in g.D.Disk g.R.Directory c.make_room.new.stripe).device (bytes_now (state_in g.C.Chronicle c.args.stripe.now) c.args.writer.now c.args.vectors.now)) c.in-Err.why c.in-Err.ensures.does in
+    (seen_in g.D.Disk g.R.Directory c.make_room.new.stripe).device (bytes_now (state_in g.C.Chronicle c.args.stripe.now) c.args.writer.now c.args.vectors)) c.in-Err.why c.in-Err.ensures.does in
     left_writer (state_in g.C.Chronicle c.args.stripe.now) (state_in g.C.Chronicle c.make_room.new.stripe) c.args.writer.now
     (room_leaves c.args.now (kept_in g.C.Chronicle c.args.stripe.now) (kept_in g.C.Chronicle c.make_room.new.stripe) _ _ _ _ stopped.1) c.requires.writer
 
@@ -76,5 +76,5 @@ returns-in-Ok-clause-own g c =
 pub returns-in-Err-clause-own : goal.returns-in-Err-clause-own
 returns-in-Err-clause-own g c =
     let stopped = stop_in (RoomsAsAsked c.args.now (kept_in g.C.Chronicle c.args.stripe.now) (kept_in g.C.Chronicle c.make_room.new.stripe) (seen_in g.D.Disk g.R.Directory c.args.stripe.now).device.past
-    (seen_in g.D.Disk g.R.Directory c.make_room.new.stripe).device (bytes_now (state_in g.C.Chronicle c.args.stripe.now) c.args.writer.now c.args.vectors.now)) c.in-Err.why c.in-Err.ensures.does in
+    (seen_in g.D.Disk g.R.Directory c.make_room.new.stripe).device (bytes_now (state_in g.C.Chronicle c.args.stripe.now) c.args.writer.now c.args.vectors)) c.in-Err.why c.in-Err.ensures.does in
     owns_room c.args.writer.now.put c.args.now (kept_in g.C.Chronicle c.args.stripe.now) (kept_in g.C.Chronicle c.make_room.new.stripe) _ _ _ _ stopped.1

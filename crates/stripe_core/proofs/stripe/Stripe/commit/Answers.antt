@@ -15,20 +15,20 @@ pub returns-clause-stripe : goal.returns-clause-stripe
 returns-clause-stripe g c =
     let s = state_in g.C.Chronicle c.args.self.now in
     let kept = kept_in g.C.Chronicle c.args.self.now in
-    let told = rec.Committed c.args.put c.args.key c.length-length.result in
+    let told = rec.Committed c.args.put c.args.key c.length-length.result c.args.alternates in
     let after = g.C.Chronicle.kept c.commit.new.self.chronicle in
     let reader = reader_behind kept after told c.commit.ensures.adds in
     record {
       pieces = c.commit.ensures.pieces;
-      actors = subst (λ t. AreActors t c.close.new.self) (sym (ap state_of c.commit.ensures.adds ∙ state_of-with_records kept (told ∷ []))) (c.close.ensures.commits c.args.key c.length-length.result s c.requires.stripe.actors);
+      actors = subst (λ t. AreActors t c.close.new.self) (sym (ap state_of c.commit.ensures.adds ∙ state_of-with_records kept (told ∷ []))) (c.close.ensures.commits c.args.key c.length-length.result c.args.alternates s c.requires.stripe.actors);
       plain = c.requires.stripe.plain;
       spared = one_less c.args.self.now.units c.args.self.now.flushes _ _ (seen_in g.D.Disk g.R.Directory c.args.self.now) (seen_of g.D.Disk g.R.Directory c.commit.new.self) c.requires.unit c.requires.stripe.spared c.commit.ensures.uses;
       named = named_behind kept _ told c.commit.ensures.adds
-          (named_committed s c.args.put c.length-length.result c.args.key (c.requires.committing.pending ∙ ap (λ k. Some (vector_piece k c.args.put)) c.requires.committing.key_is) c.requires.stripe.named);
+          (named_committed s c.args.put c.length-length.result c.args.key c.args.alternates (c.requires.committing.pending ∙ ap (λ k. Some (vector_piece k c.args.put)) c.requires.committing.key_is) c.requires.stripe.named);
       readers = omega (arith, c.requires.stripe.readers, c.close.ensures.readers);
       ahead = made_behind kept after told c.args.self.now.ahead c.commit.ensures.adds refl c.requires.stripe.ahead;
       numbered = numbered_by kept after (told ∷ []) 0 c.commit.ensures.adds (omega (arith, reader)) (omega arith) c.requires.stripe.numbered;
     }
 
 pub returns-clause-does : goal.returns-clause-does
-returns-clause-does g c = λ p. commits p (state_in g.C.Chronicle c.args.self.now) c.args.put c.args.key c.requires.committing
+returns-clause-does g c = λ lists p. commits p (state_in g.C.Chronicle c.args.self.now) c.args.put c.args.key c.args.alternates c.requires.committing lists

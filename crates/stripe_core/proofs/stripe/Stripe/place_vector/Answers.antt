@@ -39,7 +39,7 @@ returns-in-Ok-clause-does g c = record {
   adds = c.in-Ok.ensures.adds;
   at = c.in-Ok.ensures.at;
   does = λ lists p covers.
-      vector_group p (state_in g.C.Chronicle c.args.self.now) c.args.id c.args.pin c.args.start c.args.payload.now (Ok c.in-Ok.placed) covers.plain lists
+      vector_group p (state_in g.C.Chronicle c.args.self.now) c.args.id c.args.pin c.args.start c.args.payload.now (Ok c.in-Ok.placed) covers.plain covers.unsynced lists
       (eq-eqb c.args.id.index 0 c.requires.kind) c.requires.vector.small c.in-Ok.ensures.at;
 }
 
@@ -54,7 +54,7 @@ returns-in-Err-clause-does g c =
       adds = c.in-Err.ensures.adds;
       at = c.in-Err.ensures.at;
       does = λ lists p covers.
-          vector_group p s c.args.id c.args.pin c.args.start c.args.payload.now (Err c.in-Err.stop) covers.plain lists (eq-eqb c.args.id.index 0 c.requires.kind) c.requires.vector.small c.in-Err.ensures.at;
+          vector_group p s c.args.id c.args.pin c.args.start c.args.payload.now (Err c.in-Err.stop) covers.plain covers.unsynced lists (eq-eqb c.args.id.index 0 c.requires.kind) c.requires.vector.small c.in-Err.ensures.at;
     }))
 
 pub place-requires-clause-new : goal.place-requires-clause-new
