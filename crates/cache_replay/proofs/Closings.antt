@@ -161,7 +161,7 @@ module _ (now : ℕ) (old new : Kept) (before after : List Call) (accounted : Is
       let p : Permit = own_permit now before after in
       let there = state_behind old new added adds in
       let has = has_put run name s w played in
-      let legal : IsStep p s (close_intents w) added (reason_of e) = whole_step p s (close_intents w) added e spends (subst IsQuiet there quiet_then) (accounted_is before after old new added accounted adds) in
+      let legal : IsStep p s (close_intents w) added (reason_of e) = whole_step p s (close_intents w) added e refl spends (subst IsQuiet there quiet_then) (accounted_is before after old new added accounted adds) in
       let end_ = ended p added (reason_of e) legal there in
       let turn : Turn = record { added = added; refused = reason_of e; device = p; given = [] } in
       let put_is = rested_put w last rested in
@@ -170,7 +170,7 @@ module _ (now : ℕ) (old new : Kept) (before after : List Call) (accounted : Is
       ap (λ o. of_put run o (streams_closed run (reason_of e)) last.put) has ∙ ap (λ (b : Bool). if b then x else run.streams last.put) (eq-eqb last.put w.put put_is) in
       inl (record {
         turn = turn;
-        takes = record { plain = refl; content = refl; moment = sym moment; legal = subst (λ (is : List Intent). IsStep p s is added (reason_of e)) (sym (asks run name played)) legal; own = refl };
+        takes = record { plain = refl; unsynced = refl; content = refl; moment = sym moment; legal = subst (λ (is : List Intent). IsStep p s is added (reason_of e)) (sym (asks run name played)) legal; own = refl };
         calls = refl;
         state = there;
         held = ap (still_open t) played.held ∙ held_open t w.put last left put_is open_left;
@@ -179,14 +179,15 @@ module _ (now : ℕ) (old new : Kept) (before after : List Call) (accounted : Is
         says = ap (λ o. Rattle.script_run.specs.Answers.if_has o (λ put. said t None (reason_of e) (put_said t put))) has ∙ says end_;
       })
 
-  shows : (p : Permit) → p.packed ≡ false → p.area ≡ 0 → p.now ≡ now → p.events ≡ calls_since before after → IsKeyPair IsVectorAs p s w.key → (run : Run) (name : List ℕ) (said_ : StepAnswer) → run.now ≡ now → IsPlayed run name s w → WriterEnds run name before after s t Closes left said_
-  shows p plain content at calls pair run name said_ moment played =
+  shows : (p : Permit) → p.packed ≡ false → p.syncs ≡ false → p.area ≡ 0 → p.now ≡ now → p.events ≡ calls_since before after → IsKeyPair IsVectorAs p s w.key → (run : Run) (name : List ℕ) (said_ : StepAnswer) → run.now ≡ now → IsPlayed run name s w → WriterEnds run name before after s t Closes left said_
+  shows p plain unsynced content at calls pair run name said_ moment played =
       let weighs : Intent = Weigh w.put (length w.gathered.items) in
       let first : IsPair (IsPlacedAs run.streams) p s weighs =
       as_placed run.streams p s weighs (key_pair p s weighs w.key (weigh_reads s w.put (length w.gathered.items) w.key (key_at s w writing own)) pair) in
       inr (shows_in run before after s (step.Close name) (record {
         device = p;
         plain = plain;
+        unsynced = unsynced;
         content = content;
         moment = at ∙ sym moment;
         calls = calls;
@@ -198,7 +199,7 @@ module _ (now : ℕ) (old new : Kept) (before after : List Call) (accounted : Is
       → (run : Run) (name : List ℕ) → run.now ≡ now → IsPlayed run name s w → WriterEnds run name before after s t Closes left said_
   either result said_ asked_ then_ run name moment played = elim (asked_.does (own_permit now before after) refl (own_covers now before after) played.told) [
     | inl closes ↦ then_ run name moment played closes
-    | inr pair ↦ shows (own_permit now before after) refl refl refl refl pair run name said_ moment played
+    | inr pair ↦ shows (own_permit now before after) refl refl refl refl refl pair run name said_ moment played
   ]
 
   -- each answer

@@ -76,7 +76,7 @@ passed_counts s (Some row) = refl
 pub loss_counts : (s : State) (id : PieceId) → NoLossIsAFault s → count_of (cause_of_piece s id) ≡ 0
 loss_counts s id none = lost_counts (λ lost. same_piece lost id) s.lost (unwrap_or (option_map (passed s) (row_of s id)) (no_record s)) none (passed_counts s (row_of s id))
 
-vector_counts : (s : State) (id : PieceId) (o : Option Row) → NoLossIsAFault s → count_of (unwrap_or (option_map no_match o) (cause_of_piece s id)) ≡ 0
+vector_counts : (s : State) (id : PieceId) (o : Option Row) → NoLossIsAFault s → count_of (unwrap_or (option_map (λ (row : Row). no_match s id) o) (cause_of_piece s id)) ≡ 0
 vector_counts s id None none = loss_counts s id none
 vector_counts s id (Some row) none = refl
 

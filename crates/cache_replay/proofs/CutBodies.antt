@@ -1,11 +1,11 @@
 -- Bytes that are cut into whole fragments.
+use Rattle.cache_model.specs.State.{most_fragments}
 use Rattle.std.proofs.Common.{◌≡◌, ℕ, zero, suc, ◌+◌, ◌-◌, ◌<◌, ◌≤◌, List, [], ◌∷◌, ◌++◌, inl, inr, refl, ◌∙◌, ap, arith, Bool, true, false, length, take, drop}
 use Rattle.std.specs.Prelude.{◌==◌, nat_le, if◌then◌else◌, filter}
 use Rattle.std.proofs.lemmas.Bool.{eqb-true, le-leb}
 use Rattle.std.proofs.lemmas.Bool.Decides.{leb_tells}
 use Rattle.std.proofs.lemmas.List.{length-drop}
 use Rattle.cache_model.specs.Permit.{Intent, Fragment, Overflow, is_cleanup}
-use Rattle.cache_model.specs.Legal.{most_fragments}
 use Rattle.script_run.specs.Asked.{cut_intents, feed_intents, rest_among, rest_behind, whole_among, whole_fragments}
 
 -- ---- tests

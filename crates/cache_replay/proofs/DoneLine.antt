@@ -83,6 +83,7 @@ module _ {D R C : Type 0} (disk : DiskGhosts D) (directory : DirectoryGhosts R) 
         behind = state_behind (kept_in chronicle old.stripe) (kept_in chronicle new.stripe) (rec.ReadClosed r.reader ∷ []) adds;
         quiet = quiet;
         plain = refl;
+        unsynced = refl;
         content = refl;
         moment = refl;
         calls = refl;

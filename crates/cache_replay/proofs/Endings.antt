@@ -6,17 +6,22 @@ use Rattle.tape_base.specs.Digest.{digest_of}
 use Rattle.tape_base.specs.declared.keys.Key.{Key}
 use Rattle.tape_base.specs.declared.pieces.PieceId.{PieceId}
 use Rattle.fragment_table.specs.Table.{TableRow, made_row, total_length}
+use Rattle.alternate_vector.specs.Alternates.{Stored}
 use Rattle.cache_model.specs.declared.record.Rec.{Rec}
 use Rattle.cache_model.specs.declared.record.Rec.TheVariants as rec
-use Rattle.cache_model.specs.State.{Closed, GivenUp, PutRow, Row, State, after_all, list_of_put, put_of, state_after, vector_piece, with_cut, with_writing}
+use Rattle.cache_model.specs.State.{Closed, GivenUp, PutRow, Row, State, after_all, list_of_piece, list_of_put, put_of, state_after, vector_piece, with_cut, with_writing}
 use Rattle.cache_model.specs.Verdict.{cuts_of, is_open}
-use Rattle.cache_model.specs.Permit.{Commit, Done, End, Exhausted, Fails, Faulted, Finish, Fragment, Intent, Lost, ManyFragments, ManyWriters, Permit, Reason, Stays, TooLarge, Weigh, Work, is_cleanup, work_after}
-use Rattle.cache_model.specs.Legal.{Advances, Does, DoesCommit, DoesFinish, DoesFragment, DoesWeigh, MakesRoom, MayGrow, is_writing, more, next_fragment_of, nothing, vector_length, vector_payload}
+use Rattle.cache_model.specs.Permit.{Commit, Done, End, Exhausted, Fails, Faulted, Finish, Fragment, Intent, Lost, ManyFragments, ManyWriters, NoSync, Permit, Reason, Stays, StillMoving, StillOpen, SyncRuns, TooLarge, Weigh, Work, is_cleanup, work_after}
+use Rattle.cache_model.specs.Legal.{Advances, Does, DoesCommit, DoesFinish, DoesFragment, DoesWeigh, MakesRoom, MayGrow, is_writing, more, next_fragment_of, nothing, stays_behind, vector_length, vector_payload}
 use Rattle.cache_model.specs.Due.{due_pieces}
+use Rattle.cache_model.specs.Syncing.{DoesSync, MaySyncBehind, Syncing, Unmarks, WhereDue}
 use Rattle.cache_model.specs.Outcomes.{Copy, Outcome, began_record, copies_of, flush_records, front_of, moved_record, moved_records, records_of}
 use Rattle.cache_model.specs.Room.{MayDisplace, displaced_record, greatest_pin, placed_record}
 use Rattle.cache_model.proofs.Steps.{after_all-append, none_left}
 use Rattle.cache_model.proofs.ByNumber.{find-changed}
+use Rattle.cache_model.proofs.Found.{no_truth}
+use Rattle.cache_model.proofs.Syncing.{flush_among_syncs}
+use Rattle.script_run.proofs.Synced.{AllSyncing, IsSyncing, unmark_syncing}
 use Rattle.stripe_write.proofs.Ended.{own_number}
 
 -- ---- what closing asks of a put
@@ -59,6 +64,10 @@ IsEnded (Some Exhausted) t put rows key = Unit {0}
 IsEnded (Some (Faulted count)) t put rows key = Unit {0}
 IsEnded (Some ManyWriters) t put rows key = Unit {0}
 IsEnded (Some (ManyFragments q)) t put rows key = Unit {0}
+IsEnded (Some (SyncRuns serial)) t put rows key = Unit {0}
+IsEnded (Some NoSync) t put rows key = Unit {0}
+IsEnded (Some (StillOpen writers readers)) t put rows key = Unit {0}
+IsEnded (Some (StillMoving blocks)) t put rows key = Unit {0}
 
 -- all of an intent is done
 pub record IsDone (i : Intent) (s t : State) (put : ℕ) : Type 0 where
@@ -100,9 +109,9 @@ same_keys : (f : PutRow → PutRow) (o : Option PutRow) → ((x : PutRow) → (f
 same_keys f None keeps = refl
 same_keys f (Some row) keeps = ap (λ (k : Key). Some k) (keeps row)
 
-committed : (s : State) (put : ℕ) (w : PutRow) (bytes : ℕ) → IsDone (Commit put) s (state_after s (rec.Committed put w.key bytes)) put
-committed s put w bytes =
-    let t : State = state_after s (rec.Committed put w.key bytes) in
+committed : (s : State) (put : ℕ) (w : PutRow) (bytes : ℕ) (listed : List Stored) → IsDone (Commit put) s (state_after s (rec.Committed put w.key bytes listed)) put
+committed s put w bytes listed =
+    let t : State = state_after s (rec.Committed put w.key bytes listed) in
     let is : put_of t put ≡ option_map (with_writing Closed) (put_of s put) = changed_put s t put (with_writing Closed) (λ x. refl) refl in
     record { cuts = ap cuts_in is ∙ closed_cuts (put_of s put); key = ap keys_in is ∙ same_keys (with_writing Closed) (put_of s put) (λ x. refl); ended = λ e. ap open_in is ∙ closed_in (put_of s put) }
 
@@ -162,6 +171,23 @@ flush_puts s rows outcomes =
     ap (λ (t : State). t.puts) (after_all-append s (front_of rows outcomes) (began_record s ∷ moved_records began (copies_of rows outcomes)))
     ∙ (moved_puts began (copies_of rows outcomes) ∙ front_puts s rows outcomes)
 
+-- ---- syncs
+
+sync_puts : (s : State) (r : Rec) → IsSyncing r → (state_after s r).puts ≡ s.puts
+sync_puts s (rec.SyncBegun serial cursor clean in_parts) h = refl
+sync_puts s (rec.SyncDone serial) h = refl
+sync_puts s (rec.Damaged piece place kept found) h = refl
+sync_puts s (rec.Fault count) h = refl
+sync_puts s _ h = absurd h
+
+syncing_puts : (s : State) (recs : List Rec) → AllSyncing recs → (after_all s recs).puts ≡ s.puts
+syncing_puts s [] h = refl
+syncing_puts s (r ∷ recs) h = syncing_puts (state_after s r) recs h.1 ∙ sync_puts s r h.0
+
+-- a flush among syncs
+synced_puts : (p : Permit) (k : Syncing) (s : State) (added : List Rec) → MaySyncBehind p k s added → (after_all s added).puts ≡ s.puts
+synced_puts p k s added m = ap (λ (t : State). t.puts) (flush_among_syncs p k s added m).1 ∙ flush_puts s (due_pieces s p.now) m.outcomes
+
 -- ---- one group of records
 
 abbrev HasFailed : Reason → State → State → ℕ → Type 0
@@ -181,11 +207,29 @@ not_a_commit i s t put other rows same = record { cuts = ap cuts_in same ∙ sym
 then_same : (i : Intent) (s mid t : State) (put : ℕ) → put_of t put ≡ put_of mid put → IsDone i s mid put → IsDone i s t put
 then_same i s mid t put same done = record { cuts = ap cuts_in same ∙ done.cuts; key = ap keys_in same ∙ done.key; ended = λ e. ap open_in same ∙ done.ended e }
 
+synced_group : (p : Permit) (s : State) (i : Intent) (put : ℕ) (added : List Rec) (e : End) → DoesSync p WhereDue s added e → IsGroup i (stays_behind e) s (after_all s added) put
+synced_group p s i put added e (DoesSync.goes m) = same_puts s (after_all s added) put (synced_puts p WhereDue s added m)
+synced_group p s i put added e (DoesSync.stops count m) = tt
+synced_group p s i put added e (DoesSync.empty m) = no_truth (sym m.asked)
+synced_group p s i put added e (DoesSync.empty_stops count m) = tt
+synced_group p s i put added e (DoesSync.stays count can first c) = tt
+synced_group p s i put added e (DoesSync.exhausted may high is) = tt
+synced_group p s i put added e (DoesSync.runs serial on quiet parts runs is) = tt
+
+-- a mark that is taken back
+unmarked_group : (p : Permit) (s : State) (i : Intent) (put : ℕ) (added : List Rec) (e : End) → Unmarks p s added e → IsGroup i e s (after_all s added) put
+unmarked_group p s i put added e (Unmarks.unmarks must below is) =
+    same_puts s (after_all s added) put (syncing_puts s added (unmark_syncing p s added Stays (Unmarks.unmarks must below is)))
+unmarked_group p s i put added e (Unmarks.stays count must below c) = tt
+unmarked_group p s i put added e (Unmarks.stops count must below marked c is) = tt
+unmarked_group p s i put added e (Unmarks.exhausted must high is) = tt
+
 rooms_group : (p : Permit) (s : State) (i : Intent) (put bytes : ℕ) (added : List Rec) (e : End) → MakesRoom p s bytes added e → IsGroup i e s (after_all s added) put
 rooms_group p s i put bytes added e (MakesRoom.flushes full may) =
     subst (λ (rs : List Rec). put_of (after_all s rs) put ≡ put_of s put) (sym may.is) (same_puts s (after_all s (flush_records s (due_pieces s p.now) may.outcomes)) put (flush_puts s (due_pieces s p.now) may.outcomes))
 rooms_group p s i put bytes added e (MakesRoom.stops count full may) = tt
 rooms_group p s i put bytes added e (MakesRoom.exhausted full above none) = tt
+rooms_group p s i put bytes added e (MakesRoom.syncs end full sync is) = subst (λ x. IsGroup i x s (after_all s added) put) (sym is) (synced_group p s i put added end sync)
 
 weigh_group : (p : Permit) (s : State) (put rest : ℕ) (added : List Rec) (e : End) → DoesWeigh p s put rest added e → IsGroup (Weigh put rest) e s (after_all s added) put
 weigh_group p s put rest added e (DoesWeigh.weighs w writing read fits none) =
@@ -202,6 +246,7 @@ fragment_group p s put index payload added e (DoesFragment.places done may) =
     ap (λ (rs : List Rec). (after_all s rs).puts) may.is ∙ (ap (λ (x : State). x.puts) (after_all-append mid may.displaced tail) ∙ displaced_puts p s _ may.displaced may.displaces mid) in
     subst (λ x. IsGroup (Fragment put index payload) x s (after_all s added) put) (sym done)
     (then_same (Fragment put index payload) s mid (after_all s added) put (same_puts mid (after_all s added) put puts) (cut_done s put index payload may.w may.cut.writing.found))
+fragment_group p s put index payload added e (DoesFragment.unmarks w next place unmark) = unmarked_group p s (Fragment put index payload) put added e unmark
 fragment_group p s put index payload added e (DoesFragment.rooms w next room) = rooms_group p s (Fragment put index payload) put (length payload) added e room
 fragment_group p s put index payload added e (DoesFragment.exhausted w fails next nope) = subst (λ x. IsGroup (Fragment put index payload) x s (after_all s added) put) (sym fails) tt
 
@@ -212,6 +257,7 @@ finish_group p s put fragments added e (DoesFinish.places done may) =
     ap (λ (rs : List Rec). (after_all s rs).puts) may.is ∙ (ap (λ (x : State). x.puts) (after_all-append s may.displaced tail) ∙ displaced_puts p s _ may.displaced may.displaces s) in
     subst (λ x. IsGroup (Finish put fragments) x s (after_all s added) put) (sym done)
     (not_a_commit (Finish put fragments) s (after_all s added) put (λ e. cc) (λ rows. refl) (same_puts s (after_all s added) put puts))
+finish_group p s put fragments added e (DoesFinish.unmarks w cut live place unmark) = unmarked_group p s (Finish put fragments) put added e unmark
 finish_group p s put fragments added e (DoesFinish.rooms w cut room) = rooms_group p s (Finish put fragments) put _ added e room
 finish_group p s put fragments added e (DoesFinish.loses w index fails lost is) =
     subst (λ x. IsGroup (Finish put fragments) x s (after_all s added) put) (sym fails)
@@ -219,7 +265,8 @@ finish_group p s put fragments added e (DoesFinish.loses w index fails lost is) 
 finish_group p s put fragments added e (DoesFinish.exhausted w fails cut live nope) = subst (λ x. IsGroup (Finish put fragments) x s (after_all s added) put) (sym fails) tt
 
 commit_group : (p : Permit) (s : State) (put : ℕ) (added : List Rec) (e : End) → DoesCommit s put added e → IsGroup (Commit put) e s (after_all s added) put
-commit_group p s put added e (DoesCommit.commits w found open_ pending is) = subst (λ (rs : List Rec). IsDone (Commit put) s (after_all s rs) put) (sym is) (committed s put w (total_length w.cuts))
+commit_group p s put added e (DoesCommit.commits w found open_ pending is) = subst (λ (rs : List Rec). IsDone (Commit put) s (after_all s rs) put) (sym is)
+    (committed s put w (total_length w.cuts) (list_of_piece s (vector_piece w.key put)))
 
 group : (p : Permit) (s : State) (i : Intent) (put : ℕ) (added : List Rec) (e : End) → IsClosing put i → Does p s i added e → IsGroup i e s (after_all s added) put
 group p s (Weigh q rest) put added e is does = subst (λ n. IsGroup (Weigh q rest) e s (after_all s added) n) is (weigh_group p s q rest added e does)
@@ -245,6 +292,10 @@ failed Exhausted s t put rows h = tt
 failed (Faulted count) s t put rows h = tt
 failed ManyWriters s t put rows h = tt
 failed (ManyFragments q) s t put rows h = tt
+failed (SyncRuns serial) s t put rows h = tt
+failed NoSync s t put rows h = tt
+failed (StillOpen writers readers) s t put rows h = tt
+failed (StillMoving blocks) s t put rows h = tt
 
 abbrev then_ : Option Reason → Work
 then_ why = record { intents = []; refused = why }

@@ -32,6 +32,7 @@ use Rattle.stripe_core.specs.Faults.{IsAccounted}
 use Rattle.stripe_core.proofs.Between.{accounted_is}
 use Rattle.stripe_core.proofs.Covering.{own_covers, own_permit}
 use Rattle.cache_replay.proofs.WriterSteps.{LeftOpen, cuts_at, gathered_at, has_put, held_open, of_left, reason_of, whole_step}
+use Rattle.cache_replay.proofs.Unsynced.{unsynced_step}
 
 -- what it took is that before and what it took now
 pub stream_fed : (stream : Stream) (w new : Writer) (body : List ℕ) (taken : ℕ) → IsStreamOf stream w → IsFed w body taken new → taken ≤ length body → IsStreamOf (fed stream body taken) new
@@ -82,7 +83,7 @@ module _ (now : ℕ) (old new : Kept) (before after : List Call) (accounted : Is
       let nope : (run.streams w.put).sealed ≡ false = sym played.stream.sealed ∙ feeds.open_still in
       let has = has_put run name s w played in
       let legal : IsStep p s (feed_intents s.geometry.fragment w.put (length w.table.rows) (w.gathered.items ++ body)) f.added (reason_of e) =
-      whole_step p s _ f.added e (subst (λ x. Rattle.stripe_write.specs.Closing.SpendsAll p s (feed_intents s.geometry.fragment w.put (length w.table.rows) (w.gathered.items ++ body)) f.added x) is f.does) (subst IsQuiet there quiet_then) (accounted_is before after old new f.added accounted f.adds) in
+      whole_step p s _ f.added e refl (subst (λ x. Rattle.stripe_write.specs.Closing.SpendsAll p s (feed_intents s.geometry.fragment w.put (length w.table.rows) (w.gathered.items ++ body)) f.added x) is f.does) (subst IsQuiet there quiet_then) (accounted_is before after old new f.added accounted f.adds) in
       let took = took_is run name 0 played in
       let turn : Turn = record { added = f.added; refused = reason_of e; device = p; given = [] } in
       let x : Stream = fed (run.streams w.put) body (Rattle.script_run.specs.Behind.taken_of run t body (reason_of e) w.put) in
@@ -94,6 +95,7 @@ module _ (now : ℕ) (old new : Kept) (before after : List Call) (accounted : Is
         turn = turn;
         takes = record {
           plain = refl;
+          unsynced = refl;
           content = refl;
           moment = sym moment;
           legal = subst (λ (is : List Intent). IsStep p s is f.added (reason_of e)) (sym (asks run name played ∙ ap (λ (b : Bool). if b then [] else feed_intents s.geometry.fragment w.put (length w.table.rows) (w.gathered.items ++ body)) nope)) legal;
@@ -121,7 +123,7 @@ module _ (now : ℕ) (old new : Kept) (before after : List Call) (accounted : Is
       let p : Permit = own_permit now before after in
       let has = has_put run name s w played in
       let turn : Turn = record { added = []; refused = None; device = p; given = [] } in
-      let legal : IsStep p s [] [] None = record { grows = nothing; quiet = quiet; effects = accounted_is before after old new [] accounted (same ∙ sym (nothing_more old)) } in
+      let legal : IsStep p s [] [] None = unsynced_step p s [] [] None refl nothing quiet (accounted_is before after old new [] accounted (same ∙ sym (nothing_more old))) in
       let stream : IsStreamOf (run.streams w.put) last =
       subst (λ (x : Stream). IsStreamOf x last) (ap (λ (b : List ℕ). let y : Stream = record { bytes = b; sealed = (run.streams w.put).sealed } in y) (ap (λ k. (run.streams w.put).bytes ++ take k body) zero ∙ append-nil (run.streams w.put).bytes))
       (stream_fed (run.streams w.put) w last body taken played.stream fed_ most) in
@@ -132,6 +134,7 @@ module _ (now : ℕ) (old new : Kept) (before after : List Call) (accounted : Is
         turn = turn;
         takes = record {
           plain = refl;
+          unsynced = refl;
           content = refl;
           moment = sym moment;
           legal = subst (λ (is : List Intent). IsStep p s is [] None) (sym (asks run name played ∙ ap (λ (b : Bool). if b then [] else feed_intents s.geometry.fragment w.put (length w.table.rows) (w.gathered.items ++ body)) yea)) legal;

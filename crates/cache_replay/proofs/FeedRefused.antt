@@ -9,11 +9,11 @@ use Rattle.logged_disk.specs.Device.{State as Device}
 use Rattle.fragment_table.specs.Table.{total_length}
 use Rattle.cache_model.specs.declared.record.Rec.{Rec}
 use Rattle.cache_model.specs.declared.record.Rec.TheVariants as rec
-use Rattle.cache_model.specs.State.{GivenUp, PutRow, State, after_all, put_of, state_after, with_writing}
+use Rattle.cache_model.specs.State.{GivenUp, PutRow, State, after_all, put_of, state_after, with_writing, most_fragments}
 use Rattle.cache_model.specs.Kept.{Kept, state_of, with_records}
 use Rattle.cache_model.specs.Verdict.{cuts_of, is_open}
 use Rattle.cache_model.specs.Permit.{Exhausted, Fails, Faulted, Fragment, Intent, ManyFragments, Overflow, Permit, Reason, is_cleanup}
-use Rattle.cache_model.specs.Legal.{MayGrow, is_writing, most_fragments}
+use Rattle.cache_model.specs.Legal.{MayGrow, is_writing}
 use Rattle.cache_model.proofs.Found.{cuts_found}
 use Rattle.stripe_core.specs.declared.refusal.Refusal.{Refusal}
 use Rattle.stripe_core.specs.declared.refusal.Refusal.TheVariants as refusal

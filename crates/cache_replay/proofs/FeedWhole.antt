@@ -6,11 +6,11 @@ use Rattle.std.proofs.Math.Seq.{take-append-add, drop-append_seam, take-length}
 use Rattle.device_log.specs.Calls.{Call}
 use Rattle.logged_disk.specs.Device.{State as Device}
 use Rattle.fragment_table.specs.Table.{total_length}
-use Rattle.cache_model.specs.State.{State}
+use Rattle.cache_model.specs.State.{State, most_fragments}
 use Rattle.cache_model.specs.Kept.{Kept, state_of, with_records}
 use Rattle.cache_model.specs.Verdict.{cuts_of}
 use Rattle.cache_model.specs.Permit.{Done, Fragment}
-use Rattle.cache_model.specs.Legal.{most_fragments, nothing}
+use Rattle.cache_model.specs.Legal.{nothing}
 use Rattle.stripe_write.specs.declared.writer.Writer.{Writer}
 use Rattle.stripe_write.specs.Closing.{SpendsAll}
 use Rattle.stripe_write.specs.Writers.{IsAtHand}

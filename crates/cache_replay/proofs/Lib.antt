@@ -1,3 +1,4 @@
+mod Unsynced
 mod Shown
 mod Counts
 mod Outlines

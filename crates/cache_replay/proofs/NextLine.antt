@@ -90,7 +90,7 @@ reads_within s old new r given into reads =
     gives_within (own_permit 0 old.past new.past) s r given into (reads.gives (own_permit 0 old.past new.past) (own_covers 0 old.past new.past))
 
 -- what comes of the answer
-module _ (own : ReadIsOwn) (run : Run) (before after : List Call) (k new : Kept) (accounted : IsAccounted before after k new) (p : Permit) (r later : Reader) (plain : p.packed ≡ false) (content : p.area ≡ 0) (moment : p.now ≡ run.now)
+module _ (own : ReadIsOwn) (run : Run) (before after : List Call) (k new : Kept) (accounted : IsAccounted before after k new) (p : Permit) (r later : Reader) (plain : p.packed ≡ false) (unsynced : p.syncs ≡ false) (content : p.area ≡ 0) (moment : p.now ≡ run.now)
     (calls : p.events ≡ calls_since before after) (first : 1 ≤ r.next) (owned : AreOwn (state_of k) run.streams) (reader : IsReaderOf (state_of k) r) (keeps : IsReaderOf (state_of new) later) where
   moves_with : (given : NextPiece) (bytes : List ℕ) (said : StepAnswer) → new ≡ with_records k (read_adds (state_of k) r given)
       → Does p (state_of k) (ReadOn r.reader) (read_adds (state_of k) r given) Done
@@ -102,6 +102,7 @@ module _ (own : ReadIsOwn) (run : Run) (before after : List Call) (k new : Kept)
     added = read_adds (state_of k) r given;
     given = bytes;
     plain = plain;
+    unsynced = unsynced;
     moment = moment;
     content = content;
     calls = calls;
@@ -117,6 +118,7 @@ module _ (own : ReadIsOwn) (run : Run) (before after : List Call) (k new : Kept)
   shows_other row reads pair = record {
     device = p;
     plain = plain;
+    unsynced = unsynced;
     moment = moment;
     content = content;
     calls = calls;
@@ -143,7 +145,7 @@ pub next_ends : (own : ReadIsOwn) (k new : Kept) (before after : Device) (r late
 next_ends own k new before after r later given into adds accounted reads keeps first run owned reader =
     let p : Permit = own_permit run.now before.past after.past in
     let covers = own_covers run.now before.past after.past in
-    ends_with own run before.past after.past k new accounted p r later refl refl refl refl first owned reader (keeps reader) given into adds (reads.does p covers reader) (reads.gives p covers)
+    ends_with own run before.past after.past k new accounted p r later refl refl refl refl refl first owned reader (keeps reader) given into adds (reads.does p covers reader) (reads.gives p covers)
 
 -- ---- the line
 
@@ -196,6 +198,7 @@ module _ {D R C : Type 0} (disk : DiskGhosts D) (directory : DirectoryGhosts R) 
               behind = m.behind;
               quiet = quiet;
               plain = m.plain;
+              unsynced = m.unsynced;
               content = m.content;
               moment = m.moment;
               calls = m.calls;

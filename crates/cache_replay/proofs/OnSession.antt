@@ -68,7 +68,7 @@ told_behind tell run before after s t turn step calls takes is sound told =
       | inr v ↦ inr (record {
         turn = turn;
         calls = calls;
-        shows = record { plain = takes.plain; content = takes.content; moment = takes.moment; shows = shows_placed (streams_with run s step) turn.device s (asked run s step) turn.added v };
+        shows = record { plain = takes.plain; unsynced = takes.unsynced; content = takes.content; moment = takes.moment; shows = shows_placed (streams_with run s step) turn.device s (asked run s step) turn.added v };
       })
     ]
 
@@ -78,7 +78,7 @@ pub own_behind : (own : StepsOwn) (run : Run) (before after : List Call) (s t : 
 own_behind own run before after s t turn step slots calls takes is sound quiet held plays =
     elim (own run s turn step sound plays.told quiet plays.own (are_writing run s slots plays held) takes.legal) [
       | inl kept ↦ inl (subst (λ u. AreOwn u (streams_behind run s (after_all s turn.added) turn step)) is kept)
-      | inr shows ↦ inr (record { turn = turn; calls = calls; shows = record { plain = takes.plain; content = takes.content; moment = takes.moment; shows = shows } })
+      | inr shows ↦ inr (record { turn = turn; calls = calls; shows = record { plain = takes.plain; unsynced = takes.unsynced; content = takes.content; moment = takes.moment; shows = shows } })
     ]
 
 -- what stands behind a line

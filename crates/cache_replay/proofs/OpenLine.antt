@@ -171,6 +171,7 @@ module _ {D R C : Type 0} (disk : DiskGhosts D) (directory : DirectoryGhosts R) 
               behind = behind;
               quiet = quiet;
               plain = refl;
+              unsynced = refl;
               content = refl;
               moment = refl;
               calls = refl;
@@ -187,6 +188,7 @@ module _ {D R C : Type 0} (disk : DiskGhosts D) (directory : DirectoryGhosts R) 
         | inr other ↦ inr (shows_in run (past_of disk directory old) (past_of disk directory new) s (step.OpenRead name key request) (record {
           device = p;
           plain = refl;
+          unsynced = refl;
           content = refl;
           moment = refl;
           calls = refl;

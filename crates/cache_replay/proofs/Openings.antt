@@ -37,6 +37,7 @@ use Rattle.cache_replay.proofs.Lines.{next_is_free}
 use Rattle.stripe_core.specs.Faults.{IsAccounted}
 use Rattle.stripe_core.proofs.Between.{accounted_is}
 use Rattle.stripe_core.proofs.Covering.{own_permit}
+use Rattle.cache_replay.proofs.Unsynced.{unsynced_step}
 
 -- ---- a put that has begun
 
@@ -86,11 +87,10 @@ opens before after old new who key request response pin w accounted quiet adds d
     let p : Permit = own_permit run.now before after in
     let added : List Rec = opened_record s who key request response pin ∷ [] in
     let there = state_behind old new added adds in
-    let legal : IsStep p s (Write who.0 key request response pin ∷ []) added None = record {
-      grows = grows_by p s (to_do (Write who.0 key request response pin ∷ [])) (record { intents = []; refused = None }) added (Done, does.1 p, refl);
-      quiet = subst IsQuiet there quiet;
-      effects = accounted_is before after old new added accounted adds;
-    } in
+    let legal : IsStep p s (Write who.0 key request response pin ∷ []) added None =
+    unsynced_step p s (Write who.0 key request response pin ∷ []) added None refl
+    (grows_by p s (to_do (Write who.0 key request response pin ∷ [])) (record { intents = []; refused = None }) added (Done, does.1 p, refl))
+    (subst IsQuiet there quiet) (accounted_is before after old new added accounted adds) in
     let writing : is_writing t s.next_put ≡ true = ap (λ x. is_writing x s.next_put) there ∙ writes_it s who key request response pin in
     let rows : w.table.rows ≡ [] = nothing_cut s who key request response pin w does.0 (subst (λ x. IsWriterOf x w) there own) in
     let at : streams_opened run s (held_by run name) w.put ≡ no_stream =
@@ -99,6 +99,7 @@ opens before after old new who key request response pin w accounted quiet adds d
       turn = record { added = added; refused = None; device = p; given = [] };
       takes = record {
         plain = refl;
+        unsynced = refl;
         content = refl;
         moment = refl;
         legal = subst (λ (is_ : List Intent). IsStep p s is_ added None) (sym (asks run name s who key request response pin free is)) legal;
@@ -120,16 +121,16 @@ refused_by before after old new who key request response pin why said accounted 
     let t : State = state_of new in
     let p : Permit = own_permit run.now before after in
     let there : t ≡ s = ap state_of same in
-    let legal : IsStep p s (Write who.0 key request response pin ∷ []) [] (Some why) = record {
-      grows = grows_by p s (to_do (Write who.0 key request response pin ∷ [])) (record { intents = []; refused = Some why }) [] (Fails why, does p, refl);
-      quiet = subst IsQuiet there quiet;
-      effects = accounted_is before after old new [] accounted (same ∙ sym (nothing_more old));
-    } in
+    let legal : IsStep p s (Write who.0 key request response pin ∷ []) [] (Some why) =
+    unsynced_step p s (Write who.0 key request response pin ∷ []) [] (Some why) refl
+    (grows_by p s (to_do (Write who.0 key request response pin ∷ [])) (record { intents = []; refused = Some why }) [] (Fails why, does p, refl))
+    (subst IsQuiet there quiet) (accounted_is before after old new [] accounted (same ∙ sym (nothing_more old))) in
     let none : is_writing t s.next_put ≡ false = ap (λ x. is_writing x s.next_put) there ∙ next_is_free s fall in
     record {
       turn = record { added = []; refused = Some why; device = p; given = [] };
       takes = record {
         plain = refl;
+        unsynced = refl;
         content = refl;
         moment = refl;
         legal = subst (λ (is_ : List Intent). IsStep p s is_ [] (Some why)) (sym (asks run name s who key request response pin free is)) legal;

@@ -1,5 +1,5 @@
 -- Removals and flushes as lines of a run.
-use Rattle.std.proofs.Common.{◌≡◌, ℕ, ◌*◌, List, [], ◌∷◌, refl, sym, ◌∙◌, ap, subst, Result, Ok, Err}
+use Rattle.std.proofs.Common.{◌≡◌, ℕ, ◌*◌, List, [], ◌∷◌, refl, sym, ◌∙◌, ap, subst, false, Result, Ok, Err}
 use Rattle.std.specs.Prelude.{IfOk, Option, Some, None, ◌==◌, find}
 use Rattle.device_log.specs.Calls.{Call}
 use Rattle.logged_disk.specs.Device.{State as Device}
@@ -40,14 +40,16 @@ use Rattle.script_run.specs.Losses.{NoLossIsAFault}
 use Rattle.cache_replay.proofs.ReaderFrames.{losses_then}
 use Rattle.cache_replay.specs.Session.{LeavesBut}
 use Rattle.cache_replay.specs.Plain.{Plainly, flush_refused}
+use Rattle.cache_replay.proofs.Unsynced.{unsynced_step}
 
 -- ---- one group of records is a step
 
-pub step_done : (p : Permit) (s : State) (i : Intent) (added : List Rec) → Does p s i added Done → IsQuiet (after_all s added) → effects_told added ≡ effects_in p.events → IsStep p s (i ∷ []) added None
-step_done p s i added does quiet effects = record { grows = grows_by p s (to_do (i ∷ [])) (record { intents = []; refused = None }) added (Done, does, refl); quiet = quiet; effects = effects }
+pub step_done : (p : Permit) (s : State) (i : Intent) (added : List Rec) → p.syncs ≡ false → Does p s i added Done → IsQuiet (after_all s added) → effects_told added ≡ effects_in p.events → IsStep p s (i ∷ []) added None
+step_done p s i added off does quiet effects = unsynced_step p s (i ∷ []) added None off (grows_by p s (to_do (i ∷ [])) (record { intents = []; refused = None }) added (Done, does, refl)) quiet effects
 
-pub step_fails : (p : Permit) (s : State) (i : Intent) (added : List Rec) (why : Reason) → Does p s i added (Fails why) → IsQuiet (after_all s added) → effects_told added ≡ effects_in p.events → IsStep p s (i ∷ []) added (Some why)
-step_fails p s i added why does quiet effects = record { grows = grows_by p s (to_do (i ∷ [])) (record { intents = []; refused = Some why }) added (Fails why, does, refl); quiet = quiet; effects = effects }
+pub step_fails : (p : Permit) (s : State) (i : Intent) (added : List Rec) (why : Reason) → p.syncs ≡ false → Does p s i added (Fails why) → IsQuiet (after_all s added) → effects_told added ≡ effects_in p.events → IsStep p s (i ∷ []) added (Some why)
+step_fails p s i added why off does quiet effects =
+    unsynced_step p s (i ∷ []) added (Some why) off (grows_by p s (to_do (i ∷ [])) (record { intents = []; refused = Some why }) added (Fails why, does, refl)) quiet effects
 
 abbrev pub turn_of : List Rec → Option Reason → Permit → Turn
 turn_of added why p = record { added = added; refused = why; device = p; given = [] }
@@ -69,9 +71,10 @@ removes run before after s t key (removal.Removed put) effects is quiet where_ d
       turn = turn_of (rec.Removed put key ∷ []) None p;
       takes = record {
         plain = refl;
+        unsynced = refl;
         content = refl;
         moment = refl;
-        legal = step_done p s (Remove key) (rec.Removed put key ∷ []) (does p) (quiet_behind s t (rec.Removed put key ∷ []) is quiet) effects;
+        legal = step_done p s (Remove key) (rec.Removed put key ∷ []) refl (does p) (quiet_behind s t (rec.Removed put key ∷ []) is quiet) effects;
         own = refl;
       };
       calls = refl;
@@ -82,7 +85,7 @@ removes run before after s t key (removal.Absent why) effects is quiet where_ do
     let p : Permit = own_permit run.now before after in
     record {
       turn = turn_of [] None p;
-      takes = record { plain = refl; content = refl; moment = refl; legal = step_done p s (Remove key) [] (does p) (quiet_behind s t [] is quiet) effects; own = refl };
+      takes = record { plain = refl; unsynced = refl; content = refl; moment = refl; legal = step_done p s (Remove key) [] refl (does p) (quiet_behind s t [] is quiet) effects; own = refl };
       calls = refl;
       behind = sym is;
       says = ap answer.Absent (sym where_.1);
@@ -107,7 +110,7 @@ leaves_but_none s t losses h = record {
 module _ (run : Run) (now : ℕ) (moment : run.now ≡ now) (k new : Kept) (before : List Call) (after : Device) (accounted : IsAccounted before after.past k new) (quiet : IsQuiet (state_of k)) where
   -- one that came to this end is the whole step
   flush_turns : (result : Result Flushed Stop) (why : Option Reason) (said : StepAnswer) → (h : FlushesAsAsked now k new before after result)
-      → ((p : Permit) → Does p (state_of k) Flush h.added (flush_end result) → IsQuiet (after_all (state_of k) h.added) → effects_told h.added ≡ effects_in p.events → IsStep p (state_of k) (Flush ∷ []) h.added why)
+      → ((p : Permit) → p.syncs ≡ false → Does p (state_of k) Flush h.added (flush_end result) → IsQuiet (after_all (state_of k) h.added) → effects_told h.added ≡ effects_in p.events → IsStep p (state_of k) (Flush ∷ []) h.added why)
       → ((p : Permit) → session_said run (state_of k) (state_of new) (turn_of h.added why p) step.Flush ≡ said) → Plainly run step.Flush before after.past (state_of k) (state_of new) said
   flush_turns result why said h steps says =
       let p : Permit = own_permit run.now before after.past in
@@ -116,9 +119,10 @@ module _ (run : Run) (now : ℕ) (moment : run.now ≡ now) (k new : Kept) (befo
         turn = turn_of h.added why p;
         takes = record {
           plain = refl;
+          unsynced = refl;
           content = refl;
           moment = refl;
-          legal = steps p (h.does p moment (own_covers run.now before after.past)) (subst IsQuiet is ((flush_behind k new h.added h.adds h.kinds).pending ∙ quiet))
+          legal = steps p refl (h.does p moment (own_covers run.now before after.past)) (subst IsQuiet is ((flush_behind k new h.added h.adds h.kinds).pending ∙ quiet))
               (accounted_is before after.past k new h.added accounted h.adds);
           own = refl;
         };
@@ -131,17 +135,17 @@ module _ (run : Run) (now : ℕ) (moment : run.now ≡ now) (k new : Kept) (befo
       → Plainly run step.Flush before after.past (state_of k) (state_of new) (flushed_as flushed)
   flushes flushed h tells =
       let t : State = state_of new in
-      flush_turns (Ok flushed) None (flushed_as flushed) h (λ p does still effects. step_done p (state_of k) Flush h.added does still effects)
+      flush_turns (Ok flushed) None (flushed_as flushed) h (λ p off does still effects. step_done p (state_of k) Flush h.added off does still effects)
       (λ p. ap (λ n. answer.Flushed n t.cursor (floor_now t) None) (sym tells.blocks)
       ∙ (ap (λ n. answer.Flushed flushed.blocks n (floor_now t) None) (sym tells.cursor) ∙ ap (λ n. answer.Flushed flushed.blocks flushed.cursor n None) (sym tells.floor)))
 
   pub flush_faults : (count : ℕ) → FlushesAsAsked now k new before after (Err (stop.DeviceFault count)) → Plainly run step.Flush before after.past (state_of k) (state_of new) (answer.DeviceFault count None)
   flush_faults count h =
-      flush_turns (Err (stop.DeviceFault count)) (Some (Faulted count)) (answer.DeviceFault count None) h (λ p does still effects. step_fails p (state_of k) Flush h.added (Faulted count) does still effects) (λ p. refl)
+      flush_turns (Err (stop.DeviceFault count)) (Some (Faulted count)) (answer.DeviceFault count None) h (λ p off does still effects. step_fails p (state_of k) Flush h.added (Faulted count) off does still effects) (λ p. refl)
 
   pub flush_exhausts : (number : ℕ) → FlushesAsAsked now k new before after (Err (stop.Exhausted number)) → Plainly run step.Flush before after.past (state_of k) (state_of new) (answer.Refused refused.Exhausted None)
   flush_exhausts number h =
-      flush_turns (Err (stop.Exhausted number)) (Some Exhausted) (answer.Refused refused.Exhausted None) h (λ p does still effects. step_fails p (state_of k) Flush h.added Exhausted does still effects) (λ p. refl)
+      flush_turns (Err (stop.Exhausted number)) (Some Exhausted) (answer.Refused refused.Exhausted None) h (λ p off does still effects. step_fails p (state_of k) Flush h.added Exhausted off does still effects) (λ p. refl)
 
 -- a flush that is refused
 pub flush_refuses : (now : ℕ) (k new : Kept) (before : List Call) (after : Device) (why : Refusal) → Answers {X = Flushed} (Err why) (FlushesAsAsked now k new before after) (new ≡ k) → IsAccounted before after.past k new → IsQuiet (state_of k)

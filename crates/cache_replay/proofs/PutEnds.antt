@@ -122,7 +122,7 @@ module _ (p : Permit) (old mid new : Kept) (w v : Writer) (body : List ℕ) (fre
     both_grow b why rest h = grows_on (fed_grows rest) (subst (λ x. MayGrow p x (to_do (close_intents v ++ rest)) b (left_behind rest why)) state_mid h)
 
     adds_both : (b : List Rec) → new ≡ with_records mid b → new ≡ with_records old (fed.added ++ b)
-    adds_both b adds = adds ∙ (ap (λ k. with_records k b) fed.adds ∙ ap (λ recs. let k : Kept = record { base = old.base; since = recs } in k) (append_assoc old.since fed.added b))
+    adds_both b adds = adds ∙ (ap (λ k. with_records k b) fed.adds ∙ ap (λ recs. let k : Kept = record { told = old.told; base = old.base; since = recs } in k) (append_assoc old.since fed.added b))
 
     filled : (result : Result Receipt Refusal) (why : Option Reason) (b : List Rec) → new ≡ with_records mid b → ((rest : List Intent) → MayGrow p (state_of mid) (to_do (close_intents v ++ rest)) b (left_behind rest why))
         → said (state_of new) None why (put_said (state_of new) v.put) ≡ receipt_answer result → IsOver (state_of new) v.put why → Fills p old new w body result

@@ -46,6 +46,7 @@ use Rattle.cache_replay.proofs.Lines.{free_of, next_is_free}
 use Rattle.cache_replay.proofs.OnSession.{StandsBehind, active, moves, playing, shows_step, stands_behind}
 use Rattle.cache_replay.proofs.Plain.{AllElse, still_held, still_plays}
 use Rattle.cache_replay.proofs.Unharming.{session_calls, session_unharmed}
+use Rattle.cache_replay.proofs.Unsynced.{unsynced_step}
 
 -- ---- what a put is for a cache
 
@@ -62,9 +63,10 @@ module _ (now : ℕ) (before after : List Call) (k new : Kept) (accounted : IsAc
           turn = record { added = x.added; refused = x.why; device = p; given = [] };
           takes = record {
             plain = refl;
+            unsynced = refl;
             content = refl;
             moment = refl;
-            legal = record { grows = x.grows; quiet = subst IsQuiet (state_behind k new x.added x.adds) quiet; effects = accounted_is before after k new x.added accounted x.adds };
+            legal = unsynced_step p (state_of k) _ x.added x.why refl x.grows (subst IsQuiet (state_behind k new x.added x.adds) quiet) (accounted_is before after k new x.added accounted x.adds);
             own = refl;
           };
           calls = refl;
@@ -74,6 +76,7 @@ module _ (now : ℕ) (before after : List Call) (k new : Kept) (accounted : IsAc
         | inr pair ↦ inr (shows_in run before after (state_of k) (step.Put key body request response) (record {
           device = p;
           plain = refl;
+          unsynced = refl;
           moment = refl;
           content = refl;
           calls = refl;

@@ -6,7 +6,7 @@ use Rattle.tape_base.specs.declared.keys.Key.{Key}
 use Rattle.cache_model.specs.declared.record.Rec.{Rec}
 use Rattle.cache_model.specs.State.{State}
 use Rattle.cache_model.specs.Kept.{Kept, state_of, with_records}
-use Rattle.cache_model.specs.Permit.{Done, Exhausted, Faulted, GiveUp, Lost, ManyFragments, ManyWriters, Permit, Reason, TooLarge, Work}
+use Rattle.cache_model.specs.Permit.{Done, Exhausted, Faulted, GiveUp, Lost, ManyFragments, ManyWriters, NoSync, Permit, Reason, StillMoving, StillOpen, SyncRuns, TooLarge, Work}
 use Rattle.cache_model.specs.Legal.{Does, MayGrow, is_writing}
 use Rattle.cache_model.proofs.Steps.{grows_by, grows_on}
 use Rattle.stripe_core.specs.declared.refusal.Refusal.{Refusal}
@@ -44,6 +44,10 @@ says_still t u put (Some Exhausted) result open_ over_ says = says
 says_still t u put (Some (ManyFragments q)) result open_ over_ says = says
 says_still t u put (Some (TooLarge q bytes)) result open_ over_ says = says
 says_still t u put (Some (Faulted count)) result open_ over_ says = says
+says_still t u put (Some (SyncRuns serial)) result open_ over_ says = says
+says_still t u put (Some NoSync) result open_ over_ says = says
+says_still t u put (Some (StillOpen writers readers)) result open_ over_ says = says
+says_still t u put (Some (StillMoving blocks)) result open_ over_ says = says
 
 module _ (p : Permit) (old mid new : Kept) (w : Writer) (body : List ℕ) (result : Result Receipt Refusal) (recs : List Rec)
     (adds : new ≡ with_records mid recs) (does : Does p (state_of mid) (GiveUp w.put) recs Done) where

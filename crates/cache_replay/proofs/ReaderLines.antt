@@ -44,6 +44,7 @@ use Rattle.cache_replay.specs.Shown.{Shows}
 use Rattle.cache_replay.proofs.OnSession.{are_writing}
 use Rattle.cache_replay.proofs.ReaderFrames.{leaves_all}
 use Rattle.cache_replay.proofs.Shown.{as_placed, shows_first, shows_in}
+use Rattle.cache_replay.proofs.Unsynced.{unsynced_step}
 
 -- ---- the actors behind a line
 
@@ -130,7 +131,7 @@ line_turn device added given = record { added = added; refused = None; device = 
 
 -- a line that does nothing, at a moment
 abbrev pub still_permit : (now : ℕ) → Permit
-still_permit now = record { packed = false; now = now; area = 0; events = [] }
+still_permit now = record { packed = false; syncs = false; now = now; area = 0; durable = 0; events = [] }
 
 abbrev pub still_turn : (now : ℕ) → Turn
 still_turn now = record { added = []; refused = None; device = still_permit now; given = [] }
@@ -173,6 +174,7 @@ module _ {D R C : Type 0} (disk : DiskGhosts D) (directory : DirectoryGhosts R) 
     pub behind : state_in chronicle new.stripe ≡ after_all (state_in chronicle old.stripe) added
     pub quiet : IsQuiet (state_in chronicle new.stripe)
     pub plain : device.packed ≡ false
+    pub unsynced : device.syncs ≡ false
     pub content : device.area ≡ 0
     pub moment : device.now ≡ run.now
     pub calls : device.events ≡ calls_since (past_of disk directory old) (past_of disk directory new)
@@ -195,25 +197,25 @@ module _ {D R C : Type 0} (disk : DiskGhosts D) (directory : DirectoryGhosts R) 
       let s : State = state_in chronicle old.stripe in
       let sound : IsSound s = active.part.stripe.pieces.sound in
       let turn : Turn = line_turn device added given in
-      let legal : IsStep device s (asked run s step) added None = record {
-        grows = subst (λ is. MayGrow device s (to_do is) added (record { intents = []; refused = None })) (sym line.asks) (grows_by device s (to_do (i ∷ [])) (record { intents = []; refused = None }) added (Done, line.does, refl));
-        quiet = subst IsQuiet line.behind line.quiet;
-        effects = line.effects;
-      } in
+      let legal : IsStep device s (asked run s step) added None =
+      unsynced_step device s (asked run s step) added None line.unsynced
+      (subst (λ is. MayGrow device s (to_do is) added (record { intents = []; refused = None })) (sym line.asks) (grows_by device s (to_do (i ∷ [])) (record { intents = []; refused = None }) added (Done, line.does, refl)))
+      (subst IsQuiet line.behind line.quiet) line.effects in
       elim (tell device s i added Done sound plays.at.told line.does) [
         | inr pair ↦ inr (shows_in run (past_of disk directory old) (past_of disk directory new) s step (record {
           device = device;
           plain = line.plain;
+          unsynced = line.unsynced;
           content = line.content;
           moment = line.moment;
           calls = line.calls;
           shows = subst (λ is. Shows (IsPlacedAs (streams_with run s step)) device s is) (sym line.asks) (shows_first (IsPlacedAs (streams_with run s step)) device s i [] (as_placed (streams_with run s step) device s i pair));
         }))
         | inl told ↦ elim (own run s turn step sound plays.at.told active.part.quiet plays.at.own (are_writing run s (slots_of before) plays.at active.held) legal) [
-          | inr shown ↦ inr (record { turn = turn; calls = line.calls; shows = record { plain = line.plain; content = line.content; moment = line.moment; shows = shown } })
+          | inr shown ↦ inr (record { turn = turn; calls = line.calls; shows = record { plain = line.plain; unsynced = line.unsynced; content = line.content; moment = line.moment; shows = shown } })
           | inl owned ↦ inl (record {
             turn = turn;
-            takes = record { plain = line.plain; content = line.content; moment = line.moment; legal = legal; own = line.gives };
+            takes = record { plain = line.plain; unsynced = line.unsynced; content = line.content; moment = line.moment; legal = legal; own = line.gives };
             calls = line.calls;
             plays = record {
               names = names_are run s (after_all s added) turn step name before.names after.names line.actor plays.names line.names;
@@ -283,13 +285,11 @@ module _ {D R C : Type 0} (disk : DiskGhosts D) (directory : DirectoryGhosts R) 
         turn = still_turn run.now;
         takes = record {
           plain = refl;
+          unsynced = refl;
           content = refl;
           moment = refl;
-          legal = record {
-            grows = subst (λ is. MayGrow (still_permit run.now) s (to_do is) [] (record { intents = []; refused = None })) (sym nothing_asked) nothing;
-            quiet = quiet;
-            effects = refl;
-          };
+          legal = unsynced_step (still_permit run.now) s (asked run s step) [] None refl
+              (subst (λ is. MayGrow (still_permit run.now) s (to_do is) [] (record { intents = []; refused = None })) (sym nothing_asked) nothing) quiet refl;
           own = own;
         };
         calls = none_since (past_of disk directory part);

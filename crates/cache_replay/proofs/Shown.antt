@@ -55,10 +55,10 @@ pub shows_in : (run : Run) (before after : List Call) (s : State) (step : Step) 
 shows_in run before after s step h = record {
   turn = record { added = h.shows.0; refused = None; device = h.device; given = [] };
   calls = h.calls;
-  shows = record { plain = h.plain; content = h.content; moment = h.moment; shows = h.shows.1 };
+  shows = record { plain = h.plain; unsynced = h.unsynced; content = h.content; moment = h.moment; shows = h.shows.1 };
 }
 
 -- in the step that some calls alone make
 pub in_own_step : {X : Type 0} (IsPlaced : Documents) (now : ℕ) (before after : List Call) (s : State) (asks : List Intent) → X ⊎ Shows IsPlaced (own_permit now before after) s asks → X ⊎ ShowsAt IsPlaced now before after s asks
 in_own_step IsPlaced now before after s asks (inl x) = inl x
-in_own_step IsPlaced now before after s asks (inr shows) = inr (record { device = own_permit now before after; plain = refl; moment = refl; content = refl; calls = refl; shows = shows })
+in_own_step IsPlaced now before after s asks (inr shows) = inr (record { device = own_permit now before after; plain = refl; unsynced = refl; moment = refl; content = refl; calls = refl; shows = shows })

@@ -52,6 +52,7 @@ use Rattle.stripe_core.proofs.Between.{accounted_is}
 use Rattle.stripe_core.proofs.Covering.{own_covers, own_permit}
 use Rattle.cache_replay.proofs.ReaderLines.{part_behind}
 use Rattle.cache_replay.proofs.OnPart.{line_moved, part_plays}
+use Rattle.cache_replay.proofs.Unsynced.{unsynced_step}
 
 -- ---- what stands belongs to what writers took behind the whole read
 
@@ -122,11 +123,11 @@ line_ends owns tell run before after n k k2 key request slots got said gets acco
             | inl told ↦ inl (moves x takes told)
             | inr shows ↦ inr (shown_at (step.Get key request) shows)
           ]
-      | inr shows ↦ inr (record { device = own_permit run.now before after; plain = refl; moment = refl; content = refl; calls = refl; shows = shows })
+      | inr shows ↦ inr (record { device = own_permit run.now before after; plain = refl; unsynced = refl; moment = refl; content = refl; calls = refl; shows = shows })
     ]
   where
     shown_at : (line : Step) → ShowsIn run before after (Some (state_of k)) line → ShowsAt (IsPlacedAs (streams_with run (state_of k) line)) run.now before after (state_of k) (asked run (state_of k) line)
-    shown_at line h = record { device = h.turn.device; plain = h.shows.plain; moment = h.shows.moment; content = h.shows.content; calls = h.calls; shows = (h.turn.added, h.shows.shows) }
+    shown_at line h = record { device = h.turn.device; plain = h.shows.plain; unsynced = h.shows.unsynced; moment = h.shows.moment; content = h.shows.content; calls = h.calls; shows = (h.turn.added, h.shows.shows) }
 
     turn_by : Gets (own_permit run.now before after) k k2 run key request got → Turn
     turn_by x = record { added = x.added; refused = None; device = own_permit run.now before after; given = given_in got }
@@ -134,9 +135,10 @@ line_ends owns tell run before after n k k2 key request slots got said gets acco
     takes_by : (x : Gets (own_permit run.now before after) k k2 run key request got) → SessionTakes run (state_of k) (turn_by x) (step.Get key request)
     takes_by x = record {
       plain = refl;
+      unsynced = refl;
       content = refl;
       moment = refl;
-      legal = record { grows = x.grows; quiet = subst IsQuiet (state_behind k k2 x.added x.adds) quiet; effects = accounted_is before after k k2 x.added accounted x.adds };
+      legal = unsynced_step (own_permit run.now before after) (state_of k) _ x.added None refl x.grows (subst IsQuiet (state_behind k k2 x.added x.adds) quiet) (accounted_is before after k k2 x.added accounted x.adds);
       own = x.body;
     }
 

@@ -30,6 +30,7 @@ use Rattle.stripe_core.specs.Faults.{IsAccounted}
 use Rattle.stripe_core.proofs.Between.{accounted_is}
 use Rattle.stripe_core.proofs.Covering.{own_permit}
 use Rattle.cache_replay.proofs.Endings.{key_of}
+use Rattle.cache_replay.proofs.Unsynced.{unsynced_step}
 
 -- ---- the put of an actor
 
@@ -63,16 +64,15 @@ gives_up law before after old new w put accounted quiet adds is does now = λ ru
     let p : Permit = own_permit run.now before after in
     let added : List Rec = rec.Aborted put w.key ∷ [] in
     let there = state_behind old new added adds in
-    let legal : IsStep p s (GiveUp w.put ∷ []) added None = record {
-      grows = grows_by p s (to_do (GiveUp w.put ∷ [])) (record { intents = []; refused = None }) added (Done, does p, refl);
-      quiet = subst IsQuiet there quiet;
-      effects = accounted_is before after old new added accounted adds;
-    } in
+    let legal : IsStep p s (GiveUp w.put ∷ []) added None =
+    unsynced_step p s (GiveUp w.put ∷ []) added None refl (grows_by p s (to_do (GiveUp w.put ∷ [])) (record { intents = []; refused = None }) added (Done, does p, refl))
+    (subst IsQuiet there quiet) (accounted_is before after old new added accounted adds) in
     let has = has_put run name s w played in
     inl (record {
       turn = record { added = added; refused = None; device = p; given = [] };
       takes = record {
         plain = refl;
+        unsynced = refl;
         content = refl;
         moment = refl;
         legal = subst (λ (asks : List Intent). IsStep p s asks added None) (sym (ap (λ o. Rattle.script_run.specs.Asked.if_has o (λ n. GiveUp n ∷ [])) has)) legal;
@@ -141,8 +141,8 @@ reason_of Done = None
 reason_of (Fails reason) = Some reason
 
 -- a whole step
-pub whole_step : (p : Permit) (s : State) (asks : List Intent) (added : List Rec) (e : End) → SpendsAll p s asks added e → IsQuiet (after_all s added) → effects_told added ≡ effects_in p.events → IsStep p s asks added (reason_of e)
-whole_step p s asks added e spends quiet effects = record { grows = by e spends; quiet = quiet; effects = effects }
+pub whole_step : (p : Permit) (s : State) (asks : List Intent) (added : List Rec) (e : End) → p.syncs ≡ false → SpendsAll p s asks added e → IsQuiet (after_all s added) → effects_told added ≡ effects_in p.events → IsStep p s asks added (reason_of e)
+whole_step p s asks added e off spends quiet effects = unsynced_step p s asks added (reason_of e) off (by e spends) quiet effects
   where
     by : (e : End) → SpendsAll p s asks added e → MayGrow p s (to_do asks) added (record { intents = []; refused = reason_of e })
     by Stays h = subst (λ (is : List Intent). MayGrow p s (to_do is) added (record { intents = []; refused = None })) (append-nil asks) (h [] None)

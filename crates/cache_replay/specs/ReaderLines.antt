@@ -77,6 +77,7 @@ pub record NextMoves (run : Run) (before after : List Call) (s t : State) (r new
   pub added : List Rec
   pub given : List ℕ
   pub plain : device.packed ≡ false
+  pub unsynced : device.syncs ≡ false
   pub moment : device.now ≡ run.now
   pub content : device.area ≡ 0
   pub calls : device.events ≡ calls_since before after

@@ -16,10 +16,11 @@ abbrev pub Shows : Documents → Permit → State → List Intent → Type 0
 Shows IsPlaced p s asks = (added : List Rec) × ShowsPair IsPlaced p s asks added
 
 -- the same in a step at a moment by the calls of the device between two moments of its log, with a directory that displaces
--- nothing, on a device whose content area begins at the first block
+-- nothing and a stripe that does not sync, on a device whose content area begins at the first block
 pub record ShowsAt (IsPlaced : Documents) (now : ℕ) (before after : List Call) (s : State) (asks : List Intent) : Type 0 where
   pub device : Permit
   pub plain : device.packed ≡ false
+  pub unsynced : device.syncs ≡ false
   pub moment : device.now ≡ now
   pub content : device.area ≡ 0
   pub calls : device.events ≡ calls_since before after

@@ -3,10 +3,9 @@ use Rattle.std.proofs.Common.{◌≡◌, ℕ, zero, suc, ◌+◌, List, [], ◌�
 use Rattle.std.specs.Prelude.{Option, Some, None, if◌then◌else◌, nat_le, ◌==◌}
 use Rattle.tape_base.specs.declared.keys.Key.{Key}
 use Rattle.alternate_vector.specs.Field.{Field}
-use Rattle.cache_model.specs.State.{State}
+use Rattle.cache_model.specs.State.{State, most_fragments}
 use Rattle.cache_model.specs.Verdict.{cuts_of}
 use Rattle.cache_model.specs.Permit.{Intent, Fragment, Overflow}
-use Rattle.cache_model.specs.Legal.{most_fragments}
 use Rattle.cache_model.proofs.Steps.{all_append}
 use Rattle.script_run.specs.Run.{Holding, Run, gathered_of}
 use Rattle.script_run.specs.Asked.{body_intents, close_intents, closing, cut_intents, feed_intents, feeding, get_intents, if_free, if_has, put_intents, rest_behind, whole_fragments}

@@ -1,5 +1,5 @@
 -- Records that leave a reader, or a put, as it is.
-use Rattle.std.proofs.Common.{◌≡◌, ℕ, List, [], ◌∷◌, sym, subst}
+use Rattle.std.proofs.Common.{◌≡◌, ℕ, List, [], ◌∷◌, sym, subst, inl, inr, ◌⊎◌}
 use Rattle.std.specs.Prelude.{Option, Some, map}
 use Rattle.std.specs.List.{AllByRecursion}
 use Rattle.tape_base.specs.declared.keys.Key.{Key}
@@ -13,16 +13,19 @@ use Rattle.cache_model.specs.declared.cause.Cause.{Cause}
 use Rattle.cache_model.specs.declared.record.Rec.{Rec}
 use Rattle.cache_model.specs.declared.record.Rec.TheVariants as rec
 use Rattle.cache_model.specs.State.{PutRow, put_of, State, Row, ReaderRow, state_after}
-use Rattle.cache_model.specs.Permit.{Permit, Intent, Flush, Write, Fragment, Overflow, Weigh, Finish, Commit, GiveUp, Remove, Look, ReadOn, ReadAll, StopReading, End, Stays, Done, Fails, Work, Reason, is_cleanup, work_after}
+use Rattle.cache_model.specs.Permit.{Permit, Intent, Flush, Sync, SyncBegin, SyncStep, Drain, CleanSync, Write, Fragment, Overflow, Weigh, Finish, Commit, GiveUp, Remove, Look, ReadOn, ReadAll, StopReading, End, Stays, Done, Fails, Work, Reason, is_cleanup, work_after}
 use Rattle.cache_model.specs.Room.{MayDisplace, displaced_record}
 use Rattle.cache_model.specs.Due.{due_pieces}
 use Rattle.cache_model.specs.Outcomes.{Copied, Copy, NoRoom, Outcome, Refused, Spoiled, copies_of, flush_records, front_of, moved_record, moved_records, records_of, stopped_front_of, stopped_records, stopped_records_of}
+use Rattle.cache_model.specs.Syncing.{AtOnce, InParts, MaySyncBehind, Syncing, WhereDue, at_first, behind_records, first_records}
 use Rattle.cache_model.specs.Given
 use Rattle.cache_model.specs.Legal
 use Rattle.cache_model.specs.Legal.{Advances, Does, MayGrow, nothing, more, aborted_record, answer_record}
 use Rattle.cache_model.proofs.Found.{number_of}
-use Rattle.cache_model.proofs.Steps.{all_append}
+use Rattle.cache_model.proofs.Steps.{all_append, all_as}
+use Rattle.cache_model.proofs.Syncing.{AreOfSyncs, IsOfSync, behind_of, first_of}
 use Rattle.script_run.proofs.Carried.{all_filter}
+use Rattle.script_run.proofs.Synced.{AllSyncing, IsSyncing, clean_syncing, drain_parts, step_syncing, sync_parts, unmark_syncing}
 
 -- another number than this one, and any number
 abbrev pub OtherThan : ℕ → ℕ → Type 0
@@ -38,7 +41,7 @@ IsBeside R P (rec.Formatted geometry) = ⊥
 IsBeside R P (rec.Opened geometry serial cursor floor next_put clean list) = ⊥
 IsBeside R P (rec.Gave reader index length) = R reader
 IsBeside R P (rec.ReadClosed reader) = R reader
-IsBeside R P (rec.Committed put key length) = P put
+IsBeside R P (rec.Committed put key length listed) = P put
 IsBeside R P (rec.Aborted put key) = P put
 IsBeside R P _ = Unit {0}
 
@@ -138,10 +141,47 @@ module _ (R P : ℕ → Type 0) where
       let rows : List Row = due_pieces s p.now in
       adds added (stopped_records rows m.outcomes count) m.is (all_append (IsBeside R P) (stopped_front_of rows m.outcomes) _ (stopped_front_beside rows m.outcomes) (tt, tt))
 
+  -- ---- syncs
+
+  sync_beside : (r : Rec) → IsOfSync r → IsBeside R P r
+  sync_beside (rec.SyncBegun serial cursor clean in_parts) h = tt
+  sync_beside (rec.SyncDone serial) h = tt
+  sync_beside _ h = absurd h
+
+  syncs_beside : (recs : List Rec) → AreOfSyncs recs → AllBeside R P recs
+  syncs_beside recs h = all_as IsOfSync (IsBeside R P) sync_beside recs h
+
+  syncing_beside : (r : Rec) → IsSyncing r → IsBeside R P r
+  syncing_beside (rec.SyncBegun serial cursor clean in_parts) h = tt
+  syncing_beside (rec.SyncDone serial) h = tt
+  syncing_beside (rec.Damaged piece place kept found) h = tt
+  syncing_beside (rec.Fault count) h = tt
+  syncing_beside _ h = absurd h
+
+  stops_beside : (added : List Rec) → AllSyncing added → AllBeside R P added
+  stops_beside added h = all_as IsSyncing (IsBeside R P) syncing_beside added h
+
+  -- a flush among syncs
+  synced : (p : Permit) (k : Syncing) (s : State) (added : List Rec) → MaySyncBehind p k s added → AllBeside R P added
+  synced p k s added m =
+      let rows : List Row = due_pieces s p.now in
+      adds added _ m.is
+      (all_append (IsBeside R P) (first_records k s) _ (syncs_beside (first_records k s) (first_of k s))
+      (all_append (IsBeside R P) (front_of rows m.outcomes) _ (front_beside rows m.outcomes)
+      (all_append (IsBeside R P) (behind_records k (at_first k s)) _ (syncs_beside (behind_records k (at_first k s)) (behind_of k (at_first k s)))
+      (tt, copies_beside _ (copies_of rows m.outcomes)))))
+
+  parts : (p : Permit) (k : Syncing) (s : State) (added : List Rec) → MaySyncBehind p k s added ⊎ AllSyncing added → AllBeside R P added
+  parts p k s added (inl m) = synced p k s added m
+  parts p k s added (inr stops) = stops_beside added stops
+
+  -- ---- room
+
   roomed : (p : Permit) (s : State) (bytes : ℕ) (added : List Rec) (e : End) → Legal.MakesRoom p s bytes added e → AllBeside R P added
   roomed p s bytes added e (Legal.MakesRoom.flushes x m) = flushed p s added m
   roomed p s bytes added e (Legal.MakesRoom.stops count x m) = stopped p s count added m
   roomed p s bytes added e (Legal.MakesRoom.exhausted x q is) = adds added [] is tt
+  roomed p s bytes added e (Legal.MakesRoom.syncs end x d is) = parts p WhereDue s added (sync_parts p WhereDue s added end d)
 
   aborts : (s : State) (put : ℕ) (w : PutRow) (added : List Rec) → P put → added ≡ aborted_record w ∷ [] → put_of s put ≡ Some w → AllBeside R P added
   aborts s put w added other is found = adds added _ is (subst P (sym (number_of s put w found)) other, tt)
@@ -151,11 +191,18 @@ module _ (R P : ℕ → Type 0) where
   group_beside p s Flush added e other (Legal.DoesFlush.flushes m) = flushed p s added m
   group_beside p s Flush added e other (Legal.DoesFlush.stops count m) = stopped p s count added m
   group_beside p s Flush added e other (Legal.DoesFlush.exhausted q f b is) = adds added [] is tt
+  group_beside p s Flush added e other (Legal.DoesFlush.syncs d) = parts p WhereDue s added (sync_parts p WhereDue s added e d)
+  group_beside p s Sync added e other d = parts p AtOnce s added (sync_parts p AtOnce s added e d)
+  group_beside p s SyncBegin added e other d = parts p InParts s added (sync_parts p InParts s added e d)
+  group_beside p s (SyncStep last) added e other d = stops_beside added (step_syncing p s last added e d)
+  group_beside p s Drain added e other d = parts p AtOnce s added (drain_parts p s added e d)
+  group_beside p s CleanSync added e other d = stops_beside added (clean_syncing p s added e d)
   group_beside p s (Write actor key request response pin) added e other (Legal.DoesWrite.opens m) = adds added _ m.is (tt, tt)
   group_beside p s (Write actor key request response pin) added e other (Legal.DoesWrite.many q m is) = adds added [] is tt
   group_beside p s (Write actor key request response pin) added e other (Legal.DoesWrite.exhausted q m l is) = adds added [] is tt
   group_beside p s (Fragment put index payload) added e other (Legal.DoesFragment.places d m) =
       adds added _ m.is (tt, all_append (IsBeside R P) m.displaced _ (displaced_beside p s _ m.displaced m.displaces) (tt, tt))
+  group_beside p s (Fragment put index payload) added e other (Legal.DoesFragment.unmarks w x q u) = stops_beside added (unmark_syncing p s added e u)
   group_beside p s (Fragment put index payload) added e other (Legal.DoesFragment.rooms w x m) = roomed p s _ added e m
   group_beside p s (Fragment put index payload) added e other (Legal.DoesFragment.exhausted w x y q) = adds added [] q.is tt
   group_beside p s (Overflow put) added e other (Legal.DoesOverflow.aborts w q l is) = aborts s put w added other is q.found
@@ -165,6 +212,7 @@ module _ (R P : ℕ → Type 0) where
   group_beside p s (Weigh put rest) added e other (Legal.DoesWeigh.faulted w row count q live r m is) = adds added _ is (tt, tt)
   group_beside p s (Finish put fragments) added e other (Legal.DoesFinish.places d m) =
       adds added _ m.is (all_append (IsBeside R P) m.displaced _ (displaced_beside p s _ m.displaced m.displaces) (tt, tt))
+  group_beside p s (Finish put fragments) added e other (Legal.DoesFinish.unmarks w c l q u) = stops_beside added (unmark_syncing p s added e u)
   group_beside p s (Finish put fragments) added e other (Legal.DoesFinish.rooms w c m) = roomed p s _ added e m
   group_beside p s (Finish put fragments) added e other (Legal.DoesFinish.exhausted w x c l q) = adds added [] q.is tt
   group_beside p s (Finish put fragments) added e other (Legal.DoesFinish.loses w index d m is) = aborts s put w added other is m.cut.writing.found

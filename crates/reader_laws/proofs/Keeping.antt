@@ -106,7 +106,7 @@ keeps_one n m s (rec.WriteOpened actor put key request response pin) numbered be
 keeps_one n m s (rec.Cut put index size digest) numbered beside =
     let row : TableRow = made_row size digest.0 in
     keeps_changed n m s _ put (with_cut row) (λ p. refl) (λ p. omega (arith, length-append p.cuts (row ∷ []))) refl refl refl refl refl
-keeps_one n m s (rec.Committed put key size) numbered beside = keeps_changed n m s _ put (with_writing Closed) (λ p. refl) (λ p. omega arith) refl refl refl refl refl
+keeps_one n m s (rec.Committed put key size listed) numbered beside = keeps_changed n m s _ put (with_writing Closed) (λ p. refl) (λ p. omega arith) refl refl refl refl refl
 keeps_one n m s (rec.Aborted put key) numbered beside = keeps_changed n m s _ put (with_writing GivenUp) (λ p. refl) (λ p. omega arith) refl refl refl refl refl
 keeps_one n m s (rec.ReadOpened reader actor key request answer) numbered beside =
     keeps_readers n m s _ (reader + 1) (λ h. omega (arith, h, numbered)) (λ h. opened_beside n s reader actor.0 key request answer (λ e. omega (arith, h, numbered, e)))

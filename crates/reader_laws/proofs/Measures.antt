@@ -6,9 +6,9 @@ use Rattle.fragment_table.specs.Table.{TableRow, total_length}
 use Rattle.alternate_vector.specs.Field.{Field}
 use Rattle.cache_model.specs.declared.record.Rec.{Rec}
 use Rattle.cache_model.specs.declared.record.Rec.TheVariants as rec
-use Rattle.cache_model.specs.State.{State, PutRow, Open, Closed, after_all, put_of, state_after, with_writing}
+use Rattle.cache_model.specs.State.{State, PutRow, Open, Closed, after_all, list_of_piece, put_of, state_after, vector_piece, with_writing}
 use Rattle.cache_model.specs.Verdict.{cuts_of}
-use Rattle.cache_model.specs.Permit.{Commit, Done, End, Exhausted, Fails, Faulted, GiveUp, Intent, Lost, ManyFragments, ManyWriters, Permit, Reason, Stays, TooLarge, Work, to_do, work_after}
+use Rattle.cache_model.specs.Permit.{Commit, Done, End, Exhausted, Fails, Faulted, GiveUp, Intent, Lost, ManyFragments, ManyWriters, NoSync, Permit, Reason, Stays, StillMoving, StillOpen, SyncRuns, TooLarge, Work, to_do, work_after}
 use Rattle.cache_model.specs.Legal
 use Rattle.cache_model.specs.Legal.{Advances, Does, IsStep, MayGrow, nothing, more}
 use Rattle.cache_model.proofs.Found.{cuts_found, none_is, number_of, same_some}
@@ -116,7 +116,7 @@ record IsFoundClosed (t : State) (put : ℕ) : Type 0 where
 
 commit_closes : (s : State) (put : ℕ) (added : List Rec) (e : End) → Legal.DoesCommit s put added e → IsFoundClosed (after_all s added) put
 commit_closes s put added e (Legal.DoesCommit.commits w f o q is) =
-    let t : State = state_after s (rec.Committed put w.key (total_length w.cuts)) in
+    let t : State = state_after s (rec.Committed put w.key (total_length w.cuts) (list_of_piece s (vector_piece w.key put))) in
     subst (λ recs. IsFoundClosed (after_all s recs) put) (sym is) (record {
       w = with_writing Closed w;
       found = changed_to s t put (with_writing Closed) put w (record { puts = refl; keeps = λ p. refl }) f ∙ ap Some (itself put (with_writing Closed) w (number_of s put w f));
@@ -209,6 +209,10 @@ refusal_puts_none t (ManyFragments n) put size fragments h = cc
 refusal_puts_none t (TooLarge n bytes) put size fragments h = cc
 refusal_puts_none t (Lost n index) put size fragments h = cc
 refusal_puts_none t (Faulted count) put size fragments h = cc
+refusal_puts_none t (SyncRuns serial) put size fragments h = cc
+refusal_puts_none t NoSync put size fragments h = cc
+refusal_puts_none t (StillOpen writers readers) put size fragments h = cc
+refusal_puts_none t (StillMoving blocks) put size fragments h = cc
 
 told_by : (t : State) (n : ℕ) (why : Option Reason) (put size fragments : ℕ) → said t None why (put_said t n) ≡ answer.Put put size fragments → IsTold t n why put size fragments
 told_by t n None put size fragments h = record { allowed = refl; put_is = cc; size_is = cc; count_is = cc }

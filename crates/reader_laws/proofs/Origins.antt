@@ -82,7 +82,7 @@ module _ (P : ℕ → Key → List Field → List Field → ℕ → Type 0) wher
   record_puts s (rec.Opened geometry serial cursor floor next_put clean list) each said = tt
   record_puts s (rec.WriteOpened who put key request response pin) each said = (said, each)
   record_puts s (rec.Cut put index length digest) each said = changed_puts put (with_cut (made_row length digest.0)) (λ p h. h) s.puts each
-  record_puts s (rec.Committed put key length) each said = changed_puts put (with_writing Closed) (λ p h. h) s.puts each
+  record_puts s (rec.Committed put key length listed) each said = changed_puts put (with_writing Closed) (λ p h. h) s.puts each
   record_puts s (rec.Aborted put key) each said = changed_puts put (with_writing GivenUp) (λ p h. h) s.puts each
   record_puts s _ each said = each
 

@@ -90,7 +90,7 @@ KeepsIn run = StandsWhere Keeps run run.state
 module _ (laws : OfKept) (run : Run) (turn : Turn) where
   formatted_keeps : (name : List ℕ) (added : List Rec) (g : Geometry) → added ≡ format_records g → KeepsIn (formatted run name added)
   formatted_keeps name added g is = subst (λ recs. KeepsIn (formatted run name recs)) (sym is) (record {
-    sound = laws.legal_is_sound false [] (format_records g) (Legal.IsLegal.begins g);
+    sound = laws.legal_is_sound (record { packed = false; syncs = false; area = 0 }) [] (format_records g) (Legal.IsLegal.begins g);
     displaced = refl;
     quiet = refl;
     kept = laws.formats_keep nothing_yet g (λ put. no_stream);
@@ -176,6 +176,7 @@ module _ (laws : OfLines) (run : Run) (turn : Turn) where
   vector_shows : (s : State) (st : Step) → SessionTakes run s turn st → ShowsPair IsVectorAs turn.device s (asked run s st) turn.added → SessionShows run s turn st
   vector_shows s st takes v = record {
     plain = takes.plain;
+    unsynced = takes.unsynced;
     content = takes.content;
     moment = takes.moment;
     shows = also_shows IsVectorAs (IsPlacedAs (streams_with run s st)) (λ t row document vector. inl vector) turn.device s (to_do (asked run s st)) turn.added v;
@@ -189,7 +190,7 @@ module _ (laws : OfLines) (run : Run) (turn : Turn) where
         | inr v ↦ inr (vector_shows s st takes v)
         | inl told ↦ elim (laws.steps_own run s turn st k.sound h.told k.quiet h.own (are_writing run s k.held) takes.legal) [
           | inl own ↦ inl (record { keeps = keeps_step laws.kept run turn s st takes k; told = told; own = own })
-          | inr shown ↦ inr (record { plain = takes.plain; content = takes.content; moment = takes.moment; shows = shown })
+          | inr shown ↦ inr (record { plain = takes.plain; unsynced = takes.unsynced; content = takes.content; moment = takes.moment; shows = shown })
         ]
       ]
 

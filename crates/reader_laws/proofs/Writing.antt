@@ -70,7 +70,7 @@ keeps_one m s (rec.WriteOpened actor put key request response pin) numbered besi
 keeps_one m s (rec.Cut put index size digest) numbered beside =
     keeps_changed m s _ put (with_cut (made_row size digest.0)) (λ p. refl)
     (λ w found. either (λ (y : PutRow). is_open y ≡ is_open w) put (with_cut (made_row size digest.0)) w (λ e. refl) refl) refl refl
-keeps_one m s (rec.Committed put key size) numbered beside = keeps_changed m s _ put (with_writing Closed) (λ p. refl) (ended_beside m s put (with_writing Closed) beside) refl refl
+keeps_one m s (rec.Committed put key size listed) numbered beside = keeps_changed m s _ put (with_writing Closed) (λ p. refl) (ended_beside m s put (with_writing Closed) beside) refl refl
 keeps_one m s (rec.Aborted put key) numbered beside = keeps_changed m s _ put (with_writing GivenUp) (λ p. refl) (ended_beside m s put (with_writing GivenUp) beside) refl refl
 keeps_one m s (rec.Ended reader size) numbered beside = keeps_self m s
 keeps_one m s (rec.Waited reader cut) numbered beside = keeps_self m s

@@ -20,7 +20,7 @@ use Rattle.script_lang.specs.declared.answer.StepAnswer.TheVariants as answer
 use Rattle.script_lang.specs.declared.last.LastLine.{LastLine}
 use Rattle.script_lang.specs.declared.last.LastLine.TheVariants as last
 use Rattle.script_lang.specs.Lines.{AnswersAreLines, LastLinesAreLines, is_line}
-use Rattle.script_lang.specs.Texts.{answer_line, bad_script_line, bay_fault_line, cause_line, cause_text, damaged_text, displaced_text, done_line, fault_line, flushed_line, formatted_line, got_line, hit_line, kind_word, last_line, lost_text, newline, no_cache_line, number_line, numbered, passed_text, piece_line, put_line, read_fault_line, refusal_text, refused_line, shown, synced_text, too_long_line, too_many_line, took_text, unsaved_text, usage_line, why_line}
+use Rattle.script_lang.specs.Texts.{answer_line, bad_script_line, bay_fault_line, cause_line, cause_text, damaged_text, displaced_text, done_line, fault_line, flushed_line, formatted_line, got_line, hit_line, kind_word, last_line, lost_text, newline, no_cache_line, number_line, numbered, open_text, passed_text, piece_line, put_line, read_fault_line, refusal_text, refused_line, shown, synced_text, too_long_line, too_many_line, took_text, unsaved_text, usage_line, why_line}
 
 abbrev is_plain_byte : ℕ → Bool
 is_plain_byte byte = not (byte == 10)
@@ -114,7 +114,7 @@ cause_plain (cause.Damaged place kept found) =
     (with (decimal place) _ (number place) (with_word (codes " ") _ refl (with (encode_lower kept.0) _ (hex kept.0) (with_word (codes " ") _ refl (hex found.0)))))
 
 refusal_plain : (why : Refused) → Plain (refusal_text why)
-unfolding lost_text
+unfolding lost_text open_text
 refusal_plain (refused.Geometry n) = numbered_plain (codes "geometry") n refl
 refusal_plain refused.TooManyWriters = record { holds = refl }
 refusal_plain refused.TooManyFragments = record { holds = refl }
@@ -124,6 +124,11 @@ refusal_plain refused.Sealed = record { holds = refl }
 refusal_plain refused.Exhausted = record { holds = refl }
 refusal_plain refused.Busy = record { holds = refl }
 refusal_plain refused.Idle = record { holds = refl }
+refusal_plain (refused.SyncRunning serial) = numbered_plain (codes "sync-running") serial refl
+refusal_plain refused.NoSync = record { holds = refl }
+refusal_plain (refused.StillOpen writers readers) =
+    with_word (codes "still-open ") _ refl (with (decimal writers) _ (number writers) (with_word (codes " ") _ refl (number readers)))
+refusal_plain (refused.StillMoving blocks) = numbered_plain (codes "still-moving") blocks refl
 
 took_plain : (took : Option ℕ) → Plain (took_text took)
 took_plain None = record { holds = refl }

@@ -18,7 +18,7 @@ use Rattle.script_lang.specs.Tokens.{number_in, number_below, key_in, object_of,
 use Rattle.script_lang.specs.Fields.{with_word}
 use Rattle.script_lang.specs.Verbs.{verb_of}
 use Rattle.script_lang.specs.Grammar.{take_number, alternates_kept, usual_of, format_of, put_of, get_of, take_actor, open_write_of, data_of, remove_of, now_of, step_of, reading_of}
-use Rattle.script_lang.specs.Texts.{answer_line, cause_line, fault_line, lost_text, number_line, numbered, passed_text, piece_line, refused_line, shown}
+use Rattle.script_lang.specs.Texts.{answer_line, cause_line, fault_line, lost_text, number_line, numbered, open_text, passed_text, piece_line, refused_line, shown}
 
 abbrev field : List ℕ → List ℕ → Field
 field name value = record { name = name; value = value }
@@ -111,6 +111,22 @@ piece = refl
 lost : answer_line (said.Refused (refused.Lost 1 (cause.Passed 64 80 false)) None) ≡ codes "refused lost 1 passed 64 80\n"
 unfolding refused_line lost_text passed_text digits
 lost = refl
+
+sync_running : answer_line (said.Refused (refused.SyncRunning 7) None) ≡ codes "refused sync-running 7\n"
+unfolding refused_line numbered digits
+sync_running = refl
+
+no_sync : answer_line (said.Refused refused.NoSync None) ≡ codes "refused no-sync\n"
+unfolding refused_line
+no_sync = refl
+
+still_open : answer_line (said.Refused (refused.StillOpen 1 20) None) ≡ codes "refused still-open 1 20\n"
+unfolding refused_line open_text digits
+still_open = refl
+
+still_moving : answer_line (said.Refused (refused.StillMoving 80) None) ≡ codes "refused still-moving 80\n"
+unfolding refused_line numbered digits
+still_moving = refl
 
 broken : answer_line (said.Broken (cause.Aborted 2)) ≡ codes "broken aborted 2\n"
 unfolding cause_line numbered digits

@@ -66,7 +66,11 @@ cause_text (cause.Damaged place kept found) = damaged_text place kept found
 unfoldable pub lost_text : ℕ → Cause → List ℕ
 lost_text index why = codes "lost " ++ (decimal index ++ (codes " " ++ cause_text why))
 
--- why a step is refused, with its number where it has one
+-- how many writers and readers are open
+unfoldable pub open_text : ℕ → ℕ → List ℕ
+open_text writers readers = codes "still-open " ++ (decimal writers ++ (codes " " ++ decimal readers))
+
+-- why a step is refused, with its numbers where it has some
 abbrev pub refusal_text : Refused → List ℕ
 refusal_text (refused.Geometry number) = numbered (codes "geometry") number
 refusal_text refused.TooManyWriters = codes "too-many-writers"
@@ -77,6 +81,10 @@ refusal_text refused.Sealed = codes "sealed"
 refusal_text refused.Exhausted = codes "exhausted"
 refusal_text refused.Busy = codes "busy"
 refusal_text refused.Idle = codes "idle"
+refusal_text (refused.SyncRunning serial) = numbered (codes "sync-running") serial
+refusal_text refused.NoSync = codes "no-sync"
+refusal_text (refused.StillOpen writers readers) = open_text writers readers
+refusal_text (refused.StillMoving blocks) = numbered (codes "still-moving") blocks
 
 -- how many bytes were taken before, where that is told
 abbrev pub took_text : Option ℕ → List ℕ

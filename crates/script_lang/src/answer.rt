@@ -21,6 +21,14 @@ pub enum Refused {
     Busy,
     /// The actor lacks the writer or the reader.
     Idle,
+    /// The sync of this serial is written in parts.
+    SyncRunning { serial: u64 },
+    /// No sync is written in parts.
+    NoSync,
+    /// So many writers and readers are open.
+    StillOpen { writers: u32, readers: u32 },
+    /// So many blocks were copied into the next buffer.
+    StillMoving { blocks: u32 },
 }
 
 #[derive(Debug, Drop)]

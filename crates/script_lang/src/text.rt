@@ -1,6 +1,6 @@
 // The text of each answer: one line, ended by a newline.
 ghost use Rattle.std.specs.Prelude.{◌≡◌, ◌++◌, IfOk, OnOk, OnErr, string_bytes};
-ghost use Rattle.script_lang.specs.Texts.{shown, numbered, passed_text, displaced_text, damaged_text, cause_text, lost_text, refusal_text, took_text, synced_text, number_line, formatted_line, put_line, got_line, hit_line, piece_line, flushed_line, refused_line, fault_line, cause_line, why_line, done_line, answer_line};
+ghost use Rattle.script_lang.specs.Texts.{shown, numbered, passed_text, displaced_text, damaged_text, cause_text, lost_text, open_text, refusal_text, took_text, synced_text, number_line, formatted_line, put_line, got_line, hit_line, piece_line, flushed_line, refused_line, fault_line, cause_line, why_line, done_line, answer_line};
 
 use crate::{Refused, StepAnswer};
 use cache_model::Cause;
@@ -85,6 +85,14 @@ fn lost(alloc: Global, index: u32, why: Cause) -> Result<String, AllocError>
     format!(in alloc; "lost {index} {why}")
 }
 
+/// How many writers and readers are open.
+#[tactic(auto, unfolding(crate::specs::Texts::open_text))]
+fn still_open(alloc: Global, writers: u32, readers: u32) -> Result<String, AllocError>
+    ensures { IfOk result (λ text. string_bytes text ≡ open_text writers readers) }
+{
+    format!(in alloc; "still-open {writers} {readers}")
+}
+
 fn refusal(alloc: Global, why: Refused) -> Result<String, AllocError>
     ensures { IfOk result (λ text. string_bytes text ≡ refusal_text why) }
 {
@@ -98,6 +106,10 @@ fn refusal(alloc: Global, why: Refused) -> Result<String, AllocError>
         Refused::Exhausted => String::from_str(alloc, "exhausted"),
         Refused::Busy => String::from_str(alloc, "busy"),
         Refused::Idle => String::from_str(alloc, "idle"),
+        Refused::SyncRunning { serial } => numbered(alloc, "sync-running", serial),
+        Refused::NoSync => String::from_str(alloc, "no-sync"),
+        Refused::StillOpen { writers, readers } => still_open(alloc, writers, readers),
+        Refused::StillMoving { blocks } => numbered(alloc, "still-moving", blocks as u64),
     }
 }
 

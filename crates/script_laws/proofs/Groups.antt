@@ -1,5 +1,5 @@
 -- What each group of records keeps, and what it tells.
-use Rattle.std.proofs.Common.{◌≡◌, ℕ, ◌+◌, ◌-◌, ◌^◌, ◌<◌, ◌≤◌, List, [], ◌∷◌, ◌++◌, refl, sym, ◌∙◌, subst, arith, inl, Bool, true, false}
+use Rattle.std.proofs.Common.{◌≡◌, ℕ, ◌+◌, ◌-◌, ◌^◌, ◌<◌, ◌≤◌, List, [], ◌∷◌, ◌++◌, refl, sym, ◌∙◌, subst, arith, inl, inr, Bool, true, false}
 use Rattle.std.specs.Prelude.{Some, None, cond, map, min}
 use Rattle.std.specs.List.{AllByRecursion}
 use Rattle.device_log.specs.Calls.{Asked}
@@ -16,16 +16,19 @@ use Rattle.cache_model.specs.declared.answer.NextAnswer.{NextAnswer}
 use Rattle.cache_model.specs.declared.answer.NextAnswer.TheVariants as next
 use Rattle.cache_model.specs.declared.record.Rec.{Rec}
 use Rattle.cache_model.specs.declared.record.Rec.TheVariants as rec
-use Rattle.cache_model.specs.State.{State, Row, ReaderRow, after_all, state_after}
-use Rattle.cache_model.specs.Permit.{Permit, Intent, Flush, Write, Fragment, Overflow, Weigh, Finish, Commit, GiveUp, Remove, Look, ReadOn, ReadAll, StopReading, End, Stays, Done, Fails, Faulted, Exhausted, Lost}
+use Rattle.cache_model.specs.State.{State, Row, ReaderRow, after_all, cursor_next, state_after}
+use Rattle.cache_model.specs.Permit.{Permit, Intent, Flush, Sync, SyncBegin, SyncStep, Drain, CleanSync, Write, Fragment, Overflow, Weigh, Finish, Commit, GiveUp, Remove, Look, ReadOn, ReadAll, StopReading, End, Stays, Done, Fails, Faulted, Exhausted, Lost}
 use Rattle.cache_model.specs.Room.{MayDisplace, displaced_record}
 use Rattle.cache_model.specs.Permit.{IsAmong}
 use Rattle.cache_model.specs.Due.{due_pieces}
 use Rattle.cache_model.specs.Outcomes.{AreOutcomes, Copied, Copy, IsOutcome, NoRoom, Outcome, Refused, Spoiled, copies_of, flush_records, front_of, left_behind, moved_record, moved_records, records_of, stopped_front_of, stopped_records_of}
 use Rattle.cache_model.specs.Given
+use Rattle.cache_model.specs.Syncing
+use Rattle.cache_model.specs.Syncing.{CannotEnd, DoesCleanSync, DoesSync, DoesSyncStep, MayStopSync, MaySyncBehind, StopsBehind, Syncing, Unmarks, at_first, begun_record, behind_records, ended_records, first_records, sync_records, unmark_records}
 use Rattle.cache_model.specs.Legal
 use Rattle.cache_model.specs.Legal.{Does, answer_record, is_given}
 use Rattle.cache_model.proofs.Found.{none_is}
+use Rattle.cache_model.proofs.Syncing.{AreOfSyncs, IsOfSync, behind_of, ended_of, first_of, sync_of, unmark_of}
 use Rattle.script_laws.specs.Causes
 use Rattle.script_laws.specs.Causes.{IsGivenBy, IsTraced, cause_given, cause_told}
 use Rattle.model_laws.specs.StepLaws.{IsCounted}
@@ -230,10 +233,104 @@ module _ (p : Permit) where
       silent s added (front ++ last) (Fails (Faulted count)) m.is (among_right (rec.Fault count) front last (inl refl))
       (all_append IsSilent front last (stopped_front_silent s (budget_of s.geometry) (due_pieces s p.now) m.outcomes m.are) ((counted (after_all s front) count m.counts.counts, refl), tt))
 
+  -- ---- syncs
+
+  sync_silent : (r : Rec) → IsOfSync r → IsSilent r
+  sync_silent (rec.SyncBegun serial cursor clean in_parts) h = (tt, refl)
+  sync_silent (rec.SyncDone serial) h = (tt, refl)
+  sync_silent _ h = absurd h
+
+  syncs_silent : (recs : List Rec) → AreOfSyncs recs → AreSilent recs
+  syncs_silent recs h = all_as IsOfSync IsSilent sync_silent recs h
+
+  ended_then : (s : State) (recs : List Rec) → AreSilent recs → AreSilent (ended_records s ++ recs)
+  ended_then s recs h = all_append IsSilent (ended_records s) recs (syncs_silent (ended_records s) (ended_of s)) h
+
+  -- the buffer is written out among them
+  synced : (k : Syncing) (s : State) (added : List Rec) → MaySyncBehind p k s added → IsGroup s added Done
+  synced k s added m =
+      let rows : List Row = due_pieces s p.now in
+      silent s added _ Done m.is tt
+      (all_append IsSilent (first_records k s) _ (syncs_silent (first_records k s) (first_of k s))
+      (all_append IsSilent (front_of rows m.outcomes) _ (front_silent s (budget_of s.geometry) rows m.outcomes m.are)
+      (all_append IsSilent (behind_records k (at_first k s)) _ (syncs_silent (behind_records k (at_first k s)) (behind_of k (at_first k s)))
+      ((tt, refl), copies_silent _ (copies_of rows m.outcomes)))))
+
+  begun_silent : (k : Syncing) (s : State) (front : List Rec) (count : ℕ) (begun : List Rec) → StopsBehind p k s front count begun → AreSilent (begun ++ rec.Fault count ∷ [])
+  begun_silent k s front count begun (Syncing.StopsBehind.buffer c) = ((counted (after_all s front) count c.counts, refl), tt)
+  begun_silent k s front count begun (Syncing.StopsBehind.ended t n r c) = ((counted (after_all s front) count c.counts, refl), tt)
+  begun_silent k s front count begun (Syncing.StopsBehind.whole t n c) =
+      all_append IsSilent (ended_records s ++ begun_record s (cursor_next s) false false ∷ []) _ (ended_then s _ ((tt, refl), tt)) ((counted (after_all s front) count c.counts, refl), tt)
+
+  sync_stops : (k : Syncing) (s : State) (count : ℕ) (added : List Rec) → MayStopSync p k s count added → IsGroup s added (Fails (Faulted count))
+  sync_stops k s count added m =
+      let rows : List Row = due_pieces s p.now in
+      let first : List Rec = first_records k s in
+      let front : List Rec = stopped_front_of rows m.outcomes in
+      let last : Rec = rec.Fault count in
+      silent s added (first ++ (front ++ (m.begun ++ last ∷ []))) (Fails (Faulted count)) m.is
+      (among_right last first _ (among_right last front _ (among_right last m.begun _ (inl refl))))
+      (all_append IsSilent first _ (syncs_silent first (first_of k s))
+      (all_append IsSilent front _ (stopped_front_silent s (budget_of s.geometry) rows m.outcomes m.are) (begun_silent k (at_first k s) front count m.begun m.stops)))
+
+  -- a sync was begun, and the fault stands behind that
+  begun_stops : (s : State) (count : ℕ) (added : List Rec) (r : Rec) → IsOfSync r → added ≡ ended_records s ++ r ∷ rec.Fault count ∷ [] → Given.CountsSync p s count
+      → IsGroup s added (Fails (Faulted count))
+  begun_stops s count added r of_sync is c =
+      silent s added _ (Fails (Faulted count)) is (among_right (rec.Fault count) (ended_records s) _ (inr (inl refl)))
+      (ended_then s _ (sync_silent r of_sync, ((counted s count c.counts, refl), tt)))
+
+  cannot_end : (s : State) (count : ℕ) (added : List Rec) → CannotEnd p s count added → IsGroup s added (Fails (Faulted count))
+  cannot_end s count added c = fault s count added c.counts.counts c.is
+
+  sync : (k : Syncing) (s : State) (added : List Rec) (e : End) → DoesSync p k s added e → IsGroup s added e
+  sync k s added e (Syncing.DoesSync.goes m) = synced k s added m
+  sync k s added e (Syncing.DoesSync.stops count m) = sync_stops k s count added m
+  sync k s added e (Syncing.DoesSync.empty m) = silent s added _ e m.is tt (ended_then s _ (syncs_silent (sync_records k s s.cursor) (sync_of k s s.cursor)))
+  sync k s added e (Syncing.DoesSync.empty_stops count m) = begun_stops s count added _ tt m.is m.counts
+  sync k s added e (Syncing.DoesSync.stays count can first c) = cannot_end s count added c
+  sync k s added e (Syncing.DoesSync.exhausted may high is) = silent s added [] e is tt tt
+  sync k s added e (Syncing.DoesSync.runs serial on quiet parts runs is) = silent s added [] e is tt tt
+
+  sync_step : (s : State) (last : Bool) (added : List Rec) (e : End) → DoesSyncStep p s last added e → IsGroup s added e
+  sync_step s last added e (Syncing.DoesSyncStep.none on quiet none is) = silent s added [] e is tt tt
+  sync_step s last added e (Syncing.DoesSyncStep.part on quiet runs more takes is) = silent s added [] e is tt tt
+  sync_step s last added e (Syncing.DoesSyncStep.ends on quiet runs end is) = silent s added _ e is tt (syncs_silent (ended_records s) (ended_of s))
+  sync_step s last added e (Syncing.DoesSyncStep.stays count on quiet c) = cannot_end s count added c
+
+  clean_sync : (s : State) (added : List Rec) (e : End) → DoesCleanSync p s added e → IsGroup s added e
+  clean_sync s added e (Syncing.DoesCleanSync.moving on quiet some is) = silent s added [] e is tt tt
+  clean_sync s added e (Syncing.DoesCleanSync.syncs on quiet none rests below is) = silent s added _ e is tt ((tt, refl), ((tt, refl), tt))
+  clean_sync s added e (Syncing.DoesCleanSync.stops count on quiet none rests below c is) = silent s added _ e is (inr (inl refl)) ((tt, refl), ((counted s count c.counts, refl), tt))
+  clean_sync s added e (Syncing.DoesCleanSync.exhausted on quiet none rests high is) = silent s added [] e is tt tt
+
+  drain : (s : State) (added : List Rec) (e : End) → Legal.DoesDrain p s added e → IsGroup s added e
+  drain s added e (Legal.DoesDrain.still_open on quiet some is) = silent s added [] e is tt tt
+  drain s added e (Legal.DoesDrain.empty on quiet none filled is) = silent s added _ e is tt (syncs_silent (ended_records s) (ended_of s))
+  drain s added e (Legal.DoesDrain.stays count on quiet none filled c) = cannot_end s count added c
+  drain s added e (Legal.DoesDrain.syncs none some d) = sync Syncing.AtOnce s added e d
+
+  unmark : (s : State) (added : List Rec) (e : End) → Unmarks p s added e → IsGroup s added e
+  unmark s added e (Syncing.Unmarks.unmarks must below is) = silent s added _ e is tt (syncs_silent (unmark_records s) (unmark_of s))
+  unmark s added e (Syncing.Unmarks.stays count must below c) = cannot_end s count added c
+  unmark s added e (Syncing.Unmarks.stops count must below marked c is) = begun_stops s count added _ tt is c
+  unmark s added e (Syncing.Unmarks.exhausted must high is) = silent s added [] e is tt tt
+
+  -- behind a flush for room what was asked is still to be done
+  stays_recorded : (added : List Rec) (e : End) → EndIsRecorded added e → EndIsRecorded added (Legal.stays_behind e)
+  stays_recorded added Stays h = h
+  stays_recorded added Done h = tt
+  stays_recorded added (Fails reason) h = h
+
+  -- ---- room
+
   room : (s : State) (bytes : ℕ) (added : List Rec) (e : End) → Legal.MakesRoom p s bytes added e → IsGroup s added e
   room s bytes added e (Legal.MakesRoom.flushes h m) = flush s added e tt m
   room s bytes added e (Legal.MakesRoom.stops count h m) = stop s count added m
   room s bytes added e (Legal.MakesRoom.exhausted h q is) = silent s added [] e is tt tt
+  room s bytes added e (Legal.MakesRoom.syncs end h d is) =
+      let g : IsGroup s added end = sync Syncing.WhereDue s added end d in
+      record { kept = g.kept; traced = g.traced; failed = subst (EndIsRecorded added) (sym is) (stays_recorded added end g.failed) }
 
   -- a group that comes to an end at which no fault is recorded
   ends_so : (s : State) (added other : List Rec) (e end : End) → added ≡ other → e ≡ end → EndIsRecorded other end → AreSilent other → IsGroup s added e
@@ -246,11 +343,18 @@ module _ (p : Permit) where
   group s Flush added e (Legal.DoesFlush.flushes m) = flush s added e tt m
   group s Flush added e (Legal.DoesFlush.stops count m) = stop s count added m
   group s Flush added e (Legal.DoesFlush.exhausted q f b is) = silent s added [] e is tt tt
+  group s Flush added e (Legal.DoesFlush.syncs d) = sync Syncing.WhereDue s added e d
+  group s Sync added e d = sync Syncing.AtOnce s added e d
+  group s SyncBegin added e d = sync Syncing.InParts s added e d
+  group s (SyncStep last) added e d = sync_step s last added e d
+  group s Drain added e d = drain s added e d
+  group s CleanSync added e d = clean_sync s added e d
   group s (Write actor key request response pin) added e (Legal.DoesWrite.opens m) = silent s added _ e m.is tt ((tt, refl), tt)
   group s (Write actor key request response pin) added e (Legal.DoesWrite.many q m is) = silent s added [] e is tt tt
   group s (Write actor key request response pin) added e (Legal.DoesWrite.exhausted q m l is) = silent s added [] e is tt tt
   group s (Fragment put index payload) added e (Legal.DoesFragment.places d m) =
       ends_so s added _ e Done m.is d tt ((tt, refl), all_append IsSilent m.displaced _ (displaced s _ m.displaced m.displaces) ((tt, refl), tt))
+  group s (Fragment put index payload) added e (Legal.DoesFragment.unmarks w n q u) = unmark s added e u
   group s (Fragment put index payload) added e (Legal.DoesFragment.rooms w n m) = room s _ added e m
   group s (Fragment put index payload) added e (Legal.DoesFragment.exhausted w x n q) = ends_so s added [] e (Fails Exhausted) q.is x tt tt
   group s (Overflow put) added e (Legal.DoesOverflow.aborts w q l is) = silent s added _ e is tt ((tt, refl), tt)
@@ -260,6 +364,7 @@ module _ (p : Permit) where
   group s (Weigh put rest) added e (Legal.DoesWeigh.faulted w row count q live r m is) = fault s count added m is
   group s (Finish put fragments) added e (Legal.DoesFinish.places d m) =
       ends_so s added _ e Done m.is d tt (all_append IsSilent m.displaced _ (displaced s _ m.displaced m.displaces) ((tt, refl), tt))
+  group s (Finish put fragments) added e (Legal.DoesFinish.unmarks w c l q u) = unmark s added e u
   group s (Finish put fragments) added e (Legal.DoesFinish.rooms w c m) = room s _ added e m
   group s (Finish put fragments) added e (Legal.DoesFinish.exhausted w x c l q) = ends_so s added [] e (Fails Exhausted) q.is x tt tt
   group s (Finish put fragments) added e (Legal.DoesFinish.loses w index d m is) = ends_so s added _ e (Fails (Lost put index)) is d tt ((tt, refl), tt)

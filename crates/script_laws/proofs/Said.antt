@@ -9,7 +9,7 @@ use Rattle.cache_model.specs.declared.answer.ReadAnswer.TheVariants as read
 use Rattle.cache_model.specs.declared.record.Rec.{Rec}
 use Rattle.cache_model.specs.declared.record.Rec.TheVariants as rec
 use Rattle.cache_model.specs.State.{State, PutRow, after_all, floor_now, fragment_piece, put_of}
-use Rattle.cache_model.specs.Permit.{IsAmong, Reason, ManyWriters, Exhausted, ManyFragments, TooLarge, Lost, Faulted}
+use Rattle.cache_model.specs.Permit.{IsAmong, Reason, ManyWriters, Exhausted, ManyFragments, TooLarge, Lost, Faulted, SyncRuns, NoSync, StillOpen, StillMoving}
 use Rattle.cache_model.specs.Verdict.{cause_of_piece}
 use Rattle.cache_model.specs.Legal.{IsStep}
 use Rattle.cache_model.proofs.Found.{none_is}
@@ -58,7 +58,7 @@ look_told (rec.Displaced piece segment live ∷ recs) why h = told_later _ recs 
 look_told (rec.Damaged piece place kept found ∷ recs) why h = told_later _ recs why (look_told recs why h)
 look_told (rec.WriteOpened actor put key request response pin ∷ recs) why h = told_later _ recs why (look_told recs why h)
 look_told (rec.Cut put index length digest ∷ recs) why h = told_later _ recs why (look_told recs why h)
-look_told (rec.Committed put key length ∷ recs) why h = told_later _ recs why (look_told recs why h)
+look_told (rec.Committed put key length listed ∷ recs) why h = told_later _ recs why (look_told recs why h)
 look_told (rec.Aborted put key ∷ recs) why h = told_later _ recs why (look_told recs why h)
 look_told (rec.Removed put key ∷ recs) why h = told_later _ recs why (look_told recs why h)
 look_told (rec.Gave reader index length ∷ recs) why h = told_later _ recs why (look_told recs why h)
@@ -116,6 +116,10 @@ module _ (s t : State) (turn : Turn) (told_traced : (why : Cause) → IsToldBy t
   refusal took (TooLarge put bytes) e = tt
   refusal took (Lost put index) e = stands_behind (cause_of_lost t put index) (lost put index (put_of t put))
   refusal took (Faulted count) e = inl e
+  refusal took (SyncRuns serial) e = tt
+  refusal took NoSync e = tt
+  refusal took (StillOpen writers readers) e = tt
+  refusal took (StillMoving blocks) e = tt
 
   or_refused : (took : Option ℕ) (o : Option Reason) (whole : StepAnswer) → turn.refused ≡ o → Says whole → Says (said t took o whole)
   or_refused took None whole e h = h
@@ -148,7 +152,7 @@ module _ (s t : State) (turn : Turn) (told_traced : (why : Cause) → IsToldBy t
   next given (Some (rec.Damaged piece place kept found)) e = tt
   next given (Some (rec.WriteOpened actor put k request response pin)) e = tt
   next given (Some (rec.Cut put index length digest)) e = tt
-  next given (Some (rec.Committed put k length)) e = tt
+  next given (Some (rec.Committed put k length listed)) e = tt
   next given (Some (rec.Aborted put k)) e = tt
   next given (Some (rec.Removed put k)) e = tt
   next given (Some (rec.ReadOpened reader actor k request answer)) e = tt
@@ -173,7 +177,7 @@ module _ (s t : State) (turn : Turn) (told_traced : (why : Cause) → IsToldBy t
   at_end n given (Some (rec.Damaged piece place kept found)) e = tt
   at_end n given (Some (rec.WriteOpened actor put k request response pin)) e = tt
   at_end n given (Some (rec.Cut put index length digest)) e = tt
-  at_end n given (Some (rec.Committed put k length)) e = tt
+  at_end n given (Some (rec.Committed put k length listed)) e = tt
   at_end n given (Some (rec.Aborted put k)) e = tt
   at_end n given (Some (rec.Removed put k)) e = tt
   at_end n given (Some (rec.ReadOpened reader actor k request answer)) e = tt
@@ -247,6 +251,10 @@ answered_by s refused added (answer.Refused refusing.Sealed took) why said e = n
 answered_by s refused added (answer.Refused refusing.Exhausted took) why said e = none_is e
 answered_by s refused added (answer.Refused refusing.Busy took) why said e = none_is e
 answered_by s refused added (answer.Refused refusing.Idle took) why said e = none_is e
+answered_by s refused added (answer.Refused (refusing.SyncRunning serial) took) why said e = none_is e
+answered_by s refused added (answer.Refused refusing.NoSync took) why said e = none_is e
+answered_by s refused added (answer.Refused (refusing.StillOpen writers readers) took) why said e = none_is e
+answered_by s refused added (answer.Refused (refusing.StillMoving blocks) took) why said e = none_is e
 answered_by s refused added (answer.Formatted serial cursor floor) why said e = none_is e
 answered_by s refused added (answer.Put put length fragments) why said e = none_is e
 answered_by s refused added (answer.Got put length bytes) why said e = none_is e

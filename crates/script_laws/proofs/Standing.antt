@@ -66,7 +66,7 @@ module _ (s : State) (all : List Rec) where
   pub of_piece : (id : PieceId) → IsTraced s all (cause_of_piece s id)
   of_piece id = by_loss id (cause_of_loss s id) refl
 
-  of_vector : (id : PieceId) (o : Option Row) → IsTraced s all (unwrap_or (option_map no_match o) (cause_of_piece s id))
+  of_vector : (id : PieceId) (o : Option Row) → IsTraced s all (unwrap_or (option_map (λ (row : Row). no_match s id) o) (cause_of_piece s id))
   of_vector id None = of_piece id
   of_vector id (Some row) = Causes.IsTraced.stands refl
 

@@ -2,11 +2,14 @@
 use Rattle.std.proofs.Common.{◌≡◌, ℕ, List, [], ◌∷◌, refl, sym, ◌∙◌, ap, subst, inl, inr, ◌⊎◌, true, false}
 use Rattle.std.specs.Prelude.{Option, Some, None, filter, option_map, unwrap_or}
 use Rattle.fragment_table.specs.Table.{total_length}
+use Rattle.alternate_vector.specs.Alternates.{Stored}
 use Rattle.cache_model.specs.declared.record.Rec.{Rec}
 use Rattle.cache_model.specs.declared.record.Rec.TheVariants as rec
-use Rattle.cache_model.specs.State.{State, PutRow, Writing, Open, Closed, GivenUp, after_all, put_of, state_after, with_writing}
+use Rattle.cache_model.specs.State.{State, PutRow, Writing, Open, Closed, GivenUp, after_all, list_of_piece, put_of, state_after, vector_piece, with_writing}
 use Rattle.cache_model.specs.Verdict.{is_open}
 use Rattle.cache_model.specs.Permit.{Permit, Intent, Fragment, Weigh, Finish, Commit, GiveUp, StopReading, End, Stays, Done, Fails, Exhausted, Faulted, Work, Reason, is_cleanup, work_after}
+use Rattle.cache_model.specs.Syncing
+use Rattle.cache_model.specs.Syncing.{DoesSync, Unmarks, WhereDue}
 use Rattle.cache_model.specs.Legal
 use Rattle.cache_model.specs.Legal.{Advances, Does, IsStep, MayGrow, nothing, more, IsWriting, aborted_record, is_writing}
 use Rattle.model_laws.specs.StepLaws.{EndsWith}
@@ -61,9 +64,9 @@ aborted_ends s put w added is writing =
     subst (λ xs. IsNotOpen (after_all s xs) put) (sym is)
     (not_open_after s (state_after s r) put w.put (with_writing GivenUp) (number_of s put w writing.found) (record { puts = refl; keeps = λ p. refl }) (λ p h. cc))
 
-committed_ends : (s : State) (put : ℕ) (w : PutRow) (size : ℕ) → IsNotOpen (state_after s (rec.Committed put w.key size)) put
-committed_ends s put w size =
-    not_open_after s (state_after s (rec.Committed put w.key size)) put put (with_writing Closed) refl (record { puts = refl; keeps = λ p. refl }) (λ p h. cc)
+committed_ends : (s : State) (put : ℕ) (w : PutRow) (size : ℕ) (listed : List Stored) → IsNotOpen (state_after s (rec.Committed put w.key size listed)) put
+committed_ends s put w size listed =
+    not_open_after s (state_after s (rec.Committed put w.key size listed)) put put (with_writing Closed) refl (record { puts = refl; keeps = λ p. refl }) (λ p h. cc)
 
 -- ---- groups of a close
 
@@ -95,10 +98,28 @@ stays_left t put i = tt
 fails_left : (t : State) (put : ℕ) (i : Intent) (why : Reason) → EndsOrSeals t put (Some why) → IsLeft t put i (Fails why)
 fails_left t put i why h = h
 
+-- a sync where one is due
+synced_left : (t : State) (put : ℕ) (i : Intent) (p : Permit) (s : State) (added : List Rec) (e : End) → DoesSync p WhereDue s added e → IsLeft t put i (Legal.stays_behind e)
+synced_left t put i p s added e (Syncing.DoesSync.goes m) = stays_left t put i
+synced_left t put i p s added e (Syncing.DoesSync.stops count m) = fails_left t put i (Faulted count) (inl refl)
+synced_left t put i p s added e (Syncing.DoesSync.empty m) = stays_left t put i
+synced_left t put i p s added e (Syncing.DoesSync.empty_stops count m) = fails_left t put i (Faulted count) (inl refl)
+synced_left t put i p s added e (Syncing.DoesSync.stays count can first c) = fails_left t put i (Faulted count) (inl refl)
+synced_left t put i p s added e (Syncing.DoesSync.exhausted may high is) = fails_left t put i Exhausted (inl refl)
+synced_left t put i p s added e (Syncing.DoesSync.runs serial on quiet parts runs is) = no_truth (sym parts)
+
+-- a mark that is taken back
+unmarked_left : (t : State) (put : ℕ) (i : Intent) (p : Permit) (s : State) (added : List Rec) (e : End) → Unmarks p s added e → IsLeft t put i e
+unmarked_left t put i p s added e (Syncing.Unmarks.unmarks must below is) = stays_left t put i
+unmarked_left t put i p s added e (Syncing.Unmarks.stays count must below c) = fails_left t put i (Faulted count) (inl refl)
+unmarked_left t put i p s added e (Syncing.Unmarks.stops count must below marked c is) = fails_left t put i (Faulted count) (inl refl)
+unmarked_left t put i p s added e (Syncing.Unmarks.exhausted must high is) = fails_left t put i Exhausted (inl refl)
+
 roomed_left : (t : State) (put : ℕ) (i : Intent) (p : Permit) (s : State) (bytes : ℕ) (added : List Rec) (e : End) → Legal.MakesRoom p s bytes added e → IsLeft t put i e
 roomed_left t put i p s bytes added e (Legal.MakesRoom.flushes x m) = stays_left t put i
 roomed_left t put i p s bytes added e (Legal.MakesRoom.stops count x m) = fails_left t put i (Faulted count) (inl refl)
 roomed_left t put i p s bytes added e (Legal.MakesRoom.exhausted x q is) = fails_left t put i Exhausted (inl refl)
+roomed_left t put i p s bytes added e (Legal.MakesRoom.syncs end x d is) = subst (IsLeft t put i) (sym is) (synced_left t put i p s added end d)
 
 group_left : (p : Permit) (s : State) (put : ℕ) (i : Intent) (added : List Rec) (e : End) → IsClosing put i → Does p s i added e → IsLeft (after_all s added) put i e
 group_left p s put (Weigh n rest) added e same (Legal.DoesWeigh.weighs w q r f is) = tt
@@ -106,15 +127,19 @@ group_left p s put (Weigh n rest) added e same (Legal.DoesWeigh.too_large w q r 
 group_left p s put (Weigh n rest) added e same (Legal.DoesWeigh.damaged w row found q live d is) = tt
 group_left p s put (Weigh n rest) added e same (Legal.DoesWeigh.faulted w row count q live r m is) = inl refl
 group_left p s put (Fragment n index payload) added e same (Legal.DoesFragment.places d m) = subst (IsLeft (after_all s added) put (Fragment n index payload)) (sym d) tt
+group_left p s put (Fragment n index payload) added e same (Legal.DoesFragment.unmarks w x q u) = unmarked_left (after_all s added) put (Fragment n index payload) p s added e u
 group_left p s put (Fragment n index payload) added e same (Legal.DoesFragment.rooms w x m) = roomed_left (after_all s added) put (Fragment n index payload) p s _ added e m
 group_left p s put (Fragment n index payload) added e same (Legal.DoesFragment.exhausted w d x q) = subst (IsLeft (after_all s added) put (Fragment n index payload)) (sym d) (inl refl)
 group_left p s put (Finish n fragments) added e same (Legal.DoesFinish.places d m) = subst (IsLeft (after_all s added) put (Finish n fragments)) (sym d) tt
+group_left p s put (Finish n fragments) added e same (Legal.DoesFinish.unmarks w c l q u) = unmarked_left (after_all s added) put (Finish n fragments) p s added e u
 group_left p s put (Finish n fragments) added e same (Legal.DoesFinish.rooms w c m) = roomed_left (after_all s added) put (Finish n fragments) p s _ added e m
 group_left p s put (Finish n fragments) added e same (Legal.DoesFinish.loses w index d m is) =
     subst (IsLeft (after_all s added) put (Finish n fragments)) (sym d) (inr (aborted_ends s put w added is (subst (λ m. IsWriting s m w) same m.cut.writing)))
 group_left p s put (Finish n fragments) added e same (Legal.DoesFinish.exhausted w d c l q) = subst (IsLeft (after_all s added) put (Finish n fragments)) (sym d) (inl refl)
 group_left p s put (Commit n) added e same (Legal.DoesCommit.commits w f o q is) =
-    subst (λ xs. IsNotOpen (after_all s xs) put) (sym is) (subst (λ m. IsNotOpen (state_after s (rec.Committed n w.key (total_length w.cuts))) m) same (committed_ends s n w (total_length w.cuts)))
+    let listed : List Stored = list_of_piece s (vector_piece w.key n) in
+    subst (λ xs. IsNotOpen (after_all s xs) put) (sym is)
+    (subst (λ m. IsNotOpen (state_after s (rec.Committed n w.key (total_length w.cuts) listed)) m) same (committed_ends s n w (total_length w.cuts) listed))
 group_left p s put _ added e same does = absurd same
 
 -- ---- along a close

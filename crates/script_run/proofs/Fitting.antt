@@ -1,11 +1,11 @@
 -- What each line asks fits what the writer of its put took.
+use Rattle.cache_model.specs.State.{most_fragments}
 use Rattle.std.proofs.Common.{◌≡◌, ℕ, zero, suc, ◌+◌, ◌-◌, ◌*◌, ◌<◌, ◌≤◌, List, [], ◌∷◌, ◌++◌, length, take, drop, refl, sym, ◌∙◌, ap, arith, Bool, true, false}
 use Rattle.std.specs.Prelude.{min, if◌then◌else◌, nat_le, ◌==◌}
 use Rattle.std.proofs.lemmas.Bool.{leb-true}
 use Rattle.std.proofs.lemmas.List.{drop-drop, length-drop, length-take-le, take_all}
 use Rattle.fragment_table.specs.Table.{total_length}
 use Rattle.cache_model.specs.Permit.{Intent, Fragment, Overflow}
-use Rattle.cache_model.specs.Legal.{most_fragments}
 use Rattle.cache_model.proofs.Found.{no_truth}
 use Rattle.script_run.specs.Run.{Stream}
 use Rattle.script_run.specs.Own.{rows_from}

@@ -14,29 +14,33 @@ use Rattle.cache_model.specs.declared.answer.ReadAnswer.{ReadAnswer}
 use Rattle.cache_model.specs.declared.cause.Cause.{Cause}
 use Rattle.cache_model.specs.declared.record.Rec.{Rec}
 use Rattle.cache_model.specs.declared.record.Rec.TheVariants as rec
-use Rattle.cache_model.specs.State.{State, Row, PutRow, ReaderRow, after_all, state_after}
+use Rattle.cache_model.specs.State.{State, Row, PutRow, ReaderRow, after_all, list_of_piece, state_after, vector_piece}
 use Rattle.cache_model.specs.ToRead.{flushes_first}
 use Rattle.cache_model.specs.Pair.{IsCopyPair, IsPair, IsPairNext, ShowsFrom}
 use Rattle.cache_model.specs.Room.{has_room}
-use Rattle.cache_model.specs.Permit.{Permit, Intent, Flush, Write, Fragment, Overflow, Weigh, Finish, Commit, GiveUp, Remove, Look, ReadOn, ReadAll, StopReading, End, Stays, Done, Fails, Work, Reason, is_cleanup, work_after}
+use Rattle.cache_model.specs.Permit.{Permit, Intent, Flush, Sync, SyncBegin, SyncStep, Drain, CleanSync, Write, Fragment, Overflow, Weigh, Finish, Commit, GiveUp, Remove, Look, ReadOn, ReadAll, StopReading, End, Stays, Done, Fails, Work, Reason, is_cleanup, work_after}
 use Rattle.cache_model.specs.Given
 use Rattle.cache_model.specs.Legal
 use Rattle.cache_model.specs.Legal.{Advances, Does, MayGrow, nothing, more, IsWriting, aborted_record, answer_record}
 use Rattle.cache_model.specs.Due.{due_pieces}
+use Rattle.cache_model.specs.Syncing.{AtOnce, InParts, MaySyncBehind, Syncing, WhereDue}
 use Rattle.cache_model.specs.Tape.{IsSound}
 use Rattle.cache_model.proofs.Onward.{later_advanced}
 use Rattle.cache_model.proofs.Sound.{IsLater}
-use Rattle.cache_model.proofs.Steps.{after_all-append, all_append}
+use Rattle.cache_model.proofs.Steps.{after_all-append, all_append, all_as}
+use Rattle.cache_model.proofs.Syncing.{flush_among_syncs}
 use Rattle.model_laws.proofs.ToldFlush.{as_shown, go_on}
 use Rattle.model_laws.proofs.ToldGroups.{pair_of_copy, shown_first, shown_later}
+use Rattle.model_laws.proofs.Unsynced.{may_flush}
 use Rattle.script_run.specs.Run.{Stream}
 use Rattle.script_run.specs.Own.{rows_from}
 use Rattle.script_run.proofs.Saying.{Kind}
 use Rattle.script_run.proofs.Carried.{same_carries}
 use Rattle.script_run.proofs.Flushing.{held_flushed, held_stopped}
-use Rattle.script_run.proofs.Held.{IsHeld, IsPlain, held_aborted, held_plain}
+use Rattle.script_run.proofs.Held.{IsHeld, IsPlain, held_aborted, held_plain, held_resynced}
 use Rattle.script_run.proofs.Opened.{held_opened, held_read_opened, verdict_own}
 use Rattle.script_run.proofs.Placed.{IsPiece, held_committed, held_fragment, held_vector}
+use Rattle.script_run.proofs.Synced.{AllSyncing, IsSyncing, clean_syncing, drain_parts, step_syncing, sync_parts, unmark_syncing}
 
 -- ---- what is asked fits what writers took
 
@@ -72,6 +76,13 @@ cleanups_fit fragment streams (i ∷ is) = cleanups_by fragment streams i (filte
 
 -- ---- groups
 
+syncing_plain : (r : Rec) → IsSyncing r → IsPlain r
+syncing_plain (rec.SyncBegun serial cursor clean in_parts) h = tt
+syncing_plain (rec.SyncDone serial) h = tt
+syncing_plain (rec.Damaged piece place kept found) h = tt
+syncing_plain (rec.Fault count) h = tt
+syncing_plain _ h = absurd h
+
 module _ (kind : Kind) (g : Geometry) (streams : ℕ → Stream) where
   -- what a group of records leaves: it is held still, or a copy that it makes shows two documents of one
   -- SHA-256
@@ -101,11 +112,27 @@ module _ (kind : Kind) (g : Geometry) (streams : ℕ → Stream) where
   stops : (p : Permit) (s : State) (count : ℕ) (added : List Rec) → Legal.MayStop p s count added → IsHeld kind g streams s → IsHeld kind g streams (after_all s added)
   stops p s count added m h = subst (λ xs. IsHeld kind g streams (after_all s xs)) (sym m.is) (held_stopped kind g streams s (due_pieces s p.now) m.outcomes count h)
 
+  -- a flush among syncs
+  synced : (p : Permit) (k : Syncing) (s : State) (added : List Rec) → MaySyncBehind p k s added → IsSound s → IsHeld kind g streams s → Flushes p s added
+  synced p k s added m sound h =
+      let all = flush_among_syncs p k s added m in
+      go_on (held_flushed kind g streams p s p.now (budget_of s.geometry) m.outcomes sound h m.are)
+      (λ last. inl (subst (IsHeld kind g streams) (sym all.1) (held_resynced kind g streams all.0 _ last)))
+
+  -- what stops one, or has no buffer to write out
+  beside : (s : State) (added : List Rec) → AllSyncing added → IsHeld kind g streams s → IsHeld kind g streams (after_all s added)
+  beside s added h held = plain s added (all_as IsSyncing IsPlain syncing_plain added h) held
+
+  parts : (p : Permit) (k : Syncing) (s : State) (i : Intent) (added : List Rec) → flushes_first s i ≡ true → MaySyncBehind p k s added ⊎ AllSyncing added → IsSound s → IsHeld kind g streams s → Leaves p s i added
+  parts p k s i added first (inl m) sound h = as_shown (pair_of_copy (kind.documents streams) p s i first (may_flush m)) (synced p k s added m sound h)
+  parts p k s i added first (inr stops) sound h = inl (beside s added stops h)
+
   roomed : (p : Permit) (s : State) (i : Intent) (bytes : ℕ) (added : List Rec) (e : End) → (has_room s bytes ≡ false → flushes_first s i ≡ true) → Legal.MakesRoom p s bytes added e → IsSound s → IsHeld kind g streams s
       → Leaves p s i added
   roomed p s i bytes added e first (Legal.MakesRoom.flushes x m) sound h = as_shown (pair_of_copy (kind.documents streams) p s i (first x) m.can) (flushes p s added m sound h)
   roomed p s i bytes added e first (Legal.MakesRoom.stops count x m) sound h = inl (stops p s count added m h)
   roomed p s i bytes added e first (Legal.MakesRoom.exhausted x q is) sound h = inl (adds s added [] is tt h)
+  roomed p s i bytes added e first (Legal.MakesRoom.syncs end x d is) sound h = parts p WhereDue s i added (first x) (sync_parts p WhereDue s added end d) sound h
 
   opens : (s : State) (actor : ℕ) (key : Key) (request response : List Field) (pin : ℕ) (added : List Rec) → Legal.MayOpenWrite s actor key request response pin added → IsHeld kind g streams s → IsHeld kind g streams (after_all s added)
   opens s actor key request response pin added m h =
@@ -164,8 +191,15 @@ module _ (kind : Kind) (g : Geometry) (streams : ℕ → Stream) where
   held_group p s Flush added e fits sound h (Legal.DoesFlush.flushes m) = as_shown (pair_of_copy (kind.documents streams) p s Flush refl m.can) (flushes p s added m sound h)
   held_group p s Flush added e fits sound h (Legal.DoesFlush.stops count m) = inl (stops p s count added m h)
   held_group p s Flush added e fits sound h (Legal.DoesFlush.exhausted q f b is) = inl (adds s added [] is tt h)
+  held_group p s Flush added e fits sound h (Legal.DoesFlush.syncs d) = parts p WhereDue s Flush added refl (sync_parts p WhereDue s added e d) sound h
+  held_group p s Sync added e fits sound h d = parts p AtOnce s Sync added refl (sync_parts p AtOnce s added e d) sound h
+  held_group p s SyncBegin added e fits sound h d = parts p InParts s SyncBegin added refl (sync_parts p InParts s added e d) sound h
+  held_group p s (SyncStep last) added e fits sound h d = inl (beside s added (step_syncing p s last added e d) h)
+  held_group p s Drain added e fits sound h d = parts p AtOnce s Drain added refl (drain_parts p s added e d) sound h
+  held_group p s CleanSync added e fits sound h d = inl (beside s added (clean_syncing p s added e d) h)
   held_group p s (Write actor key request response pin) added e fits sound h does = inl (held_write p s actor key request response pin added e h does)
   held_group p s (Fragment put index payload) added e fits sound h (Legal.DoesFragment.places d m) = inl (held_fragment kind g streams p s put index payload added fits m h)
+  held_group p s (Fragment put index payload) added e fits sound h (Legal.DoesFragment.unmarks w n q u) = inl (beside s added (unmark_syncing p s added e u) h)
   held_group p s (Fragment put index payload) added e fits sound h (Legal.DoesFragment.rooms w n m) = roomed p s (Fragment put index payload) _ added e (λ none. rw none refl) m sound h
   held_group p s (Fragment put index payload) added e fits sound h (Legal.DoesFragment.exhausted w x n q) = inl (adds s added [] q.is tt h)
   held_group p s (Overflow put) added e fits sound h (Legal.DoesOverflow.aborts w q l is) = inl (aborts s put w added is q h)
@@ -174,11 +208,12 @@ module _ (kind : Kind) (g : Geometry) (streams : ℕ → Stream) where
   held_group p s (Weigh put rest) added e fits sound h (Legal.DoesWeigh.damaged w row found q live d is) = inl (adds s added _ is (tt, tt) h)
   held_group p s (Weigh put rest) added e fits sound h (Legal.DoesWeigh.faulted w row count q live r m is) = inl (adds s added _ is (tt, tt) h)
   held_group p s (Finish put fragments) added e fits sound h (Legal.DoesFinish.places d m) = inl (held_vector kind g streams p s put fragments added fits m h)
+  held_group p s (Finish put fragments) added e fits sound h (Legal.DoesFinish.unmarks w c l q u) = inl (beside s added (unmark_syncing p s added e u) h)
   held_group p s (Finish put fragments) added e fits sound h (Legal.DoesFinish.rooms w c m) = roomed p s (Finish put fragments) _ added e (λ none. rw none refl) m sound h
   held_group p s (Finish put fragments) added e fits sound h (Legal.DoesFinish.exhausted w x c l q) = inl (adds s added [] q.is tt h)
   held_group p s (Finish put fragments) added e fits sound h (Legal.DoesFinish.loses w index d m is) = inl (aborts s put w added is m.cut.writing h)
   held_group p s (Commit put) added e fits sound h (Legal.DoesCommit.commits w f o q is) =
-      inl (subst (λ xs. IsHeld kind g streams (after_all s xs)) (sym is) (held_committed kind g streams s put (total_length w.cuts) w f q h))
+      inl (subst (λ xs. IsHeld kind g streams (after_all s xs)) (sym is) (held_committed kind g streams s put (total_length w.cuts) (list_of_piece s (vector_piece w.key put)) w f q h))
   held_group p s (GiveUp put) added e fits sound h (Legal.DoesGiveUp.aborts w q is) = inl (aborts s put w added is q h)
   held_group p s (GiveUp put) added e fits sound h (Legal.DoesGiveUp.over q o is) = inl (adds s added [] is tt h)
   held_group p s (Remove key) added e fits sound h (Legal.DoesRemove.removes row q l is) = inl (adds s added _ is (tt, tt) h)
@@ -196,6 +231,7 @@ module _ (kind : Kind) (g : Geometry) (streams : ℕ → Stream) where
   -- what is asked first may be cut
   small_fragment : (p : Permit) (s : State) (put index : ℕ) (payload : List ℕ) (added : List Rec) (e : End) → Legal.DoesFragment p s put index payload added e → length payload ≤ s.geometry.fragment
   small_fragment p s put index payload added e (Legal.DoesFragment.places d m) = m.cut.small
+  small_fragment p s put index payload added e (Legal.DoesFragment.unmarks w n q u) = n.small
   small_fragment p s put index payload added e (Legal.DoesFragment.rooms w n m) = n.small
   small_fragment p s put index payload added e (Legal.DoesFragment.exhausted w x n q) = n.small
 

@@ -10,6 +10,7 @@ use Rattle.cache_model.specs.State.{State, PutRow, ReaderRow, Open, Closed, Give
 use Rattle.cache_model.specs.Legal.{IsQuiet, IsWriting}
 use Rattle.cache_model.proofs.Found.{none_is, number_of, same_some}
 use Rattle.cache_model.proofs.Rows.{part_all, part-filter}
+use Rattle.cache_model.proofs.Syncing.{resynced}
 use Rattle.script_run.specs.Run.{Stream}
 use Rattle.script_run.specs.Own.{AreOwnPuts, IsComplete, IsOwnPut, IsOwnReader}
 use Rattle.script_run.proofs.Saying.{IsRow, Kind, Stands, stands_alike, rows_carried}
@@ -78,6 +79,8 @@ IsPlain (rec.Waited reader cut) = Unit {0}
 IsPlain (rec.Broke reader why) = Unit {0}
 IsPlain (rec.ReadClosed reader) = Unit {0}
 IsPlain (rec.Fault count) = Unit {0}
+IsPlain (rec.SyncBegun serial cursor clean in_parts) = Unit {0}
+IsPlain (rec.SyncDone serial) = Unit {0}
 IsPlain _ = ⊥
 
 alike_with : (s t : State) → t.geometry ≡ s.geometry → t.next_put ≡ s.next_put → t.puts ≡ s.puts → t.pending ≡ s.pending → Rattle.cache_model.proofs.Rows.ArePart t.rows s.rows → t.readers ≡ s.readers → t.next_reader ≡ s.next_reader → AreAlike s t
@@ -100,7 +103,13 @@ held_plain kind g streams s (rec.ReadClosed reader) p h =
     held_readers kind g streams s (without_reader reader s.readers) s.next_reader (omega arith)
     (all_filter (IsOwnReader t) _ s.readers (readers_carried s t (same_carries s t refl refl refl) (omega arith) s.readers h.stands.readers)) h
 held_plain kind g streams s (rec.Fault count) p h = held_alike kind g streams s _ (alike_with s _ refl refl refl refl (part_all s.rows) refl refl) h.displaced h
+held_plain kind g streams s (rec.SyncBegun serial cursor clean in_parts) p h = held_alike kind g streams s _ (alike_with s _ refl refl refl refl (part_all s.rows) refl refl) h.displaced h
+held_plain kind g streams s (rec.SyncDone serial) p h = held_alike kind g streams s _ (alike_with s _ refl refl refl refl (part_all s.rows) refl refl) h.displaced h
 held_plain kind g streams s _ p h = absurd p
+
+-- whatever is known of syncs
+pub held_resynced : (kind : Kind) (g : Geometry) (streams : ℕ → Stream) (u s : State) → IsHeld kind g streams s → IsHeld kind g streams (resynced u s)
+held_resynced kind g streams u s h = held_alike kind g streams s (resynced u s) (alike_with s _ refl refl refl refl (part_all s.rows) refl refl) h.displaced h
 
 -- ---- a put changes
 

@@ -8,6 +8,7 @@ pub mod Fragments
 pub mod Reading
 pub mod Others
 pub mod Held
+pub mod Synced
 pub mod Flushing
 pub mod Flushed
 pub mod Listed

@@ -14,6 +14,7 @@ use Rattle.tape_base.specs.Piece.{is_vector}
 use Rattle.doc_header.specs.declared.documents.Doc.{Doc}
 use Rattle.doc_header.specs.Document.{digest_of_document}
 use Rattle.fragment_table.specs.Table.{TableRow, made_row, total_length}
+use Rattle.alternate_vector.specs.Alternates.{Stored}
 use Rattle.cache_model.specs.declared.record.Rec.{Rec}
 use Rattle.cache_model.specs.declared.record.Rec.TheVariants as rec
 use Rattle.cache_model.specs.State.{State, PutRow, Closed, Open, after_all, alternate_of, change_put, list_among, list_of_put, place_now, placed_row, put_of, state_after, vector_piece, with_cut, with_writing, without}
@@ -261,10 +262,10 @@ committed_put kind g streams s t put w found waits geometry next h =
       full = λ is_open unsealed. absurd cc;
     }
 
-pub held_committed : (kind : Kind) (g : Geometry) (streams : ℕ → Stream) (s : State) (put size : ℕ) (w : PutRow) → put_of s put ≡ Some w → s.pending ≡ Some (vector_piece w.key put)
-    → IsHeld kind g streams s → IsHeld kind g streams (state_after s (rec.Committed put w.key size))
-held_committed kind g streams s put size w found waits h =
-    let r : Rec = rec.Committed put w.key size in
+pub held_committed : (kind : Kind) (g : Geometry) (streams : ℕ → Stream) (s : State) (put size : ℕ) (listed : List Stored) (w : PutRow) → put_of s put ≡ Some w → s.pending ≡ Some (vector_piece w.key put)
+    → IsHeld kind g streams s → IsHeld kind g streams (state_after s (rec.Committed put w.key size listed))
+held_committed kind g streams s put size listed w found waits h =
+    let r : Rec = rec.Committed put w.key size listed in
     let t : State = state_after s r in
     let changes : Changes s t put (with_writing Closed) = record { puts = refl; keeps = λ p. refl } in
     let c : Carries s t = committed_carries s t put w found waits changes refl in

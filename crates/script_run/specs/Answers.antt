@@ -14,7 +14,7 @@ use Rattle.cache_model.specs.declared.record.Rec.{Rec}
 use Rattle.cache_model.specs.declared.record.Rec.TheVariants as rec
 use Rattle.cache_model.specs.State.{State, PutRow, ReaderRow, after_all, floor_now, fragment_piece, put_of, reader_of}
 use Rattle.cache_model.specs.Verdict.{cause_of_miss, cause_of_piece, cuts_of}
-use Rattle.cache_model.specs.Permit.{Reason, ManyWriters, Exhausted, ManyFragments, TooLarge, Lost, Faulted}
+use Rattle.cache_model.specs.Permit.{Reason, ManyWriters, Exhausted, ManyFragments, TooLarge, Lost, Faulted, SyncRuns, NoSync, StillOpen, StillMoving}
 use Rattle.script_lang.specs.declared.step.Step.{Step}
 use Rattle.script_lang.specs.declared.step.Step.TheVariants as step
 use Rattle.script_lang.specs.declared.answer.Refused.TheVariants as refused
@@ -64,6 +64,10 @@ refusal_said t took (ManyFragments put) = answer.Refused refused.TooManyFragment
 refusal_said t took (TooLarge put bytes) = answer.Refused (refused.VectorTooLarge bytes) took
 refusal_said t took (Lost put index) = answer.Refused (refused.Lost index (cause_of_lost t put index)) took
 refusal_said t took (Faulted count) = answer.DeviceFault count took
+refusal_said t took (SyncRuns serial) = answer.Refused (refused.SyncRunning serial) took
+refusal_said t took NoSync = answer.Refused refused.NoSync took
+refusal_said t took (StillOpen writers readers) = answer.Refused (refused.StillOpen writers readers) took
+refusal_said t took (StillMoving blocks) = answer.Refused (refused.StillMoving blocks) took
 
 -- done, or refused
 abbrev pub said : State → Option ℕ → Option Reason → StepAnswer → StepAnswer

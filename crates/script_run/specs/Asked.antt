@@ -4,10 +4,9 @@ use Rattle.script_lang.specs.declared.step.Step.{Step}
 use Rattle.script_lang.specs.declared.step.Step.TheVariants as step
 use Rattle.tape_base.specs.declared.keys.Key.{Key}
 use Rattle.alternate_vector.specs.Field.{Field}
-use Rattle.cache_model.specs.State.{State}
+use Rattle.cache_model.specs.State.{State, most_fragments}
 use Rattle.cache_model.specs.Verdict.{cuts_of}
 use Rattle.cache_model.specs.Permit.{Intent, Flush, Write, Fragment, Overflow, Weigh, Finish, Commit, GiveUp, Remove, Look, ReadOn, ReadAll, StopReading}
-use Rattle.cache_model.specs.Legal.{most_fragments}
 use Rattle.actor_table.specs.Table.{number_of}
 use Rattle.script_run.specs.Run.{Run, Holding, held_by, writer_of, reader_by, gathered_of}
 

@@ -56,11 +56,12 @@ FormatTakes added segments buckets content agg reach fragment generation alterna
 FormatTakes added segments buckets content agg reach fragment generation alternates None =
     (g : Geometry) × HasNumbers g segments buckets content agg reach fragment generation alternates × (added ≡ format_records g)
 
--- a line on a session is one step of its records, with a directory that displaces nothing, on a device whose content
--- area begins at its first block, in which pins are weighed by the moment of the run; and the bytes that it gives are
--- those that were put
+-- a line on a session is one step of its records, with a directory that displaces nothing and a stripe that does not
+-- sync, on a device whose content area begins at its first block, in which pins are weighed by the moment of the run; and
+-- the bytes that it gives are those that were put
 pub record SessionTakes (run : Run) (s : State) (turn : Turn) (step : Step) : Type 0 where
   pub plain : turn.device.packed ≡ false
+  pub unsynced : turn.device.syncs ≡ false
   pub content : turn.device.area ≡ 0
   pub moment : turn.device.now ≡ run.now
   pub legal : IsStep turn.device s (asked run s step) turn.added turn.refused
@@ -121,6 +122,7 @@ streams_with run s _ = run.streams
 -- reads there: the one as which it was placed, and other bytes, which the device gave in that turn
 pub record SessionShows (run : Run) (s : State) (turn : Turn) (step : Step) : Type 0 where
   pub plain : turn.device.packed ≡ false
+  pub unsynced : turn.device.syncs ≡ false
   pub content : turn.device.area ≡ 0
   pub moment : turn.device.now ≡ run.now
   pub shows : ShowsPair (IsPlacedAs (streams_with run s step)) turn.device s (asked run s step) turn.added
