@@ -3,6 +3,7 @@ use Rattle.std.proofs.Common.{◌≡◌, ℕ, ◌<◌, ◌≤◌, List, [], refl
 use Rattle.std.specs.Prelude.{Option, Some, None, if◌then◌else◌, option_and_then, option_map, unwrap_or}
 use Rattle.std.proofs.lemmas.List.{append-nil}
 use Rattle.tape_base.specs.declared.keys.Key.{Key}
+use Rattle.tape_base.specs.declared.pieces.PieceId.{PieceId}
 use Rattle.logged_disk.specs.Device.{State as Device}
 use Rattle.alternate_vector.specs.Field.{Field}
 use Rattle.alternate_vector.specs.Alternates.{Stored}
@@ -65,12 +66,13 @@ pub no_alternates : (s : State) (key : Key) → live_vector_of s key ≡ None �
 no_alternates s key h = no_alternates_of s key (last_vector s key) h
 
 no_match_by : (s : State) (key : Key) (o : Option LastVector) (row : Row) → option_and_then (live_row_of s) (option_and_then (vector_of_last key) o) ≡ Some row
-    → unwrap_or (option_map (cause_of_last s key) o) (cause_without_vector s key) ≡ no_match row
+    → (id : PieceId) × (unwrap_or (option_map (cause_of_last s key) o) (cause_without_vector s key) ≡ no_match s id)
 no_match_by s key None row h = cc
 no_match_by s key (Some (TakenOut put)) row h = cc
-no_match_by s key (Some (Complete put)) row h = ap (λ o. unwrap_or (option_map no_match o) (cause_of_piece s (vector_piece key put))) h
+no_match_by s key (Some (Complete put)) row h =
+    (vector_piece key put, ap (λ o. unwrap_or (option_map (λ (r : Row). no_match s (vector_piece key put)) o) (cause_of_piece s (vector_piece key put))) h)
 
-live_is_no_match : (s : State) (key : Key) (row : Row) → live_vector_of s key ≡ Some row → cause_of_miss s key ≡ no_match row
+live_is_no_match : (s : State) (key : Key) (row : Row) → live_vector_of s key ≡ Some row → (id : PieceId) × (cause_of_miss s key ≡ no_match s id)
 live_is_no_match s key row h = no_match_by s key (last_vector s key) row h
 
 -- ---- what is recorded
@@ -78,7 +80,7 @@ live_is_no_match s key row h = no_match_by s key (last_vector s key) row h
 otherwise_by : (s : State) (key : Key) (o : Option Row) (f : Option PutRow) → live_vector_of s key ≡ o → trouble_with o (unwrap_or (option_map follow_answer f) (read.Miss (cause_of_miss s key))) ≡ []
 otherwise_by s key None f e = refl
 otherwise_by s key (Some row) (Some put) e = refl
-otherwise_by s key (Some row) None e = ap (λ why. trouble_with (Some row) (read.Miss why)) (live_is_no_match s key row e)
+otherwise_by s key (Some row) None e = ap (λ why. trouble_with (Some row) (read.Miss why)) (live_is_no_match s key row e).1
 
 -- where nothing kept the vector from being read, that adds nothing
 pub otherwise_adds : (s : State) (key : Key) (request : List Field) → lookup_adds s key (otherwise s key request) ≡ []

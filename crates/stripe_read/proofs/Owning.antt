@@ -79,7 +79,7 @@ module _ (reader : ℕ) (s : State) where
   one_record (rec.Damaged piece place kept other) h = record { readers = λ n other. refl; puts = refl; geometry = refl }
   one_record (rec.WriteOpened actor put key request response pin) h = absurd h
   one_record (rec.Cut put index size digest) h = absurd h
-  one_record (rec.Committed put key size) h = absurd h
+  one_record (rec.Committed put key size list) h = absurd h
   one_record (rec.Aborted put key) h = absurd h
   one_record (rec.Removed put key) h = absurd h
   one_record (rec.ReadOpened number actor key request answer) h =
