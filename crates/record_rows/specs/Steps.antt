@@ -1,20 +1,29 @@
 -- Steps of a stripe that syncs, with the calls of the device on which they rest, each worked by hand; and records that are
 -- no step, since a call is missing or is another one.
-use Rattle.std.specs.Prelude.{ℕ, ◌≡◌, ◌*◌, true, false, List, [], ◌∷◌, Some, None, length}
+use Rattle.std.specs.Prelude.{ℕ, ◌≡◌, ◌*◌, true, false, List, [], ◌∷◌, ◌++◌, Some, None, length}
+use Rattle.std.specs.List.{repeat}
 use Rattle.device_log.specs.Calls.{Call, RefusedCall, Synced, ToWrite, Wrote}
 use Rattle.cache_model.specs.declared.record.Rec.TheVariants as rec
-use Rattle.cache_model.specs.Legal.{IsStep}
+use Rattle.cache_model.specs.Legal.{IsStep, format_records}
 use Rattle.cache_model.specs.Permit.{CleanSync, Drain, Faulted, NoSync, Permit, Sync, SyncBegin, SyncRuns, SyncStep}
-use Rattle.record_rows.specs.Worked.{behind_format, behind_opening, synced}
+use Rattle.cache_model.specs.State.{State, after_all, nothing_yet}
+use Rattle.record_rows.specs.Worked.{behind_format, behind_opening, synced, wide}
 use Rattle.record_rows.specs.Rows.{clean_sync, while_it_runs}
 
 -- a step of a stripe that syncs, whose content area begins behind two copies of six blocks of directory
 abbrev pub with_calls : List Call → Permit
 with_calls events = record { packed = true; syncs = true; now = 0; area = 19; durable = 0; events = events }
 
--- a gate that is opened, as far as it is looked at
+-- the bytes of a gate behind its first one
+abbrev pub zeros : List ℕ
+zeros = repeat 511 (0 ∷ [])
+
+-- a gate is opened, or shut
 abbrev pub opened : ℕ → Call
-opened gate = Wrote gate (1 ∷ [])
+opened gate = Wrote gate (1 ∷ zeros)
+
+abbrev pub shut : ℕ → Call
+shut gate = Wrote gate (0 ∷ zeros)
 
 -- the calls of a sync into the second copy, the newest first: its gate is known to be shut
 abbrev pub calls_of_sync : List ℕ → List Call
@@ -38,7 +47,7 @@ ASyncWithoutCallsIsNoStep = IsStep (with_calls []) (behind_format []) (Sync ∷ 
 -- nor where the gate is shut once more
 abbrev pub ASyncBehindAShutGateIsNoStep : Type 0
 ASyncBehindAShutGateIsNoStep = (body : List ℕ)
-    → IsStep (with_calls (Synced ∷ Wrote 2 (0 ∷ []) ∷ Synced ∷ Wrote 11 body ∷ Synced ∷ [])) (behind_format []) (Sync ∷ []) (synced 2 64 false) None → ⊥
+    → IsStep (with_calls (Synced ∷ shut 2 ∷ Synced ∷ Wrote 11 body ∷ Synced ∷ [])) (behind_format []) (Sync ∷ []) (synced 2 64 false) None → ⊥
 
 -- ---- a sync in parts
 
@@ -55,6 +64,15 @@ ALastPartIsAStep = (body : List ℕ) → IsBody body
 abbrev pub ARefusedPartIsAStep : Type 0
 ARefusedPartIsAStep = IsStep (with_calls (RefusedCall (ToWrite 11 8 []) 1 ∷ [])) while_it_runs (SyncStep true ∷ []) (rec.Fault 1 ∷ []) (Some (Faulted 1))
 
+-- a sync in parts of a directory of 321 blocks
+abbrev pub while_parts_are_left : State
+while_parts_are_left = after_all nothing_yet (format_records wide ++ rec.SyncBegun 2 64 false true ∷ [])
+
+-- a part of 64 blocks that is not the last one leaves it
+abbrev pub APartIsAStep : Type 0
+APartIsAStep = (part : List ℕ) → length part ≡ 512 * 64
+    → IsStep (record (with_calls (Wrote 326 part ∷ [])) { area = 649 }) while_parts_are_left (SyncStep false ∷ []) [] None
+
 -- a part that was not written is none
 abbrev pub APartWithoutAWriteIsNoStep : Type 0
 APartWithoutAWriteIsNoStep = IsStep (with_calls []) while_it_runs (SyncStep false ∷ []) [] None → ⊥
@@ -67,7 +85,7 @@ NoPartWithoutASync = IsStep (with_calls []) (behind_format []) (SyncStep true �
 
 -- the device refuses to take the gate with which the sync in parts was to be ended, before another one
 abbrev pub refused_gate : List Call
-refused_gate = RefusedCall (ToWrite 1 1 []) 1 ∷ []
+refused_gate = RefusedCall (ToWrite 2 1 []) 1 ∷ []
 
 -- that is the fault alone
 abbrev pub ARefusedEndIsAStep : Type 0
@@ -84,7 +102,7 @@ abbrev pub AClosedStripeIsAStep : Type 0
 AClosedStripeIsAStep = (body : List ℕ) → IsBody body
     → IsStep (with_calls (calls_of_sync body)) (behind_format []) (Drain ∷ CleanSync ∷ []) (synced 2 64 true) None
 
--- behind its opening it is closed again, under the next serial
+-- behind its opening it is closed again, under the next serial: the gate of the older copy is open, and is shut first
 abbrev pub AMarkedStripeMayBeClosed : Type 0
 AMarkedStripeMayBeClosed = (body : List ℕ) → IsBody body
-    → IsStep (with_calls (calls_of_sync body)) (behind_opening clean_sync []) (Drain ∷ CleanSync ∷ []) (synced 4 66 true) None
+    → IsStep (with_calls (Synced ∷ opened 2 ∷ Synced ∷ Wrote 11 body ∷ Synced ∷ shut 2 ∷ [])) (behind_opening clean_sync []) (Drain ∷ CleanSync ∷ []) (synced 4 66 true) None

@@ -43,6 +43,28 @@ small = record {
   keeps = record { some = lit≤ tt; few = lit≤ tt };
 }
 
+-- the same with 4,096 buckets
+abbrev pub wide : Geometry
+wide = record {
+  segments = 1;
+  buckets = 4096;
+  content = 64;
+  agg = 8;
+  reach = 16;
+  fragment = 4;
+  generation = 7;
+  alternates = 5;
+  accepted = record {
+    segments_fit = (lit≤ tt, lit≤ tt);
+    buckets_fit = (lit≤ tt, lit≤ tt);
+    agg_fits = (lit≤ tt, lit≤ tt, refl);
+    content_fits = (lit≤ tt, lit< tt);
+    reach_fits = (lit≤ tt, lit< tt);
+    fragment_fits = (lit≤ tt, lit≤ tt);
+  };
+  keeps = record { some = lit≤ tt; few = lit≤ tt };
+}
+
 abbrev pub a : Key
 a = record { number = 1 }
 

@@ -1,7 +1,7 @@
 //! Sessions with openings and syncs, worked by hand and computed by the definitions over records.
 #![tactic(auto)]
 
-ghost use Rattle.record_rows.specs.Steps.{AClosedStripeIsAStep, ALastPartIsAStep, AMarkedStripeMayBeClosed, APartWithoutAWriteIsNoStep, ARefusedEndIsAStep, ARefusedPartIsAStep, ASecondOneIsRefused, ASyncBehindAShutGateIsNoStep, ASyncWithoutCallsIsNoStep, AnEmptySyncIsAStep, AnEndBehindItIsNoStep, NoPartWithoutASync};
+ghost use Rattle.record_rows.specs.Steps.{APartIsAStep, AClosedStripeIsAStep, ALastPartIsAStep, AMarkedStripeMayBeClosed, APartWithoutAWriteIsNoStep, ARefusedEndIsAStep, ARefusedPartIsAStep, ASecondOneIsRefused, ASyncBehindAShutGateIsNoStep, ASyncWithoutCallsIsNoStep, AnEmptySyncIsAStep, AnEndBehindItIsNoStep, NoPartWithoutASync};
 ghost use Rattle.record_rows.specs.Rows.{AClosedStripeOpensClean, AFinishedSyncIsTaken, AFormatMayBeOpened, AFoundVectorIsKnown, AFullSegmentLosesATenth, ALapEndsWithASync, AnOpeningFollows, AnotherPutMerges, ARemovalComesBack, ARunningSyncIsEndedFirst, ARunningSyncMayBeTaken, AShortBufferEndsTheLap, LaterPutsAreLost, WhatIsWrittenUnmarks};
 
 /// What was put behind the last sync is lost, and told by the serial of the opening.
@@ -102,6 +102,11 @@ pub fn a_last_part_is_a_step()
 /// A part that the device refuses leaves the sync.
 pub fn a_refused_part_is_a_step()
     ensures { ARefusedPartIsAStep }
+{}
+
+/// A part that is not the last one leaves the sync.
+pub fn a_part_is_a_step()
+    ensures { APartIsAStep }
 {}
 
 /// A part that was not written is none.
