@@ -7,6 +7,7 @@ mod Said
 mod Faults
 mod Damages
 mod Runs
+mod Counts
 mod Untroubled
 mod Formats
 mod Uncalled

@@ -2,4 +2,5 @@ pub mod Causes
 pub mod Troubles
 pub mod Damages
 pub mod Runs
+pub mod Counts
 pub mod Agreeing

@@ -3,6 +3,7 @@ ghost use Rattle.script_laws.specs.Agreeing.{OutputIsFixed};
 ghost use Rattle.script_laws.specs.Causes.{AnswersAreTraced, CausesAreTraced};
 ghost use Rattle.script_laws.specs.Damages.{DamageIsRecorded, DamageStays};
 ghost use Rattle.script_laws.specs.Runs.{FaultlessRuns, UndamagedRuns};
+ghost use Rattle.script_laws.specs.Counts.{RunsAreCounted};
 ghost use Rattle.script_run.specs.Losses.{FormatsLoseNone, LossesStay};
 ghost use Rattle.script_laws.specs.Troubles.{FaultIsRecorded, FaultStays, RefusalIsRecorded};
 
@@ -63,6 +64,11 @@ pub fn faultless_runs()
 /// Where no piece of any device was told as damaged, no line of the script answered damage.
 pub fn undamaged_runs()
     ensures { UndamagedRuns }
+{}
+
+/// In each session of a script what is told of how many alternates a vector lists is what it lists.
+pub fn runs_are_counted()
+    ensures { RunsAreCounted }
 {}
 
 /// Where no fault and no damage was told in either of two runs of a script, they print the same, or a line of
