@@ -124,6 +124,14 @@ digest_kept : (kept : Digest) (payload : List ℕ) → payload_fault kept payloa
 unfolding payload_fault
 digest_kept kept payload h = same _ _ (kept_none _ _ h)
 
+-- what is read without a fault keeps the digest of its payload
+pub kept_is : (bytes : List ℕ) (generation place : ℕ) → first_fault bytes generation place ≡ None → kept_of bytes ≡ digest_of (payload_of bytes)
+kept_is bytes generation place h =
+    let first = long_enough _ _ _ h in
+    let groups = neither _ _ first.1 in
+    let others = neither _ _ groups.1 in
+    ap (λ x. let kept : Digest = record { 0 = x } in kept) (digest_kept (kept_of bytes) (payload_of bytes) others.1)
+
 is_kept : (kept : Digest) (payload : List ℕ) → kept.0 ≡ sha256 payload → payload_fault kept payload ≡ None
 unfolding payload_fault
 is_kept kept payload h = rw (equal _ _ h) refl
