@@ -50,13 +50,13 @@ pub lookup_aside : (p : Permit) (s : State) (key : Key) (request : List Field) (
 lookup_aside p s key request before answer (Legal.IsLookup.verdict r) = tt
 lookup_aside p s key request before answer (Legal.IsLookup.trouble row b why live t) = trouble_aside p s row before why t
 
-fragment_aside : (p : Permit) (s : State) (r : ReaderRow) (row : Row) (entry : TableRow) (before : List Rec) (why : Cause) → Legal.ReadTrouble p s r row entry before why → AllAside before
-fragment_aside p s r row entry before why (Legal.ReadTrouble.troubled b c t) = trouble_aside p s row before why t
-fragment_aside p s r row entry before why (Legal.ReadTrouble.mismatched found hit m) = one_aside
+fragment_aside : (p : Permit) (s : State) (row : Row) (entry : TableRow) (before : List Rec) (why : Cause) → Legal.ReadTrouble p s row entry before why → AllAside before
+fragment_aside p s row entry before why (Legal.ReadTrouble.troubled b c t) = trouble_aside p s row before why t
+fragment_aside p s row entry before why (Legal.ReadTrouble.mismatched found read unlike) = one_aside
 
 reading_aside : (p : Permit) (s : State) (r : ReaderRow) (before : List Rec) (answer : NextAnswer) → Legal.IsReading p s r before answer → AllAside before
-reading_aside p s r before answer (Legal.IsReading.verdict x) = tt
-reading_aside p s r before answer (Legal.IsReading.trouble entry row b why n live t) = fragment_aside p s r row entry before why t
+reading_aside p s r before answer (Legal.IsReading.verdict x listed) = tt
+reading_aside p s r before answer (Legal.IsReading.trouble entry row b why n live t) = fragment_aside p s row entry before why t
 
 answer_aside : (reader : ℕ) (answer : NextAnswer) → IsAside (answer_record reader answer)
 answer_aside reader (next.Gave index length) = (tt, tt)

@@ -195,6 +195,7 @@ step_aside p s last added e (Syncing.DoesSyncStep.stays count on quiet c) = cann
 
 pub clean_aside : (p : Permit) (s : State) (added : List Rec) (e : End) → DoesCleanSync p s added e → AllAside added
 clean_aside p s added e (Syncing.DoesCleanSync.moving on quiet some is) = is_aside added [] is tt
+clean_aside p s added e (Syncing.DoesCleanSync.runs serial on quiet none running is) = is_aside added [] is tt
 clean_aside p s added e (Syncing.DoesCleanSync.syncs on quiet none rests below is) = is_aside added _ is ((tt, tt), one_aside)
 clean_aside p s added e (Syncing.DoesCleanSync.stops count on quiet none rests below c is) = is_aside added _ is (stopped_at s s.cursor true count)
 clean_aside p s added e (Syncing.DoesCleanSync.exhausted on quiet none rests high is) = is_aside added [] is tt

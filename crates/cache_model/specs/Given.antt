@@ -1,18 +1,18 @@
 -- What the device did in a step, by the calls in its log: what it gave for a piece, took or refused; what is damaged, and
 -- the trouble with a piece that is asked for.
-use Rattle.std.specs.Prelude.{ℕ, ◌≡◌, ◌≢◌, ◌+◌, ◌-◌, ◌*◌, ◌/◌, ◌<◌, ◌≤◌, ◌==◌, ◌&&◌, ◌||◌, Bool, true, false, min, nat_le, nat_lt, if◌then◌else◌, List, [], ◌∷◌, ◌++◌, length, take, drop, slice_index, Option, Some, None}
+use Rattle.std.specs.Prelude.{ℕ, ◌≡◌, ◌≢◌, ◌+◌, ◌-◌, ◌*◌, ◌/◌, ◌<◌, ◌≤◌, ◌==◌, ◌&&◌, ◌||◌, Bool, true, false, not, min, nat_le, nat_lt, if◌then◌else◌, List, [], ◌∷◌, ◌++◌, length, take, drop, slice_index, Option, Some, None, is_some}
 use Rattle.std.specs.List.{AllByRecursion}
 use Rattle.hex.specs.Hex.{IsBytes}
 use Rattle.edge_io.specs.Causes.{Rose}
 use Rattle.device_log.specs.Calls.{Asked, ToRead, ToWrite, ToSync, Call, Read, Wrote, Synced, RefusedCall}
 use Rattle.tape_base.specs.declared.digests.Digest.{Digest}
-use Rattle.tape_base.specs.Place.{slot_of}
+use Rattle.tape_base.specs.Place.{reach_of, slot_of}
 use Rattle.doc_header.specs.Reading.{document_digest, payload_of}
 use Rattle.cache_model.specs.declared.cause.Cause.{Cause}
 use Rattle.cache_model.specs.declared.cause.Cause.TheVariants as cause
 use Rattle.cache_model.specs.declared.record.Rec.{Rec}
 use Rattle.cache_model.specs.declared.record.Rec.TheVariants as rec
-use Rattle.cache_model.specs.State.{State, Row}
+use Rattle.cache_model.specs.State.{State, Row, after_all, place_now, synced_cursor, synced_end}
 use Rattle.cache_model.specs.Permit.{Permit, Reason, Faulted, IsAmong}
 
 -- ---- the calls of a step
@@ -48,46 +48,94 @@ pub record TakesBuffer (p : Permit) (s : State) : Type 0 where
 
 -- ---- what a device does of a stripe that syncs
 
--- how many blocks of the buffer stand already: some may where a call failed since it began
-abbrev pub standing : Permit → State → ℕ
-standing p s = if s.tried then min p.durable s.filled else 0
+-- these are the calls of the step up to some moment, the newest first
+pub record AreUpTo (p : Permit) (calls : List Call) : Type 0 where
+  pub later : List Call
+  pub is : p.events ≡ later ++ calls
+
+-- how many blocks from a first one on stand up to one of so many behind it, and none where it is not one of these
+abbrev pub stand_to : (start blocks end : ℕ) → (at : ℕ) → ℕ
+stand_to start blocks end at = if nat_le start at && nat_lt at (start + blocks) then end - start else 0
+
+-- how many blocks behind a place of the content area the last write to that area left to stand, where it wrote to some of
+-- so many blocks from there on; a refused one may have spoiled all that it was to write
+abbrev pub last_written : (area start blocks : ℕ) → List Call → ℕ
+last_written area start blocks [] = 0
+last_written area start blocks (Wrote at bytes ∷ older) =
+    if nat_le area at then stand_to start blocks (at + length bytes / 512) at else last_written area start blocks older
+last_written area start blocks (RefusedCall (ToWrite at n left) count ∷ older) =
+    if nat_le area at then stand_to start blocks at at else last_written area start blocks older
+last_written area start blocks (call ∷ older) = last_written area start blocks older
+
+-- the same of what was written before the last sync of the device
+abbrev pub made_durable : (area start blocks : ℕ) → List Call → ℕ
+made_durable area start blocks [] = 0
+made_durable area start blocks (Synced ∷ older) = last_written area start blocks older
+made_durable area start blocks (call ∷ older) = made_durable area start blocks older
+
+-- how many blocks of the buffer stand already behind these calls of the step, durably: some may where a call failed since
+-- the buffer began
+abbrev pub standing : Permit → List Call → State → ℕ
+standing p calls s = if s.tried then min (made_durable p.area (block_at p s s.cursor) s.geometry.agg (calls ++ p.past)) s.filled else 0
 
 -- so many blocks of the buffer from a place behind its front on, where these are the bytes from that front on
 abbrev pub bytes_behind : ℕ → List ℕ → Row → List ℕ
 bytes_behind low bytes row = take (512 * row.blocks) (drop (512 * (row.place - low)) bytes)
 
--- it took in one write what is left of the buffer behind these blocks, in which each piece stands with its recorded digest
-pub record TakesBehind (p : Permit) (s : State) (front : ℕ) : Type 0 where
-  pub bytes : List ℕ
-  pub written : IsAmong (Wrote (block_at p s s.cursor + front) bytes) p.events
+-- behind these blocks some of the buffer is left, which these bytes from a block of the device on are: each of its pieces
+-- stands in them with its recorded digest
+pub record IsRestOf (p : Permit) (s : State) (front at : ℕ) (bytes : List ℕ) : Type 0 where
+  pub some : front < s.filled
+  pub there : at ≡ block_at p s s.cursor + front
   pub whole : length bytes / 512 + front ≡ s.filled
   pub holds : AllByRecursion (λ (row : Row). s.cursor + front ≤ row.place → document_digest (bytes_behind (s.cursor + front) bytes row) ≡ row.digest) s.rows
 
--- it took the buffer, but for the blocks that stand already, or all of them do
-pub data TakesRest (p : Permit) (s : State) : Type 0 where
-  stands : s.filled ≤ standing p s → TakesRest p s
-  takes : standing p s < s.filled → TakesBehind p s (standing p s) → TakesRest p s
+-- it took in one write what then was left of the buffer
+pub record TakesBehind (p : Permit) (s : State) : Type 0 where
+  pub older : List Call
+  pub at : ℕ
+  pub bytes : List ℕ
+  pub written : AreUpTo p (Wrote at bytes ∷ older)
+  pub rest : IsRestOf p s (standing p older s) at bytes
 
--- it refused to take that, with a count above that of the last fault behind these records
+-- it took the buffer, but for the blocks that stood already, or all of them did
+pub data TakesRest (p : Permit) (s : State) : Type 0 where
+  stands : (calls : List Call) → AreUpTo p calls → s.filled ≤ standing p calls s → TakesRest p s
+  takes : TakesBehind p s → TakesRest p s
+
+-- it refused to take what then was left, with a count above that of the last fault behind these records
 pub record CountsRest (p : Permit) (s behind : State) (count : ℕ) : Type 0 where
+  pub older : List Call
   pub left : List ℕ
-  pub some : standing p s < s.filled
-  pub counts : MayCount p behind (ToWrite (block_at p s s.cursor + standing p s) (s.filled - standing p s) left) count
+  pub some : standing p older s < s.filled
+  pub rose : Rose behind.fault count
+  pub refused : AreUpTo p (RefusedCall (ToWrite (block_at p s s.cursor + standing p older s) (s.filled - standing p older s) left) count ∷ older)
 
 -- the blocks of the two gates, one for each copy of the directory
 abbrev pub is_gate : ℕ → Bool
 is_gate at = at == 1 || at == 2
 
--- what a sync asks of the device: to take a gate, or a part of a body, below the content area, and to sync itself
-pub data IsOfSync (p : Permit) : Asked → Type 0 where
-  gate : (at : ℕ) (left : List ℕ) → is_gate at ≡ true → at < p.area → IsOfSync p (ToWrite at 1 left)
-  body : (at blocks : ℕ) (left : List ℕ) → 3 ≤ at → at + blocks ≤ p.area → IsOfSync p (ToWrite at blocks left)
-  device : IsOfSync p ToSync
+-- how many blocks the body of a copy has below a content area: both bodies stand from block 3 on
+abbrev pub body_blocks : ℕ → ℕ
+body_blocks area = (area - 3) / 2
 
--- 1 where the device ended what was asked
-abbrev pub faults_of : Option Reason → ℕ
-faults_of (Some (Faulted count)) = 1
-faults_of _ = 0
+-- the first block of the body behind a gate
+abbrev pub body_of : (area opened : ℕ) → ℕ
+body_of area opened = if opened == 1 then 3 else 3 + body_blocks area
+
+-- so many blocks from one on are some of that body
+abbrev pub is_in_body : (area opened at blocks : ℕ) → Bool
+is_in_body area opened at blocks = nat_le (body_of area opened) at && nat_le (at + blocks) (body_of area opened + body_blocks area)
+
+-- they are some of one body
+abbrev pub is_of_body : (area at blocks : ℕ) → Bool
+is_of_body area at blocks = is_in_body area 1 at blocks || is_in_body area 2 at blocks
+
+-- what a sync asks of the device: to take a gate, or a part of a body, and to sync itself
+pub data IsOfSync (p : Permit) : Asked → Type 0 where
+  gate : (at : ℕ) (left : List ℕ) → is_gate at ≡ true → IsOfSync p (ToWrite at 1 left)
+  body : (at blocks : ℕ) (left : List ℕ) → is_of_body p.area at blocks ≡ true → IsOfSync p (ToWrite at blocks left)
+  device : IsOfSync p ToSync
 
 -- it refused a call of a sync
 pub record CountsSync (p : Permit) (s : State) (count : ℕ) : Type 0 where
@@ -105,8 +153,7 @@ pub record TakesPart (p : Permit) : Type 0 where
   pub bytes : List ℕ
   pub written : IsAmong (Wrote at bytes) p.events
   pub whole : length bytes ≡ 512 * blocks_of_part
-  pub from : 3 ≤ at
-  pub below : at + blocks_of_part < p.area
+  pub of_body : is_of_body p.area at (blocks_of_part + 1) ≡ true
 
 -- ---- one record for each call that has an effect
 
@@ -141,23 +188,44 @@ denials (effect ∷ effects) = denials effects
 
 -- ---- the same of a stripe that syncs
 
--- the newest of these calls opened a gate, as its first byte says
+-- bytes that open a gate, as the first of them says
+abbrev pub opens : (at : ℕ) → List ℕ → Bool
+opens at bytes = is_gate at && slice_index bytes 0 == 1
+
+-- the newest of these calls does that
 abbrev pub opens_gate : List Call → Bool
-opens_gate (Wrote at bytes ∷ older) = is_gate at && slice_index bytes 0 == 1
+opens_gate (Wrote at bytes ∷ older) = opens at bytes
 opens_gate _ = false
 
--- a write of so many blocks lies in the content area, or between the header of the span and that
-abbrev pub is_placed_write : (area at blocks : ℕ) → Bool
-is_placed_write area at blocks = nat_le area at || (nat_lt 0 at && nat_le (at + blocks) area)
+-- the newest of these calls wrote the last part of the body behind a gate, and some of it
+abbrev pub ends_body : (area opened : ℕ) → List Call → Bool
+ends_body area opened (Wrote at bytes ∷ older) =
+    is_in_body area opened at (length bytes / 512) && nat_lt 511 (length bytes) && at + length bytes / 512 == body_of area opened + body_blocks area
+ends_body area opened _ = false
+
+-- the device synced behind that
+abbrev pub has_body : (area opened : ℕ) → List Call → Bool
+has_body area opened (Synced ∷ older) = ends_body area opened older
+has_body area opened _ = false
+
+-- a write that a stripe may ask for behind these calls: to the content area, to one body, or of one gate; it opens a gate
+-- only behind the body, and right before a sync of the device (`syncs_next`)
+abbrev pub is_asked_write : (area : ℕ) (syncs_next : Bool) (at : ℕ) → List ℕ → List Call → Bool
+is_asked_write area syncs_next at bytes older =
+    nat_le area at
+    || is_of_body area at (length bytes / 512)
+    || (is_gate at && length bytes == 512 && (not (opens at bytes) || (syncs_next && has_body area at older)))
 
 -- what calls do beside reading and writing, the oldest first: a sync of the device behind an opened gate ends a sync
-abbrev pub effects_synced : ℕ → List Call → List Effect
-effects_synced area [] = []
-effects_synced area (Read at bytes ∷ older) = effects_synced area older
-effects_synced area (Wrote at bytes ∷ older) = effects_synced area older ++ (if is_placed_write area at (length bytes / 512) then [] else Unasked ∷ [])
-effects_synced area (Synced ∷ older) = effects_synced area older ++ (if opens_gate older then Finished ∷ [] else [])
-effects_synced area (RefusedCall asked count ∷ older) = effects_synced area older ++ Denied count ∷ []
-effects_synced area (call ∷ older) = effects_synced area older ++ Unasked ∷ []
+abbrev pub effects_synced : (area : ℕ) (syncs_next : Bool) → List Call → List Effect
+effects_synced area syncs_next [] = []
+effects_synced area syncs_next (Read at bytes ∷ older) = effects_synced area false older
+effects_synced area syncs_next (Wrote at bytes ∷ older) =
+    effects_synced area false older ++ (if is_asked_write area syncs_next at bytes older then [] else Unasked ∷ [])
+effects_synced area syncs_next (Synced ∷ older) = effects_synced area true older ++ (if opens_gate older then Finished ∷ [] else [])
+effects_synced area syncs_next (RefusedCall ToSync count ∷ older) = effects_synced area true older ++ Denied count ∷ []
+effects_synced area syncs_next (RefusedCall asked count ∷ older) = effects_synced area false older ++ Denied count ∷ []
+effects_synced area syncs_next (call ∷ older) = effects_synced area false older ++ Unasked ∷ []
 
 -- what records tell of these
 abbrev pub syncs_told : List Rec → List Effect
@@ -166,8 +234,24 @@ syncs_told (rec.Fault count ∷ recs) = Denied count ∷ syncs_told recs
 syncs_told (rec.SyncDone serial ∷ recs) = Finished ∷ syncs_told recs
 syncs_told (r ∷ recs) = syncs_told recs
 
+-- some of the calls wrote below the content area
+abbrev pub writes_below : (area : ℕ) → List Call → Bool
+writes_below area [] = false
+writes_below area (Wrote at bytes ∷ older) = nat_lt at area || writes_below area older
+writes_below area (call ∷ older) = writes_below area older
+
+-- some of the records begins a sync
+abbrev pub begins_sync : List Rec → Bool
+begins_sync [] = false
+begins_sync (rec.SyncBegun serial cursor clean in_parts ∷ recs) = true
+begins_sync (r ∷ recs) = begins_sync recs
+
+-- a sync goes on before these records, or one of them begins it
+abbrev pub has_sync : State → List Rec → Bool
+has_sync s added = is_some s.running || begins_sync added
+
 -- how many of the calls wrote to the content area
-abbrev pub content_writes : ℕ → List Call → ℕ
+abbrev pub content_writes : (area : ℕ) → List Call → ℕ
 content_writes area [] = 0
 content_writes area (Wrote at bytes ∷ older) = content_writes area older + (if nat_le area at then 1 else 0)
 content_writes area (call ∷ older) = content_writes area older
@@ -178,10 +262,39 @@ buffers_begun [] = 0
 buffers_begun (rec.Began cursor floor ∷ recs) = 1 + buffers_begun recs
 buffers_begun (r ∷ recs) = buffers_begun recs
 
--- each call that ended a sync or failed has its record, in order, and no other is there; the content area is written to once
--- for each buffer that begins, and once more at most where a fault ends the step
-pub record AreSyncsTold (p : Permit) (added : List Rec) (refused : Option Reason) : Type 0 where
-  pub effects : syncs_told added ≡ effects_synced p.area p.events
+-- 1 where the device ended what was asked
+abbrev pub faults_of : Option Reason → ℕ
+faults_of (Some (Faulted count)) = 1
+faults_of _ = 0
+
+-- at a moment of a step what then is left of the buffer is written: no block that stands durably, none that the last sync
+-- that finished names, and none out of its reach
+pub record IsWriteOfRest (p : Permit) (s : State) (older : List Call) (at : ℕ) (bytes : List ℕ) : Type 0 where
+  pub rest : IsRestOf p s (standing p older s) at bytes
+  pub fresh : synced_end s ≤ s.cursor + standing p older s
+  pub reach : place_now s ≤ reach_of s.geometry (synced_cursor s)
+
+-- so it is some way into the records of the step, which tell the same ends of syncs and refusals as the calls before it
+pub record IsOfBuffer (p : Permit) (s : State) (added : List Rec) (older : List Call) (at : ℕ) (bytes : List ℕ) : Type 0 where
+  pub before : List Rec
+  pub behind : List Rec
+  pub is : added ≡ before ++ behind
+  pub order : syncs_told before ≡ effects_synced p.area false older
+  pub write : IsWriteOfRest p (after_all s before) older at bytes
+
+-- so it is of each of these calls that wrote to the content area
+abbrev pub AreOfBuffers : Permit → State → List Rec → List Call → Type 0
+AreOfBuffers p s added [] = Unit {0}
+AreOfBuffers p s added (Wrote at bytes ∷ older) = (p.area ≤ at → IsOfBuffer p s added older at bytes) × AreOfBuffers p s added older
+AreOfBuffers p s added (call ∷ older) = AreOfBuffers p s added older
+
+-- each call that ended a sync or failed has its record, in order, and no other is there; the copies of the directory are
+-- written where there is a sync, and the content area with what is left of a buffer, once for each buffer that begins, and
+-- once more at most where a fault ends the step
+pub record AreSyncsTold (p : Permit) (s : State) (added : List Rec) (refused : Option Reason) : Type 0 where
+  pub effects : syncs_told added ≡ effects_synced p.area false p.events
+  pub copies : writes_below p.area p.events ≡ true → has_sync s added ≡ true
+  pub content : AreOfBuffers p s added p.events
   pub writes : content_writes p.area p.events ≤ buffers_begun added + faults_of refused
 
 -- ---- pieces

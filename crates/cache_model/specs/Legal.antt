@@ -8,11 +8,11 @@ use Rattle.tape_base.specs.declared.pieces.PieceId.{PieceId}
 use Rattle.tape_base.specs.declared.digests.Digest.{Digest}
 use Rattle.tape_base.specs.declared.actors.Actor.{Actor}
 use Rattle.tape_base.specs.declared.geometries.Geometry.{Geometry}
+use Rattle.device_log.specs.Calls.{Call}
 use Rattle.tape_base.specs.Blocks.{blocks_of}
 use Rattle.tape_base.specs.Digest.{digest_of}
 use Rattle.tape_base.specs.Geometry.{budget_of}
 use Rattle.tape_base.specs.Place.{floor_of}
-use Rattle.doc_header.specs.Reading.{document_digest, payload_of}
 use Rattle.fragment_table.specs.Table.{TableRow, made_row, total_length}
 use Rattle.alternate_vector.specs.Field.{Field, AreFields}
 use Rattle.alternate_vector.specs.Alternates.{vector_size}
@@ -25,9 +25,9 @@ use Rattle.cache_model.specs.declared.answer.NextAnswer.TheVariants as next
 use Rattle.cache_model.specs.declared.record.Rec.{Rec}
 use Rattle.cache_model.specs.declared.record.Rec.TheVariants as rec
 use Rattle.cache_model.specs.State.{State, Row, PutRow, ReaderRow, Open, most_fragments, after_all, nothing_yet, alternate_of, fragment_piece, place_now, list_of_piece, list_of_put, live_row_of, put_of, reader_of, vector_piece, with_cut}
-use Rattle.cache_model.specs.Verdict.{is_open, live_vector_of, lookup_verdict, next_piece, next_row, reader_verdict}
+use Rattle.cache_model.specs.Verdict.{digest_in, is_open, live_vector_of, lookup_verdict, next_piece, next_row, reader_verdict}
 use Rattle.cache_model.specs.Permit.{Permit, Setting, IsSetBy, Intent, Flush, Sync, SyncBegin, SyncStep, Drain, CleanSync, Write, Fragment, Overflow, Weigh, Finish, Commit, GiveUp, Remove, Look, ReadOn, ReadAll, StopReading, Reason, ManyWriters, Exhausted, ManyFragments, TooLarge, Lost, Faulted, StillOpen, End, Stays, Done, Fails, Work, to_do, work_after}
-use Rattle.cache_model.specs.Given.{AreSyncsTold, CountsRead, CountsWrite, IsDamaged, IsGiven, IsReadWhereLive, IsWritten, TakesBuffer, Trouble, denials, effects_in, effects_told, damage_cause, damage_record}
+use Rattle.cache_model.specs.Given.{AreSyncsTold, CountsRead, CountsWrite, IsDamaged, IsRead, IsReadWhereLive, IsWritten, TakesBuffer, Trouble, denials, effects_in, effects_told, damage_cause, damage_record}
 use Rattle.cache_model.specs.Due.{due_pieces}
 use Rattle.cache_model.specs.Outcomes.{AreOutcomes, Outcome, flush_records, stopped_front_of, stopped_records}
 use Rattle.cache_model.specs.Opening.{Opening}
@@ -292,34 +292,37 @@ pub record MayLook (p : Permit) (s : State) (actor : ℕ) (key : Key) (request :
 pub data DoesLook (p : Permit) (s : State) (actor : ℕ) (key : Key) (request : List Field) (added : List Rec) : End → Type 0 where
   looks : MayLook p s actor key request added → DoesLook p s actor key request added Done
 
--- the device gave the document of the recorded digest, whose payload is not the one that the
--- reader's table lists
-pub record IsMismatched (p : Permit) (s : State) (row : Row) (entry : TableRow) (found : Digest) : Type 0 where
-  pub bytes : List ℕ
-  pub given : IsGiven p s row bytes
-  pub whole : row.digest ≡ document_digest bytes
-  pub digest : found ≡ digest_of (payload_of bytes)
-  pub differ : entry.digest ≢ found.0
+-- the payload of a piece has the digest that is listed of it
+abbrev pub IsAsListed : Row → TableRow → Type 0
+IsAsListed row entry = (payload : TableRow) → row.payload ≡ Some payload → digest_in payload ≡ digest_in entry
 
--- the digest that a table lists of a fragment: that of its bytes, not of its document
-abbrev pub digest_in : TableRow → Digest
-digest_in entry = record { 0 = entry.digest }
+-- it has this one, which is another
+pub record IsUnlike (row : Row) (entry : TableRow) (found : Digest) : Type 0 where
+  pub payload : TableRow
+  pub has : row.payload ≡ Some payload
+  pub found_is : found ≡ digest_in payload
+  pub differ : digest_in entry ≢ found
 
--- the fragment that a reader takes next cannot be given
-pub data ReadTrouble (p : Permit) (s : State) (r : ReaderRow) (row : Row) (entry : TableRow) : List Rec → Cause → Type 0 where
-  troubled : (before : List Rec) (why : Cause) → Trouble p s row before why → ReadTrouble p s r row entry before why
-  mismatched : (found : Digest) → is_some r.table ≡ true → IsMismatched p s row entry found
-      → ReadTrouble p s r row entry (damage_record row (digest_in entry) found ∷ []) (damage_cause row (digest_in entry) found)
+-- the fragment that a reader takes next cannot be given: it cannot be read, or its payload is not the one that is listed,
+-- as it may be of a piece that an opening found
+pub data ReadTrouble (p : Permit) (s : State) (row : Row) (entry : TableRow) : List Rec → Cause → Type 0 where
+  troubled : (before : List Rec) (why : Cause) → Trouble p s row before why → ReadTrouble p s row entry before why
+  mismatched : (found : Digest) → IsRead p s row → IsUnlike row entry found
+      → ReadTrouble p s row entry (damage_record row (digest_in entry) found ∷ []) (damage_cause row (digest_in entry) found)
 
 -- the fragment that a reader takes next, where it is cut and live
 abbrev pub live_next : State → ReaderRow → Option Row
 live_next s r = option_and_then (λ (entry : TableRow). live_row_of s (next_piece r)) (next_row s r)
 
+-- its payload is the one that the reader's table lists, or that the writer has cut
+abbrev pub IsNextAsListed : State → ReaderRow → Type 0
+IsNextAsListed s r = (entry : TableRow) (row : Row) → next_row s r ≡ Some entry → live_row_of s (next_piece r) ≡ Some row → IsAsListed row entry
+
 -- the verdict, or the trouble with the next fragment, which has to be cut and live
 pub data IsReading (p : Permit) (s : State) (r : ReaderRow) : List Rec → NextAnswer → Type 0 where
-  verdict : IsReadWhereLive p s (live_next s r) → IsReading p s r [] (reader_verdict s r)
+  verdict : IsReadWhereLive p s (live_next s r) → IsNextAsListed s r → IsReading p s r [] (reader_verdict s r)
   trouble : (entry : TableRow) (row : Row) (before : List Rec) (why : Cause) → next_row s r ≡ Some entry → live_row_of s (next_piece r) ≡ Some row
-      → ReadTrouble p s r row entry before why → IsReading p s r before (next.Broke why)
+      → ReadTrouble p s row entry before why → IsReading p s r before (next.Broke why)
 
 -- what a reader is answered is recorded with its number, a wait and an end too
 abbrev pub answer_record : ℕ → NextAnswer → Rec
@@ -403,7 +406,7 @@ pub record IsStep (p : Permit) (s : State) (intents : List Intent) (added : List
   pub quiet : IsQuiet (after_all s added)
   pub faults : denials (effects_told added) ≡ denials (effects_in p.events)
   pub effects : p.syncs ≡ false → effects_told added ≡ effects_in p.events
-  pub synced : p.syncs ≡ true → AreSyncsTold p added refused
+  pub synced : p.syncs ≡ true → AreSyncsTold p s added refused
 
 -- ---- a chronicle
 
@@ -417,11 +420,16 @@ pub record Course : Type 0 where
   pub intents : List Intent
   pub refused : Option Reason
 
+-- the calls that the device made in these steps, the newest first
+abbrev pub calls_of : List Course → List Call
+calls_of [] = []
+calls_of (course ∷ later) = calls_of later ++ course.permit.events
+
 -- the records of a session up to the end of a step, from a format or an opening on and by its steps, of a stripe of one
 -- setting
 pub data IsLegal (setting : Setting) : List Course → List Rec → Type 0 where
   begins : (geometry : Geometry) → IsLegal setting [] (format_records geometry)
   opens : (geometry : Geometry) (o : Opening) → IsOpening setting.packed geometry o → IsLegal setting [] (opened_records geometry o)
-  steps : {courses : List Course} {before added : List Rec} (course : Course) → IsSetBy setting course.permit
+  steps : {courses : List Course} {before added : List Rec} (course : Course) → IsSetBy setting (calls_of courses) course.permit
       → IsLegal setting courses before → IsStep course.permit (after_all nothing_yet before) course.intents added course.refused
       → IsLegal setting (courses ++ course ∷ []) (before ++ added)

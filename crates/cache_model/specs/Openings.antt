@@ -1,12 +1,17 @@
 -- What an opening may take up: whatever pieces the bytes of a device give that pass its tests, also such as this program
 -- never wrote. Their places rise, and they may overlap; a vector may have any start and pin.
-use Rattle.std.specs.Prelude.{ℕ, ◌≡◌, ◌+◌, ◌-◌, ◌*◌, ◌<◌, ◌≤◌, Bool, true, false, List, [], ◌∷◌, length, map, max, Option, None, AllPairs}
+use Rattle.std.specs.Prelude.{ℕ, ◌≡◌, ◌+◌, ◌-◌, ◌*◌, ◌<◌, ◌≤◌, Bool, true, false, List, [], ◌∷◌, length, map, max, slice_get, Option, Some, None, AllPairs}
 use Rattle.std.specs.List.{AllByRecursion}
 use Rattle.tape_base.specs.declared.geometries.Geometry.{Geometry}
+use Rattle.hex.specs.Hex.{IsBytes}
+use Rattle.tape_base.specs.Blocks.{blocks_of}
+use Rattle.tape_base.specs.Digest.{digest_of}
 use Rattle.tape_base.specs.Geometry.{budget_of}
 use Rattle.tape_base.specs.Key.{same_key}
 use Rattle.tape_base.specs.Piece.{is_vector}
 use Rattle.tape_base.specs.Place.{lap_end_of}
+use Rattle.doc_header.specs.Document.{digest_of_document}
+use Rattle.fragment_table.specs.Table.{TableRow}
 use Rattle.alternate_vector.specs.Alternates.{Stored}
 use Rattle.cache_model.specs.declared.findings.FoundRow.{FoundRow}
 use Rattle.cache_model.specs.declared.record.Rec.{Rec}
@@ -21,8 +26,20 @@ use Rattle.cache_model.specs.Vectors.{AreVectors}
 abbrev pub IsEarlierPut : Opening → ℕ → Type 0
 IsEarlierPut o put = (0 < put) × (put < o.next_put)
 
--- a piece fits a buffer's half and its lap; where it can be one of a put, that was begun before; a fragment lists nothing
+-- a piece stands as a document of these bytes, whose length and digest its header tells
+pub record IsFoundDocument (g : Geometry) (f : FoundRow) : Type 0 where
+  pub start : ℕ
+  pub payload : List ℕ
+  pub of_bytes : IsBytes payload
+  pub digest : f.digest ≡ digest_of_document (record { id = f.id; place = f.place; generation = g.generation; pin = f.pin; start = start }) payload
+  pub length_is : f.length ≡ length payload
+  pub payload_is : f.payload ≡ digest_of payload
+
+-- it has the blocks of its payload, and fits a buffer's half and its lap; where it can be one of a put, that was begun
+-- before; a fragment lists nothing
 pub record IsFoundPiece (g : Geometry) (o : Opening) (f : FoundRow) : Type 0 where
+  pub document : IsFoundDocument g f
+  pub size : f.blocks ≡ blocks_of f.length
   pub small : f.blocks ≤ budget_of g
   pub lap : f.place + f.blocks ≤ lap_end_of g f.place
   pub number : f.id.index ≤ 4096 → IsEarlierPut o f.id.put
@@ -30,7 +47,19 @@ pub record IsFoundPiece (g : Geometry) (o : Opening) (f : FoundRow) : Type 0 whe
 
 -- so were the puts of the alternates that it lists
 abbrev pub AreEarlierPuts : Opening → FoundRow → Type 0
-AreEarlierPuts o f = (list : List Stored) → f.alternates ≡ Option.Some list → AllByRecursion (λ (a : Stored). IsEarlierPut o a.put) list
+AreEarlierPuts o f = (list : List Stored) → f.alternates ≡ Some list → AllByRecursion (λ (a : Stored). IsEarlierPut o a.put) list
+
+-- where the row of an alternate is that of a found fragment, it states the length of that
+abbrev pub StatesLength : FoundRow → Stored → Type 0
+StatesLength x a = a.put ≡ x.id.put → 0 < x.id.index → (entry : TableRow) → slice_get a.table (x.id.index - 1) ≡ Some entry → x.length ≡ entry.length
+
+-- so it is of all alternates that a vector lists, and a fragment of its key
+abbrev pub StatesLengths : FoundRow → FoundRow → Type 0
+StatesLengths f x = (list : List Stored) → f.alternates ≡ Some list → same_key x.id.first f.id.first ≡ true → AllByRecursion (StatesLength x) list
+
+-- and of each vector and each fragment that is found
+abbrev pub AreLengthsStated : Opening → Type 0
+AreLengthsStated o = AllByRecursion (λ (f : FoundRow). AllByRecursion (StatesLengths f) o.found) o.found
 
 -- not both are vectors of one key
 abbrev pub AreOfTwoKeys : Row → Row → Type 0
@@ -62,6 +91,7 @@ pub record IsOpening (packed : Bool) (g : Geometry) (o : Opening) : Type 0 where
   pub keys : AllPairs AreOfTwoKeys (map row_of_found o.found)
   pub each : AllByRecursion (IsFoundPiece g o) o.found
   pub puts : AllByRecursion (AreEarlierPuts o) o.found
+  pub lengths : AreLengthsStated o
   pub vectors : AreVectors (state_of_opening g o)
   pub fits : packed ≡ true → (segment : ℕ) → FitsSegment (state_of_opening g o) segment
 

@@ -1,5 +1,5 @@
 -- What a step is about: what it is asked to do, how each ask ends, and what the device did in it.
-use Rattle.std.specs.Prelude.{ℕ, ◌≡◌, ◌⊎◌, Bool, true, false, List, [], ◌∷◌, filter, Option, Some, None}
+use Rattle.std.specs.Prelude.{ℕ, ◌≡◌, ◌⊎◌, ◌+◌, ◌*◌, Bool, true, false, List, [], ◌∷◌, filter, Option, Some, None}
 use Rattle.tape_base.specs.declared.keys.Key.{Key}
 use Rattle.device_log.specs.Calls.{Call}
 use Rattle.alternate_vector.specs.Field.{Field}
@@ -99,21 +99,27 @@ pub record Setting : Type 0 where
   pub syncs : Bool
   pub area : ℕ
 
--- the same of a step, with the moment that pins are weighed by; how many blocks of the buffer with which it begins were
--- written before and made durable by a sync of the device since; and the calls that the device made in it, the newest first
+-- the same of a step, with the moment that pins are weighed by, the calls that the device made in the steps of the session
+-- before it, and those that it made in the step itself, the newest first
 pub record Permit : Type 0 where
   pub packed : Bool
   pub syncs : Bool
   pub now : ℕ
   pub area : ℕ
-  pub durable : ℕ
+  pub past : List Call
   pub events : List Call
 
--- the step is one of such a session
-pub record IsSetBy (setting : Setting) (p : Permit) : Type 0 where
+-- a device has two gates and two bodies of one size below its content area
+abbrev pub HasCopies : ℕ → Type 0
+HasCopies area = (directory : ℕ) × (area ≡ 7 + 2 * directory)
+
+-- the step is one of such a session, which has made these calls before it
+pub record IsSetBy (setting : Setting) (calls : List Call) (p : Permit) : Type 0 where
   pub packed : p.packed ≡ setting.packed
   pub syncs : p.syncs ≡ setting.syncs
   pub area : p.area ≡ setting.area
+  pub copies : setting.syncs ≡ true → HasCopies setting.area
+  pub past : setting.syncs ≡ true → p.past ≡ calls
 
 -- the value stands in the list, once or more often
 abbrev pub IsAmong : {X : Type 0} → X → List X → Type 0

@@ -24,12 +24,14 @@ use Rattle.cache_model.specs.Opening.{Opening}
 use Rattle.cache_model.specs.declared.record.Rec.{Rec}
 use Rattle.cache_model.specs.declared.record.Rec.TheVariants as rec
 
--- a piece that was placed and not taken out; a vector has the alternates that it lists
+-- a piece that was placed and not taken out; a fragment has the length and the digest of its payload, a vector the
+-- alternates that it lists
 pub record Row : Type 0 where
   pub id : PieceId
   pub place : ℕ
   pub blocks : ℕ
   pub digest : Digest
+  pub payload : Option TableRow
   pub pin : ℕ
   pub alternates : Option (List Stored)
 
@@ -98,6 +100,8 @@ pub record State : Type 0 where
   pub counts : List (PieceId × ℕ)
   -- the puts, the last first
   pub puts : List PutRow
+  -- the length and the digest of the fragment that was cut last, which is placed next
+  pub last_cut : Option TableRow
   -- a vector that was placed and is not committed yet
   pub pending : Option PieceId
   -- the number of the next put
@@ -172,6 +176,7 @@ formatted geometry = record {
   vectors = [];
   counts = [];
   puts = [];
+  last_cut = None;
   pending = None;
   next_put = 1;
   aborts = [];
@@ -254,9 +259,14 @@ live_rows s = filter (is_live s) s.rows
 
 -- ---- what is found, and what syncs hold
 
+-- the length and the digest of a found fragment's payload, by the header that the opening accepted
+abbrev pub payload_of_found : FoundRow → Option TableRow
+payload_of_found f = if is_vector f.id then None else Some (made_row f.length f.payload.0)
+
 -- a piece that an opening found
 abbrev pub row_of_found : FoundRow → Row
-row_of_found f = record { id = f.id; place = f.place; blocks = f.blocks; digest = f.digest; pin = f.pin; alternates = f.alternates }
+row_of_found f =
+    record { id = f.id; place = f.place; blocks = f.blocks; digest = f.digest; payload = payload_of_found f; pin = f.pin; alternates = f.alternates }
 
 -- its place
 abbrev pub place_of_found : FoundRow → ℕ × PieceId
@@ -315,6 +325,14 @@ mark_now s serial cursor clean = record {
 -- the sync of this serial
 abbrev pub mark_of : State → ℕ → Option Mark
 mark_of s serial = find (λ m. m.serial == serial) s.marks
+
+-- the cursor of the last sync that finished
+abbrev pub synced_cursor : State → ℕ
+synced_cursor s = unwrap_or (option_map (λ (m : Mark). m.cursor) (mark_of s s.finished)) s.geometry.content
+
+-- the place where the last of its pieces may end
+abbrev pub synced_end : State → ℕ
+synced_end s = unwrap_or (option_map (λ (m : Mark). m.end) (mark_of s s.finished)) s.geometry.content
 
 -- it is known as a clean one
 abbrev pub is_clean_sync : State → ℕ → Bool
@@ -396,10 +414,14 @@ without id rows = filter (λ row. not (same_piece row.id id)) rows
 abbrev pub listed : State → PieceId → Option (List Stored)
 listed s piece = if is_vector piece then Some (list_of_put s piece.put) else None
 
--- the row of a piece that is placed: what a vector lists is fixed by the state before
+-- the payload of a piece that is placed: that of the fragment that was cut last
+abbrev pub payload_placed : State → PieceId → Option TableRow
+payload_placed s piece = if is_vector piece then None else s.last_cut
+
+-- the row of a piece that is placed: its payload and what a vector lists are fixed by the state before
 abbrev pub placed_row : State → PieceId → ℕ → ℕ → Digest → ℕ → Row
 placed_row s piece place blocks digest pin =
-    record { id = piece; place = place; blocks = blocks; digest = digest; pin = pin; alternates = listed s piece }
+    record { id = piece; place = place; blocks = blocks; digest = digest; payload = payload_placed s piece; pin = pin; alternates = listed s piece }
 
 -- a key's last vector goes, where it is not that of the put
 abbrev pub without_earlier : Key → ℕ → Option LastVector → List Row → List Row
@@ -483,7 +505,10 @@ state_after s (rec.WriteOpened actor put key request response pin) = record s {
   puts = opened_put actor.0 put key request response pin ∷ s.puts;
   next_put = put + 1;
 }
-state_after s (rec.Cut put index length digest) = record s { puts = change_put put (with_cut (made_row length digest.0)) s.puts }
+state_after s (rec.Cut put index length digest) = record s {
+  puts = change_put put (with_cut (made_row length digest.0)) s.puts;
+  last_cut = Some (made_row length digest.0);
+}
 state_after s (rec.Committed put key bytes alternates) = record s {
   rows = without_earlier key put (last_vector s key) s.rows;
   vectors = (key, Complete put) ∷ s.vectors;

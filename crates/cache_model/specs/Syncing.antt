@@ -6,7 +6,7 @@ use Rattle.tape_base.specs.Place.{reach_of}
 use Rattle.write_cursor.specs.Plan.{is_sync_due}
 use Rattle.cache_model.specs.declared.record.Rec.{Rec}
 use Rattle.cache_model.specs.declared.record.Rec.TheVariants as rec
-use Rattle.cache_model.specs.State.{State, Mark, after_all, cursor_next, mark_of}
+use Rattle.cache_model.specs.State.{State, Mark, after_all, cursor_next, synced_cursor}
 use Rattle.device_log.specs.Calls.{Synced}
 use Rattle.cache_model.specs.Permit.{Permit, IsAmong, Reason, Exhausted, Faulted, SyncRuns, NoSync, StillMoving, End, Stays, Done, Fails}
 use Rattle.cache_model.specs.Given.{CountsRest, CountsSync, TakesPart, TakesRest}
@@ -37,10 +37,6 @@ is_in_parts _ = false
 -- the serial of the next sync: none that was begun has it
 abbrev pub next_serial : State → ℕ
 next_serial s = unwrap_or (option_map (λ (m : Mark). m.serial) (slice_get s.marks 0)) 0 + 1
-
--- the cursor of the last sync that finished
-abbrev pub synced_cursor : State → ℕ
-synced_cursor s = unwrap_or (option_map (λ (m : Mark). m.cursor) (mark_of s s.finished)) s.geometry.content
 
 -- a sync is due before the next buffer begins
 abbrev pub is_due_now : State → Bool
@@ -217,9 +213,11 @@ pub data Unmarks (p : Permit) (s : State) (added : List Rec) : End → Type 0 wh
       → added ≡ ended_records s ++ begun_record s s.cursor false false ∷ rec.Fault count ∷ [] → Unmarks p s added (Fails (Faulted count))
   exhausted : MustUnmark p s → is_unmark_exhausted s ≡ true → added ≡ [] → Unmarks p s added (Fails Exhausted)
 
--- a clean sync of an empty buffer; copies that stand in it refuse that
+-- a clean sync of an empty buffer; copies that stand in it refuse that, and so does a sync in parts
 pub data DoesCleanSync (p : Permit) (s : State) (added : List Rec) : End → Type 0 where
   moving : p.syncs ≡ true → s.pending ≡ None → 0 < s.filled → added ≡ [] → DoesCleanSync p s added (Fails (StillMoving s.filled))
+  runs : (serial : ℕ) → p.syncs ≡ true → s.pending ≡ None → s.filled ≡ 0 → s.running ≡ Some serial → added ≡ []
+      → DoesCleanSync p s added (Fails (SyncRuns serial))
   syncs : p.syncs ≡ true → s.pending ≡ None → s.filled ≡ 0 → s.running ≡ None → next_serial s < limit
       → added ≡ begun_record s s.cursor true false ∷ rec.SyncDone (next_serial s) ∷ [] → DoesCleanSync p s added Done
   stops : (count : ℕ) → p.syncs ≡ true → s.pending ≡ None → s.filled ≡ 0 → s.running ≡ None → next_serial s < limit → CountsSync p s count

@@ -176,6 +176,14 @@ piece_at s place = option_and_then (if_still_at s place) (lookup (λ p. p == pla
 abbrev pub digest_of_piece : State → PieceId → Option Digest
 digest_of_piece s id = option_map (λ (row : Row). row.digest) (live_row_of s id)
 
+-- the digest that a row of a table tells: that of a payload, not of a document
+abbrev pub digest_in : TableRow → Digest
+digest_in entry = record { 0 = entry.digest }
+
+-- the digest of the payload of a live fragment
+abbrev pub payload_of_piece : State → PieceId → Option Digest
+payload_of_piece s id = option_map digest_in (option_and_then (λ (row : Row). row.payload) (live_row_of s id))
+
 -- the blocks that a live piece takes, its header included
 abbrev pub size_of : State → PieceId → Option ℕ
 size_of s id = option_map (λ (row : Row). row.blocks) (live_row_of s id)

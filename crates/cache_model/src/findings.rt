@@ -15,7 +15,8 @@ pub struct FoundRow {
     pub blocks: u32,
     /// That of its document.
     pub digest: Digest,
-    /// That of the payload, as the document's header tells it.
+    /// The bytes of the payload, and their digest, as the document's header tells them.
+    pub length: u32,
     pub payload: Digest,
     pub pin: u64,
     /// What a vector lists; none of a fragment.
