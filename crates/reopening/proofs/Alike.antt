@@ -3,8 +3,8 @@ use Rattle.std.proofs.Common.{◌≡◌, ◌≤◌, ◌<◌, ◌+◌, ◌-◌, �
 use Rattle.std.specs.Prelude.{min, not, nat_le, ◌&&◌, ◌||◌, ◌==◌, if◌then◌else◌}
 use Rattle.std.specs.Int.{w32, from_le_bytes}
 use Rattle.std.specs.List.{list_any, cons_option}
-use Rattle.std.proofs.lemmas.Bool.{cases_Bool, cases_lt, and_parts}
-use Rattle.std.proofs.Math.Nat.{mod-add-div, mul-le-mul_left, mod-eq_of_lt, add-mul-mod_self_left, mod-lt}
+use Rattle.std.proofs.lemmas.Bool.{cases_Bool, and_parts}
+use Rattle.std.proofs.Math.Nat.{mod-add-div, mod-eq_of_lt, add-mul-mod_self_left, mod-lt}
 use lib.Seq.{take-append-le, drop-append-le}
 use Rattle.device_log.specs.Image.{Image, IsImage, span}
 use Rattle.device_log.proofs.Spans.{span_first, span_same}
@@ -29,7 +29,8 @@ use Rattle.reopening.specs.Tests.{has_put, is_document, is_entered, is_inside, j
 use Rattle.reopening.specs.Later.{kept_rows}
 use Rattle.reopening.specs.Opens.{found_of, is_sound, opened, opening_with, opens_to, rows_at, rows_told}
 use Rattle.reopening.specs.Alike.{AllEndByCursor, EndsBy, IsRestedOn, OpensAlike, blocks_told, has_place}
-use Rattle.reopening.proofs.Bounds.{some_content, in_lap}
+use Rattle.reopening.proofs.Bounds.{some_content}
+use Rattle.reopening.proofs.Pieces.{ends_by}
 
 -- a number in front is that of the front
 number_ahead : (at : ℕ) (xs ys : List ℕ) → at + 4 ≤ length xs → number_at w32 at (xs ++ ys) ≡ number_at w32 at xs
@@ -183,27 +184,10 @@ inside_parts g c p blocks h =
     (and_parts (nat_le blocks (budget_of g)) (nat_le (p + blocks) (lap_end_of g p) && (not (lap_of g p == lap_of g c) || nat_le (p + blocks) c)) h).1 in
     (grind (arith, e.0), e.1)
 
-more : (n a b : ℕ) → a < b → n * (a + 1) ≤ n * b
-more n a b low = mul-le-mul_left n (omega (arith, low))
-
 pub end_by_cursor : AllEndByCursor
 end_by_cursor a c n p lt there = (
   lt,
   λ inside.
-      let g = a.geometry in
-      let cursor = n.told.cursor in
-      let blocks = blocks_told a c p in
-      let e = inside_parts g cursor p blocks inside in
-      let mine = in_lap g p in
-      let its = in_lap g cursor in
-      elim (cases_lt (lap_of g p) (lap_of g cursor)) [
-        | inl less ↦ omega (arith, e.0, more g.content (lap_of g p) (lap_of g cursor) less, its.0)
-        | inr ge ↦ elim (cases_lt (lap_of g cursor) (lap_of g p)) [
-          | inl over ↦ absurd (omega (arith, more g.content (lap_of g cursor) (lap_of g p) over, mine.0, its.1, lt))
-          | inr le ↦
-              let same : (lap_of g p == lap_of g cursor) ≡ true = grind (arith, ge, le) in
-              let so : nat_le (p + blocks) cursor ≡ true = subst (λ b. (not b || nat_le (p + blocks) cursor) ≡ true) same e.1 in
-              grind (arith, so)
-        ]
-      ],
+      let e = inside_parts a.geometry n.told.cursor p (blocks_told a c p) inside in
+      ends_by a.geometry n.told.cursor p (blocks_told a c p) lt e.0 e.1,
 )

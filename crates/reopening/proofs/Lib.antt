@@ -7,3 +7,15 @@ pub mod Apart
 pub mod Alike
 pub mod Keeping
 pub mod Passing
+pub mod Holding
+pub mod Pieces
+pub mod Copies
+pub mod Listing
+pub mod Alone
+pub mod Ascent
+pub mod Storing
+pub mod KeyBytes
+pub mod Vectoring
+pub mod Totals
+pub mod Fitting
+pub mod Beginning

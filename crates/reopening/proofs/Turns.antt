@@ -8,7 +8,7 @@ use Rattle.device_log.specs.Image.{Image}
 use Rattle.stripe_header.specs.declared.area.Area.{Area}
 use Rattle.stripe_header.specs.declared.states.CopyState.{CopyState}
 use Rattle.dir_table.specs.declared.rows.StoredRow.{StoredRow}
-use Rattle.reopening.specs.declared.standing.Standing.{Standing}
+use Rattle.cache_model.specs.declared.findings.FoundRow.{FoundRow}
 use Rattle.reopening.specs.Later.{latest, replaces}
 use Rattle.reopening.specs.Tests.{standing_at, standing_from}
 
@@ -28,8 +28,8 @@ first_out [] x some is = absurd (omega arith)
 first_out (y ∷ ys) x some is = ap (λ z. z ∷ ys) (sym is)
 
 -- one that is not replaced is kept
-pub latest_keeps : (kept ahead all : List Standing) (x : Standing) (rest : List Standing) → ahead ≡ x ∷ rest
-    → list_any (λ y. replaces y.row.id x.row.id) rest ≡ false → kept ++ latest ahead ≡ latest all → (kept ++ x ∷ []) ++ latest rest ≡ latest all
+pub latest_keeps : (kept ahead all : List FoundRow) (x : FoundRow) (rest : List FoundRow) → ahead ≡ x ∷ rest
+    → list_any (λ y. replaces y.id x.id) rest ≡ false → kept ++ latest ahead ≡ latest all → (kept ++ x ∷ []) ++ latest rest ≡ latest all
 unfolding latest
 latest_keeps kept ahead all x rest is none so =
     append_assoc kept (x ∷ []) (latest rest)
@@ -37,8 +37,8 @@ latest_keeps kept ahead all x rest is none so =
     ∙ (ap (λ l. kept ++ latest l) (sym is) ∙ so))
 
 -- one that is replaced is not
-pub latest_drops : (kept ahead all : List Standing) (x : Standing) (rest : List Standing) → ahead ≡ x ∷ rest
-    → list_any (λ y. replaces y.row.id x.row.id) rest ≡ true → kept ++ latest ahead ≡ latest all → kept ++ latest rest ≡ latest all
+pub latest_drops : (kept ahead all : List FoundRow) (x : FoundRow) (rest : List FoundRow) → ahead ≡ x ∷ rest
+    → list_any (λ y. replaces y.id x.id) rest ≡ true → kept ++ latest ahead ≡ latest all → kept ++ latest rest ≡ latest all
 unfolding latest
 latest_drops kept ahead all x rest is one so =
     ap (λ b. kept ++ (if b then latest rest else x ∷ latest rest)) (sym one)
@@ -52,11 +52,11 @@ module _ (a : Area) (told : CopyState) (rows : List StoredRow) (c : Image) where
       let e : end - place ≡ suc (end - (place + 1)) = omega (arith, lt) in
       ap (standing_from a told rows c place) e
 
-  behind : (all rest : List Standing) (s : Option Standing) → (all ++ cons_option s []) ++ rest ≡ all ++ cons_option s rest
+  behind : (all rest : List FoundRow) (s : Option FoundRow) → (all ++ cons_option s []) ++ rest ≡ all ++ cons_option s rest
   behind all rest None = ap (λ l. l ++ rest) (append-nil all)
   behind all rest (Some x) = append_assoc all (x ∷ []) rest
 
-  pub standing_more : (all whole : List Standing) (place end : ℕ) (s : Option Standing) → place < end → s ≡ standing_at a told rows c place
+  pub standing_more : (all whole : List FoundRow) (place end : ℕ) (s : Option FoundRow) → place < end → s ≡ standing_at a told rows c place
       → all ++ standing_from a told rows c place (end - place) ≡ whole
       → (all ++ cons_option s []) ++ standing_from a told rows c (place + 1) (end - (place + 1)) ≡ whole
   standing_more all whole place end s lt is so =

@@ -11,7 +11,7 @@ use Rattle.stripe_header.specs.Layout.{block_of}
 use Rattle.doc_header.specs.Reading.{doc_of, document_digest, kept_of, length_of, payload_of}
 use Rattle.alternate_vector.specs.Alternates.{Stored}
 use Rattle.alternate_vector.specs.Reading.{read_vector}
-use Rattle.reopening.specs.declared.standing.Standing.{Standing}
+use Rattle.cache_model.specs.declared.findings.FoundRow.{FoundRow}
 
 -- how many blocks are read at a place: as many as its first block tells, at most to the end of the lap
 abbrev pub blocks_read : Area → Image → ℕ → ℕ
@@ -29,18 +29,16 @@ listed_in payload = result_ok (read_vector payload)
 abbrev pub alternates_in : PieceId → List ℕ → Option (List Stored)
 alternates_in id payload = if is_vector id then listed_in payload else None
 
--- the row of the document that these bytes are, and the length of its payload
-abbrev pub standing_of : ℕ → List ℕ → Standing
+-- the row of the document that these bytes are
+abbrev pub standing_of : ℕ → List ℕ → FoundRow
 standing_of place bytes =
     record {
-      row = record {
-        id = (doc_of bytes).id;
-        place = place;
-        blocks = blocks_of (length_of bytes);
-        digest = document_digest bytes;
-        payload = kept_of bytes;
-        pin = (doc_of bytes).pin;
-        alternates = alternates_in (doc_of bytes).id (payload_of bytes);
-      };
+      id = (doc_of bytes).id;
+      place = place;
+      blocks = blocks_of (length_of bytes);
+      digest = document_digest bytes;
       length = length_of bytes;
+      payload = kept_of bytes;
+      pin = (doc_of bytes).pin;
+      alternates = alternates_in (doc_of bytes).id (payload_of bytes);
     }

@@ -9,8 +9,8 @@ use Rattle.doc_header.specs.declared.documents.Doc.{Doc}
 use Rattle.doc_header.specs.Document.{IsDocument}
 use Rattle.dir_table.specs.declared.rows.StoredRow.{StoredRow}
 use Rattle.packed_directory.specs.PackedImage.{IsImage}
+use Rattle.cache_model.specs.declared.findings.FoundRow.{FoundRow}
 use Rattle.reopening.specs.declared.newest.Newest.{Newest}
-use Rattle.reopening.specs.declared.standing.Standing.{Standing}
 use Rattle.reopening.specs.Newest.{bound_of, directory_at, newest_of}
 use Rattle.reopening.specs.Documents.{document_at, standing_of}
 use Rattle.reopening.specs.Tests.{has_put, is_entered, is_inside, lists_puts, standing_at}
@@ -19,33 +19,33 @@ use Rattle.reopening.specs.Opens.{opening_with, opens_to, rows_at}
 use Rattle.reopening.specs.Alike.{has_place}
 
 -- they stand in rising place, from one place up to another
-abbrev pub AreRising : ℕ → ℕ → List Standing → Type 0
+abbrev pub AreRising : ℕ → ℕ → List FoundRow → Type 0
 AreRising low high [] = Unit {0}
-AreRising low high (x ∷ rest) = (low ≤ x.row.place) × (x.row.place < high) × AreRising (x.row.place + 1) high rest
+AreRising low high (x ∷ rest) = (low ≤ x.place) × (x.place < high) × AreRising (x.place + 1) high rest
 
 -- none is replaced by one behind it
-abbrev pub AreAlone : List Standing → Type 0
+abbrev pub AreAlone : List FoundRow → Type 0
 AreAlone [] = Unit {0}
-AreAlone (x ∷ later) = (list_any (λ y. replaces y.row.id x.row.id) later ≡ false) × AreAlone later
+AreAlone (x ∷ later) = (list_any (λ y. replaces y.id x.id) later ≡ false) × AreAlone later
 
 -- one of them stands at this place
-abbrev pub is_place_of : List Standing → ℕ → Bool
-is_place_of all place = list_any (λ x. x.row.place == place) all
+abbrev pub is_place_of : List FoundRow → ℕ → Bool
+is_place_of all place = list_any (λ x. x.place == place) all
 
 -- the elements of a copy at or above its bound are for these places, and there these stand as their documents,
 -- pass the tests by themselves, and no two are at odds
-pub record StandAll (a : Area) (c : Image) (n : Newest) (all : List Standing) : Type 0 where
+pub record StandAll (a : Area) (c : Image) (n : Newest) (all : List FoundRow) : Type 0 where
   pub rising : AreRising (bound_of a.geometry n.told) n.told.cursor all
-  pub stand : AllByRecursion (λ x. standing_at a n.told (rows_at a c n) c x.row.place ≡ Some x) all
+  pub stand : AllByRecursion (λ x. standing_at a n.told (rows_at a c n) c x.place ≡ Some x) all
   pub no_more : (p : ℕ) → has_place p (rows_at a c n) ≡ true → is_place_of all p ≡ true
   pub alone : AreAlone all
-  pub lengths : AllByRecursion (λ x. has_lengths (map measure_of all) x.row ≡ true) all
+  pub lengths : AllByRecursion (λ x. has_lengths (map measure_of all) x ≡ true) all
 
--- such a copy opens to the rows of all of them
+-- such a copy opens to all of them
 abbrev pub RowsAreKept : Type 0
-RowsAreKept = (a : Area) (c : Image) (n : Newest) (all : List Standing)
+RowsAreKept = (a : Area) (c : Image) (n : Newest) (all : List FoundRow)
     → newest_of a c ≡ Some n → IsImage a.geometry (directory_at a c n.side) → StandAll a c n all
-    → opens_to a c ≡ Some (opening_with a.geometry n.told (map (λ x. x.row) all))
+    → opens_to a c ≡ Some (opening_with a.geometry n.told all)
 
 -- what stands at a place as a document, inside, and as its elements name it, passes by itself, and is the row of
 -- these bytes, which tells that document
@@ -57,4 +57,4 @@ DocumentsPass = (a : Area) (told : CopyState) (rows : List StoredRow) (c : Image
     → is_entered a.geometry rows place doc.id ≡ true → has_put told.next_put doc.id ≡ true
     → lists_puts told.next_put doc.id payload ≡ true
     → (standing_at a told rows c place ≡ Some (standing_of place (document_at a c place)))
-    × ((standing_of place (document_at a c place)).row.id ≡ doc.id)
+    × ((standing_of place (document_at a c place)).id ≡ doc.id)

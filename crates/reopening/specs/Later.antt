@@ -7,8 +7,7 @@ use Rattle.tape_base.specs.Piece.{is_vector, same_piece}
 use Rattle.fragment_table.specs.Table.{TableRow}
 use Rattle.alternate_vector.specs.Alternates.{Stored}
 use Rattle.cache_model.specs.declared.findings.FoundRow.{FoundRow}
-use Rattle.reopening.specs.declared.standing.Standing.{Standing}
-use Rattle.reopening.specs.declared.standing.Measure.{Measure}
+use Rattle.reopening.specs.declared.later.Measure.{Measure}
 
 -- the same piece, or another vector of the same object
 abbrev pub replaces : PieceId → PieceId → Bool
@@ -16,9 +15,9 @@ replaces later id =
     same_piece later id || (is_vector later && (is_vector id && same_key later.first id.first))
 
 -- no other that passed stands at a greater place and replaces it; each stands behind those of lesser places
-unfoldable pub latest : List Standing → List Standing
+unfoldable pub latest : List FoundRow → List FoundRow
 latest [] = []
-latest (x ∷ later) = if list_any (λ y. replaces y.row.id x.row.id) later then latest later else x ∷ latest later
+latest (x ∷ later) = if list_any (λ y. replaces y.id x.id) later then latest later else x ∷ latest later
 
 -- the row of a fragment, counted from 1
 abbrev pub row_at : List TableRow → ℕ → Option TableRow
@@ -48,15 +47,15 @@ abbrev pub has_lengths : List Measure → FoundRow → Bool
 has_lengths measures x = list_all (agrees x) measures
 
 -- what is compared with a table
-abbrev pub measure_of : Standing → Measure
-measure_of x = record { id = x.row.id; length = x.length }
+abbrev pub measure_of : FoundRow → Measure
+measure_of x = record { id = x.id; length = x.length }
 
 -- for index 0, each fragment of its alternates that passed has a payload of the length that its row states
-unfoldable pub with_lengths : List Measure → List Standing → List FoundRow
+unfoldable pub with_lengths : List Measure → List FoundRow → List FoundRow
 with_lengths measures [] = []
 with_lengths measures (x ∷ rest) =
-    if has_lengths measures x.row then x.row ∷ with_lengths measures rest else with_lengths measures rest
+    if has_lengths measures x then x ∷ with_lengths measures rest else with_lengths measures rest
 
--- the rows that are kept of those that passed by themselves
-abbrev pub kept_rows : List Standing → List FoundRow
+-- those that are kept of the rows that passed by themselves
+abbrev pub kept_rows : List FoundRow → List FoundRow
 kept_rows all = with_lengths (map measure_of (latest all)) (latest all)

@@ -9,3 +9,4 @@ pub mod Faults
 pub mod Windows
 pub mod Alike
 pub mod Kept
+pub mod Begins

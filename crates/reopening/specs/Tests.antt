@@ -15,7 +15,7 @@ use Rattle.doc_header.specs.Reading.{doc_of, first_fault, length_of, payload_of}
 use Rattle.dir_table.specs.declared.rows.StoredRow.{StoredRow}
 use Rattle.packed_directory.specs.StoredRows.{is_under}
 use Rattle.alternate_vector.specs.Alternates.{Stored}
-use Rattle.reopening.specs.declared.standing.Standing.{Standing}
+use Rattle.cache_model.specs.declared.findings.FoundRow.{FoundRow}
 use Rattle.reopening.specs.Documents.{document_at, listed_in, standing_of}
 
 -- the place is at least the first cursor, and the document at that place is accepted
@@ -60,13 +60,13 @@ passes g told rows place bytes =
     && lists_puts told.next_put (doc_of bytes).id (payload_of bytes))))
 
 -- of bytes at a place what stands there, where the tests are passed
-unfoldable pub judged : Geometry → CopyState → List StoredRow → ℕ → List ℕ → Option Standing
+unfoldable pub judged : Geometry → CopyState → List StoredRow → ℕ → List ℕ → Option FoundRow
 judged g told rows place bytes = if passes g told rows place bytes then Some (standing_of place bytes) else None
 
 -- what an entry of the directory that passes stands for at a place; two that pass there are equal
-abbrev pub standing_at : Area → CopyState → List StoredRow → Image → ℕ → Option Standing
+abbrev pub standing_at : Area → CopyState → List StoredRow → Image → ℕ → Option FoundRow
 standing_at a told rows c place = judged a.geometry told rows place (document_at a c place)
 
 -- all that pass from a place on, at so many places, in rising place
-abbrev pub standing_from : Area → CopyState → List StoredRow → Image → ℕ → ℕ → List Standing
+abbrev pub standing_from : Area → CopyState → List StoredRow → Image → ℕ → ℕ → List FoundRow
 standing_from a told rows c low count = filter_map (standing_at a told rows c) (range_with_len low count)

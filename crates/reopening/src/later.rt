@@ -4,11 +4,17 @@ ghost use Rattle.std.specs.List.{list_any, list_all};
 ghost use Rattle.alternate_vector.specs.Alternates.{stored_of};
 ghost use Rattle.reopening.specs.Later.{agrees, has_length, has_lengths, kept_rows, latest, measure_of, replaces, row_at, states, with_lengths};
 
-use crate::standing::{Measure, Standing};
 use alternate_vector::{Alternate, Vector};
 use cache_model::{FoundList, FoundRow};
 use std::alloc::{AllocError, Global};
 use tape_base::PieceId;
+
+/// The length of the payload of a piece that passed.
+#[derive(Clone, Copy, Debug)]
+pub struct Measure {
+    pub id: PieceId,
+    pub length: u32,
+}
 
 fn replaces(later: PieceId, id: PieceId) -> bool
     ensures { result ≡ replaces later id }
@@ -16,50 +22,50 @@ fn replaces(later: PieceId, id: PieceId) -> bool
     later == id || (later.index == 0 && (id.index == 0 && later.first == id.first))
 }
 
-fn is_replaced(later: &[Standing], id: PieceId) -> bool
-    ensures { result ≡ list_any (λ y. replaces y.row.id id) later.now }
+fn is_replaced(later: &[FoundRow], id: PieceId) -> bool
+    ensures { result ≡ list_any (λ y. replaces y.id id) later.now }
 {
-    later.iter().any(|y| replaces(y.row.id, id))
+    later.iter().any(|y| replaces(y.id, id))
 }
 
-fn push(kept: &mut Vec<Standing>, standing: Standing) -> Result<(), AllocError>
-    ensures { OnOk result (kept.new.items ≡ kept.old.items ++ standing ∷ []) }
+fn push(kept: &mut Vec<FoundRow>, row: FoundRow) -> Result<(), AllocError>
+    ensures { OnOk result (kept.new.items ≡ kept.old.items ++ row ∷ []) }
 {
-    kept.push(standing)?;
+    kept.push(row)?;
     Ok(())
 }
 
 // Those that no other replaces.
 #[tactic(auto, unfolding(crate::specs::Later::latest))]
-fn latest(alloc: Global, all: Vec<Standing>) -> Result<Vec<Standing>, AllocError>
+fn latest(alloc: Global, all: Vec<FoundRow>) -> Result<Vec<FoundRow>, AllocError>
     ensures { IfOk result (λ kept. kept.items ≡ latest all.items) }
 {
     let mut kept = Vec::new(alloc);
     let mut ahead = all;
     while !ahead.is_empty() {
         let first = ahead.remove(0);
-        if !is_replaced(&ahead, first.row.id) {
+        if !is_replaced(&ahead, first.id) {
             push(&mut kept, first)?;
         }
     }
     Ok(kept)
 }
 
-fn measure_of(standing: &Standing) -> Measure
-    ensures { result ≡ measure_of standing.now }
+fn measure_of(row: &FoundRow) -> Measure
+    ensures { result ≡ measure_of row.now }
 {
     Measure {
-        id: standing.row.id,
-        length: standing.length,
+        id: row.id,
+        length: row.length,
     }
 }
 
-fn measures_of(alloc: Global, all: &[Standing]) -> Result<Vec<Measure>, AllocError>
+fn measures_of(alloc: Global, all: &[FoundRow]) -> Result<Vec<Measure>, AllocError>
     ensures { IfOk result (λ measures. measures.items ≡ map measure_of all.now) }
 {
     let mut measures = Vec::new(alloc);
-    for standing in all {
-        measures.push(measure_of(standing))?;
+    for row in all {
+        measures.push(measure_of(row))?;
     }
     Ok(measures)
 }
@@ -123,14 +129,14 @@ fn add(found: &mut FoundList, row: FoundRow) -> Result<(), AllocError>
 fn with_lengths(
     alloc: Global,
     measures: &[Measure],
-    all: Vec<Standing>,
+    all: Vec<FoundRow>,
 ) -> Result<FoundList, AllocError>
     ensures { IfOk result (λ found. found ≡ with_lengths measures.now all.items) }
 {
     let mut found = FoundList::new(alloc);
     let mut ahead = all;
     while !ahead.is_empty() {
-        let Standing { row, length: _ } = ahead.remove(0);
+        let row = ahead.remove(0);
         if has_lengths(measures, &row) {
             add(&mut found, row)?;
         }
@@ -138,8 +144,8 @@ fn with_lengths(
     Ok(found)
 }
 
-/// The rows that are kept of those that passed by themselves.
-pub fn kept_rows(alloc: Global, all: Vec<Standing>) -> Result<FoundList, AllocError>
+/// Those that are kept of the rows that passed by themselves.
+pub fn kept_rows(alloc: Global, all: Vec<FoundRow>) -> Result<FoundList, AllocError>
     ensures { IfOk result (λ found. found ≡ kept_rows all.items) }
 {
     let kept = latest(alloc, all)?;

@@ -1,5 +1,6 @@
 // Laws for proofs. These functions do nothing when they run.
 ghost use Rattle.reopening.specs.Alike.{AllEndByCursor, OpensAlike};
+ghost use Rattle.reopening.specs.Begins.{OpeningsMayBegin};
 ghost use Rattle.reopening.specs.Faults.{FaultsOpenNothing};
 ghost use Rattle.reopening.specs.Kept.{DocumentsPass, RowsAreKept};
 ghost use Rattle.reopening.specs.Windows.{WindowsAreApart, CleanWindowsAreApart};
@@ -26,4 +27,9 @@ pub fn rows_are_kept()
 /// So what opens is never answered by a fault.
 pub fn faults_open_nothing()
     ensures { FaultsOpenNothing }
+{}
+
+/// What an image opens to may begin a session.
+pub fn openings_may_begin()
+    ensures { OpeningsMayBegin }
 {}

@@ -11,6 +11,8 @@ mod slices;
 mod standing;
 
 pub use device::read_area;
-pub use laws::{faults_open_nothing, images_open_alike, rows_are_kept, windows_are_apart};
+pub use laws::{
+    faults_open_nothing, images_open_alike, openings_may_begin, rows_are_kept, windows_are_apart,
+};
 pub use newest::Newest;
 pub use reader::{OpenFault, Opened, open_image};

@@ -20,20 +20,6 @@ use std::alloc::{AllocError, Global};
 use stripe_header::{Area, CopyState};
 use tape_base::{Digest, Geometry, Key, PieceId, lap, lap_end};
 
-/// A piece that passed, and the length of its payload.
-#[derive(Debug, Drop)]
-pub struct Standing {
-    pub row: FoundRow,
-    pub length: u32,
-}
-
-/// The length of the payload of a piece that passed.
-#[derive(Clone, Copy, Debug)]
-pub struct Measure {
-    pub id: PieceId,
-    pub length: u32,
-}
-
 fn is_inside(g: &Geometry, cursor: u64, place: u64, blocks: u64) -> bool
     requires cursor { cursor < 2 ^ 62 }
     requires place { place < 2 ^ 62 }
@@ -122,24 +108,22 @@ fn standing_of(
     blocks: u32,
     bytes: &[u8],
     alternates: Option<Vector>,
-) -> Standing
+) -> FoundRow
     requires some { 512 ≤ length bytes.now }
     requires doc { doc ≡ doc_of bytes.now }
     requires blocks { blocks ≡ blocks_of (length_of bytes.now) }
     requires list { alternates ≡ alternates_in doc.id (payload_of bytes.now) }
     ensures { result ≡ standing_of place bytes.now }
 {
-    Standing {
-        row: FoundRow {
-            id: doc.id,
-            place,
-            blocks,
-            digest: document_digest(bytes),
-            payload: kept_of(bytes),
-            pin: doc.pin,
-            alternates,
-        },
+    FoundRow {
+        id: doc.id,
+        place,
+        blocks,
+        digest: document_digest(bytes),
         length: length_told(bytes),
+        payload: kept_of(bytes),
+        pin: doc.pin,
+        alternates,
     }
 }
 
@@ -159,7 +143,7 @@ pub fn judged(
     rows: &[StoredRow],
     place: u64,
     bytes: &[u8],
-) -> Result<Option<Standing>, AllocError>
+) -> Result<Option<FoundRow>, AllocError>
     requires some { 512 ≤ length bytes.now }
     requires place { place < 2 ^ 62 }
     requires cursor { told.now.cursor < 2 ^ 62 }
@@ -196,7 +180,7 @@ fn standing_at(
     rows: &[StoredRow],
     image: &[u8],
     place: u64,
-) -> Result<Option<Standing>, AllocError>
+) -> Result<Option<FoundRow>, AllocError>
     requires whole { length image.now ≡ 512 * device_blocks area.now }
     requires place { place < 2 ^ 62 }
     requires cursor { told.now.cursor < 2 ^ 62 }
@@ -214,7 +198,7 @@ fn standing_at(
 }
 
 // Adds what stands at a place, if it does.
-fn add(all: &mut Vec<Standing>, standing: Option<Standing>) -> Result<(), AllocError>
+fn add(all: &mut Vec<FoundRow>, standing: Option<FoundRow>) -> Result<(), AllocError>
     ensures { OnOk result (all.new.items ≡ all.old.items ++ cons_option standing []) }
 {
     match standing {
@@ -234,7 +218,7 @@ pub fn standing_from(
     rows: &[StoredRow],
     image: &[u8],
     low: u64,
-) -> Result<Vec<Standing>, AllocError>
+) -> Result<Vec<FoundRow>, AllocError>
     requires whole { length image.now ≡ 512 * device_blocks area.now }
     requires low { low ≤ told.now.cursor }
     requires cursor { told.now.cursor < 2 ^ 62 }
