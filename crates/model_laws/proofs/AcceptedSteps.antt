@@ -15,7 +15,7 @@ use Rattle.doc_header.specs.declared.documents.Doc.{Doc}
 use Rattle.doc_header.specs.Document.{Fits, digest_of_document, document_bytes}
 use Rattle.doc_header.specs.Reading.{document_digest}
 use Rattle.doc_header.proofs.ReadingLaws.{recorded, written}
-use Rattle.fragment_table.specs.Table.{made_row}
+use Rattle.fragment_table.specs.Table.{TableRow, made_row}
 use Rattle.alternate_vector.specs.Field.{AreFields}
 use Rattle.alternate_vector.specs.Alternates.{Stored}
 use Rattle.cache_model.specs.declared.record.Rec.{Rec}
@@ -23,13 +23,14 @@ use Rattle.cache_model.specs.declared.record.Rec.TheVariants as rec
 use Rattle.cache_model.specs.declared.cause.Cause.TheVariants as cause
 use Rattle.cache_model.specs.declared.answer.ReadAnswer.TheVariants as read
 use Rattle.cache_model.specs.declared.answer.NextAnswer.TheVariants as next
-use Rattle.cache_model.specs.State.{State, Row, PutRow, Open, Complete, nothing_yet, after_all, list_of_piece, list_of_put, vector_piece}
+use Rattle.cache_model.specs.State.{State, Row, PutRow, ReaderRow, Open, Complete, nothing_yet, after_all, list_of_piece, list_of_put, placed_row, state_after, vector_piece}
 use Rattle.cache_model.specs.Permit.{Permit, Intent, Write, Fragment, Weigh, Finish, Commit, GiveUp, Look, ReadAll, StopReading, End, Stays, Done, Fails, Reason, Faulted, work_after}
 use Rattle.cache_model.specs.Room.{doc_at, placed_record, greatest_pin}
 use Rattle.cache_model.specs.Given
 use Rattle.cache_model.specs.Legal
 use Rattle.cache_model.specs.Legal.{Does, MayGrow, IsStep, AreLiveTo, IsWriting, aborted_record, format_records, next_fragment_of, vector_length, vector_payload}
 use Rattle.cache_model.proofs.Steps.{grows_on, grows_by}
+use Rattle.model_laws.proofs.Listed.{listed_by, none_next, own_is_listed}
 
 -- one group
 pub group : (p : Permit) (s : State) (i : Intent) (rest : List Intent) (why : Option Reason) (e : End) (added : List Rec) → Does p s i added e
@@ -67,7 +68,7 @@ formatted = after_all nothing_yet (format_records geometry)
 
 -- a device that did this in the step, the newest first
 abbrev did : List Call → Permit
-did events = record { packed = false; syncs = false; now = 0; area = 0; durable = 0; events = events }
+did events = record { packed = false; syncs = false; now = 0; area = 0; past = []; events = events }
 
 -- a device that did nothing
 abbrev idle : Permit
@@ -171,6 +172,17 @@ a_put_is_a_step = record {
 
 -- ---- a get that hits it and reads to the end
 
+abbrev cut_row : TableRow
+cut_row = made_row 4 (digest_of body).0
+
+-- the fragment as it was placed
+abbrev cut_piece : Row
+cut_piece = placed_row (state_after s1 (rec.Cut 1 1 4 (digest_of body))) (next_fragment_of w1) 64 1 (digest_of_document (doc_at s1 (next_fragment_of w1) 0 0) body) 0
+
+-- the reader, with what it takes next
+abbrev reading_on : List TableRow → ℕ → ReaderRow
+reading_on table next = record { actor = 0; reader = 1; key = k; put = 1; table = Some table; next = next }
+
 abbrev hit : List Rec
 hit = rec.ReadOpened 1 (record { 0 = 0 }) k [] (read.Hit 1) ∷ []
 
@@ -196,10 +208,10 @@ looks : Does idle s4 (Look 0 k []) hit Done
 looks = Legal.looks (record { who = record { 0 = 0 }; before = []; answer = read.Hit 1; number = refl; quiet = refl; right = Legal.IsLookup.verdict (Given.IsRead.buffered (lit≤ tt)); is = refl })
 
 gives : Does idle r0 (ReadAll 1) given Stays
-gives = Legal.DoesReadAll.reads_on (next.Gave 1 4) refl (record { r = _; before = []; quiet = refl; reading = refl; right = Legal.IsReading.verdict (Given.IsRead.buffered (lit≤ tt)); is = refl }) refl
+gives = Legal.DoesReadAll.reads_on (next.Gave 1 4) refl (record { r = _; before = []; quiet = refl; reading = refl; right = Legal.IsReading.verdict (Given.IsRead.buffered (lit≤ tt)) (listed_by r0 (reading_on (cut_row ∷ []) 1) cut_row cut_piece refl refl (own_is_listed cut_piece cut_row refl)); is = refl }) refl
 
 ends : Does idle r1 (ReadAll 1) ended Done
-ends = Legal.DoesReadAll.reads_on (next.Ended 4) refl (record { r = _; before = []; quiet = refl; reading = refl; right = Legal.IsReading.verdict tt; is = refl }) refl
+ends = Legal.DoesReadAll.reads_on (next.Ended 4) refl (record { r = _; before = []; quiet = refl; reading = refl; right = Legal.IsReading.verdict tt (none_next r1 (reading_on (cut_row ∷ []) 2) refl); is = refl }) refl
 
 stops : Does idle r2 (StopReading 1) stopped Done
 stops = Legal.closes _ refl refl refl
@@ -368,7 +380,7 @@ abbrev reading : Permit
 reading = did (Read 1 junk ∷ [])
 
 abbrev stored_row : Digest → Row
-stored_row kept = record { id = vector_piece k 1; place = 65; blocks = 1; digest = kept; pin = 0; alternates = Some [] }
+stored_row kept = record { id = vector_piece k 1; place = 65; blocks = 1; digest = kept; payload = None; pin = 0; alternates = Some [] }
 
 abbrev behind_vector : Digest → State
 behind_vector kept = record formatted { cursor = 66; rows = stored_row kept ∷ []; vectors = (k, Complete 1) ∷ [] }
@@ -420,7 +432,7 @@ abbrev empty_alternate : Stored
 empty_alternate = record { put = 1; pin = 0; length = 0; request = []; response = []; table = [] }
 
 abbrev kept_row : List ℕ → Row
-kept_row bytes = record { id = vector_piece k 1; place = 65; blocks = 1; digest = document_digest bytes; pin = 0; alternates = Some (empty_alternate ∷ []) }
+kept_row bytes = record { id = vector_piece k 1; place = 65; blocks = 1; digest = document_digest bytes; payload = None; pin = 0; alternates = Some (empty_alternate ∷ []) }
 
 abbrev kept_state : List ℕ → State
 kept_state bytes = record formatted { cursor = 66; rows = kept_row bytes ∷ []; vectors = (k, Complete 1) ∷ [] }
@@ -450,7 +462,7 @@ looks_up bytes whole small = Legal.looks (record {
 
 ends_empty : (bytes : List ℕ) → Does (giving bytes) (g1 bytes) (ReadAll 1) ended_empty Done
 ends_empty bytes =
-    Legal.DoesReadAll.reads_on (next.Ended 0) refl (record { r = _; before = []; quiet = refl; reading = refl; right = Legal.IsReading.verdict tt; is = refl }) refl
+    Legal.DoesReadAll.reads_on (next.Ended 0) refl (record { r = _; before = []; quiet = refl; reading = refl; right = Legal.IsReading.verdict tt (none_next (g1 bytes) (reading_on [] 1) refl); is = refl }) refl
 
 stops_empty : (bytes : List ℕ) → Does (giving bytes) (g2 bytes) (StopReading 1) stopped Done
 stops_empty bytes = Legal.closes _ refl refl refl

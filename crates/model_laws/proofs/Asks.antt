@@ -48,10 +48,10 @@ group_silent : {p : Permit} {s : State} {i : Intent} {added : List Rec} {e : End
 group_silent {added = added} off (Grouped.Grouped.plain h) = all_as IsPlain (λ r. is_of_sync r ≡ false) (λ r x. leaves_silent r x.1) added h
 group_silent {added = added} off (Grouped.Grouped.inserts unmarked h) = all_as IsOfInsert (λ r. is_of_sync r ≡ false) (λ r x. leaves_silent r (insert_leaves r x)) added h
 group_silent {added = added} off (Grouped.Grouped.flushes none h) = all_as LeavesSyncs (λ r. is_of_sync r ≡ false) leaves_silent added h
-group_silent off (Grouped.Grouped.syncs f d) = never off (sync_on d)
+group_silent off (Grouped.Grouped.syncs f first some d) = never off (sync_on d)
 group_silent off (Grouped.Grouped.ends on h) = never off on
 group_silent off (Grouped.Grouped.cleans is d) = never off (clean_on d)
-group_silent off (Grouped.Grouped.unmarks u) = never off (unmark_on u)
+group_silent off (Grouped.Grouped.unmarks t u) = never off (unmark_on u)
 
 pub no_sync_is_recorded : (p : Permit) (s : State) (i : Intent) (added : List Rec) (e : End) → p.syncs ≡ false → Does p s i added e → TellNoSync added
 no_sync_is_recorded p s i added e off d = group_silent off (grouped p s i added e d)
@@ -98,10 +98,10 @@ group_unplaced : (p : Permit) (s : State) (i : Intent) (added : List Rec) (e : E
 group_unplaced p s i added e on must none (Grouped.Grouped.plain h) = all_as IsPlain (λ r. is_placement r ≡ false) (λ r x. leaves_unplaced r x.0) added h
 group_unplaced p s i added e on must none (Grouped.Grouped.inserts unmarked h) = no_truth (sym must ∙ unmarked)
 group_unplaced p s i added e on must none (Grouped.Grouped.flushes off h) = never off on
-group_unplaced p s i added e on must none (Grouped.Grouped.syncs f d) = split_unplaced none (sync_splits p (way_of i) s added f d)
+group_unplaced p s i added e on must none (Grouped.Grouped.syncs f first some d) = split_unplaced none (sync_splits p (way_of i) s added f d)
 group_unplaced p s i added e on must none (Grouped.Grouped.ends o h) = all_as IsEnding (λ r. is_placement r ≡ false) ending_unplaced added h
 group_unplaced p s i added e on must none (Grouped.Grouped.cleans is d) = aside_unplaced added (clean_aside p s added e d)
-group_unplaced p s i added e on must none (Grouped.Grouped.unmarks u) = aside_unplaced added (unmark_aside p s added e u)
+group_unplaced p s i added e on must none (Grouped.Grouped.unmarks t u) = aside_unplaced added (unmark_aside p s added e u)
 
 pub marked_places_nothing : (p : Permit) (s : State) (i : Intent) (added : List Rec) (e : End) → p.syncs ≡ true → s.marked ≡ true → s.filled ≡ 0
     → Does p s i added e → AllByRecursion (λ (r : Rec). is_placement r ≡ false) added
@@ -157,15 +157,15 @@ pub begins_behind : (p : Permit) (s : State) (i : Intent) (added : List Rec) (e 
 begins_behind p s i added e cursor floor on (Grouped.Grouped.plain h) among = absurd (among_holds IsPlain (rec.Began cursor floor) added h among).0
 begins_behind p s i added e cursor floor on (Grouped.Grouped.inserts unmarked h) among = absurd (among_holds IsOfInsert (rec.Began cursor floor) added h among)
 begins_behind p s i added e cursor floor on (Grouped.Grouped.flushes off h) among = never off on
-begins_behind p s i added e cursor floor on (Grouped.Grouped.syncs f d) among = elim (sync_splits p (way_of i) s added f d) [
+begins_behind p s i added e cursor floor on (Grouped.Grouped.syncs f first some d) among = elim (sync_splits p (way_of i) s added f d) [
   | inl m ↦ m
   | inr beside ↦ absurd (among_holds IsAside (rec.Began cursor floor) added beside among).0
 ]
 begins_behind p s i added e cursor floor on (Grouped.Grouped.ends o h) among = absurd (among_holds IsEnding (rec.Began cursor floor) added h among)
 begins_behind p s i added e cursor floor on (Grouped.Grouped.cleans is d) among = absurd (among_holds IsAside (rec.Began cursor floor) added (clean_aside p s added e d) among).0
-begins_behind p s i added e cursor floor on (Grouped.Grouped.unmarks u) among = absurd (among_holds IsAside (rec.Began cursor floor) added (unmark_aside p s added e u) among).0
+begins_behind p s i added e cursor floor on (Grouped.Grouped.unmarks t u) among = absurd (among_holds IsAside (rec.Began cursor floor) added (unmark_aside p s added e u) among).0
 
-first_is : (k : Syncing) (s : State) (serial : ℕ) → s.running ≡ Some serial → ends_first k s ≡ true → first_records k s ≡ rec.SyncDone serial ∷ []
+pub first_is : (k : Syncing) (s : State) (serial : ℕ) → s.running ≡ Some serial → ends_first k s ≡ true → first_records k s ≡ rec.SyncDone serial ∷ []
 first_is k s serial running first = ap (λ b. if b then ended_records s else []) first ∙ ap (λ r. option_to_list (option_map rec.SyncDone r)) running
 
 pub ended_first : (p : Permit) (s : State) (i : Intent) (added : List Rec) (e : End) (serial cursor floor : ℕ) → p.syncs ≡ true

@@ -1,7 +1,7 @@
 -- Each record of a step at the state before it: the device did what damage and faults say, faults are new,
 -- and numbers follow.
-use Rattle.std.proofs.Common.{◌≡◌, ℕ, List, [], ◌∷◌, ◌++◌, refl, sym, ap, subst, true, false, inl, inr, Bool}
-use Rattle.std.specs.Prelude.{Option, map, length}
+use Rattle.std.proofs.Common.{◌≡◌, ℕ, List, [], ◌∷◌, ◌++◌, refl, sym, subst, true, false, inl, inr, Bool}
+use Rattle.std.specs.Prelude.{Option, Some, map, length}
 use Rattle.device_log.specs.Calls.{Asked}
 use Rattle.tape_base.specs.Digest.{digest_of}
 use Rattle.tape_base.specs.Geometry.{budget_of}
@@ -16,12 +16,14 @@ use Rattle.cache_model.specs.declared.record.Rec.{Rec}
 use Rattle.alternate_vector.specs.Field.{Field}
 use Rattle.tape_base.specs.declared.keys.Key.{Key}
 use Rattle.cache_model.specs.declared.record.Rec.TheVariants as rec
-use Rattle.cache_model.specs.State.{State, Row, ReaderRow, state_after, after_all, cursor_next}
+use Rattle.cache_model.specs.State.{State, Row, ReaderRow, state_after, after_all, cursor_next, live_row_of}
+use Rattle.cache_model.specs.Verdict.{next_piece}
 use Rattle.cache_model.specs.Permit.{Permit, Intent, Flush, Sync, SyncBegin, SyncStep, Drain, CleanSync, Write, Fragment, Overflow, Weigh, Finish, Commit, GiveUp, Remove, Look, ReadOn, ReadAll, StopReading, End, Work, Reason}
 use Rattle.cache_model.specs.Room.{MayDisplace, displaced_record}
 use Rattle.cache_model.specs.Given
 use Rattle.cache_model.specs.Legal
 use Rattle.cache_model.specs.Legal.{Does, Advances, MayGrow, nothing, more, IsStep, answer_record}
+use Rattle.model_laws.specs.FlushLaws.{IsOfDevice}
 use Rattle.model_laws.specs.StepLaws.{AllAlong, IsBacked, IsNumbered, IsRisen}
 use Rattle.cache_model.specs.Due.{due_pieces}
 use Rattle.cache_model.specs.Outcomes.{Copied, Copy, NoRoom, Outcome, Refused, Spoiled, copies_of, flush_tail, front_of, moved_record, moved_records, records_of, stopped_front_of, stopped_records_of}
@@ -30,6 +32,8 @@ use Rattle.cache_model.specs.Syncing.{CannotEnd, DoesCleanSync, DoesSync, DoesSy
 use Rattle.cache_model.proofs.Steps.{all_append}
 use Rattle.cache_model.proofs.Syncing.{AreOfSyncs, IsOfSync, after_syncs, behind_of, ended_of, first_of, sync_of, unmark_of}
 use Rattle.model_laws.proofs.Alike.{IsAlike, counts_alike, outcomes_alike}
+use Rattle.model_laws.proofs.Among.{call_made}
+use Rattle.model_laws.proofs.Listed.{live_by_row, payload_told}
 use Rattle.model_laws.proofs.BackedFlush.{along_append, front_is_backed, risen, stopped_front, stopped_is_backed}
 
 -- what is said of a record, all together
@@ -57,7 +61,7 @@ displaced : (p : Permit) (s t : State) (piece : PieceId) (added : List Rec) → 
 displaced p s t piece added m = as_given p t added _ m.is (displacements p t _ _ m.purged)
 
 damage : (p : Permit) (s : State) (row : Row) (found : Digest) → Given.IsDamaged p s row found → IsRight p s (Given.damage_record row row.digest found)
-damage p s row found d = ((record { bytes = d.bytes; given = d.given.given; digest = inl d.digest }, d.differ), tt, tt)
+damage p s row found d = ((inl (record { bytes = d.bytes; given = d.given.given; digest = d.digest }), d.differ), tt, tt)
 
 fault : (p : Permit) (s : State) (asked : Asked) (count : ℕ) → Given.MayCount p s asked count → IsRight p s (rec.Fault count)
 fault p s asked count m = ((asked, m.refused), tt, risen p s asked count m)
@@ -69,9 +73,14 @@ trouble p s row before why (Given.Trouble.damaged found d) = ((damage p s row fo
 
 -- ---- a flush
 
-all_right : (p : Permit) (s : State) (recs : List Rec) → AllAlong (IsRisen p) s recs × AllAlong (IsBacked p) s recs → AllAlong IsNumbered s recs → AllRight p s recs
+backed : (p : Permit) (s : State) (r : Rec) → IsOfDevice p s r → IsBacked p s r
+backed p s (rec.Damaged piece place kept found) h = (inl h.0, h.1)
+backed p s (rec.Fault count) h = h
+backed p s _ h = tt
+
+all_right : (p : Permit) (s : State) (recs : List Rec) → AllAlong (IsRisen p) s recs × AllAlong (IsOfDevice p) s recs → AllAlong IsNumbered s recs → AllRight p s recs
 all_right p s [] h numbered = tt
-all_right p s (r ∷ recs) h numbered = ((h.1.0, numbered.0, h.0.0), all_right p (state_after s r) recs (h.0.1, h.1.1) numbered.1)
+all_right p s (r ∷ recs) h numbered = ((backed p s r h.1.0, numbered.0, h.0.0), all_right p (state_after s r) recs (h.0.1, h.1.1) numbered.1)
 
 -- it numbers nothing
 one_numbered : (s : State) (row : Row) (o : Outcome) → AllAlong IsNumbered s (records_of row o)
@@ -168,7 +177,7 @@ goes p k s added m =
 -- what was begun before the device stopped the flush, and the call for which it did
 begun_of : (p : Permit) (k : Syncing) (s : State) (front : List Rec) (count : ℕ) (begun : List Rec) → StopsBehind p k s front count begun
     → AreOfSyncs begun × ((asked : Asked) × Given.MayCount p (after_all s front) asked count)
-begun_of p k s front count begun (Syncing.StopsBehind.buffer c) = (tt, (_, c.counts))
+begun_of p k s front count begun (Syncing.StopsBehind.buffer c) = (tt, (_, record { rose = c.rose; refused = call_made p _ c.older c.refused }))
 begun_of p k s front count begun (Syncing.StopsBehind.ended t n r c) = (tt, (c.asked, c.counts))
 begun_of p k s front count begun (Syncing.StopsBehind.whole t n c) =
     (all_append IsOfSync (ended_records s) (begun_record s (cursor_next s) false false ∷ []) (ended_of s) (tt, tt), (c.asked, c.counts))
@@ -206,6 +215,7 @@ sync_step p s last added e (Syncing.DoesSyncStep.stays count on quiet c) = canno
 
 clean_sync : (p : Permit) (s : State) (added : List Rec) (e : End) → DoesCleanSync p s added e → AllRight p s added
 clean_sync p s added e (Syncing.DoesCleanSync.moving on quiet some is) = as_given p s added [] is tt
+clean_sync p s added e (Syncing.DoesCleanSync.runs serial on quiet none running is) = as_given p s added [] is tt
 clean_sync p s added e (Syncing.DoesCleanSync.syncs on quiet none rests below is) = as_given p s added _ is ((tt, tt, tt), silent)
 clean_sync p s added e (Syncing.DoesCleanSync.stops count on quiet none rests below c is) =
     as_given p s added _ is (fault_behind p s (begun_record s s.cursor true false ∷ []) c.asked count (tt, tt) c.counts)
@@ -238,14 +248,16 @@ lookup : (p : Permit) (s : State) (key : Key) (request : List Field) (before : L
 lookup p s key request before answer (Legal.IsLookup.verdict r) = (tt, refl)
 lookup p s key request before answer (Legal.IsLookup.trouble row b why live t) = trouble p s row before why t
 
-fragment_trouble : (p : Permit) (s : State) (r : ReaderRow) (row : Row) (entry : TableRow) (before : List Rec) (why : Cause) → Legal.ReadTrouble p s r row entry before why → AllRight p s before
-fragment_trouble p s r row entry before why (Legal.ReadTrouble.troubled b c t) = (trouble p s row before why t).0
-fragment_trouble p s r row entry before why (Legal.ReadTrouble.mismatched found hit m) =
-    (((record { bytes = m.bytes; given = m.given.given; digest = inr m.digest }, λ q. m.differ (ap (λ (d : Digest). d.0) q)), tt, tt), tt)
+fragment_trouble : (p : Permit) (s : State) (id : PieceId) (row : Row) (entry : TableRow) (before : List Rec) (why : Cause) → live_row_of s id ≡ Some row
+    → Legal.ReadTrouble p s row entry before why → AllRight p s before
+fragment_trouble p s id row entry before why live (Legal.ReadTrouble.troubled b c t) = (trouble p s row before why t).0
+fragment_trouble p s id row entry before why live (Legal.ReadTrouble.mismatched found read unlike) =
+    let own : live_row_of s row.id ≡ Some row = live_by_row s id row live in
+    (((inr (record { row = row; live = own; there = refl; read = read; payload = payload_told s row.id row entry found own unlike }), unlike.differ), tt, tt), tt)
 
 reading : (p : Permit) (s : State) (r : ReaderRow) (before : List Rec) (answer : NextAnswer) → Legal.IsReading p s r before answer → AllRight p s before
-reading p s r before answer (Legal.IsReading.verdict x) = tt
-reading p s r before answer (Legal.IsReading.trouble entry row b why n live t) = fragment_trouble p s r row entry before why t
+reading p s r before answer (Legal.IsReading.verdict x listed) = tt
+reading p s r before answer (Legal.IsReading.trouble entry row b why n live t) = fragment_trouble p s (next_piece r) row entry before why live t
 
 answered : (p : Permit) (s : State) (reader : ℕ) (answer : NextAnswer) → IsRight p s (answer_record reader answer)
 answered p s reader (next.Gave index length) = (tt, tt, tt)

@@ -150,6 +150,7 @@ drain_leaves p s added e (Legal.DoesDrain.syncs none some d) = syncs_leave p AtO
 
 clean_leaves : (p : Permit) (s : State) (added : List Rec) (e : End) → DoesCleanSync p s added e → AllLeaveCounts added
 clean_leaves p s added e (Syncing.DoesCleanSync.moving on quiet some is) = leave_as added [] is tt
+clean_leaves p s added e (Syncing.DoesCleanSync.runs serial on quiet none running is) = leave_as added [] is tt
 clean_leaves p s added e (Syncing.DoesCleanSync.syncs on quiet empty rests below is) = leave_as added _ is (tt, (tt, tt))
 clean_leaves p s added e (Syncing.DoesCleanSync.stops count on quiet empty rests below c is) = leave_as added _ is (tt, (tt, tt))
 clean_leaves p s added e (Syncing.DoesCleanSync.exhausted on quiet empty rests high is) = leave_as added [] is tt
@@ -185,13 +186,13 @@ lookup_leaves : (p : Permit) (s : State) (key : Key) (request : List Field) (bef
 lookup_leaves p s key request before answer (Legal.IsLookup.verdict r) = tt
 lookup_leaves p s key request before answer (Legal.IsLookup.trouble row b why live t) = trouble_leaves p s row before why t
 
-fragment_leaves : (p : Permit) (s : State) (r : ReaderRow) (row : Row) (entry : TableRow) (before : List Rec) (why : Cause) → Legal.ReadTrouble p s r row entry before why → AllLeaveCounts before
-fragment_leaves p s r row entry before why (Legal.ReadTrouble.troubled b c t) = trouble_leaves p s row before why t
-fragment_leaves p s r row entry before why (Legal.ReadTrouble.mismatched found hit m) = (tt, tt)
+fragment_leaves : (p : Permit) (s : State) (row : Row) (entry : TableRow) (before : List Rec) (why : Cause) → Legal.ReadTrouble p s row entry before why → AllLeaveCounts before
+fragment_leaves p s row entry before why (Legal.ReadTrouble.troubled b c t) = trouble_leaves p s row before why t
+fragment_leaves p s row entry before why (Legal.ReadTrouble.mismatched found read unlike) = (tt, tt)
 
 reading_leaves : (p : Permit) (s : State) (r : ReaderRow) (before : List Rec) (answer : NextAnswer) → Legal.IsReading p s r before answer → AllLeaveCounts before
-reading_leaves p s r before answer (Legal.IsReading.verdict x) = tt
-reading_leaves p s r before answer (Legal.IsReading.trouble entry row b why n live t) = fragment_leaves p s r row entry before why t
+reading_leaves p s r before answer (Legal.IsReading.verdict x listed) = tt
+reading_leaves p s r before answer (Legal.IsReading.trouble entry row b why n live t) = fragment_leaves p s row entry before why t
 
 answer_leaves : (reader : ℕ) (answer : NextAnswer) → LeavesCounts (answer_record reader answer)
 answer_leaves reader (next.Gave index length) = tt
@@ -207,7 +208,7 @@ displacements : (segment live : ℕ) (rows : List Row) → AllLeaveCounts (map (
 displacements segment live [] = tt
 displacements segment live (row ∷ rows) = (tt, displacements segment live rows)
 
-displaced_leaves : (p : Permit) (s : State) (piece : PieceId) (added : List Rec) → MayDisplace p s piece added → AllLeaveCounts added
+pub displaced_leaves : (p : Permit) (s : State) (piece : PieceId) (added : List Rec) → MayDisplace p s piece added → AllLeaveCounts added
 displaced_leaves p s piece added m = leave_as added _ m.is (displacements _ _ m.purged)
 
 -- ---- each group
@@ -262,52 +263,70 @@ committed s put added e (Legal.DoesCommit.commits w found still pending is) h =
 opened : (s : State) (actor : ℕ) (key : Key) (request response : List Field) (pin : ℕ) (added : List Rec) → Legal.MayOpenWrite s actor key request response pin added → AreCounted s → AreCounted (after_all s added)
 opened s actor key request response pin added m h = subst (λ xs. AreCounted (after_all s xs)) (sym m.is) (counted_opened s m.who.0 key request response pin _ refl h)
 
-nothing_added : (s : State) (added : List Rec) → added ≡ [] → AreCounted s → AreCounted (after_all s added)
-nothing_added s added is h = leaves s added (leave_as added [] is tt) h
+-- what a group is: it leaves what is told, or it begins a put, places a piece or commits
+pub data Parts (p : Permit) (s : State) (added : List Rec) (e : End) : Type 0 where
+  left : AllLeaveCounts added → Parts p s added e
+  opens : {actor : ℕ} {key : Key} {request response : List Field} {pin : ℕ} → Legal.MayOpenWrite s actor key request response pin added → Parts p s added e
+  cuts : (put index : ℕ) (payload : List ℕ) → Legal.MayPlaceFragment p s put index payload added → Parts p s added e
+  lists : (put fragments : ℕ) → Legal.MayPlaceVector p s put fragments added → Parts p s added e
+  commits : (put : ℕ) → Legal.DoesCommit s put added e → Parts p s added e
 
-one_added : (s : State) (added : List Rec) (r : Rec) → added ≡ r ∷ [] → LeavesCounts r → AreCounted s → AreCounted (after_all s added)
-one_added s added r is one h = leaves s added (leave_as added (r ∷ []) is (one, tt)) h
+none_added : {p : Permit} {s : State} {added : List Rec} {e : End} → added ≡ [] → Parts p s added e
+none_added {added = added} is = left (leave_as added [] is tt)
+
+one_added : {p : Permit} {s : State} {added : List Rec} {e : End} (r : Rec) → added ≡ r ∷ [] → LeavesCounts r → Parts p s added e
+one_added {added = added} r is one = left (leave_as added (r ∷ []) is (one, tt))
+
+pub parts : (p : Permit) (s : State) (i : Intent) (added : List Rec) (e : End) → Does p s i added e → Parts p s added e
+parts p s Flush added e (Legal.DoesFlush.empty q f is) = none_added is
+parts p s Flush added e (Legal.DoesFlush.flushes m) = left (flush_leaves p s added m)
+parts p s Flush added e (Legal.DoesFlush.stops count m) = left (stop_leaves p s count added m)
+parts p s Flush added e (Legal.DoesFlush.exhausted q f b is) = none_added is
+parts p s Flush added e (Legal.DoesFlush.syncs d) = left (syncs_leave p _ s added e d)
+parts p s Sync added e d = left (syncs_leave p _ s added e d)
+parts p s SyncBegin added e d = left (syncs_leave p _ s added e d)
+parts p s (SyncStep last) added e d = left (step_leaves p s last added e d)
+parts p s Drain added e d = left (drain_leaves p s added e d)
+parts p s CleanSync added e d = left (clean_leaves p s added e d)
+parts p s (Write actor key request response pin) added e (Legal.DoesWrite.opens m) = opens m
+parts p s (Write actor key request response pin) added e (Legal.DoesWrite.many q m is) = none_added is
+parts p s (Write actor key request response pin) added e (Legal.DoesWrite.exhausted q m l is) = none_added is
+parts p s (Fragment put index payload) added e (Legal.DoesFragment.places d m) = cuts put index payload m
+parts p s (Fragment put index payload) added e (Legal.DoesFragment.unmarks w n q u) = left (unmark_leaves p s added e u)
+parts p s (Fragment put index payload) added e (Legal.DoesFragment.rooms w n m) = left (room_leaves p s _ added e m)
+parts p s (Fragment put index payload) added e (Legal.DoesFragment.exhausted w x n q) = none_added q.is
+parts p s (Overflow put) added e (Legal.DoesOverflow.aborts w q l is) = one_added _ is tt
+parts p s (Weigh put rest) added e (Legal.DoesWeigh.weighs w q r f is) = none_added is
+parts p s (Weigh put rest) added e (Legal.DoesWeigh.too_large w q r f is) = one_added _ is tt
+parts p s (Weigh put rest) added e (Legal.DoesWeigh.damaged w row found q live d is) = one_added _ is tt
+parts p s (Weigh put rest) added e (Legal.DoesWeigh.faulted w row count q live r m is) = one_added _ is tt
+parts p s (Finish put fragments) added e (Legal.DoesFinish.places d m) = lists put fragments m
+parts p s (Finish put fragments) added e (Legal.DoesFinish.unmarks w c l q u) = left (unmark_leaves p s added e u)
+parts p s (Finish put fragments) added e (Legal.DoesFinish.rooms w c m) = left (room_leaves p s _ added e m)
+parts p s (Finish put fragments) added e (Legal.DoesFinish.exhausted w x c l q) = none_added q.is
+parts p s (Finish put fragments) added e (Legal.DoesFinish.loses w index d m is) = one_added _ is tt
+parts p s (Commit put) added e d = commits put d
+parts p s (GiveUp put) added e (Legal.DoesGiveUp.aborts w q is) = one_added _ is tt
+parts p s (GiveUp put) added e (Legal.DoesGiveUp.over q o is) = none_added is
+parts p s (Remove key) added e (Legal.DoesRemove.removes row q l is) = one_added _ is tt
+parts p s (Remove key) added e (Legal.DoesRemove.absent q l is) = none_added is
+parts p s (Look actor key request) added e (Legal.DoesLook.looks m) =
+    left (leave_as added _ m.is (all_append LeavesCounts m.before _ (lookup_leaves p s key request m.before m.answer m.right) (tt, tt)))
+parts p s (ReadOn reader) added e (Legal.DoesReadOn.reads_on answer m) = left (read_leaves p s reader answer added m)
+parts p s (ReadAll reader) added e (Legal.DoesReadAll.reads_on answer x m y) = left (read_leaves p s reader answer added m)
+parts p s (ReadAll reader) added e (Legal.DoesReadAll.has_none q x is y) = none_added is
+parts p s (StopReading reader) added e (Legal.DoesStopReading.closes r q l is) = one_added _ is tt
+parts p s (StopReading reader) added e (Legal.DoesStopReading.closed q l is) = none_added is
+
+counted_part : (p : Permit) (s : State) (added : List Rec) (e : End) → AreCounted s → Parts p s added e → AreCounted (after_all s added)
+counted_part p s added e h (left all) = leaves s added all h
+counted_part p s added e h (opens m) = opened s _ _ _ _ _ added m h
+counted_part p s added e h (cuts put index payload m) = fragment_placed p s put index payload added m h
+counted_part p s added e h (lists put fragments m) = vector_placed p s put fragments added m h
+counted_part p s added e h (commits put d) = committed s put added e d h
 
 pub counted_group : (p : Permit) (s : State) (i : Intent) (added : List Rec) (e : End) → AreCounted s → Does p s i added e → AreCounted (after_all s added)
-counted_group p s Flush added e h (Legal.DoesFlush.empty q f is) = nothing_added s added is h
-counted_group p s Flush added e h (Legal.DoesFlush.flushes m) = leaves s added (flush_leaves p s added m) h
-counted_group p s Flush added e h (Legal.DoesFlush.stops count m) = leaves s added (stop_leaves p s count added m) h
-counted_group p s Flush added e h (Legal.DoesFlush.exhausted q f b is) = nothing_added s added is h
-counted_group p s Flush added e h (Legal.DoesFlush.syncs d) = leaves s added (syncs_leave p _ s added e d) h
-counted_group p s Sync added e h d = leaves s added (syncs_leave p _ s added e d) h
-counted_group p s SyncBegin added e h d = leaves s added (syncs_leave p _ s added e d) h
-counted_group p s (SyncStep last) added e h d = leaves s added (step_leaves p s last added e d) h
-counted_group p s Drain added e h d = leaves s added (drain_leaves p s added e d) h
-counted_group p s CleanSync added e h d = leaves s added (clean_leaves p s added e d) h
-counted_group p s (Write actor key request response pin) added e h (Legal.DoesWrite.opens m) = opened s actor key request response pin added m h
-counted_group p s (Write actor key request response pin) added e h (Legal.DoesWrite.many q m is) = nothing_added s added is h
-counted_group p s (Write actor key request response pin) added e h (Legal.DoesWrite.exhausted q m l is) = nothing_added s added is h
-counted_group p s (Fragment put index payload) added e h (Legal.DoesFragment.places d m) = fragment_placed p s put index payload added m h
-counted_group p s (Fragment put index payload) added e h (Legal.DoesFragment.unmarks w n q u) = leaves s added (unmark_leaves p s added e u) h
-counted_group p s (Fragment put index payload) added e h (Legal.DoesFragment.rooms w n m) = leaves s added (room_leaves p s _ added e m) h
-counted_group p s (Fragment put index payload) added e h (Legal.DoesFragment.exhausted w x n q) = nothing_added s added q.is h
-counted_group p s (Overflow put) added e h (Legal.DoesOverflow.aborts w q l is) = one_added s added _ is tt h
-counted_group p s (Weigh put rest) added e h (Legal.DoesWeigh.weighs w q r f is) = nothing_added s added is h
-counted_group p s (Weigh put rest) added e h (Legal.DoesWeigh.too_large w q r f is) = one_added s added _ is tt h
-counted_group p s (Weigh put rest) added e h (Legal.DoesWeigh.damaged w row found q live d is) = one_added s added _ is tt h
-counted_group p s (Weigh put rest) added e h (Legal.DoesWeigh.faulted w row count q live r m is) = one_added s added _ is tt h
-counted_group p s (Finish put fragments) added e h (Legal.DoesFinish.places d m) = vector_placed p s put fragments added m h
-counted_group p s (Finish put fragments) added e h (Legal.DoesFinish.unmarks w c l q u) = leaves s added (unmark_leaves p s added e u) h
-counted_group p s (Finish put fragments) added e h (Legal.DoesFinish.rooms w c m) = leaves s added (room_leaves p s _ added e m) h
-counted_group p s (Finish put fragments) added e h (Legal.DoesFinish.exhausted w x c l q) = nothing_added s added q.is h
-counted_group p s (Finish put fragments) added e h (Legal.DoesFinish.loses w index d m is) = one_added s added _ is tt h
-counted_group p s (Commit put) added e h d = committed s put added e d h
-counted_group p s (GiveUp put) added e h (Legal.DoesGiveUp.aborts w q is) = one_added s added _ is tt h
-counted_group p s (GiveUp put) added e h (Legal.DoesGiveUp.over q o is) = nothing_added s added is h
-counted_group p s (Remove key) added e h (Legal.DoesRemove.removes row q l is) = one_added s added _ is tt h
-counted_group p s (Remove key) added e h (Legal.DoesRemove.absent q l is) = nothing_added s added is h
-counted_group p s (Look actor key request) added e h (Legal.DoesLook.looks m) =
-    leaves s added (leave_as added _ m.is (all_append LeavesCounts m.before _ (lookup_leaves p s key request m.before m.answer m.right) (tt, tt))) h
-counted_group p s (ReadOn reader) added e h (Legal.DoesReadOn.reads_on answer m) = leaves s added (read_leaves p s reader answer added m) h
-counted_group p s (ReadAll reader) added e h (Legal.DoesReadAll.reads_on answer x m y) = leaves s added (read_leaves p s reader answer added m) h
-counted_group p s (ReadAll reader) added e h (Legal.DoesReadAll.has_none q x is y) = nothing_added s added is h
-counted_group p s (StopReading reader) added e h (Legal.DoesStopReading.closes r q l is) = one_added s added _ is tt h
-counted_group p s (StopReading reader) added e h (Legal.DoesStopReading.closed q l is) = nothing_added s added is h
+counted_group p s i added e h d = counted_part p s added e h (parts p s i added e d)
 
 -- ---- each step
 

@@ -23,7 +23,7 @@ use Rattle.model_laws.specs.VectorLaws.{AreCounted, IsOver}
 
 -- ---- a put that is changed
 
-abbrev changed : ℕ → (PutRow → PutRow) → PutRow → PutRow
+abbrev pub changed : ℕ → (PutRow → PutRow) → PutRow → PutRow
 changed put f p = if p.put == put then f p else p
 
 module _ (put : ℕ) (f : PutRow → PutRow) (keeps : (p : PutRow) → (f p).put ≡ p.put) where
@@ -98,7 +98,7 @@ gone_by : (row : Row) (o : Option Row) (b : Bool) → (if b then None else o) �
 gone_by row o true h = none_is h
 gone_by row o false h = h
 
-without_found : (piece id : PieceId) (rows : List Row) (row : Row) → row_in (without piece rows) id ≡ Some row → row_in rows id ≡ Some row
+pub without_found : (piece id : PieceId) (rows : List Row) (row : Row) → row_in (without piece rows) id ≡ Some row → row_in rows id ≡ Some row
 without_found piece id rows row h = gone_by row (row_in rows id) (same_piece piece id) (sym (row_in-without piece id rows) ∙ h)
 
 earlier_by : (key : Key) (put old : ℕ) (rows : List Row) (id : PieceId) (row : Row) (b : Bool)
@@ -106,7 +106,7 @@ earlier_by : (key : Key) (put old : ℕ) (rows : List Row) (id : PieceId) (row :
 earlier_by key put old rows id row true h = h
 earlier_by key put old rows id row false h = without_found (vector_piece key old) id rows row h
 
-earlier_found : (key : Key) (put : ℕ) (last : Option LastVector) (rows : List Row) (id : PieceId) (row : Row)
+pub earlier_found : (key : Key) (put : ℕ) (last : Option LastVector) (rows : List Row) (id : PieceId) (row : Row)
     → row_in (without_earlier key put last rows) id ≡ Some row → row_in rows id ≡ Some row
 earlier_found key put (Some (Complete old)) rows id row h = earlier_by key put old rows id row (old == put) h
 earlier_found key put (Some (TakenOut old)) rows id row h = h

@@ -290,14 +290,14 @@ same_look : {p q : Permit} {s : State} {actor : ℕ} {key : Key} {request : List
     → DoesLook p s actor key request a e → DoesLook q s actor key request b f → Same a b e f
 same_look calm calm2 (Legal.DoesLook.looks m) (Legal.DoesLook.looks n) = (looks_alike calm calm2 m n, refl)
 
-read_trouble_told : {p : Permit} {s : State} {r : ReaderRow} {row : Row} {entry : TableRow} {before : List Rec} {why : Cause} (rest : List Rec)
-    → ReadTrouble p s r row entry before why → IsUntroubled (before ++ rest) → ⊥
+read_trouble_told : {p : Permit} {s : State} {row : Row} {entry : TableRow} {before : List Rec} {why : Cause} (rest : List Rec)
+    → ReadTrouble p s row entry before why → IsUntroubled (before ++ rest) → ⊥
 read_trouble_told rest (Legal.ReadTrouble.troubled before why trouble) calm = trouble_told rest trouble calm
-read_trouble_told rest (Legal.ReadTrouble.mismatched found hit m) calm = no_truth calm.0
+read_trouble_told rest (Legal.ReadTrouble.mismatched found read unlike) calm = no_truth calm.0
 
 reading_calm : {p : Permit} {s : State} {r : ReaderRow} {before : List Rec} {answer : NextAnswer} (rest : List Rec)
     → IsReading p s r before answer → IsUntroubled (before ++ rest) → (before ≡ []) × (answer ≡ reader_verdict s r)
-reading_calm rest (Legal.IsReading.verdict read) calm = (refl, refl)
+reading_calm rest (Legal.IsReading.verdict read listed) calm = (refl, refl)
 reading_calm rest (Legal.IsReading.trouble entry row before why next live trouble) calm = absurd (read_trouble_told rest trouble calm)
 
 read_calm : {p : Permit} {s : State} {reader : ℕ} {x : NextAnswer} {a : List Rec} → IsUntroubled a → (m : MayReadOn p s reader x a) → (m.before ≡ []) × (x ≡ reader_verdict s m.r)

@@ -1,7 +1,7 @@
--- A faithful device tells no trouble, and gives no two documents for one piece: what is asked fixes the
--- records of a group and how it ends.
-use Rattle.std.proofs.Common.{◌≡◌, ℕ, List, [], ◌∷◌, ◌++◌, refl, sym, ◌∙◌, ap, subst, false, inl, inr}
-use Rattle.std.specs.Prelude.{Option, Some, None, option_and_then, take}
+-- A faithful device tells no trouble, but of a payload that is not the one that is listed, which the records fix; and it
+-- gives no two documents for one piece: what is asked fixes the records of a group and how it ends.
+use Rattle.std.proofs.Common.{◌≡◌, ℕ, List, [], ◌∷◌, ◌++◌, refl, sym, ◌∙◌, ap, subst, Bool, true, false, inl, inr}
+use Rattle.std.specs.Prelude.{Option, Some, None, cond, option_and_then, take}
 use Rattle.tape_base.specs.declared.digests.Digest.{Digest}
 use Rattle.tape_base.specs.declared.keys.Key.{Key}
 use Rattle.tape_base.specs.declared.pieces.PieceId.{PieceId}
@@ -15,19 +15,19 @@ use Rattle.cache_model.specs.declared.answer.NextAnswer.{NextAnswer}
 use Rattle.cache_model.specs.declared.answer.NextAnswer.TheVariants as next
 use Rattle.cache_model.specs.declared.record.Rec.{Rec}
 use Rattle.cache_model.specs.State.{State, Row, ReaderRow, live_row_of, reader_of}
-use Rattle.cache_model.specs.Verdict.{live_vector_of, next_piece, next_row, vector_of}
-use Rattle.cache_model.specs.Permit.{Permit, Intent, Flush, Sync, SyncBegin, SyncStep, Drain, CleanSync, Write, Fragment, Overflow, Weigh, Finish, Commit, GiveUp, Remove, Look, ReadOn, ReadAll, StopReading, End}
+use Rattle.cache_model.specs.Verdict.{digest_in, live_vector_of, next_piece, next_row, vector_of}
+use Rattle.cache_model.specs.Permit.{Permit, Intent, Flush, Sync, SyncBegin, SyncStep, Drain, CleanSync, Write, Fragment, Overflow, Weigh, Finish, Commit, GiveUp, Remove, Look, ReadOn, ReadAll, StopReading, End, Stays, Done}
 use Rattle.model_laws.specs.Choices.{IsFaithful}
 use Rattle.cache_model.specs.Given
-use Rattle.cache_model.specs.Given.{Trouble}
+use Rattle.cache_model.specs.Given.{Trouble, damage_cause, damage_record}
 use Rattle.cache_model.specs.Legal
-use Rattle.cache_model.specs.Legal.{Does, IsLookup, IsReading, MakesRoom, MayFlush, MayReadOn, ReadTrouble, answer_record}
+use Rattle.cache_model.specs.Legal.{Does, DoesReadAll, DoesReadOn, IsLookup, IsNextAsListed, IsReading, IsUnlike, MakesRoom, MayFlush, MayReadOn, ReadTrouble, answer_record, is_given}
 use Rattle.cache_model.specs.Tape.{IsSound}
 use Rattle.model_laws.specs.Agreeing.{IsOtherCopy, IsUntroubled, is_trouble}
 use Rattle.model_laws.proofs.Determined.{groups_agree, none_displaced}
 use Rattle.model_laws.proofs.Alike.{reads_self}
 use Rattle.model_laws.proofs.FixedFlush.{IsLive, flush_untroubled, no_count, no_damage, same_bytes}
-use Rattle.cache_model.proofs.Found.{none_is}
+use Rattle.cache_model.proofs.Found.{no_truth, none_is, same_some}
 use Rattle.model_laws.proofs.Unsynced.{clean_on, drain_on, never, step_on, sync_on, unmark_on}
 
 -- ---- what is asked for
@@ -48,16 +48,68 @@ lookup_plain : {p : Permit} {s : State} {key : Key} {request : List Field} {befo
 lookup_plain still (Legal.IsLookup.verdict read) = refl
 lookup_plain {s = s} {key = key} still (Legal.IsLookup.trouble row before why live trouble) = absurd (no_trouble still (live_vector s key row live) trouble)
 
-no_read_trouble : {p : Permit} {s : State} (reader : ℕ) {r : ReaderRow} {row : Row} {entry : TableRow} {before : List Rec} {why : Cause} → IsFaithful p s
-    → reader_of s reader ≡ Some r → next_row s r ≡ Some entry → live_row_of s (next_piece r) ≡ Some row → ReadTrouble p s r row entry before why → ⊥
-no_read_trouble reader {r} still reading next live (Legal.ReadTrouble.troubled before why trouble) = no_trouble still (next_piece r, live) trouble
-no_read_trouble reader {r = r} {row = row} {entry = entry} still reading next live (Legal.ReadTrouble.mismatched found hit m) =
-    m.differ (still.listed reader r entry row m.bytes reading next live m.given ∙ ap (λ (d : Digest). d.0) (sym m.digest))
+-- of a fragment that comes next this device tells only that its payload is not the one that is listed
+pub record IsUnlikeNext (row : Row) (entry : TableRow) (before : List Rec) (why : Cause) : Type 0 where
+  pub found : Digest
+  pub unlike : IsUnlike row entry found
+  pub record_is : before ≡ damage_record row (digest_in entry) found ∷ []
+  pub cause_is : why ≡ damage_cause row (digest_in entry) found
 
-reading_plain : {p : Permit} {s : State} (reader : ℕ) {r : ReaderRow} {before : List Rec} {answer : NextAnswer} → IsFaithful p s → reader_of s reader ≡ Some r
-    → IsReading p s r before answer → before ≡ []
-reading_plain reader still reading (Legal.IsReading.verdict read) = refl
-reading_plain reader still reading (Legal.IsReading.trouble entry row before why next live trouble) = absurd (no_read_trouble reader still reading next live trouble)
+unlike_next : {p : Permit} {s : State} (r : ReaderRow) {row : Row} {entry : TableRow} {before : List Rec} {why : Cause} → IsFaithful p s → live_row_of s (next_piece r) ≡ Some row
+    → ReadTrouble p s row entry before why → IsUnlikeNext row entry before why
+unlike_next r still live (Legal.ReadTrouble.troubled before why trouble) = absurd (no_trouble still (next_piece r, live) trouble)
+unlike_next r still live (Legal.ReadTrouble.mismatched found read unlike) = record { found = found; unlike = unlike; record_is = refl; cause_is = refl }
+
+-- which the verdict excludes
+not_as_listed : (s : State) (r : ReaderRow) {row : Row} {entry : TableRow} {before : List Rec} {why : Cause} → IsNextAsListed s r → next_row s r ≡ Some entry
+    → live_row_of s (next_piece r) ≡ Some row → IsUnlikeNext row entry before why → ⊥
+not_as_listed s r {row} {entry} listed next live u =
+    u.unlike.differ (sym (listed entry row next live u.unlike.payload u.unlike.has) ∙ sym u.unlike.found_is)
+
+-- and of which there is one digest
+one_digest : {row : Row} {entry : TableRow} {a b : List Rec} {x y : Cause} (one : IsUnlikeNext row entry a x) (other : IsUnlikeNext row entry b y) → (a ≡ b) × (x ≡ y)
+one_digest {row = row} {entry = entry} one other =
+    let payload : one.unlike.payload ≡ other.unlike.payload = same_some one.unlike.payload other.unlike.payload row.payload one.unlike.has other.unlike.has in
+    let found : one.found ≡ other.found = one.unlike.found_is ∙ (ap digest_in payload ∙ sym other.unlike.found_is) in (
+      one.record_is ∙ (ap (λ d. damage_record row (digest_in entry) d ∷ []) found ∙ sym other.record_is),
+      one.cause_is ∙ (ap (damage_cause row (digest_in entry)) found ∙ sym other.cause_is),
+    )
+
+-- so the next fragment has one answer
+same_reading : {p : Permit} {s : State} {r : ReaderRow} {a b : List Rec} {x y : NextAnswer} → IsFaithful p s → IsReading p s r a x → IsReading p s r b y → (a ≡ b) × (x ≡ y)
+same_reading still (Legal.IsReading.verdict read listed) (Legal.IsReading.verdict other as_listed) = (refl, refl)
+same_reading {s = s} {r = r} still (Legal.IsReading.verdict read listed) (Legal.IsReading.trouble entry row before why next live trouble) =
+    absurd (not_as_listed s r listed next live (unlike_next r still live trouble))
+same_reading {s = s} {r = r} still (Legal.IsReading.trouble entry row before why next live trouble) (Legal.IsReading.verdict read listed) =
+    absurd (not_as_listed s r listed next live (unlike_next r still live trouble))
+same_reading {s = s} {r = r} still (Legal.IsReading.trouble entry row before why comes live trouble) (Legal.IsReading.trouble other its b w comes2 live2 trouble2) =
+    let one : IsUnlikeNext row entry before why = unlike_next r still live trouble in
+    let two : IsUnlikeNext its other b w = unlike_next r still live2 trouble2 in
+    let entries : other ≡ entry = same_some other entry (next_row s r) comes2 comes in
+    let rows : its ≡ row = same_some its row (live_row_of s (next_piece r)) live2 live in
+    let same = one_digest one (subst (λ e. IsUnlikeNext row e b w) entries (subst (λ x. IsUnlikeNext x other b w) rows two)) in
+    (same.0, ap next.Broke same.1)
+
+read_record : ℕ → List Rec → NextAnswer → List Rec
+read_record reader before answer = before ++ answer_record reader answer ∷ []
+
+same_next : {p : Permit} {s : State} {reader : ℕ} {x y : NextAnswer} {a b : List Rec} → IsFaithful p s → MayReadOn p s reader x a → MayReadOn p s reader y b → (a ≡ b) × (x ≡ y)
+unfolding read_record
+same_next {p} {s} {reader} {x} {y} still m n =
+    let reader_is : n.r ≡ m.r = same_some n.r m.r (reader_of s reader) n.reading m.reading in
+    let same = same_reading still m.right (subst (λ r. IsReading p s r n.before y) reader_is n.right) in
+    (m.is ∙ (ap (λ rs. read_record reader rs x) same.0 ∙ (ap (read_record reader n.before) same.1 ∙ sym n.is)), same.1)
+
+same_read_on : {p : Permit} {s : State} {reader : ℕ} {a b : List Rec} {e f : End} → IsFaithful p s → DoesReadOn p s reader a e → DoesReadOn p s reader b f → (a ≡ b) × (e ≡ f)
+same_read_on still (Legal.DoesReadOn.reads_on x m) (Legal.DoesReadOn.reads_on y n) = ((same_next still m n).0, refl)
+
+same_read_all : {p : Permit} {s : State} {reader : ℕ} {a b : List Rec} {e f : End} → IsFaithful p s → DoesReadAll p s reader a e → DoesReadAll p s reader b f → (a ≡ b) × (e ≡ f)
+same_read_all still (Legal.DoesReadAll.reads_on x hit m is) (Legal.DoesReadAll.reads_on y hit2 n is2) =
+    let same = same_next still m n in
+    (same.0, is ∙ (ap (λ z. cond (is_given z) Stays Done) same.1 ∙ sym is2))
+same_read_all still (Legal.DoesReadAll.reads_on x hit m is) (Legal.DoesReadAll.has_none quiet none is2 end) = no_truth (sym hit ∙ none)
+same_read_all still (Legal.DoesReadAll.has_none quiet none is end) (Legal.DoesReadAll.reads_on y hit n is2) = no_truth (sym hit ∙ none)
+same_read_all still (Legal.DoesReadAll.has_none quiet none is end) (Legal.DoesReadAll.has_none quiet2 none2 is2 end2) = (is ∙ sym is2, end ∙ sym end2)
 
 -- ---- each group
 
@@ -81,55 +133,51 @@ roomed_untroubled sound off still (Legal.MakesRoom.stops count room stop) = absu
 roomed_untroubled sound off still (Legal.MakesRoom.exhausted room high none) = none_untroubled none
 roomed_untroubled sound off still (Legal.MakesRoom.syncs end room d is) = never off (sync_on d)
 
-answer_untroubled : (reader : ℕ) (answer : NextAnswer) → is_trouble (answer_record reader answer) ≡ false
-answer_untroubled reader (next.Gave index length) = refl
-answer_untroubled reader (next.Ended length) = refl
-answer_untroubled reader (next.Waited cut) = refl
-answer_untroubled reader (next.Broke why) = refl
+-- a reader is asked for what comes next
+abbrev reads_on : Intent → Bool
+reads_on (ReadOn reader) = true
+reads_on (ReadAll reader) = true
+reads_on _ = false
 
-read_untroubled : {p : Permit} {s : State} {reader : ℕ} {answer : NextAnswer} {added : List Rec} → IsFaithful p s → MayReadOn p s reader answer added → IsUntroubled added
-read_untroubled {reader = reader} {answer = answer} still m = behind_untroubled (answer_record reader answer) (answer_untroubled reader answer) (reading_plain reader still m.reading m.right) m.is
-
-group_untroubled : (p : Permit) (s : State) (i : Intent) (added : List Rec) (e : End) → IsSound s → p.syncs ≡ false → IsFaithful p s → Does p s i added e → IsUntroubled added
-group_untroubled p s Flush added e sound off still (Legal.DoesFlush.empty quiet is none) = none_untroubled none
-group_untroubled p s Flush added e sound off still (Legal.DoesFlush.flushes flush) = flushed_untroubled sound still flush
-group_untroubled p s Flush added e sound off still (Legal.DoesFlush.stops count stop) = absurd (no_count count still stop.counts.counts)
-group_untroubled p s Flush added e sound off still (Legal.DoesFlush.exhausted quiet some high none) = none_untroubled none
-group_untroubled p s Flush added e sound off still (Legal.DoesFlush.syncs d) = never off (sync_on d)
-group_untroubled p s Sync added e sound off still d = never off (sync_on d)
-group_untroubled p s SyncBegin added e sound off still d = never off (sync_on d)
-group_untroubled p s (SyncStep last) added e sound off still d = never off (step_on d)
-group_untroubled p s Drain added e sound off still d = never off (drain_on d)
-group_untroubled p s CleanSync added e sound off still d = never off (clean_on d)
-group_untroubled p s (Write actor key request response pin) added e sound off still (Legal.DoesWrite.opens m) = one_untroubled _ refl m.is
-group_untroubled p s (Write actor key request response pin) added e sound off still (Legal.DoesWrite.many quiet many none) = none_untroubled none
-group_untroubled p s (Write actor key request response pin) added e sound off still (Legal.DoesWrite.exhausted quiet few high none) = none_untroubled none
-group_untroubled p s (Fragment put index payload) added e sound off still (Legal.DoesFragment.places is m) =
+group_untroubled : (p : Permit) (s : State) (i : Intent) (added : List Rec) (e : End) → reads_on i ≡ false → IsSound s → p.syncs ≡ false → IsFaithful p s → Does p s i added e → IsUntroubled added
+group_untroubled p s Flush added e other sound off still (Legal.DoesFlush.empty quiet is none) = none_untroubled none
+group_untroubled p s Flush added e other sound off still (Legal.DoesFlush.flushes flush) = flushed_untroubled sound still flush
+group_untroubled p s Flush added e other sound off still (Legal.DoesFlush.stops count stop) = absurd (no_count count still stop.counts.counts)
+group_untroubled p s Flush added e other sound off still (Legal.DoesFlush.exhausted quiet some high none) = none_untroubled none
+group_untroubled p s Flush added e other sound off still (Legal.DoesFlush.syncs d) = never off (sync_on d)
+group_untroubled p s Sync added e other sound off still d = never off (sync_on d)
+group_untroubled p s SyncBegin added e other sound off still d = never off (sync_on d)
+group_untroubled p s (SyncStep last) added e other sound off still d = never off (step_on d)
+group_untroubled p s Drain added e other sound off still d = never off (drain_on d)
+group_untroubled p s CleanSync added e other sound off still d = never off (clean_on d)
+group_untroubled p s (Write actor key request response pin) added e other sound off still (Legal.DoesWrite.opens m) = one_untroubled _ refl m.is
+group_untroubled p s (Write actor key request response pin) added e other sound off still (Legal.DoesWrite.many quiet many none) = none_untroubled none
+group_untroubled p s (Write actor key request response pin) added e other sound off still (Legal.DoesWrite.exhausted quiet few high none) = none_untroubled none
+group_untroubled p s (Fragment put index payload) added e other sound off still (Legal.DoesFragment.places is m) =
     subst IsUntroubled (sym m.is) (refl, behind_untroubled _ refl (none_displaced still.displaces_nothing m.displaces) refl)
-group_untroubled p s (Fragment put index payload) added e sound off still (Legal.DoesFragment.unmarks w cut place u) = never off (unmark_on u)
-group_untroubled p s (Fragment put index payload) added e sound off still (Legal.DoesFragment.rooms w cut room) = roomed_untroubled sound off still room
-group_untroubled p s (Fragment put index payload) added e sound off still (Legal.DoesFragment.exhausted w is cut none) = none_untroubled none.is
-group_untroubled p s (Overflow put) added e sound off still (Legal.DoesOverflow.aborts w m full is) = one_untroubled _ refl is
-group_untroubled p s (Weigh put rest) added e sound off still (Legal.DoesWeigh.weighs w m read fits is) = none_untroubled is
-group_untroubled p s (Weigh put rest) added e sound off still (Legal.DoesWeigh.too_large w m read large is) = one_untroubled _ refl is
-group_untroubled p s (Weigh put rest) added e sound off still (Legal.DoesWeigh.damaged w row found m live damaged is) = absurd (no_damage still (live_vector s w.key row live) (reads_self s) damaged)
-group_untroubled p s (Weigh put rest) added e sound off still (Legal.DoesWeigh.faulted w row count m live written counts is) = absurd (no_count count still counts)
-group_untroubled p s (Finish put fragments) added e sound off still (Legal.DoesFinish.places is m) = behind_untroubled _ refl (none_displaced still.displaces_nothing m.displaces) m.is
-group_untroubled p s (Finish put fragments) added e sound off still (Legal.DoesFinish.unmarks w cut live place u) = never off (unmark_on u)
-group_untroubled p s (Finish put fragments) added e sound off still (Legal.DoesFinish.rooms w cut room) = roomed_untroubled sound off still room
-group_untroubled p s (Finish put fragments) added e sound off still (Legal.DoesFinish.loses w index is m gone) = one_untroubled _ refl gone
-group_untroubled p s (Finish put fragments) added e sound off still (Legal.DoesFinish.exhausted w is cut whole none) = none_untroubled none.is
-group_untroubled p s (Commit put) added e sound off still (Legal.DoesCommit.commits w found writing pending is) = one_untroubled _ refl is
-group_untroubled p s (GiveUp put) added e sound off still (Legal.DoesGiveUp.aborts w m is) = one_untroubled _ refl is
-group_untroubled p s (GiveUp put) added e sound off still (Legal.DoesGiveUp.over quiet closed is) = none_untroubled is
-group_untroubled p s (Remove key) added e sound off still (Legal.DoesRemove.removes row quiet live is) = one_untroubled _ refl is
-group_untroubled p s (Remove key) added e sound off still (Legal.DoesRemove.absent quiet none is) = none_untroubled is
-group_untroubled p s (Look actor key request) added e sound off still (Legal.DoesLook.looks m) = behind_untroubled _ refl (lookup_plain still m.right) m.is
-group_untroubled p s (ReadOn reader) added e sound off still (Legal.DoesReadOn.reads_on answer m) = read_untroubled still m
-group_untroubled p s (ReadAll reader) added e sound off still (Legal.DoesReadAll.reads_on answer hit m is) = read_untroubled still m
-group_untroubled p s (ReadAll reader) added e sound off still (Legal.DoesReadAll.has_none quiet none is end) = none_untroubled is
-group_untroubled p s (StopReading reader) added e sound off still (Legal.DoesStopReading.closes r quiet reading is) = one_untroubled _ refl is
-group_untroubled p s (StopReading reader) added e sound off still (Legal.DoesStopReading.closed quiet none is) = none_untroubled is
+group_untroubled p s (Fragment put index payload) added e other sound off still (Legal.DoesFragment.unmarks w cut place u) = never off (unmark_on u)
+group_untroubled p s (Fragment put index payload) added e other sound off still (Legal.DoesFragment.rooms w cut room) = roomed_untroubled sound off still room
+group_untroubled p s (Fragment put index payload) added e other sound off still (Legal.DoesFragment.exhausted w is cut none) = none_untroubled none.is
+group_untroubled p s (Overflow put) added e other sound off still (Legal.DoesOverflow.aborts w m full is) = one_untroubled _ refl is
+group_untroubled p s (Weigh put rest) added e other sound off still (Legal.DoesWeigh.weighs w m read fits is) = none_untroubled is
+group_untroubled p s (Weigh put rest) added e other sound off still (Legal.DoesWeigh.too_large w m read large is) = one_untroubled _ refl is
+group_untroubled p s (Weigh put rest) added e other sound off still (Legal.DoesWeigh.damaged w row found m live damaged is) = absurd (no_damage still (live_vector s w.key row live) (reads_self s) damaged)
+group_untroubled p s (Weigh put rest) added e other sound off still (Legal.DoesWeigh.faulted w row count m live written counts is) = absurd (no_count count still counts)
+group_untroubled p s (Finish put fragments) added e other sound off still (Legal.DoesFinish.places is m) = behind_untroubled _ refl (none_displaced still.displaces_nothing m.displaces) m.is
+group_untroubled p s (Finish put fragments) added e other sound off still (Legal.DoesFinish.unmarks w cut live place u) = never off (unmark_on u)
+group_untroubled p s (Finish put fragments) added e other sound off still (Legal.DoesFinish.rooms w cut room) = roomed_untroubled sound off still room
+group_untroubled p s (Finish put fragments) added e other sound off still (Legal.DoesFinish.loses w index is m gone) = one_untroubled _ refl gone
+group_untroubled p s (Finish put fragments) added e other sound off still (Legal.DoesFinish.exhausted w is cut whole none) = none_untroubled none.is
+group_untroubled p s (Commit put) added e other sound off still (Legal.DoesCommit.commits w found writing pending is) = one_untroubled _ refl is
+group_untroubled p s (GiveUp put) added e other sound off still (Legal.DoesGiveUp.aborts w m is) = one_untroubled _ refl is
+group_untroubled p s (GiveUp put) added e other sound off still (Legal.DoesGiveUp.over quiet closed is) = none_untroubled is
+group_untroubled p s (Remove key) added e other sound off still (Legal.DoesRemove.removes row quiet live is) = one_untroubled _ refl is
+group_untroubled p s (Remove key) added e other sound off still (Legal.DoesRemove.absent quiet none is) = none_untroubled is
+group_untroubled p s (Look actor key request) added e other sound off still (Legal.DoesLook.looks m) = behind_untroubled _ refl (lookup_plain still m.right) m.is
+group_untroubled p s (ReadOn reader) added e other sound off still d = no_truth other
+group_untroubled p s (ReadAll reader) added e other sound off still d = no_truth other
+group_untroubled p s (StopReading reader) added e other sound off still (Legal.DoesStopReading.closes r quiet reading is) = one_untroubled _ refl is
+group_untroubled p s (StopReading reader) added e other sound off still (Legal.DoesStopReading.closed quiet none is) = none_untroubled is
 
 -- ---- one group at most
 
@@ -137,11 +185,17 @@ no_other_copy : (p : Permit) (s : State) (left : ℕ) → IsFaithful p s → IsO
 no_other_copy p s left still shown =
     shown.collide.differ (ap (λ bytes. take (extent_of bytes) bytes) (same_bytes p s shown.row shown.one shown.other still.once shown.one_given shown.other_given))
 
-pub group_is_fixed : (p : Permit) (s : State) (i : Intent) (one other : List Rec) (e f : End) → IsSound s → p.syncs ≡ false → IsFaithful p s
+calm_is_fixed : (p : Permit) (s : State) (i : Intent) (one other : List Rec) (e f : End) → reads_on i ≡ false → IsSound s → p.syncs ≡ false → IsFaithful p s
     → Does p s i one e → Does p s i other f → (one ≡ other) × (e ≡ f)
-group_is_fixed p s i one other e f sound off still h k =
+calm_is_fixed p s i one other e f reads sound off still h k =
     elim (groups_agree p p s i one other e f (record { one = still.displaces_nothing; other = still.displaces_nothing; unsynced = off; other_unsynced = off; moment = refl })
-    (group_untroubled p s i one e sound off still h) (group_untroubled p s i other f sound off still k) h k) [
+    (group_untroubled p s i one e reads sound off still h) (group_untroubled p s i other f reads sound off still k) h k) [
       | inl same ↦ same
       | inr shown ↦ absurd (no_other_copy p s (budget_of s.geometry) still shown.copy)
     ]
+
+pub group_is_fixed : (p : Permit) (s : State) (i : Intent) (one other : List Rec) (e f : End) → IsSound s → p.syncs ≡ false → IsFaithful p s
+    → Does p s i one e → Does p s i other f → (one ≡ other) × (e ≡ f)
+group_is_fixed p s (ReadOn reader) one other e f sound off still h k = same_read_on still h k
+group_is_fixed p s (ReadAll reader) one other e f sound off still h k = same_read_all still h k
+group_is_fixed p s i one other e f sound off still h k = calm_is_fixed p s i one other e f refl sound off still h k

@@ -1,6 +1,6 @@
 -- What a group of records does of syncs, by what is asked: nothing, or one of the ways in which a stripe syncs.
-use Rattle.std.proofs.Common.{◌≡◌, List, [], ◌∷◌, refl, sym, subst, true, false, Bool}
-use Rattle.std.specs.Prelude.{ℕ, Option, Some, None, map, length, option_map, option_to_list}
+use Rattle.std.proofs.Common.{◌≡◌, ◌<◌, List, [], ◌∷◌, refl, sym, ap, subst, true, false, Bool}
+use Rattle.std.specs.Prelude.{ℕ, Option, Some, None, map, not, length, option_map, option_to_list}
 use Rattle.std.specs.List.{AllByRecursion}
 use Rattle.tape_base.specs.declared.keys.Key.{Key}
 use Rattle.tape_base.specs.declared.pieces.PieceId.{PieceId}
@@ -14,7 +14,7 @@ use Rattle.cache_model.specs.declared.record.Rec.{Rec}
 use Rattle.cache_model.specs.declared.record.Rec.TheVariants as rec
 use Rattle.cache_model.specs.State.{State, Row, ReaderRow}
 use Rattle.cache_model.specs.Permit.{Permit, Intent, Flush, Sync, SyncBegin, SyncStep, Drain, CleanSync, Write, Fragment, Overflow, Weigh, Finish, Commit, GiveUp, Remove, Look, ReadOn, ReadAll, StopReading, End}
-use Rattle.cache_model.specs.Room.{MayDisplace, displaced_record}
+use Rattle.cache_model.specs.Room.{MayDisplace, displaced_record, has_room}
 use Rattle.cache_model.specs.Due.{due_pieces}
 use Rattle.cache_model.specs.Outcomes.{Copied, NoRoom, Outcome, Refused, Spoiled, front_of, flush_tail, stopped_front_of, stopped_records_of}
 use Rattle.cache_model.specs.Given
@@ -25,7 +25,8 @@ use Rattle.cache_model.specs.Legal.{Does, answer_record}
 use Rattle.cache_model.proofs.Sound.{LeavesTape}
 use Rattle.cache_model.proofs.Steps.{all_append}
 use Rattle.cache_model.proofs.Syncing.{AllLeaveSyncs, LeavesSyncs, front_leaves_syncs, tail_leaves_syncs}
-use Rattle.model_laws.specs.AskLaws.{way_of}
+use Rattle.cache_model.specs.ToRead.{flushes_first}
+use Rattle.model_laws.specs.AskLaws.{places, way_of}
 
 -- ---- records
 
@@ -62,10 +63,10 @@ pub data Grouped (p : Permit) (s : State) (i : Intent) (added : List Rec) (e : E
   plain : ArePlain added → Grouped p s i added e
   inserts : must_unmark p s ≡ false → AreOfInsert added → Grouped p s i added e
   flushes : p.syncs ≡ false → AllLeaveSyncs added → Grouped p s i added e
-  syncs : (f : End) → DoesSync p (way_of i) s added f → Grouped p s i added e
+  syncs : (f : End) → flushes_first s i ≡ true → (i ≡ Drain → 0 < s.filled) → DoesSync p (way_of i) s added f → Grouped p s i added e
   ends : p.syncs ≡ true → AreEnding added → Grouped p s i added e
   cleans : i ≡ CleanSync → DoesCleanSync p s added e → Grouped p s i added e
-  unmarks : Unmarks p s added e → Grouped p s i added e
+  unmarks : places i ≡ true → Unmarks p s added e → Grouped p s i added e
 
 -- ---- plain groups
 
@@ -87,13 +88,13 @@ lookup_plain : (p : Permit) (s : State) (key : Key) (request : List Field) (befo
 lookup_plain p s key request before answer (Legal.IsLookup.verdict r) = tt
 lookup_plain p s key request before answer (Legal.IsLookup.trouble row b why live t) = trouble_plain p s row before why t
 
-fragment_plain : (p : Permit) (s : State) (r : ReaderRow) (row : Row) (entry : TableRow) (before : List Rec) (why : Cause) → Legal.ReadTrouble p s r row entry before why → ArePlain before
-fragment_plain p s r row entry before why (Legal.ReadTrouble.troubled b c t) = trouble_plain p s row before why t
-fragment_plain p s r row entry before why (Legal.ReadTrouble.mismatched found hit m) = one_plain
+fragment_plain : (p : Permit) (s : State) (row : Row) (entry : TableRow) (before : List Rec) (why : Cause) → Legal.ReadTrouble p s row entry before why → ArePlain before
+fragment_plain p s row entry before why (Legal.ReadTrouble.troubled b c t) = trouble_plain p s row before why t
+fragment_plain p s row entry before why (Legal.ReadTrouble.mismatched found read unlike) = one_plain
 
 reading_plain : (p : Permit) (s : State) (r : ReaderRow) (before : List Rec) (answer : NextAnswer) → Legal.IsReading p s r before answer → ArePlain before
-reading_plain p s r before answer (Legal.IsReading.verdict x) = tt
-reading_plain p s r before answer (Legal.IsReading.trouble entry row b why n live t) = fragment_plain p s r row entry before why t
+reading_plain p s r before answer (Legal.IsReading.verdict x listed) = tt
+reading_plain p s r before answer (Legal.IsReading.trouble entry row b why n live t) = fragment_plain p s row entry before why t
 
 answer_plain : (reader : ℕ) (answer : NextAnswer) → IsPlain (answer_record reader answer)
 answer_plain reader (next.Gave index length) = (tt, tt)
@@ -140,11 +141,12 @@ stopped {p} {s} count added m =
     flushes m.unsynced (subst AllLeaveSyncs (sym m.is)
     (all_append LeavesSyncs (stopped_front_of rows m.outcomes) (rec.Fault count ∷ []) (stopped_leaves_syncs rows m.outcomes) (tt, tt)))
 
-roomed : {p : Permit} {s : State} {i : Intent} (bytes : ℕ) (added : List Rec) (e : End) → way_of i ≡ Syncing.WhereDue → Legal.MakesRoom p s bytes added e → Grouped p s i added e
-roomed bytes added e way (Legal.MakesRoom.flushes x m) = flushed added m
-roomed bytes added e way (Legal.MakesRoom.stops count x m) = stopped count added m
-roomed bytes added e way (Legal.MakesRoom.exhausted x q is) = as_plain added [] is tt
-roomed {p} {s} bytes added e way (Legal.MakesRoom.syncs f x d is) = syncs f (subst (λ k. DoesSync p k s added f) (sym way) d)
+roomed : {p : Permit} {s : State} {i : Intent} (bytes : ℕ) (added : List Rec) (e : End) → way_of i ≡ Syncing.WhereDue → (i ≡ Drain → 0 < s.filled)
+    → (has_room s bytes ≡ false → flushes_first s i ≡ true) → Legal.MakesRoom p s bytes added e → Grouped p s i added e
+roomed bytes added e way some first (Legal.MakesRoom.flushes x m) = flushed added m
+roomed bytes added e way some first (Legal.MakesRoom.stops count x m) = stopped count added m
+roomed bytes added e way some first (Legal.MakesRoom.exhausted x q is) = as_plain added [] is tt
+roomed {p} {s} bytes added e way some first (Legal.MakesRoom.syncs f x d is) = syncs f (first x) some (subst (λ k. DoesSync p k s added f) (sym way) d)
 
 -- ---- the end of a sync in parts
 
@@ -168,7 +170,7 @@ drain : {p : Permit} {s : State} {e : End} (added : List Rec) → Legal.DoesDrai
 drain added (Legal.DoesDrain.still_open on quiet some is) = as_ending added [] on is tt
 drain {s = s} added (Legal.DoesDrain.empty on quiet none filled is) = as_ending added (ended_records s) on is (ended_ends s)
 drain added (Legal.DoesDrain.stays count on quiet none filled c) = as_ending added _ on c.is (tt, tt)
-drain {e = e} added (Legal.DoesDrain.syncs none some d) = syncs e d
+drain {e = e} added (Legal.DoesDrain.syncs none some d) = syncs e refl (λ h. some) d
 
 -- ---- each group
 
@@ -177,9 +179,9 @@ grouped p s Flush added e (Legal.DoesFlush.empty q f is) = as_plain added [] is 
 grouped p s Flush added e (Legal.DoesFlush.flushes m) = flushed added m
 grouped p s Flush added e (Legal.DoesFlush.stops count m) = stopped count added m
 grouped p s Flush added e (Legal.DoesFlush.exhausted q f b is) = as_plain added [] is tt
-grouped p s Flush added e (Legal.DoesFlush.syncs d) = syncs e d
-grouped p s Sync added e d = syncs e d
-grouped p s SyncBegin added e d = syncs e d
+grouped p s Flush added e (Legal.DoesFlush.syncs d) = syncs e refl (λ h. cc) d
+grouped p s Sync added e d = syncs e refl (λ h. cc) d
+grouped p s SyncBegin added e d = syncs e refl (λ h. cc) d
 grouped p s (SyncStep last) added e d = step added d
 grouped p s Drain added e d = drain added d
 grouped p s CleanSync added e d = cleans refl d
@@ -188,8 +190,8 @@ grouped p s (Write actor key request response pin) added e (Legal.DoesWrite.many
 grouped p s (Write actor key request response pin) added e (Legal.DoesWrite.exhausted q m l is) = as_plain added [] is tt
 grouped p s (Fragment put index payload) added e (Legal.DoesFragment.places d m) =
     inserts m.unmarked (subst AreOfInsert (sym m.is) (tt, all_append IsOfInsert m.displaced _ (displaced m.displaced m.displaces) (tt, tt)))
-grouped p s (Fragment put index payload) added e (Legal.DoesFragment.unmarks w n q u) = unmarks u
-grouped p s (Fragment put index payload) added e (Legal.DoesFragment.rooms w n m) = roomed (length payload) added e refl m
+grouped p s (Fragment put index payload) added e (Legal.DoesFragment.unmarks w n q u) = unmarks refl u
+grouped p s (Fragment put index payload) added e (Legal.DoesFragment.rooms w n m) = roomed (length payload) added e refl (λ h. cc) (ap not) m
 grouped p s (Fragment put index payload) added e (Legal.DoesFragment.exhausted w x n q) = as_plain added [] q.is tt
 grouped p s (Overflow put) added e (Legal.DoesOverflow.aborts w q l is) = as_plain added _ is one_plain
 grouped p s (Weigh put rest) added e (Legal.DoesWeigh.weighs w q r f is) = as_plain added [] is tt
@@ -198,8 +200,8 @@ grouped p s (Weigh put rest) added e (Legal.DoesWeigh.damaged w row found q live
 grouped p s (Weigh put rest) added e (Legal.DoesWeigh.faulted w row count q live r m is) = as_plain added _ is one_plain
 grouped p s (Finish put fragments) added e (Legal.DoesFinish.places d m) =
     inserts m.unmarked (subst AreOfInsert (sym m.is) (all_append IsOfInsert m.displaced _ (displaced m.displaced m.displaces) (tt, tt)))
-grouped p s (Finish put fragments) added e (Legal.DoesFinish.unmarks w c l q u) = unmarks u
-grouped p s (Finish put fragments) added e (Legal.DoesFinish.rooms w c m) = roomed (Legal.vector_length s put) added e refl m
+grouped p s (Finish put fragments) added e (Legal.DoesFinish.unmarks w c l q u) = unmarks refl u
+grouped p s (Finish put fragments) added e (Legal.DoesFinish.rooms w c m) = roomed (Legal.vector_length s put) added e refl (λ h. cc) (ap not) m
 grouped p s (Finish put fragments) added e (Legal.DoesFinish.exhausted w x c l q) = as_plain added [] q.is tt
 grouped p s (Finish put fragments) added e (Legal.DoesFinish.loses w index d m is) = as_plain added _ is one_plain
 grouped p s (Commit put) added e (Legal.DoesCommit.commits w f o q is) = as_plain added _ is one_plain

@@ -9,9 +9,12 @@ mod AcceptedSteps
 mod SyncedSteps
 pub mod Unsynced
 pub mod Grouped
+pub mod Among
+pub mod Listed
 mod Asks
 pub mod Marks
 mod AskSyncs
+mod Made
 mod Serials
 mod MarkedEmpty
 mod Determined
@@ -26,6 +29,7 @@ pub mod Told
 pub mod ToldGroups
 pub mod CountedRecords
 pub mod Counted
+mod Payloads
 pub mod Alike
 mod Chosen
 pub mod BackedFlush

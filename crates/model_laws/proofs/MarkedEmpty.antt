@@ -94,6 +94,7 @@ all_leave (r ∷ recs) h = (h.0, all_leave recs h.1)
 -- a clean sync is of an empty buffer
 clean_empty : (p : Permit) (s : State) (added : List Rec) (e : End) → IsMarkedEmpty s → DoesCleanSync p s added e → IsMarkedEmpty (after_all s added)
 clean_empty p s added e empty (Syncing.DoesCleanSync.moving on quiet some is) = subst (λ recs. IsMarkedEmpty (after_all s recs)) (sym is) empty
+clean_empty p s added e empty (Syncing.DoesCleanSync.runs serial on quiet none running is) = subst (λ recs. IsMarkedEmpty (after_all s recs)) (sym is) empty
 clean_empty p s added e empty (Syncing.DoesCleanSync.syncs on quiet none rests below is) = subst (λ recs. IsMarkedEmpty (after_all s recs)) (sym is) (λ marked. none)
 clean_empty p s added e empty (Syncing.DoesCleanSync.stops count on quiet none rests below c is) = subst (λ recs. IsMarkedEmpty (after_all s recs)) (sym is) (λ marked. none)
 clean_empty p s added e empty (Syncing.DoesCleanSync.exhausted on quiet none rests high is) = subst (λ recs. IsMarkedEmpty (after_all s recs)) (sym is) empty
@@ -109,12 +110,12 @@ group_empty p s i added e on empty (Grouped.Grouped.plain h) =
 group_empty p s i added e on empty (Grouped.Grouped.inserts unmarked h) =
     empty_unmarked s added (quiet_unmarked added (leave_marks added (all_as IsOfInsert LeavesSyncs insert_leaves added h))) (unmarked_of p s on unmarked)
 group_empty p s i added e on empty (Grouped.Grouped.flushes off h) = never off on
-group_empty p s i added e on empty (Grouped.Grouped.syncs f d) =
+group_empty p s i added e on empty (Grouped.Grouped.syncs f first some d) =
     split_empty p (way_of i) s added (once_unmarked _ added (does_once p (way_of i) s added f d)) empty (sync_splits p (way_of i) s added f d)
 group_empty p s i added e on empty (Grouped.Grouped.ends o h) =
     empty_by s added s.marked refl (quiet_unmarked added (ends_marks added h)) (all_leave added (all_as IsEnding LeavesTape ending_begins added h)) empty
 group_empty p s i added e on empty (Grouped.Grouped.cleans is d) = clean_empty p s added e empty d
-group_empty p s i added e on empty (Grouped.Grouped.unmarks u) =
+group_empty p s i added e on empty (Grouped.Grouped.unmarks t u) =
     empty_by s added s.marked refl (once_unmarked _ added (unmark_once p s added e u)) (aside_leaves added (unmark_aside p s added e u)) empty
 
 pub marked_stays_empty : (p : Permit) (s : State) (i : Intent) (added : List Rec) (e : End) → p.syncs ≡ true → IsMarkedEmpty s → Does p s i added e → IsMarkedEmpty (after_all s added)

@@ -13,7 +13,7 @@ use Rattle.doc_header.specs.Reading.{document_digest}
 use Rattle.fragment_table.specs.Table.{TableRow}
 use Rattle.cache_model.specs.declared.cause.Cause.{Cause}
 use Rattle.cache_model.specs.declared.answer.NextAnswer.{NextAnswer}
-use Rattle.cache_model.specs.Verdict.{is_open, live_vector_of, next_piece, next_row}
+use Rattle.cache_model.specs.Verdict.{digest_in, is_open, live_vector_of, next_piece, next_row}
 use Rattle.tape_base.specs.Blocks.{blocks_of}
 use Rattle.tape_base.specs.Geometry.{budget_of}
 use Rattle.alternate_vector.specs.Alternates.{Stored, is_within, longest_within, vector_size, is_match}
@@ -29,7 +29,8 @@ use Rattle.model_laws.specs.Choices
 use Rattle.model_laws.specs.Choices.{AreDueTried, IsFlushTried, IsTried, IsTriedWhereLive, MayAsk, MayAskWrite}
 use Rattle.cache_model.specs.ToRead.{to_read}
 use Rattle.cache_model.specs.Tape.{IsSound}
-use Rattle.cache_model.proofs.Found.{none_is, number_of}
+use Rattle.cache_model.proofs.Found.{none_is, number_of, same_some}
+use Rattle.model_laws.proofs.Listed.{listed_by}
 use Rattle.model_laws.proofs.Purged.{can_displace}
 use Rattle.model_laws.proofs.Unsynced.{unmarked_where}
 use Rattle.model_laws.proofs.TriedFlush.{Flushes, flush_comes, made, stopped}
@@ -321,8 +322,40 @@ trouble_next p s r None row before why next live trouble = none_is live
 trouble_next p s r (Some entry) row before why next live trouble =
     (before, _, Legal.IsReading.trouble entry row before why next live (Legal.ReadTrouble.troubled before why trouble))
 
+-- what was read is given where its payload is the one that is listed, and is damaged where it is another
+compared : (p : Permit) (s : State) (r : ReaderRow) (entry : TableRow) (row : Row) (payload : TableRow) (t : Bool) → t ≡ pointwise nat_eq entry.digest payload.digest
+    → next_row s r ≡ Some entry → live_row_of s (next_piece r) ≡ Some row → row.payload ≡ Some payload → IsReadWhereLive p s (live_next s r) → IsRead p s row
+    → (before : List Rec) × (answer : NextAnswer) × IsReading p s r before answer
+compared p s r entry row payload true e next live own reads x =
+    let same : digest_in payload ≡ digest_in entry = ap (λ d. record { 0 = d }) (sym (same_text entry.digest payload.digest e)) in
+    ([], _, Legal.IsReading.verdict reads (listed_by s r entry row next live (λ other h. subst (λ y. digest_in y ≡ digest_in entry) (same_some payload other row.payload own h) same)))
+compared p s r entry row payload false e next live own reads x = (
+  _,
+  _,
+  Legal.IsReading.trouble entry row _ _ next live (Legal.ReadTrouble.mismatched (digest_in payload) x (record {
+    payload = payload;
+    has = own;
+    found_is = refl;
+    differ = (λ h. other_text entry.digest payload.digest e (ap (λ (d : Digest). d.0) h));
+  })),
+)
+
+payload_by : (p : Permit) (s : State) (r : ReaderRow) (entry : TableRow) (row : Row) (payload : Option TableRow) → row.payload ≡ payload → next_row s r ≡ Some entry
+    → live_row_of s (next_piece r) ≡ Some row → IsReadWhereLive p s (live_next s r) → IsRead p s row → (before : List Rec) × (answer : NextAnswer) × IsReading p s r before answer
+payload_by p s r entry row None none next live reads x =
+    ([], _, Legal.IsReading.verdict reads (listed_by s r entry row next live (λ payload h. none_is (sym none ∙ h))))
+payload_by p s r entry row (Some payload) own next live reads x = compared p s r entry row payload (pointwise nat_eq entry.digest payload.digest) refl next live own reads x
+
+next_by : (p : Permit) (s : State) (r : ReaderRow) (entry : Option TableRow) (row : Option Row) → next_row s r ≡ entry → live_row_of s (next_piece r) ≡ row
+    → IsReadWhereLive p s (live_next s r) → (before : List Rec) × (answer : NextAnswer) × IsReading p s r before answer
+next_by p s r None row next live reads = ([], _, Legal.IsReading.verdict reads (λ entry other h x. none_is (sym next ∙ h)))
+next_by p s r (Some entry) None next live reads = ([], _, Legal.IsReading.verdict reads (λ other row h x. none_is (sym live ∙ x)))
+next_by p s r (Some entry) (Some row) next live reads =
+    let reads_next : IsReadWhereLive p s (option_and_then (λ (e : TableRow). live_row_of s (next_piece r)) (Some entry)) = subst (λ o. IsReadWhereLive p s (option_and_then (λ (e : TableRow). live_row_of s (next_piece r)) o)) next reads in
+    payload_by p s r entry row row.payload refl next live reads (subst (IsReadWhereLive p s) live reads_next)
+
 reading_by : (p : Permit) (s : State) (r : ReaderRow) → Looks p s (live_next s r) → (before : List Rec) × (answer : NextAnswer) × IsReading p s r before answer
-reading_by p s r (read x) = ([], _, Legal.IsReading.verdict x)
+reading_by p s r (read x) = next_by p s r (next_row s r) (live_row_of s (next_piece r)) refl refl x
 reading_by p s r (damaged row found live d) = trouble_next p s r (next_row s r) row _ _ refl live (Given.Trouble.damaged found d)
 reading_by p s r (faulted row count live written counts) = trouble_next p s r (next_row s r) row _ _ refl live (Given.Trouble.faulted count written counts)
 

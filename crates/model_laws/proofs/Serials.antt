@@ -116,6 +116,7 @@ does_once p k s added f (Syncing.DoesSync.runs serial on quiet parts runs is) = 
 
 clean_once : (p : Permit) (s : State) (added : List Rec) (e : End) → DoesCleanSync p s added e → BeginsOnce (next_serial s) true added
 clean_once p s added e (Syncing.DoesCleanSync.moving on quiet some is) = once_as (next_serial s) added [] is (none tt)
+clean_once p s added e (Syncing.DoesCleanSync.runs serial on quiet empty running is) = once_as (next_serial s) added [] is (none tt)
 clean_once p s added e (Syncing.DoesCleanSync.syncs on quiet empty rests below is) =
     once_as (next_serial s) added _ is (once [] s.cursor false (rec.SyncDone (next_serial s) ∷ []) tt (tt, tt) refl)
 clean_once p s added e (Syncing.DoesCleanSync.stops count on quiet empty rests below c is) = once_as (next_serial s) added _ is (stopped_once s s.cursor count true)
@@ -138,10 +139,10 @@ pub group_once : (p : Permit) (s : State) (i : Intent) (added : List Rec) (e : E
 group_once p s i added e (Grouped.Grouped.plain h) = inl (none (leave_marks added (all_as IsPlain LeavesSyncs (λ r x. x.1) added h)))
 group_once p s i added e (Grouped.Grouped.inserts unmarked h) = inl (none (leave_marks added (all_as IsOfInsert LeavesSyncs insert_leaves added h)))
 group_once p s i added e (Grouped.Grouped.flushes off h) = inl (none (leave_marks added h))
-group_once p s i added e (Grouped.Grouped.syncs f d) = inl (does_once p (way_of i) s added f d)
+group_once p s i added e (Grouped.Grouped.syncs f first some d) = inl (does_once p (way_of i) s added f d)
 group_once p s i added e (Grouped.Grouped.ends on h) = inl (none (ends_marks added h))
 group_once p s i added e (Grouped.Grouped.cleans is d) = inr (is, clean_once p s added e d)
-group_once p s i added e (Grouped.Grouped.unmarks u) = inl (unmark_once p s added e u)
+group_once p s i added e (Grouped.Grouped.unmarks t u) = inl (unmark_once p s added e u)
 
 -- ---- each takes the next serial
 

@@ -18,7 +18,7 @@ use Rattle.cache_model.specs.Room.{has_room, is_flush_exhausted}
 use Rattle.cache_model.specs.Given
 use Rattle.cache_model.specs.Legal
 use Rattle.cache_model.specs.Given.{IsRead, IsReadWhereLive, Trouble}
-use Rattle.cache_model.specs.Legal.{CanFlush, Does, IsLookup, IsReading, MakesRoom, MayReadOn, ReadTrouble, live_next, vector_length}
+use Rattle.cache_model.specs.Legal.{CanFlush, Does, IsLookup, IsNextAsListed, IsReading, MakesRoom, MayReadOn, ReadTrouble, live_next, vector_length}
 use Rattle.model_laws.specs.Choices
 use Rattle.model_laws.specs.Choices.{AreDueTried, IsFlushTried, IsTried, IsTriedWhereLive, WasRead}
 use Rattle.cache_model.specs.ToRead.{to_read}
@@ -41,9 +41,9 @@ trouble_is_tried : (p : Permit) (s : State) (row : Row) (before : List Rec) (why
 trouble_is_tried p s row before why (Given.Trouble.faulted count written counts) = Choices.IsTried.refused count written counts
 trouble_is_tried p s row before why (Given.Trouble.damaged found d) = Choices.IsTried.given d.bytes d.given
 
-fragment_is_tried : (p : Permit) (s : State) (r : ReaderRow) (row : Row) (entry : TableRow) (before : List Rec) (why : Cause) → ReadTrouble p s r row entry before why → IsTried p s row
-fragment_is_tried p s r row entry before why (Legal.ReadTrouble.troubled b c t) = trouble_is_tried p s row before why t
-fragment_is_tried p s r row entry before why (Legal.ReadTrouble.mismatched found hit m) = Choices.IsTried.given m.bytes m.given
+fragment_is_tried : (p : Permit) (s : State) (row : Row) (entry : TableRow) (before : List Rec) (why : Cause) → ReadTrouble p s row entry before why → IsTried p s row
+fragment_is_tried p s row entry before why (Legal.ReadTrouble.troubled b c t) = trouble_is_tried p s row before why t
+fragment_is_tried p s row entry before why (Legal.ReadTrouble.mismatched found read unlike) = read_is_tried p s row read
 
 tried_at : (p : Permit) (s : State) (o : Option Row) (row : Row) → o ≡ Some row → IsTried p s row → IsTriedWhereLive p s o
 tried_at p s o row live h = subst (IsTriedWhereLive p s) (sym live) h
@@ -54,9 +54,9 @@ lookup_is_tried p s key request before answer (Legal.IsLookup.verdict r) = where
 lookup_is_tried p s key request before answer (Legal.IsLookup.trouble row b why live t) = tried_at p s (live_vector_of s key) row live (trouble_is_tried p s row before why t)
 
 reading_is_tried : (p : Permit) (s : State) (r : ReaderRow) (before : List Rec) (answer : NextAnswer) → IsReading p s r before answer → IsTriedWhereLive p s (live_next s r)
-reading_is_tried p s r before answer (Legal.IsReading.verdict x) = where_live p s (live_next s r) x
+reading_is_tried p s r before answer (Legal.IsReading.verdict x listed) = where_live p s (live_next s r) x
 reading_is_tried p s r before answer (Legal.IsReading.trouble entry row b why found live t) =
-    tried_at p s (live_next s r) row (rw found live) (fragment_is_tried p s r row entry before why t)
+    tried_at p s (live_next s r) row (rw found live) (fragment_is_tried p s row entry before why t)
 
 read_on_is_tried : (p : Permit) (s : State) (reader : ℕ) (answer : NextAnswer) (added : List Rec) → MayReadOn p s reader answer added
     → IsTriedWhereLive p s (option_and_then (live_next s) (reader_of s reader))
@@ -144,10 +144,10 @@ live_in p s r (Some entry) index n h x =
     (live.0, live.1, was_read p s live.0 (subst (IsReadWhereLive p s) live.1 x))
 
 given_by : (p : Permit) (s : State) (r : ReaderRow) (before : List Rec) (index n : ℕ) (answer : NextAnswer) → answer ≡ next.Gave index n
-    → IsReading p s r before answer → (row : Row) × (live_row_of s (next_piece r) ≡ Some row) × WasRead p s row
-given_by p s r before index n answer is (Legal.IsReading.verdict x) = live_in p s r (next_row s r) index n is x
+    → IsReading p s r before answer → ((row : Row) × (live_row_of s (next_piece r) ≡ Some row) × WasRead p s row) × IsNextAsListed s r
+given_by p s r before index n answer is (Legal.IsReading.verdict x listed) = (live_in p s r (next_row s r) index n is x, listed)
 given_by p s r before index n answer is (Legal.IsReading.trouble entry row b why found live t) = cc
 
 pub given_is_read : (p : Permit) (s : State) (r : ReaderRow) (before : List Rec) (index n : ℕ)
-    → IsReading p s r before (next.Gave index n) → (row : Row) × (live_row_of s (next_piece r) ≡ Some row) × WasRead p s row
+    → IsReading p s r before (next.Gave index n) → ((row : Row) × (live_row_of s (next_piece r) ≡ Some row) × WasRead p s row) × IsNextAsListed s r
 given_is_read p s r before index n h = given_by p s r before index n (next.Gave index n) refl h

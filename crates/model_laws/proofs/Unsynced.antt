@@ -37,6 +37,7 @@ drain_on (Legal.DoesDrain.syncs none some d) = sync_on d
 
 pub clean_on : {p : Permit} {s : State} {added : List Rec} {e : End} → DoesCleanSync p s added e → p.syncs ≡ true
 clean_on (Syncing.DoesCleanSync.moving on quiet some is) = on
+clean_on (Syncing.DoesCleanSync.runs serial on quiet none running is) = on
 clean_on (Syncing.DoesCleanSync.syncs on quiet none rests below is) = on
 clean_on (Syncing.DoesCleanSync.stops count on quiet none rests below c is) = on
 clean_on (Syncing.DoesCleanSync.exhausted on quiet none rests high is) = on
@@ -83,6 +84,7 @@ drain_ends (Legal.DoesDrain.syncs none some d) h = sync_ends d h
 
 pub clean_ends : {p : Permit} {s : State} {added : List Rec} {e : End} → DoesCleanSync p s added e → e ≡ Stays → ⊥
 clean_ends (Syncing.DoesCleanSync.moving on quiet some is) h = cc
+clean_ends (Syncing.DoesCleanSync.runs serial on quiet none running is) h = cc
 clean_ends (Syncing.DoesCleanSync.syncs on quiet none rests below is) h = cc
 clean_ends (Syncing.DoesCleanSync.stops count on quiet none rests below c is) h = cc
 clean_ends (Syncing.DoesCleanSync.exhausted on quiet none rests high is) h = cc

@@ -47,7 +47,7 @@ digest = record { 0 = [] }
 
 abbrev row_at : (put index place blocks pin : ℕ) → Row
 row_at put index place blocks pin =
-    record { id = record { first = key_of put; put = put; index = index }; place = place; blocks = blocks; digest = digest; pin = pin; alternates = None }
+    record { id = record { first = key_of put; put = put; index = index }; place = place; blocks = blocks; digest = digest; payload = None; pin = pin; alternates = None }
 
 abbrev reader_of : (put next : ℕ) → ReaderRow
 reader_of put next = record { actor = 1; reader = 1; key = key_of put; put = put; table = None; next = next }
@@ -87,7 +87,7 @@ pub one_that_does_not_fit_leaves_the_budget : kept_within 4 (map (λ (row : Row)
 one_that_does_not_fit_leaves_the_budget = refl
 
 abbrev none_read : Permit
-none_read = record { packed = false; syncs = false; now = 0; area = 0; durable = 0; events = RefusedCall (ToRead 5 1) 2 ∷ RefusedCall (ToRead 0 3) 1 ∷ [] }
+none_read = record { packed = false; syncs = false; now = 0; area = 0; past = []; events = RefusedCall (ToRead 5 1) 2 ∷ RefusedCall (ToRead 0 3) 1 ∷ [] }
 
 -- a read that is refused uses the budget too
 pub two_are_refused : AreOutcomes none_read (at_120 pinned []) 4 pinned (Refused 1 ∷ NoRoom ∷ Refused 2 ∷ [])

@@ -1,13 +1,14 @@
 -- Which groups of records tell of syncs: where these are due or asked for, what stands before the next buffer, and what a
 -- clean mark holds back (directory syncs: Apache Traffic Server guide, Cache Architecture).
-use Rattle.std.specs.Prelude.{ℕ, ◌≡◌, ◌<◌, Bool, true, false, List, ◌∷◌, ◌++◌, Option, Some}
+use Rattle.std.specs.Prelude.{ℕ, ◌≡◌, ◌<◌, Bool, true, false, List, ◌∷◌, ◌++◌, Option, Some, None}
 use Rattle.std.specs.List.{AllByRecursion}
 use Rattle.cache_model.specs.declared.record.Rec.{Rec}
 use Rattle.cache_model.specs.declared.record.Rec.TheVariants as rec
 use Rattle.cache_model.specs.State.{State, Mark, after_all, cursor_next, floor_next, nothing_yet}
 use Rattle.cache_model.specs.Permit.{Permit, Setting, IsAmong, Intent, Flush, Sync, SyncBegin, Drain, CleanSync, Fragment, Finish, Reason, End, Stays, Done, Fails}
-use Rattle.cache_model.specs.Syncing.{Syncing, AtOnce, InParts, WhereDue, at_first, ends_first, is_in_parts, must_unmark, needs_whole, next_serial}
+use Rattle.cache_model.specs.Syncing.{Syncing, AtOnce, InParts, WhereDue, at_first, ends_first, is_in_parts, must_unmark, needs_sync, needs_whole, next_serial}
 use Rattle.cache_model.specs.Outcomes.{began_record}
+use Rattle.cache_model.specs.ToRead.{flushes_first}
 use Rattle.cache_model.specs.Legal.{Course, Does, IsLegal, IsStep}
 use Rattle.model_laws.specs.StepLaws.{AllAlong}
 
@@ -116,21 +117,71 @@ abbrev pub RoomBegins : Type 0
 RoomBegins = (p : Permit) (s : State) (i : Intent) (added : List Rec) → places i ≡ true → must_unmark p s ≡ false
     → Does p s i added Stays → IsAmong (began_record s) added
 
+-- the record begins a buffer
+abbrev pub begins_buffer : Rec → Bool
+begins_buffer (rec.Began cursor floor) = true
+begins_buffer _ = false
+
+-- a sync ends, and no buffer begins before that
+pub record EndsBefore (serial : ℕ) (added : List Rec) : Type 0 where
+  pub before : List Rec
+  pub behind : List Rec
+  pub is : added ≡ before ++ rec.SyncDone serial ∷ behind
+  pub first : AllByRecursion (λ (r : Rec). begins_buffer r ≡ false) before
+
+-- where a sync is due or asked for behind the buffer, the sync in parts that goes on ends before the next buffer begins
+abbrev pub DueIsEnded : Type 0
+DueIsEnded = (p : Permit) (s : State) (i : Intent) (added : List Rec) (e : End) (serial cursor floor : ℕ) → p.syncs ≡ true
+    → s.running ≡ Some serial → needs_sync (way_of i) s ≡ true → Does p s i added e → IsAmong (rec.Began cursor floor) added
+    → EndsBefore serial added
+
+-- ---- what is asked for is made
+
+-- a sync begins that has the next serial and the cursor of the buffer behind these records, and goes through; it is the last
+-- one that finished, and none goes on
+pub record IsSyncMade (s : State) (clean : Bool) (added : List Rec) : Type 0 where
+  pub before : List Rec
+  pub behind : List Rec
+  pub is : added ≡ before
+      ++ rec.SyncBegun (next_serial s) (after_all s added).cursor clean false ∷ rec.SyncDone (next_serial s) ∷ behind
+  pub finished : (after_all s added).finished ≡ next_serial s
+  pub over : (after_all s added).running ≡ None
+
+-- one begins that later steps write, and goes on
+pub record IsSyncBegun (s : State) (added : List Rec) : Type 0 where
+  pub before : List Rec
+  pub behind : List Rec
+  pub is : added ≡ before ++ rec.SyncBegun (next_serial s) (after_all s added).cursor false true ∷ behind
+  pub running : (after_all s added).running ≡ Some (next_serial s)
+
+-- so it is where that is asked for, also of an empty buffer; a drain syncs where the buffer is not empty
+abbrev pub IsSynced : State → Intent → List Rec → Type 0
+IsSynced s Sync added = IsSyncMade s false added
+IsSynced s SyncBegin added = IsSyncBegun s added
+IsSynced s CleanSync added = IsSyncMade s true added
+IsSynced s Drain added = 0 < s.filled → IsSyncMade s false added
+IsSynced s _ added = Unit {0}
+
+-- what is done was so
+abbrev pub AskedIsSynced : Type 0
+AskedIsSynced = (p : Permit) (s : State) (i : Intent) (added : List Rec) → Does p s i added Done → IsSynced s i added
+
 -- ---- why a sync begins
 
--- a sync is asked for
+-- a sync is asked for, whatever the buffer has
 abbrev pub asks_sync : Intent → Bool
 asks_sync Sync = true
 asks_sync SyncBegin = true
-asks_sync Drain = true
 asks_sync CleanSync = true
 asks_sync _ = false
 
--- it is asked for, a clean mark is taken back, or it is due behind the buffer, also once the one in parts is ended
+-- it is asked for, or a buffer that is not empty is drained; a clean mark is taken back before a piece is placed; or what is
+-- asked begins with a flush of a buffer that is not empty, and a sync is due behind that, also once the one in parts is ended
 pub data HasCause (p : Permit) (s : State) (i : Intent) : Type 0 where
   asked : asks_sync i ≡ true → HasCause p s i
-  marked : must_unmark p s ≡ true → HasCause p s i
-  due : needs_whole WhereDue (at_first WhereDue s) ≡ true → HasCause p s i
+  drained : i ≡ Drain → 0 < s.filled → HasCause p s i
+  marked : places i ≡ true → must_unmark p s ≡ true → HasCause p s i
+  due : way_of i ≡ WhereDue → flushes_first s i ≡ true → 0 < s.filled → needs_whole WhereDue (at_first WhereDue s) ≡ true → HasCause p s i
 
 -- no sync begins without a cause
 abbrev pub SyncIsDueOrAsked : Type 0

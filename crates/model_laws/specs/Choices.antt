@@ -6,22 +6,20 @@ use Rattle.device_log.specs.Calls.{Asked, Read, RefusedCall}
 use Rattle.tape_base.specs.declared.keys.Key.{Key}
 use Rattle.tape_base.specs.declared.pieces.PieceId.{PieceId}
 use Rattle.tape_base.specs.declared.actors.Actor.{Actor}
-use Rattle.tape_base.specs.Digest.{digest_of}
 use Rattle.tape_base.specs.Geometry.{budget_of}
-use Rattle.doc_header.specs.Reading.{document_digest, payload_of}
-use Rattle.fragment_table.specs.Table.{TableRow}
+use Rattle.doc_header.specs.Reading.{document_digest}
 use Rattle.alternate_vector.specs.Field.{Field, AreFields}
 use Rattle.cache_model.specs.declared.answer.ReadAnswer.TheVariants as read
 use Rattle.cache_model.specs.declared.answer.NextAnswer.TheVariants as next
 use Rattle.cache_model.specs.declared.record.Rec.{Rec}
 use Rattle.cache_model.specs.State.{State, Row, PutRow, ReaderRow, Open, live_row_of, put_of, reader_of, vector_piece, most_fragments}
-use Rattle.cache_model.specs.Verdict.{live_vector_of, next_piece, next_row}
+use Rattle.cache_model.specs.Verdict.{live_vector_of, next_piece}
 use Rattle.cache_model.specs.Permit.{Permit, IsAmong, Intent, Flush, Sync, SyncBegin, SyncStep, Drain, CleanSync, Write, Fragment, Overflow, Weigh, Finish, Commit, GiveUp, Remove, Look, ReadOn, ReadAll, StopReading, End}
 use Rattle.cache_model.specs.Due.{due_pieces}
 use Rattle.cache_model.specs.Tape.{IsSound}
 use Rattle.cache_model.specs.Given.{CountsRead, CountsWrite, IsGiven, IsWritten, TakesBuffer, block_at}
 use Rattle.cache_model.specs.ToRead.{flushes_first, to_read}
-use Rattle.cache_model.specs.Legal.{CanFlush, Does, IsCut, IsNext, IsLookup, IsQuiet, IsReading, IsWriting}
+use Rattle.cache_model.specs.Legal.{CanFlush, Does, IsCut, IsNext, IsNextAsListed, IsLookup, IsQuiet, IsReading, IsWriting}
 
 -- ---- one at most
 
@@ -31,15 +29,12 @@ GivesOnce p = (at : ℕ) (one other : List ℕ) → IsAmong (Read at one) p.even
     → length one ≡ length other → one ≡ other
 
 -- the directory displaces nothing, the device refuses no call in the step, what it gives from a block on is
--- one string of bytes, and for a live piece it is what was kept of it, and what the table of a reader
--- that comes to it lists
+-- one string of bytes, and for a live piece it is what was kept of it
 pub record IsFaithful (p : Permit) (s : State) : Type 0 where
   pub displaces_nothing : p.packed ≡ false
   pub unrefused : (asked : Asked) (count : ℕ) → IsAmong (RefusedCall asked count) p.events → ⊥
   pub once : GivesOnce p
   pub kept : (id : PieceId) (row : Row) (bytes : List ℕ) → live_row_of s id ≡ Some row → IsGiven p s row bytes → row.digest ≡ document_digest bytes
-  pub listed : (reader : ℕ) (r : ReaderRow) (entry : TableRow) (row : Row) (bytes : List ℕ) → reader_of s reader ≡ Some r → next_row s r ≡ Some entry
-      → live_row_of s (next_piece r) ≡ Some row → IsGiven p s row bytes → entry.digest ≡ (digest_of (payload_of bytes)).0
 
 -- there, on a sound tape and of a stripe that does not sync, what is asked fixes the records of a group, and how it ends
 abbrev pub GroupIsFixed : Type 0
@@ -158,7 +153,7 @@ abbrev pub HitIsRead : Type 0
 HitIsRead = (p : Permit) (s : State) (key : Key) (request : List Field) (before : List Rec) (put : ℕ) (row : Row)
     → live_vector_of s key ≡ Some row → IsLookup p s key request before (read.Hit put) → WasRead p s row
 
--- a fragment that is given is live, and was read
+-- a fragment that is given is live, and was read, and its payload is the one that is listed
 abbrev pub GivenIsRead : Type 0
 GivenIsRead = (p : Permit) (s : State) (r : ReaderRow) (before : List Rec) (index n : ℕ)
-    → IsReading p s r before (next.Gave index n) → (row : Row) × (live_row_of s (next_piece r) ≡ Some row) × WasRead p s row
+    → IsReading p s r before (next.Gave index n) → ((row : Row) × (live_row_of s (next_piece r) ≡ Some row) × WasRead p s row) × IsNextAsListed s r

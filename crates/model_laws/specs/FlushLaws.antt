@@ -1,14 +1,16 @@
 -- What holds of a flush that copies pieces ahead.
-use Rattle.std.specs.Prelude.{ℕ, ◌≡◌, ◌+◌, ◌<◌, ◌≤◌, Bool, true, false, List, ◌∷◌, filter, map, Some, None}
+use Rattle.std.specs.Prelude.{ℕ, ◌≡◌, ◌≢◌, ◌+◌, ◌<◌, ◌≤◌, Bool, true, false, List, ◌∷◌, filter, map, Some, None}
 use Rattle.std.specs.List.{AllByRecursion}
 use Rattle.tape_base.specs.declared.pieces.PieceId.{PieceId}
 use Rattle.tape_base.specs.Geometry.{budget_of}
 use Rattle.evacuator.specs.Choice.{kept_within}
+use Rattle.cache_model.specs.declared.record.Rec.{Rec}
+use Rattle.cache_model.specs.declared.record.Rec.TheVariants as rec
 use Rattle.cache_model.specs.State.{State, Row, after_all, floor_next, floor_now, live_row_of}
 use Rattle.model_laws.specs.Choices.{AreTried, HasBytes, IsFaithful}
 use Rattle.device_log.specs.Calls.{Asked}
 use Rattle.cache_model.specs.Given.{MayCount}
-use Rattle.model_laws.specs.StepLaws.{AllAlong, IsBacked, IsRisen}
+use Rattle.model_laws.specs.StepLaws.{AllAlong, IsOfGiven, IsRefusalCount, IsRisen}
 use Rattle.cache_model.specs.Tape.{IsSound}
 use Rattle.cache_model.specs.Verdict.{piece_at}
 use Rattle.cache_model.specs.Permit.{Permit}
@@ -59,16 +61,22 @@ StoppedIsSound = (s : State) (rows : List Row) (outcomes : List Outcome) (count 
 
 -- ---- the device
 
--- each fault that is recorded is a new one, and damage is told only of bytes that the device gave
+-- damage is told only of a document that the device gave in the step, and a fault of a call that it refused
+abbrev pub IsOfDevice : Permit → State → Rec → Type 0
+IsOfDevice p s (rec.Damaged piece place kept found) = IsOfGiven p s place found × (kept ≢ found)
+IsOfDevice p s (rec.Fault count) = IsRefusalCount p count
+IsOfDevice p s _ = Unit {0}
+
+-- each fault that a flush records is a new one, and so is what it tells of damage
 abbrev pub FrontIsBacked : Type 0
 FrontIsBacked = (p : Permit) (s : State) (left : ℕ) (rows : List Row) (outcomes : List Outcome) → AreOutcomes p s left rows outcomes
-    → AllAlong (IsRisen p) s (front_of rows outcomes) × AllAlong (IsBacked p) s (front_of rows outcomes)
+    → AllAlong (IsRisen p) s (front_of rows outcomes) × AllAlong (IsOfDevice p) s (front_of rows outcomes)
 
 -- so it is in a flush that stops, for one more refusal
 abbrev pub StoppedIsBacked : Type 0
 StoppedIsBacked = (p : Permit) (s : State) (left : ℕ) (rows : List Row) (outcomes : List Outcome) (asked : Asked) (count : ℕ)
     → AreOutcomes p s left rows outcomes → MayCount p (after_all s (stopped_front_of rows outcomes)) asked count
-    → AllAlong (IsRisen p) s (stopped_records rows outcomes count) × AllAlong (IsBacked p) s (stopped_records rows outcomes count)
+    → AllAlong (IsRisen p) s (stopped_records rows outcomes count) × AllAlong (IsOfDevice p) s (stopped_records rows outcomes count)
 
 -- ---- the outcomes
 

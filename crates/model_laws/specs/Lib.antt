@@ -9,5 +9,6 @@ pub mod FlushLaws
 pub mod Agreeing
 pub mod SyncLaws
 pub mod AskLaws
+pub mod PayloadLaws
 pub mod ForgetLaws
 pub mod RoomLaws

@@ -4,21 +4,22 @@ use Rattle.std.specs.List.{AllByRecursion}
 use Rattle.edge_io.specs.Causes.{Rose}
 use Rattle.device_log.specs.Calls.{Asked, Read, RefusedCall}
 use Rattle.tape_base.specs.declared.keys.Key.{Key}
+use Rattle.tape_base.specs.declared.pieces.PieceId.{PieceId}
 use Rattle.tape_base.specs.declared.digests.Digest.{Digest}
 use Rattle.tape_base.specs.declared.actors.Actor.{Actor}
 use Rattle.tape_base.specs.Digest.{digest_of}
 use Rattle.tape_base.specs.Blocks.{blocks_of}
 use Rattle.tape_base.specs.Geometry.{budget_of}
-use Rattle.doc_header.specs.Reading.{document_digest, payload_of}
+use Rattle.doc_header.specs.Reading.{document_digest}
 use Rattle.alternate_vector.specs.Field.{Field}
 use Rattle.cache_model.specs.declared.answer.ReadAnswer.{ReadAnswer}
 use Rattle.cache_model.specs.declared.record.Rec.{Rec}
 use Rattle.cache_model.specs.declared.record.Rec.TheVariants as rec
-use Rattle.cache_model.specs.State.{State, Row, PutRow, state_after, after_all, place_now, put_of, reader_of}
-use Rattle.cache_model.specs.Verdict.{live_vector_of}
+use Rattle.cache_model.specs.State.{State, Row, PutRow, state_after, after_all, live_row_of, place_now, put_of, reader_of}
+use Rattle.cache_model.specs.Verdict.{live_vector_of, payload_of_piece}
 use Rattle.cache_model.specs.Permit.{Permit, IsAmong, Intent, Flush, Fragment, Weigh, Finish, GiveUp, Remove, Look, ReadAll, StopReading, Reason, End, Done, Fails, Work, work_after}
 use Rattle.cache_model.specs.Room.{limit, has_room}
-use Rattle.cache_model.specs.Given.{block_at}
+use Rattle.cache_model.specs.Given.{IsRead, block_at}
 use Rattle.cache_model.specs.Syncing.{must_unmark}
 use Rattle.cache_model.specs.Legal.{Does, IsStep, MayGrow, is_writing, size_alone}
 
@@ -120,12 +121,12 @@ NumbersFollow = (p : Permit) (s : State) (intents : List Intent) (added : List R
     → IsStep p s intents added why → AllAlong IsNumbered s added
 
 -- some call that the device refused in the step has this count behind it
-abbrev pub IsCounted : Permit → ℕ → Type 0
-IsCounted p count = (asked : Asked) × IsAmong (RefusedCall asked count) p.events
+abbrev pub IsRefusalCount : Permit → ℕ → Type 0
+IsRefusalCount p count = (asked : Asked) × IsAmong (RefusedCall asked count) p.events
 
 -- a fault's count rose above that of the last fault, and is that of a call that was refused in the step
 abbrev pub IsRisen : Permit → State → Rec → Type 0
-IsRisen p s (rec.Fault count) = Rose s.fault count × IsCounted p count
+IsRisen p s (rec.Fault count) = Rose s.fault count × IsRefusalCount p count
 IsRisen p s _ = Unit {0}
 
 -- each fault is a new one
@@ -133,20 +134,29 @@ abbrev pub FaultsRise : Type 0
 FaultsRise = (p : Permit) (s : State) (intents : List Intent) (added : List Rec) (why : Option Reason)
     → IsStep p s intents added why → AllAlong (IsRisen p) s added
 
--- a digest of bytes that the device gave in the step from the block of a place on: of a document, or of its payload
+-- the digest of a document that the device gave in the step from the block of a place on
 pub record IsOfGiven (p : Permit) (s : State) (place : ℕ) (found : Digest) : Type 0 where
   pub bytes : List ℕ
   pub given : IsAmong (Read (block_at p s place) bytes) p.events
-  pub digest : (found ≡ document_digest bytes) ⊎ (found ≡ digest_of (payload_of bytes))
+  pub digest : found ≡ document_digest bytes
 
--- a piece is damaged only where the device gave bytes for it in this step with another digest than
--- the one that was kept, and a fault is recorded only with the count of a call that was refused in it
+-- the digest of the payload of the live piece at a place, which was in the buffer, or read in the step
+pub record IsOfPayload (p : Permit) (s : State) (piece : PieceId) (place : ℕ) (found : Digest) : Type 0 where
+  pub row : Row
+  pub live : live_row_of s piece ≡ Some row
+  pub there : row.place ≡ place
+  pub read : IsRead p s row
+  pub payload : payload_of_piece s piece ≡ Some found
+
+-- a piece is damaged only with another digest than the one that was kept: that of a document that the device gave for it in
+-- this step, or, of a payload that is not the one that is listed, that of the payload as the records tell it; and a fault is
+-- recorded only with the count of a call that was refused in the step
 abbrev pub IsBacked : Permit → State → Rec → Type 0
-IsBacked p s (rec.Damaged piece place kept found) = IsOfGiven p s place found × (kept ≢ found)
-IsBacked p s (rec.Fault count) = IsCounted p count
+IsBacked p s (rec.Damaged piece place kept found) = (IsOfGiven p s place found ⊎ IsOfPayload p s piece place found) × (kept ≢ found)
+IsBacked p s (rec.Fault count) = IsRefusalCount p count
 IsBacked p s _ = Unit {0}
 
--- damage and faults are recorded only where the device did what they say
+-- so it is of each record of damage and of a fault
 abbrev pub TroubleIsBacked : Type 0
 TroubleIsBacked = (p : Permit) (s : State) (intents : List Intent) (added : List Rec) (why : Option Reason)
     → IsStep p s intents added why → AllAlong (IsBacked p) s added

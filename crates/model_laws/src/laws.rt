@@ -9,8 +9,8 @@ ghost use Rattle.model_laws.specs.FlushLaws.{DueAreFound, FlushIsSound, FrontIsB
 ghost use Rattle.model_laws.specs.Agreeing.{GroupsAgree, OtherCopiesAreBytes, StepsAgree};
 ghost use Rattle.model_laws.specs.PairLaws.{CopiedIsDueAndFits, LookupReadsItsKey, NothingAskedReadsNone, PairsAreBytes, PairsAreGiven, ReaderReadsItsNext};
 ghost use Rattle.model_laws.specs.VectorLaws.{FlushTells, StoppedTells, FormatsTell, OpeningsTell, GroupsTell, StepsTell, VectorsAreKept, MergedIsSpelled, CountIsListed, FormatsCount, GroupsCount, OpeningsCount, StepsCount, UnansweredIsCounted};
-ghost use Rattle.model_laws.specs.SyncLaws.{FinishedIsLast, FollowerAllowsSync, FollowerHasSync, MarksStay, OnlyLaterAreAllowed, OpenedIsTold, SyncIsHeld};
-ghost use Rattle.model_laws.specs.AskLaws.{DueIsSynced, EndedFirst, FlushBegins, LegalSerialsRise, MarkIsTakenBack, MarkedIsEmpty, MarkedPlacesNothing, MarkedStaysEmpty, NoSyncIsRecorded, RoomBegins, SerialsFollow, SerialsRise, StepsTellNoSync, SyncIsDueOrAsked};
+ghost use Rattle.model_laws.specs.SyncLaws.{OpenedIsTold};
+ghost use Rattle.model_laws.specs.PayloadLaws.{FormattedAreCut, PayloadsAreCut};
 ghost use Rattle.model_laws.specs.RoomLaws.{GroupFits, InsertFits, LegalFits, LessFits, MoveDisplacesNothing, SlotIsMade, StepFits};
 ghost use Rattle.model_laws.specs.ForgetLaws.{FewAreDead, ForgettingCounts, ForgettingIsSound, ForgettingLeaves, ForgettingTells, ForgettingTwice, ForgottenIsDead, ForgottenIsUnrecorded, GivenStays, GreatestAreKept, KeptIsAnswered, KnownAreFalling, NamedIsKept, NoRecordIsTold, ReaderIsAnswered, WrittenIsKept};
 ghost use Rattle.cache_model.specs.Vectors.{IsVectorAs, LiveVectorIsListed, VectorIsReadBack};
@@ -110,7 +110,8 @@ pub fn writer_is_ended()
     ensures { WriterIsEnded }
 {}
 
-/// Damage and faults are recorded only where the device did what they say.
+/// Damage is recorded only with a digest of what the device gave, or of a payload as the records tell
+/// it, and faults only where the device refused a call.
 pub fn trouble_is_backed()
     ensures { TroubleIsBacked }
 {}
@@ -159,7 +160,8 @@ pub fn hit_is_read()
     ensures { HitIsRead }
 {}
 
-/// A fragment that is given was in the buffer, or was read with the digest that was kept.
+/// A fragment that is given was in the buffer, or was read with the digest that was kept, and its
+/// payload is the one that is listed.
 pub fn given_is_read()
     ensures { GivenIsRead }
 {}
@@ -285,6 +287,13 @@ pub fn unanswered_is_counted()
     ensures { UnansweredIsCounted }
 {}
 
+/// In each legal chronicle a fragment of a put of the session has the length and the digest that this
+/// has cut; behind a format each fragment is of such a put.
+pub fn payloads_are_cut()
+    ensures legal { PayloadsAreCut }
+    ensures formatted { FormattedAreCut }
+{}
+
 /// The vector that a put is to have is a piece, where that of its own alternate alone is one.
 pub fn merged_is_spelled()
     ensures { MergedIsSpelled }
@@ -382,33 +391,6 @@ pub fn openings_are_sound()
 /// The vectors that an opening found list their alternates.
 pub fn openings_tell()
     ensures { OpeningsTell }
-{}
-
-/// What a sync holds is how things stood when it began.
-pub fn sync_is_held()
-    ensures { SyncIsHeld }
-{}
-
-/// Nothing that is recorded later changes what a sync holds.
-pub fn marks_stay()
-    ensures { MarksStay }
-{}
-
-/// The sync that finished last is the last of which that is recorded.
-pub fn finished_is_last()
-    ensures { FinishedIsLast }
-{}
-
-/// Once a sync finished it may be found, and what was begun later, and nothing earlier.
-pub fn only_later_are_allowed()
-    ensures { OnlyLaterAreAllowed }
-{}
-
-/// An opening that follows a session has the pieces of the sync that it took up, and its number of the next put; and that
-/// sync may be found again.
-pub fn followers_take_up()
-    ensures has { FollowerHasSync }
-    ensures allows { FollowerAllowsSync }
 {}
 
 /// A lookup of what neither the session nor its opening knows tells the opening's serial.
@@ -531,50 +513,4 @@ pub fn legal_fits()
 /// Each copy of a flush has a slot, so that it displaces nothing.
 pub fn move_displaces_nothing()
     ensures { MoveDisplacesNothing }
-{}
-
-/// A stripe that does not sync records no sync.
-pub fn no_sync_is_recorded()
-    ensures group { NoSyncIsRecorded }
-    ensures step { StepsTellNoSync }
-{}
-
-/// While a clean copy may be found, nothing is placed in an empty buffer, and what is to be placed
-/// waits until the mark is taken back.
-pub fn marked_places_nothing()
-    ensures none { MarkedPlacesNothing }
-    ensures back { MarkIsTakenBack }
-{}
-
-/// And the buffer is empty then.
-pub fn marked_is_empty()
-    ensures group { MarkedStaysEmpty }
-    ensures legal { MarkedIsEmpty }
-{}
-
-/// Where a sync is asked for, or the buffer ends out of reach, the sync in parts is ended before all
-/// else.
-pub fn ended_first()
-    ensures { EndedFirst }
-{}
-
-/// Where a whole sync is due or asked for behind the buffer, the next buffer begins only once that
-/// sync went through; and a flush is done, also one for room, only where the next buffer begins.
-pub fn due_is_synced()
-    ensures due { DueIsSynced }
-    ensures flush { FlushBegins }
-    ensures room { RoomBegins }
-{}
-
-/// A sync begins only where it is asked for, where a clean mark is taken back, or where it is due
-/// behind the buffer.
-pub fn sync_is_due_or_asked()
-    ensures { SyncIsDueOrAsked }
-{}
-
-/// Each sync takes the next serial, so that the last one that began has the greatest of the session.
-pub fn serials_rise()
-    ensures follow { SerialsFollow }
-    ensures group { SerialsRise }
-    ensures legal { LegalSerialsRise }
 {}

@@ -1,5 +1,5 @@
 use Rattle.model_laws.proofs.MarkedEmpty.{marked_is_empty, marked_stays_empty}
-use Rattle.model_laws.proofs.laws.marked_is_empty.Goals as goal
+use Rattle.model_laws.proofs.sync_laws.marked_is_empty.Goals as goal
 
 pub returns-clause-group : goal.returns-clause-group
 returns-clause-group c = marked_stays_empty

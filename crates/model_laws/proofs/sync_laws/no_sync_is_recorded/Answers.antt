@@ -1,5 +1,5 @@
 use Rattle.model_laws.proofs.Asks.{no_sync_is_recorded, steps_tell_no_sync}
-use Rattle.model_laws.proofs.laws.no_sync_is_recorded.Goals as goal
+use Rattle.model_laws.proofs.sync_laws.no_sync_is_recorded.Goals as goal
 
 pub returns-clause-group : goal.returns-clause-group
 returns-clause-group c = no_sync_is_recorded

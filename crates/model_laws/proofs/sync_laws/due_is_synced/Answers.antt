@@ -1,5 +1,5 @@
 use Rattle.model_laws.proofs.AskSyncs.{due_is_synced, flush_begins, room_begins}
-use Rattle.model_laws.proofs.laws.due_is_synced.Goals as goal
+use Rattle.model_laws.proofs.sync_laws.due_is_synced.Goals as goal
 
 pub returns-clause-due : goal.returns-clause-due
 returns-clause-due c = due_is_synced

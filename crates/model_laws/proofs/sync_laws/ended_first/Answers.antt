@@ -1,5 +1,5 @@
 use Rattle.model_laws.proofs.Asks.{ended_first}
-use Rattle.model_laws.proofs.laws.ended_first.Goals as goal
+use Rattle.model_laws.proofs.sync_laws.ended_first.Goals as goal
 
 pub returns : goal.returns
 returns c = ended_first

@@ -1,5 +1,5 @@
 use Rattle.model_laws.proofs.Asks.{mark_is_taken_back, marked_places_nothing}
-use Rattle.model_laws.proofs.laws.marked_places_nothing.Goals as goal
+use Rattle.model_laws.proofs.sync_laws.marked_places_nothing.Goals as goal
 
 pub returns-clause-none : goal.returns-clause-none
 returns-clause-none c = marked_places_nothing

@@ -1,5 +1,5 @@
 use Rattle.model_laws.proofs.Syncs.{finished_is_last}
-use Rattle.model_laws.proofs.laws.finished_is_last.Goals as goal
+use Rattle.model_laws.proofs.sync_laws.finished_is_last.Goals as goal
 
 pub returns : goal.returns
 returns c = finished_is_last

@@ -1,5 +1,5 @@
 use Rattle.model_laws.proofs.Serials.{legal_serials_rise, serials_follow, serials_rise}
-use Rattle.model_laws.proofs.laws.serials_rise.Goals as goal
+use Rattle.model_laws.proofs.sync_laws.serials_rise.Goals as goal
 
 pub returns-clause-follow : goal.returns-clause-follow
 returns-clause-follow c = serials_follow
