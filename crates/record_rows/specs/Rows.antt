@@ -2,7 +2,7 @@
 use Rattle.std.specs.Prelude.{ℕ, ◌≡◌, true, false, List, [], ◌∷◌, ◌++◌, Some, None, length, map, fold, codes}
 use Rattle.tape_base.specs.declared.keys.Key.{Key}
 use Rattle.tape_base.specs.declared.pieces.PieceId.{PieceId}
-use Rattle.alternate_vector.specs.Alternates.{Stored}
+use Rattle.alternate_vector.specs.Alternates.{Stored, vector_size}
 use Rattle.cache_model.specs.declared.answer.ReadAnswer.TheVariants as read
 use Rattle.cache_model.specs.declared.cause.Cause.TheVariants as cause
 use Rattle.cache_model.specs.declared.findings.FoundRow.{FoundRow}
@@ -109,7 +109,7 @@ stored_in put value = one_byte (language value) varies put
 -- a vector that an opening finds
 abbrev pub vector_at : ℕ → ℕ → Key → List Stored → FoundRow
 vector_at place put key list =
-    record { id = vector_piece key put; place = place; blocks = 1; digest = no_digest; payload = no_digest; pin = 0; alternates = Some list }
+    record { id = vector_piece key put; place = place; blocks = 1; digest = no_digest; length = vector_size list; payload = no_digest; pin = 0; alternates = Some list }
 
 -- two alternates of one key
 abbrev pub two_languages : List Stored

@@ -1,18 +1,18 @@
 -- Steps of a stripe that syncs, with the calls of the device on which they rest, each worked by hand; and records that are
 -- no step, since a call is missing or is another one.
-use Rattle.std.specs.Prelude.{ℕ, ◌≡◌, ◌*◌, true, false, List, [], ◌∷◌, ◌++◌, Some, None, length}
+use Rattle.std.specs.Prelude.{ℕ, ◌≡◌, ◌*◌, ◌≤◌, true, false, List, [], ◌∷◌, ◌++◌, Some, None, length}
 use Rattle.std.specs.List.{repeat}
 use Rattle.device_log.specs.Calls.{Call, RefusedCall, Synced, ToWrite, Wrote}
 use Rattle.cache_model.specs.declared.record.Rec.TheVariants as rec
 use Rattle.cache_model.specs.Legal.{IsStep, format_records}
-use Rattle.cache_model.specs.Permit.{CleanSync, Drain, Faulted, NoSync, Permit, Sync, SyncBegin, SyncRuns, SyncStep}
+use Rattle.cache_model.specs.Permit.{CleanSync, Drain, Faulted, Flush, NoSync, Permit, Sync, SyncBegin, SyncRuns, SyncStep}
 use Rattle.cache_model.specs.State.{State, after_all, nothing_yet}
 use Rattle.record_rows.specs.Worked.{behind_format, behind_opening, synced, wide}
 use Rattle.record_rows.specs.Rows.{clean_sync, while_it_runs}
 
 -- a step of a stripe that syncs, whose content area begins behind two copies of six blocks of directory
 abbrev pub with_calls : List Call → Permit
-with_calls events = record { packed = true; syncs = true; now = 0; area = 19; durable = 0; events = events }
+with_calls events = record { packed = true; syncs = true; now = 0; area = 19; past = []; events = events }
 
 -- the bytes of a gate behind its first one
 abbrev pub zeros : List ℕ
@@ -48,6 +48,22 @@ ASyncWithoutCallsIsNoStep = IsStep (with_calls []) (behind_format []) (Sync ∷ 
 abbrev pub ASyncBehindAShutGateIsNoStep : Type 0
 ASyncBehindAShutGateIsNoStep = (body : List ℕ)
     → IsStep (with_calls (Synced ∷ shut 2 ∷ Synced ∷ Wrote 11 body ∷ Synced ∷ [])) (behind_format []) (Sync ∷ []) (synced 2 64 false) None → ⊥
+
+-- nor where it is opened before its body is durable
+abbrev pub AGateOpenedEarlyIsNoStep : Type 0
+AGateOpenedEarlyIsNoStep = (body : List ℕ) → IsBody body
+    → IsStep (with_calls (Synced ∷ opened 2 ∷ Wrote 11 body ∷ Synced ∷ [])) (behind_format []) (Sync ∷ []) (synced 2 64 false) None → ⊥
+
+-- ---- writes that are of no sync and of no buffer
+
+-- no copy of the directory is written where no sync goes on
+abbrev pub ABodyWithoutASyncIsNoStep : Type 0
+ABodyWithoutASyncIsNoStep = (body : List ℕ) → IsStep (with_calls (Wrote 11 body ∷ [])) (behind_format []) (Flush ∷ []) [] None → ⊥
+
+-- and nothing is written to the content area where the buffer is empty
+abbrev pub AWriteOfNoBufferIsNoStep : Type 0
+AWriteOfNoBufferIsNoStep = (at : ℕ) (block : List ℕ) → 19 ≤ at
+    → IsStep (with_calls (Wrote at block ∷ [])) (behind_format []) (Flush ∷ []) [] None → ⊥
 
 -- ---- a sync in parts
 

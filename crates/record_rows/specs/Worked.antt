@@ -1,19 +1,20 @@
 -- How a row is put together: a small geometry, the records of a put and of a sync, and what an opening has.
-use Rattle.std.specs.Prelude.{ℕ, zero, suc, ◌+◌, ◌*◌, nat_le, Bool, false, true, if◌then◌else◌, refl, List, [], ◌∷◌, ◌++◌, length, map, filter, codes}
+use Rattle.std.specs.Prelude.{ℕ, zero, suc, ◌+◌, ◌*◌, nat_le, Bool, false, true, if◌then◌else◌, refl, List, [], ◌∷◌, ◌++◌, length, map, filter, codes, option_map, unwrap_or}
 use Rattle.std.specs.List.{range_with_len}
 use Rattle.std.proofs.Math.Dec.{lit≤, lit<}
 use Rattle.tape_base.specs.declared.digests.Digest.{Digest}
 use Rattle.tape_base.specs.declared.geometries.Geometry.{Geometry}
 use Rattle.tape_base.specs.declared.keys.Key.{Key}
 use Rattle.tape_base.specs.declared.pieces.PieceId.{PieceId}
-use Rattle.fragment_table.specs.Table.{made_row}
-use Rattle.alternate_vector.specs.Alternates.{Stored}
+use Rattle.fragment_table.specs.Table.{TableRow, made_row}
+use Rattle.alternate_vector.specs.Alternates.{Stored, vector_size}
 use Rattle.alternate_vector.specs.Field.{Field}
 use Rattle.cache_model.specs.declared.findings.FoundRow.{FoundRow}
 use Rattle.cache_model.specs.declared.record.Rec.{Rec}
 use Rattle.cache_model.specs.declared.record.Rec.TheVariants as rec
 use Rattle.cache_model.specs.Legal.{format_records}
 use Rattle.cache_model.specs.Opening.{Opening}
+use Rattle.cache_model.specs.Verdict.{digest_in}
 use Rattle.cache_model.specs.Openings.{opened_records}
 use Rattle.cache_model.specs.Outcomes.{flush_tail}
 use Rattle.cache_model.specs.Permit.{Permit}
@@ -82,7 +83,7 @@ late = record { number = 5 }
 
 -- a step of a directory that displaces, in which the device does nothing
 abbrev pub of_packed : Permit
-of_packed = record { packed = true; syncs = true; now = 0; area = 0; durable = 0; events = [] }
+of_packed = record { packed = true; syncs = true; now = 0; area = 0; past = []; events = [] }
 
 -- no verdict reads one
 abbrev pub no_digest : Digest
@@ -166,10 +167,22 @@ behind_opening o recs = after_all nothing_yet (opened_records small o ++ recs)
 abbrev pub allowed : State → List Mark
 allowed s = filter (λ m. nat_le s.finished m.serial) s.marks
 
+-- the bytes of a piece's payload: those of a fragment, or what spells the alternates of a vector
+abbrev pub bytes_of : Row → ℕ
+bytes_of row = unwrap_or (option_map (λ (entry : TableRow). entry.length) row.payload) (vector_size (unwrap_or row.alternates []))
+
 -- a piece as an opening finds it
 abbrev pub found_of : Row → FoundRow
-found_of row =
-    record { id = row.id; place = row.place; blocks = row.blocks; digest = row.digest; payload = no_digest; pin = row.pin; alternates = row.alternates }
+found_of row = record {
+  id = row.id;
+  place = row.place;
+  blocks = row.blocks;
+  digest = row.digest;
+  length = bytes_of row;
+  payload = unwrap_or (option_map digest_in row.payload) no_digest;
+  pin = row.pin;
+  alternates = row.alternates;
+}
 
 -- the opening that takes a sync up
 abbrev pub taking : Mark → Opening

@@ -1,7 +1,8 @@
 //! Sessions with openings and syncs, worked by hand and computed by the definitions over records.
 #![tactic(auto)]
 
-ghost use Rattle.record_rows.specs.Steps.{APartIsAStep, AClosedStripeIsAStep, ALastPartIsAStep, AMarkedStripeMayBeClosed, APartWithoutAWriteIsNoStep, ARefusedEndIsAStep, ARefusedPartIsAStep, ASecondOneIsRefused, ASyncBehindAShutGateIsNoStep, ASyncWithoutCallsIsNoStep, AnEmptySyncIsAStep, AnEndBehindItIsNoStep, NoPartWithoutASync};
+ghost use Rattle.record_rows.specs.Steps.{ABodyWithoutASyncIsNoStep, AGateOpenedEarlyIsNoStep, APartIsAStep, AWriteOfNoBufferIsNoStep, AClosedStripeIsAStep, ALastPartIsAStep, AMarkedStripeMayBeClosed, APartWithoutAWriteIsNoStep, ARefusedEndIsAStep, ARefusedPartIsAStep, ASecondOneIsRefused, ASyncBehindAShutGateIsNoStep, ASyncWithoutCallsIsNoStep, AnEmptySyncIsAStep, AnEndBehindItIsNoStep, NoPartWithoutASync};
+ghost use Rattle.record_rows.specs.Unlike.{ACopyOfItIsDamage, AnUnlikePayloadIsDamage, AnUnlikePayloadIsNotGiven, AnUnlikePayloadMayBeFound};
 ghost use Rattle.record_rows.specs.Rows.{AClosedStripeOpensClean, AFinishedSyncIsTaken, AFormatMayBeOpened, AFoundVectorIsKnown, AFullSegmentLosesATenth, ALapEndsWithASync, AnOpeningFollows, AnotherPutMerges, ARemovalComesBack, ARunningSyncIsEndedFirst, ARunningSyncMayBeTaken, AShortBufferEndsTheLap, LaterPutsAreLost, WhatIsWrittenUnmarks};
 
 /// What was put behind the last sync is lost, and told by the serial of the opening.
@@ -89,6 +90,21 @@ pub fn a_sync_behind_a_shut_gate_is_no_step()
     ensures { ASyncBehindAShutGateIsNoStep }
 {}
 
+/// Nor where its gate is opened before its body is durable.
+pub fn a_gate_opened_early_is_no_step()
+    ensures { AGateOpenedEarlyIsNoStep }
+{}
+
+/// No copy of the directory is written where no sync goes on.
+pub fn a_body_without_a_sync_is_no_step()
+    ensures { ABodyWithoutASyncIsNoStep }
+{}
+
+/// And nothing to the content area where the buffer is empty.
+pub fn a_write_of_no_buffer_is_no_step()
+    ensures { AWriteOfNoBufferIsNoStep }
+{}
+
 /// While a sync in parts goes on, another one is refused.
 pub fn a_second_one_is_refused()
     ensures { ASecondOneIsRefused }
@@ -137,4 +153,24 @@ pub fn a_closed_stripe_is_a_step()
 /// So is one that was opened clean.
 pub fn a_marked_stripe_may_be_closed()
     ensures { AMarkedStripeMayBeClosed }
+{}
+
+/// An opening may find a fragment with another payload than the one that its vector lists.
+pub fn an_unlike_payload_may_be_found()
+    ensures { AnUnlikePayloadMayBeFound }
+{}
+
+/// A reader that comes to it is told the damage, with both digests.
+pub fn an_unlike_payload_is_damage()
+    ensures { AnUnlikePayloadIsDamage }
+{}
+
+/// And is not given it.
+pub fn an_unlike_payload_is_not_given()
+    ensures { AnUnlikePayloadIsNotGiven }
+{}
+
+/// So it is of its copy in a buffer that is not written out.
+pub fn a_copy_of_it_is_damage()
+    ensures { ACopyOfItIsDamage }
 {}

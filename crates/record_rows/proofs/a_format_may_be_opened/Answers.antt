@@ -16,6 +16,7 @@ returns c = record {
   keys = λ i j d less within. absurd (omega (arith, within));
   each = tt;
   puts = tt;
+  lengths = tt;
   vectors = tt;
   fits = λ packed segment. omega arith;
 }

@@ -14,6 +14,7 @@ first_row = record {
   place = 32;
   blocks = 1;
   digest = no_digest;
+  payload = Rattle.std.specs.Prelude.None;
   pin = 0;
   alternates = Rattle.std.specs.Prelude.Some (Rattle.cache_model.specs.State.list_of_put with_four 1);
 }

@@ -1,4 +1,4 @@
-use Rattle.std.proofs.Common.{◌≡◌, ℕ, ◌+◌, ◌*◌, List, [], ◌∷◌, length, refl, arith, Bool, true, false, inl, inr}
+use Rattle.std.proofs.Common.{[], refl, arith, inl}
 use Rattle.cache_model.specs.Legal.{more, nothing}
 use Rattle.cache_model.specs.Permit.{Done}
 use Rattle.cache_model.specs.Syncing
@@ -6,9 +6,9 @@ use Rattle.record_rows.proofs.a_part_is_a_step.Goals as goal
 
 pub returns : goal.returns
 returns c = λ part size. record {
-  grows = more [] _ (Done, Syncing.DoesSyncStep.part refl refl refl refl (record { at = 326; bytes = part; written = inl refl; whole = size; from = omega arith; below = omega arith }) refl, refl) nothing;
+  grows = more [] _ (Done, Syncing.DoesSyncStep.part refl refl refl refl (record { at = 326; bytes = part; written = inl refl; whole = size; of_body = refl }) refl, refl) nothing;
   quiet = refl;
   faults = refl;
   effects = λ off. cc;
-  synced = λ on. record { effects = rw size refl; writes = omega arith };
+  synced = λ on. record { effects = rw size refl; copies = (λ h. refl); content = ((λ high. absurd (omega (arith, high))), tt); writes = omega arith };
 }

@@ -1,4 +1,4 @@
-use Rattle.std.proofs.Common.{[], refl, arith}
+use Rattle.std.proofs.Common.{[], refl, lit≤}
 use Rattle.cache_model.specs.Legal.{more, nothing}
 use Rattle.cache_model.specs.Permit.{Fails, NoSync}
 use Rattle.cache_model.specs.Syncing
@@ -10,5 +10,5 @@ returns c = record {
   quiet = refl;
   faults = refl;
   effects = λ off. cc;
-  synced = λ on. record { effects = refl; writes = omega arith };
+  synced = λ on. record { effects = refl; copies = (λ h. cc); content = tt; writes = lit≤ tt };
 }

@@ -1,0 +1,30 @@
+use Rattle.std.proofs.Common.{refl, ap, arith, inl}
+use Rattle.std.specs.Prelude.{slice_index}
+use Rattle.tape_base.specs.declared.digests.Digest.{Digest}
+use Rattle.cache_model.specs.Legal.{more, nothing}
+use Rattle.cache_model.specs.Permit.{Done}
+use Rattle.cache_model.specs.Given
+use Rattle.cache_model.specs.Legal
+use Rattle.record_rows.proofs.an_unlike_payload_is_damage.Goals as goal
+
+pub returns : goal.returns
+returns c = λ there block others its. record {
+  grows = more _ _ (
+    Done,
+    Legal.DoesReadOn.reads_on _ (record {
+      r = _;
+      before = _;
+      quiet = refl;
+      reading = refl;
+      right = Legal.IsReading.trouble _ _ _ _ refl refl (Legal.ReadTrouble.mismatched _
+          (Given.IsRead.given block (record { written = omega arith; given = inl refl; whole = its.whole; of_bytes = its.of_bytes }) its.digest)
+          (record { payload = _; has = refl; found_is = refl; differ = others.differ }));
+      is = refl;
+    }),
+    refl,
+  ) nothing;
+  quiet = refl;
+  faults = refl;
+  effects = λ off. cc;
+  synced = λ on. record { effects = refl; copies = (λ h. cc); content = tt; writes = omega arith };
+}
