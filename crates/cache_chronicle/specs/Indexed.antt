@@ -4,7 +4,7 @@ use Rattle.std.specs.HashMap.{spare}
 use Rattle.std.specs.HashSet.{spare as set_spare}
 use Rattle.cache_model.specs.State.{State}
 use Rattle.cache_chronicle.specs.TapeTable.{HasTape}
-use Rattle.cache_chronicle.specs.Tables.{HasRows, HasLosses, HasPlaces, HasUnsaved, HasVectors, HasAborts, HasCounts}
+use Rattle.cache_chronicle.specs.Tables.{HasCut, HasRows, HasLosses, HasPlaces, HasUnsaved, HasVectors, HasAborts, HasCounts}
 use Rattle.cache_chronicle.specs.declared.tables.Tables.{Tables}
 
 -- how many more records can be noted without memory
@@ -16,6 +16,7 @@ spare_of t =
 -- the tables have what a state says
 pub record HasTables (t : Tables) (s : State) : Type 0 where
   pub tape : HasTape t.tape s
+  pub cut : HasCut t.last_cut s.last_cut
   pub pieces : HasRows t.pieces s.rows
   pub losses : HasLosses t.losses s.lost
   pub places : HasPlaces t.places s.places

@@ -8,28 +8,38 @@ use Rattle.tape_base.specs.declared.keys.Key.{Key}
 use Rattle.tape_base.specs.declared.pieces.PieceId.{PieceId}
 use Rattle.tape_base.specs.Key.{same_key}
 use Rattle.tape_base.specs.Piece.{same_piece}
-use Rattle.alternate_vector.specs.Alternates.{Stored}
+use Rattle.fragment_table.specs.Table.{TableRow}
 use Rattle.cache_model.specs.declared.cause.Cause.{Cause}
 use Rattle.cache_model.specs.State.{Row, row_in}
 use Rattle.cache_model.specs.State as state
+use Rattle.cache_model.specs.Verdict.{digest_in}
+use Rattle.cache_chronicle.specs.declared.payloads.Payload.{Payload}
 use Rattle.cache_chronicle.specs.declared.pieces.Standing.{Standing}
 use Rattle.cache_chronicle.specs.declared.vectors.LastVector.{LastVector}
 use Rattle.cache_chronicle.specs.declared.vectors.LastVector.TheVariants.{Complete, TakenOut}
 
--- a row without the alternates that it lists
-abbrev pub standing_of : Row → Standing
-standing_of row = record { place = row.place; blocks = row.blocks; digest = row.digest; pin = row.pin }
+-- a payload as it is kept
+abbrev pub kept_payload : TableRow → Payload
+kept_payload entry = record { length = entry.length; digest = digest_in entry }
 
--- a row from what stands beside its name
-abbrev pub row_as : PieceId → Standing → Option (List Stored) → Row
-row_as piece standing alternates = record {
-  id = piece;
-  place = standing.place;
-  blocks = standing.blocks;
-  digest = standing.digest;
-  pin = standing.pin;
-  alternates = alternates;
+-- what was cut last is that of the state
+abbrev pub HasCut : Option Payload → Option TableRow → Type 0
+HasCut kept cut = kept ≡ option_map kept_payload cut
+
+-- what is kept of a row: all beside its name but the alternates that it lists
+abbrev pub standing_of : Row → Standing
+standing_of row = record {
+  place = row.place;
+  blocks = row.blocks;
+  digest = row.digest;
+  payload = option_map kept_payload row.payload;
+  pin = row.pin;
 }
+
+-- a row of this name of which this is kept
+pub record IsRowOf (piece : PieceId) (standing : Standing) (row : Row) : Type 0 where
+  pub name : row.id ≡ piece
+  pub stands : standing ≡ standing_of row
 
 -- the last vector as the state has it
 abbrev pub told_vector : LastVector → state.LastVector

@@ -2,7 +2,7 @@
 ghost use Rattle.std.specs.Prelude.{◌≡◌, ◌+◌, ◌≤◌, ◌<◌, ℕ, None, OnOk};
 ghost use Rattle.cache_model.specs.Kept.{Kept, count_of, state_of, with_record};
 ghost use Rattle.cache_model.specs.State.{live_row_of};
-ghost use Rattle.cache_model.specs.Verdict.{cause_of_miss, cause_of_piece, vector_of, piece_at, digest_of_piece, size_of, pin_of};
+ghost use Rattle.cache_model.specs.Verdict.{cause_of_miss, cause_of_piece, vector_of, piece_at, digest_of_piece, payload_of_piece, size_of, pin_of};
 ghost use Rattle.cache_chronicle.specs.Weight.{weight_of};
 
 use cache_model::{Cause, Rec};
@@ -51,6 +51,10 @@ pub trait Chronicle {
     /// The recorded digest of a live piece.
     fn digest_of(&self, id: PieceId) -> Option<Digest>
         ensures { result ≡ digest_of_piece (state_of (kept self.now)) id };
+
+    /// The digest of the payload of a live fragment.
+    fn payload_of(&self, id: PieceId) -> Option<Digest>
+        ensures { result ≡ payload_of_piece (state_of (kept self.now)) id };
 
     /// The blocks of a live piece.
     fn size_of(&self, id: PieceId) -> Option<u32>

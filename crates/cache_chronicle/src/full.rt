@@ -186,6 +186,11 @@ impl Chronicle for FullChronicle {
         Some(standing.digest)
     }
 
+    fn payload_of(&self, id: PieceId) -> Option<Digest> {
+        let payload = self.live_of(id)?.payload?;
+        Some(payload.digest)
+    }
+
     fn size_of(&self, id: PieceId) -> Option<u32> {
         let standing = self.live_of(id)?;
         Some(standing.blocks)

@@ -6,6 +6,7 @@ mod counts;
 mod full;
 mod losses;
 mod opened;
+mod payloads;
 mod pieces;
 mod tables;
 mod tape;

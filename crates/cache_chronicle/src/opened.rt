@@ -9,6 +9,7 @@ ghost use Rattle.cache_chronicle.specs.Tables.{HasCounts, HasPlaces, HasRows, Ha
 
 use crate::counts::Counts;
 use crate::losses::Places;
+use crate::payloads::payload_of_found;
 use crate::pieces::{Pieces, Standing};
 use crate::vectors::{LastVector, Vectors};
 use alternate_vector::Vector;
@@ -39,6 +40,7 @@ fn note_first_piece(pieces: &mut Pieces, found: &FoundRow)
             place: found.place,
             blocks: found.blocks,
             digest: found.digest,
+            payload: payload_of_found(found),
             pin: found.pin,
         },
     );

@@ -1,12 +1,12 @@
 // The pieces that stand, and what a record makes of them.
-ghost use Rattle.std.specs.Prelude.{◌≡◌, ◌+◌, ◌≤◌, ◌<◌, ◌∷◌, ◌++◌, [], List, Option as Option', map, option_map, option_to_list};
+ghost use Rattle.std.specs.Prelude.{◌≡◌, ◌+◌, ◌≤◌, ◌<◌, ◌∷◌, ◌++◌, [], List, map, option_map, option_to_list};
 ghost use Rattle.std.specs.HashMap.{spare};
-ghost use Rattle.alternate_vector.specs.Alternates.{Stored};
 ghost use Rattle.cache_model.specs.State.{State, Row, moved_row, row_in, state_after, vector_piece, without, without_earlier};
-ghost use Rattle.cache_chronicle.specs.Tables.{HasRows, HasVectors, row_as, told_vector};
+ghost use Rattle.cache_chronicle.specs.Tables.{HasCut, HasRows, HasVectors, IsRowOf, told_vector};
 ghost use Rattle.cache_chronicle.specs.Weight.{weight_of};
 
 use crate::opened::note_found_pieces;
+use crate::payloads::{Payload, payload_placed};
 use crate::vectors::{LastVector, Vectors, last_of};
 use cache_model::Rec;
 use std::collections::HashMap;
@@ -18,6 +18,8 @@ pub(crate) struct Standing {
     pub(crate) place: u64,
     pub(crate) blocks: u32,
     pub(crate) digest: Digest,
+    // None of a vector.
+    pub(crate) payload: Option<Payload>,
     pub(crate) pin: u64,
 }
 
@@ -34,9 +36,15 @@ pub(crate) fn vector_piece(key: Key, put: u64) -> PieceId
 }
 
 /// Notes what a record says of a piece.
-pub(crate) fn note_piece(pieces: &mut Pieces, vectors: &Vectors, rec: &Rec)
+pub(crate) fn note_piece(
+    pieces: &mut Pieces,
+    vectors: &Vectors,
+    last_cut: Option<Payload>,
+    rec: &Rec,
+)
     requires { weight_of rec.now ≤ spare pieces.old }
-    ensures has { (s : State) → HasVectors vectors.now s.vectors → HasRows pieces.old s.rows → HasRows pieces.new (state_after s rec.now).rows }
+    ensures has { (s : State) → HasVectors vectors.now s.vectors → HasCut last_cut s.last_cut
+        → HasRows pieces.old s.rows → HasRows pieces.new (state_after s rec.now).rows }
     ensures spare { spare pieces.old ≤ spare pieces.new + weight_of rec.now }
 {
     match *rec {
@@ -58,6 +66,7 @@ pub(crate) fn note_piece(pieces: &mut Pieces, vectors: &Vectors, rec: &Rec)
                 place,
                 blocks,
                 digest,
+                payload: payload_placed(piece, last_cut),
                 pin,
             },
         ),
@@ -78,7 +87,8 @@ pub(crate) fn note_piece(pieces: &mut Pieces, vectors: &Vectors, rec: &Rec)
 
 fn put(pieces: &mut Pieces, piece: PieceId, standing: Standing)
     requires { 0 < spare pieces.old }
-    ensures has { (rows : List Row) (alternates : Option' (List Stored)) → HasRows pieces.old rows → HasRows pieces.new (without piece rows ++ row_as piece standing alternates ∷ []) }
+    ensures has { (rows : List Row) (row : Row) → IsRowOf piece standing row → HasRows pieces.old rows
+        → HasRows pieces.new (without piece rows ++ row ∷ []) }
     ensures spare { spare pieces.old ≤ spare pieces.new + 1 }
 {
     let noted: Result<_, _> = pieces.insert(piece, standing);

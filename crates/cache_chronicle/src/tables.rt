@@ -8,6 +8,7 @@ use crate::counts::{Counts, note_count};
 use crate::losses::{
     Aborts, Losses, Places, Unsaved, note_abort, note_loss, note_place, note_unsaved,
 };
+use crate::payloads::{Payload, cut_after};
 use crate::pieces::{Pieces, note_piece};
 use crate::tape::Tape;
 use crate::vectors::{Vectors, note_vector};
@@ -18,6 +19,8 @@ use std::collections::{HashMap, HashSet};
 #[derive(Drop)]
 pub(crate) struct Tables {
     pub(crate) tape: Tape,
+    // The payload of the fragment that was cut last.
+    pub(crate) last_cut: Option<Payload>,
     pub(crate) pieces: Pieces,
     pub(crate) losses: Losses,
     pub(crate) places: Places,
@@ -33,6 +36,7 @@ impl Tables {
     {
         Tables {
             tape: Tape::new(),
+            last_cut: None,
             pieces: HashMap::new(alloc),
             losses: HashMap::new(alloc),
             places: HashMap::new(alloc),
@@ -63,13 +67,14 @@ impl Tables {
         ensures has { (s : State) → HasTables self.old s → HasTables self.new (state_after s rec.now) }
         ensures spare { spare_of self.old ≤ spare_of self.new + weight_of rec.now }
     {
-        note_piece(&mut self.pieces, &self.vectors, rec);
+        note_piece(&mut self.pieces, &self.vectors, self.last_cut, rec);
         note_loss(&mut self.losses, rec);
         note_place(&mut self.places, rec);
         note_unsaved(&mut self.unsaved, rec);
         note_vector(&mut self.vectors, rec);
         note_abort(&mut self.aborts, rec);
         note_count(&mut self.counts, rec);
+        self.last_cut = cut_after(self.last_cut, rec);
         self.tape = self.tape.after(rec);
     }
 }

@@ -53,13 +53,21 @@ fn a_live_piece_is_told_as_it_was_placed(rt: HostRuntime) -> Result<(), Fail> {
     let mut chronicle = FullChronicle::new(rt.alloc());
     begin(&mut chronicle)?;
     let id = piece(1, 1);
+    let cut = Rec::Cut {
+        put: 1,
+        index: 1,
+        length: 700,
+        digest: Digest([3; 32]),
+    };
+    add(&mut chronicle, cut)?;
     place(&mut chronicle, id, 64)?;
     assert_eq!(rt; chronicle.piece_at(64), Some(id));
     assert_eq!(rt; chronicle.piece_at(65), None);
     assert_eq!(rt; chronicle.digest_of(id), Some(Digest([9; 32])));
+    assert_eq!(rt; chronicle.payload_of(id), Some(Digest([3; 32])));
     assert_eq!(rt; chronicle.size_of(id), Some(2));
     assert_eq!(rt; chronicle.pin_of(id), Some(5));
-    assert_eq!(rt; chronicle.count(), 3);
+    assert_eq!(rt; chronicle.count(), 4);
     Ok(())
 }
 

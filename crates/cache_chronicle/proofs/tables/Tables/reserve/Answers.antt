@@ -7,6 +7,7 @@ use Rattle.cache_chronicle.proofs.tables.Tables.reserve.Goals as goal
 pub returns-in_err-reserve-2-clause-has : goal.returns-in_err-reserve-2-clause-has
 returns-in_err-reserve-2-clause-has c = λ s has. record {
   tape = has.tape;
+  cut = has.cut;
   pieces = λ id. c.reserve.ensures.entries.2 id ∙ has.pieces id;
   losses = λ id. c.reserve-2.ensures.entries.2 id ∙ has.losses id;
   places = has.places;
@@ -19,6 +20,7 @@ returns-in_err-reserve-2-clause-has c = λ s has. record {
 pub returns-in_err-reserve-3-clause-has : goal.returns-in_err-reserve-3-clause-has
 returns-in_err-reserve-3-clause-has c = λ s has. record {
   tape = has.tape;
+  cut = has.cut;
   pieces = λ id. c.reserve.ensures.entries.2 id ∙ has.pieces id;
   losses = λ id. c.reserve-2.ensures.entries.2 id ∙ has.losses id;
   places = λ place. c.reserve-3.ensures.entries.2 place ∙ has.places place;
@@ -31,6 +33,7 @@ returns-in_err-reserve-3-clause-has c = λ s has. record {
 pub returns-in_err-reserve-4-clause-has : goal.returns-in_err-reserve-4-clause-has
 returns-in_err-reserve-4-clause-has c = λ s has. record {
   tape = has.tape;
+  cut = has.cut;
   pieces = λ id. c.reserve.ensures.entries.2 id ∙ has.pieces id;
   losses = λ id. c.reserve-2.ensures.entries.2 id ∙ has.losses id;
   places = λ place. c.reserve-3.ensures.entries.2 place ∙ has.places place;
@@ -43,6 +46,7 @@ returns-in_err-reserve-4-clause-has c = λ s has. record {
 pub returns-in_err-reserve-5-clause-has : goal.returns-in_err-reserve-5-clause-has
 returns-in_err-reserve-5-clause-has c = λ s has. record {
   tape = has.tape;
+  cut = has.cut;
   pieces = λ id. c.reserve.ensures.entries.2 id ∙ has.pieces id;
   losses = λ id. c.reserve-2.ensures.entries.2 id ∙ has.losses id;
   places = λ place. c.reserve-3.ensures.entries.2 place ∙ has.places place;
@@ -55,6 +59,7 @@ returns-in_err-reserve-5-clause-has c = λ s has. record {
 pub returns-in_err-reserve-6-clause-has : goal.returns-in_err-reserve-6-clause-has
 returns-in_err-reserve-6-clause-has c = λ s has. record {
   tape = has.tape;
+  cut = has.cut;
   pieces = λ id. c.reserve.ensures.entries.2 id ∙ has.pieces id;
   losses = λ id. c.reserve-2.ensures.entries.2 id ∙ has.losses id;
   places = λ place. c.reserve-3.ensures.entries.2 place ∙ has.places place;
@@ -67,6 +72,7 @@ returns-in_err-reserve-6-clause-has c = λ s has. record {
 pub returns-clause-has : goal.returns-clause-has
 returns-clause-has c = λ s has. record {
   tape = has.tape;
+  cut = has.cut;
   pieces = λ id. c.reserve.ensures.entries.2 id ∙ has.pieces id;
   losses = λ id. c.reserve-2.ensures.entries.2 id ∙ has.losses id;
   places = λ place. c.reserve-3.ensures.entries.2 place ∙ has.places place;
