@@ -45,7 +45,7 @@ all_own [] = tt
 all_own (x ∷ xs) = (inl refl, among_more x xs xs (all_own xs))
 
 abbrev pub own_permit : (now : ℕ) (before after : List Call) → Permit
-own_permit now before after = record { packed = false; syncs = false; now = now; area = 0; durable = 0; events = calls_since before after }
+own_permit now before after = record { packed = false; syncs = false; now = now; area = 0; past = []; events = calls_since before after }
 
 pub own_covers : (now : ℕ) (before after : List Call) → Covers (own_permit now before after) before after
 own_covers now before after = record {

@@ -94,7 +94,7 @@ stopped_kinds rows outcomes count = only_beside (stopped_records rows outcomes c
 -- ---- what was live
 
 pub live_same : (s : State) → LiveBefore s s
-live_same s = λ id row live. (row, live, record { id = refl; blocks = refl; pin = refl; alternates = refl })
+live_same s = λ id row live. (row, live, record { id = refl; blocks = refl; payload = refl; pin = refl; alternates = refl })
 
 -- a row that is found, above the floor, is live
 found_is_live : (s : State) (id : PieceId) (row : Row) → row_in s.rows id ≡ Some row → floor_now s ≤ row.place → live_row_of s id ≡ Some row
@@ -141,7 +141,7 @@ module _ (s u : State) (c : Copy) (ready : IsReady u.rows c.row) (due : IsFound 
       let id : c.row.id ≡ x = same_piece-true c.row.id x same in
       let moved : Some (moved_row (place_now u) digest c.row) ≡ Some y = sym (ap (option_map (moved_row (place_now u) digest)) (ap (row_in u.rows) (sym id) ∙ ready.0)) ∙ h in
       let is : moved_row (place_now u) digest c.row ≡ y = cc in
-      (c.row, ap (live_row_of s) (sym id) ∙ due, subst (λ z. IsSamePiece c.row z) is (record { id = refl; blocks = refl; pin = refl; alternates = refl }))
+      (c.row, ap (live_row_of s) (sym id) ∙ due, subst (λ z. IsSamePiece c.row z) is (record { id = refl; blocks = refl; payload = refl; pin = refl; alternates = refl }))
 
   by_piece : (x : PieceId) (y : Row) (b : Bool) → same_piece c.row.id x ≡ b → floor_now u ≤ y.place
       → (if b then option_map (moved_row (place_now u) digest) (row_in u.rows x) else row_in u.rows x) ≡ Some y

@@ -27,7 +27,7 @@ use Rattle.stripe_core.proofs.Between.{effects_none}
 -- ---- none is needed
 
 live_still : (s : State) → LiveBefore s s
-live_still s = λ id row h. (row, h, record { id = refl; blocks = refl; pin = refl; alternates = refl })
+live_still s = λ id row h. (row, h, record { id = refl; blocks = refl; payload = refl; pin = refl; alternates = refl })
 
 none_added : (k : Kept) → k ≡ with_records k []
 none_added k = ap (λ recs. record k { since = recs }) (sym (append-nil k.since))

@@ -155,7 +155,9 @@ longer row pending (Some w) id h = λ o.
 -- a fragment is cut
 pub named_cut : (s : State) (put index length : ℕ) (digest : Digest) → IsNamed s → IsNamed (state_after s (rec.Cut put index length digest))
 named_cut s put index length digest h =
-    named_changed s put (with_cut (made_row length digest.0)) s.pending s.rows (λ w. refl) (longer (made_row length digest.0) s.pending) (λ x row e own. own) h
+    let entry : TableRow = made_row length digest.0 in
+    all_as (IsOwn (record s { puts = change_put put (with_cut entry) s.puts; pending = s.pending })) (IsOwn (state_after s (rec.Cut put index length digest))) (λ row own. record { begun = own.begun; own = own.own }) s.rows
+    (named_changed s put (with_cut entry) s.pending s.rows (λ w. refl) (longer entry s.pending) (λ x row e own. own) h)
 
 ended : (writing : Writing) → (writing ≡ Open → ⊥) → (old new : Option PieceId) (x : Option PutRow) (id : PieceId) → IsOwnOf x old id → IsOwnOf (option_map (with_writing writing) x) new id
 ended writing over old new None id h = tt

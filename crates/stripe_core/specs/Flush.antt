@@ -38,6 +38,7 @@ AreOfFlush recs = AllByRecursion IsOfFlush recs
 pub record IsSamePiece (before row : Row) : Type 0 where
   pub id : row.id ≡ before.id
   pub blocks : row.blocks ≡ before.blocks
+  pub payload : row.payload ≡ before.payload
   pub pin : row.pin ≡ before.pin
   pub alternates : row.alternates ≡ before.alternates
 

@@ -6,6 +6,7 @@ ghost use Rattle.cache_model.specs.State.{floor_now};
 ghost use Rattle.cache_model.specs.Kept.{all_of, with_records};
 ghost use Rattle.cache_model.specs.Legal.{IsQuiet, format_records};
 ghost use Rattle.cache_model.specs.Room.{has_room, is_flush_exhausted};
+ghost use Rattle.cache_model.specs.Verdict.{payload_of_piece};
 ghost use Rattle.stripe_core.specs.Flush.{FlushesAsAsked, StopsWith, Tells};
 ghost use Rattle.cache_model.specs.Legal.{is_writing};
 ghost use Rattle.stripe_actors.specs.Actors.{reader_room_of};
@@ -22,7 +23,7 @@ use logged_disk::Disk;
 use open_directory::OpenDirectory;
 use std::alloc::{AllocError, Global};
 use stripe_actors::Actors;
-use tape_base::{Geometry, PieceId, blocks_of};
+use tape_base::{Digest, Geometry, PieceId, blocks_of};
 
 /// The pieces on a device, the chronicle that tells of them, and the open writers and readers.
 #[derive(Drop)]
@@ -144,6 +145,14 @@ impl<D: Disk, R: Directory + Drop, C: Chronicle> Stripe<D, R, C> {
         ensures { result ≡ live_place_of (state_in C.Chronicle self.now) id }
     {
         self.pieces.whereabouts(id)
+    }
+
+    /// The digest of the payload of a live fragment, as the records tell it. It reads no device and takes
+    /// no memory.
+    pub fn payload_of(&self, id: PieceId) -> Option<Digest>
+        ensures { result ≡ payload_of_piece (state_in C.Chronicle self.now) id }
+    {
+        self.pieces.chronicle().payload_of(id)
     }
 
     /// Writes the buffer out where it is not empty, begins the next one, and copies into it, within half

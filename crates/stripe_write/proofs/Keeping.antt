@@ -58,7 +58,7 @@ pub record KeepsVectors (s t : State) : Type 0 where
   pub displaced : s.displaced ≡ [] → t.displaced ≡ []
 
 itself : (row : Row) → IsSamePiece row row
-itself row = record { id = refl; blocks = refl; pin = refl; alternates = refl }
+itself row = record { id = refl; blocks = refl; payload = refl; pin = refl; alternates = refl }
 
 pub keeps_self : (s : State) → KeepsVectors s s
 keeps_self s = record { geometry = refl; vectors = λ key row h. record { before = row; live = h; same = itself row }; displaced = λ h. h }
@@ -72,6 +72,7 @@ was_then s t key row a was =
       same = record {
         id = was.same.id ∙ first.same.id;
         blocks = was.same.blocks ∙ first.same.blocks;
+        payload = was.same.payload ∙ first.same.payload;
         pin = was.same.pin ∙ first.same.pin;
         alternates = was.same.alternates ∙ first.same.alternates;
       };
