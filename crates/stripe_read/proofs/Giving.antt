@@ -1,37 +1,38 @@
 -- What a reader is given, and that it was read on as asked.
-use Rattle.std.proofs.Common.{◌≡◌, ℕ, ◌<◌, ◌≤◌, List, [], ◌∷◌, ◌++◌, refl, sym, ◌∙◌, ap, subst, arith, inl, inr, ◌⊎◌, true, false, take}
+use Rattle.std.proofs.Common.{◌≡◌, ℕ, ◌≤◌, List, [], ◌∷◌, ◌++◌, refl, sym, ◌∙◌, ap, subst, inl, inr, ◌⊎◌, false}
 use Rattle.std.specs.declared.alloc.AllocError.{AllocError}
-use Rattle.std.specs.Prelude.{Option, Some, None, Result, Ok, Err, IfOk, is_some, option_and_then, option_map, unwrap_or}
+use Rattle.std.specs.Prelude.{Option, Some, None, Result, Ok, Err, IfOk, option_and_then, option_map, unwrap_or}
 use Rattle.tape_base.specs.declared.digests.Digest.{Digest}
 use Rattle.tape_base.specs.declared.pieces.PieceId.{PieceId}
 use Rattle.device_log.specs.Calls.{Call}
 use Rattle.logged_disk.specs.Device.{State as Device}
-use Rattle.fragment_table.specs.Table.{Table, TableRow}
+use Rattle.fragment_table.specs.Table.{TableRow}
 use Rattle.cache_model.specs.declared.cause.Cause.{Cause}
 use Rattle.cache_model.specs.declared.cause.Cause.TheVariants as cause
 use Rattle.cache_model.specs.declared.answer.NextAnswer.{NextAnswer}
 use Rattle.cache_model.specs.declared.answer.NextAnswer.TheVariants as next
 use Rattle.cache_model.specs.declared.record.Rec.{Rec}
 use Rattle.cache_model.specs.State.{Closed, GivenUp, Open, PutRow, ReaderRow, Row, State, Writing, after_all, live_row_of, put_of}
-use Rattle.cache_model.specs.Verdict.{cause_of_piece, next_piece, next_row, reader_verdict, verdict_at_end, verdict_of_followed, verdict_of_fragment, verdict_of_writing}
+use Rattle.cache_model.specs.Verdict.{cause_of_piece, digest_in, next_piece, next_row, reader_verdict, verdict_at_end, verdict_of_followed, verdict_of_fragment, verdict_of_writing}
 use Rattle.cache_model.specs.Permit.{Done, Permit, ReadOn}
-use Rattle.cache_model.specs.Given.{IsRead, IsReadWhereLive, IsDocumentOf}
-use Rattle.cache_model.specs.Legal.{Does, DoesReadOn, IsQuiet, IsReading, ReadTrouble, answer_record, digest_in, live_next}
+use Rattle.cache_model.specs.Given.{IsReadWhereLive}
+use Rattle.cache_model.specs.Legal.{Does, DoesReadOn, IsAsListed, IsNextAsListed, IsQuiet, IsReading, answer_record, live_next}
 use Rattle.cache_model.proofs.Found.{end_gives_none, no_truth}
 use Rattle.stripe_core.specs.declared.refusal.Found.{Found}
 use Rattle.stripe_core.specs.declared.refusal.Found.TheVariants as found
 use Rattle.stripe_core.specs.Counts.{IsCountedCause}
 use Rattle.stripe_core.specs.Covers.{AreSeen, Covers}
-use Rattle.stripe_core.proofs.Covering.{covers_first, own_covers, own_permit}
+use Rattle.stripe_core.proofs.Covering.{own_covers, own_permit}
 use Rattle.stripe_core.specs.Find.{cause_records, find_adds, found_records}
 use Rattle.stripe_read.specs.declared.reader.Reader.{Reader}
 use Rattle.stripe_read.specs.declared.reading.NextPiece.{NextPiece}
 use Rattle.stripe_read.specs.declared.reading.NextPiece.TheVariants as piece
 use Rattle.stripe_read.specs.Readers.{IsReaderOf, as_row, row_by, rows_in}
-use Rattle.stripe_read.specs.Fetches.{Fetches, IsFetched, IsOther, IsOtherDocument}
-use Rattle.stripe_read.specs.Nexts.{Gives, GoesOn, HasNext, IsCountedBreak, IsFragment, IsOtherNext, ReadsOn, listed_in, listed_length, next_behind, noted, read_adds, trouble_with}
+use Rattle.stripe_read.specs.Fetches.{Fetches, IsFetched, IsOtherPiece}
+use Rattle.stripe_read.specs.Nexts.{Gives, GoesOn, HasNext, IsCountedBreak, IsFragment, IsOtherNext, ReadsOn, listed_length, next_behind, noted, read_adds, trouble_with}
 use Rattle.stripe_vectors.proofs.Counting.{cause_counted}
 use Rattle.stripe_vectors.proofs.Seeing.{seen_before, seen_none}
+use Rattle.stripe_read.proofs.Comparing.{is_read, unlike_row}
 use Rattle.stripe_read.proofs.Staying.{is_gave}
 
 -- ---- verdicts
@@ -55,21 +56,27 @@ next_live s r entry cut = ap (option_and_then (λ (x : TableRow). live_row_of s 
 next_none : (s : State) (r : ReaderRow) → next_row s r ≡ None → live_next s r ≡ None
 next_none s r none = ap (option_and_then (λ (x : TableRow). live_row_of s (next_piece r))) none
 
+-- ---- the fragment that it takes next, as it is listed
+
+next_as_listed : (s : State) (r : ReaderRow) (entry : TableRow) (row : Row) → next_row s r ≡ Some entry → live_row_of s (next_piece r) ≡ Some row → IsAsListed row entry → IsNextAsListed s r
+next_as_listed s r entry row cut live is = λ e x cut_now live_now.
+    let cuts : Some entry ≡ Some e = sym cut ∙ cut_now in
+    let lives : Some row ≡ Some x = sym live ∙ live_now in
+    let same : entry ≡ e = cc in
+    let rows : row ≡ x = cc in
+    subst (IsAsListed x) same (subst (λ (y : Row). IsAsListed y entry) rows is)
+
+lost_as_listed : (s : State) (r : ReaderRow) → live_row_of s (next_piece r) ≡ None → IsNextAsListed s r
+lost_as_listed s r gone = λ e x cut live. let no : None ≡ Some x = sym gone ∙ live in cc
+
+end_as_listed : (s : State) (r : ReaderRow) → next_row s r ≡ None → IsNextAsListed s r
+end_as_listed s r none = λ e x cut live. let no : None ≡ Some e = sym none ∙ cut in cc
+
 -- ---- it was read on
 
 reads_on : (p : Permit) (s : State) (r : Reader) (own : IsReaderOf s r) (before : List Rec) (answer : NextAnswer) → IsQuiet s → IsReading p s (row_by own.actor r) before answer
     → Does p s (ReadOn r.reader) (before ++ answer_record r.reader answer ∷ []) Done
 reads_on p s r own before answer quiet right = DoesReadOn.reads_on answer (record { r = row_by own.actor r; before = before; quiet = quiet; reading = own.found; right = right; is = refl })
-
-pub either : (a b : ℕ) → ((a ≤ b) ⊎ (b < a))
-either a b = grind arith
-
-is_read : (p : Permit) (s : State) (row : Row) (size : ℕ) (into : List ℕ) → IsDocumentOf p s row size into → IsRead p s row
-is_read p s row size into h = by (either s.cursor row.place)
-  where
-    by : ((s.cursor ≤ row.place) ⊎ (row.place < s.cursor)) → IsRead p s row
-    by (inl above) = IsRead.buffered above
-    by (inr below) = IsRead.given h.bytes (h.given below) h.digest
 
 no_trouble : (o : Option Row) (index size : ℕ) → trouble_with o (piece.Piece index size) ≡ []
 no_trouble None index size = refl
@@ -85,62 +92,43 @@ module _ (p : Permit) (s : State) (r : Reader) (entry : TableRow) (size : ℕ) (
       ap (λ recs. recs ++ answer_record r.reader (next.Gave r.next (listed_length s r)) ∷ []) (no_trouble (live_next s (as_row r)) r.next size)
       ∙ ap (λ o. answer_record r.reader (next.Gave r.next (unwrap_or (option_map (λ (x : TableRow). x.length) o) 0)) ∷ []) cut
 
-  given_does : (listed : Option Digest) (o : Option Row) (own : IsReaderOf s r) → IsQuiet s → live_row_of s (next_piece (as_row r)) ≡ o → IsFetched p s (next_piece (as_row r)) o listed (found.Found size) into
+  given_does : (o : Option Row) (own : IsReaderOf s r) → IsQuiet s → live_row_of s (next_piece (as_row r)) ≡ o → IsFetched p s (next_piece (as_row r)) o entry (found.Found size) into
       → Does p s (ReadOn r.reader) (read_adds s r (piece.Piece r.next size)) Done
-  given_does listed None own quiet live h = absurd (not_missing size (cause_of_piece s (next_piece (as_row r))) h)
-  given_does listed (Some row) own quiet live h =
+  given_does None own quiet live h = absurd (not_missing size (cause_of_piece s (next_piece (as_row r))) h)
+  given_does (Some row) own quiet live h =
       let mine : ReaderRow = row_by own.actor r in
       let was : IsReadWhereLive p s (live_next s mine) = subst (IsReadWhereLive p s) (sym (next_live s mine entry cut ∙ live)) (is_read p s row size into h.0) in
       subst (λ recs. Does p s (ReadOn r.reader) recs Done) (sym given_adds)
-      (reads_on p s r own [] (next.Gave r.next entry.length) quiet (subst (IsReading p s mine []) (verdict_live s mine entry row cut live) (IsReading.verdict was)))
+      (reads_on p s r own [] (next.Gave r.next entry.length) quiet
+      (subst (IsReading p s mine []) (verdict_live s mine entry row cut live) (IsReading.verdict was (next_as_listed s mine entry row cut live h.1))))
 
-  given_is : (listed : Option Digest) (o : Option Row) → listed ≡ listed_in r (digest_in entry) → live_row_of s (next_piece (as_row r)) ≡ o → IsFetched p s (next_piece (as_row r)) o listed (found.Found size) into
-      → IsFragment p s r r.next size into
-  given_is listed None is live h = absurd (not_missing size (cause_of_piece s (next_piece (as_row r))) h)
-  given_is listed (Some row) is live h = record {
+  given_is : (o : Option Row) → live_row_of s (next_piece (as_row r)) ≡ o → IsFetched p s (next_piece (as_row r)) o entry (found.Found size) into → IsFragment p s r r.next size into
+  given_is None live h = absurd (not_missing size (cause_of_piece s (next_piece (as_row r))) h)
+  given_is (Some row) live h = record {
     entry = entry;
     row = row;
     index_is = refl;
     cut = cut;
     live = live;
     document = h.0;
-    listed = subst (λ d. Rattle.stripe_read.specs.Fetches.IsListedAs s row d (take size into)) is h.1;
+    listed = h.1;
   }
 
 -- a fragment that is not
-listed_by : (t : Option Table) (digest kept : Digest) → option_map (λ (x : Table). digest) t ≡ Some kept → (is_some (option_map (λ (x : Table). x.rows) t) ≡ true) × (digest ≡ kept)
-listed_by None digest kept h = (cc, cc)
-listed_by (Some table) digest kept h = (refl, cc)
-
-other_trouble : (p : Permit) (s : State) (r : Reader) (actor : ℕ) (row : Row) (entry : TableRow) (why : Cause) → IsOther p s row (listed_in r (digest_in entry)) why
-    → ReadTrouble p s (row_by actor r) row entry (cause_records row why) why
-other_trouble p s r actor row entry why x =
-    let is = listed_by r.table (digest_in entry) x.kept x.listed_is in
-    let same : why ≡ Rattle.cache_model.specs.Given.damage_cause row (digest_in entry) x.other = x.why_is ∙ ap (λ d. Rattle.cache_model.specs.Given.damage_cause row d x.other) (sym is.1) in
-    subst (λ (y : Cause). ReadTrouble p s (row_by actor r) row entry (cause_records row y) y) (sym same)
-    (ReadTrouble.mismatched x.other is.0 (record {
-      bytes = x.bytes;
-      given = x.given;
-      whole = x.whole;
-      digest = x.digest;
-      differ = λ e. x.differ (sym is.1 ∙ ap (λ d. let new : Digest = record { 0 = d } in new) e);
-    }))
-
 module _ (p : Permit) (s : State) (r : Reader) (entry : TableRow) (why : Cause) (into : List ℕ) (cut : next_row s (as_row r) ≡ Some entry) where
   broken_adds : (o : Option Row) → live_row_of s (next_piece (as_row r)) ≡ o → read_adds s r (piece.Broken why) ≡ trouble_with o (piece.Broken why) ++ answer_record r.reader (next.Broke why) ∷ []
   broken_adds o live = ap (λ x. trouble_with x (piece.Broken why) ++ answer_record r.reader (next.Broke why) ∷ []) (next_live s (as_row r) entry cut ∙ live)
 
-  broken_reading : (own : IsReaderOf s r) (o : Option Row) → live_row_of s (next_piece (as_row r)) ≡ o → IsFetched p s (next_piece (as_row r)) o (listed_in r (digest_in entry)) (found.Missing why) into
+  broken_reading : (own : IsReaderOf s r) (o : Option Row) → live_row_of s (next_piece (as_row r)) ≡ o → IsFetched p s (next_piece (as_row r)) o entry (found.Missing why) into
       → IsReading p s (row_by own.actor r) (trouble_with o (piece.Broken why)) (next.Broke why)
   broken_reading own None gone h =
       let mine : ReaderRow = row_by own.actor r in
       let is : cause_of_piece s (next_piece mine) ≡ why = cc in
       subst (IsReading p s mine []) (verdict_lost s mine entry cut gone ∙ ap next.Broke is)
-      (IsReading.verdict (subst (IsReadWhereLive p s) (sym (next_live s mine entry cut ∙ gone)) tt))
-  broken_reading own (Some row) live (inl trouble) = IsReading.trouble entry row (cause_records row why) why cut live (ReadTrouble.troubled (cause_records row why) why trouble)
-  broken_reading own (Some row) live (inr other) = IsReading.trouble entry row (cause_records row why) why cut live (other_trouble p s r own.actor row entry why other)
+      (IsReading.verdict (subst (IsReadWhereLive p s) (sym (next_live s mine entry cut ∙ gone)) tt) (lost_as_listed s mine gone))
+  broken_reading own (Some row) live h = IsReading.trouble entry row (cause_records row why) why cut live h
 
-  broken_does : (own : IsReaderOf s r) → IsQuiet s → IsFetched p s (next_piece (as_row r)) (live_row_of s (next_piece (as_row r))) (listed_in r (digest_in entry)) (found.Missing why) into
+  broken_does : (own : IsReaderOf s r) → IsQuiet s → IsFetched p s (next_piece (as_row r)) (live_row_of s (next_piece (as_row r))) entry (found.Missing why) into
       → Does p s (ReadOn r.reader) (read_adds s r (piece.Broken why)) Done
   broken_does own quiet h =
       let o : Option Row = live_row_of s (next_piece (as_row r)) in
@@ -149,10 +137,10 @@ module _ (p : Permit) (s : State) (r : Reader) (entry : TableRow) (why : Cause) 
 -- ---- what the device gave
 
 -- why a fragment is missing is no count to which the device has not come
-fetched_counted : (p : Permit) (s : State) (faults : ℕ) (id : PieceId) (o : Option Row) (listed : Option Digest) (why : Cause) (into : List ℕ) → (after_all s (found_records o (found.Missing why))).fault ≤ faults
-    → IsFetched p s id o listed (found.Missing why) into → (why ≡ cause_of_piece s id) ⊎ IsCountedCause faults why
-fetched_counted p s faults id None listed why into reached h = inl cc
-fetched_counted p s faults id (Some row) listed why into reached h = inr (cause_counted s row why faults reached)
+fetched_counted : (p : Permit) (s : State) (faults : ℕ) (id : PieceId) (o : Option Row) (entry : TableRow) (why : Cause) (into : List ℕ) → (after_all s (found_records o (found.Missing why))).fault ≤ faults
+    → IsFetched p s id o entry (found.Missing why) into → (why ≡ cause_of_piece s id) ⊎ IsCountedCause faults why
+fetched_counted p s faults id None entry why into reached h = inl cc
+fetched_counted p s faults id (Some row) entry why into reached h = inr (cause_counted s row why faults reached)
 
 -- how the put stands is no count of the device
 writing_counted : (faults : ℕ) (w : PutRow) (writing : Writing) (why : Cause) → next.Broke why ≡ verdict_of_writing w writing → IsCountedCause faults why
@@ -168,45 +156,39 @@ end_counted : (faults : ℕ) (s : State) (r : ReaderRow) (t : Option (List Table
 end_counted faults s r None why h = followed_counted faults (put_of s r.put) why h
 end_counted faults s r (Some table) why h = cc
 
-is_listed : (s : State) (r : Reader) (listed : Option Digest) (cut : ℕ) (digest : Digest) (has : HasNext s r cut digest) → listed ≡ listed_in r digest → listed ≡ listed_in r (digest_in has.row)
-is_listed s r listed cut digest has is = is ∙ ap (listed_in r) (sym has.digest_is)
-
--- another document than the one that is listed was given for the fragment that it takes next
-pub other_next : (s : State) (before mid after : List Call) (r : Reader) (id : PieceId) (listed : Option Digest) (cut : ℕ) (digest : Digest) → HasNext s r cut digest → id ≡ next_piece (as_row r) → listed ≡ listed_in r digest
-    → (made : List Call) → after ≡ made ++ mid → IsOtherDocument s before mid id listed → IsOtherNext s before after r
-other_next s before mid after r id listed cut digest has id_is listed_is made later other = record {
+-- its payload is not the one that is listed
+other_by : (s : State) (r : Reader) (cut : ℕ) (digest : Digest) (has : HasNext s r cut digest) (o : Option Row) → live_row_of s (next_piece (as_row r)) ≡ o → IsOtherPiece s (next_piece (as_row r)) digest → IsOtherNext s r
+other_by s r cut digest has None gone other =
+    let no : None ≡ Some other.found = sym (ap (λ (o : Option Row). option_map digest_in (option_and_then (λ (row : Row). row.payload) o)) gone) ∙ other.payload in cc
+other_by s r cut digest has (Some row) live other = record {
   entry = has.row;
+  row = row;
+  found = other.found;
   cut = has.found;
-  other = subst (IsOtherDocument s before after (next_piece (as_row r))) (is_listed s r listed cut digest has listed_is) (subst (λ i. IsOtherDocument s before after i listed) id_is (record {
-    row = other.row;
-    kept = other.kept;
-    bytes = other.bytes;
-    live = other.live;
-    given = λ p covers. other.given p (covers_first p before mid after made later covers);
-    digest = other.digest;
-    listed_is = other.listed_is;
-    differ = other.differ;
-  }));
+  live = live;
+  unlike = unlike_row s (next_piece (as_row r)) digest other.found row has.row live other.payload other.differ has.digest_is;
 }
 
-module _ (s : State) (old new newer : Device) (r : Reader) (id : PieceId) (listed : Option Digest) (cut : ℕ) (digest : Digest) (into : List ℕ)
-    (has : HasNext s r cut digest) (quiet : IsQuiet s) (id_is : id ≡ next_piece (as_row r)) (listed_is : listed ≡ listed_in r digest) (newer_is : newer ≡ new) where
-  fetched : (answer : Found) (f : Fetches s old new id listed answer into) (p : Permit) → Covers p old.past newer.past
-      → IsFetched p s (next_piece (as_row r)) (live_row_of s (next_piece (as_row r))) (listed_in r (digest_in has.row)) answer into
-  fetched answer f p covers =
-      subst (λ d. IsFetched p s (next_piece (as_row r)) (live_row_of s (next_piece (as_row r))) d answer into) (is_listed s r listed cut digest has listed_is)
-      (subst (λ i. IsFetched p s i (live_row_of s i) listed answer into) id_is
-      (f.answers p (subst (λ (x : Device). Covers p old.past x.past) newer_is covers)))
+pub other_next : (s : State) (r : Reader) (id : PieceId) (cut : ℕ) (digest : Digest) → HasNext s r cut digest → id ≡ next_piece (as_row r) → IsOtherPiece s id digest → IsOtherNext s r
+other_next s r id cut digest has id_is other = other_by s r cut digest has (live_row_of s (next_piece (as_row r))) refl (subst (λ i. IsOtherPiece s i digest) id_is other)
 
-  pub piece_reads : (size : ℕ) → Fetches s old new id listed (found.Found size) into → ReadsOn s old newer r (piece.Piece r.next size) into
+module _ (s : State) (old new newer : Device) (r : Reader) (id : PieceId) (cut : ℕ) (digest : Digest) (into : List ℕ)
+    (has : HasNext s r cut digest) (quiet : IsQuiet s) (id_is : id ≡ next_piece (as_row r)) (newer_is : newer ≡ new) where
+  fetched : (answer : Found) (f : Fetches s old new id digest answer into) (p : Permit) → Covers p old.past newer.past
+      → IsFetched p s (next_piece (as_row r)) (live_row_of s (next_piece (as_row r))) has.row answer into
+  fetched answer f p covers =
+      subst (λ i. IsFetched p s i (live_row_of s i) has.row answer into) id_is
+      (f.answers p has.row (subst (λ (x : Device). Covers p old.past x.past) newer_is covers) has.digest_is)
+
+  pub piece_reads : (size : ℕ) → Fetches s old new id digest (found.Found size) into → ReadsOn s old newer r (piece.Piece r.next size) into
   piece_reads size f = record {
     seen = subst (AreSeen old) (sym newer_is) f.seen;
-    does = λ p covers own. given_does p s r has.row size into has.found (listed_in r (digest_in has.row)) (live_row_of s (next_piece (as_row r))) own quiet refl (fetched (found.Found size) f p covers);
-    gives = λ p covers. given_is p s r has.row size into has.found (listed_in r (digest_in has.row)) (live_row_of s (next_piece (as_row r))) refl refl (fetched (found.Found size) f p covers);
+    does = λ p covers own. given_does p s r has.row size into has.found (live_row_of s (next_piece (as_row r))) own quiet refl (fetched (found.Found size) f p covers);
+    gives = λ p covers. given_is p s r has.row size into has.found (live_row_of s (next_piece (as_row r))) refl (fetched (found.Found size) f p covers);
     counted = tt;
   }
 
-  pub broken_reads : (why : Cause) → (after_all s (find_adds s id (found.Missing why))).fault ≤ new.faults → Fetches s old new id listed (found.Missing why) into → ReadsOn s old newer r (piece.Broken why) into
+  pub broken_reads : (why : Cause) → (after_all s (find_adds s id (found.Missing why))).fault ≤ new.faults → Fetches s old new id digest (found.Missing why) into → ReadsOn s old newer r (piece.Broken why) into
   broken_reads why reached f = record {
     seen = subst (AreSeen old) (sym newer_is) f.seen;
     does = λ p covers own. broken_does p s r has.row why into has.found own quiet (fetched (found.Missing why) f p covers);
@@ -214,7 +196,7 @@ module _ (s : State) (old new newer : Device) (r : Reader) (id : PieceId) (liste
     counted =
         let own : Permit = own_permit 0 old.past newer.past in
         let there : (after_all s (find_adds s id (found.Missing why))).fault ≤ newer.faults = subst (λ (x : Device). (after_all s (find_adds s id (found.Missing why))).fault ≤ x.faults) (sym newer_is) reached in
-        fetched_counted own s newer.faults (next_piece (as_row r)) (live_row_of s (next_piece (as_row r))) (listed_in r (digest_in has.row)) why into
+        fetched_counted own s newer.faults (next_piece (as_row r)) (live_row_of s (next_piece (as_row r))) has.row why into
         (subst (λ i. (after_all s (find_adds s i (found.Missing why))).fault ≤ newer.faults) id_is there) (fetched (found.Missing why) f own (own_covers 0 old.past newer.past));
   }
 
@@ -252,7 +234,8 @@ module _ (s : State) (r : Reader) (answer : NextPiece) (none : next_row s (as_ro
       let mine : ReaderRow = row_by own.actor r in
       let verdict : reader_verdict s mine ≡ noted 0 answer = verdict_end s mine none ∙ sym is in
       subst (λ recs. Does p s (ReadOn r.reader) recs Done) (sym stop_adds)
-      (reads_on p s r own [] (noted 0 answer) quiet (subst (IsReading p s mine []) verdict (IsReading.verdict (subst (IsReadWhereLive p s) (sym (next_none s mine none)) tt))))
+      (reads_on p s r own [] (noted 0 answer) quiet
+      (subst (IsReading p s mine []) verdict (IsReading.verdict (subst (IsReadWhereLive p s) (sym (next_none s mine none)) tt) (end_as_listed s mine none))))
 
   stop_counted : (faults : ℕ) (a : NextPiece) → noted 0 a ≡ verdict_at_end s (as_row r) (rows_in r) → IsCountedBreak faults s r a
   stop_counted faults (piece.Piece index size) h = tt

@@ -5,6 +5,11 @@ use Rattle.cache_model.specs.Kept.{Kept}
 use Rattle.stripe_core.specs.Between.{IsBetween}
 use Rattle.stripe_core.proofs.Between.{between-trans}
 
+-- what is shown else, said otherwise
+pub or_else : {X Y Z : Type 0} → (X → Y) → Z ⊎ X → Z ⊎ Y
+or_else then (inl z) = inl z
+or_else then (inr x) = inr (then x)
+
 module _ {X Y : Type 0} (a b c : Device) (k l m : Kept) (then : X → Y) where
   -- the second may
   pub behind_unharmed : IsBetween a b k l → IsBetween b c l m ⊎ X → IsBetween a c k m ⊎ Y

@@ -29,7 +29,7 @@ use Rattle.stripe_read.specs.declared.opening.Chosen.{Chosen}
 use Rattle.stripe_read.specs.declared.opening.Looked.{Looked}
 use Rattle.stripe_read.specs.declared.opening.Looked.TheVariants as looked
 use Rattle.stripe_read.specs.Lookups.{HasTable, IsChosen, IsCountedMiss, IsFound, LooksUp, answer_of, lookup_adds, otherwise, trouble_with}
-use Rattle.stripe_read.proofs.Giving.{either}
+use Rattle.stripe_read.proofs.Comparing.{either}
 
 -- ---- the writer to follow, or the cause
 

@@ -1,16 +1,15 @@
 -- What a reader is given, and what is recorded.
-use Rattle.std.specs.Prelude.{ℕ, ◌≡◌, ◌⊎◌, ◌+◌, List, [], ◌∷◌, ◌++◌, take, Option, Some, None, option_map, unwrap_or}
+use Rattle.std.specs.Prelude.{ℕ, ◌≡◌, ◌⊎◌, ◌+◌, List, [], ◌∷◌, ◌++◌, Option, Some, None, option_map, unwrap_or}
 use Rattle.tape_base.specs.declared.digests.Digest.{Digest}
-use Rattle.device_log.specs.Calls.{Call}
 use Rattle.logged_disk.specs.Device.{State as Device}
-use Rattle.fragment_table.specs.Table.{Table, TableRow}
+use Rattle.fragment_table.specs.Table.{TableRow}
 use Rattle.cache_model.specs.declared.answer.NextAnswer.{NextAnswer}
 use Rattle.cache_model.specs.declared.answer.NextAnswer.TheVariants as next
 use Rattle.cache_model.specs.declared.record.Rec.{Rec}
 use Rattle.cache_model.specs.State.{Row, State, live_row_of}
-use Rattle.cache_model.specs.Verdict.{cause_of_piece, next_piece, next_row}
+use Rattle.cache_model.specs.Verdict.{cause_of_piece, digest_in, next_piece, next_row}
 use Rattle.cache_model.specs.Permit.{Done, Permit, ReadOn}
-use Rattle.cache_model.specs.Legal.{Does, answer_record, digest_in, live_next}
+use Rattle.cache_model.specs.Legal.{Does, IsAsListed, IsUnlike, answer_record, live_next}
 use Rattle.stripe_core.specs.Covers.{AreSeen, Covers}
 use Rattle.stripe_core.specs.Counts.{IsCountedCause}
 use Rattle.cache_model.specs.Given.{IsDocumentOf}
@@ -19,7 +18,6 @@ use Rattle.stripe_read.specs.declared.reader.Reader.{Reader}
 use Rattle.stripe_read.specs.declared.reading.NextPiece.{NextPiece}
 use Rattle.stripe_read.specs.declared.reading.NextPiece.TheVariants as piece
 use Rattle.stripe_read.specs.Readers.{IsReaderOf, as_row}
-use Rattle.stripe_read.specs.Fetches.{IsListedAs, IsOtherDocument}
 
 -- the row of the fragment that it takes next has this length and this digest
 pub record HasNext (s : State) (r : Reader) (length : ℕ) (digest : Digest) : Type 0 where
@@ -27,10 +25,6 @@ pub record HasNext (s : State) (r : Reader) (length : ℕ) (digest : Digest) : T
   pub found : next_row s (as_row r) ≡ Some row
   pub length_is : row.length ≡ length
   pub digest_is : digest_in row ≡ digest
-
--- the digest that is listed, where it hit something
-abbrev pub listed_in : Reader → Digest → Option Digest
-listed_in r digest = option_map (λ (t : Table). digest) r.table
 
 -- ---- records
 
@@ -57,8 +51,8 @@ read_adds s r answer = trouble_with (live_next s (as_row r)) answer ++ answer_re
 
 -- ---- what it is given
 
--- the fragment that it takes next is live, and this is its payload: of bytes that have the recorded
--- digest, and where it hit something and they were written out, the one that is listed
+-- the fragment that it takes next is live, and this is its payload: of bytes that have the recorded digest; by the
+-- records it is the one that the reader's table lists, or that the writer has cut
 pub record IsFragment (p : Permit) (s : State) (r : Reader) (index size : ℕ) (into : List ℕ) : Type 0 where
   pub entry : TableRow
   pub row : Row
@@ -66,7 +60,7 @@ pub record IsFragment (p : Permit) (s : State) (r : Reader) (index size : ℕ) (
   pub cut : next_row s (as_row r) ≡ Some entry
   pub live : live_row_of s (next_piece (as_row r)) ≡ Some row
   pub document : IsDocumentOf p s row size into
-  pub listed : IsListedAs s row (listed_in r (digest_in entry)) (take size into)
+  pub listed : IsAsListed row entry
 
 -- the fragment, where one is given; any other answer gives no bytes
 abbrev pub Gives : Permit → State → Reader → NextPiece → List ℕ → Type 0
@@ -88,12 +82,15 @@ pub record ReadsOn (s : State) (old new : Device) (r : Reader) (answer : NextPie
   pub gives : (p : Permit) → Covers p old.past new.past → Gives p s r answer into
   pub counted : IsCountedBreak new.faults s r answer
 
--- between two moments of its log the device gave a document of the recorded digest of the fragment that it takes next,
--- whose payload is not the one that the reader's table lists
-pub record IsOtherNext (s : State) (before after : List Call) (r : Reader) : Type 0 where
+-- the fragment that it takes next is live, and by the records its payload is not the one that the reader's table lists,
+-- or that the writer has cut
+pub record IsOtherNext (s : State) (r : Reader) : Type 0 where
   pub entry : TableRow
+  pub row : Row
+  pub found : Digest
   pub cut : next_row s (as_row r) ≡ Some entry
-  pub other : IsOtherDocument s before after (next_piece (as_row r)) (listed_in r (digest_in entry))
+  pub live : live_row_of s (next_piece (as_row r)) ≡ Some row
+  pub unlike : IsUnlike row entry found
 
 -- ---- where it is then
 

@@ -1,6 +1,6 @@
 // How the fragment that a reader takes next is read.
 ghost use Rattle.cache_model.specs.State.{most_fragments};
-ghost use Rattle.std.specs.Prelude.{◌≡◌, ◌+◌, ◌-◌, ◌*◌, ◌≤◌, ◌⊎◌, IfOk, IfSome, OnErr, None, length, option_map, slice_get, take};
+ghost use Rattle.std.specs.Prelude.{◌≡◌, ◌+◌, ◌-◌, ◌*◌, ◌≤◌, ◌⊎◌, IfOk, IfSome, OnErr, None, length, option_map, slice_get};
 ghost use Rattle.tape_base.specs.Geometry.{budget_of};
 ghost use Rattle.cache_model.specs.Kept.{with_records};
 ghost use Rattle.cache_model.specs.Verdict.{next_row};
@@ -11,7 +11,7 @@ ghost use Rattle.stripe_core.specs.Stripe.{IsStripe, kept_in, seen_in, state_in,
 ghost use Rattle.stripe_core.specs.Between.{Between};
 ghost use Rattle.stripe_core.specs.Faults.{IsAccounted};
 ghost use Rattle.stripe_read.specs.Readers.{IsOpenReader, as_row};
-ghost use Rattle.stripe_read.specs.Fetches.{Fetches, IsAsListed, IsCompared, IsOtherDocument, IsUnlike};
+ghost use Rattle.stripe_read.specs.Fetches.{Fetches, IsCompared, IsOtherPiece, IsPieceAsListed, IsUnlikePiece};
 
 use crate::Reader;
 use cache_chronicle::Chronicle;
@@ -67,19 +67,20 @@ fn followed_row<D: Disk, R: Directory + Drop, C: Chronicle>(
     directory.row(reader.put, reader.next)
 }
 
-// Reads a fragment to the front of `into`. One that the device gave, and that is not the one that a
-// table lists, is recorded as damaged, and its entry goes.
+// Reads a fragment to the front of `into`. One whose payload, by the records, is not the one that
+// is listed is recorded as damaged, and its entry goes.
 pub(crate) fn fetch<D: Disk, R: Directory + Drop, C: Chronicle>(
     stripe: &mut Stripe<D, R, C>,
     id: PieceId,
-    listed: Option<Digest>,
+    listed: Digest,
     into: &mut [u8],
 ) -> Result<Found, AllocError>
     requires stripe { IsStripe D.Disk R.Directory C.Chronicle stripe.old }
     requires units { 2 ≤ units_in stripe.old }
     requires into { length into.old ≡ 512 * budget_of (state_in C.Chronicle stripe.old).geometry }
     ensures stripe { IsStripe D.Disk R.Directory C.Chronicle stripe.new }
-    ensures unharmed { Between D.Disk R.Directory C.Chronicle stripe.old stripe.new ⊎ IsOtherDocument (state_in C.Chronicle stripe.old) (seen_in D.Disk R.Directory stripe.old).device.past (seen_in D.Disk R.Directory stripe.new).device.past id listed }
+    ensures unharmed { Between D.Disk R.Directory C.Chronicle stripe.old stripe.new
+        ⊎ IsOtherPiece (state_in C.Chronicle stripe.old) id listed }
     ensures accounted { IsAccounted (seen_in D.Disk R.Directory stripe.old).device.past (seen_in D.Disk R.Directory stripe.new).device.past
         (kept_in C.Chronicle stripe.old) (kept_in C.Chronicle stripe.new) }
     ensures device { IsAfter (seen_in D.Disk R.Directory stripe.old).device (seen_in D.Disk R.Directory stripe.new).device }
@@ -92,67 +93,62 @@ pub(crate) fn fetch<D: Disk, R: Directory + Drop, C: Chronicle>(
     ensures unit { units_in stripe.old ≤ units_in stripe.new + 2 }
 {
     match stripe.find_piece(id, into)? {
-        Found::Found { length: size } => Ok(compare(stripe, id, listed, size, into)),
+        Found::Found { length: size } => Ok(compare(stripe, id, listed, size)),
         Found::Missing(why) => Ok(Found::Missing(why)),
     }
 }
 
-// What was found is given, unless it is not what is listed.
+// What was found is given, unless its payload is not the one that is listed.
 fn compare<D: Disk, R: Directory + Drop, C: Chronicle>(
     stripe: &mut Stripe<D, R, C>,
     id: PieceId,
-    listed: Option<Digest>,
+    listed: Digest,
     size: u32,
-    into: &[u8],
 ) -> Found
     requires stripe { IsStripe D.Disk R.Directory C.Chronicle stripe.old }
     requires unit { 1 ≤ units_in stripe.old }
-    requires within { size ≤ length into.now }
     ensures stripe { IsStripe D.Disk R.Directory C.Chronicle stripe.new }
     ensures unharmed { Between D.Disk R.Directory C.Chronicle stripe.old stripe.new
-        ⊎ ((u : Unlike) × IsUnlike (state_in C.Chronicle stripe.old) id listed (take size into.now) u) }
+        ⊎ IsOtherPiece (state_in C.Chronicle stripe.old) id listed }
     ensures accounted { IsAccounted (seen_in D.Disk R.Directory stripe.old).device.past (seen_in D.Disk R.Directory stripe.new).device.past
         (kept_in C.Chronicle stripe.old) (kept_in C.Chronicle stripe.new) }
     ensures adds { kept_in C.Chronicle stripe.new ≡ with_records (kept_in C.Chronicle stripe.old) (find_adds (state_in C.Chronicle stripe.old) id result) }
-    ensures compares { IsCompared (state_in C.Chronicle stripe.old) id listed size (take size into.now) result }
+    ensures compares { IsCompared (state_in C.Chronicle stripe.old) id listed size result }
     ensures still { (seen_in D.Disk R.Directory stripe.new).device ≡ (seen_in D.Disk R.Directory stripe.old).device }
     ensures unit { units_in stripe.old ≤ units_in stripe.new + 1 }
 {
-    match mismatch(stripe, id, listed, &into[..size as usize]) {
-        Some(Unlike { place, kept, found }) => {
-            stripe.mark_damaged(id, kept, found);
+    match mismatch(stripe, id, listed) {
+        Some(Unlike { place, found }) => {
+            stripe.mark_damaged(id, listed, found);
+            let kept = listed;
             Found::Missing(Cause::Damaged { place, kept, found })
         }
         None => Found::Found { length: size },
     }
 }
 
-// Two digests of a piece that differ: the one that a table lists, and the one that it has.
+// The place of a piece, and the digest of its payload, which is not the one that is listed.
 #[derive(Clone, Copy, Debug)]
 struct Unlike {
     place: u64,
-    kept: Digest,
     found: Digest,
 }
 
-// Tells of a payload that is not the one that is listed. What is still in the buffer came from no device,
-// and is as it was placed.
+// Tells of a payload that is not the one that is listed. The records have its digest, so that no
+// SHA-256 of its bytes is made.
 fn mismatch<D: Disk, R: Directory + Drop, C: Chronicle>(
     stripe: &Stripe<D, R, C>,
     id: PieceId,
-    listed: Option<Digest>,
-    payload: &[u8],
+    listed: Digest,
 ) -> Option<Unlike>
     requires { IsStripe D.Disk R.Directory C.Chronicle stripe.now }
-    ensures some { IfSome result (IsUnlike (state_in C.Chronicle stripe.now) id listed payload.now) }
-    ensures none { result ≡ None → IsAsListed (state_in C.Chronicle stripe.now) id listed payload.now }
+    ensures some { IfSome result (IsUnlikePiece (state_in C.Chronicle stripe.now) id listed) }
+    ensures none { result ≡ None → IsPieceAsListed (state_in C.Chronicle stripe.now) id listed }
 {
-    let kept = listed?;
-    let place = stripe.whereabouts(id)?;
-    let found = Digest::of(payload);
-    if place < stripe.cursor() && found != kept {
-        Some(Unlike { place, kept, found })
-    } else {
-        None
+    let found = stripe.payload_of(id)?;
+    if found == listed {
+        return None;
     }
+    let place = stripe.whereabouts(id)?;
+    Some(Unlike { place, found })
 }

@@ -10,7 +10,7 @@ ghost use Rattle.stripe_core.specs.Stripe.{IsStripe, kept_in, seen_in, state_in,
 ghost use Rattle.stripe_core.specs.Between.{Between};
 ghost use Rattle.stripe_core.specs.Faults.{IsAccounted};
 ghost use Rattle.stripe_read.specs.Readers.{IsOpenReader, IsReaderOf, as_row, rows_in};
-ghost use Rattle.stripe_read.specs.Nexts.{GoesOn, HasNext, IsOtherNext, ReadsOn, listed_in, noted, read_adds};
+ghost use Rattle.stripe_read.specs.Nexts.{GoesOn, HasNext, IsOtherNext, ReadsOn, noted, read_adds};
 ghost use Rattle.stripe_read.specs.Others.{AddsOfReader};
 
 use crate::Reader;
@@ -47,7 +47,8 @@ pub fn read_next<D: Disk, R: Directory + Drop, C: Chronicle>(
     requires reader { IsOpenReader (state_in C.Chronicle stripe.old) reader.old }
     requires into { length into.old ≡ 512 * budget_of (state_in C.Chronicle stripe.old).geometry }
     ensures stripe { IsStripe D.Disk R.Directory C.Chronicle stripe.new }
-    ensures unharmed { Between D.Disk R.Directory C.Chronicle stripe.old stripe.new ⊎ IsOtherNext (state_in C.Chronicle stripe.old) (seen_in D.Disk R.Directory stripe.old).device.past (seen_in D.Disk R.Directory stripe.new).device.past reader.old }
+    ensures unharmed { Between D.Disk R.Directory C.Chronicle stripe.old stripe.new
+        ⊎ IsOtherNext (state_in C.Chronicle stripe.old) reader.old }
     ensures accounted { IsAccounted (seen_in D.Disk R.Directory stripe.old).device.past (seen_in D.Disk R.Directory stripe.new).device.past
         (kept_in C.Chronicle stripe.old) (kept_in C.Chronicle stripe.new) }
     ensures device { IsAfter (seen_in D.Disk R.Directory stripe.old).device (seen_in D.Disk R.Directory stripe.new).device }
@@ -71,7 +72,7 @@ pub fn read_next<D: Disk, R: Directory + Drop, C: Chronicle>(
     }
 }
 
-// Gives the next fragment, which was cut with that many bytes.
+// Gives the next fragment, which is listed with that many bytes and that digest.
 fn give<D: Disk, R: Directory + Drop, C: Chronicle>(
     stripe: &mut Stripe<D, R, C>,
     reader: &mut Reader,
@@ -87,7 +88,8 @@ fn give<D: Disk, R: Directory + Drop, C: Chronicle>(
     requires few { reader.old.next ≤ most_fragments }
     requires into { length into.old ≡ 512 * budget_of (state_in C.Chronicle stripe.old).geometry }
     ensures stripe { IsStripe D.Disk R.Directory C.Chronicle stripe.new }
-    ensures unharmed { Between D.Disk R.Directory C.Chronicle stripe.old stripe.new ⊎ IsOtherNext (state_in C.Chronicle stripe.old) (seen_in D.Disk R.Directory stripe.old).device.past (seen_in D.Disk R.Directory stripe.new).device.past reader.old }
+    ensures unharmed { Between D.Disk R.Directory C.Chronicle stripe.old stripe.new
+        ⊎ IsOtherNext (state_in C.Chronicle stripe.old) reader.old }
     ensures accounted { IsAccounted (seen_in D.Disk R.Directory stripe.old).device.past (seen_in D.Disk R.Directory stripe.new).device.past
         (kept_in C.Chronicle stripe.old) (kept_in C.Chronicle stripe.new) }
     ensures device { IsAfter (seen_in D.Disk R.Directory stripe.old).device (seen_in D.Disk R.Directory stripe.new).device }
@@ -103,9 +105,8 @@ fn give<D: Disk, R: Directory + Drop, C: Chronicle>(
     ensures same { OnErr result (reader.new ≡ reader.old) }
     ensures later { (seen_in D.Disk R.Directory stripe.old).device.faults ≤ (seen_in D.Disk R.Directory stripe.new).device.faults }
 {
-    let listed = listed_digest(reader, digest);
     let index = reader.next;
-    match fetch(stripe, reader.next_piece(), listed, into)? {
+    match fetch(stripe, reader.next_piece(), digest, into)? {
         Found::Found { length: size } => {
             stripe.note(reader.reader, NextAnswer::Gave { index, length: cut });
             reader.next = index + 1;
@@ -182,16 +183,6 @@ fn how_put_stands<D: Disk, R: Directory + Drop, C: Chronicle>(
         Some(PutState::Committed { length, .. }) => NextPiece::End { length },
         Some(PutState::Aborted { .. }) => NextPiece::Broken(Cause::Aborted { writer: reader.put }),
         None => unreachable!(),
-    }
-}
-
-// The digest that a fragment's payload is compared with: none where the reader follows a writer.
-fn listed_digest(reader: &Reader, digest: Digest) -> Option<Digest>
-    ensures { result ≡ listed_in reader.now digest }
-{
-    match &reader.table {
-        Some(_) => Some(digest),
-        None => None,
     }
 }
 

@@ -7,7 +7,7 @@ use Rattle.stripe_core.specs.Stripe.{kept_in, seen_in, state_in}
 use Rattle.stripe_core.proofs.Between.{accounted_then}
 use Rattle.stripe_read.specs.Fetches.{Fetches}
 use Rattle.stripe_read.proofs.Giving.{broken_reads, other_next, piece_reads}
-use Rattle.stripe_read.proofs.Harmless.{unharmed_behind}
+use Rattle.stripe_read.proofs.Harmless.{or_else, unharmed_behind}
 use Rattle.stripe_read.proofs.Staying.{broken_behind, given_open, given_reader, leaves_open, leaves_reader, state_behind}
 use Rattle.stripe_read.proofs.reading.give.Goals as goal
 
@@ -17,8 +17,8 @@ returns-in-Found-clause-reads g c =
     let old = (seen_in g.D.Disk g.R.Directory c.args.stripe.now).device in
     let new = (seen_in g.D.Disk g.R.Directory c.fetch.new.stripe).device in
     let newer = (seen_in g.D.Disk g.R.Directory c.note.new.self).device in
-    piece_reads s old new newer c.args.reader.now c.next_piece.result c.listed_digest-listed.result c.args.cut c.args.digest c.fetch.new.into c.requires.next c.requires.quiet c.next_piece.ensures c.listed_digest-listed.ensures c.note.ensures.still
-    c.in-Found.size (subst (λ f. Fetches s old new c.next_piece.result c.listed_digest-listed.result f c.fetch.new.into) c.in-Found.is c.in_ok-size.ensures.fetches)
+    piece_reads s old new newer c.args.reader.now c.next_piece.result c.args.cut c.args.digest c.fetch.new.into c.requires.next c.requires.quiet c.next_piece.ensures c.note.ensures.still
+    c.in-Found.size (subst (λ f. Fetches s old new c.next_piece.result c.args.digest f c.fetch.new.into) c.in-Found.is c.in_ok-size.ensures.fetches)
 
 pub returns-in-Found-clause-reader : goal.returns-in-Found-clause-reader
 returns-in-Found-clause-reader g c =
@@ -40,9 +40,9 @@ returns-in-Missing-clause-reads g c =
     let k1 = kept_in g.C.Chronicle c.fetch.new.stripe in
     let adds : k1 ≡ with_records k (find_adds s c.next_piece.result (found.Missing c.in-Missing.why)) =
     subst (λ f. k1 ≡ with_records k (find_adds s c.next_piece.result f)) c.in-Missing.is c.in_ok-size.ensures.adds in
-    broken_reads s old new newer c.args.reader.now c.next_piece.result c.listed_digest-listed.result c.args.cut c.args.digest c.fetch.new.into c.requires.next c.requires.quiet c.next_piece.ensures c.listed_digest-listed.ensures c.note-in-Missing.ensures.still
+    broken_reads s old new newer c.args.reader.now c.next_piece.result c.args.cut c.args.digest c.fetch.new.into c.requires.next c.requires.quiet c.next_piece.ensures c.note-in-Missing.ensures.still
     c.in-Missing.why (subst (λ (t : State). t.fault ≤ new.faults) (state_behind k k1 (find_adds s c.next_piece.result (found.Missing c.in-Missing.why)) adds) c.fetch.ensures.stripe.pieces.faults)
-    (subst (λ f. Fetches s old new c.next_piece.result c.listed_digest-listed.result f c.fetch.new.into) c.in-Missing.is c.in_ok-size.ensures.fetches)
+    (subst (λ f. Fetches s old new c.next_piece.result c.args.digest f c.fetch.new.into) c.in-Missing.is c.in_ok-size.ensures.fetches)
 
 pub returns-in-Missing-clause-reader : goal.returns-in-Missing-clause-reader
 returns-in-Missing-clause-reader g c =
@@ -56,23 +56,22 @@ returns-in-Missing-clause-keeps g c = λ own.
     (broken_behind (kept_in g.C.Chronicle c.args.stripe.now) (kept_in g.C.Chronicle c.fetch.new.stripe) (kept_in g.C.Chronicle c.note-in-Missing.new.self) (live_row_of (state_in g.C.Chronicle c.args.stripe.now) c.next_piece.result) _
     c.args.reader.now.reader c.in-Missing.why c.in_ok-size.ensures.adds c.note-in-Missing.ensures.adds) own
 
+pub returns-in_err-size-clause-unharmed : goal.returns-in_err-size-clause-unharmed
+returns-in_err-size-clause-unharmed g c =
+    or_else (other_next (state_in g.C.Chronicle c.args.stripe.now) c.args.reader.now c.next_piece.result c.args.cut c.args.digest c.requires.next c.next_piece.ensures) c.fetch.ensures.unharmed
+
 pub returns-in-Found-clause-unharmed : goal.returns-in-Found-clause-unharmed
 returns-in-Found-clause-unharmed g c =
-    let s = state_in g.C.Chronicle c.args.stripe.now in
     unharmed_behind (seen_in g.D.Disk g.R.Directory c.args.stripe.now).device (seen_in g.D.Disk g.R.Directory c.fetch.new.stripe).device (seen_in g.D.Disk g.R.Directory c.note.new.self).device
     (kept_in g.C.Chronicle c.args.stripe.now) (kept_in g.C.Chronicle c.fetch.new.stripe) (kept_in g.C.Chronicle c.note.new.self)
-    (other_next s (seen_in g.D.Disk g.R.Directory c.args.stripe.now).device.past (seen_in g.D.Disk g.R.Directory c.fetch.new.stripe).device.past (seen_in g.D.Disk g.R.Directory c.note.new.self).device.past
-    c.args.reader.now c.next_piece.result c.listed_digest-listed.result c.args.cut c.args.digest c.requires.next c.next_piece.ensures c.listed_digest-listed.ensures c.note.ensures.unharmed.goes.made c.note.ensures.unharmed.goes.past)
+    (other_next (state_in g.C.Chronicle c.args.stripe.now) c.args.reader.now c.next_piece.result c.args.cut c.args.digest c.requires.next c.next_piece.ensures)
     c.fetch.ensures.unharmed c.note.ensures.unharmed
 
 pub returns-in-Missing-clause-unharmed : goal.returns-in-Missing-clause-unharmed
 returns-in-Missing-clause-unharmed g c =
-    let s = state_in g.C.Chronicle c.args.stripe.now in
     unharmed_behind (seen_in g.D.Disk g.R.Directory c.args.stripe.now).device (seen_in g.D.Disk g.R.Directory c.fetch.new.stripe).device (seen_in g.D.Disk g.R.Directory c.note-in-Missing.new.self).device
     (kept_in g.C.Chronicle c.args.stripe.now) (kept_in g.C.Chronicle c.fetch.new.stripe) (kept_in g.C.Chronicle c.note-in-Missing.new.self)
-    (other_next s (seen_in g.D.Disk g.R.Directory c.args.stripe.now).device.past (seen_in g.D.Disk g.R.Directory c.fetch.new.stripe).device.past (seen_in g.D.Disk g.R.Directory c.note-in-Missing.new.self).device.past
-    c.args.reader.now c.next_piece.result c.listed_digest-listed.result c.args.cut c.args.digest c.requires.next c.next_piece.ensures c.listed_digest-listed.ensures
-    c.note-in-Missing.ensures.unharmed.goes.made c.note-in-Missing.ensures.unharmed.goes.past)
+    (other_next (state_in g.C.Chronicle c.args.stripe.now) c.args.reader.now c.next_piece.result c.args.cut c.args.digest c.requires.next c.next_piece.ensures)
     c.fetch.ensures.unharmed c.note-in-Missing.ensures.unharmed
 
 pub returns-in-Found-clause-accounted : goal.returns-in-Found-clause-accounted

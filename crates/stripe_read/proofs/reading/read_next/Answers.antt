@@ -23,12 +23,9 @@ returns-in-None-clause-reads g c =
 
 pub returns-in-Some-clause-unharmed : goal.returns-in-Some-clause-unharmed
 returns-in-Some-clause-unharmed g c =
-    let prepared = state_in g.C.Chronicle c.prepare.new.self in
     behind_unharmed (seen_in g.D.Disk g.R.Directory c.args.stripe.now).device (seen_in g.D.Disk g.R.Directory c.prepare.new.self).device (seen_in g.D.Disk g.R.Directory c.give.new.stripe).device
     (kept_in g.C.Chronicle c.args.stripe.now) (kept_in g.C.Chronicle c.prepare.new.self) (kept_in g.C.Chronicle c.give.new.stripe)
-    (λ (x : IsOtherNext prepared (seen_in g.D.Disk g.R.Directory c.prepare.new.self).device.past (seen_in g.D.Disk g.R.Directory c.give.new.stripe).device.past c.args.reader.now).
-    subst (λ before. IsOtherNext (state_in g.C.Chronicle c.args.stripe.now) before (seen_in g.D.Disk g.R.Directory c.give.new.stripe).device.past c.args.reader.now) c.prepare.ensures.still.past
-    (subst (λ t. IsOtherNext t (seen_in g.D.Disk g.R.Directory c.prepare.new.self).device.past (seen_in g.D.Disk g.R.Directory c.give.new.stripe).device.past c.args.reader.now) (ap state_of c.prepare.ensures.records) x))
+    (λ (x : IsOtherNext (state_in g.C.Chronicle c.prepare.new.self) c.args.reader.now). subst (λ (k : Kept). IsOtherNext (state_of k) c.args.reader.now) c.prepare.ensures.records x)
     c.prepare.ensures.unharmed c.give.ensures.unharmed
 
 pub returns-in-Some-clause-own : goal.returns-in-Some-clause-own
