@@ -77,13 +77,13 @@ module _ (R P : ℕ → Type 0) where
   lookup_beside p s key request before answer (Legal.IsLookup.verdict r) = tt
   lookup_beside p s key request before answer (Legal.IsLookup.trouble row b why live t) = trouble_beside p s row before why t
 
-  fragment_beside : (p : Permit) (s : State) (r : ReaderRow) (row : Row) (entry : TableRow) (before : List Rec) (why : Cause) → Legal.ReadTrouble p s r row entry before why → AllBeside R P before
-  fragment_beside p s r row entry before why (Legal.ReadTrouble.troubled b c t) = trouble_beside p s row before why t
-  fragment_beside p s r row entry before why (Legal.ReadTrouble.mismatched found hit m) = (tt, tt)
+  fragment_beside : (p : Permit) (s : State) (row : Row) (entry : TableRow) (before : List Rec) (why : Cause) → Legal.ReadTrouble p s row entry before why → AllBeside R P before
+  fragment_beside p s row entry before why (Legal.ReadTrouble.troubled b c t) = trouble_beside p s row before why t
+  fragment_beside p s row entry before why (Legal.ReadTrouble.mismatched found read unlike) = (tt, tt)
 
   pub reading_beside : (p : Permit) (s : State) (r : ReaderRow) (before : List Rec) (answer : NextAnswer) → Legal.IsReading p s r before answer → AllBeside R P before
-  reading_beside p s r before answer (Legal.IsReading.verdict x) = tt
-  reading_beside p s r before answer (Legal.IsReading.trouble entry row b why m live t) = fragment_beside p s r row entry before why t
+  reading_beside p s r before answer (Legal.IsReading.verdict x listed) = tt
+  reading_beside p s r before answer (Legal.IsReading.trouble entry row b why m live t) = fragment_beside p s row entry before why t
 
   answer_beside : (reader : ℕ) (answer : NextAnswer) → R reader → IsBeside R P (answer_record reader answer)
   answer_beside reader (next.Gave index length) other = other

@@ -61,15 +61,15 @@ trouble_ends_none : (p : Permit) (s : State) (row : Row) (before : List Rec) (wh
 trouble_ends_none p s row before why last n given size (Given.Trouble.faulted count w m) h = broken_ends_none last size h
 trouble_ends_none p s row before why last n given size (Given.Trouble.damaged found d) h = broken_ends_none last size h
 
-reading_ends_none : (p : Permit) (s : State) (r : ReaderRow) (row : Row) (entry : TableRow) (before : List Rec) (why last : Cause) (n : ℕ) (given : List ℕ) (size : ℕ)
-    → Legal.ReadTrouble p s r row entry before why → next_said given (told_in (before ++ rec.Broke n last ∷ [])) ≡ answer.End size → ⊥
-reading_ends_none p s r row entry before why last n given size (Legal.ReadTrouble.troubled b c t) h = trouble_ends_none p s row before why last n given size t h
-reading_ends_none p s r row entry before why last n given size (Legal.ReadTrouble.mismatched found hit m) h = broken_ends_none last size h
+reading_ends_none : (p : Permit) (s : State) (row : Row) (entry : TableRow) (before : List Rec) (why last : Cause) (n : ℕ) (given : List ℕ) (size : ℕ)
+    → Legal.ReadTrouble p s row entry before why → next_said given (told_in (before ++ rec.Broke n last ∷ [])) ≡ answer.End size → ⊥
+reading_ends_none p s row entry before why last n given size (Legal.ReadTrouble.troubled b c t) h = trouble_ends_none p s row before why last n given size t h
+reading_ends_none p s row entry before why last n given size (Legal.ReadTrouble.mismatched found read unlike) h = broken_ends_none last size h
 
 reading_ends : (n : ℕ) (p : Permit) (s : State) (r : ReaderRow) (before : List Rec) (a : NextAnswer) (given : List ℕ) (size : ℕ) → Legal.IsReading p s r before a
     → next_said given (told_in (before ++ answer_record n a ∷ [])) ≡ answer.End size → reader_verdict s r ≡ next.Ended size
-reading_ends n p s r before a given size (Legal.IsReading.verdict x) h = verdict_ends n s r given size (reader_verdict s r) refl h
-reading_ends n p s r before a given size (Legal.IsReading.trouble entry row b why e live t) h = absurd (reading_ends_none p s r row entry before why why n given size t h)
+reading_ends n p s r before a given size (Legal.IsReading.verdict x listed) h = verdict_ends n s r given size (reader_verdict s r) refl h
+reading_ends n p s r before a given size (Legal.IsReading.trouble entry row b why e live t) h = absurd (reading_ends_none p s row entry before why why n given size t h)
 
 -- the reader is at its end
 record IsEnded (n : ℕ) (s : State) (size : ℕ) : Type 0 where

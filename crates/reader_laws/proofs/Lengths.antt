@@ -74,9 +74,9 @@ module _ (total : ℕ) where
   look_tells p s actor key request added e (Legal.DoesLook.looks m) =
       subst AllTell (sym m.is) (all_append TellsEnd m.before _ (lookup_tells p s key request m.before m.answer m.right) ((λ reader size h. none_is h), tt))
 
-  fragment_tells : (p : Permit) (s : State) (r : ReaderRow) (row : Row) (entry : TableRow) (before : List Rec) (why : Cause) → Legal.ReadTrouble p s r row entry before why → AllTell before
-  fragment_tells p s r row entry before why (Legal.ReadTrouble.troubled b c t) = trouble_tells p s row before why t
-  fragment_tells p s r row entry before why (Legal.ReadTrouble.mismatched found hit m) = ((λ reader size h. none_is h), tt)
+  fragment_tells : (p : Permit) (s : State) (row : Row) (entry : TableRow) (before : List Rec) (why : Cause) → Legal.ReadTrouble p s row entry before why → AllTell before
+  fragment_tells p s row entry before why (Legal.ReadTrouble.troubled b c t) = trouble_tells p s row before why t
+  fragment_tells p s row entry before why (Legal.ReadTrouble.mismatched found read unlike) = ((λ reader size h. none_is h), tt)
 
   answer_tells : (n : ℕ) (a : NextAnswer) → ((size : ℕ) → a ≡ next.Ended size → size ≡ total) → TellsEnd (answer_record n a)
   answer_tells n (next.Gave index bytes) ends reader size h = absurd cc
@@ -86,9 +86,9 @@ module _ (total : ℕ) where
 
   reading_tells : (n : ℕ) (p : Permit) (s : State) (r : ReaderRow) (before : List Rec) (a : NextAnswer) → Legal.IsReading p s r before a
       → ((size : ℕ) → reader_verdict s r ≡ next.Ended size → size ≡ total) → AllTell (before ++ answer_record n a ∷ [])
-  reading_tells n p s r before a (Legal.IsReading.verdict x) ends = (answer_tells n (reader_verdict s r) ends, tt)
+  reading_tells n p s r before a (Legal.IsReading.verdict x listed) ends = (answer_tells n (reader_verdict s r) ends, tt)
   reading_tells n p s r before a (Legal.IsReading.trouble entry row b why e live t) ends =
-      all_append TellsEnd before (rec.Broke n why ∷ []) (fragment_tells p s r row entry before why t) ((λ reader size h. absurd cc), tt)
+      all_append TellsEnd before (rec.Broke n why ∷ []) (fragment_tells p s row entry before why t) ((λ reader size h. absurd cc), tt)
 
   stop_tells : (s : State) (n : ℕ) (added : List Rec) (e : End) → Legal.DoesStopReading s n added e → AllTell added
   stop_tells s n added e (Legal.DoesStopReading.closes r q l is) = subst AllTell (sym is) ((λ reader size h. none_is h), tt)
@@ -104,7 +104,7 @@ module _ (p : Permit) (streams : ℕ → Stream) (n put : ℕ) where
   abbrev ReadsPut : Option ReaderRow → Type 0
   ReadsPut o = (r : ReaderRow) → o ≡ Some r → r.put ≡ put
 
-  -- what stands is what writers took but for what fragments are, and the reader reads this put
+  -- what stands is what writers took but for the documents of fragments, and the reader reads this put
   record IsReadingPut (s : State) : Type 0 where
     kept : AreKept s streams
     reads : ReadsPut (reader_of s n)
@@ -122,10 +122,10 @@ module _ (p : Permit) (streams : ℕ → Stream) (n put : ℕ) where
 
   reading_put : (s : State) (r : ReaderRow) (before : List Rec) (a : NextAnswer) → Legal.IsReading p s r before a → ReadsPut (reader_of s n)
       → ReadsPut (reader_of (after_all s (before ++ answer_record n a ∷ [])) n)
-  reading_put s r before a (Legal.IsReading.verdict x) reads = answered_put s (reader_verdict s r) reads
+  reading_put s r before a (Legal.IsReading.verdict x listed) reads = answered_put s (reader_verdict s r) reads
   reading_put s r before a (Legal.IsReading.trouble entry row b why e live (Legal.ReadTrouble.troubled c d (Given.Trouble.faulted count w m))) reads = reads
   reading_put s r before a (Legal.IsReading.trouble entry row b why e live (Legal.ReadTrouble.troubled c d (Given.Trouble.damaged found m))) reads = reads
-  reading_put s r before a (Legal.IsReading.trouble entry row b why e live (Legal.ReadTrouble.mismatched found hit m)) reads = reads
+  reading_put s r before a (Legal.IsReading.trouble entry row b why e live (Legal.ReadTrouble.mismatched found read unlike)) reads = reads
 
   read_put : (s : State) (added : List Rec) (e : End) → Legal.DoesReadAll p s n added e → ReadsPut (reader_of s n) → ReadsPut (reader_of (after_all s added) n)
   read_put s added e (Legal.DoesReadAll.reads_on a hit m x) reads = subst (λ recs. ReadsPut (reader_of (after_all s recs) n)) (sym m.is) (reading_put s m.r m.before a m.right reads)

@@ -16,3 +16,5 @@ pub mod Origins
 pub mod Hits
 pub mod Lengths
 pub mod Measures
+pub mod Firsts
+pub mod Damages

@@ -105,17 +105,17 @@ trouble_told : (p : Permit) (s : State) (row : Row) (before : List Rec) (why : C
 trouble_told p s row before why run n given last (Given.Trouble.faulted count w m) piece = piece
 trouble_told p s row before why run n given last (Given.Trouble.damaged found d) piece = piece
 
-broken_told : (p : Permit) (s : State) (r : ReaderRow) (row : Row) (entry : TableRow) (before : List Rec) (why : Cause) (run : Run) (n : ℕ) (given : List ℕ) (last : Cause)
-    → Legal.ReadTrouble p s r row entry before why → IsPiece run s n given (told_in (before ++ rec.Broke n last ∷ [])) → given ≡ []
-broken_told p s r row entry before why run n given last (Legal.ReadTrouble.troubled b c t) piece = trouble_told p s row before why run n given last t piece
-broken_told p s r row entry before why run n given last (Legal.ReadTrouble.mismatched found hit m) piece = piece
+broken_told : (p : Permit) (s : State) (row : Row) (entry : TableRow) (before : List Rec) (why : Cause) (run : Run) (n : ℕ) (given : List ℕ) (last : Cause)
+    → Legal.ReadTrouble p s row entry before why → IsPiece run s n given (told_in (before ++ rec.Broke n last ∷ [])) → given ≡ []
+broken_told p s row entry before why run n given last (Legal.ReadTrouble.troubled b c t) piece = trouble_told p s row before why run n given last t piece
+broken_told p s row entry before why run n given last (Legal.ReadTrouble.mismatched found read unlike) piece = piece
 
 reading_next : (n : ℕ) (run : Run) (p : Permit) (s : State) (r : ReaderRow) (before : List Rec) (answer : NextAnswer) (given : List ℕ) → reader_of s n ≡ Some r → Legal.IsReading p s r before answer
     → IsPiece run s n given (told_in (before ++ answer_record n answer ∷ [])) → IsNext n run s (before ++ answer_record n answer ∷ []) given
-reading_next n run p s r before answer given found (Legal.IsReading.verdict x) piece = verdict_next n run s r given (reader_verdict s r) found refl piece
+reading_next n run p s r before answer given found (Legal.IsReading.verdict x listed) piece = verdict_next n run s r given (reader_verdict s r) found refl piece
 reading_next n run p s r before answer given found (Legal.IsReading.trouble entry row b why e live t) piece =
     beside (all_append (IsBeside (OtherThan n) AnyNumber) before _ (reading_beside (OtherThan n) AnyNumber p s r before (next.Broke why) (Legal.IsReading.trouble entry row b why e live t)) (tt, tt))
-    (broken_told p s r row entry before why run n given why t piece)
+    (broken_told p s row entry before why run n given why t piece)
 
 pub next_is : (n : ℕ) (run : Run) (p : Permit) (s : State) (added : List Rec) (given : List ℕ) (e : Rattle.cache_model.specs.Permit.End) → Legal.DoesReadOn p s n added e
     → IsPiece run s n given (told_in added) → IsNext n run s added given

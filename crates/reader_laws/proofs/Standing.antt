@@ -1,4 +1,4 @@
--- Along each legal script what stands is what writers took but for what fragments are, and each put that an
+-- Along each legal script what stands is what writers took but for the documents of fragments, and each put that an
 -- actor writes is open; and each fragment is that of what its writer took, or a line shows two documents of one
 -- SHA-256 in its turn.
 use Rattle.std.proofs.Common.{◌≡◌, ℕ, List, [], ◌∷◌, ◌++◌, refl, sym, subst, inl, inr, ◌⊎◌, false}

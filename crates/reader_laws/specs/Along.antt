@@ -41,7 +41,7 @@ pub record StandsOwn (run : Run) (s : State) : Type 0 where
   pub own : AreOwn s run.streams
   pub writing : AreWriting run s
 
--- the same, but for what fragments are
+-- the same, but for the documents of fragments
 pub record StandsKept (run : Run) (s : State) : Type 0 where
   pub kept : AreKept s run.streams
   pub writing : AreWriting run s
@@ -62,7 +62,7 @@ StandsAlong stands run (bytes ∷ lines) (turn ∷ turns) =
 abbrev pub OwnAlong : Run → List (List ℕ) → List Turn → Type 0
 OwnAlong = StandsAlong StandsOwn
 
--- the same, but for what fragments are
+-- the same, but for the documents of fragments
 abbrev pub KeptAlong : Run → List (List ℕ) → List Turn → Type 0
 KeptAlong = StandsAlong StandsKept
 

@@ -1,10 +1,15 @@
 -- All that a reader is given, line after line, is in order what the writer of its put took.
-use Rattle.std.specs.Prelude.{ℕ, ◌≡◌, ◌-◌, ◌*◌, ◌<◌, ◌≤◌, ◌⊎◌, true, List, ◌++◌, length, drop, take, Some}
+use Rattle.std.specs.Prelude.{ℕ, ◌≡◌, ◌≢◌, ◌-◌, ◌*◌, ◌<◌, ◌≤◌, ◌⊎◌, true, List, ◌++◌, length, drop, take, Some}
+use Rattle.std.specs.List.{AllByRecursion}
 use Rattle.tape_base.specs.declared.keys.Key.{Key}
 use Rattle.alternate_vector.specs.Field.{Field}
 use Rattle.alternate_vector.specs.Vary.{request_matches}
+use Rattle.cache_model.specs.declared.record.Rec.{Rec}
+use Rattle.cache_model.specs.declared.record.Rec.TheVariants as rec
 use Rattle.cache_model.specs.State.{State, ReaderRow, after_all, reader_of}
+use Rattle.cache_model.specs.Permit.{Permit}
 use Rattle.cache_model.specs.Legal.{IsQuiet}
+use Rattle.model_laws.specs.StepLaws.{IsOfGiven}
 use Rattle.script_lang.specs.declared.step.Step.{Step}
 use Rattle.script_lang.specs.declared.step.Step.TheVariants as step
 use Rattle.script_lang.specs.declared.answer.StepAnswer.TheVariants as answer
@@ -25,7 +30,7 @@ LegalIsOwn = (before lines : List (List ℕ)) (earlier turns : List Turn) → Is
     → (OwnAlong (run_after fresh before earlier) lines turns × QuietWhere (run_after fresh before earlier).state)
     ⊎ ShowsAlong fresh (before ++ lines) (earlier ++ turns)
 
--- and whatever a line shows, what stands is what writers took but for what fragments are, each put that an
+-- and whatever a line shows, what stands is what writers took but for the documents of fragments, each put that an
 -- actor writes is open, and no vector is pending before them
 abbrev pub LegalIsKept : Type 0
 LegalIsKept = (before lines : List (List ℕ)) (earlier turns : List Turn) → IsRun fresh before earlier → IsRun (run_after fresh before earlier) lines turns → AreOfSession lines
@@ -162,3 +167,18 @@ abbrev pub PutIsMeasured : Type 0
 PutIsMeasured = (lines : List (List ℕ)) (turns : List Turn) (turn : Turn) (asks : Step) (put size fragments : ℕ) → IsRun fresh lines turns
     → StepTakes (run_after fresh lines turns) turn asks → AnswersPut (run_after fresh lines turns) turn put size fragments asks
     → IsMeasured (after_step (run_after fresh lines turns) turn asks) put size fragments
+
+-- ---- what is told as damaged
+
+-- a piece that this record tells as damaged is one for which the device gave, in the step, a document of another digest than
+-- the one that was kept
+abbrev pub IsOfOtherBytes : Permit → State → Rec → Type 0
+IsOfOtherBytes p s (rec.Damaged piece place kept found) = IsOfGiven p s place found × (kept ≢ found)
+IsOfOtherBytes p s _ = Unit {0}
+
+-- behind each legal script so it is with all that a line tells as damaged, whatever a copy shows: of a session no fragment is
+-- told so because its payload is not the one that is listed
+abbrev pub DamageIsGiven : Type 0
+DamageIsGiven = (lines : List (List ℕ)) (turns : List Turn) (s : State) (turn : Turn) (asks : Step) → IsRun fresh lines turns
+    → (run_after fresh lines turns).state ≡ Some s → SessionTakes (run_after fresh lines turns) s turn asks
+    → AllByRecursion (IsOfOtherBytes turn.device s) turn.added

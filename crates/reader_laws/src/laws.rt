@@ -1,11 +1,14 @@
 // Laws of all that a reader is given. These functions do nothing when they run.
-ghost use Rattle.reader_laws.specs.Laws.{AllGiven, EndIsAll, FirstGiven, FollowIsAsked, FragmentsGiven, GotIsPut, HitIsAsked, HitOpens, LegalIsKept, LegalIsOwn, LengthIsTold, OpensFirst, OwnIsKeptAlong, PutIsMeasured};
+ghost use Rattle.reader_laws.specs.Laws.{AllGiven, DamageIsGiven, EndIsAll, FirstGiven, FollowIsAsked, FragmentsGiven, GotIsPut, HitIsAsked, HitOpens, LegalIsKept, LegalIsOwn, LengthIsTold, OpensFirst, OwnIsKeptAlong, PutIsMeasured};
 
 use model_laws::{
     formats_tell, legal_is_sound, nothing_asked, numbers_follow, one_group, reader_is_closed,
     steps_are_sound, steps_tell,
 };
-use script_run::{formats_keep, formats_own, hit_is_put, own_is_kept, steps_keep, steps_own};
+use script_run::{
+    formats_keep, formats_own, hit_is_put, own_is_as_listed, own_is_kept, reads_keep, steps_keep,
+    steps_own,
+};
 
 /// Along the lines of each legal script what stands is what writers took, and each put that an actor
 /// writes is open; or a line of it shows two documents of one SHA-256, by bytes that the device gave in its
@@ -24,7 +27,7 @@ pub fn legal_is_own()
     steps_own();
 }
 
-/// And whatever a line shows, what stands is what writers took but for what fragments are.
+/// And whatever a line shows, what stands is what writers took but for the documents of fragments.
 pub fn legal_is_kept()
     ensures { LegalIsKept }
 {
@@ -151,4 +154,18 @@ pub fn put_is_measured()
     steps_are_sound();
     formats_keep();
     steps_keep();
+}
+
+/// Behind each legal script a piece is told as damaged only where the device gave, in that line, a document of
+/// another digest than the one that was kept.
+pub fn damage_is_given()
+    ensures { DamageIsGiven }
+{
+    numbers_follow();
+    legal_is_sound();
+    steps_are_sound();
+    formats_keep();
+    steps_keep();
+    reads_keep();
+    own_is_as_listed();
 }

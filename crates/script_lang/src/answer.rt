@@ -5,7 +5,7 @@ use cache_model::Cause;
 /// Why a step was not done.
 #[derive(Clone, Copy, Debug, PartialEq, Eq)]
 pub enum Refused {
-    /// The number of the geometry that is outside, from 1 to 7 in the order of the line.
+    /// The number of the geometry that is outside: 1 is S, 2 is B, 3 is A, 4 is N, 5 is R, 6 is F and 7 is M.
     Geometry { number: u32 },
     TooManyWriters,
     TooManyFragments,

@@ -17,6 +17,7 @@ use Rattle.cache_model.specs.declared.answer.NextAnswer.TheVariants as next
 use Rattle.cache_model.specs.declared.record.Rec.{Rec}
 use Rattle.cache_model.specs.declared.record.Rec.TheVariants as rec
 use Rattle.cache_model.specs.State.{State, Row, ReaderRow, after_all, cursor_next, state_after}
+use Rattle.cache_model.specs.Verdict.{digest_in}
 use Rattle.cache_model.specs.Permit.{Permit, Intent, Flush, Sync, SyncBegin, SyncStep, Drain, CleanSync, Write, Fragment, Overflow, Weigh, Finish, Commit, GiveUp, Remove, Look, ReadOn, ReadAll, StopReading, End, Stays, Done, Fails, Faulted, Exhausted, Lost}
 use Rattle.cache_model.specs.Room.{MayDisplace, displaced_record}
 use Rattle.cache_model.specs.Permit.{IsAmong}
@@ -31,7 +32,8 @@ use Rattle.cache_model.proofs.Found.{none_is}
 use Rattle.cache_model.proofs.Syncing.{AreOfSyncs, IsOfSync, behind_of, ended_of, first_of, sync_of, unmark_of}
 use Rattle.script_laws.specs.Causes
 use Rattle.script_laws.specs.Causes.{IsGivenBy, IsTraced, cause_given, cause_told}
-use Rattle.model_laws.specs.StepLaws.{IsCounted}
+use Rattle.model_laws.specs.StepLaws.{IsRefusalCount}
+use Rattle.model_laws.proofs.Among.{call_made}
 use Rattle.cache_model.proofs.Steps.{all_append, all_as}
 use Rattle.script_laws.proofs.Among.{among_right}
 use Rattle.script_laws.proofs.Losses.{given_left}
@@ -51,7 +53,7 @@ module _ (p : Permit) where
   abbrev pub IsKept : Rec → Type 0
   IsKept (rec.Formatted geometry) = ⊥
   IsKept (rec.Opened geometry serial cursor floor next_put clean list) = ⊥
-  IsKept (rec.Fault count) = IsCounted p count × (0 < count)
+  IsKept (rec.Fault count) = IsRefusalCount p count × (0 < count)
   IsKept _ = Unit {0}
 
   pub record IsGroup (s : State) (added : List Rec) (e : End) : Type 0 where
@@ -88,6 +90,12 @@ module _ (p : Permit) where
       let rose : min (s.fault + 1) (2 ^ 64 - 1) ≤ count = m.rose in
       ((asked, m.refused), omega (arith, rose))
 
+  -- what it refused of the rest of the buffer
+  rest_counted : (s t : State) (count : ℕ) → Given.CountsRest p s t count → IsKept (rec.Fault count)
+  rest_counted s t count c =
+      let rose : min (t.fault + 1) (2 ^ 64 - 1) ≤ count = c.rose in
+      ((_, call_made p _ c.older c.refused), omega (arith, rose))
+
   fault : {asked : Asked} (s : State) (count : ℕ) (added : List Rec) → Given.MayCount p s asked count → added ≡ rec.Fault count ∷ [] → IsGroup s added (Fails (Faulted count))
   fault s count added m is = silent s added (rec.Fault count ∷ []) (Fails (Faulted count)) is (inl refl) ((counted s count m, refl), tt)
 
@@ -105,9 +113,9 @@ module _ (p : Permit) where
   trouble s row before why (Given.Trouble.faulted count w m) = one (rec.Fault count) why (counted s count m, refl) refl
   trouble s row before why (Given.Trouble.damaged found d) = one (Given.damage_record row row.digest found) why (tt, refl) refl
 
-  read_trouble : (s : State) (r : ReaderRow) (row : Row) (entry : TableRow) (before : List Rec) (why : Cause) → Legal.ReadTrouble p s r row entry before why → Gives before why
-  read_trouble s r row entry before why (Legal.ReadTrouble.troubled b c t) = trouble s row before why t
-  read_trouble s r row entry before why (Legal.ReadTrouble.mismatched found hit m) = one (Given.damage_record row (Legal.digest_in entry) found) why (tt, refl) refl
+  read_trouble : (s : State) (row : Row) (entry : TableRow) (before : List Rec) (why : Cause) → Legal.ReadTrouble p s row entry before why → Gives before why
+  read_trouble s row entry before why (Legal.ReadTrouble.troubled b c t) = trouble s row before why t
+  read_trouble s row entry before why (Legal.ReadTrouble.mismatched found read unlike) = one (Given.damage_record row (digest_in entry) found) why (tt, refl) refl
 
   by_given : (s : State) (before rest : List Rec) (why : Cause) → Gives before why → IsTraced s (before ++ rest) why
   by_given s before rest why g = Causes.IsTraced.recorded (given_left before rest why g.given)
@@ -157,9 +165,9 @@ module _ (p : Permit) where
 
   reading : (s : State) (r : ReaderRow) (before : List Rec) (answer : NextAnswer) → Legal.IsReading p s r before answer
       → IsBefore (λ all. NextIsTraced s all answer) before
-  reading s r before answer (Legal.IsReading.verdict x) = record { silent = tt; traced = λ rest. next_stands s rest r }
+  reading s r before answer (Legal.IsReading.verdict x listed) = record { silent = tt; traced = λ rest. next_stands s rest r }
   reading s r before answer (Legal.IsReading.trouble entry row b why n live t) =
-      let g : Gives before why = read_trouble s r row entry before why t in
+      let g : Gives before why = read_trouble s row entry before why t in
       record { silent = g.silent; traced = λ rest. by_given s before rest why g }
 
   looked : (s : State) (actor : ℕ) (key : Key) (request : List Field) (added : List Rec) → Legal.MayLook p s actor key request added → IsGroup s added Done
@@ -257,7 +265,7 @@ module _ (p : Permit) where
       ((tt, refl), copies_silent _ (copies_of rows m.outcomes)))))
 
   begun_silent : (k : Syncing) (s : State) (front : List Rec) (count : ℕ) (begun : List Rec) → StopsBehind p k s front count begun → AreSilent (begun ++ rec.Fault count ∷ [])
-  begun_silent k s front count begun (Syncing.StopsBehind.buffer c) = ((counted (after_all s front) count c.counts, refl), tt)
+  begun_silent k s front count begun (Syncing.StopsBehind.buffer c) = ((rest_counted s (after_all s front) count c, refl), tt)
   begun_silent k s front count begun (Syncing.StopsBehind.ended t n r c) = ((counted (after_all s front) count c.counts, refl), tt)
   begun_silent k s front count begun (Syncing.StopsBehind.whole t n c) =
       all_append IsSilent (ended_records s ++ begun_record s (cursor_next s) false false ∷ []) _ (ended_then s _ ((tt, refl), tt)) ((counted (after_all s front) count c.counts, refl), tt)
@@ -300,6 +308,7 @@ module _ (p : Permit) where
 
   clean_sync : (s : State) (added : List Rec) (e : End) → DoesCleanSync p s added e → IsGroup s added e
   clean_sync s added e (Syncing.DoesCleanSync.moving on quiet some is) = silent s added [] e is tt tt
+  clean_sync s added e (Syncing.DoesCleanSync.runs serial on quiet none running is) = silent s added [] e is tt tt
   clean_sync s added e (Syncing.DoesCleanSync.syncs on quiet none rests below is) = silent s added _ e is tt ((tt, refl), ((tt, refl), tt))
   clean_sync s added e (Syncing.DoesCleanSync.stops count on quiet none rests below c is) = silent s added _ e is (inr (inl refl)) ((tt, refl), ((counted s count c.counts, refl), tt))
   clean_sync s added e (Syncing.DoesCleanSync.exhausted on quiet none rests high is) = silent s added [] e is tt tt

@@ -8,6 +8,7 @@ mod Faults
 mod Damages
 mod Runs
 mod Counts
+mod Sessions
 mod Untroubled
 mod Formats
 mod Uncalled

@@ -3,4 +3,5 @@ pub mod Troubles
 pub mod Damages
 pub mod Runs
 pub mod Counts
+pub mod Sessions
 pub mod Agreeing

@@ -6,7 +6,7 @@ use Rattle.cache_model.specs.declared.record.Rec.TheVariants as rec
 use Rattle.cache_model.specs.State.{State, after_all}
 use Rattle.cache_model.specs.Permit.{Intent, IsAmong, Permit, Reason, Faulted}
 use Rattle.cache_model.specs.Legal.{IsStep}
-use Rattle.model_laws.specs.StepLaws.{IsCounted}
+use Rattle.model_laws.specs.StepLaws.{IsRefusalCount}
 use Rattle.script_lang.specs.declared.step.Step.{Step}
 use Rattle.script_lang.specs.declared.answer.StepAnswer.TheVariants as answer
 use Rattle.script_run.specs.Losses.{NoLossIsAFault}
@@ -24,7 +24,7 @@ FaultStays = (p : Permit) (s : State) (intents : List Intent) (added : List Rec)
 -- the device refused in the step; and the count of the last fault is above 0
 pub record IsFaultRecorded (p : Permit) (s : State) (added : List Rec) (count : ℕ) : Type 0 where
   pub recorded : IsAmong (rec.Fault count) added
-  pub counted : IsCounted p count
+  pub counted : IsRefusalCount p count
   pub risen : Rose s.fault count
   pub told : 0 < (after_all s added).fault
 

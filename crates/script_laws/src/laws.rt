@@ -4,6 +4,7 @@ ghost use Rattle.script_laws.specs.Causes.{AnswersAreTraced, CausesAreTraced};
 ghost use Rattle.script_laws.specs.Damages.{DamageIsRecorded, DamageStays};
 ghost use Rattle.script_laws.specs.Runs.{FaultlessRuns, UndamagedRuns};
 ghost use Rattle.script_laws.specs.Counts.{RunsAreCounted};
+ghost use Rattle.script_laws.specs.Sessions.{SessionsAreLegal};
 ghost use Rattle.script_run.specs.Losses.{FormatsLoseNone, LossesStay};
 ghost use Rattle.script_laws.specs.Troubles.{FaultIsRecorded, FaultStays, RefusalIsRecorded};
 
@@ -69,6 +70,12 @@ pub fn undamaged_runs()
 /// In each session of a script what is told of how many alternates a vector lists is what it lists.
 pub fn runs_are_counted()
     ensures { RunsAreCounted }
+{}
+
+/// The records of each session of a script are those of a legal chronicle, in whose steps the device made the
+/// calls of the session's lines.
+pub fn sessions_are_legal()
+    ensures { SessionsAreLegal }
 {}
 
 /// Where no fault and no damage was told in either of two runs of a script, they print the same, or a line of

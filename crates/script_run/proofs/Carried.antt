@@ -10,7 +10,7 @@ use Rattle.cache_model.specs.State.{State, Row, PutRow, ReaderRow, alternate_of,
 use Rattle.cache_model.proofs.Rows.{ArePart}
 use Rattle.cache_model.proofs.Steps.{all_as}
 use Rattle.script_run.specs.Run.{Stream}
-use Rattle.script_run.specs.Own.{AreListedOf, AreOwnPuts, IsComplete, IsListedOf, IsOwnFragment, IsOwnPut, IsOwnReader, IsTableOf, IsTableOfHit}
+use Rattle.script_run.specs.Own.{AreListedOf, AreOwnPuts, IsComplete, IsCutFragment, IsListedOf, IsOwnFragment, IsOwnPut, IsOwnReader, IsTableOf, IsTableOfHit}
 
 pub all_filter : {X : Type 0} (P : X → Type 0) (test : X → Bool) (xs : List X) → AllByRecursion P xs → AllByRecursion P (filter test xs)
 all_filter P test xs each = recursion_from_All P (filter test xs) (All-filter test P xs (All-from_recursion P xs each))
@@ -55,7 +55,12 @@ module _ (s t : State) (c : Carries s t) where
   pub fragment_carried : (streams : ℕ → Stream) (row : Row) → IsOwnFragment s streams row → IsOwnFragment t streams row
   fragment_carried streams row f =
       let on : GoesOn t row.id.put f.w = c.puts row.id.put f.w f.found in
-      record { w = on.now; found = on.found; cut = omega (arith, f.cut, on.more); digest = rw c.geometry f.digest }
+      record { w = on.now; found = on.found; cut = omega (arith, f.cut, on.more); payload = rw c.geometry f.payload; digest = rw c.geometry f.digest }
+
+  pub cut_carried : (streams : ℕ → Stream) (row : Row) → IsCutFragment s streams row → IsCutFragment t streams row
+  cut_carried streams row f =
+      let on : GoesOn t row.id.put f.w = c.puts row.id.put f.w f.found in
+      record { w = on.now; found = on.found; cut = omega (arith, f.cut, on.more); payload = rw c.geometry f.payload }
 
   hit_carried : (r : ReaderRow) (o : Option (List TableRow)) → IsTableOfHit s r o → IsTableOfHit t r o
   hit_carried r None h = tt

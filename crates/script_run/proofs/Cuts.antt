@@ -9,7 +9,7 @@ use Rattle.hex.specs.Hex.{IsBytes}
 use Rattle.tape_base.specs.Digest.{digest_of}
 use Rattle.doc_header.proofs.Stands.{part_in_front}
 use Rattle.fragment_table.specs.Table.{TableRow, made_row, total_length}
-use Rattle.script_run.specs.Own.{AreCuts, piece_of, rows_from}
+use Rattle.script_run.specs.Own.{AreCuts, piece_of, row_at, rows_from}
 
 -- ---- places of fragments
 
@@ -32,9 +32,6 @@ pub length-piece : (fragment : ℕ) (body : List ℕ) (index : ℕ) → length (
 length-piece fragment body index = length-take fragment (drop ((index - 1) * fragment) body) ∙ ap (min fragment) (length-drop ((index - 1) * fragment) body)
 
 -- ---- rows of fragments
-
-abbrev pub row_at : ℕ → List ℕ → ℕ → TableRow
-row_at fragment body index = made_row (length (piece_of fragment body index)) (digest_of (piece_of fragment body index)).0
 
 sums : (n fragment size at : ℕ) → min fragment (size - at) + min (n * fragment) (size - (at + fragment)) ≡ min (suc n * fragment) (size - at)
 sums n fragment size at = omega arith

@@ -1,23 +1,28 @@
 -- Each fragment is that part of what the writer of its put took: it stays so where its put goes on, where its
 -- writer is told otherwise, and where it is copied, or the copy shows two documents of one SHA-256.
 use Rattle.std.proofs.Common.{◌≡◌, ℕ, ◌<◌, ◌^◌, List, length, refl, sym, ◌∙◌, ap, subst, arith, inl, inr, ◌⊎◌}
+use Rattle.std.specs.Prelude.{Some}
 use Rattle.std.proofs.lemmas.Bool.{cases_lt}
 use Rattle.hex.specs.Hex.{IsBytes}
 use Rattle.tape_base.specs.declared.geometries.Geometry.{Geometry}
+use Rattle.tape_base.specs.Digest.{digest_of}
 use Rattle.doc_header.specs.Document.{digest_of_document}
+use Rattle.fragment_table.specs.Table.{made_row}
 use Rattle.doc_header.proofs.MovingLaws.{moved_is_same_lem}
 use Rattle.cache_model.specs.State.{State, Row}
 use Rattle.cache_model.specs.Pair.{IsPairOf}
 use Rattle.cache_model.specs.Permit.{Permit}
 use Rattle.cache_model.specs.Outcomes.{Copy}
 use Rattle.cache_model.proofs.Found.{number_of}
+use Rattle.cache_model.proofs.Steps.{all_as}
 use Rattle.model_laws.proofs.Pairs.{AreAlso}
 use Rattle.model_laws.proofs.ToldFlush.{moved}
 use Rattle.script_run.specs.Run.{Stream}
-use Rattle.script_run.specs.Own.{AreKept, AreOwn, AreOwnPuts, IsOwnFragment, IsPlacedAs, fragment_doc, fragment_document, piece_of}
+use Rattle.script_run.specs.Own.{AreKept, AreOwn, AreOwnPuts, HasCutPayload, IsOwnFragment, IsPlacedAs, fragment_doc, fragment_document, piece_of}
 use Rattle.script_run.proofs.Carried.{fragment_carried}
 use Rattle.script_run.proofs.Cuts.{length-piece}
-use Rattle.script_run.proofs.Saying.{AllTellAlike, IsCopied, Kind, SameBytes, Stands, TellAlike, alternates_of_rows}
+use Rattle.script_run.proofs.Payloads.{piece_told}
+use Rattle.script_run.proofs.Saying.{AllTellAlike, IsCopied, IsRow, Kind, SameBytes, Stands, alternates_of_rows}
 
 abbrev IsOwn : State → (ℕ → Stream) → Row → Type 0
 IsOwn s streams row = 0 < row.id.index → IsOwnFragment s streams row
@@ -25,11 +30,15 @@ IsOwn s streams row = 0 < row.id.index → IsOwnFragment s streams row
 pub fragment_told : (s : State) (a b : ℕ → Stream) (row : Row) → AllTellAlike s a b → IsOwn s a row → IsOwn s b row
 fragment_told s a b row told is some =
     let f : IsOwnFragment s a row = is some in
-    let t : TellAlike s.geometry.fragment f.w (a f.w.put) (b f.w.put) = told row.id.put f.w f.found in
-    let number : f.w.put ≡ row.id.put = number_of s row.id.put f.w f.found in
     let same : piece_of s.geometry.fragment (a row.id.put).bytes row.id.index ≡ piece_of s.geometry.fragment (b row.id.put).bytes row.id.index =
-    subst (λ n. piece_of s.geometry.fragment (a n).bytes row.id.index ≡ piece_of s.geometry.fragment (b n).bytes row.id.index) number (t.cut.pieces row.id.index some f.cut) in
-    record { w = f.w; found = f.found; cut = f.cut; digest = f.digest ∙ ap (digest_of_document _) same }
+    piece_told s a b row f.w told f.found some f.cut in
+    record {
+      w = f.w;
+      found = f.found;
+      cut = f.cut;
+      payload = f.payload ∙ ap (λ (piece : List ℕ). Some (made_row (length piece) (digest_of piece).0)) same;
+      digest = f.digest ∙ ap (digest_of_document _) same;
+    }
 
 -- ---- copies
 
@@ -53,7 +62,7 @@ moved_fragment : (p : Permit) (s : State) (streams : ℕ → Stream) (place : �
 moved_fragment p s streams place c some small f copied =
     let payload : List ℕ = piece_of s.geometry.fragment (streams c.row.id.put).bytes c.row.id.index in
     elim (moved_is_same_lem place c.bytes (fragment_doc s c.row) payload copied.given.of_bytes small (short_piece s.geometry (streams c.row.id.put).bytes c.row.id.index) (sym copied.digest ∙ f.digest)) [
-      | inl same ↦ inl (record { w = f.w; found = f.found; cut = f.cut; digest = same })
+      | inl same ↦ inl (record { w = f.w; found = f.found; cut = f.cut; payload = f.payload; digest = same })
       | inr collide ↦ inr (record {
         document = fragment_document s c.row payload;
         bytes = c.bytes;
@@ -102,4 +111,9 @@ pub own_stands : (s : State) (streams : ℕ → Stream) → Stands own_kind s st
 own_stands s streams own = record { puts = own.puts; rows = own.rows; readers = own.readers }
 
 pub own_is_kept : (s : State) (streams : ℕ → Stream) → AreOwn s streams → AreKept s streams
-own_is_kept s streams own = record { puts = own.puts; alternates = alternates_of_rows own_kind s streams s.rows own.rows; readers = own.readers }
+own_is_kept s streams own = record {
+  puts = own.puts;
+  payloads = all_as (IsRow own_kind s streams) (HasCutPayload s streams) (λ row is some. let f = is.0 some in record { w = f.w; found = f.found; cut = f.cut; payload = f.payload }) s.rows own.rows;
+  alternates = alternates_of_rows own_kind s streams s.rows own.rows;
+  readers = own.readers;
+}

@@ -160,13 +160,13 @@ module _ (kind : Kind) (g : Geometry) (streams : ℕ → Stream) where
       trouble_reader (Given.Trouble.faulted count w m) = refl
       trouble_reader (Given.Trouble.damaged found d) = refl
 
-  fragment_plain : (p : Permit) (s : State) (r : ReaderRow) (row : Row) (entry : TableRow) (before : List Rec) (why : Cause) → Legal.ReadTrouble p s r row entry before why → AllPlain before
-  fragment_plain p s r row entry before why (Legal.ReadTrouble.troubled b c t) = trouble_plain p s row before why t
-  fragment_plain p s r row entry before why (Legal.ReadTrouble.mismatched found hit m) = (tt, tt)
+  fragment_plain : (p : Permit) (s : State) (row : Row) (entry : TableRow) (before : List Rec) (why : Cause) → Legal.ReadTrouble p s row entry before why → AllPlain before
+  fragment_plain p s row entry before why (Legal.ReadTrouble.troubled b c t) = trouble_plain p s row before why t
+  fragment_plain p s row entry before why (Legal.ReadTrouble.mismatched found read unlike) = (tt, tt)
 
   reading_plain : (p : Permit) (s : State) (r : ReaderRow) (before : List Rec) (answer : NextAnswer) → Legal.IsReading p s r before answer → AllPlain before
-  reading_plain p s r before answer (Legal.IsReading.verdict x) = tt
-  reading_plain p s r before answer (Legal.IsReading.trouble entry row b why n live t) = fragment_plain p s r row entry before why t
+  reading_plain p s r before answer (Legal.IsReading.verdict x listed) = tt
+  reading_plain p s r before answer (Legal.IsReading.trouble entry row b why n live t) = fragment_plain p s row entry before why t
 
   answer_plain : (reader : ℕ) (answer : NextAnswer) → IsPlain (answer_record reader answer)
   answer_plain reader (next.Gave index length) = tt

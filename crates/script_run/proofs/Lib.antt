@@ -4,6 +4,7 @@ pub mod Changed
 pub mod Cuts
 pub mod Carried
 pub mod Saying
+pub mod Payloads
 pub mod Fragments
 pub mod Reading
 pub mod Others

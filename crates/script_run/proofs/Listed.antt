@@ -64,6 +64,7 @@ module _ (P : Stored → Type 0) where
 
 pub record AreDisplaced (s t : State) : Type 0 where
   pub alike : AreAlike s t
+  pub last_cut : t.last_cut ≡ s.last_cut
   pub listed : AllByRecursion (AreAlternates t) t.displaced
 
 taken_out : (s : State) (id : PieceId) (rows : List Row) (o : Option Row) → row_in rows id ≡ o → AllByRecursion (AreAlternates s) rows → AllByRecursion (AreAlternates s) (option_to_list o)
@@ -88,6 +89,7 @@ pub displaced_listed : (s : State) (segment live : ℕ) (rows : List Row) → Al
     → AreDisplaced s (after_all s (map (displaced_record segment live) rows))
 displaced_listed s segment live [] each gone = record {
   alike = record { geometry = refl; next_put = refl; puts = refl; pending = refl; rows = part_all s.rows; readers = refl; next_reader = refl };
+  last_cut = refl;
   listed = gone;
 }
 displaced_listed s segment live (row ∷ rows) each gone =
@@ -96,4 +98,4 @@ displaced_listed s segment live (row ∷ rows) each gone =
     let left : AllByRecursion (AreAlternates t) t.rows = alternates_alike s t a t.rows (each_part (AreAlternates s) a.rows each) in
     let moved : AllByRecursion (AreAlternates s) t.displaced = all_append (AreAlternates s) s.displaced _ gone (taken_out s row.id s.rows (row_in s.rows row.id) refl each) in
     let rest : AreDisplaced t (after_all t (map (displaced_record segment live) rows)) = displaced_listed t segment live rows left (alternates_alike s t a t.displaced moved) in
-    record { alike = alike_trans s t (after_all t (map (displaced_record segment live) rows)) a rest.alike; listed = rest.listed }
+    record { alike = alike_trans s t (after_all t (map (displaced_record segment live) rows)) a rest.alike; last_cut = rest.last_cut; listed = rest.listed }

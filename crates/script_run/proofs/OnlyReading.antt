@@ -17,7 +17,7 @@ use Rattle.cache_model.specs.declared.answer.NextAnswer.TheVariants as next
 use Rattle.cache_model.specs.declared.record.Rec.{Rec}
 use Rattle.cache_model.specs.declared.record.Rec.TheVariants as rec
 use Rattle.cache_model.specs.State.{State, Row, ReaderRow, after_all, state_after, table_of_hit}
-use Rattle.cache_model.specs.Verdict.{lookup_verdict}
+use Rattle.cache_model.specs.Verdict.{digest_in, lookup_verdict}
 use Rattle.cache_model.specs.Permit.{Permit, Intent, Look, ReadOn, ReadAll, StopReading, End}
 use Rattle.cache_model.specs.Given
 use Rattle.cache_model.specs.Legal
@@ -30,7 +30,8 @@ use Rattle.script_run.specs.Laws.{is_reading}
 use Rattle.script_run.proofs.Carried.{Carries, all_filter, puts_stay, readers_carried, same_carries, table_carried}
 use Rattle.script_run.proofs.Listed.{listed_table}
 use Rattle.script_run.proofs.Hitting.{IsHitOf, hit_listed, hit_of}
-use Rattle.script_run.proofs.Saying.{IsRow, Kind, Stands, alternates_of_rows, kept_kind, kept_stands, rows_carried, stands_kept}
+use Rattle.script_run.proofs.Saying.{IsRow, Kind, Stands, alternates_of_rows, rows_carried}
+use Rattle.script_run.proofs.Payloads.{kept_kind, kept_stands, stands_kept}
 use Rattle.script_run.proofs.Held.{readers_moved}
 use Rattle.script_run.proofs.Fragments.{own_kind, own_stands, stands_own}
 
@@ -145,14 +146,14 @@ looked_leaves kind p s streams who key request before answer (Legal.IsLookup.tro
 as_added : (kind : Kind) (s : State) (streams : ℕ → Stream) (added before : List Rec) (last : Rec) → added ≡ before ++ last ∷ [] → Stands kind (state_after (after_all s before) last) streams → Stands kind (after_all s added) streams
 as_added kind s streams added before last is own = subst (λ t. Stands kind t streams) (sym (ap (after_all s) is ∙ after_all-append s before (last ∷ []))) own
 
-fragment_troubled : (kind : Kind) (p : Permit) (s : State) (streams : ℕ → Stream) (r : ReaderRow) (row : Row) (entry : TableRow) (before : List Rec) (why : Cause)
-    → Legal.ReadTrouble p s r row entry before why → Stands kind s streams → Stands kind (after_all s before) streams
-fragment_troubled kind p s streams r row entry before why (Legal.ReadTrouble.troubled b c t) own = troubled_leaves kind p s streams row before why t own
-fragment_troubled kind p s streams r row entry before why (Legal.ReadTrouble.mismatched found hit m) own = damaged_leaves kind s streams row.id row.place (Legal.digest_in entry) found own
+fragment_troubled : (kind : Kind) (p : Permit) (s : State) (streams : ℕ → Stream) (row : Row) (entry : TableRow) (before : List Rec) (why : Cause)
+    → Legal.ReadTrouble p s row entry before why → Stands kind s streams → Stands kind (after_all s before) streams
+fragment_troubled kind p s streams row entry before why (Legal.ReadTrouble.troubled b c t) own = troubled_leaves kind p s streams row before why t own
+fragment_troubled kind p s streams row entry before why (Legal.ReadTrouble.mismatched found read unlike) own = damaged_leaves kind s streams row.id row.place (digest_in entry) found own
 
 reading_leaves : (kind : Kind) (p : Permit) (s : State) (streams : ℕ → Stream) (r : ReaderRow) (before : List Rec) (answer : NextAnswer) → Legal.IsReading p s r before answer → Stands kind s streams → Stands kind (after_all s before) streams
-reading_leaves kind p s streams r before answer (Legal.IsReading.verdict x) own = own
-reading_leaves kind p s streams r before answer (Legal.IsReading.trouble entry row b why n live t) own = fragment_troubled kind p s streams r row entry before why t own
+reading_leaves kind p s streams r before answer (Legal.IsReading.verdict x listed) own = own
+reading_leaves kind p s streams r before answer (Legal.IsReading.trouble entry row b why n live t) own = fragment_troubled kind p s streams row entry before why t own
 
 read_leaves : (kind : Kind) (p : Permit) (s : State) (streams : ℕ → Stream) (reader : ℕ) (answer : NextAnswer) (added : List Rec) → Legal.MayReadOn p s reader answer added → Stands kind s streams → Stands kind (after_all s added) streams
 read_leaves kind p s streams reader answer added m own =

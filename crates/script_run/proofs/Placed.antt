@@ -105,18 +105,22 @@ cut_found s put row w found =
     changed_to s t put (with_cut row) put w c found
     ∙ ap Some (itself put (with_cut row) w (number_of s put w found))
 
+no_vector : (w : PutRow) → is_vector (next_fragment_of w) ≡ false
+no_vector w = ne_eqb (length w.cuts + 1) 0 (λ e. omega (arith, e))
+
 fragment_row : (kind : Kind) (g : Geometry) (streams : ℕ → Stream) (u : State) (put place blocks pin : ℕ) (payload : List ℕ) (w x : PutRow) (doc : Doc) (t : State) → u.geometry ≡ g → put_of u w.put ≡ Some x
-    → length x.cuts ≡ length w.cuts + 1 → payload ≡ piece_of g.fragment (streams w.put).bytes (length w.cuts + 1)
+    → length x.cuts ≡ length w.cuts + 1 → t.last_cut ≡ Some (made_row (length payload) (digest_of payload).0) → payload ≡ piece_of g.fragment (streams w.put).bytes (length w.cuts + 1)
     → doc ≡ record { id = next_fragment_of w; place = place; generation = g.generation; pin = pin; start = (length w.cuts + 1 - 1) * g.fragment }
     → IsRow kind u streams (placed_row t (next_fragment_of w) place blocks (digest_of_document doc payload) pin)
-fragment_row kind g streams u put place blocks pin payload w x doc t geometry found count is same = (
+fragment_row kind g streams u put place blocks pin payload w x doc t geometry found count last is same = (
   kind.own u streams (placed_row t (next_fragment_of w) place blocks (digest_of_document doc payload) pin) (λ some. record {
     w = x;
     found = found;
     cut = omega (arith, count);
+    payload = rw geometry (ap (λ b. if b then None else t.last_cut) (no_vector w) ∙ (last ∙ ap (λ (piece : List ℕ). Some (made_row (length piece) (digest_of piece).0)) is));
     digest = rw geometry (ap (λ (d : Doc). digest_of_document d payload) same ∙ ap (digest_of_document _) is);
   }),
-  subst (AreListedOf u w.key) (sym (ap (λ b. if b then Some (list_of_put t w.put) else None) (ne_eqb (length w.cuts + 1) 0 (λ e. omega (arith, e))))) tt,
+  subst (AreListedOf u w.key) (sym (ap (λ b. if b then Some (list_of_put t w.put) else None) (no_vector w))) tt,
 )
 
 pub held_fragment : (kind : Kind) (g : Geometry) (streams : ℕ → Stream) (p : Permit) (s : State) (put index : ℕ) (payload : List ℕ) (added : List Rec) → IsPiece g.fragment streams put index payload
@@ -135,13 +139,12 @@ held_fragment kind g streams p s put index payload added piece m h =
     let u : State = state_after mid placed in
     let own : Stands kind t streams = cut_stands kind s streams put index payload w m.cut here h.stands in
     let d : AreDisplaced t mid = displaced_by p s t id m.displaced m.displaces (alternates_of_rows kind t streams t.rows own.rows) h.displaced in
-    let no_vector : is_vector id ≡ false = ne_eqb (length w.cuts + 1) 0 (λ e. omega (arith, e)) in
-    let pending : u.pending ≡ mid.pending = ap (λ b. if b then Some id else mid.pending) no_vector in
+    let pending : u.pending ≡ mid.pending = ap (λ b. if b then Some id else mid.pending) (no_vector w) in
     let found : put_of u w.put ≡ Some (with_cut entry w) =
     ap (find (λ (q : PutRow). q.put == w.put)) d.alike.puts ∙ subst (λ n. put_of t n ≡ Some (with_cut entry w)) (sym number) (cut_found s put entry w m.cut.writing.found) in
     let row : IsRow kind u streams (placed_row mid id (place_now s) (blocks_of (length payload)) (digest_of_document doc payload) w.pin) =
     fragment_row kind s.geometry streams u put (place_now s) (blocks_of (length payload)) w.pin payload w (with_cut entry w) doc mid d.alike.geometry found
-    (length-append w.cuts (entry ∷ [])) (piece_next s streams put index payload w m.cut here)
+    (length-append w.cuts (entry ∷ [])) d.last_cut (piece_next s streams put index payload w m.cut here)
     (ap (λ start. record { id = id; place = place_now s; generation = s.geometry.generation; pin = w.pin; start = start }) (m.cut.full ∙ start_next (length w.cuts) s.geometry.fragment)) in
     let all : Stands kind u streams =
     stands_placed kind mid streams id (place_now s) (blocks_of (length payload)) (digest_of_document doc payload) w.pin (same_carries mid u refl refl pending) row (stands_alike kind t mid streams d.alike own) in

@@ -1,6 +1,7 @@
 -- What is read of a session's pieces is what was put.
 use Rattle.std.proofs.Common.{◌≡◌, ℕ, ◌-◌, ◌*◌, ◌<◌, ◌≤◌, List, length, take, refl, sym, ◌∙◌, ap, subst, arith, inl, inr, ◌⊎◌}
 use Rattle.std.specs.Prelude.{min, Option, Some, None, slice_get, unwrap_or}
+use Rattle.std.specs.List.{AllByRecursion}
 use Rattle.std.proofs.Math.Nat.{mul-le-mul_left, mul_comm}
 use Rattle.std.proofs.lemmas.List.{take_all}
 use Rattle.std.proofs.lemmas.Option.{cond_some, option_and_then_some, slice_get_cases}
@@ -34,20 +35,21 @@ formats_keep s geometry streams = own_is_kept (after_all s (format_records geome
 
 -- ---- a fragment that was read
 
-record IsLiveRow (s : State) (streams : ℕ → Stream) (id : PieceId) (row : Row) : Type 0 where
-  own : IsOwnRow s streams row
-  piece : row.id ≡ id
+pub record IsLiveRow (says : Row → Type 0) (id : PieceId) (row : Row) : Type 0 where
+  pub own : says row
+  pub piece : row.id ≡ id
 
-live_row : (s : State) (streams : ℕ → Stream) (id : PieceId) (row : Row) → AreOwn s streams → live_row_of s id ≡ Some row → IsLiveRow s streams id row
-live_row s streams id row own live =
+-- what is said of each piece is said of one that is live
+pub live_row : (says : Row → Type 0) (s : State) (id : PieceId) (row : Row) → AllByRecursion says s.rows → live_row_of s id ≡ Some row → IsLiveRow says id row
+live_row says s id row each live =
     let found : row_of s id ≡ Some row = option_and_then_some (only_live s) (row_of s id) row live (λ x e is. e ∙ ap Some (cond_some (is_live s x) x row is).1) in
-    record { own = found_row (IsOwnRow s streams) id s.rows row own.rows found; piece = own_piece id s.rows row found }
+    record { own = found_row says id s.rows row each found; piece = own_piece id s.rows row found }
 
 pub read_is_own : (p : Permit) (s : State) (streams : ℕ → Stream) (r : ReaderRow) (row : Row) (size : ℕ) (into : List ℕ) → AreOwn s streams → 0 < r.next
     → live_row_of s (next_piece r) ≡ Some row → IsDocumentOf p s row size into
     → (take size into ≡ piece_of s.geometry.fragment (streams r.put).bytes r.next) ⊎ IsPairOf (IsPlacedAs streams) p s row
 read_is_own p s streams r row size into own some live d =
-    let l : IsLiveRow s streams (next_piece r) row = live_row s streams (next_piece r) row own live in
+    let l : IsLiveRow (IsOwnRow s streams) (next_piece r) row = live_row (IsOwnRow s streams) s (next_piece r) row own.rows live in
     let index : row.id.index ≡ r.next = ap (λ (i : PieceId). i.index) l.piece in
     let fragment : 0 < row.id.index = omega (arith, index, some) in
     let f : IsOwnFragment s streams row = l.own.0 fragment in

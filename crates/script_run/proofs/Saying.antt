@@ -1,6 +1,6 @@
 -- What is said of each piece beside the alternates that it lists. What is proved of what stands is proved
--- for any such saying: that a fragment is that part of what its writer took, or nothing.
-use Rattle.std.proofs.Common.{◌≡◌, ℕ, ◌*◌, ◌<◌, ◌≤◌, ◌⊎◌, length, inl, false, subst, sym, arith}
+-- for any such saying: that a fragment stands as that part of what its writer took, or that it has the payload of that.
+use Rattle.std.proofs.Common.{◌≡◌, ℕ, ◌*◌, ◌<◌, ◌≤◌, ◌⊎◌, length, false, subst, sym, arith}
 use Rattle.std.specs.Prelude.{Some, List}
 use Rattle.std.specs.List.{AllByRecursion}
 use Rattle.doc_header.specs.Reading.{document_digest}
@@ -16,7 +16,7 @@ use Rattle.cache_model.proofs.Steps.{all_as}
 use Rattle.cache_model.proofs.Rows.{each_part}
 use Rattle.model_laws.proofs.ToldFlush.{moved}
 use Rattle.script_run.specs.Run.{Stream}
-use Rattle.script_run.specs.Own.{AreAlternates, AreKept, AreOwnPuts, IsOwnFragment, IsOwnReader}
+use Rattle.script_run.specs.Own.{AreAlternates, AreOwnPuts, IsOwnFragment, IsOwnReader}
 use Rattle.script_run.proofs.Carried.{AreAlike, Carries, alike_carries, listed_carried, puts_stay, readers_carried}
 use Rattle.script_run.proofs.Cuts.{HaveCut}
 
@@ -84,23 +84,3 @@ stands_alike kind s t streams a own =
 
 pub alternates_of_rows : (kind : Kind) (s : State) (streams : ℕ → Stream) (rows : List Row) → AllByRecursion (IsRow kind s streams) rows → AllByRecursion (AreAlternates s) rows
 alternates_of_rows kind s streams rows each = all_as (IsRow kind s streams) (AreAlternates s) (λ row own. own.1) rows each
-
--- ---- nothing is said
-
-abbrev pub kept_kind : Kind
-kept_kind = record {
-  says = λ s streams row. Unit {0};
-  documents = λ streams s row document. ⊥;
-  own = λ s streams row fragment. tt;
-  carried = λ s t c streams row is. tt;
-  told = λ s a b row told is. tt;
-  copied = λ p s streams place c puts copied is. inl tt;
-  alike = λ a b same s row document none. none;
-}
-
-pub stands_kept : (s : State) (streams : ℕ → Stream) → AreKept s streams → Stands kept_kind s streams
-stands_kept s streams kept =
-    record { puts = kept.puts; rows = all_as (AreAlternates s) (IsRow kept_kind s streams) (λ row listed. (tt, listed)) s.rows kept.alternates; readers = kept.readers }
-
-pub kept_stands : (s : State) (streams : ℕ → Stream) → Stands kept_kind s streams → AreKept s streams
-kept_stands s streams own = record { puts = own.puts; alternates = alternates_of_rows kept_kind s streams s.rows own.rows; readers = own.readers }

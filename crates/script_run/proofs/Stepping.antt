@@ -26,7 +26,8 @@ use Rattle.script_run.specs.Turn.{Turn}
 use Rattle.script_run.specs.Behind.{fed, of_put, seals, streams_behind, streams_closed, streams_fed, streams_opened, taken_of, with_bytes}
 use Rattle.script_run.specs.Own.{AreKept, AreOwn, AreWriting, IsOwnPut, IsPlacedAs, rows_from}
 use Rattle.script_run.specs.Takes.{offered, streams_offered, streams_with}
-use Rattle.script_run.proofs.Saying.{Kind, Stands, kept_kind, kept_stands, stands_kept}
+use Rattle.script_run.proofs.Saying.{Kind, Stands}
+use Rattle.script_run.proofs.Payloads.{kept_kind, kept_stands, stands_kept}
 use Rattle.script_run.proofs.Fragments.{own_kind, own_stands, stands_own}
 use Rattle.script_run.proofs.Held.{IsHeld, quiet_whole}
 use Rattle.script_run.proofs.Grown.{AllFit, held_grown, held_write}

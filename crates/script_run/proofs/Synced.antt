@@ -90,6 +90,7 @@ step_syncing p s last added e (Syncing.DoesSyncStep.stays count on quiet c) = ca
 
 pub clean_syncing : (p : Permit) (s : State) (added : List Rec) (e : End) → DoesCleanSync p s added e → AllSyncing added
 clean_syncing p s added e (Syncing.DoesCleanSync.moving on quiet some is) = is_syncing added [] is tt
+clean_syncing p s added e (Syncing.DoesCleanSync.runs serial on quiet none running is) = is_syncing added [] is tt
 clean_syncing p s added e (Syncing.DoesCleanSync.syncs on quiet none rests below is) = is_syncing added _ is (tt, (tt, tt))
 clean_syncing p s added e (Syncing.DoesCleanSync.stops count on quiet none rests below c is) = is_syncing added _ is (tt, (tt, tt))
 clean_syncing p s added e (Syncing.DoesCleanSync.exhausted on quiet none rests high is) = is_syncing added [] is tt

@@ -1,22 +1,22 @@
 -- The bytes that lines give are those that were put.
-use Rattle.std.specs.Prelude.{ℕ, ◌≡◌, ◌≢◌, ◌-◌, ◌*◌, ◌<◌, ◌⊎◌, List, [], ◌∷◌, take, Option, Some, None, Bool, true, false}
+use Rattle.std.specs.Prelude.{ℕ, ◌≡◌, ◌-◌, ◌*◌, ◌<◌, ◌⊎◌, List, [], ◌∷◌, take, Option, Some, None, Bool, true, false}
 use Rattle.tape_base.specs.declared.geometries.Geometry.{Geometry}
 use Rattle.tape_base.specs.declared.keys.Key.{Key}
+use Rattle.tape_base.specs.declared.digests.Digest.{Digest}
 use Rattle.fragment_table.specs.Table.{TableRow}
 use Rattle.alternate_vector.specs.Field.{Field}
 use Rattle.alternate_vector.specs.Alternates.{is_match}
 use Rattle.cache_model.specs.State.{State, Row, PutRow, ReaderRow, Closed, after_all, alternate_of, live_row_of, put_of, reader_of}
-use Rattle.cache_model.specs.Verdict.{next_piece, next_row}
+use Rattle.cache_model.specs.Verdict.{digest_in, next_piece, next_row}
 use Rattle.cache_model.specs.declared.answer.ReadAnswer.TheVariants as read
 use Rattle.cache_model.specs.declared.record.Rec.{Rec}
 use Rattle.cache_model.specs.Permit.{End, Intent, Look, Permit, ReadAll, ReadOn, Reason, StopReading}
-use Rattle.cache_model.specs.Given.{IsGiven, IsDocumentOf}
+use Rattle.cache_model.specs.Given.{IsDocumentOf}
 use Rattle.cache_model.specs.Due.{due_pieces}
 use Rattle.cache_model.specs.Outcomes.{AreOutcomes, Outcome, flush_records, stopped_records}
 use Rattle.cache_model.specs.Tape.{IsSound}
-use Rattle.cache_model.specs.Legal.{Does, IsQuiet, IsStep, digest_in, format_records}
+use Rattle.cache_model.specs.Legal.{Does, IsQuiet, IsStep, IsUnlike, format_records}
 use Rattle.tape_base.specs.Digest.{digest_of}
-use Rattle.doc_header.specs.Reading.{document_digest, payload_of}
 use Rattle.cache_model.specs.Pair.{IsCopyPair, IsPairOf, ShowsPair}
 use Rattle.cache_model.specs.Vectors.{AreTold}
 use Rattle.script_lang.specs.declared.step.Step.{Step}
@@ -52,7 +52,7 @@ StepsOwn = (run : Run) (s : State) (turn : Turn) (step : Step) → IsSound s →
     → AreOwn (after_all s turn.added) (streams_behind run s (after_all s turn.added) turn step)
     ⊎ ShowsPair (IsPlacedAs (streams_with run s step)) turn.device s (asked run s step) turn.added
 
--- what stands belongs to what writers took but for what fragments are
+-- what stands belongs to what writers took, but for the documents of fragments
 abbrev pub OwnIsKept : Type 0
 OwnIsKept = (s : State) (streams : ℕ → Stream) → AreOwn s streams → AreKept s streams
 
@@ -81,12 +81,18 @@ GivenIsListed = (p : Permit) (s : State) (streams : ℕ → Stream) (reader : �
     → reader_of s reader ≡ Some r → next_row s r ≡ Some entry → live_row_of s (next_piece r) ≡ Some row
     → IsDocumentOf p s row size into → (digest_of (take size into) ≡ digest_in entry) ⊎ IsPairOf (IsPlacedAs streams) p s row
 
--- a document of the digest of the fragment that a reader takes next, which has another payload than the
--- one that the reader's table lists, is another than the one as which the fragment was placed
-abbrev pub OtherShows : Type 0
-OtherShows = (p : Permit) (s : State) (streams : ℕ → Stream) (reader : ℕ) (r : ReaderRow) (table : List TableRow) (entry : TableRow) (row : Row) (bytes : List ℕ) → AreOwn s streams → 0 < r.next
-    → reader_of s reader ≡ Some r → r.table ≡ Some table → next_row s r ≡ Some entry → live_row_of s (next_piece r) ≡ Some row
-    → IsGiven p s row bytes → row.digest ≡ document_digest bytes → digest_in entry ≢ digest_of (payload_of bytes) → IsPairOf (IsPlacedAs streams) p s row
+-- the payload of the fragment that a reader takes next is, as the records tell it, the one that its table lists, or that
+-- the writer which it follows has cut
+abbrev pub OwnIsAsListed : Type 0
+OwnIsAsListed = (s : State) (streams : ℕ → Stream) (reader : ℕ) (r : ReaderRow) (entry : TableRow) (row : Row) → AreKept s streams
+    → 0 < r.next → reader_of s reader ≡ Some r → next_row s r ≡ Some entry → live_row_of s (next_piece r) ≡ Some row
+    → row.payload ≡ Some entry
+
+-- so no fragment that a reader takes next is unlike the one that is listed
+abbrev pub NoneIsUnlike : Type 0
+NoneIsUnlike = (s : State) (streams : ℕ → Stream) (reader : ℕ) (r : ReaderRow) (entry : TableRow) (row : Row) (found : Digest)
+    → AreKept s streams → 0 < r.next → reader_of s reader ≡ Some r → next_row s r ≡ Some entry
+    → live_row_of s (next_piece r) ≡ Some row → IsUnlike row entry found → ⊥
 
 -- a reader that hit something and was given all that its table lists was given all that was put
 abbrev pub AllIsGiven : Type 0
@@ -126,7 +132,7 @@ abbrev pub ReadsOwn : Type 0
 ReadsOwn = (p : Permit) (s : State) (streams : ℕ → Stream) (i : Intent) (added : List Rec) (e : End) → is_reading i ≡ true → AreOwn s streams
     → Does p s i added e → AreOwn (after_all s added) streams
 
--- and but for what fragments are it stays so too
+-- and but for the documents of fragments it stays so too
 abbrev pub ReadsKeep : Type 0
 ReadsKeep = (p : Permit) (s : State) (streams : ℕ → Stream) (i : Intent) (added : List Rec) (e : End) → is_reading i ≡ true → AreKept s streams
     → Does p s i added e → AreKept (after_all s added) streams

@@ -19,11 +19,14 @@ use Rattle.script_run.specs.Run.{Run, Stream, writer_of}
 abbrev pub piece_of : ℕ → List ℕ → ℕ → List ℕ
 piece_of fragment body index = take fragment (drop ((index - 1) * fragment) body)
 
+-- its row in a table: how many bytes it has, and their digest
+abbrev pub row_at : ℕ → List ℕ → ℕ → TableRow
+row_at fragment body index = made_row (length (piece_of fragment body index)) (digest_of (piece_of fragment body index)).0
+
 -- the rows of the first fragments of a body, so many from this index on
 abbrev pub rows_from : ℕ → List ℕ → ℕ → ℕ → List TableRow
 rows_from fragment body index zero = []
-rows_from fragment body index (suc count) =
-    made_row (length (piece_of fragment body index)) (digest_of (piece_of fragment body index)).0 ∷ rows_from fragment body (index + 1) count
+rows_from fragment body index (suc count) = row_at fragment body index ∷ rows_from fragment body (index + 1) count
 
 -- what a put has cut are the first fragments of what its writer took, each of them some bytes
 pub record AreCuts (fragment : ℕ) (body : List ℕ) (cuts : List TableRow) : Type 0 where
@@ -48,11 +51,19 @@ AreOwnPuts s streams = (put : ℕ) (w : PutRow) → put_of s put ≡ Some w → 
 abbrev pub fragment_doc : State → Row → Doc
 fragment_doc s row = record { id = row.id; place = row.place; generation = s.geometry.generation; pin = row.pin; start = (row.id.index - 1) * s.geometry.fragment }
 
--- a fragment stands as the document of that part of what its writer took
+-- its put has cut a fragment, the payload of which is, as the records tell it, that part of what the writer took
+pub record IsCutFragment (s : State) (streams : ℕ → Stream) (row : Row) : Type 0 where
+  pub w : PutRow
+  pub found : put_of s row.id.put ≡ Some w
+  pub cut : row.id.index ≤ length w.cuts
+  pub payload : row.payload ≡ Some (row_at s.geometry.fragment (streams row.id.put).bytes row.id.index)
+
+-- and it stands as the document of that
 pub record IsOwnFragment (s : State) (streams : ℕ → Stream) (row : Row) : Type 0 where
   pub w : PutRow
   pub found : put_of s row.id.put ≡ Some w
   pub cut : row.id.index ≤ length w.cuts
+  pub payload : row.payload ≡ Some (row_at s.geometry.fragment (streams row.id.put).bytes row.id.index)
   pub digest : row.digest ≡ digest_of_document (fragment_doc s row) (piece_of s.geometry.fragment (streams row.id.put).bytes row.id.index)
 
 -- a put is complete, or its vector was placed last
@@ -103,9 +114,14 @@ pub record AreOwn (s : State) (streams : ℕ → Stream) : Type 0 where
   pub rows : AllByRecursion (IsOwnRow s streams) s.rows
   pub readers : AllByRecursion (IsOwnReader s) s.readers
 
--- the same, but for what fragments are: whatever a copy brings to a fragment's new place, it stays so
+-- a fragment has the payload that its put has cut; of a vector nothing is said
+abbrev pub HasCutPayload : State → (ℕ → Stream) → Row → Type 0
+HasCutPayload s streams row = 0 < row.id.index → IsCutFragment s streams row
+
+-- the same, but for the documents of fragments: whatever a copy brings to a fragment's new place, it stays so
 pub record AreKept (s : State) (streams : ℕ → Stream) : Type 0 where
   pub puts : AreOwnPuts s streams
+  pub payloads : AllByRecursion (HasCutPayload s streams) s.rows
   pub alternates : AllByRecursion (AreAlternates s) s.rows
   pub readers : AllByRecursion (IsOwnReader s) s.readers
 

@@ -3,7 +3,7 @@ ghost use Rattle.std.specs.Prelude.{ℕ};
 ghost use Rattle.model_laws.specs.PairLaws.{PairsAreBytes, PairsAreGiven};
 ghost use Rattle.script_run.specs.Run.{Stream};
 ghost use Rattle.script_run.specs.Own.{IsPlacedAs};
-ghost use Rattle.script_run.specs.Laws.{AllIsFollowed, AllIsGiven, FlushOwns, FormatsKeep, FormatsOwn, GivenIsListed, HitIsPut, OtherShows, OwnIsKept, ReadIsOwn, ReadsKeep, ReadsOwn, StepsKeep, StepsOwn, StoppedOwns};
+ghost use Rattle.script_run.specs.Laws.{AllIsFollowed, AllIsGiven, FlushOwns, FormatsKeep, FormatsOwn, GivenIsListed, HitIsPut, NoneIsUnlike, OwnIsAsListed, OwnIsKept, ReadIsOwn, ReadsKeep, ReadsOwn, StepsKeep, StepsOwn, StoppedOwns};
 
 use model_laws::writer_is_ended;
 
@@ -33,7 +33,7 @@ pub fn steps_own()
     writer_is_ended();
 }
 
-/// What stands belongs to what writers took, but for what fragments are.
+/// What stands belongs to what writers took, but for the documents of fragments.
 pub fn own_is_kept()
     ensures { OwnIsKept }
 {}
@@ -71,10 +71,11 @@ pub fn given_is_listed()
     ensures { GivenIsListed }
 {}
 
-/// A document of the digest of the fragment that a reader takes next, with another payload than is listed,
-/// shows two documents of one SHA-256.
-pub fn other_shows()
-    ensures { OtherShows }
+/// The payload of the fragment that a reader takes next is, as the records tell it, the listed one; so none is
+/// unlike that.
+pub fn own_is_as_listed()
+    ensures listed { OwnIsAsListed }
+    ensures unlike { NoneIsUnlike }
 {}
 
 /// A reader that hit something and was given all that its table lists was given all that was put.
@@ -93,7 +94,7 @@ pub fn reads_own()
     ensures { ReadsOwn }
 {}
 
-/// And but for what fragments are.
+/// And but for the documents of fragments.
 pub fn reads_keep()
     ensures { ReadsKeep }
 {}

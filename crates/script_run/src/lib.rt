@@ -6,6 +6,6 @@ mod laws;
 
 pub use laws::{
     all_is_followed, all_is_given, flush_owns, formats_keep, formats_own, given_is_listed,
-    hit_is_put, other_shows, own_is_kept, read_is_own, reads_keep, reads_own, shown_are_given,
+    hit_is_put, own_is_as_listed, own_is_kept, read_is_own, reads_keep, reads_own, shown_are_given,
     steps_keep, steps_own, stopped_owns,
 };
