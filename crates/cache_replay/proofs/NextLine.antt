@@ -1,5 +1,5 @@
 -- An actor reads on.
-use Rattle.std.proofs.Common.{◌≡◌, ℕ, ◌≤◌, List, [], ◌∷◌, ◌++◌, length, take, refl, sym, ◌∙◌, ap, subst, false, ◌⊎◌, inl, inr, arith}
+use Rattle.std.proofs.Common.{◌≡◌, ℕ, ◌≤◌, List, [], ◌∷◌, ◌++◌, length, take, refl, sym, ◌∙◌, ap, subst, false, inl, inr, arith}
 use Rattle.std.specs.Prelude.{Option, Some, None, IfOk, Result, Ok, Err, if◌then◌else◌, ◌==◌, is_some, option_and_then, min}
 use Rattle.std.proofs.lemmas.List.{length-take}
 use Rattle.device_log.specs.Calls.{Call}
@@ -49,7 +49,7 @@ use Rattle.stripe_core.specs.Faults.{IsAccounted}
 use Rattle.stripe_core.proofs.Between.{accounted_is}
 use Rattle.stripe_core.proofs.Covering.{own_covers, own_permit}
 use Rattle.cache_replay.proofs.ReaderLines.{Goes, Took, apart_else, given_back, held_reader, line_ends, line_turn, reads_none, still_held, still_moves, still_turn}
-use Rattle.cache_replay.specs.Shown.{ShowsAt, ShowsIn}
+use Rattle.cache_replay.specs.Shown.{ShowsAt}
 use Rattle.cache_replay.proofs.Shown.{shows_first, shows_in}
 use Rattle.cache_replay.proofs.WholeReads.{later_none, next_reads}
 
@@ -212,17 +212,11 @@ module _ {D R C : Type 0} (disk : DiskGhosts D) (directory : DirectoryGhosts R) 
         | inr shown ↦ inr (shows_in run (past_of disk directory old) (past_of disk directory new) s (step.Next name) (subst (ShowsAt (IsPlacedAs run.streams) run.now (past_of disk directory old) (past_of disk directory new) s) (sym asked_is) shown))
       ]
 
-  -- more pieces are told as damaged only where two documents of one SHA-256 are shown
-  pub next_line_harms : {X : Type 0} (part new : Part D R C) (before : Seen Holding) (name : List ℕ) (n : ℕ) (r : Reader) → n ≡ number_of before.names name → slots_of before n ≡ Some (holding.Reader r)
-      → ((run : Run) → AreOwn (state_in chronicle part.stripe) run.streams → IsReaderOf (state_in chronicle part.stripe) r → X ⊎ ShowsAt (IsPlacedAs run.streams) run.now (past_of disk directory part) (past_of disk directory new) (state_in chronicle part.stripe) (ReadOn r.reader ∷ []))
-      → (run : Run) → PlaysPart chronicle run part before → X ⊎ ShowsIn run (past_of disk directory part) (past_of disk directory new) (Some (state_in chronicle part.stripe)) (step.Next name)
-  next_line_harms {X} part new before name n r number had harms run plays =
-      let by = held_reader disk directory chronicle run part before name n r number had plays in
-      let s : State = state_in chronicle part.stripe in
-      elim (harms run plays.at.own by.1) [
-        | inl x ↦ inl x
-        | inr shown ↦ inr (shows_in run (past_of disk directory part) (past_of disk directory new) s (step.Next name) (subst (ShowsAt (IsPlacedAs run.streams) run.now (past_of disk directory part) (past_of disk directory new) s) (sym (next_asks run part before name n r number had plays)) shown))
-      ]
+  -- what holds of an own reader
+  pub next_line_stays : {X : Type 0} (part : Part D R C) (before : Seen Holding) (name : List ℕ) (n : ℕ) (r : Reader) → n ≡ number_of before.names name → slots_of before n ≡ Some (holding.Reader r)
+      → ((run : Run) → AreOwn (state_in chronicle part.stripe) run.streams → IsReaderOf (state_in chronicle part.stripe) r → X)
+      → (run : Run) → PlaysPart chronicle run part before → X
+  next_line_stays part before name n r number had stays run plays = stays run plays.at.own (held_reader disk directory chronicle run part before name n r number had plays).1
 
   -- an actor without a reader
   pub next_idle : (part : Part D R C) (before after : Seen Holding) (name : List ℕ) (n : ℕ) (said : StepAnswer) → said ≡ says.idle

@@ -1,5 +1,5 @@
 -- A line on a part and its actors, as a line on a session.
-use Rattle.std.proofs.Common.{◌≡◌, ◌≤◌, ◌⊎◌, inl, inr, refl, sym, ◌∙◌, subst, Result, Ok, Err}
+use Rattle.std.proofs.Common.{◌≡◌, ◌≤◌, inl, inr, refl, sym, ◌∙◌, subst, Result, Ok, Err}
 use Rattle.std.specs.Prelude.{Some, None, IfErr, IfOk}
 use Rattle.logged_disk.specs.Device.{IsAfter}
 use Rattle.logged_disk.specs.declared.device.Disk.{Ghosts as DiskGhosts}
@@ -17,7 +17,6 @@ use Rattle.script_run.specs.Answers.{session_said, step_said}
 use Rattle.script_run.specs.Behind as then
 use Rattle.script_run.specs.Behind.{in_session}
 use Rattle.script_run.specs.Takes.{SessionTakes, Takes}
-use Rattle.cache_replay.specs.Shown.{ShowsIn}
 use Rattle.cache_replay.specs.declared.session.Session.{Session}
 use Rattle.cache_replay.specs.declared.session.Part.{Part}
 use Rattle.cache_replay.specs.declared.stop.Stop.{Stop}
@@ -62,24 +61,20 @@ module _ {D R C : Type 0} (disk : DiskGhosts D) (directory : DirectoryGhosts R) 
       }
 
   line_ends : (run : Run) (old new : Session D R C) (before after : Part D R C) (step : Step) (said : StepAnswer) → IsOnSession step → old.part ≡ Some before → new.part ≡ Some after → new.now ≡ old.now → Plays disk directory chronicle run old
-      → IsAfter (seen_in disk directory before.stripe).device (seen_in disk directory after.stripe).device
-      → Between disk directory chronicle before.stripe after.stripe ⊎ ShowsIn run (past_of disk directory before) (past_of disk directory after) (Some (state_in chronicle before.stripe)) step
+      → Between disk directory chronicle before.stripe after.stripe
       → PartEnds disk directory chronicle run before step after new.actors said → StepEnds disk directory chronicle run step new said
-  line_ends run old new before after step said on was is kept plays goes (inr shown) ends = inr (shows_step disk directory chronicle run old new before after step was is goes plays shown)
-  line_ends run old new before after step said on was is kept plays goes (inl stays) (inr shown) = inr (shows_step disk directory chronicle run old new before after step was is goes plays shown)
-  line_ends run old new before after step said on was is kept plays goes (inl stays) (inl m) = inl (line_moved run old new before after step said m.turn on was is kept plays stays m.takes m.calls m.plays m.says)
+  line_ends run old new before after step said on was is kept plays stays (inr shown) = inr (shows_step disk directory chronicle run old new before after step was is stays.goes plays shown)
+  line_ends run old new before after step said on was is kept plays stays (inl m) = inl (line_moved run old new before after step said m.turn on was is kept plays stays m.takes m.calls m.plays m.says)
 
   -- whatever it answers
   pub line_answers : (old new : Session D R C) (before after : Part D R C) (step : Step) (result : Result StepAnswer Stop) → IsOnSession step → old.part ≡ Some before → new.part ≡ Some after → new.now ≡ old.now
-      → IsAfter (seen_in disk directory before.stripe).device (seen_in disk directory after.stripe).device
-      → ((run : Run) → PlaysPart chronicle run before old.actors
-      → Between disk directory chronicle before.stripe after.stripe ⊎ ShowsIn run (past_of disk directory before) (past_of disk directory after) (Some (state_in chronicle before.stripe)) step)
+      → ((run : Run) → PlaysPart chronicle run before old.actors → Between disk directory chronicle before.stripe after.stripe)
       → IfOk result (λ said. (run : Run) → PlaysPart chronicle run before old.actors → PartEnds disk directory chronicle run before step after new.actors said)
       → IfOk result (λ said. (run : Run) → Plays disk directory chronicle run old → StepEnds disk directory chronicle run step new said)
-  line_answers old new before after step (Ok said) on was is kept goes harms ends = λ run plays.
+  line_answers old new before after step (Ok said) on was is kept stays ends = λ run plays.
       let there = part_plays run old before was plays in
-      line_ends run old new before after step said on was is kept plays goes (harms run there) (ends run there)
-  line_answers old new before after step (Err why) on was is kept goes harms ends = tt
+      line_ends run old new before after step said on was is kept plays (stays run there) (ends run there)
+  line_answers old new before after step (Err why) on was is kept stays ends = tt
 
   -- one that does so at the session's moment
   pub moment_answers : (old new : Session D R C) (before after : Part D R C) (step : Step) (result : Result StepAnswer Stop) → IsOnSession step → old.part ≡ Some before → new.part ≡ Some after → new.now ≡ old.now
@@ -87,7 +82,7 @@ module _ {D R C : Type 0} (disk : DiskGhosts D) (directory : DirectoryGhosts R) 
       → IfOk result (λ said. (run : Run) → run.now ≡ old.now → PlaysPart chronicle run before old.actors → PartEnds disk directory chronicle run before step after new.actors said)
       → IfOk result (λ said. (run : Run) → Plays disk directory chronicle run old → StepEnds disk directory chronicle run step new said)
   moment_answers old new before after step (Ok said) on was is kept stays ends = λ run plays.
-      line_ends run old new before after step said on was is kept plays stays.goes (inl stays) (ends run plays.now (part_plays run old before was plays))
+      line_ends run old new before after step said on was is kept plays stays (ends run plays.now (part_plays run old before was plays))
   moment_answers old new before after step (Err why) on was is kept stays ends = tt
 
   -- ---- the device of a session

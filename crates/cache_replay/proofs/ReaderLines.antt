@@ -131,7 +131,7 @@ line_turn device added given = record { added = added; refused = None; device = 
 
 -- a line that does nothing, at a moment
 abbrev pub still_permit : (now : ℕ) → Permit
-still_permit now = record { packed = false; syncs = false; now = now; area = 0; durable = 0; events = [] }
+still_permit now = record { packed = false; syncs = false; now = now; area = 0; past = []; events = [] }
 
 abbrev pub still_turn : (now : ℕ) → Turn
 still_turn now = record { added = []; refused = None; device = still_permit now; given = [] }

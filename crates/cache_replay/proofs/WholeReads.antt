@@ -172,11 +172,11 @@ waits_none s r (Some entry) n hit h = fragment_waits s r entry (live_row_of s (n
 waits_none s r None n hit h = end_waits s r r.table n hit h
 
 never_waits : (p : Permit) (s : State) (r : ReaderRow) (before : List Rec) (a : NextAnswer) (n : ℕ) → is_some r.table ≡ true → a ≡ next.Waited n → IsReading p s r before a → ⊥
-never_waits p s r before a n hit e (Legal.IsReading.verdict x) = waits_none s r (next_row s r) n hit e
+never_waits p s r before a n hit e (Legal.IsReading.verdict x listed) = waits_none s r (next_row s r) n hit e
 never_waits p s r before a n hit e (Legal.IsReading.trouble entry row b why m live t) = cc
 
 ends_behind : (p : Permit) (s : State) (r : ReaderRow) (before : List Rec) (a : NextAnswer) (n : ℕ) → a ≡ next.Ended n → IsReading p s r before a → next_row s r ≡ None
-ends_behind p s r before a n e (Legal.IsReading.verdict x) = end_is_whole s r n e
+ends_behind p s r before a n e (Legal.IsReading.verdict x listed) = end_is_whole s r n e
 ends_behind p s r before a n e (Legal.IsReading.trouble entry row b why m live t) = cc
 
 -- ---- bytes

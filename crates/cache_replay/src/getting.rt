@@ -10,7 +10,7 @@ ghost use Rattle.stripe_core.specs.Stripe.{IsStripe, kept_in, seen_in, state_in}
 ghost use Rattle.stripe_core.specs.Between.{Between};
 ghost use Rattle.stripe_core.specs.Covers.{Covers};
 ghost use Rattle.stripe_core.specs.Faults.{IsAccounted};
-ghost use Rattle.stripe_read.specs.Readers.{IsOpenReader};
+ghost use Rattle.stripe_read.specs.Readers.{IsOpenReader, IsReaderOf};
 ghost use Rattle.script_lang.specs.declared.answer.StepAnswer.{StepAnswer};
 ghost use Rattle.script_lang.specs.declared.step.Step.TheVariants as step;
 ghost use Rattle.script_run.specs.Run.{Run};
@@ -35,7 +35,7 @@ use dir_table::Directory;
 use logged_disk::Disk;
 use model_laws::steps_tell;
 use script_lang::{ByteList, StepAnswer};
-use script_run::{all_is_given, other_shows, read_is_own, reads_own};
+use script_run::{all_is_given, own_is_as_listed, read_is_own, reads_own};
 use std::alloc::{AllocError, Global};
 use stripe_core::Stripe;
 use stripe_read::{NextPiece, Opened, Reader, close_read, open_read, read_next};
@@ -195,14 +195,14 @@ fn read_more<D: Disk, R: Directory + Drop, C: Chronicle>(
     ensures counts { IfOk result (λ next. NoLossIsAFault (state_in C.Chronicle stripe.old)
         → count_in_piece next ≤ (seen_in D.Disk R.Directory stripe.new).device.faults) }
     ensures later { (seen_in D.Disk R.Directory stripe.old).device.faults ≤ (seen_in D.Disk R.Directory stripe.new).device.faults }
-    ensures unharmed { (b : Began) (p : Permit) (run : Run) → IsUnderway b (seen_in D.Disk R.Directory stripe.old).device.past (kept_in C.Chronicle stripe.old) reader.old body.old.items
-        → Covers p b.past (seen_in D.Disk R.Directory stripe.new).device.past → AreTold (state_of b.kept) → AreOwn (state_of b.kept) run.streams
-        → Between D.Disk R.Directory C.Chronicle stripe.old stripe.new ⊎ Shows (IsPlacedAs run.streams) p (state_of b.kept) b.asks }
+    ensures unharmed { (run : Run) → AreOwn (state_in C.Chronicle stripe.old) run.streams
+        → IsReaderOf (state_in C.Chronicle stripe.old) reader.old
+        → Between D.Disk R.Directory C.Chronicle stripe.old stripe.new }
     ensures goes { IsAfter (seen_in D.Disk R.Directory stripe.old).device (seen_in D.Disk R.Directory stripe.new).device }
     ensures accounted { IsAccounted (seen_in D.Disk R.Directory stripe.old).device.past (seen_in D.Disk R.Directory stripe.new).device.past (kept_in C.Chronicle stripe.old) (kept_in C.Chronicle stripe.new) }
 {
     read_is_own();
-    other_shows();
+    own_is_as_listed();
     all_is_given();
     reads_own();
     match read_next(stripe, reader, page)? {

@@ -1,8 +1,7 @@
 // The lines of readers: they open, read on and are closed.
-ghost use Rattle.std.specs.Prelude.{◌≡◌, ◌==◌, ◌⊎◌, ◌∷◌, [], ◌+◌, ◌-◌, ◌*◌, ◌^◌, ◌<◌, ◌≤◌, ℕ, length, Some, None, IfOk, IfErr, if◌then◌else◌, is_some};
+ghost use Rattle.std.specs.Prelude.{◌≡◌, ◌==◌, ◌+◌, ◌-◌, ◌*◌, ◌^◌, ◌<◌, ◌≤◌, ℕ, length, Some, None, IfOk, IfErr, if◌then◌else◌, is_some};
 ghost use Rattle.tape_base.specs.Geometry.{budget_of};
 ghost use Rattle.cache_model.specs.Legal.{IsQuiet};
-ghost use Rattle.cache_model.specs.Permit.{ReadOn};
 ghost use Rattle.logged_disk.specs.Device.{IsAfter};
 ghost use Rattle.stripe_core.specs.Stripe.{IsStripe, seen_in, state_in};
 ghost use Rattle.stripe_core.specs.Between.{Between};
@@ -11,10 +10,9 @@ ghost use Rattle.script_lang.specs.declared.step.Step.TheVariants as step;
 ghost use Rattle.script_lang.specs.declared.answer.StepAnswer.TheVariants as answer;
 ghost use Rattle.script_run.specs.Run.{Run};
 ghost use Rattle.script_run.specs.Losses.{NoLossIsAFault};
-ghost use Rattle.script_run.specs.Own.{AreOwn, IsPlacedAs};
+ghost use Rattle.script_run.specs.Own.{AreOwn};
 ghost use Rattle.cache_replay.specs.declared.stop.Stop.TheVariants as stop;
 ghost use Rattle.cache_replay.specs.Outline.{count_in};
-ghost use Rattle.cache_replay.specs.Shown.{ShowsAt, ShowsIn};
 ghost use Rattle.cache_replay.specs.Session.{AreLater, IsActive, IsPart, IsSession, LeavesBut, TellsCount, devices_of, names_in, past_of, return_of, slots_of};
 ghost use Rattle.cache_replay.specs.Plays.{PartEnds, Plays, PlaysPart, StepEnds};
 ghost use Rattle.cache_replay.specs.Stop.{IsSessionStop};
@@ -30,7 +28,7 @@ use dir_table::Directory;
 use logged_disk::Disk;
 use model_laws::groups_tell;
 use script_lang::{ByteList, Refused, StepAnswer};
-use script_run::{other_shows, read_is_own, steps_own};
+use script_run::{own_is_as_listed, read_is_own, steps_own};
 use std::alloc::{AllocError, Global};
 use stripe_core::Stripe;
 use stripe_read::{NextPiece, Opened, Reader, close_read, open_read, read_next};
@@ -156,7 +154,7 @@ fn next<D: Disk, R: Directory + Drop, C: Chronicle>(
     ensures ends { IfOk result (λ said. (run : Run) → PlaysPart C.Chronicle run part.old actors.old
         → PartEnds D.Disk R.Directory C.Chronicle run part.old (step.Next actor.now) part.new actors.new said) }
     ensures unharmed { (run : Run) → PlaysPart C.Chronicle run part.old actors.old
-        → Between D.Disk R.Directory C.Chronicle part.old.stripe part.new.stripe ⊎ ShowsIn run (past_of D.Disk R.Directory part.old) (past_of D.Disk R.Directory part.new) (Some (state_in C.Chronicle part.old.stripe)) (step.Next actor.now) }
+        → Between D.Disk R.Directory C.Chronicle part.old.stripe part.new.stripe }
     ensures goes { IsAfter (seen_in D.Disk R.Directory part.old.stripe).device (seen_in D.Disk R.Directory part.new.stripe).device }
     ensures stop { IfErr result (λ why. why ≡ stop.Memory) }
     ensures names { length actors.new.names ≤ length actors.old.names + 1 }
@@ -190,8 +188,9 @@ fn read_on<D: Disk, R: Directory + Drop, C: Chronicle>(
     ensures leaves { LeavesBut None (Some reader.old.reader) (state_in C.Chronicle part.old.stripe) (state_in C.Chronicle part.new.stripe) }
     ensures ends { IfOk result (λ said. (run : Run) → AreOwn (state_in C.Chronicle part.old.stripe) run.streams → IsReaderOf (state_in C.Chronicle part.old.stripe) reader.old
         → NextEnds run (past_of D.Disk R.Directory part.old) (past_of D.Disk R.Directory part.new) (state_in C.Chronicle part.old.stripe) (state_in C.Chronicle part.new.stripe) reader.old reader.new said) }
-    ensures unharmed { (run : Run) → AreOwn (state_in C.Chronicle part.old.stripe) run.streams → IsReaderOf (state_in C.Chronicle part.old.stripe) reader.old
-        → Between D.Disk R.Directory C.Chronicle part.old.stripe part.new.stripe ⊎ ShowsAt (IsPlacedAs run.streams) run.now (past_of D.Disk R.Directory part.old) (past_of D.Disk R.Directory part.new) (state_in C.Chronicle part.old.stripe) (ReadOn reader.old.reader ∷ []) }
+    ensures unharmed { (run : Run) → AreOwn (state_in C.Chronicle part.old.stripe) run.streams
+        → IsReaderOf (state_in C.Chronicle part.old.stripe) reader.old
+        → Between D.Disk R.Directory C.Chronicle part.old.stripe part.new.stripe }
     ensures goes { IsAfter (seen_in D.Disk R.Directory part.old.stripe).device (seen_in D.Disk R.Directory part.new.stripe).device }
     ensures stop { IfErr result (λ why. why ≡ stop.Memory) }
     ensures counts { IfOk result (TellsCount D.Disk R.Directory C.Chronicle (Some part.new)) }
@@ -217,8 +216,9 @@ fn read_to<D: Disk, R: Directory + Drop, C: Chronicle>(
     ensures leaves { LeavesBut None (Some reader.old.reader) (state_in C.Chronicle stripe.old) (state_in C.Chronicle stripe.new) }
     ensures ends { IfOk result (λ said. (run : Run) → AreOwn (state_in C.Chronicle stripe.old) run.streams → IsReaderOf (state_in C.Chronicle stripe.old) reader.old
         → NextEnds run (seen_in D.Disk R.Directory stripe.old).device.past (seen_in D.Disk R.Directory stripe.new).device.past (state_in C.Chronicle stripe.old) (state_in C.Chronicle stripe.new) reader.old reader.new said) }
-    ensures unharmed { (run : Run) → AreOwn (state_in C.Chronicle stripe.old) run.streams → IsReaderOf (state_in C.Chronicle stripe.old) reader.old
-        → Between D.Disk R.Directory C.Chronicle stripe.old stripe.new ⊎ ShowsAt (IsPlacedAs run.streams) run.now (seen_in D.Disk R.Directory stripe.old).device.past (seen_in D.Disk R.Directory stripe.new).device.past (state_in C.Chronicle stripe.old) (ReadOn reader.old.reader ∷ []) }
+    ensures unharmed { (run : Run) → AreOwn (state_in C.Chronicle stripe.old) run.streams
+        → IsReaderOf (state_in C.Chronicle stripe.old) reader.old
+        → Between D.Disk R.Directory C.Chronicle stripe.old stripe.new }
     ensures goes { IsAfter (seen_in D.Disk R.Directory stripe.old).device (seen_in D.Disk R.Directory stripe.new).device }
     ensures stop { IfErr result (λ why. why ≡ stop.Memory) }
     ensures counts { IfOk result (λ said. NoLossIsAFault (state_in C.Chronicle stripe.old)
@@ -226,7 +226,7 @@ fn read_to<D: Disk, R: Directory + Drop, C: Chronicle>(
     ensures later { (seen_in D.Disk R.Directory stripe.old).device.faults ≤ (seen_in D.Disk R.Directory stripe.new).device.faults }
 {
     read_is_own();
-    other_shows();
+    own_is_as_listed();
     let piece = read_next(stripe, reader, page)?;
     Ok(piece_said(piece, page, alloc)?)
 }

@@ -4,7 +4,7 @@ use Rattle.stripe_core.specs.Stripe.{kept_in, seen_in, state_in}
 use Rattle.script_lang.specs.declared.answer.StepAnswer.TheVariants as answer
 use Rattle.script_run.specs.Answers.{broken_said}
 use Rattle.cache_replay.specs.Getting.{IsAnswered, IsUnderway}
-use Rattle.cache_replay.proofs.OtherNext.{more_harms}
+use Rattle.cache_replay.proofs.OtherNext.{next_stays}
 use Rattle.cache_replay.proofs.ReaderFrames.{kept_leaves, read_leaves}
 use Rattle.cache_replay.proofs.WholeReads.{broken_comes, end_comes, nearer, piece_comes, size_within, taken_size, waits_comes}
 use Rattle.cache_replay.proofs.Counts.{piece_counts}
@@ -77,34 +77,28 @@ returns-in-NotYet-clause-comes g c = λ b under.
     c.requires.quiet c.read_next.ensures.device.made c.read_next.ensures.device.past c.in-NotYet.cut (rw c.in-NotYet.is at c.in_ok-index.ensures.reads))
 
 pub returns-in_err-index-clause-unharmed : goal.returns-in_err-index-clause-unharmed
-returns-in_err-index-clause-unharmed g c = λ b.
-    more_harms c.other_shows.ensures b (seen_in g.D.Disk g.R.Directory c.args.stripe.now).device.past (seen_in g.D.Disk g.R.Directory c.read_next.new.stripe).device.past (kept_in g.C.Chronicle c.args.stripe.now) c.args.reader.now c.args.body.now.items
-    c.requires.hit c.requires.reader.first c.read_next.ensures.unharmed c.read_next.ensures.device.made c.read_next.ensures.device.past
+returns-in_err-index-clause-unharmed g c =
+    next_stays c.own_is_as_listed.ensures.unlike (state_in g.C.Chronicle c.args.stripe.now) c.args.reader.now c.requires.reader.first c.read_next.ensures.unharmed
 
 pub returns-in_err-extend_from_slice-in-Piece-clause-unharmed : goal.returns-in_err-extend_from_slice-in-Piece-clause-unharmed
-returns-in_err-extend_from_slice-in-Piece-clause-unharmed g c = λ b.
-    more_harms c.other_shows.ensures b (seen_in g.D.Disk g.R.Directory c.args.stripe.now).device.past (seen_in g.D.Disk g.R.Directory c.read_next.new.stripe).device.past (kept_in g.C.Chronicle c.args.stripe.now) c.args.reader.now c.args.body.now.items
-    c.requires.hit c.requires.reader.first c.read_next.ensures.unharmed c.read_next.ensures.device.made c.read_next.ensures.device.past
+returns-in_err-extend_from_slice-in-Piece-clause-unharmed g c =
+    next_stays c.own_is_as_listed.ensures.unlike (state_in g.C.Chronicle c.args.stripe.now) c.args.reader.now c.requires.reader.first c.read_next.ensures.unharmed
 
 pub returns-in_ok-extend_from_slice-in-Piece-clause-unharmed : goal.returns-in_ok-extend_from_slice-in-Piece-clause-unharmed
-returns-in_ok-extend_from_slice-in-Piece-clause-unharmed g c = λ b.
-    more_harms c.other_shows.ensures b (seen_in g.D.Disk g.R.Directory c.args.stripe.now).device.past (seen_in g.D.Disk g.R.Directory c.read_next.new.stripe).device.past (kept_in g.C.Chronicle c.args.stripe.now) c.args.reader.now c.args.body.now.items
-    c.requires.hit c.requires.reader.first c.read_next.ensures.unharmed c.read_next.ensures.device.made c.read_next.ensures.device.past
+returns-in_ok-extend_from_slice-in-Piece-clause-unharmed g c =
+    next_stays c.own_is_as_listed.ensures.unlike (state_in g.C.Chronicle c.args.stripe.now) c.args.reader.now c.requires.reader.first c.read_next.ensures.unharmed
 
 pub returns-in-End-clause-unharmed : goal.returns-in-End-clause-unharmed
-returns-in-End-clause-unharmed g c = λ b.
-    more_harms c.other_shows.ensures b (seen_in g.D.Disk g.R.Directory c.args.stripe.now).device.past (seen_in g.D.Disk g.R.Directory c.read_next.new.stripe).device.past (kept_in g.C.Chronicle c.args.stripe.now) c.args.reader.now c.args.body.now.items
-    c.requires.hit c.requires.reader.first c.read_next.ensures.unharmed c.read_next.ensures.device.made c.read_next.ensures.device.past
+returns-in-End-clause-unharmed g c =
+    next_stays c.own_is_as_listed.ensures.unlike (state_in g.C.Chronicle c.args.stripe.now) c.args.reader.now c.requires.reader.first c.read_next.ensures.unharmed
 
 pub returns-in-NotYet-clause-unharmed : goal.returns-in-NotYet-clause-unharmed
-returns-in-NotYet-clause-unharmed g c = λ b.
-    more_harms c.other_shows.ensures b (seen_in g.D.Disk g.R.Directory c.args.stripe.now).device.past (seen_in g.D.Disk g.R.Directory c.read_next.new.stripe).device.past (kept_in g.C.Chronicle c.args.stripe.now) c.args.reader.now c.args.body.now.items
-    c.requires.hit c.requires.reader.first c.read_next.ensures.unharmed c.read_next.ensures.device.made c.read_next.ensures.device.past
+returns-in-NotYet-clause-unharmed g c =
+    next_stays c.own_is_as_listed.ensures.unlike (state_in g.C.Chronicle c.args.stripe.now) c.args.reader.now c.requires.reader.first c.read_next.ensures.unharmed
 
 pub returns-in-Broken-clause-unharmed : goal.returns-in-Broken-clause-unharmed
-returns-in-Broken-clause-unharmed g c = λ b.
-    more_harms c.other_shows.ensures b (seen_in g.D.Disk g.R.Directory c.args.stripe.now).device.past (seen_in g.D.Disk g.R.Directory c.read_next.new.stripe).device.past (kept_in g.C.Chronicle c.args.stripe.now) c.args.reader.now c.args.body.now.items
-    c.requires.hit c.requires.reader.first c.read_next.ensures.unharmed c.read_next.ensures.device.made c.read_next.ensures.device.past
+returns-in-Broken-clause-unharmed g c =
+    next_stays c.own_is_as_listed.ensures.unlike (state_in g.C.Chronicle c.args.stripe.now) c.args.reader.now c.requires.reader.first c.read_next.ensures.unharmed
 
 pub returns-in-Broken-clause-counts : goal.returns-in-Broken-clause-counts
 returns-in-Broken-clause-counts g c = λ none.

@@ -5,12 +5,11 @@ use Rattle.logged_disk.proofs.GoingOn.{goes_further}
 use Rattle.cache_model.specs.Permit.{StopReading}
 use Rattle.stripe_core.specs.Stripe.{kept_in, seen_in, state_in}
 use Rattle.stripe_core.proofs.Between.{accounted_then}
-use Rattle.stripe_core.proofs.Covering.{covers_first}
 use Rattle.script_run.specs.Answers.{broken_said}
 use Rattle.script_lang.specs.declared.answer.StepAnswer.TheVariants as answer
 use Rattle.cache_replay.specs.Getting.{IsAnswered}
 use Rattle.cache_replay.specs.Session.{LeavesBut}
-use Rattle.cache_replay.proofs.OtherNext.{stays_then}
+use Rattle.cache_replay.proofs.OtherNext.{way_stays}
 use Rattle.cache_replay.proofs.ReaderFrames.{leaves_then}
 use Rattle.cache_replay.proofs.WholeReads.{answered_as}
 use Rattle.cache_replay.proofs.Counts.{broken_tells}
@@ -47,43 +46,33 @@ loop-body-preserved g c = record {
   page = grind (arith, common_steps);
   under = λ b under. (rw c.in-Piece.is at c.in_ok-read_more.ensures.comes) b (c.loop-body.invariant.under b under);
   leaves = leaves_then None (Some c.args.reader.now.reader) _ _ _ c.loop-body.invariant.leaves (subst (λ n. LeavesBut None (Some n) (state_in g.C.Chronicle c.loop-body.stripe) (state_in g.C.Chronicle c.read_more.new.stripe)) c.loop-body.invariant.number c.read_more.ensures.leaves);
-  harms = λ b p run under covers told owned.
-      stays_then
-      (c.loop-body.invariant.harms b p run under
-      (covers_first p b.past (seen_in g.D.Disk g.R.Directory c.loop-body.stripe).device.past (seen_in g.D.Disk g.R.Directory c.read_more.new.stripe).device.past c.read_more.ensures.goes.made c.read_more.ensures.goes.past covers) told owned)
-      (c.read_more.ensures.unharmed b p run (c.loop-body.invariant.under b under) covers told owned);
+  harms = λ b p run under.
+      way_stays (seen_in g.D.Disk g.R.Directory c.loop-body.stripe).device (seen_in g.D.Disk g.R.Directory c.read_more.new.stripe).device (kept_in g.C.Chronicle c.loop-body.stripe) c.loop-body.reader c.loop-body.body.items
+      c.read_more.ensures.goes c.read_more.ensures.unharmed b p run (c.loop-body.invariant.under b under) (c.loop-body.invariant.harms b p run under);
   goes = goes_further _ _ _ c.loop-body.invariant.goes c.read_more.ensures.goes;
   accounted = accounted_then _ _ _ _ _ _ c.loop-body.invariant.accounted c.read_more.ensures.accounted;
   later = omega (arith, c.read_more.ensures.later, c.loop-body.invariant.later);
 }
 
 pub returns-in_err-read_more-clause-unharmed : goal.returns-in_err-read_more-clause-unharmed
-returns-in_err-read_more-clause-unharmed g c = λ b p run under covers told owned.
-    stays_then
-    (c.loop-body.invariant.harms b p run under
-    (covers_first p b.past (seen_in g.D.Disk g.R.Directory c.loop-body.stripe).device.past (seen_in g.D.Disk g.R.Directory c.read_more.new.stripe).device.past c.read_more.ensures.goes.made c.read_more.ensures.goes.past covers) told owned)
-    (c.read_more.ensures.unharmed b p run (c.loop-body.invariant.under b under) covers told owned)
+returns-in_err-read_more-clause-unharmed g c = λ b p run under.
+    way_stays (seen_in g.D.Disk g.R.Directory c.loop-body.stripe).device (seen_in g.D.Disk g.R.Directory c.read_more.new.stripe).device (kept_in g.C.Chronicle c.loop-body.stripe) c.loop-body.reader c.loop-body.body.items
+    c.read_more.ensures.goes c.read_more.ensures.unharmed b p run (c.loop-body.invariant.under b under) (c.loop-body.invariant.harms b p run under)
 
 pub returns-in-End-clause-unharmed : goal.returns-in-End-clause-unharmed
-returns-in-End-clause-unharmed g c = λ b p run under covers told owned.
-    stays_then
-    (c.loop-body.invariant.harms b p run under
-    (covers_first p b.past (seen_in g.D.Disk g.R.Directory c.loop-body.stripe).device.past (seen_in g.D.Disk g.R.Directory c.read_more.new.stripe).device.past c.read_more.ensures.goes.made c.read_more.ensures.goes.past covers) told owned)
-    (c.read_more.ensures.unharmed b p run (c.loop-body.invariant.under b under) covers told owned)
+returns-in-End-clause-unharmed g c = λ b p run under.
+    way_stays (seen_in g.D.Disk g.R.Directory c.loop-body.stripe).device (seen_in g.D.Disk g.R.Directory c.read_more.new.stripe).device (kept_in g.C.Chronicle c.loop-body.stripe) c.loop-body.reader c.loop-body.body.items
+    c.read_more.ensures.goes c.read_more.ensures.unharmed b p run (c.loop-body.invariant.under b under) (c.loop-body.invariant.harms b p run under)
 
 pub returns-in-NotYet-clause-unharmed : goal.returns-in-NotYet-clause-unharmed
-returns-in-NotYet-clause-unharmed g c = λ b p run under covers told owned.
-    stays_then
-    (c.loop-body.invariant.harms b p run under
-    (covers_first p b.past (seen_in g.D.Disk g.R.Directory c.loop-body.stripe).device.past (seen_in g.D.Disk g.R.Directory c.read_more.new.stripe).device.past c.read_more.ensures.goes.made c.read_more.ensures.goes.past covers) told owned)
-    (c.read_more.ensures.unharmed b p run (c.loop-body.invariant.under b under) covers told owned)
+returns-in-NotYet-clause-unharmed g c = λ b p run under.
+    way_stays (seen_in g.D.Disk g.R.Directory c.loop-body.stripe).device (seen_in g.D.Disk g.R.Directory c.read_more.new.stripe).device (kept_in g.C.Chronicle c.loop-body.stripe) c.loop-body.reader c.loop-body.body.items
+    c.read_more.ensures.goes c.read_more.ensures.unharmed b p run (c.loop-body.invariant.under b under) (c.loop-body.invariant.harms b p run under)
 
 pub returns-in-Broken-clause-unharmed : goal.returns-in-Broken-clause-unharmed
-returns-in-Broken-clause-unharmed g c = λ b p run under covers told owned.
-    stays_then
-    (c.loop-body.invariant.harms b p run under
-    (covers_first p b.past (seen_in g.D.Disk g.R.Directory c.loop-body.stripe).device.past (seen_in g.D.Disk g.R.Directory c.read_more.new.stripe).device.past c.read_more.ensures.goes.made c.read_more.ensures.goes.past covers) told owned)
-    (c.read_more.ensures.unharmed b p run (c.loop-body.invariant.under b under) covers told owned)
+returns-in-Broken-clause-unharmed g c = λ b p run under.
+    way_stays (seen_in g.D.Disk g.R.Directory c.loop-body.stripe).device (seen_in g.D.Disk g.R.Directory c.read_more.new.stripe).device (kept_in g.C.Chronicle c.loop-body.stripe) c.loop-body.reader c.loop-body.body.items
+    c.read_more.ensures.goes c.read_more.ensures.unharmed b p run (c.loop-body.invariant.under b under) (c.loop-body.invariant.harms b p run under)
 
 pub returns-in-Broken-clause-counts : goal.returns-in-Broken-clause-counts
 returns-in-Broken-clause-counts g c = λ none.

@@ -1,4 +1,4 @@
-use Rattle.std.proofs.Common.{refl, inl}
+use Rattle.std.proofs.Common.{refl}
 use Rattle.script_lang.specs.declared.step.Step.TheVariants as step
 use Rattle.cache_replay.proofs.OnPart.{line_answers, line_device, line_stops, no_device}
 use Rattle.cache_replay.proofs.OnSession.{on_session}
@@ -7,7 +7,7 @@ use Rattle.cache_replay.proofs.reader_lines.done_line.Goals as goal
 pub returns-in-Some-clause-ends : goal.returns-in-Some-clause-ends
 returns-in-Some-clause-ends g c =
     line_answers g.D.Disk g.R.Directory g.C.Chronicle c.args.session.now _ c.in-Some.part c.done.new.part (step.Done c.args.actor.now) c.done.result (on_session (step.Done c.args.actor.now) tt)
-    c.in-Some.is refl refl c.done.ensures.unharmed.goes (λ run plays. inl c.done.ensures.unharmed) c.done.ensures.ends
+    c.in-Some.is refl refl (λ run plays. c.done.ensures.unharmed) c.done.ensures.ends
 
 pub returns-in-Some-clause-device : goal.returns-in-Some-clause-device
 returns-in-Some-clause-device g c =

@@ -3,7 +3,7 @@ use Rattle.std.specs.Prelude.{Some}
 use Rattle.stripe_core.specs.Stripe.{state_in}
 use Rattle.cache_replay.specs.Session.{slots_of}
 use Rattle.cache_replay.specs.ReaderLines.{reader_held}
-use Rattle.cache_replay.proofs.NextLine.{if_then, next_goes, next_idle, next_line_ends, next_line_harms}
+use Rattle.cache_replay.proofs.NextLine.{if_then, next_goes, next_idle, next_line_ends, next_line_stays}
 use Rattle.cache_replay.proofs.ReaderLines.{goes_active, not_taken, took}
 use Rattle.cache_replay.proofs.reader_lines.next.Goals as goal
 
@@ -31,7 +31,7 @@ returns-in-Some-clause-ends g c =
 pub returns-in-Some-clause-unharmed : goal.returns-in-Some-clause-unharmed
 returns-in-Some-clause-unharmed g c =
     let taken = took (slots_of c.args.actors.now) (slots_of c.number.new.self) (slots_of c.take_reader.new.actors) c.in_ok-number.number c.in-Some.reader c.in_ok-number.ensures.slots c.in-Some.ensures.slots c.in-Some.ensures.reader in
-    next_line_harms g.D.Disk g.R.Directory g.C.Chronicle c.args.part.now c.read_on-said.new.part c.args.actors.now c.args.actor.now c.in_ok-number.number c.in-Some.reader c.in_ok-number.ensures.number taken.had c.read_on-said.ensures.unharmed
+    next_line_stays g.D.Disk g.R.Directory g.C.Chronicle c.args.part.now c.args.actors.now c.args.actor.now c.in_ok-number.number c.in-Some.reader c.in_ok-number.ensures.number taken.had c.read_on-said.ensures.unharmed
 
 pub returns-in-None-clause-ends : goal.returns-in-None-clause-ends
 returns-in-None-clause-ends g c = λ run plays. inl (

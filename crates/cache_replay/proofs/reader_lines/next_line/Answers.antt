@@ -7,7 +7,7 @@ use Rattle.cache_replay.proofs.reader_lines.next_line.Goals as goal
 pub returns-in-Some-clause-ends : goal.returns-in-Some-clause-ends
 returns-in-Some-clause-ends g c =
     line_answers g.D.Disk g.R.Directory g.C.Chronicle c.args.session.now _ c.in-Some.part c.next.new.part (step.Next c.args.actor.now) c.next.result (on_session (step.Next c.args.actor.now) tt)
-    c.in-Some.is refl refl c.next.ensures.goes c.next.ensures.unharmed c.next.ensures.ends
+    c.in-Some.is refl refl c.next.ensures.unharmed c.next.ensures.ends
 
 pub returns-in-Some-clause-device : goal.returns-in-Some-clause-device
 returns-in-Some-clause-device g c =

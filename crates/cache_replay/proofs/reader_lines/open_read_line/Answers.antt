@@ -1,4 +1,4 @@
-use Rattle.std.proofs.Common.{refl, inl}
+use Rattle.std.proofs.Common.{refl}
 use Rattle.script_lang.specs.declared.step.Step.TheVariants as step
 use Rattle.cache_replay.proofs.OnPart.{line_answers, line_device, line_stops, no_device}
 use Rattle.cache_replay.proofs.OnSession.{on_session}
@@ -8,7 +8,7 @@ pub returns-in-Some-clause-ends : goal.returns-in-Some-clause-ends
 returns-in-Some-clause-ends g c =
     line_answers g.D.Disk g.R.Directory g.C.Chronicle c.args.session.now _ c.in-Some.part c.open_reader.new.part (step.OpenRead c.args.actor.now c.args.key c.args.request) c.open_reader.result
     (on_session (step.OpenRead c.args.actor.now c.args.key c.args.request) tt)
-    c.in-Some.is refl refl c.open_reader.ensures.unharmed.goes (λ run plays. inl c.open_reader.ensures.unharmed) c.open_reader.ensures.ends
+    c.in-Some.is refl refl (λ run plays. c.open_reader.ensures.unharmed) c.open_reader.ensures.ends
 
 pub returns-in-Some-clause-device : goal.returns-in-Some-clause-device
 returns-in-Some-clause-device g c =

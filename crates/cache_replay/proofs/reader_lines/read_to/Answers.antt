@@ -3,7 +3,7 @@ use Rattle.stripe_core.specs.Stripe.{kept_in, seen_in, state_in}
 use Rattle.stripe_read.specs.Nexts.{read_adds}
 use Rattle.cache_replay.specs.ReaderLines.{NextEnds}
 use Rattle.cache_replay.proofs.NextLine.{next_ends, reads_within}
-use Rattle.cache_replay.proofs.OtherNext.{next_harms}
+use Rattle.cache_replay.proofs.OtherNext.{next_stays}
 use Rattle.cache_replay.proofs.ReaderFrames.{kept_leaves, read_leaves}
 use Rattle.cache_replay.specs.Outline.{count_in}
 use Rattle.cache_replay.proofs.Counts.{piece_counts, piece_tells}
@@ -36,15 +36,15 @@ returns-clause-ends g c = λ run owned reader.
 
 pub returns-in_err-piece-clause-unharmed : goal.returns-in_err-piece-clause-unharmed
 returns-in_err-piece-clause-unharmed g c =
-    next_harms c.other_shows.ensures (state_in g.C.Chronicle c.args.stripe.now) (seen_in g.D.Disk g.R.Directory c.args.stripe.now).device.past (seen_in g.D.Disk g.R.Directory c.read_next.new.stripe).device.past c.args.reader.now c.requires.reader.first c.read_next.ensures.unharmed
+    next_stays c.own_is_as_listed.ensures.unlike (state_in g.C.Chronicle c.args.stripe.now) c.args.reader.now c.requires.reader.first c.read_next.ensures.unharmed
 
 pub returns-in_err-piece_said-clause-unharmed : goal.returns-in_err-piece_said-clause-unharmed
 returns-in_err-piece_said-clause-unharmed g c =
-    next_harms c.other_shows.ensures (state_in g.C.Chronicle c.args.stripe.now) (seen_in g.D.Disk g.R.Directory c.args.stripe.now).device.past (seen_in g.D.Disk g.R.Directory c.read_next.new.stripe).device.past c.args.reader.now c.requires.reader.first c.read_next.ensures.unharmed
+    next_stays c.own_is_as_listed.ensures.unlike (state_in g.C.Chronicle c.args.stripe.now) c.args.reader.now c.requires.reader.first c.read_next.ensures.unharmed
 
 pub returns-clause-unharmed : goal.returns-clause-unharmed
 returns-clause-unharmed g c =
-    next_harms c.other_shows.ensures (state_in g.C.Chronicle c.args.stripe.now) (seen_in g.D.Disk g.R.Directory c.args.stripe.now).device.past (seen_in g.D.Disk g.R.Directory c.read_next.new.stripe).device.past c.args.reader.now c.requires.reader.first c.read_next.ensures.unharmed
+    next_stays c.own_is_as_listed.ensures.unlike (state_in g.C.Chronicle c.args.stripe.now) c.args.reader.now c.requires.reader.first c.read_next.ensures.unharmed
 
 pub returns-clause-counts : goal.returns-clause-counts
 returns-clause-counts g c = λ none.

@@ -1,4 +1,4 @@
-use Rattle.std.proofs.Common.{refl, inl}
+use Rattle.std.proofs.Common.{refl}
 use Rattle.script_lang.specs.declared.step.Step.TheVariants as step
 use Rattle.cache_replay.proofs.OnPart.{line_answers, line_device, line_stops, no_device}
 use Rattle.cache_replay.proofs.OnSession.{on_session}
@@ -7,7 +7,7 @@ use Rattle.cache_replay.proofs.writer_lines.open_write_line.Goals as goal
 pub returns-in-Some-clause-ends : goal.returns-in-Some-clause-ends
 returns-in-Some-clause-ends g c =
     line_answers g.D.Disk g.R.Directory g.C.Chronicle c.args.session.now _ c.in-Some.part c.open_write_in.new.part (step.OpenWrite c.args.actor.now c.args.key c.args.pin c.args.request c.args.response) c.open_write_in.result
-    (on_session (step.OpenWrite c.args.actor.now c.args.key c.args.pin c.args.request c.args.response) tt) c.in-Some.is refl refl c.open_write_in.ensures.unharmed.goes (λ run plays. inl c.open_write_in.ensures.unharmed) c.open_write_in.ensures.ends
+    (on_session (step.OpenWrite c.args.actor.now c.args.key c.args.pin c.args.request c.args.response) tt) c.in-Some.is refl refl (λ run plays. c.open_write_in.ensures.unharmed) c.open_write_in.ensures.ends
 
 pub returns-in-Some-clause-device : goal.returns-in-Some-clause-device
 returns-in-Some-clause-device g c =
