@@ -223,7 +223,8 @@ abbrev pub writers_of : ℕ → List Writer → ℕ
 writers_of put [] = 0
 writers_of put (w ∷ ws) = (if w.put == put then 1 else 0) + writers_of put ws
 
--- what is kept agrees: at most 64 writers, one of each put that is open and none of another; each put counts its followers, and one that ended has some
+-- what is kept agrees: at most 64 writers are open, one of each put that is open and none of another; each put counts its
+-- followers, and one that ended has some
 pub record IsHeld (held : Held) : Type 0 where
   pub few : length held.writers ≤ 64
   pub writing : (put : ℕ) → writers_of put held.writers ≡ (if is_open put held.puts then 1 else 0)

@@ -14,7 +14,9 @@ pub record LockState : Type 0 where
   pub lock : TableId
   pub seats : ℕ
 
--- its lock, the chronicle from before the first turn, a beginning of the history that it has seen, its number and those joined into it with the places of their turns, what it has found in the words `count` and `floor`, and a floor that it has seen with the turns behind which that was published
+-- a pass: its lock, the chronicle from before the first turn, and the beginning of the history that it has seen; its number
+-- and those joined into it, with the places of their turns; what it found in the words `count` and `floor`, in order; and a
+-- floor that it has seen, with the turns behind which that was published
 pub record PassState (R : Type 0) : Type 0 where
   pub lock : TableId
   pub chronicle : List R

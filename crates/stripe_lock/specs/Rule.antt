@@ -58,7 +58,8 @@ module _ {R : Type 0} where
   abbrev pub NoneHolds : List (View R) → Type 0
   NoneHolds views = (j : ℕ) (v : View R) → get_elem? views j ≡ some v → v.stage ≢ holding
 
--- Where a lock stands: its history, the turns behind which the floor was published and that floor, how many tickets were drawn and how many were served, and which view has each number and each ticket. Numbers of tickets have no end
+-- Where a lock stands: its history; the turns behind which the floor was published, and that floor; how many tickets were
+-- drawn, and how many were served; which view has each number, and which each ticket. Numbers of tickets have no end.
 pub record LockCourse (R : Type 0) : Type 0 where
   pub log : List (StripeTurn R)
   pub told : List (StripeTurn R)

@@ -94,7 +94,8 @@ module _ {T R : Type 0} where
     lowered st m n m' = (told : List (StripeTurn R)) × (m' ≡ (with_look st.word n (with_sight (record m.0.sight { told = told; floor = n }) m.0), m.1))
         × (n ≡ k.floor_of m.0.sight.chronicle told) × IsPrefix m.0.sight.told told × IsPrefix (drop_last m.0.sight.seen) told × (m.0.sight.floor ≤ n)
 
-    -- the floor is seen, and what either of two joined passes had seen begins the longer of the two, which begins a history with just the turns that they know
+    -- the floor is seen behind a join: what either of the two passes had seen begins the longer of both, and that begins a
+    -- history which has just the turns that they know under their numbers
     abbrev pub settled : Step T → Holder T R → ℕ → Holder T R → Type 0
     settled st m n m' = let both = longer m.0.sight.seen m.0.other.seen in (told : List (StripeTurn R))
         × (m' ≡ (with_look st.word n (with_sight (record { chronicle = m.0.sight.chronicle; seen = both; told = told; floor = n }) m.0), m.1)) × (n ≡ k.floor_of m.0.sight.chronicle told)

@@ -8,7 +8,8 @@ use Rattle.stripe_lock.specs.Rule.{count_word, floor_word}
 use Rattle.stripe_lock.specs.Passes.{PassState}
 
 module _ {T R : Type 0} (k : Ghosts T R) where
-  -- The history goes on where it had been seen, with no turn under a number of the pass but those that it knew, and ends with the turn. That is legal, has as many turns as are told, and the pass knows it and its floor
+  -- The history goes on where the pass had seen it, and ends with the turn. Between the two no turn is under a number of the
+  -- pass. All of it is legal, and has as many turns as are told. The pass knows it and its floor.
   pub record Turned {A : Type 0} (job : ℕ) (fits : List R → List (StripeTurn R) → StripeTurn R → A → Type 0) (old new : PassState R) (answer : A) (count : ℕ) : Type 0 where
     pub lock : new.lock ≡ old.lock
     pub chronicle : new.chronicle ≡ old.chronicle
@@ -25,7 +26,8 @@ module _ {T R : Type 0} (k : Ghosts T R) where
     pub higher : IsPrefix old.told before × (old.floor ≤ new.floor)
     pub floor : new.floor ≡ k.floor_of new.chronicle new.told
 
-  -- The history goes on where it had been seen, with no turn under a number of the pass but those that it knew. The pass knows it and its floor
+  -- The history goes on where the pass had seen it, with no more turns under a number of the pass. The pass knows it and its
+  -- floor.
   pub record LookedIn (old new : PassState R) : Type 0 where
     pub lock : new.lock ≡ old.lock
     pub chronicle : new.chronicle ≡ old.chronicle
@@ -38,7 +40,8 @@ module _ {T R : Type 0} (k : Ghosts T R) where
     pub higher : IsPrefix old.told new.told × (old.floor ≤ new.floor)
     pub floor : new.floor ≡ k.floor_of new.chronicle new.told
 
-  -- the pass found the floor in its word, once. It did not fall, and was published behind all turns that had been told to the pass, and all that it has seen but perhaps the last; nothing else changes
+  -- The pass found the floor in its word, once. It is not below the one that the pass had seen. It was published behind all
+  -- turns that had been told to the pass, and all that it has seen but perhaps the last. Nothing else changes.
   pub record SeesFloor (old new : PassState R) (floor : ℕ) : Type 0 where
     pub same : new ≡ record old { looks = new.looks; told = new.told; floor = floor }
     pub looked : new.looks ≡ old.looks ++ record { word = floor_word; number = floor } ∷ []
@@ -47,7 +50,8 @@ module _ {T R : Type 0} (k : Ghosts T R) where
     pub fresh : IsPrefix (drop_last old.seen) new.told
     pub higher : old.floor ≤ floor
 
-  -- a pass has the numbers of both with all turns under them, and has seen what either had seen, and a floor that is not below those of either, which it found in its word
+  -- A pass has the numbers of both, with all turns under them, and has seen what either had seen. Its floor is not below that
+  -- of either, and it found it in its word.
   pub record Joins (old other new : PassState R) : Type 0 where
     pub same : new ≡ record old { seen = longer old.seen other.seen; owned = old.owned ++ other.owned; looks = new.looks; told = new.told; floor = new.floor }
     pub looked : new.looks ≡ old.looks ++ record { word = floor_word; number = new.floor } ∷ []
@@ -58,7 +62,8 @@ module _ {T R : Type 0} (k : Ghosts T R) where
     pub floor_is : new.floor ≡ k.floor_of new.chronicle new.told
     pub higher : (old.floor ≤ new.floor) × (other.floor ≤ new.floor)
 
-  -- a sound state, whose chronicle is the one that the pass knows, whose turns begin with what the pass has seen, and are just those that it knows, under its numbers, and whose floor is not below the one that it has seen
+  -- a sound state with the chronicle that the pass knows: its turns begin with what the pass has seen, and are just those that
+  -- the pass knows, all under its numbers; its floor is not below the one that the pass has seen
   pub record LockEnds (pass : PassState R) (x : T) : Type 0 where
     pub chronicle : k.chronicle x ≡ pass.chronicle
     pub seen : IsPrefix pass.seen (k.turns x)
@@ -68,7 +73,8 @@ module _ {T R : Type 0} (k : Ghosts T R) where
     pub higher : pass.floor ≤ k.floor_of (k.chronicle x) (k.turns x)
     pub sound : k.is_sound x
 
--- the pass found the count in its word, once. The history so far is seen, which is as long, with no turn under a number of the pass but those that it knew; nothing else changes
+-- The pass found the count in its word, once. It has seen the history so far, which is as long, with no more turns under a
+-- number of the pass. Nothing else changes.
 pub record SeesCount {R : Type 0} (old new : PassState R) (count : ℕ) : Type 0 where
   pub same : new ≡ record old { seen = new.seen; looks = new.looks }
   pub looked : new.looks ≡ old.looks ++ record { word = count_word; number = count } ∷ []
