@@ -216,6 +216,16 @@ is_asked_write area syncs_next at bytes older =
     || is_of_body area at (length bytes / 512)
     || (is_gate at && length bytes == 512 && (not (opens at bytes) || (syncs_next && has_body area at older)))
 
+-- a body was written in these calls, and no gate since
+abbrev pub has_body_since : (area : ℕ) → List Call → Bool
+has_body_since area [] = false
+has_body_since area (Wrote at bytes ∷ older) = is_of_body area at (length bytes / 512) || (not (is_gate at) && has_body_since area older)
+has_body_since area (call ∷ older) = has_body_since area older
+
+-- a refused write of a gate may leave it open: it is asked for before a body, which shuts the gate, or right behind one
+abbrev pub is_asked_refusal : (area at : ℕ) → List Call → Bool
+is_asked_refusal area at older = not (is_gate at) || not (has_body_since area older) || has_body area at older
+
 -- what calls do beside reading and writing, the oldest first: a sync of the device behind an opened gate ends a sync
 abbrev pub effects_synced : (area : ℕ) (syncs_next : Bool) → List Call → List Effect
 effects_synced area syncs_next [] = []
@@ -224,7 +234,9 @@ effects_synced area syncs_next (Wrote at bytes ∷ older) =
     effects_synced area false older ++ (if is_asked_write area syncs_next at bytes older then [] else Unasked ∷ [])
 effects_synced area syncs_next (Synced ∷ older) = effects_synced area true older ++ (if opens_gate older then Finished ∷ [] else [])
 effects_synced area syncs_next (RefusedCall ToSync count ∷ older) = effects_synced area true older ++ Denied count ∷ []
-effects_synced area syncs_next (RefusedCall asked count ∷ older) = effects_synced area false older ++ Denied count ∷ []
+effects_synced area syncs_next (RefusedCall (ToWrite at n left) count ∷ older) =
+    effects_synced area false older ++ Denied count ∷ (if is_asked_refusal area at older then [] else Unasked ∷ [])
+effects_synced area syncs_next (RefusedCall (ToRead at n) count ∷ older) = effects_synced area false older ++ Denied count ∷ []
 effects_synced area syncs_next (call ∷ older) = effects_synced area false older ++ Unasked ∷ []
 
 -- what records tell of these
@@ -274,12 +286,31 @@ pub record IsWriteOfRest (p : Permit) (s : State) (older : List Call) (at : ℕ)
   pub fresh : synced_end s ≤ s.cursor + standing p older s
   pub reach : place_now s ≤ reach_of s.geometry (synced_cursor s)
 
--- so it is some way into the records of the step, which tell the same ends of syncs and refusals as the calls before it
+-- none of these calls is a write or a sync of the device that was refused
+abbrev pub is_calm : List Call → Bool
+is_calm [] = true
+is_calm (RefusedCall (ToRead at n) count ∷ older) = is_calm older
+is_calm (RefusedCall asked count ∷ older) = false
+is_calm (call ∷ older) = is_calm older
+
+-- these records come before a write, and these calls: they tell the same ends of syncs and refusals, nothing but reads was
+-- refused, and no more buffers were written than have begun
+pub record AreBeforeWrite (p : Permit) (before : List Rec) (older : List Call) : Type 0 where
+  pub order : syncs_told before ≡ effects_synced p.area false older
+  pub calm : is_calm older ≡ true
+  pub turn : content_writes p.area older ≤ buffers_begun before
+
+-- the buffer was not written before in these calls of the step
+abbrev pub IsWrittenFirst : Permit → State → List Call → Type 0
+IsWrittenFirst p s older = last_written p.area (block_at p s s.cursor) s.geometry.agg older ≡ 0
+
+-- so it is some way into the records of the step
 pub record IsOfBuffer (p : Permit) (s : State) (added : List Rec) (older : List Call) (at : ℕ) (bytes : List ℕ) : Type 0 where
   pub before : List Rec
   pub behind : List Rec
   pub is : added ≡ before ++ behind
-  pub order : syncs_told before ≡ effects_synced p.area false older
+  pub follows : AreBeforeWrite p before older
+  pub first : IsWrittenFirst p (after_all s before) older
   pub write : IsWriteOfRest p (after_all s before) older at bytes
 
 -- so it is of each of these calls that wrote to the content area

@@ -1,6 +1,6 @@
 -- What an opening may take up: whatever pieces the bytes of a device give that pass its tests, also such as this program
 -- never wrote. Their places rise, and they may overlap; a vector may have any start and pin.
-use Rattle.std.specs.Prelude.{ℕ, ◌≡◌, ◌+◌, ◌-◌, ◌*◌, ◌<◌, ◌≤◌, Bool, true, false, List, [], ◌∷◌, length, map, max, slice_get, Option, Some, None, AllPairs}
+use Rattle.std.specs.Prelude.{ℕ, ◌≡◌, ◌+◌, ◌-◌, ◌*◌, ◌<◌, ◌≤◌, Bool, true, false, List, [], ◌∷◌, length, map, max, slice_get, Some, None, AllPairs}
 use Rattle.std.specs.List.{AllByRecursion}
 use Rattle.tape_base.specs.declared.geometries.Geometry.{Geometry}
 use Rattle.hex.specs.Hex.{IsBytes}

@@ -1,15 +1,15 @@
 -- Syncs within a step: which of them are due or asked for, the records that they add, and where a device stops them
 -- (directory syncs: Apache Traffic Server guide, Cache Architecture).
-use Rattle.std.specs.Prelude.{ℕ, ◌≡◌, ◌+◌, ◌<◌, ◌≤◌, Bool, true, false, ◌&&◌, ◌||◌, nat_le, nat_lt, if◌then◌else◌, List, [], ◌∷◌, ◌++◌, length, Option, Some, None, option_map, option_to_list, is_some, slice_get, unwrap_or}
+use Rattle.std.specs.Prelude.{ℕ, ◌≡◌, ◌+◌, ◌<◌, ◌≤◌, Bool, true, false, ◌&&◌, ◌||◌, nat_le, nat_lt, if◌then◌else◌, List, [], ◌∷◌, ◌++◌, Some, None, option_map, option_to_list, is_some, slice_get, unwrap_or}
 use Rattle.tape_base.specs.Geometry.{budget_of}
 use Rattle.tape_base.specs.Place.{reach_of}
 use Rattle.write_cursor.specs.Plan.{is_sync_due}
 use Rattle.cache_model.specs.declared.record.Rec.{Rec}
 use Rattle.cache_model.specs.declared.record.Rec.TheVariants as rec
 use Rattle.cache_model.specs.State.{State, Mark, after_all, cursor_next, synced_cursor}
-use Rattle.device_log.specs.Calls.{Synced}
-use Rattle.cache_model.specs.Permit.{Permit, IsAmong, Reason, Exhausted, Faulted, SyncRuns, NoSync, StillMoving, End, Stays, Done, Fails}
-use Rattle.cache_model.specs.Given.{CountsRest, CountsSync, TakesPart, TakesRest}
+use Rattle.device_log.specs.Calls.{Call, Synced}
+use Rattle.cache_model.specs.Permit.{Permit, Exhausted, Faulted, SyncRuns, NoSync, StillMoving, End, Stays, Done, Fails}
+use Rattle.cache_model.specs.Given.{AreUpTo, CountsRest, CountsSync, TakesPart, TakesRest, content_writes}
 use Rattle.cache_model.specs.Due.{due_pieces}
 use Rattle.cache_model.specs.Outcomes.{AreOutcomes, Outcome, flush_tail, front_of, stopped_front_of}
 use Rattle.cache_model.specs.Room.{limit, is_flush_exhausted}
@@ -108,9 +108,15 @@ pub record CanSync (p : Permit) (k : Syncing) (s : State) : Type 0 where
   pub may : MayTrySync p k s
   pub below : is_sync_exhausted k s ≡ false
 
--- the beginning of a sync in parts ends with a sync of the device, behind the gate that is shut
+-- a sync of the device stands behind all writes to the content area
+pub record IsContentSynced (p : Permit) : Type 0 where
+  pub older : List Call
+  pub synced : AreUpTo p (Synced ∷ older)
+  pub all : content_writes p.area older ≡ content_writes p.area p.events
+
+-- the beginning of a sync in parts ends with such a sync, behind the gate that is shut
 abbrev pub IsShutWhere : Permit → Syncing → Type 0
-IsShutWhere p k = is_in_parts k ≡ true → IsAmong Synced p.events
+IsShutWhere p k = is_in_parts k ≡ true → IsContentSynced p
 
 -- the device takes the buffer, the syncs behind it go through, and the next buffer begins
 pub record MaySyncBehind (p : Permit) (k : Syncing) (s : State) (added : List Rec) : Type 0 where
