@@ -195,7 +195,7 @@ goes_marks p k s added m none =
     (leave_marks (flush_tail s rows m.outcomes) (tail_leaves_syncs s rows m.outcomes))))
 
 -- a flush stops behind a sync that was needed, or behind none
-stops_by : {p : Permit} {k : Syncing} {s : State} {front : List Rec} {count : ℕ} {begun : List Rec} → StopsBehind p k s front count begun → (needs_whole k s ≡ true) ⊎ (begun ≡ [])
+pub stops_by : {p : Permit} {k : Syncing} {s : State} {front : List Rec} {count : ℕ} {begun : List Rec} → StopsBehind p k s front count begun → (needs_whole k s ≡ true) ⊎ (begun ≡ [])
 stops_by (Syncing.StopsBehind.buffer c) = inr refl
 stops_by (Syncing.StopsBehind.ended t n r c) = inr refl
 stops_by (Syncing.StopsBehind.whole t n c) = inl n
@@ -248,7 +248,7 @@ module _ (serial cursor : ℕ) (clean in_parts : Bool) where
   caused p s i added e (Grouped.Grouped.inserts unmarked h) among = absurd (among_holds IsOfInsert (rec.SyncBegun serial cursor clean in_parts) added h among)
   caused p s i added e (Grouped.Grouped.flushes off h) among = absurd (among_holds LeavesSyncs (rec.SyncBegun serial cursor clean in_parts) added h among)
   caused p s i added e (Grouped.Grouped.syncs f first some d) among = cause_by p s i added f (way_of i) refl first (asks_of p s i some) d among
-  caused p s i added e (Grouped.Grouped.ends on h) among = absurd (among_holds IsEnding (rec.SyncBegun serial cursor clean in_parts) added h among)
+  caused p s i added e (Grouped.Grouped.ends on h x) among = absurd (among_holds IsEnding (rec.SyncBegun serial cursor clean in_parts) added h among)
   caused p s i added e (Grouped.Grouped.cleans is d) among = AskLaws.HasCause.asked (ap asks_sync is)
   caused p s i added e (Grouped.Grouped.unmarks t u) among = AskLaws.HasCause.marked t (must_of u)
 

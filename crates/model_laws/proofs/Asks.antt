@@ -49,7 +49,7 @@ group_silent {added = added} off (Grouped.Grouped.plain h) = all_as IsPlain (λ 
 group_silent {added = added} off (Grouped.Grouped.inserts unmarked h) = all_as IsOfInsert (λ r. is_of_sync r ≡ false) (λ r x. leaves_silent r (insert_leaves r x)) added h
 group_silent {added = added} off (Grouped.Grouped.flushes none h) = all_as LeavesSyncs (λ r. is_of_sync r ≡ false) leaves_silent added h
 group_silent off (Grouped.Grouped.syncs f first some d) = never off (sync_on d)
-group_silent off (Grouped.Grouped.ends on h) = never off on
+group_silent off (Grouped.Grouped.ends on h x) = never off on
 group_silent off (Grouped.Grouped.cleans is d) = never off (clean_on d)
 group_silent off (Grouped.Grouped.unmarks t u) = never off (unmark_on u)
 
@@ -99,7 +99,7 @@ group_unplaced p s i added e on must none (Grouped.Grouped.plain h) = all_as IsP
 group_unplaced p s i added e on must none (Grouped.Grouped.inserts unmarked h) = no_truth (sym must ∙ unmarked)
 group_unplaced p s i added e on must none (Grouped.Grouped.flushes off h) = never off on
 group_unplaced p s i added e on must none (Grouped.Grouped.syncs f first some d) = split_unplaced none (sync_splits p (way_of i) s added f d)
-group_unplaced p s i added e on must none (Grouped.Grouped.ends o h) = all_as IsEnding (λ r. is_placement r ≡ false) ending_unplaced added h
+group_unplaced p s i added e on must none (Grouped.Grouped.ends o h x) = all_as IsEnding (λ r. is_placement r ≡ false) ending_unplaced added h
 group_unplaced p s i added e on must none (Grouped.Grouped.cleans is d) = aside_unplaced added (clean_aside p s added e d)
 group_unplaced p s i added e on must none (Grouped.Grouped.unmarks t u) = aside_unplaced added (unmark_aside p s added e u)
 
@@ -161,7 +161,7 @@ begins_behind p s i added e cursor floor on (Grouped.Grouped.syncs f first some 
   | inl m ↦ m
   | inr beside ↦ absurd (among_holds IsAside (rec.Began cursor floor) added beside among).0
 ]
-begins_behind p s i added e cursor floor on (Grouped.Grouped.ends o h) among = absurd (among_holds IsEnding (rec.Began cursor floor) added h among)
+begins_behind p s i added e cursor floor on (Grouped.Grouped.ends o h x) among = absurd (among_holds IsEnding (rec.Began cursor floor) added h among)
 begins_behind p s i added e cursor floor on (Grouped.Grouped.cleans is d) among = absurd (among_holds IsAside (rec.Began cursor floor) added (clean_aside p s added e d) among).0
 begins_behind p s i added e cursor floor on (Grouped.Grouped.unmarks t u) among = absurd (among_holds IsAside (rec.Began cursor floor) added (unmark_aside p s added e u) among).0
 

@@ -31,6 +31,7 @@ use Rattle.model_laws.proofs.AgreeingFlush.{flushes_agree}
 use Rattle.model_laws.proofs.ToldFlush.{as_shown}
 use Rattle.model_laws.proofs.Unsynced.{clean_on, drain_on, never, step_on, sync_on, unmark_on}
 use Rattle.cache_model.proofs.Found.{no_truth, number_of, same_some}
+use Rattle.cache_model.proofs.Steps.{all_parts}
 
 abbrev Same : List Rec → List Rec → End → End → Type 0
 Same a b e f = (a ≡ b) × (e ≡ f)
@@ -121,22 +122,40 @@ same_write (Legal.DoesWrite.exhausted quiet few high none) (Legal.DoesWrite.open
 same_write (Legal.DoesWrite.exhausted quiet few high none) (Legal.DoesWrite.many quiet2 many none2) = absurd (omega (arith, few, many))
 same_write (Legal.DoesWrite.exhausted quiet few high none) (Legal.DoesWrite.exhausted quiet2 few2 high2 none2) = (none ∙ sym none2, refl)
 
+-- nothing is displaced where the directory does not
 pub none_displaced : {p : Permit} {s : State} {piece : PieceId} {added : List Rec} → p.packed ≡ false → MayDisplace p s piece added → added ≡ []
 none_displaced {p} {s} {piece} loose m =
     m.is ∙ ap (λ rows. map (displaced_record (segment_of_piece s piece) (length (rows_of_segment s (segment_of_piece s piece)))) rows)
     (m.free (subst (λ t. (t && is_full_for s piece) ≡ false) (sym loose) refl))
 
+-- nor where no displacement is told
+calm_purge : (segment live : ℕ) (purged : List Row) → IsUntroubled (map (displaced_record segment live) purged) → purged ≡ []
+calm_purge segment live [] calm = refl
+calm_purge segment live (row ∷ purged) calm = no_truth calm.0
+
+calm_displaced : {p : Permit} {s : State} {piece : PieceId} {added : List Rec} (rest : List Rec) → IsUntroubled (added ++ rest) → MayDisplace p s piece added → added ≡ []
+calm_displaced {p} {s} {piece} {added} rest calm m =
+    let segment : ℕ = segment_of_piece s piece in
+    let live : ℕ = length (rows_of_segment s segment) in
+    let quiet : IsUntroubled added = (all_parts (λ r. is_trouble r ≡ false) added rest calm).0 in
+    m.is ∙ ap (map (displaced_record segment live)) (calm_purge segment live m.purged (subst IsUntroubled m.is quiet))
+
 fragment_records : State → ℕ → ℕ → List ℕ → PutRow → List Rec → List Rec
 fragment_records s put index payload w displaced =
     rec.Cut put index (length payload) (digest_of payload) ∷ (displaced ++ placed_record s (next_fragment_of w) w.pin (total_length w.cuts) (length payload) payload ∷ [])
 
-placed_alike : {p q : Permit} {s : State} {put index : ℕ} {payload : List ℕ} {a b : List Rec} → AreLike p q
-    → MayPlaceFragment p s put index payload a → MayPlaceFragment q s put index payload b → a ≡ b
+-- what is placed without a displacement is placed alone
+placed_alone : {p : Permit} {s : State} {put index : ℕ} {payload : List ℕ} {a : List Rec} → IsUntroubled a → (m : MayPlaceFragment p s put index payload a)
+    → a ≡ fragment_records s put index payload m.w []
 unfolding fragment_records
-placed_alike {s = s} {put = put} {index = index} {payload = payload} like m n =
-    m.is ∙ ap (fragment_records s put index payload m.w) (none_displaced like.one m.displaces)
-    ∙ ap (λ w. fragment_records s put index payload w []) (same_some m.w n.w _ m.cut.writing.found n.cut.writing.found)
-    ∙ sym (ap (fragment_records s put index payload n.w) (none_displaced like.other n.displaces)) ∙ sym n.is
+placed_alone {s = s} {put = put} {index = index} {payload = payload} calm m =
+    let behind = subst IsUntroubled m.is calm in
+    m.is ∙ ap (fragment_records s put index payload m.w) (calm_displaced _ behind.1 m.displaces)
+
+placed_alike : {p q : Permit} {s : State} {put index : ℕ} {payload : List ℕ} {a b : List Rec} → IsUntroubled a → IsUntroubled b
+    → MayPlaceFragment p s put index payload a → MayPlaceFragment q s put index payload b → a ≡ b
+placed_alike {s = s} {put = put} {index = index} {payload = payload} calm calm2 m n =
+    placed_alone calm m ∙ ap (λ w. fragment_records s put index payload w []) (same_some m.w n.w _ m.cut.writing.found n.cut.writing.found) ∙ sym (placed_alone calm2 n)
 
 -- a flush is tried where there is no room
 is_full : {p : Permit} {s : State} {bytes : ℕ} {added : List Rec} {e : End} → MakesRoom p s bytes added e → has_room s bytes ≡ false
@@ -158,7 +177,7 @@ same_fragment : {p q : Permit} {s : State} {put index : ℕ} {payload : List ℕ
     → DoesFragment p s put index payload a e → DoesFragment q s put index payload b f → Agree (CopiesFor p q s (length payload)) a b e f
 same_fragment like calm calm2 (Legal.DoesFragment.unmarks w cut place u) h = never like.unsynced (unmark_on u)
 same_fragment like calm calm2 h (Legal.DoesFragment.unmarks w cut place u) = never like.other_unsynced (unmark_on u)
-same_fragment like calm calm2 (Legal.DoesFragment.places is m) (Legal.DoesFragment.places is2 n) = inl (placed_alike like m n, is ∙ sym is2)
+same_fragment like calm calm2 (Legal.DoesFragment.places is m) (Legal.DoesFragment.places is2 n) = inl (placed_alike calm calm2 m n, is ∙ sym is2)
 same_fragment like calm calm2 (Legal.DoesFragment.places is m) (Legal.DoesFragment.rooms w cut room) = absurd (no_room m.place.room room)
 same_fragment like calm calm2 (Legal.DoesFragment.places is m) (Legal.DoesFragment.exhausted w is2 cut none) = absurd (no_place m.place none)
 same_fragment like calm calm2 (Legal.DoesFragment.rooms w cut room) (Legal.DoesFragment.places is m) = absurd (no_room m.place.room room)
@@ -199,11 +218,14 @@ same_weigh {put = put} {rest = rest} calm calm2 (Legal.DoesWeigh.too_large w m r
 vector_records : State → ℕ → PutRow → List Rec → List Rec
 vector_records s put w displaced = displaced ++ placed_record s (vector_piece w.key put) (greatest_pin (list_of_put s put)) 0 (vector_length s put) (vector_payload s put) ∷ []
 
-vectors_alike : {p q : Permit} {s : State} {put fragments : ℕ} {a b : List Rec} → AreLike p q → MayPlaceVector p s put fragments a → MayPlaceVector q s put fragments b → a ≡ b
+vector_alone : {p : Permit} {s : State} {put fragments : ℕ} {a : List Rec} → IsUntroubled a → (m : MayPlaceVector p s put fragments a) → a ≡ vector_records s put m.w []
 unfolding vector_records
-vectors_alike {s = s} {put = put} like m n =
-    m.is ∙ ap (vector_records s put m.w) (none_displaced like.one m.displaces) ∙ ap (λ w. vector_records s put w []) (same_row m.cut.writing n.cut.writing)
-    ∙ sym (ap (vector_records s put n.w) (none_displaced like.other n.displaces)) ∙ sym n.is
+vector_alone {s = s} {put = put} calm m = m.is ∙ ap (vector_records s put m.w) (calm_displaced _ (subst IsUntroubled m.is calm) m.displaces)
+
+vectors_alike : {p q : Permit} {s : State} {put fragments : ℕ} {a b : List Rec} → IsUntroubled a → IsUntroubled b
+    → MayPlaceVector p s put fragments a → MayPlaceVector q s put fragments b → a ≡ b
+vectors_alike {s = s} {put = put} calm calm2 m n =
+    vector_alone calm m ∙ ap (λ w. vector_records s put w []) (same_row m.cut.writing n.cut.writing) ∙ sym (vector_alone calm2 n)
 
 -- a fragment is live or lost
 not_lost : (s : State) (w v : PutRow) (put index : ℕ) → w ≡ v → w.put ≡ put → IsFragmentLive s w index → live_row_of s (fragment_piece v.key put index) ≡ None → ⊥
@@ -225,7 +247,7 @@ same_finish : {p q : Permit} {s : State} {put fragments : ℕ} {a b : List Rec} 
     → DoesFinish p s put fragments a e → DoesFinish q s put fragments b f → Agree (CopiesFor p q s (vector_length s put)) a b e f
 same_finish like calm calm2 (Legal.DoesFinish.unmarks w cut live place u) h = never like.unsynced (unmark_on u)
 same_finish like calm calm2 h (Legal.DoesFinish.unmarks w cut live place u) = never like.other_unsynced (unmark_on u)
-same_finish like calm calm2 (Legal.DoesFinish.places is m) (Legal.DoesFinish.places is2 n) = inl (vectors_alike like m n, is ∙ sym is2)
+same_finish like calm calm2 (Legal.DoesFinish.places is m) (Legal.DoesFinish.places is2 n) = inl (vectors_alike calm calm2 m n, is ∙ sym is2)
 same_finish like calm calm2 (Legal.DoesFinish.places is m) (Legal.DoesFinish.rooms w cut room) = absurd (no_room m.place.room room)
 same_finish like calm calm2 (Legal.DoesFinish.places is m) (Legal.DoesFinish.loses w index is2 n gone) = absurd (whole_or_lost m.cut.writing m.whole n)
 same_finish like calm calm2 (Legal.DoesFinish.places is m) (Legal.DoesFinish.exhausted w is2 cut whole none) = absurd (no_place m.place none)

@@ -188,7 +188,7 @@ no_other_copy p s left still shown =
 calm_is_fixed : (p : Permit) (s : State) (i : Intent) (one other : List Rec) (e f : End) → reads_on i ≡ false → IsSound s → p.syncs ≡ false → IsFaithful p s
     → Does p s i one e → Does p s i other f → (one ≡ other) × (e ≡ f)
 calm_is_fixed p s i one other e f reads sound off still h k =
-    elim (groups_agree p p s i one other e f (record { one = still.displaces_nothing; other = still.displaces_nothing; unsynced = off; other_unsynced = off; moment = refl })
+    elim (groups_agree p p s i one other e f (record { unsynced = off; other_unsynced = off; moment = refl })
     (group_untroubled p s i one e reads sound off still h) (group_untroubled p s i other f reads sound off still k) h k) [
       | inl same ↦ same
       | inr shown ↦ absurd (no_other_copy p s (budget_of s.geometry) still shown.copy)

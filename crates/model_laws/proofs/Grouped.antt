@@ -1,5 +1,5 @@
 -- What a group of records does of syncs, by what is asked: nothing, or one of the ways in which a stripe syncs.
-use Rattle.std.proofs.Common.{◌≡◌, ◌<◌, List, [], ◌∷◌, refl, sym, ap, subst, true, false, Bool}
+use Rattle.std.proofs.Common.{◌≡◌, ◌<◌, ◌⊎◌, List, [], ◌∷◌, refl, sym, ap, subst, inl, inr, true, false, Bool}
 use Rattle.std.specs.Prelude.{ℕ, Option, Some, None, map, not, length, option_map, option_to_list}
 use Rattle.std.specs.List.{AllByRecursion}
 use Rattle.tape_base.specs.declared.keys.Key.{Key}
@@ -58,13 +58,17 @@ IsEnding _ = ⊥
 abbrev pub AreEnding : List Rec → Type 0
 AreEnding recs = AllByRecursion IsEnding recs
 
+-- what is asked ends a sync in parts: it drains, or writes the last part
+abbrev pub EndsParts : Intent → Type 0
+EndsParts i = (i ≡ Drain) ⊎ (i ≡ SyncStep true)
+
 -- what a group does of syncs
 pub data Grouped (p : Permit) (s : State) (i : Intent) (added : List Rec) (e : End) : Type 0 where
   plain : ArePlain added → Grouped p s i added e
   inserts : must_unmark p s ≡ false → AreOfInsert added → Grouped p s i added e
   flushes : p.syncs ≡ false → AllLeaveSyncs added → Grouped p s i added e
   syncs : (f : End) → flushes_first s i ≡ true → (i ≡ Drain → 0 < s.filled) → DoesSync p (way_of i) s added f → Grouped p s i added e
-  ends : p.syncs ≡ true → AreEnding added → Grouped p s i added e
+  ends : p.syncs ≡ true → AreEnding added → AllLeaveSyncs added ⊎ EndsParts i → Grouped p s i added e
   cleans : i ≡ CleanSync → DoesCleanSync p s added e → Grouped p s i added e
   unmarks : places i ≡ true → Unmarks p s added e → Grouped p s i added e
 
@@ -157,19 +161,20 @@ done_ends (Some serial) = (tt, tt)
 pub ended_ends : (s : State) → AreEnding (ended_records s)
 ended_ends s = done_ends s.running
 
-as_ending : {p : Permit} {s : State} {i : Intent} {e : End} (added other : List Rec) → p.syncs ≡ true → added ≡ other → AreEnding other → Grouped p s i added e
-as_ending added other on is h = ends on (subst AreEnding (sym is) h)
+as_ending : {p : Permit} {s : State} {i : Intent} {e : End} (added other : List Rec) → p.syncs ≡ true → added ≡ other → AreEnding other → AllLeaveSyncs other ⊎ EndsParts i
+    → Grouped p s i added e
+as_ending {i = i} added other on is h why = ends on (subst AreEnding (sym is) h) (subst (λ recs. AllLeaveSyncs recs ⊎ EndsParts i) (sym is) why)
 
-step : {p : Permit} {s : State} {last : Bool} {i : Intent} {e : End} (added : List Rec) → DoesSyncStep p s last added e → Grouped p s i added e
-step added (Syncing.DoesSyncStep.none on quiet none is) = as_ending added [] on is tt
-step added (Syncing.DoesSyncStep.part on quiet runs front takes is) = as_ending added [] on is tt
-step {s = s} added (Syncing.DoesSyncStep.ends on quiet runs end is) = as_ending added (ended_records s) on is (ended_ends s)
-step added (Syncing.DoesSyncStep.stays count on quiet c) = as_ending added _ on c.is (tt, tt)
+step : {p : Permit} {s : State} {last : Bool} {e : End} (added : List Rec) → DoesSyncStep p s last added e → Grouped p s (SyncStep last) added e
+step added (Syncing.DoesSyncStep.none on quiet none is) = as_ending added [] on is tt (inl tt)
+step added (Syncing.DoesSyncStep.part on quiet runs front takes is) = as_ending added [] on is tt (inl tt)
+step {s = s} added (Syncing.DoesSyncStep.ends on quiet runs end is) = as_ending added (ended_records s) on is (ended_ends s) (inr (inr (ap (λ b. SyncStep b) end)))
+step added (Syncing.DoesSyncStep.stays count on quiet c) = as_ending added _ on c.is (tt, tt) (inl (tt, tt))
 
 drain : {p : Permit} {s : State} {e : End} (added : List Rec) → Legal.DoesDrain p s added e → Grouped p s Drain added e
-drain added (Legal.DoesDrain.still_open on quiet some is) = as_ending added [] on is tt
-drain {s = s} added (Legal.DoesDrain.empty on quiet none filled is) = as_ending added (ended_records s) on is (ended_ends s)
-drain added (Legal.DoesDrain.stays count on quiet none filled c) = as_ending added _ on c.is (tt, tt)
+drain added (Legal.DoesDrain.still_open on quiet some is) = as_ending added [] on is tt (inl tt)
+drain {s = s} added (Legal.DoesDrain.empty on quiet none filled is) = as_ending added (ended_records s) on is (ended_ends s) (inr (inl refl))
+drain added (Legal.DoesDrain.stays count on quiet none filled c) = as_ending added _ on c.is (tt, tt) (inl (tt, tt))
 drain {e = e} added (Legal.DoesDrain.syncs none some d) = syncs e refl (λ h. some) d
 
 -- ---- each group

@@ -14,6 +14,7 @@ pub mod Listed
 mod Asks
 pub mod Marks
 mod AskSyncs
+mod EndSyncs
 mod Made
 mod Serials
 mod MarkedEmpty
@@ -21,6 +22,7 @@ mod Determined
 pub mod Buckets
 mod Purged
 pub mod Fitting
+mod Tenths
 pub mod FewerRows
 pub mod Fits
 mod Possible
@@ -37,6 +39,7 @@ mod AgreeingFlush
 mod FixedFlush
 mod Faithful
 mod AgreeingSteps
+pub mod Undisplaced
 pub mod TriedFlush
 pub mod ToldFlush
 mod WorkedFlush

@@ -112,7 +112,7 @@ group_empty p s i added e on empty (Grouped.Grouped.inserts unmarked h) =
 group_empty p s i added e on empty (Grouped.Grouped.flushes off h) = never off on
 group_empty p s i added e on empty (Grouped.Grouped.syncs f first some d) =
     split_empty p (way_of i) s added (once_unmarked _ added (does_once p (way_of i) s added f d)) empty (sync_splits p (way_of i) s added f d)
-group_empty p s i added e on empty (Grouped.Grouped.ends o h) =
+group_empty p s i added e on empty (Grouped.Grouped.ends o h x) =
     empty_by s added s.marked refl (quiet_unmarked added (ends_marks added h)) (all_leave added (all_as IsEnding LeavesTape ending_begins added h)) empty
 group_empty p s i added e on empty (Grouped.Grouped.cleans is d) = clean_empty p s added e empty d
 group_empty p s i added e on empty (Grouped.Grouped.unmarks t u) =

@@ -140,7 +140,7 @@ group_once p s i added e (Grouped.Grouped.plain h) = inl (none (leave_marks adde
 group_once p s i added e (Grouped.Grouped.inserts unmarked h) = inl (none (leave_marks added (all_as IsOfInsert LeavesSyncs insert_leaves added h)))
 group_once p s i added e (Grouped.Grouped.flushes off h) = inl (none (leave_marks added h))
 group_once p s i added e (Grouped.Grouped.syncs f first some d) = inl (does_once p (way_of i) s added f d)
-group_once p s i added e (Grouped.Grouped.ends on h) = inl (none (ends_marks added h))
+group_once p s i added e (Grouped.Grouped.ends on h x) = inl (none (ends_marks added h))
 group_once p s i added e (Grouped.Grouped.cleans is d) = inr (is, clean_once p s added e d)
 group_once p s i added e (Grouped.Grouped.unmarks t u) = inl (unmark_once p s added e u)
 

@@ -20,7 +20,7 @@ use Rattle.cache_model.specs.State.{State, PutRow, after_all, nothing_yet}
 use Rattle.cache_model.specs.Permit.{Permit, Setting, Faulted, Flush, Sync, SyncBegin, SyncStep, CleanSync, Write, Fragment, Stays, Done, Fails}
 use Rattle.cache_model.specs.Room.{doc_at, placed_record}
 use Rattle.cache_model.specs.Given
-use Rattle.cache_model.specs.Given.{IsOfBuffer, IsRestOf, TakesRest, standing}
+use Rattle.cache_model.specs.Given.{AreBeforeWrite, IsOfBuffer, IsRestOf, TakesRest, standing}
 use Rattle.cache_model.specs.Syncing
 use Rattle.cache_model.specs.Legal
 use Rattle.cache_model.specs.Legal.{Course, Does, IsLegal, IsStep, IsWriting, format_records, next_fragment_of}
@@ -65,6 +65,10 @@ to_a image = Synced ∷ opens_up 1 ∷ Synced ∷ Wrote 3 image ∷ Synced ∷ s
 below : {p : Permit} {s : State} {added : List Rec} {older : List Call} {at : ℕ} {bytes : List ℕ} → nat_le p.area at ≡ false → p.area ≤ at → IsOfBuffer p s added older at bytes
 below {p = p} {at = at} under high = no_truth (sym (le-leb p.area at high) ∙ under)
 
+-- a write before which the step did nothing
+nothing_before : {p : Permit} → AreBeforeWrite p [] []
+nothing_before = record { order = refl; calm = refl; turn = lit≤ tt }
+
 -- eight blocks of a buffer, of which no piece is known
 eight : (p : Permit) (s : State) (at : ℕ) (bytes : List ℕ) → length bytes ≡ 4096 → s.filled ≡ 8 → s.rows ≡ [] → at ≡ Given.block_at p s s.cursor + 0 → IsRestOf p s 0 at bytes
 eight p s at bytes whole filled none there = record {
@@ -105,7 +109,7 @@ a_flush_syncs_where_due image bytes size whole = record {
   synced = (λ on. record {
     effects = rw size refl;
     copies = (λ h. refl);
-    content = (below refl, (below refl, ((λ high. record { before = []; behind = synced_flush; is = refl; order = refl; write = record { rest = eight (takes_due image bytes) due 27 bytes whole refl refl refl; fresh = lit≤ tt; reach = lit≤ tt } }), tt)));
+    content = (below refl, (below refl, ((λ high. record { before = []; behind = synced_flush; is = refl; follows = nothing_before; first = refl; write = record { rest = eight (takes_due image bytes) due 27 bytes whole refl refl refl; fresh = lit≤ tt; reach = lit≤ tt } }), tt)));
     writes = lit≤ tt;
   });
 }
@@ -152,7 +156,7 @@ begins bytes whole = Syncing.DoesSync.goes (record {
   can = record { may = record { syncs = refl; quiet = refl; free = (λ parts. refl); some = (λ h. lit< tt) }; below = refl };
   filled = lit< tt;
   takes = Given.TakesRest.takes (record { older = []; at = 169; bytes = bytes; written = record { later = Synced ∷ []; is = refl }; rest = eight (takes_full bytes) full 169 bytes whole refl refl refl });
-  shut = (λ parts. inl refl);
+  shut = (λ parts. record { older = Wrote 169 bytes ∷ []; synced = record { later = []; is = refl }; all = refl });
   are = tt;
   is = refl;
 })
@@ -166,7 +170,7 @@ a_sync_begins_in_parts bytes whole = record {
   synced = (λ on. record {
     effects = refl;
     copies = (λ h. refl);
-    content = ((λ high. record { before = []; behind = begun; is = refl; order = refl; write = record { rest = eight (takes_full bytes) full 169 bytes whole refl refl refl; fresh = lit≤ tt; reach = lit≤ tt } }), tt);
+    content = ((λ high. record { before = []; behind = begun; is = refl; follows = nothing_before; first = refl; write = record { rest = eight (takes_full bytes) full 169 bytes whole refl refl refl; fresh = lit≤ tt; reach = lit≤ tt } }), tt);
     writes = lit≤ tt;
   });
 }
@@ -243,7 +247,7 @@ a_flush_ends_the_parts_first first image bytes before size whole = record {
     copies = (λ h. refl);
     content = (
       below refl,
-      (below refl, (below refl, ((λ high. record { before = rec.SyncDone 2 ∷ []; behind = _; is = refl; order = rw before refl; write = record { rest = eight (takes_far first image bytes) _ 35 bytes whole refl refl refl; fresh = lit≤ tt; reach = lit≤ tt } }), (below refl, (below refl, tt))))),
+      (below refl, (below refl, ((λ high. record { before = rec.SyncDone 2 ∷ []; behind = _; is = refl; follows = record { order = rw before refl; calm = refl; turn = lit≤ tt }; first = refl; write = record { rest = eight (takes_far first image bytes) _ 35 bytes whole refl refl refl; fresh = lit≤ tt; reach = lit≤ tt } }), (below refl, (below refl, tt))))),
     );
     writes = lit≤ tt;
   });
@@ -408,7 +412,7 @@ a_stopped_sync_is_a_step one block = record {
   synced = (λ on. record {
     effects = refl;
     copies = (λ h. no_truth (sym h));
-    content = ((λ high. record { before = []; behind = stopped; is = refl; order = refl; write = record { rest = takes_one (stopping one) one refl block; fresh = lit≤ tt; reach = lit≤ tt } }), tt);
+    content = ((λ high. record { before = []; behind = stopped; is = refl; follows = nothing_before; first = refl; write = record { rest = takes_one (stopping one) one refl block; fresh = lit≤ tt; reach = lit≤ tt } }), tt);
     writes = lit≤ tt;
   });
 }
@@ -480,7 +484,7 @@ what_is_not_durable_is_written one image two first size second = record {
   synced = (λ on. record {
     effects = rw size refl;
     copies = (λ h. refl);
-    content = (below refl, (below refl, ((λ high. record { before = []; behind = synced_again; is = refl; order = refl; write = record { rest = takes_rest one image two first second; fresh = omega arith; reach = lit≤ tt } }), tt)));
+    content = (below refl, (below refl, ((λ high. record { before = []; behind = synced_again; is = refl; follows = nothing_before; first = refl; write = record { rest = takes_rest one image two first second; fresh = omega arith; reach = lit≤ tt } }), tt)));
     writes = lit≤ tt;
   });
 }

@@ -14,21 +14,19 @@ use Rattle.cache_model.specs.Given.{IsGiven}
 use Rattle.cache_model.specs.ToRead.{IsCopied, flushes_first}
 use Rattle.cache_model.specs.Legal.{CanFlush, Does, IsStep, MayGrow}
 
--- the record of a call that the device refused, or of bytes that are not those of a digest
+-- the record of a call that the device refused, of bytes that are not those of a digest, or of a piece that was displaced
 abbrev pub is_trouble : Rec → Bool
 is_trouble (rec.Fault count) = true
 is_trouble (rec.Damaged piece place kept found) = true
+is_trouble (rec.Displaced piece segment live) = true
 is_trouble _ = false
 
 -- none of these records does
 abbrev pub IsUntroubled : List Rec → Type 0
 IsUntroubled added = AllByRecursion (λ (r : Rec). is_trouble r ≡ false) added
 
--- both directories displace nothing, neither stripe syncs, and pins are weighed by one moment; of their areas and calls
--- nothing is said
+-- neither stripe syncs, and pins are weighed by one moment; of their directories, areas and calls nothing is said
 pub record AreLike (p q : Permit) : Type 0 where
-  pub one : p.packed ≡ false
-  pub other : q.packed ≡ false
   pub unsynced : p.syncs ≡ false
   pub other_unsynced : q.syncs ≡ false
   pub moment : p.now ≡ q.now

@@ -5,8 +5,8 @@ use Rattle.std.specs.List.{AllByRecursion}
 use Rattle.cache_model.specs.declared.record.Rec.{Rec}
 use Rattle.cache_model.specs.declared.record.Rec.TheVariants as rec
 use Rattle.cache_model.specs.State.{State, Mark, after_all, cursor_next, floor_next, nothing_yet}
-use Rattle.cache_model.specs.Permit.{Permit, Setting, IsAmong, Intent, Flush, Sync, SyncBegin, Drain, CleanSync, Fragment, Finish, Reason, End, Stays, Done, Fails}
-use Rattle.cache_model.specs.Syncing.{Syncing, AtOnce, InParts, WhereDue, at_first, ends_first, is_in_parts, must_unmark, needs_sync, needs_whole, next_serial}
+use Rattle.cache_model.specs.Permit.{Permit, Setting, IsAmong, Intent, Flush, Sync, SyncBegin, SyncStep, Drain, CleanSync, Fragment, Finish, Reason, End, Stays, Done, Fails}
+use Rattle.cache_model.specs.Syncing.{Syncing, AtOnce, InParts, WhereDue, at_first, ends_first, is_due_now, is_in_parts, is_out_of_reach, must_unmark, needs_sync, needs_whole, next_serial}
 use Rattle.cache_model.specs.Outcomes.{began_record}
 use Rattle.cache_model.specs.ToRead.{flushes_first}
 use Rattle.cache_model.specs.Legal.{Course, Does, IsLegal, IsStep}
@@ -187,6 +187,24 @@ pub data HasCause (p : Permit) (s : State) (i : Intent) : Type 0 where
 abbrev pub SyncIsDueOrAsked : Type 0
 SyncIsDueOrAsked = (p : Permit) (s : State) (i : Intent) (added : List Rec) (e : End) (serial cursor : ℕ) (clean in_parts : Bool)
     → Does p s i added e → IsAmong (rec.SyncBegun serial cursor clean in_parts) added → HasCause p s i
+
+-- ---- why a sync ends
+
+-- one is asked for, or the last part of one; the stripe is drained, also of nothing; a clean mark is taken back before a piece
+-- is placed; or what is asked begins with a flush of a buffer that is not empty, and a sync is due behind that, or the buffer
+-- ends out of reach
+pub data HasEndCause (p : Permit) (s : State) (i : Intent) : Type 0 where
+  asked : asks_sync i ≡ true → HasEndCause p s i
+  last_part : i ≡ SyncStep true → HasEndCause p s i
+  drained : i ≡ Drain → HasEndCause p s i
+  marked : places i ≡ true → must_unmark p s ≡ true → HasEndCause p s i
+  due : way_of i ≡ WhereDue → flushes_first s i ≡ true → 0 < s.filled → is_due_now s ≡ true → HasEndCause p s i
+  out_of_reach : way_of i ≡ WhereDue → flushes_first s i ≡ true → 0 < s.filled → is_out_of_reach s ≡ true → HasEndCause p s i
+
+-- no sync ends without such a cause, be it one in parts or one that begins in the same group
+abbrev pub SyncEndsWhereDue : Type 0
+SyncEndsWhereDue = (p : Permit) (s : State) (i : Intent) (added : List Rec) (e : End) (serial : ℕ)
+    → Does p s i added e → IsAmong (rec.SyncDone serial) added → HasEndCause p s i
 
 -- ---- serials
 

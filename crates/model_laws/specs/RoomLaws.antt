@@ -1,12 +1,13 @@
 -- What an entry displaces, and that each segment has room for what is live of it.
-use Rattle.std.specs.Prelude.{ℕ, ◌≡◌, ◌⊎◌, true, false, List, [], ◌∷◌, ◌++◌, Option, Some}
+use Rattle.std.specs.Prelude.{ℕ, ◌≡◌, ◌≢◌, ◌⊎◌, ◌+◌, ◌*◌, ◌/◌, Bool, true, false, List, [], ◌∷◌, ◌++◌, length, Option, Some, AllPairs, Contains}
+use Rattle.std.specs.List.{AllByRecursion}
 use Rattle.tape_base.specs.declared.pieces.PieceId.{PieceId}
 use Rattle.tape_base.specs.declared.digests.Digest.{Digest}
 use Rattle.cache_model.specs.declared.record.Rec.{Rec}
 use Rattle.cache_model.specs.declared.record.Rec.TheVariants as rec
 use Rattle.cache_model.specs.State.{State, Row, after_all, live_row_of, nothing_yet, without}
 use Rattle.cache_model.specs.Permit.{Setting, Permit, Intent, Reason, End}
-use Rattle.cache_model.specs.Room.{MayDisplace, bucket_of_piece, is_full_for, is_full_with, rows_of_segment, segment_of_piece}
+use Rattle.cache_model.specs.Room.{MayDisplace, bucket_of_piece, displaced_record, displaces, is_full_for, is_full_with, rows_of_segment, segment_of_piece}
 use Rattle.cache_model.specs.Openings.{FitsSegment}
 use Rattle.cache_model.specs.Tape.{AreApart, IsSound}
 use Rattle.cache_model.specs.Legal.{Course, Does, IsLegal, IsStep, MayFlush}
@@ -20,6 +21,42 @@ AllFit s = (segment : ℕ) → FitsSegment s segment
 abbrev pub SlotIsMade : Type 0
 SlotIsMade = (p : Permit) (s : State) (piece : PieceId) (added : List Rec) → p.packed ≡ true → MayDisplace p s piece added
     → is_full_for (after_all s added) piece ≡ false
+
+-- the record tells that a live piece of the segment was displaced, and how many were live there before
+abbrev pub TellsDisplaced : State → ℕ → Rec → Type 0
+TellsDisplaced s segment r =
+    (row : Row) × Contains (rows_of_segment s segment) row × (r ≡ displaced_record segment (length (rows_of_segment s segment)) row)
+
+-- as many pieces were displaced as are a tenth of the slots of a segment that are no roots, rounded up: each another live one
+-- of the segment
+pub record IsTenth (s : State) (segment : ℕ) (added : List Rec) : Type 0 where
+  pub count : length added ≡ (3 * s.geometry.buckets + 9) / 10
+  pub each : AllByRecursion (TellsDisplaced s segment) added
+  pub apart : AllPairs (λ (a b : Rec). a ≢ b) added
+
+-- so it is where the segment of a piece has no slot for its entry
+abbrev pub TenthIsDisplaced : Type 0
+TenthIsDisplaced = (p : Permit) (s : State) (piece : PieceId) (added : List Rec) → MayDisplace p s piece added → displaces p s piece ≡ true
+    → IsTenth s (segment_of_piece s piece) added
+
+-- and where it has one nothing is displaced
+abbrev pub NothingIsDisplaced : Type 0
+NothingIsDisplaced = (p : Permit) (s : State) (piece : PieceId) (added : List Rec) → MayDisplace p s piece added → displaces p s piece ≡ false
+    → added ≡ []
+
+-- the record tells that a piece was displaced
+abbrev pub is_displacement : Rec → Bool
+is_displacement (rec.Displaced piece segment live) = true
+is_displacement _ = false
+
+-- none of these records does
+abbrev pub TellNoDisplacement : List Rec → Type 0
+TellNoDisplacement added = AllByRecursion (λ (r : Rec). is_displacement r ≡ false) added
+
+-- with a directory that displaces nothing no step tells of a displacement
+abbrev pub PlainDisplacesNothing : Type 0
+PlainDisplacesNothing = (p : Permit) (s : State) (intents : List Intent) (added : List Rec) (why : Option Reason) → p.packed ≡ false
+    → IsStep p s intents added why → TellNoDisplacement added
 
 -- a piece that is placed behind what its entry displaces leaves room for all that is live
 abbrev pub InsertFits : Type 0

@@ -11,7 +11,7 @@ ghost use Rattle.model_laws.specs.PairLaws.{CopiedIsDueAndFits, LookupReadsItsKe
 ghost use Rattle.model_laws.specs.VectorLaws.{FlushTells, StoppedTells, FormatsTell, OpeningsTell, GroupsTell, StepsTell, VectorsAreKept, MergedIsSpelled, CountIsListed, FormatsCount, GroupsCount, OpeningsCount, StepsCount, UnansweredIsCounted};
 ghost use Rattle.model_laws.specs.SyncLaws.{OpenedIsTold};
 ghost use Rattle.model_laws.specs.PayloadLaws.{FormattedAreCut, PayloadsAreCut};
-ghost use Rattle.model_laws.specs.RoomLaws.{GroupFits, InsertFits, LegalFits, LessFits, MoveDisplacesNothing, SlotIsMade, StepFits};
+ghost use Rattle.model_laws.specs.RoomLaws.{GroupFits, InsertFits, LegalFits, LessFits, MoveDisplacesNothing, NothingIsDisplaced, PlainDisplacesNothing, SlotIsMade, StepFits, TenthIsDisplaced};
 ghost use Rattle.model_laws.specs.ForgetLaws.{FewAreDead, ForgettingCounts, ForgettingIsSound, ForgettingLeaves, ForgettingTells, ForgettingTwice, ForgottenIsDead, ForgottenIsUnrecorded, GivenStays, GreatestAreKept, KeptIsAnswered, KnownAreFalling, NamedIsKept, NoRecordIsTold, ReaderIsAnswered, WrittenIsKept};
 ghost use Rattle.cache_model.specs.Vectors.{IsVectorAs, LiveVectorIsListed, VectorIsReadBack};
 
@@ -132,8 +132,8 @@ pub fn group_is_fixed()
     ensures { GroupIsFixed }
 {}
 
-/// Where two devices tell no fault and no damage, and their directories displace nothing, what is asked at
-/// one moment fixes the records of a group and how it ends, or two documents of one SHA-256 are shown.
+/// Where two devices tell no fault and no damage, and nothing is displaced, what is asked at one moment
+/// fixes the records of a group and how it ends, or two documents of one SHA-256 are shown.
 pub fn groups_agree()
     ensures { GroupsAgree }
 {}
@@ -483,6 +483,18 @@ pub fn no_record_is_told()
 /// Behind what the entry of a piece displaces there is a slot for it.
 pub fn slot_is_made()
     ensures { SlotIsMade }
+{}
+
+/// Where the segment of a piece has no slot for its entry, as many of its pieces go as are a tenth of its
+/// slots that are no roots, rounded up, and none of another segment; where it has one, none goes.
+pub fn tenth_is_displaced()
+    ensures tenth { TenthIsDisplaced }
+    ensures none { NothingIsDisplaced }
+{}
+
+/// With a directory that displaces nothing no step tells of a displacement.
+pub fn plain_displaces_nothing()
+    ensures { PlainDisplacesNothing }
 {}
 
 /// An insert leaves a slot for each live piece, in each segment.

@@ -1,5 +1,5 @@
 // Laws of syncs and of clean marks. These functions do nothing when they run.
-ghost use Rattle.model_laws.specs.AskLaws.{AskedIsSynced, DueIsEnded, DueIsSynced, EndedFirst, FlushBegins, LegalSerialsRise, MarkIsTakenBack, MarkedIsEmpty, MarkedPlacesNothing, MarkedStaysEmpty, NoSyncIsRecorded, RoomBegins, SerialsFollow, SerialsRise, StepsTellNoSync, SyncIsDueOrAsked};
+ghost use Rattle.model_laws.specs.AskLaws.{AskedIsSynced, DueIsEnded, DueIsSynced, EndedFirst, FlushBegins, LegalSerialsRise, MarkIsTakenBack, MarkedIsEmpty, MarkedPlacesNothing, MarkedStaysEmpty, NoSyncIsRecorded, RoomBegins, SerialsFollow, SerialsRise, StepsTellNoSync, SyncEndsWhereDue, SyncIsDueOrAsked};
 ghost use Rattle.model_laws.specs.SyncLaws.{FinishedIsLast, FollowerAllowsSync, FollowerHasSync, MarksStay, OnlyLaterAreAllowed, SyncIsHeld};
 
 /// What a sync holds is how things stood when it began.
@@ -78,6 +78,13 @@ pub fn asked_is_synced()
 /// asked begins.
 pub fn sync_is_due_or_asked()
     ensures { SyncIsDueOrAsked }
+{}
+
+/// A sync ends only where one is asked for, or the last part of one, where the stripe is drained, where a
+/// piece is to be placed behind a clean mark, or where what is asked begins with a flush of a buffer
+/// that is not empty, and a sync is due behind that or the buffer ends out of reach.
+pub fn sync_ends_where_due()
+    ensures { SyncEndsWhereDue }
 {}
 
 /// Each sync takes the next serial, so that the last one that began has the greatest of the session.
