@@ -94,7 +94,7 @@ untroubled : (run : Run) (s : State) (turn : Turn) (step : Step) → SessionTake
 untroubled run s turn step takes clean =
     let last : Harm = harm_in (turn.device.events ++ run.calls) (after_all s turn.added) in
     let told : IsHarmless last = All-head IsHarmless last [] (all_behind IsHarmless run.ended (last ∷ []) clean) in
-    step_untroubled turn.device (turn.device.events ++ run.calls) s (asked run s step) turn.added turn.refused takes.legal told
+    step_untroubled turn.device (turn.device.events ++ run.calls) s (asked run s step) turn.added turn.refused takes.plain takes.legal told
 
 module _ (agree : StepsAgree) where
   same_session : (run : Run) (s : State) (a b : Turn) (step : Step) → SessionTakes run s a step → SessionTakes run s b step
@@ -102,7 +102,7 @@ module _ (agree : StepsAgree) where
       → IsSameLine (answer_line (session_said run s (after_all s a.added) a step)) (answer_line (session_said run s (after_all s b.added) b step)) (in_session run s (after_all s a.added) a step) (in_session run s (after_all s b.added) b step)
       ⊎ ShowsOtherCopy a.device b.device s (asked run s step) a.added b.added
   same_session run s a b step takes other_takes clean other_clean =
-      let like : AreLike a.device b.device = record { one = takes.plain; other = other_takes.plain; unsynced = takes.unsynced; other_unsynced = other_takes.unsynced; moment = takes.moment ∙ sym other_takes.moment } in
+      let like : AreLike a.device b.device = record { unsynced = takes.unsynced; other_unsynced = other_takes.unsynced; moment = takes.moment ∙ sym other_takes.moment } in
       let quiet : IsUntroubled a.added = untroubled run s a step takes clean in
       let other_quiet : IsUntroubled b.added = untroubled run s b step other_takes other_clean in
       elim (agree a.device b.device s (asked run s step) a.added b.added a.refused b.refused like quiet other_quiet takes.legal other_takes.legal) [
