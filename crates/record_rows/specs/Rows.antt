@@ -1,8 +1,13 @@
 -- Sessions with syncs and openings, each worked by hand.
-use Rattle.std.specs.Prelude.{ℕ, ◌≡◌, true, false, List, [], ◌∷◌, ◌++◌, Some, None, length, map, fold, codes}
+use Rattle.std.specs.Prelude.{ℕ, ◌≡◌, Bool, true, false, List, [], ◌∷◌, ◌++◌, Some, None, length, map, fold, codes}
 use Rattle.tape_base.specs.declared.keys.Key.{Key}
 use Rattle.tape_base.specs.declared.pieces.PieceId.{PieceId}
-use Rattle.alternate_vector.specs.Alternates.{Stored, vector_size}
+use Rattle.tape_base.specs.Digest.{digest_of}
+use Rattle.doc_header.specs.declared.documents.Doc.{Doc}
+use Rattle.doc_header.specs.Document.{digest_of_document}
+use Rattle.fragment_table.specs.Table.{made_row}
+use Rattle.alternate_vector.specs.Alternates.{Stored}
+use Rattle.alternate_vector.specs.Spelling.{vector_bytes}
 use Rattle.cache_model.specs.declared.answer.ReadAnswer.TheVariants as read
 use Rattle.cache_model.specs.declared.cause.Cause.TheVariants as cause
 use Rattle.cache_model.specs.declared.findings.FoundRow.{FoundRow}
@@ -15,7 +20,7 @@ use Rattle.cache_model.specs.Verdict.{lookup_verdict, vector_of}
 use Rattle.cache_model.specs.Legal.{format_records}
 use Rattle.cache_model.specs.Room.{MayDisplace, is_full_for}
 use Rattle.cache_model.specs.Syncing.{InParts, WhereDue, at_first, first_records}
-use Rattle.record_rows.specs.Worked.{a, b, behind_format, behind_opening, fillers, flush_here, flushed, language, last, late, no_digest, of_packed, one_byte, other, placed_here, put_at, put_here, put_with, small, synced, taking, told, varies}
+use Rattle.record_rows.specs.Worked.{a, b, behind_format, behind_opening, empty_put, fillers, flush_here, flushed, language, last, late, no_bytes, no_digest, of_packed, one_byte, other, placed_here, put_at, put_here, put_with, small, some_digest, synced, taking, told, varies}
 
 -- ---- a sync, and what comes behind it
 
@@ -104,12 +109,24 @@ WhatIsWrittenUnmarks = (once_written.marked ≡ false)
 
 -- an alternate of one fragment, for one language
 abbrev pub stored_in : ℕ → List ℕ → Stored
-stored_in put value = one_byte (language value) varies put
+stored_in put value = record (one_byte (language value) varies put) { table = made_row 1 some_digest ∷ [] }
 
--- a vector that an opening finds
+-- a vector's document
+abbrev pub document_of : ℕ → ℕ → Key → Doc
+document_of place put key = record { id = vector_piece key put; place = place; generation = 7; pin = 0; start = 0 }
+
+-- the vector as an opening finds it
 abbrev pub vector_at : ℕ → ℕ → Key → List Stored → FoundRow
-vector_at place put key list =
-    record { id = vector_piece key put; place = place; blocks = 1; digest = no_digest; length = vector_size list; payload = no_digest; pin = 0; alternates = Some list }
+vector_at place put key list = record {
+  id = vector_piece key put;
+  place = place;
+  blocks = 1;
+  digest = digest_of_document (document_of place put key) (vector_bytes list);
+  length = length (vector_bytes list);
+  payload = digest_of (vector_bytes list);
+  pin = 0;
+  alternates = Some list;
+}
 
 -- two alternates of one key
 abbrev pub two_languages : List Stored
@@ -123,9 +140,12 @@ two_vectors = record {
   floor = 22;
   next_put = 6;
   clean = false;
-  found = vector_at 64 4 a two_languages
-      ∷ vector_at 65 5 b (record { put = 5; pin = 0; length = 0; request = []; response = []; table = [] } ∷ []) ∷ [];
+  found = vector_at 64 4 a two_languages ∷ vector_at 65 5 b (no_bytes 5 ∷ []) ∷ [];
 }
+
+-- an opening may take them up, of a directory that displaces too
+abbrev pub TwoVectorsMayBeFound : Type 0
+TwoVectorsMayBeFound = (packed : Bool) → IsOpening packed small two_vectors
 
 -- each is its key's last; a request that none matches is told how many there are, and of a third key it is told that
 -- the session began with the opening
@@ -142,7 +162,7 @@ once_merged = behind_opening two_vectors (put_with two_languages (language (code
 
 -- stands beside those that were found, whose vector goes; the commit tells what its vector lists
 abbrev pub AnotherPutMerges : Type 0
-AnotherPutMerges = (list_of_piece once_merged (vector_piece a 6) ≡ two_languages ++ stored_in 6 (codes "it") ∷ [])
+AnotherPutMerges = (list_of_piece once_merged (vector_piece a 6) ≡ two_languages ++ one_byte (language (codes "it")) varies 6 ∷ [])
     × (lookup_verdict once_merged a (language (codes "it")) ≡ read.Hit 6)
     × (lookup_verdict once_merged a (language (codes "de")) ≡ read.Hit 3)
     × (lookup_verdict once_merged a (language (codes "es")) ≡ read.Miss (cause.NoMatch 3))
@@ -170,15 +190,38 @@ abbrev pub AShortBufferEndsTheLap : Type 0
 AShortBufferEndsTheLap = (with_one_block.filled ≡ 1)
     × (flush_here WhereDue with_one_block ≡ rec.SyncBegun 5 128 false false ∷ rec.SyncDone 5 ∷ rec.Began 128 72 ∷ [])
 
--- a sync in parts was begun at the end of a lap, and a buffer was filled behind it
-abbrev pub past_its_reach : State
-past_its_reach = fillers 1 (flushed InParts (fillers 8 (behind_format [])))
+-- a sync in parts was begun at the end of a lap
+abbrev pub at_end_in_parts : State
+at_end_in_parts = flushed InParts (fillers 8 (behind_format []))
 
--- it is ended before that buffer is written, and holds the pieces of six puts, and one vector
+-- the device refused a part of it
+abbrev pub once_refused : State
+once_refused = after_all at_end_in_parts (rec.Fault 1 ∷ [])
+
+-- and a buffer was filled behind that
+abbrev pub past_its_reach : State
+past_its_reach = fillers 1 once_refused
+
+-- that sync goes on still; it is ended before the buffer is written, and holds the pieces of six puts, and one vector
 abbrev pub ARunningSyncIsEndedFirst : Type 0
-ARunningSyncIsEndedFirst = (past_its_reach.running ≡ Some 5)
+ARunningSyncIsEndedFirst = (flush_here InParts (fillers 8 (behind_format [])) ≡ rec.SyncBegun 5 128 false true ∷ rec.Began 128 72 ∷ [])
+    × ((past_its_reach.cursor ≡ 128) × (past_its_reach.filled ≡ 8))
+    × (past_its_reach.running ≡ Some 5)
     × (first_records WhereDue past_its_reach ≡ rec.SyncDone 5 ∷ [])
     × (told (at_first WhereDue past_its_reach) ≡ record { serial = 5; cursor = 128; floor = 80; found = 43; clean = false } ∷ [])
+
+-- behind the records of an object of no bytes
+abbrev pub with_tenth : State
+with_tenth = after_all past_its_reach (empty_put b past_its_reach)
+
+-- so do these: its vector has no room, and the flush for it ends that sync first, which alone may be found then
+abbrev pub AnEmptyPutEndsItFirst : Type 0
+AnEmptyPutEndsItFirst = (empty_put b past_its_reach
+    ≡ rec.WriteOpened (record { 0 = 0 }) 10 b [] [] 0 ∷ rec.SyncDone 5 ∷ rec.Began 136 80 ∷ rec.Placed (vector_piece b 10) 136 1 no_digest 0
+    ∷ rec.Committed 10 b 0 (no_bytes 10 ∷ []) ∷ [])
+    × (list_of_piece with_tenth (vector_piece b 10) ≡ no_bytes 10 ∷ [])
+    × (told with_tenth ≡ record { serial = 5; cursor = 128; floor = 80; found = 43; clean = false } ∷ [])
+    × (lookup_verdict with_tenth b [] ≡ read.Hit 10)
 
 -- ---- a full segment
 

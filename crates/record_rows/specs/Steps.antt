@@ -8,7 +8,7 @@ use Rattle.cache_model.specs.Legal.{IsStep, format_records}
 use Rattle.cache_model.specs.Permit.{CleanSync, Drain, Faulted, Flush, NoSync, Permit, Sync, SyncBegin, SyncRuns, SyncStep}
 use Rattle.cache_model.specs.State.{State, after_all, nothing_yet}
 use Rattle.record_rows.specs.Worked.{behind_format, behind_opening, synced, wide}
-use Rattle.record_rows.specs.Rows.{clean_sync, while_it_runs}
+use Rattle.record_rows.specs.Rows.{at_end_in_parts, clean_sync, once_refused, while_it_runs}
 
 -- a step of a stripe that syncs, whose content area begins behind two copies of six blocks of directory
 abbrev pub with_calls : List Call → Permit
@@ -110,6 +110,14 @@ ARefusedEndIsAStep = IsStep (with_calls refused_gate) while_it_runs (Sync ∷ []
 -- and no end, behind which another one was begun
 abbrev pub AnEndBehindItIsNoStep : Type 0
 AnEndBehindItIsNoStep = IsStep (with_calls refused_gate) while_it_runs (Sync ∷ []) (rec.SyncDone 2 ∷ rec.SyncBegun 3 66 false false ∷ rec.Fault 1 ∷ []) (Some (Faulted 1)) → ⊥
+
+-- ---- a sync in parts at the end of a lap
+
+-- a part of it that the device refuses is a fault, and behind that another one is refused still, with the same serial
+abbrev pub ARefusedPartLeavesTheSync : Type 0
+ARefusedPartLeavesTheSync =
+    ((left : List ℕ) → IsStep (with_calls (RefusedCall (ToWrite 3 8 left) 1 ∷ [])) at_end_in_parts (SyncStep true ∷ []) (rec.Fault 1 ∷ []) (Some (Faulted 1)))
+    × IsStep (with_calls []) once_refused (SyncBegin ∷ []) [] (Some (SyncRuns 5))
 
 -- ---- a stripe that is closed
 

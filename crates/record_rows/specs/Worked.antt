@@ -1,6 +1,6 @@
 -- How a row is put together: a small geometry, the records of a put and of a sync, and what an opening has.
 use Rattle.std.specs.Prelude.{ℕ, zero, suc, ◌+◌, ◌*◌, nat_le, Bool, false, true, if◌then◌else◌, refl, List, [], ◌∷◌, ◌++◌, length, map, filter, codes, option_map, unwrap_or}
-use Rattle.std.specs.List.{range_with_len}
+use Rattle.std.specs.List.{range_with_len, repeat}
 use Rattle.std.proofs.Math.Dec.{lit≤, lit<}
 use Rattle.tape_base.specs.declared.digests.Digest.{Digest}
 use Rattle.tape_base.specs.declared.geometries.Geometry.{Geometry}
@@ -89,7 +89,15 @@ of_packed = record { packed = true; syncs = true; now = 0; area = 0; past = []; 
 abbrev pub no_digest : Digest
 no_digest = record { 0 = [] }
 
+-- 32 bytes as the digest of a payload, which no verdict reads
+abbrev pub some_digest : List ℕ
+some_digest = repeat 32 (1 ∷ [])
+
 -- ---- records
+
+-- the alternate of a put of no bytes
+abbrev pub no_bytes : ℕ → Stored
+no_bytes put = record { put = put; pin = 0; length = 0; request = []; response = []; table = [] }
 
 -- the alternate of a put of one byte
 abbrev pub one_byte : List Field → List Field → ℕ → Stored
@@ -147,6 +155,16 @@ put_here key fragments s =
     let opened : State = after_all s (rec.WriteOpened (record { 0 = 0 }) put key [] [] 0 ∷ []) in
     let placed : State = pieces_here key put (range_with_len 1 fragments) opened in
     after_all placed (rec.Committed put key (4 * fragments) (list_of_piece placed (vector_piece key put)) ∷ [])
+
+-- the records of a put of no bytes: its vector alone, behind a flush where that has no room
+abbrev pub empty_put : Key → State → List Rec
+empty_put key s =
+    let put : ℕ = s.next_put in
+    let opens : List Rec = rec.WriteOpened (record { 0 = 0 }) put key [] [] 0 ∷ [] in
+    let opened : State = after_all s opens in
+    let flushes : List Rec = (if has_room opened 1 then [] else flush_here WhereDue opened) in
+    let places : List Rec = rec.Placed (vector_piece key put) (place_now (after_all opened flushes)) 1 no_digest 0 ∷ [] in
+    opens ++ (flushes ++ (places ++ rec.Committed put key 0 (no_bytes put ∷ []) ∷ []))
 
 -- so many puts of 28 bytes under one key, each of which fills a buffer
 abbrev pub fillers : ℕ → State → State

@@ -1,9 +1,10 @@
 //! Sessions with openings and syncs, worked by hand and computed by the definitions over records.
 #![tactic(auto)]
 
-ghost use Rattle.record_rows.specs.Steps.{ABodyWithoutASyncIsNoStep, AGateOpenedEarlyIsNoStep, APartIsAStep, AWriteOfNoBufferIsNoStep, AClosedStripeIsAStep, ALastPartIsAStep, AMarkedStripeMayBeClosed, APartWithoutAWriteIsNoStep, ARefusedEndIsAStep, ARefusedPartIsAStep, ASecondOneIsRefused, ASyncBehindAShutGateIsNoStep, ASyncWithoutCallsIsNoStep, AnEmptySyncIsAStep, AnEndBehindItIsNoStep, NoPartWithoutASync};
+ghost use Rattle.record_rows.specs.Steps.{ABodyWithoutASyncIsNoStep, AGateOpenedEarlyIsNoStep, APartIsAStep, AWriteOfNoBufferIsNoStep, AClosedStripeIsAStep, ALastPartIsAStep, AMarkedStripeMayBeClosed, APartWithoutAWriteIsNoStep, ARefusedEndIsAStep, ARefusedPartIsAStep, ARefusedPartLeavesTheSync, ASecondOneIsRefused, ASyncBehindAShutGateIsNoStep, ASyncWithoutCallsIsNoStep, AnEmptySyncIsAStep, AnEndBehindItIsNoStep, NoPartWithoutASync};
+ghost use Rattle.record_rows.specs.Refused.{AGateMayBeRefused, AGateRefusedEarlyIsNoStep, AnOpenGateMayStaySo, ASecondWriteIsNoStep, ASpoiledBufferIsWrittenAgain, ASpoiledBufferThatIsLeftIsNoStep, ASyncMayBeginInParts, AWriteAgainIsNoStep, AWriteBeforeARefusedGateIsNoStep, AWriteBeforeItsSyncIsAStep, AWriteBehindAnOpenGateIsNoStep, AWriteBehindARefusedGateIsNoStep, AWriteBehindItsSyncIsNoStep, AWriteBehindTheEndIsAStep, AWriteOutOfReachIsNoStep, AWriteThatIsNotSyncedIsNoStep, AWriteUnderAMarkIsNoStep, AWriteWithoutAFlushIsNoStep, SwappedBuffersAreNoStep, TwoBuffersAreAStep};
 ghost use Rattle.record_rows.specs.Unlike.{ACopyOfItIsDamage, AnUnlikePayloadIsDamage, AnUnlikePayloadIsNotGiven, AnUnlikePayloadMayBeFound};
-ghost use Rattle.record_rows.specs.Rows.{AClosedStripeOpensClean, AFinishedSyncIsTaken, AFormatMayBeOpened, AFoundVectorIsKnown, AFullSegmentLosesATenth, ALapEndsWithASync, AnOpeningFollows, AnotherPutMerges, ARemovalComesBack, ARunningSyncIsEndedFirst, ARunningSyncMayBeTaken, AShortBufferEndsTheLap, LaterPutsAreLost, WhatIsWrittenUnmarks};
+ghost use Rattle.record_rows.specs.Rows.{AClosedStripeOpensClean, AFinishedSyncIsTaken, AFormatMayBeOpened, AFoundVectorIsKnown, AFullSegmentLosesATenth, ALapEndsWithASync, AnOpeningFollows, AnotherPutMerges, ARemovalComesBack, ARunningSyncIsEndedFirst, ARunningSyncMayBeTaken, AShortBufferEndsTheLap, AnEmptyPutEndsItFirst, LaterPutsAreLost, TwoVectorsMayBeFound, WhatIsWrittenUnmarks};
 
 /// What was put behind the last sync is lost, and told by the serial of the opening.
 pub fn later_puts_are_lost()
@@ -45,6 +46,11 @@ pub fn what_is_written_unmarks()
     ensures { WhatIsWrittenUnmarks }
 {}
 
+/// An opening may find two vectors.
+pub fn two_vectors_may_be_found()
+    ensures { TwoVectorsMayBeFound }
+{}
+
 /// A found vector is its key's last, with all its alternates.
 pub fn a_found_vector_is_known()
     ensures { AFoundVectorIsKnown }
@@ -68,6 +74,16 @@ pub fn a_short_buffer_ends_the_lap()
 /// A sync in parts is ended before a buffer is written that lies outside the reach of the sync before.
 pub fn a_running_sync_is_ended_first()
     ensures { ARunningSyncIsEndedFirst }
+{}
+
+/// So does a put of no bytes, which is the first of the buffer behind that.
+pub fn an_empty_put_ends_it_first()
+    ensures { AnEmptyPutEndsItFirst }
+{}
+
+/// A part of it that the device refuses leaves that sync, and another one is refused still.
+pub fn a_refused_part_leaves_the_sync()
+    ensures { ARefusedPartLeavesTheSync }
 {}
 
 /// A full segment loses a tenth of its slots, and then has one for the new entry.
@@ -153,6 +169,106 @@ pub fn a_closed_stripe_is_a_step()
 /// So is one that was opened clean.
 pub fn a_marked_stripe_may_be_closed()
     ensures { AMarkedStripeMayBeClosed }
+{}
+
+/// A buffer is written before the sync that names it.
+pub fn a_write_before_its_sync_is_a_step()
+    ensures { AWriteBeforeItsSyncIsAStep }
+{}
+
+/// It is not written again behind the sync that names it.
+pub fn a_write_again_is_no_step()
+    ensures { AWriteAgainIsNoStep }
+{}
+
+/// Nor only behind that sync.
+pub fn a_write_behind_its_sync_is_no_step()
+    ensures { AWriteBehindItsSyncIsNoStep }
+{}
+
+/// So it is where the device opens the gate and refuses to sync that.
+pub fn an_open_gate_may_stay_so()
+    ensures { AnOpenGateMayStaySo }
+{}
+
+/// The buffer is not written only behind that.
+pub fn a_write_behind_an_open_gate_is_no_step()
+    ensures { AWriteBehindAnOpenGateIsNoStep }
+{}
+
+/// A device that refuses to take a gate behind its body stops the sync.
+pub fn a_gate_may_be_refused()
+    ensures { AGateMayBeRefused }
+{}
+
+/// It is not asked to before the body is durable.
+pub fn a_gate_refused_early_is_no_step()
+    ensures { AGateRefusedEarlyIsNoStep }
+{}
+
+/// Nor is the buffer written only behind that.
+pub fn a_write_behind_a_refused_gate_is_no_step()
+    ensures { AWriteBehindARefusedGateIsNoStep }
+{}
+
+/// Or right before it.
+pub fn a_write_before_a_refused_gate_is_no_step()
+    ensures { AWriteBeforeARefusedGateIsNoStep }
+{}
+
+/// A sync in parts begins with the buffer, and a sync of the device.
+pub fn a_sync_may_begin_in_parts()
+    ensures { ASyncMayBeginInParts }
+{}
+
+/// The buffer is not left without that.
+pub fn a_write_that_is_not_synced_is_no_step()
+    ensures { AWriteThatIsNotSyncedIsNoStep }
+{}
+
+/// Nothing is written by a put that has room.
+pub fn a_write_without_a_flush_is_no_step()
+    ensures { AWriteWithoutAFlushIsNoStep }
+{}
+
+/// Nor before a clean mark is taken back.
+pub fn a_write_under_a_mark_is_no_step()
+    ensures { AWriteUnderAMarkIsNoStep }
+{}
+
+/// A buffer is written once the sync in parts has ended that it has to wait for.
+pub fn a_write_behind_the_end_is_a_step()
+    ensures { AWriteBehindTheEndIsAStep }
+{}
+
+/// A buffer out of reach is not written before the sync in parts has ended.
+pub fn a_write_out_of_reach_is_no_step()
+    ensures { AWriteOutOfReachIsNoStep }
+{}
+
+/// Two buffers of one step are written in their order.
+pub fn two_buffers_are_a_step()
+    ensures { TwoBuffersAreAStep }
+{}
+
+/// And not in the other one.
+pub fn swapped_buffers_are_no_step()
+    ensures { SwappedBuffersAreNoStep }
+{}
+
+/// A buffer is written once in a step.
+pub fn a_second_write_is_no_step()
+    ensures { ASecondWriteIsNoStep }
+{}
+
+/// What a refused write may have spoiled is written again.
+pub fn a_spoiled_buffer_is_written_again()
+    ensures { ASpoiledBufferIsWrittenAgain }
+{}
+
+/// It is not left as it is.
+pub fn a_spoiled_buffer_that_is_left_is_no_step()
+    ensures { ASpoiledBufferThatIsLeftIsNoStep }
 {}
 
 /// An opening may find a fragment with another payload than the one that its vector lists.

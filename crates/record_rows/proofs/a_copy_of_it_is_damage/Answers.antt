@@ -1,6 +1,4 @@
-use Rattle.std.proofs.Common.{refl, ap, arith}
-use Rattle.std.specs.Prelude.{slice_index}
-use Rattle.tape_base.specs.declared.digests.Digest.{Digest}
+use Rattle.std.proofs.Common.{refl, arith}
 use Rattle.cache_model.specs.Legal.{more, nothing}
 use Rattle.cache_model.specs.Permit.{Done}
 use Rattle.cache_model.specs.Given

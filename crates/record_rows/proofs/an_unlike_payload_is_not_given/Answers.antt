@@ -1,6 +1,5 @@
 use Rattle.std.proofs.Common.{◌≡◌, List, ℕ, [], ◌∷◌, ◌++◌, length, refl, sym, ap, subst, arith}
-use Rattle.std.specs.Prelude.{Some, slice_index}
-use Rattle.tape_base.specs.declared.digests.Digest.{Digest}
+use Rattle.std.specs.Prelude.{Some}
 use Rattle.device_log.specs.Calls.{Read}
 use Rattle.fragment_table.specs.Table.{TableRow}
 use Rattle.cache_model.specs.declared.answer.NextAnswer.{NextAnswer}
