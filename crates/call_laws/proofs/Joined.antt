@@ -1,0 +1,128 @@
+-- Calls, one behind the other, and what comes of them in a step.
+use Rattle.std.proofs.Common.{◌≡◌, ℕ, true, List, [], ◌++◌, refl, sym, ◌∙◌, ap, subst, append_assoc, append-nil}
+use Rattle.device_log.specs.Calls.{Call}
+use Rattle.cache_model.specs.declared.record.Rec.{Rec}
+use Rattle.cache_model.specs.State.{after_all}
+use Rattle.cache_model.specs.Kept.{Kept, state_of, with_records}
+use Rattle.cache_model.specs.Permit.{Permit, Setting}
+use Rattle.cache_model.specs.Given.{denials, effects_in, effects_told}
+use Rattle.cache_model.proofs.Steps.{after_all-append}
+use Rattle.call_laws.specs.Moments.{At, Encloses, IsStillAt}
+use Rattle.call_laws.specs.Happens.{Happens, TellsSyncs}
+use Rattle.call_laws.specs.Serves.{InStep, IsCall, Upshots}
+use Rattle.call_laws.proofs.Accounts.{denials_append, effects_append, tells_both, tells_nothing, told_append}
+
+-- ---- what is kept
+
+then_more : (old mid new : Kept) (a b : List Rec) → mid ≡ with_records old a → new ≡ with_records mid b → new ≡ with_records old (a ++ b)
+then_more old mid new a b first last =
+    last ∙ (ap (λ k. with_records k b) first
+    ∙ ap (λ recs. let k : Kept = record { told = old.told; base = old.base; since = recs } in k) (append_assoc old.since a b))
+
+nothing_more : (k : Kept) → k ≡ with_records k []
+nothing_more k = sym (ap (λ recs. let x : Kept = record { told = k.told; base = k.base; since = recs } in x) (append-nil k.since))
+
+-- what these records stand for
+pub state_behind : (old new : Kept) (a : List Rec) → new ≡ with_records old a → state_of new ≡ after_all (state_of old) a
+state_behind old new a is = ap state_of is ∙ after_all-append old.base old.since a
+
+-- ---- a step
+
+pub encloses_first : {now : ℕ} {setting : Setting} {p : Permit} {earlier : List Call} (c d : List Call) → Encloses now setting p earlier (d ++ c)
+    → Encloses now setting p earlier c
+encloses_first {earlier = earlier} c d h = record {
+  later = h.later ++ d;
+  moment = h.moment;
+  set = h.set;
+  events = h.events ∙ (ap (λ calls. h.later ++ calls) (append_assoc d c earlier) ∙ sym (append_assoc h.later d (c ++ earlier)));
+}
+
+pub encloses_later : {now : ℕ} {setting : Setting} {p : Permit} {earlier : List Call} (c d : List Call) → Encloses now setting p earlier (d ++ c)
+    → Encloses now setting p (c ++ earlier) d
+encloses_later {earlier = earlier} c d h = record {
+  later = h.later;
+  moment = h.moment;
+  set = h.set;
+  events = h.events ∙ ap (λ calls. h.later ++ calls) (append_assoc d c earlier);
+}
+
+-- ---- what happens
+
+pub happens_nothing : {a b : At} → IsStillAt a b → Happens a b [] []
+happens_nothing {a} {b} h = record {
+  setting = h.setting;
+  past = h.past;
+  adds = h.kept ∙ nothing_more a.kept;
+  faults = refl;
+  effects = λ unsynced. refl;
+  synced = λ syncs. tells_nothing a.setting.area (state_of a.kept);
+}
+
+pub happens_both : {a b c : At} {calls more : List Call} {added others : List Rec} → Happens a b calls added → Happens b c more others
+    → Happens a c (more ++ calls) (added ++ others)
+happens_both {a} {b} {c} {calls} {more} {added} {others} f l = record {
+  setting = l.setting ∙ f.setting;
+  past = l.past ∙ (ap (λ past. more ++ past) f.past ∙ sym (append_assoc more calls a.device.past));
+  adds = then_more a.kept b.kept c.kept added others f.adds l.adds;
+  faults = ap denials (told_append added others) ∙ (denials_append (effects_told added) (effects_told others)
+      ∙ (ap (λ counts. counts ++ denials (effects_told others)) f.faults ∙ (ap (λ counts. denials (effects_in calls) ++ counts) l.faults
+      ∙ (sym (denials_append (effects_in calls) (effects_in more)) ∙ ap denials (sym (effects_append more calls))))));
+  effects = λ unsynced.
+      told_append added others
+      ∙ (ap (λ effects. effects ++ effects_told others) (f.effects unsynced)
+      ∙ (ap (λ effects. effects_in calls ++ effects) (l.effects (ap (λ (s : Setting). s.syncs) f.setting ∙ unsynced)) ∙ sym (effects_append more calls)));
+  synced = λ syncs.
+      let there : TellsSyncs b.setting.area (state_of b.kept) more others = l.synced (ap (λ (s : Setting). s.syncs) f.setting ∙ syncs) in
+      let here : TellsSyncs a.setting.area (after_all (state_of a.kept) added) more others =
+      subst (λ s. TellsSyncs a.setting.area s more others) (state_behind a.kept b.kept added f.adds)
+      (subst (λ (s : Setting). TellsSyncs s.area (state_of b.kept) more others) f.setting there) in
+      tells_both a.setting.area (state_of a.kept) calls more added others (f.synced syncs) here;
+}
+
+-- ---- what comes of it
+
+-- in a step of a stripe that syncs a call tells its syncs
+tells_in : {now : ℕ} {a b : At} {p : Permit} {earlier calls : List Call} {added : List Rec} → Encloses now a.setting p earlier calls
+    → Happens a b calls added → p.syncs ≡ true → TellsSyncs p.area (state_of a.kept) calls added
+tells_in {a = a} {calls = calls} {added = added} step happens syncs =
+    subst (λ area. TellsSyncs area (state_of a.kept) calls added) (sym step.set.area) (happens.synced (sym step.set.syncs ∙ syncs))
+
+-- what comes of a call is something else too
+pub call_as : {now : ℕ} {a b : At} {comes others : Upshots}
+    → ((p : Permit) (earlier calls : List Call) (added : List Rec) → Encloses now a.setting p earlier calls → Happens a b calls added
+    → (let c : InStep = record { step = p; earlier = earlier; calls = calls; state = state_of a.kept; added = added } in comes c → others c))
+    → IsCall now a b comes → IsCall now a b others
+call_as law f = record {
+  calls = f.calls;
+  added = f.added;
+  happens = f.happens;
+  does = λ p earlier step. law p earlier f.calls f.added step f.happens (f.does p earlier step);
+}
+
+-- what comes of nothing
+pub call_still : {now : ℕ} {a b : At} {comes : Upshots} → IsStillAt a b
+    → ((p : Permit) (earlier : List Call) → Encloses now a.setting p earlier []
+    → comes (record { step = p; earlier = earlier; calls = []; state = state_of a.kept; added = [] }))
+    → IsCall now a b comes
+call_still still each = record { calls = []; added = []; happens = happens_nothing still; does = λ p earlier step. each p earlier step }
+
+-- what comes of one call and then of another comes of both
+pub call_then : {now : ℕ} {a b c : At} {first last all : Upshots}
+    → ((p : Permit) (earlier calls more : List Call) (added others : List Rec)
+    → (p.syncs ≡ true → TellsSyncs p.area (state_of a.kept) calls added)
+    → first (record { step = p; earlier = earlier; calls = calls; state = state_of a.kept; added = added })
+    → last (record { step = p; earlier = calls ++ earlier; calls = more; state = after_all (state_of a.kept) added; added = others })
+    → all (record { step = p; earlier = earlier; calls = more ++ calls; state = state_of a.kept; added = added ++ others }))
+    → IsCall now a b first → IsCall now b c last → IsCall now a c all
+call_then {now} {a} {b} {c} {first} {last} {all} law f l = record {
+  calls = l.calls ++ f.calls;
+  added = f.added ++ l.added;
+  happens = happens_both f.happens l.happens;
+  does = λ p earlier step.
+      let inside : Encloses now b.setting p (f.calls ++ earlier) l.calls =
+      subst (λ s. Encloses now s p (f.calls ++ earlier) l.calls) (sym f.happens.setting) (encloses_later f.calls l.calls step) in
+      let before : Encloses now a.setting p earlier f.calls = encloses_first f.calls l.calls step in
+      law p earlier f.calls l.calls f.added l.added (tells_in before f.happens) (f.does p earlier before)
+      (subst (λ s. last (record { step = p; earlier = f.calls ++ earlier; calls = l.calls; state = s; added = l.added }))
+      (state_behind a.kept b.kept f.added f.happens.adds) (l.does p (f.calls ++ earlier) inside));
+}

@@ -1,0 +1,14 @@
+pub mod Grown
+pub mod Accounts
+pub mod Joined
+pub mod Served
+pub mod Known
+pub mod Groups
+pub mod Kept
+pub mod Whole
+pub mod Firsts
+mod Backed
+mod Asking
+mod Example
+mod SyncExample
+mod Tries

@@ -1,0 +1,164 @@
+-- Calls of a stripe that syncs, and that they tell what their records say, behind any calls that leave no gate open: a whole
+-- sync; a flush that has to end a sync in parts before it writes the buffer; and one that the device stops behind the buffer.
+use Rattle.std.proofs.Common.{◌≡◌, ℕ, ◌+◌, ◌<◌, ◌≤◌, arith, Bool, true, false, List, [], ◌∷◌, ◌++◌, refl, sym, ◌∙◌, ap, subst, append-nil, lit<, lit≤}
+use Rattle.std.specs.Prelude.{◌/◌, ◌&&◌, ◌||◌, not, leb, if◌then◌else◌, is_some, length, replicate}
+use Rattle.std.proofs.lemmas.Bool.{lt-leb}
+use Rattle.device_log.specs.Calls.{Call, Wrote, Synced, RefusedCall, ToWrite}
+use Rattle.cache_model.specs.declared.record.Rec.{Rec}
+use Rattle.cache_model.specs.declared.record.Rec.TheVariants as rec
+use Rattle.cache_model.specs.State.{State, after_all}
+use Rattle.cache_model.specs.Permit.{Permit, Faulted}
+use Rattle.cache_model.specs.Given.{Denied, Finished, IsRestOf, IsWriteOfRest, Unasked, content_writes, effects_synced, has_body_since, is_asked_refusal, is_of_body}
+use Rattle.call_laws.specs.Progress.{AllDone, Stops}
+use Rattle.call_laws.specs.Happens.{IsOfBufferBehind, TellsSyncs, are_asked_refusals}
+use Rattle.call_laws.specs.Serves.{WritesBuffers}
+use Rattle.call_laws.proofs.Accounts.{both_of}
+
+-- a gate, by its first byte
+abbrev gate : ℕ → List ℕ
+gate first = first ∷ replicate 511 0
+
+-- the body of a copy of three blocks is written, and its gate is opened, with a sync of the device behind each
+abbrev ended_calls : List Call
+ended_calls = Synced ∷ Wrote 1 (gate 1) ∷ Synced ∷ Wrote 3 (replicate 1536 0) ∷ []
+
+-- so it is behind the gate that is shut
+abbrev sync_calls : List Call
+sync_calls = ended_calls ++ Synced ∷ Wrote 1 (gate 0) ∷ []
+
+two_none : {X : Type 0} (xs : List X) → (xs ++ []) ++ [] ≡ xs
+two_none xs = append-nil (xs ++ []) ∙ append-nil xs
+
+three_none : {X : Type 0} (xs : List X) → ((xs ++ []) ++ []) ++ [] ≡ xs
+three_none xs = append-nil ((xs ++ []) ++ []) ∙ two_none xs
+
+-- that ends a sync
+ends : (earlier : List Call) → effects_synced 9 false (ended_calls ++ earlier) ≡ effects_synced 9 false earlier ++ Finished ∷ []
+ends earlier = ap (λ es. es ++ Finished ∷ []) (three_none (effects_synced 9 false earlier))
+
+-- ---- a whole sync
+
+or_begun : (b : Bool) → b || true ≡ true
+or_begun true = refl
+or_begun false = refl
+
+sync_tells : (s : State) (serial cursor : ℕ) → TellsSyncs 9 s sync_calls (rec.SyncBegun serial cursor false false ∷ rec.SyncDone serial ∷ [])
+sync_tells s serial cursor = record {
+  effects = λ earlier shut asked.
+      ends (Synced ∷ Wrote 1 (gate 0) ∷ earlier) ∙ ap (λ es. es ++ Finished ∷ []) (two_none (effects_synced 9 false earlier));
+  shut = λ earlier shut. refl;
+  copies = λ wrote. or_begun (is_some s.running);
+}
+
+-- ---- a flush
+
+-- behind the sync in parts that it ends it writes the buffer, and the next one begins
+abbrev flush_calls : List ℕ → List Call
+flush_calls bytes = Wrote 9 bytes ∷ ended_calls
+
+abbrev flushed : (serial cursor floor : ℕ) → List Rec
+flushed serial cursor floor = rec.SyncDone serial ∷ rec.Began cursor floor ∷ []
+
+flush_tells : (s : State) (serial cursor floor : ℕ) (bytes : List ℕ) → is_some s.running ≡ true
+    → TellsSyncs 9 s (flush_calls bytes) (flushed serial cursor floor)
+flush_tells s serial cursor floor bytes runs = record {
+  effects = λ earlier shut asked. append-nil (effects_synced 9 false (ended_calls ++ earlier)) ∙ ends earlier;
+  shut = λ earlier shut. refl;
+  copies = λ wrote. ap (λ b. b || false) runs;
+}
+
+-- what is written below the content area is of no buffer
+below : (area at : ℕ) → area ≡ 9 → at < 9 → area ≤ at → ⊥
+below area at here low above = omega arith
+
+-- it is of no body, where it has some blocks
+one_of : (a b : Bool) → a ≡ false → b ≡ false → (true && a) || (true && b) ≡ false
+one_of a b first second = rw (first, second) refl
+
+of_no_body : (blocks : ℕ) → 0 < blocks → is_of_body 9 9 blocks ≡ false
+of_no_body blocks some =
+    one_of (leb (9 + blocks) 6) (leb (9 + blocks) 9) (lt-leb (9 + blocks) 6 (omega arith)) (lt-leb (9 + blocks) 9 (omega arith))
+
+some_blocks : {p : Permit} {s : State} {front at : ℕ} {bytes : List ℕ} → IsRestOf p s front at bytes → 0 < length bytes / 512
+some_blocks {s = s} {front = front} {bytes = bytes} h = more_than (length bytes / 512) front s.filled h.whole h.some
+  where
+    more_than : (n front filled : ℕ) → n + front ≡ filled → front < filled → 0 < n
+    more_than n front filled sum less = omega arith
+
+no_body : (b : Bool) → b ≡ false → b || false ≡ false
+no_body b e = rw e refl
+
+-- where the buffer is of what is left behind that end, its write is one of a buffer, and the only one
+module _ (p : Permit) (s : State) (serial cursor floor : ℕ) (bytes : List ℕ) (earlier : List Call) (here : p.area ≡ 9)
+    (write : IsWriteOfRest p (after_all s (rec.SyncDone serial ∷ [])) (ended_calls ++ earlier) 9 bytes) where
+  of_buffer : IsOfBufferBehind p s (flushed serial cursor floor) earlier ended_calls 9 bytes
+  of_buffer = record {
+    before = rec.SyncDone serial ∷ [];
+    behind = rec.Began cursor floor ∷ [];
+    is = refl;
+    order = λ shut asked. subst (λ area. effects_synced area false (ended_calls ++ earlier) ≡ effects_synced area false earlier ++ Finished ∷ [])
+        (sym here) (ends earlier);
+    calm = refl;
+    turn = subst (λ area. content_writes area ended_calls ≤ 0) (sym here) (lit≤ tt);
+    write = write;
+  }
+
+  flush_writes : WritesBuffers AllDone
+      (record { step = p; earlier = earlier; calls = flush_calls bytes; state = s; added = flushed serial cursor floor })
+  flush_writes = record {
+    content = ((λ above. of_buffer), ((λ above. absurd (below p.area 1 here (lit< tt) above)), ((λ above. absurd (below p.area 3 here (lit< tt) above)), tt)));
+    times = subst (λ area. content_writes area (flush_calls bytes) ≤ 1) (sym here) (lit≤ tt);
+    asked = λ none. refl;
+    going = record {
+      calm = refl;
+      gated = λ none. subst (λ area. has_body_since area (flush_calls bytes ++ earlier) ≡ false) (sym here)
+          (no_body (is_of_body 9 9 (length bytes / 512)) (of_no_body (length bytes / 512) (some_blocks write.rest)));
+    };
+  }
+
+-- ---- a flush that is stopped
+
+-- behind the buffer a sync is begun, of which the device refuses the gate
+abbrev stopped_calls : List ℕ → (count : ℕ) → List Call
+stopped_calls bytes count = RefusedCall (ToWrite 1 1 []) count ∷ Wrote 9 bytes ∷ []
+
+abbrev stopped : (serial cursor count : ℕ) → List Rec
+stopped serial cursor count = rec.SyncBegun serial cursor false false ∷ rec.Fault count ∷ []
+
+stop_tells : (s : State) (serial cursor count : ℕ) (bytes : List ℕ) → TellsSyncs 9 s (stopped_calls bytes count) (stopped serial cursor count)
+stop_tells s serial cursor count bytes = record {
+  effects = λ earlier shut asked.
+      ap (λ b. (effects_synced 9 false earlier ++ []) ++ Denied count ∷ (if b then [] else Unasked ∷ []))
+      (both_of (is_asked_refusal 9 1 (Wrote 9 bytes ∷ earlier)) true asked).0
+      ∙ ap (λ es. es ++ Denied count ∷ []) (append-nil (effects_synced 9 false earlier));
+  shut = λ earlier shut. refl;
+  copies = λ wrote. or_begun (is_some s.running);
+}
+
+-- its gate is one to ask for where no body was left before
+asked_for : (a b : Bool) → a ≡ false → b ≡ false → ((false || not (a || (true && b))) || false) && true ≡ true
+asked_for a b first second = rw (first, second) refl
+
+-- its write is the one for which no buffer begins
+stop_writes : (p : Permit) (s : State) (serial cursor count : ℕ) (bytes : List ℕ) (earlier : List Call) → p.area ≡ 9
+    → IsWriteOfRest p s earlier 9 bytes
+    → WritesBuffers (Stops (Faulted count))
+    (record { step = p; earlier = earlier; calls = stopped_calls bytes count; state = s; added = stopped serial cursor count })
+stop_writes p s serial cursor count bytes earlier here write = record {
+  content = (
+    (λ above. record {
+      before = [];
+      behind = stopped serial cursor count;
+      is = refl;
+      order = λ shut asked. sym (append-nil (effects_synced p.area false earlier));
+      calm = refl;
+      turn = lit≤ tt;
+      write = write;
+    }),
+    tt,
+  );
+  times = subst (λ area. content_writes area (stopped_calls bytes count) ≤ 1) (sym here) (lit≤ tt);
+  asked = subst (λ area. has_body_since area earlier ≡ false → are_asked_refusals area earlier (stopped_calls bytes count) ≡ true) (sym here)
+      (λ none. asked_for (is_of_body 9 9 (length bytes / 512)) (has_body_since 9 earlier) (of_no_body (length bytes / 512) (some_blocks write.rest)) none);
+  going = tt;
+}

@@ -1,0 +1,73 @@
+-- What a call cannot make up.
+use Rattle.std.specs.Prelude.{ℕ, ◌≡◌, ◌+◌, Bool, true, false, List, [], ◌∷◌, Some}
+use Rattle.device_log.specs.Calls.{Asked, ToRead, Call, Read, Wrote, RefusedCall}
+use Rattle.tape_base.specs.declared.keys.Key.{Key}
+use Rattle.tape_base.specs.Place.{slot_of}
+use Rattle.alternate_vector.specs.Field.{Field}
+use Rattle.cache_model.specs.declared.record.Rec.{Rec}
+use Rattle.cache_model.specs.declared.record.Rec.TheVariants as rec
+use Rattle.cache_model.specs.State.{Row}
+use Rattle.cache_model.specs.Kept.{state_of}
+use Rattle.cache_model.specs.Verdict.{live_vector_of}
+use Rattle.cache_model.specs.Permit.{HasCopies, IsAmong, Look}
+use Rattle.cache_model.specs.Given.{IsWritten}
+use Rattle.cache_model.specs.Pair.{Documents}
+use Rattle.call_laws.specs.Moments.{At, Facts}
+use Rattle.call_laws.specs.Progress.{AllDone}
+use Rattle.call_laws.specs.Happens.{Happens}
+use Rattle.call_laws.specs.Serves.{ServesFrom}
+
+-- a fault that was recorded is a call that failed, with its count
+abbrev pub FaultsAreRefusals : Type 0
+FaultsAreRefusals =
+    (a b : At) (calls : List Call) (added : List Rec) (count : ℕ)
+    → Happens a b calls added → IsAmong (rec.Fault count) added
+    → (asked : Asked) × IsAmong (RefusedCall asked count) calls
+
+-- and a call that failed is a fault that was recorded
+abbrev pub RefusalsAreFaults : Type 0
+RefusalsAreFaults =
+    (a b : At) (calls : List Call) (added : List Rec) (asked : Asked) (count : ℕ)
+    → Happens a b calls added → IsAmong (RefusedCall asked count) calls → IsAmong (rec.Fault count) added
+
+-- of a stripe that does not sync: where a buffer begins, the device took a write
+abbrev pub BeginningsAreWrites : Type 0
+BeginningsAreWrites =
+    (a b : At) (calls : List Call) (added : List Rec) (cursor floor : ℕ)
+    → a.setting.syncs ≡ false → Happens a b calls added → IsAmong (rec.Began cursor floor) added
+    → (at : ℕ) × (bytes : List ℕ) × IsAmong (Wrote at bytes) calls
+
+-- and where it took one, a buffer begins
+abbrev pub WritesAreBeginnings : Type 0
+WritesAreBeginnings =
+    (a b : At) (calls : List Call) (added : List Rec) (at : ℕ) (bytes : List ℕ)
+    → a.setting.syncs ≡ false → Happens a b calls added → IsAmong (Wrote at bytes) calls
+    → (cursor : ℕ) × (floor : ℕ) × IsAmong (rec.Began cursor floor) added
+
+-- a read, a write, or a call that failed
+abbrev pub is_plain : Call → Bool
+is_plain (Read at bytes) = true
+is_plain (Wrote at bytes) = true
+is_plain (RefusedCall asked count) = true
+is_plain _ = false
+
+-- of such a stripe: the device made no other call
+abbrev pub CallsArePlain : Type 0
+CallsArePlain =
+    (a b : At) (calls : List Call) (added : List Rec) (call : Call)
+    → a.setting.syncs ≡ false → Happens a b calls added → IsAmong call calls → is_plain call ≡ true
+
+-- in one of these calls the device was asked for so many blocks from one on: it gave something from there on, or failed
+pub data WasAsked (block blocks : ℕ) (calls : List Call) : Type 0 where
+  gave : (bytes : List ℕ) → IsAmong (Read block bytes) calls → WasAsked block blocks calls
+  failed : (count : ℕ) → IsAmong (RefusedCall (ToRead block blocks) count) calls → WasAsked block blocks calls
+
+-- a lookup whose key has a live vector that was written out asked the device for it in its own calls, also where it shows a
+-- pair
+abbrev pub LookupsAsk : Documents → (before known : Facts) → Type 0
+LookupsAsk IsPlaced before known =
+    (now : ℕ) (a b : At) (actor : ℕ) (key : Key) (request : List Field) (row : Row) (past : List Call)
+    → (call : ServesFrom IsPlaced now a b (Look actor key request ∷ []) AllDone before known)
+    → (a.setting.syncs ≡ true → HasCopies a.setting.area) → before past (state_of a.kept)
+    → live_vector_of (state_of a.kept) key ≡ Some row → IsWritten (state_of a.kept) row
+    → WasAsked (slot_of (state_of a.kept).geometry row.place + a.setting.area) row.blocks call.calls

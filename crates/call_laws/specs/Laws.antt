@@ -1,0 +1,201 @@
+-- Laws of what calls did, each as one sentence.
+use Rattle.std.specs.Prelude.{ℕ, ◌≡◌, ◌⊎◌, true, List, [], ◌∷◌, ◌++◌, Option}
+use Rattle.device_log.specs.Calls.{Call}
+use Rattle.cache_model.specs.declared.record.Rec.{Rec}
+use Rattle.cache_model.specs.State.{Row, State, after_all}
+use Rattle.cache_model.specs.Kept.{state_of}
+use Rattle.cache_model.specs.Permit.{End, HasCopies, Intent, Permit, Reason, Work}
+use Rattle.cache_model.specs.Legal.{Does, IsQuiet, MayGrow}
+use Rattle.cache_model.specs.Tape.{IsSound}
+use Rattle.cache_model.specs.Pair.{Documents, IsPair}
+use Rattle.cache_model.specs.Vectors.{IsVectorAs}
+use Rattle.call_laws.specs.Moments.{NothingKnown, At, Both, Encloses, Facts, IsStillAt, IsToldAt, OfState, so_far}
+use Rattle.call_laws.specs.Progress.{AllDone, EndsWith, FallsShort, Leaves, Progress, Stops, Wants, cleanups, left_with, progress_of, progress_of_group}
+use Rattle.call_laws.specs.Happens.{Happens, TellsSyncs}
+use Rattle.call_laws.specs.Serves.{Acts, Groups, IsCall, Serves, ServesFrom, Upshots}
+use Rattle.call_laws.specs.Whole.{GroupsKeep, GroupsLeaveTold, IsWholeStep, WritesFirst}
+
+-- ---- one call
+
+-- a call that does nothing leaves all that it was asked, and what was known; where nothing was asked, all is done
+abbrev pub ServesStill : Documents → (known : Facts) → Type 0
+ServesStill IsPlaced known = (now : ℕ) (a b : At) (asked : List Intent)
+    → IsStillAt a b → ServesFrom IsPlaced now a b asked (Leaves asked) known known
+
+module _ (IsPlaced : Documents) (before known : Facts) where
+  -- a call that does some of what is asked leaves the rest, and what it left of its own
+  abbrev pub ServesPart : Type 0
+  ServesPart = (now : ℕ) (a b : At) (asked left more : List Intent)
+      → ServesFrom IsPlaced now a b asked (Leaves left) before known
+      → ServesFrom IsPlaced now a b (asked ++ more) (Leaves (left ++ more)) before known
+
+  -- where it falls short nothing comes of the rest, if that has no clean-up
+  abbrev pub ServesShort : Type 0
+  ServesShort = (now : ℕ) (a b : At) (asked more : List Intent) (o : Progress) → FallsShort o → cleanups more ≡ []
+      → ServesFrom IsPlaced now a b asked o before known → ServesFrom IsPlaced now a b (asked ++ more) o before known
+
+  -- wherever it comes, it has begun what is asked, as where memory is wanting
+  abbrev pub ServesBegins : Type 0
+  ServesBegins = (now : ℕ) (a b : At) (asked : List Intent) (o : Progress)
+      → ServesFrom IsPlaced now a b asked o before known → ServesFrom IsPlaced now a b asked Wants before known
+
+-- ---- one call behind the other
+
+module _ (IsPlaced : Documents) (before between known : Facts) where
+  -- some is done, and then the rest comes somewhere
+  abbrev pub ServesThen : Type 0
+  ServesThen = (now : ℕ) (a b c : At) (asked more : List Intent) (o : Progress)
+      → ServesFrom IsPlaced now a b asked AllDone before between → ServesFrom IsPlaced now b c more o between known
+      → ServesFrom IsPlaced now a c (asked ++ more) o before known
+
+  -- the first is done, and then the others come somewhere
+  abbrev pub ServesFirst : Type 0
+  ServesFirst = (now : ℕ) (a b c : At) (i : Intent) (more : List Intent) (o : Progress)
+      → ServesFrom IsPlaced now a b (i ∷ []) AllDone before between → ServesFrom IsPlaced now b c more o between known
+      → ServesFrom IsPlaced now a c (i ∷ more) o before known
+
+  -- what one call leaves is what the next one is asked
+  abbrev pub ServesOn : Type 0
+  ServesOn = (now : ℕ) (a b c : At) (asked left : List Intent) (o : Progress)
+      → ServesFrom IsPlaced now a b asked (Leaves left) before between → ServesFrom IsPlaced now b c left o between known
+      → ServesFrom IsPlaced now a c asked o before known
+
+  -- of all that was asked the next one is done
+  abbrev pub ServesNext : Type 0
+  ServesNext = (now : ℕ) (a b c : At) (asked : List Intent) (i : Intent) (more : List Intent)
+      → ServesFrom IsPlaced now a b asked (Leaves (i ∷ more)) before between → ServesFrom IsPlaced now b c (i ∷ []) AllDone between known
+      → ServesFrom IsPlaced now a c asked (Leaves more) before known
+
+  -- or it falls short, and what is behind it has no clean-up
+  abbrev pub ServesEnds : Type 0
+  ServesEnds = (now : ℕ) (a b c : At) (asked : List Intent) (i : Intent) (more : List Intent) (o : Progress)
+      → ServesFrom IsPlaced now a b asked (Leaves (i ∷ more)) before between → ServesFrom IsPlaced now b c (i ∷ []) o between known
+      → FallsShort o → cleanups more ≡ [] → ServesFrom IsPlaced now a c asked o before known
+
+  -- behind a refusal the clean-ups of the rest are done, and the refusal stands
+  abbrev pub ServesFails : Type 0
+  ServesFails = (now : ℕ) (a b c : At) (asked more : List Intent) (why : Reason)
+      → ServesFrom IsPlaced now a b asked (Stops why) before between → ServesFrom IsPlaced now b c (cleanups more) AllDone between known
+      → ServesFrom IsPlaced now a c (asked ++ more) (Stops why) before known
+
+  -- or these fall short too
+  abbrev pub ServesFailsAgain : Type 0
+  ServesFailsAgain = (now : ℕ) (a b c : At) (asked more : List Intent) (why : Reason) (o : Progress)
+      → ServesFrom IsPlaced now a b asked (Stops why) before between → FallsShort o
+      → ServesFrom IsPlaced now b c (cleanups more) o between known
+      → ServesFrom IsPlaced now a c (asked ++ more) o before known
+
+-- in any step, what comes of a call from this state, which tells its syncs, and of the next one comes of both together
+abbrev pub ComeTogether : State → (first last both : Upshots) → Type 0
+ComeTogether s first last both = (p : Permit) (earlier calls more : List Call) (added others : List Rec)
+    → (p.syncs ≡ true → TellsSyncs p.area s calls added)
+    → first (record { step = p; earlier = earlier; calls = calls; state = s; added = added })
+    → last (record { step = p; earlier = calls ++ earlier; calls = more; state = after_all s added; added = others })
+    → both (record { step = p; earlier = earlier; calls = more ++ calls; state = s; added = added ++ others })
+
+-- so it is of two calls
+abbrev pub CallsJoin : (first last both : Upshots) → Type 0
+CallsJoin first last both = (now : ℕ) (a b c : At) → ComeTogether (state_of a.kept) first last both
+    → IsCall now a b first → IsCall now b c last → IsCall now a c both
+
+-- ---- one group of records
+
+-- a call that makes a group of records serves what is asked by it, whatever is known
+abbrev pub ActsServe : Documents → (before : Facts) → Groups → Type 0
+ActsServe IsPlaced before group = (now : ℕ) (a b : At) (i : Intent) (e : End)
+    → ((p : Permit) (s : State) (added : List Rec) → group p s added → Does p s i added e)
+    → Acts now a b group (progress_of_group e) → ServesFrom IsPlaced now a b (i ∷ []) (progress_of i e) before NothingKnown
+
+-- by what is known before, such a group is one for what is asked, and that is known behind it, or a pair is shown of a piece
+-- that is read for it
+abbrev pub GroupServes : Documents → (before known : Facts) → Groups → (now : ℕ) → (old new : At) → Intent → End → Type 0
+GroupServes IsPlaced before known group now old new i e = (p : Permit) (earlier calls : List Call) (added : List Rec)
+    → Encloses now old.setting p earlier calls → Happens old new calls added
+    → before (so_far p earlier) (state_of old.kept) → group p (state_of old.kept) added
+    → Does p (state_of old.kept) i added e × known (so_far p (calls ++ earlier)) (after_all (state_of old.kept) added)
+    ⊎ IsPair IsPlaced p (state_of old.kept) i
+
+-- then the call serves so
+abbrev pub ActsServeKnown : Documents → (before known : Facts) → Groups → Type 0
+ActsServeKnown IsPlaced before known group = (now : ℕ) (a b : At) (i : Intent) (e : End)
+    → GroupServes IsPlaced before known group now a b i e
+    → Acts now a b group (progress_of_group e) → ServesFrom IsPlaced now a b (i ∷ []) (progress_of i e) before known
+
+-- one whose records rest on no call of the device serves what is asked by them
+abbrev pub RecordsServe : Documents → (before : Facts) → Type 0
+RecordsServe IsPlaced before = (now : ℕ) (a b : At) (i : Intent) (e : End) (added : List Rec) → Happens a b [] added
+    → ((p : Permit) → Does p (state_of a.kept) i added e) → ServesFrom IsPlaced now a b (i ∷ []) (progress_of i e) before NothingKnown
+
+-- where that is no record, and nothing happened, what was known stands
+abbrev pub NoneServes : Documents → (known : Facts) → Type 0
+NoneServes IsPlaced known = (now : ℕ) (a b : At) (i : Intent) (e : End) → IsStillAt a b
+    → ((p : Permit) → Does p (state_of a.kept) i [] e) → ServesFrom IsPlaced now a b (i ∷ []) (progress_of i e) known known
+
+-- a call that adds nothing has begun whatever is asked
+abbrev pub ActsWant : Documents → (before : Facts) → Type 0
+ActsWant IsPlaced before = (now : ℕ) (a b : At) (asked : List Intent)
+    → Acts now a b (λ p s added. added ≡ []) Wants → ServesFrom IsPlaced now a b asked Wants before NothingKnown
+
+-- ---- what is known
+
+-- what is known before may be more
+abbrev pub ServesGiven : Documents → (before known other : Facts) → Type 0
+ServesGiven IsPlaced before known other = (now : ℕ) (a b : At) (asked : List Intent) (o : Progress)
+    → ((past : List Call) → other past (state_of a.kept) → before past (state_of a.kept))
+    → ServesFrom IsPlaced now a b asked o before known → ServesFrom IsPlaced now a b asked o other known
+
+-- what is known behind may be less, by what the call left
+abbrev pub ServesKnown : Documents → (before known other : Facts) → Type 0
+ServesKnown IsPlaced before known other = (now : ℕ) (a b : At) (asked : List Intent) (o : Progress)
+    → ((past : List Call) → known past (state_of b.kept) → other past (state_of b.kept))
+    → ServesFrom IsPlaced now a b asked o before known → ServesFrom IsPlaced now a b asked o before other
+
+-- from one moment to the other this follows from that, behind the calls that were made meanwhile
+abbrev pub IsBrought : (old new : At) → (carried brought : Facts) → Type 0
+IsBrought old new carried brought = (past made : List Call) → new.device.past ≡ made ++ old.device.past
+    → carried past (state_of old.kept) → brought (made ++ past) (state_of new.kept)
+
+-- so it is carried over a call, by whatever else is known of that
+abbrev pub ServesCarries : Documents → (before known carried brought : Facts) → Type 0
+ServesCarries IsPlaced before known carried brought = (now : ℕ) (a b : At) (asked : List Intent) (o : Progress)
+    → IsBrought a b carried brought
+    → ServesFrom IsPlaced now a b asked o before known → ServesFrom IsPlaced now a b asked o (Both before carried) (Both known brought)
+
+-- a pair may be one of more documents
+abbrev pub ServesWider : (IsPlaced other : Documents) → (before known : Facts) → Type 0
+ServesWider IsPlaced other before known = (now : ℕ) (a b : At) (asked : List Intent) (o : Progress)
+    → ((s : State) (row : Row) (document : List ℕ) → IsPlaced s row document → other s row document)
+    → ServesFrom IsPlaced now a b asked o before known → ServesFrom other now a b asked o before known
+
+-- what each group of records keeps is kept by a call
+abbrev pub ServesKeeps : Documents → (before known : Facts) → (State → Type 0) → Type 0
+ServesKeeps IsPlaced before known IsSo = (now : ℕ) (a b : At) (asked : List Intent) (o : Progress) → GroupsKeep IsPlaced IsSo
+    → ((past : List Call) → before past (state_of a.kept) → IsSo (state_of a.kept))
+    → ServesFrom IsPlaced now a b asked o before known → ServesFrom IsPlaced now a b asked o before (Both (OfState IsSo) known)
+
+-- so a call that starts from vectors that list their alternates, on a sound tape, leaves them so
+abbrev pub ServesWhereTold : (known : Facts) → Type 0
+ServesWhereTold known = (now : ℕ) (a b : At) (asked : List Intent) (o : Progress) → GroupsLeaveTold → IsSound (state_of a.kept)
+    → ServesFrom IsVectorAs now a b asked o IsToldAt known → ServesFrom IsVectorAs now a b asked o IsToldAt (Both IsToldAt known)
+
+-- and serves
+abbrev pub ToldServes : (known : Facts) → Type 0
+ToldServes known = (now : ℕ) (a b : At) (asked : List Intent) (o : Progress) → GroupsLeaveTold → IsSound (state_of a.kept)
+    → ServesFrom IsVectorAs now a b asked o IsToldAt known → Serves now a b asked o
+
+-- ---- steps
+
+-- a call that leaves nothing of what is asked, and no vector that is not committed, and that writes each buffer once, is a step
+-- of its own, behind any steps with whose calls that is known which it starts from
+abbrev pub ServesStep : Documents → (before known : Facts) → Type 0
+ServesStep IsPlaced before known =
+    (now : ℕ) (a b : At) (asked : List Intent) (o : Progress) (why : Option Reason) (past : List Call) → EndsWith o why
+    → (a.setting.syncs ≡ true → HasCopies a.setting.area) → IsQuiet (state_of b.kept)
+    → WritesFirst now past a b → before past (state_of a.kept)
+    → ServesFrom IsPlaced now a b asked o before known → IsWholeStep IsPlaced now past a b asked why known
+
+-- what records make of some work they make of it with more asked behind it, and something refused before it
+abbrev pub GrowsWithMore : Type 0
+GrowsWithMore =
+    (p : Permit) (s : State) (w after : Work) (added : List Rec) (more : List Intent) (before : Option Reason) → MayGrow p s w added after
+    → MayGrow p s (left_with more before w.intents w.refused) added (left_with more before after.intents after.refused)

@@ -1,0 +1,88 @@
+-- What a call did: one statement for all of them.
+use Rattle.std.specs.Prelude.{ℕ, ◌≡◌, ◌⊎◌, true, false, List, ◌++◌}
+use Rattle.device_log.specs.Calls.{Call}
+use Rattle.cache_model.specs.declared.record.Rec.{Rec}
+use Rattle.cache_model.specs.State.{State, after_all}
+use Rattle.cache_model.specs.Kept.{state_of}
+use Rattle.cache_model.specs.Permit.{Intent, Permit}
+use Rattle.cache_model.specs.Given.{buffers_begun, content_writes, has_body_since, is_calm}
+use Rattle.cache_model.specs.Pair.{Documents, ShowsPair}
+use Rattle.cache_model.specs.Vectors.{IsVectorAs}
+use Rattle.call_laws.specs.Moments.{NothingKnown, At, Encloses, Facts, IsToldAt, so_far}
+use Rattle.call_laws.specs.Progress.{IfLeaving, MayWrite, Progress, Spends, UnlessWanting}
+use Rattle.call_laws.specs.Happens.{AreOfBuffersBehind, Happens, are_asked_refusals}
+
+-- a call as it stands in a step: the calls that the device made in the step before it, those that it made in the call itself,
+-- the state before the call, and the records that this added
+pub record InStep : Type 0 where
+  pub step : Permit
+  pub earlier : List Call
+  pub calls : List Call
+  pub state : State
+  pub added : List Rec
+
+-- what may come of a call in a step
+abbrev pub Upshots : Type 1
+Upshots = InStep → Type 0
+
+-- a call from one moment to the other: what happened, and what comes of it in each step that has it
+pub record IsCall (now : ℕ) (old new : At) (comes : Upshots) : Type 0 where
+  pub calls : List Call
+  pub added : List Rec
+  pub happens : Happens old new calls added
+  pub does : (p : Permit) (earlier : List Call) → Encloses now old.setting p earlier calls
+      → comes (record { step = p; earlier = earlier; calls = calls; state = state_of old.kept; added = added })
+
+-- a call of a stripe that syncs lets its step go on: no write or sync of the device was refused in it, and it leaves no body
+-- without a gate behind it, where none was left before
+pub record LetsGoOn (c : InStep) : Type 0 where
+  pub calm : is_calm c.calls ≡ true
+  pub gated : has_body_since c.step.area c.earlier ≡ false → has_body_since c.step.area (c.calls ++ c.earlier) ≡ false
+
+-- what a call of a stripe that syncs wrote: each write to the content area is of a buffer, there are no more than its progress
+-- allows, and where no body was left without a gate before it, each refused write was one to ask for
+pub record WritesBuffers (o : Progress) (c : InStep) : Type 0 where
+  pub content : AreOfBuffersBehind c.step c.state c.added c.earlier c.calls
+  pub times : MayWrite o (buffers_begun c.added) (content_writes c.step.area c.calls)
+  pub asked : has_body_since c.step.area c.earlier ≡ false → are_asked_refusals c.step.area c.earlier c.calls ≡ true
+  pub going : IfLeaving o (LetsGoOn c)
+
+-- ---- a call that makes one group of records
+
+-- which records a group may be, in a step and a state
+abbrev pub Groups : Type 1
+Groups = Permit → State → List Rec → Type 0
+
+-- the records are such a group, and the writes are what this progress allows
+pub record IsGroup (group : Groups) (o : Progress) (c : InStep) : Type 0 where
+  pub is : group c.step c.state c.added
+  pub buffers : c.step.syncs ≡ true → UnlessWanting o (WritesBuffers o c)
+
+-- a call whose records are such a group, for whatever asks for that: it was done, was refused, or wanted memory
+abbrev pub Acts : (now : ℕ) → (old new : At) → Groups → Progress → Type 0
+Acts now old new group o = IsCall now old new (IsGroup group o)
+
+-- ---- a call that does what it is asked
+
+-- what is asked has come there, and this is known behind it
+pub record Serving (asked : List Intent) (o : Progress) (known : Facts) (c : InStep) : Type 0 where
+  pub spends : Spends c.step c.state asked c.added o
+  pub behind : known (so_far c.step (c.calls ++ c.earlier)) (after_all c.state c.added)
+  pub buffers : c.step.syncs ≡ true → UnlessWanting o (WritesBuffers o c)
+
+-- where this is known before, so it is, or two documents of one SHA-256 are shown some way into the records, by bytes that the
+-- device gave in the step
+pub record Brings (IsPlaced : Documents) (asked : List Intent) (o : Progress) (before known : Facts) (c : InStep) : Type 0 where
+  pub from : before (so_far c.step c.earlier) c.state → Serving asked o known c ⊎ ShowsPair IsPlaced c.step c.state asked c.added
+
+-- a call that was asked this and brought it there, from what is known before to what is known behind
+abbrev pub ServesFrom : Documents → (now : ℕ) → (old new : At) → List Intent → Progress → (before known : Facts) → Type 0
+ServesFrom IsPlaced now old new asked o before known = IsCall now old new (Brings IsPlaced asked o before known)
+
+-- the same where each vector lists its alternates, before and behind
+abbrev pub Serves : (now : ℕ) → (old new : At) → List Intent → Progress → Type 0
+Serves now old new asked o = ServesFrom IsVectorAs now old new asked o IsToldAt IsToldAt
+
+-- the same where nothing is said of what is known behind
+abbrev pub ServesTold : (now : ℕ) → (old new : At) → List Intent → Progress → Type 0
+ServesTold now old new asked o = ServesFrom IsVectorAs now old new asked o IsToldAt NothingKnown
