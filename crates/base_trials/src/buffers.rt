@@ -47,7 +47,9 @@ fn a_document_and_a_copy_are_spelled_behind_the_others(rt: HostRuntime) -> Resul
     let bytes = buffer.bytes();
     assert_eq!(rt; bytes.len(), 1024);
     assert_eq!(rt; &bytes[128..133], b"abcd\0".as_slice());
-    let read = read_doc(&bytes[512..], 7, 65).map_err(|_| "refused")?;
+    let Ok(read) = read_doc(&bytes[512..], 7, 65) else {
+        return Err("refused".into());
+    };
     assert_eq!(rt; read.payload, b"efgh".as_slice());
     Ok(())
 }

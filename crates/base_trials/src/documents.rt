@@ -57,7 +57,7 @@ fn the_worked_document_is_written_over_every_byte(rt: HostRuntime) {
     let mut bytes = [0xff; 512];
     write_doc(&doc(), b"abc", &mut bytes);
     assert_eq!(rt; &bytes[..131], WORKED.as_slice());
-    assert!(rt; bytes[131..].iter().all(|byte| *byte == 0));
+    assert_eq!(rt; &bytes[131..], [0; 381].as_slice());
     assert_eq!(rt; document_digest(&bytes), Digest(WORKED_DIGEST));
 }
 
@@ -69,7 +69,9 @@ fn a_moved_document_is_read_at_its_new_place(rt: HostRuntime) -> Result<(), Fail
     assert_eq!(rt; &bytes[48..56], b"hgfedcba".as_slice());
     assert_eq!(rt; &bytes[112..128], MOVED_CHECK.as_slice());
     assert_eq!(rt; document_digest(&bytes), Digest(MOVED_DIGEST));
-    let read = read_doc(&bytes, GENERATION, MOVED).map_err(|_| "refused")?;
+    let Ok(read) = read_doc(&bytes, GENERATION, MOVED) else {
+        return Err("refused".into());
+    };
     assert_eq!(rt; read.payload, b"abc".as_slice());
     Ok(())
 }

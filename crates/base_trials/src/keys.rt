@@ -1,7 +1,7 @@
 // What no clause of `tape_base` says: keys and places that were worked out by hand.
-use crate::making::small;
+use crate::making::{small, with_segments};
 use std::test::Fail;
-use tape_base::{Geometry, Key, PieceId, blocks_of, floor_of, lap_end, next_cursor, phase};
+use tape_base::{Key, PieceId, blocks_of, floor_of, lap_end, next_cursor, phase};
 
 #[test]
 fn the_url_abc_has_the_worked_key(rt: HostRuntime) -> Result<(), Fail> {
@@ -11,7 +11,7 @@ fn the_url_abc_has_the_worked_key(rt: HostRuntime) -> Result<(), Fail> {
         0x23,
     ];
     assert_eq!(rt; key.bytes(), bytes);
-    let g = Geometry::check(4, 16, 64, 8, 16, 4, 7).map_err(|_| "refused")?;
+    let g = with_segments(4, 16)?;
     assert_eq!(rt;
         (key.segment(&g), key.bucket(&g), key.tag()),
         (2, 15, 0x141)

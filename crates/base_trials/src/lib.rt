@@ -4,14 +4,20 @@
 #[cfg(test)]
 mod buffers;
 #[cfg(test)]
+mod devices;
+#[cfg(test)]
 mod documents;
 #[cfg(test)]
 mod entries;
+#[cfg(test)]
+mod files;
 #[cfg(test)]
 mod keys;
 #[cfg(test)]
 mod making;
 #[cfg(test)]
 mod plans;
+#[cfg(test)]
+mod streams;
 #[cfg(test)]
 mod tables;

@@ -8,8 +8,6 @@ mod host_disk;
 mod laws;
 mod mem_bay;
 mod register;
-#[cfg(test)]
-mod tests;
 
 pub use bay::{Bay, BayFault};
 pub use host_bay::HostBay;

@@ -6,8 +6,6 @@ mod laws;
 mod log;
 mod rows;
 mod streams;
-#[cfg(test)]
-mod tests;
 
 pub use choice::CutChoice;
 pub use laws::{cuts_leave, faults_are_counted, writes_are_seen};

@@ -8,8 +8,6 @@ mod reader;
 mod sink;
 mod source;
 mod streams;
-#[cfg(test)]
-mod tests;
 
 pub use buffer::LineBuffer;
 pub use laws::texts_have_lines;

@@ -7,8 +7,6 @@ mod file_disk;
 mod mem_disk;
 mod pending_block;
 mod switch;
-#[cfg(test)]
-mod tests;
 
 pub use device::{Disk, PowerDisk};
 pub use file_disk::{FileDisk, FileStart};

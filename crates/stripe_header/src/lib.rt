@@ -13,6 +13,3 @@ pub use copies::{read_copy, write_body};
 pub use laws::copies_are_told;
 pub use spans::{read_span, write_span};
 pub use states::{CopyFault, CopyState, Span, SpanFault};
-
-#[cfg(test)]
-mod tests;
