@@ -1,14 +1,11 @@
-//! Prints what an image of a device opens to. Standard input has a line `blocks N`, and then a line
-//! for each block that is not all zeros: its number and its first bytes in hex. The others are zeros.
+//! Prints what images of devices open to. Standard input has for each a line `blocks N`, and then a line
+//! for each block that is not all zeros: its number and its first bytes in hex. The others are zeros. An
+//! empty line stands between two images.
 #![tactic(auto)]
 
 mod faults;
 mod image;
-#[cfg(test)]
-mod known;
 mod pieces;
-#[cfg(test)]
-mod tests;
 
 use image::image_of;
 use reopening::{OpenFault, Opened, open_image, read_area};
@@ -61,17 +58,24 @@ fn answer(alloc: Global, bytes: &[u8], out: &mut String) -> Result<(), AllocErro
     }
 }
 
+// The lines of each image; none where a text is none.
+fn answers(alloc: Global, text: &str) -> Result<Option<String>, AllocError> {
+    let mut out = String::new(alloc);
+    for image in text.split("\n\n") {
+        let Some(bytes) = image_of(alloc, image)? else {
+            return Ok(None);
+        };
+        answer(alloc, &bytes, &mut out)?;
+    }
+    Ok(Some(out))
+}
+
 fn run(rt: &HostRuntime) -> Result<Option<String>, AllocError> {
     let alloc = rt.alloc();
-    let Ok(text) = io::read_to_string(alloc, rt.reader()) else {
-        return Ok(None);
-    };
-    let Some(bytes) = image_of(alloc, text.as_str())? else {
-        return Ok(None);
-    };
-    let mut out = String::new(alloc);
-    answer(alloc, &bytes, &mut out)?;
-    Ok(Some(out))
+    match io::read_to_string(alloc, rt.reader()) {
+        Ok(text) => answers(alloc, text.as_str()),
+        Err(_) => Ok(None),
+    }
 }
 
 fn main(rt: HostRuntime) -> ExitCode {

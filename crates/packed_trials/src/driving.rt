@@ -12,7 +12,7 @@ use tape_base::{Geometry, Key};
 const KEYS: u32 = 300;
 
 /// What was done.
-#[derive(Clone, Copy, Debug, PartialEq, Eq)]
+#[derive(Clone, Copy)]
 pub struct Tally {
     pub inserts: u64,
     pub deletes: u64,
@@ -23,7 +23,7 @@ pub struct Tally {
 }
 
 /// Where the two differ, or a purge is not as it has to be.
-#[derive(Debug, Drop)]
+#[derive(Drop)]
 pub enum Unlike {
     Deleted,
     Places,
@@ -47,7 +47,7 @@ impl From<AllocError> for Unlike {
 }
 
 /// A row that both have.
-#[derive(Clone, Copy, Debug)]
+#[derive(Clone, Copy)]
 struct Known {
     place: u64,
     number: u32,
@@ -69,8 +69,7 @@ fn next_draw(draw: u64) -> u64 {
 
 // The high half of a draw, whose low bits repeat soon.
 fn high(draw: u64) -> u32 {
-    let [.., a, b, c, d] = draw.to_le_bytes();
-    u32::from_le_bytes([a, b, c, d])
+    (draw / (1 << 32)) as u32
 }
 
 // A key's number.
@@ -117,12 +116,34 @@ fn known_in(known: &[Known], g: &Geometry, segment: u32) -> u64 {
 
 // Whether a row of a key's number stands at a place.
 fn stands_in(known: &[Known], number: u32, place: u64) -> bool {
-    known.iter().any(|k| k.place == place && k.number == number)
+    let mut stands = false;
+    for k in known {
+        stands |= k.place == place && k.number == number;
+    }
+    stands
 }
 
 // How many known rows a key's number has.
 fn count_of(known: &[Known], number: u32) -> usize {
-    known.iter().filter(|k| k.number == number).count()
+    let mut count = 0usize;
+    for k in known {
+        if k.number == number {
+            count = count.saturating_add(1);
+        }
+    }
+    count
+}
+
+// The rows below a floor go.
+fn forget_below(known: &mut Vec<Known>, floor: u64) {
+    let mut at = 0usize;
+    for _ in 0..known.len() {
+        if at < known.len() && known[at].place < floor {
+            known.swap_remove(at);
+        } else {
+            at = at.saturating_add(1);
+        }
+    }
 }
 
 // Takes what the last insert displaced out of the other directory and the rows known: a tenth of
@@ -212,7 +233,10 @@ impl<L: Directory + Drop> Both<L> {
             Some(place) => place,
             None => {
                 self.turn()?;
-                self.put(number)?.ok_or(Unlike::TapeEnd)?
+                match self.put(number)? {
+                    Some(place) => place,
+                    None => return Err(Unlike::TapeEnd),
+                }
             }
         };
         if follow_purge(&mut self.list, &self.packed, &mut self.known)? {
@@ -225,14 +249,10 @@ impl<L: Directory + Drop> Both<L> {
 
     // The next buffer begins: the rows below its floor go.
     fn turn(&mut self) -> Result<(), Unlike> {
-        let next = self.packed.turn();
-        if self.list.turn() != next {
+        if !self.list.turn() || !self.packed.turn() || self.list.cursor != self.packed.cursor {
             return Err(Unlike::TapeEnd);
         }
-        let Some((_, floor)) = next else {
-            return Err(Unlike::TapeEnd);
-        };
-        self.known.retain(|k| k.place >= floor);
+        forget_below(&mut self.known, self.packed.floor);
         self.tally.turns = self.tally.turns.saturating_add(1);
         Ok(())
     }

@@ -57,21 +57,20 @@ pub fn image_length(g: &Geometry) -> usize
     512 * PackedDirectory::image_blocks(g) as usize
 }
 
-/// The image that the directory of an image gives at the same cursor; none where the bytes are
-/// none.
-pub fn written_again(
+/// Whether the directory of an image gives the same bytes at the same cursor.
+pub fn is_written_again(
     alloc: Global,
     g: &Geometry,
     cursor: u64,
     floor: u64,
     bytes: &[u8],
-) -> Result<Option<Vec<u8>>, ImageFault> {
+) -> Result<bool, ImageFault> {
     let len = image_length(g);
     if bytes.len() != len || !may_read(g, cursor, floor) || lap_end(g, cursor) < cursor {
-        return Ok(None);
+        return Ok(false);
     }
     let directory = PackedDirectory::from_image(alloc, g, cursor, floor, bytes)?;
     let mut again = vec![in alloc; 255; len]?;
     directory.image(cursor, &mut again);
-    Ok(Some(again))
+    Ok(again.as_slice() == bytes)
 }

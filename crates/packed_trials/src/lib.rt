@@ -1,16 +1,15 @@
-//! Callers of the packed directory that are proved, and its tests, beside the plain directory.
+//! Tests of the packed directory beside the plain one, with callers that are proved for any directory.
 #![tactic(auto)]
 
+#[cfg(test)]
 mod driving;
+#[cfg(test)]
 mod images;
 #[cfg(test)]
 mod tables;
+#[cfg(test)]
 mod taped;
 #[cfg(test)]
 mod tests;
+#[cfg(test)]
 mod walks;
-
-pub use driving::{Tally, Unlike, drive};
-pub use images::{count_image, image_length, read_image, written_again};
-pub use taped::{Taped, image_of, read_at};
-pub use walks::{all_rows, places_of};

@@ -19,8 +19,8 @@ const LAST: u64 = 1 << 61;
 pub struct Taped<D: Directory + Drop> {
     pub(crate) directory: D,
     pub(crate) geometry: Geometry,
-    cursor: u64,
-    floor: u64,
+    pub(crate) cursor: u64,
+    pub(crate) floor: u64,
     end: u64,
     ghost agrees: { D.window directory
         ≡ record { geometry = geometry; cursor = cursor; floor = floor; end = end } },
@@ -76,27 +76,29 @@ impl<D: Directory + Drop> Taped<D> {
             && lap(g, self.end) == lap(g, self.cursor)
     }
 
-    /// Begins the next buffer, and gives its cursor and its floor, unless the tape ends.
-    pub fn turn(&mut self) -> Option<(u64, u64)> {
+    /// Begins the next buffer, unless the tape ends, and says whether it did.
+    pub fn turn(&mut self) -> bool {
         let g = self.geometry;
-        let filled = self.end.checked_sub(self.cursor)?;
+        let Some(filled) = self.end.checked_sub(self.cursor) else {
+            return false;
+        };
         if filled > g.agg as u64 || self.cursor >= LAST {
-            return None;
+            return false;
         }
         let cursor = next_cursor(&g, self.cursor, filled as u32);
         if cursor < self.end || cursor < g.content || cursor >= LAST {
-            return None;
+            return false;
         }
         let floor = floor_of(&g, cursor);
         if floor > cursor {
-            return None;
+            return false;
         }
         self.directory.rows_fit();
         self.directory.wrap(cursor, floor);
         self.cursor = cursor;
         self.floor = floor;
         self.end = cursor;
-        Some((cursor, floor))
+        true
     }
 
     /// Takes the row of a key at a place out, and says whether it stood there.

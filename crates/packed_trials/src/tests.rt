@@ -1,10 +1,11 @@
 // Worked bytes, purges, wraps, images from outside, and many calls on both directories.
-use super::*;
-use crate::driving::key_of;
-use crate::tables::{BAD, Bad, FaultTold, GOOD, Good, Told};
-use dir_segment::SegmentFault;
+use crate::driving::{Tally, drive, key_of};
+use crate::images::{count_image, image_length, is_written_again, read_image};
+use crate::tables::{GOOD, Good};
+use crate::taped::{Taped, image_of};
+use crate::walks::all_rows;
 use dir_table::{Directory, Displaced, ListDirectory, StoredRow};
-use packed_directory::{ImageFault, PackedDirectory};
+use packed_directory::PackedDirectory;
 use std::alloc::{AllocError, Global};
 use std::test::Fail;
 use tape_base::{Geometry, Key};
@@ -23,14 +24,8 @@ fn bytes_of(alloc: Global, text: &str, len: usize) -> Result<Vec<u8>, Fail> {
     let dots = text.replace(alloc, "-", ".........")?;
     let digits = dots.replace(alloc, ".", "00")?;
     let mut bytes = hex::decode(alloc, digits.as_str())?;
-    for _ in bytes.len()..len {
-        bytes.push(0)?;
-    }
+    bytes.resize(len, 0)?;
     Ok(bytes)
-}
-
-fn image_told(alloc: Global, told: &Told, g: &Geometry) -> Result<Vec<u8>, Fail> {
-    bytes_of(alloc, told.bytes, image_length(g))
 }
 
 // Whether an image has these bytes.
@@ -46,20 +41,15 @@ fn has_image(
     }
 }
 
-// Segment 2 is 644 bytes long, bucket 15 begins with slot 60: these are the bytes of that slot.
-fn worked_entry(
-    alloc: Global,
-    taped: &Taped<PackedDirectory>,
-) -> Result<Option<[u8; 10]>, AllocError> {
-    let Some(image) = image_of(alloc, taped)? else {
-        return Ok(None);
-    };
-    if image.len() != 3072 {
-        return Ok(None);
+// That of `abc` at place 65.
+const WORKED_ENTRY: [u8; 10] = [2, 0, 0, 0, 0x41, 0x31, 0, 0, 0, 0];
+
+// Whether segment 2, which is 644 bytes long, has it in slot 60, which begins bucket 15.
+fn has_worked_entry(alloc: Global, taped: &Taped<PackedDirectory>) -> Result<bool, AllocError> {
+    match image_of(alloc, taped)? {
+        None => Ok(false),
+        Some(image) => Ok(image.len() == 3072 && &image[1892..1902] == WORKED_ENTRY.as_slice()),
     }
-    let mut entry = [0; 10];
-    entry.copy_from_slice(&image[1892..1902]);
-    Ok(Some(entry))
 }
 
 // Enters a piece that fills a buffer's first block, and a vector behind it.
@@ -74,8 +64,7 @@ fn the_worked_entry_comes_out(rt: HostRuntime) -> Result<(), Fail> {
     let g = geometry_of((4, 16, 64, 8, 16, 4))?;
     let mut taped: Taped<PackedDirectory> = Taped::new(rt.alloc(), &g)?;
     assert!(rt; enter_worked(&mut taped)?);
-    let entry = worked_entry(rt.alloc(), &taped)?;
-    assert_eq!(rt; entry, Some([2, 0, 0, 0, 0x41, 0x31, 0, 0, 0, 0]));
+    assert!(rt; has_worked_entry(rt.alloc(), &taped)?);
     Ok(())
 }
 
@@ -157,13 +146,6 @@ fn a_purge_takes_the_first_and_the_eleventh(rt: HostRuntime) -> Result<(), Fail>
     Ok(())
 }
 
-fn is_next(next: Option<(u64, u64)>, cursor: u64, floor: u64) -> bool {
-    match next {
-        Some((at, from)) => at == cursor && from == floor,
-        None => false,
-    }
-}
-
 // Fills a buffer and turns to the next, and says whether place, cursor and floor are these.
 fn turns(
     taped: &mut Taped<PackedDirectory>,
@@ -172,8 +154,8 @@ fn turns(
     floor: u64,
 ) -> Result<bool, AllocError> {
     let entered = taped.insert(key_of(0), 14, false, false)?;
-    let next = taped.turn();
-    Ok(entered == Some(place) && is_next(next, cursor, floor))
+    let turned = taped.turn() && taped.cursor == cursor && taped.floor == floor;
+    Ok(entered == Some(place) && turned)
 }
 
 // Whether of three places in one block of three laps the second alone has a row, and has it once.
@@ -240,18 +222,9 @@ fn stand_at(rows: &[StoredRow], spots: &[(u32, u32, u16, u64)]) -> bool {
 
 // Whether these are the rows of an image from the floor on.
 fn has_rows(alloc: Global, good: &Good, g: &Geometry, bytes: &[u8]) -> Result<bool, AllocError> {
-    let told = &good.told;
-    match read_image(alloc, g, told.cursor, told.floor, bytes) {
+    match read_image(alloc, g, good.cursor, good.floor, bytes) {
         Some(Ok(read)) => Ok(stand_at(&all_rows(alloc, &read)?, good.rows)),
         _ => Ok(false),
-    }
-}
-
-// Whether an image is written again byte for byte.
-fn is_written_again(alloc: Global, told: &Told, g: &Geometry, bytes: &[u8]) -> bool {
-    match written_again(alloc, g, told.cursor, told.floor, bytes) {
-        Ok(Some(again)) => again.as_slice() == bytes,
-        _ => false,
     }
 }
 
@@ -265,74 +238,23 @@ fn has_count(alloc: Global, g: &Geometry, bytes: &[u8], entries: u64) -> bool {
 // Whether an image has the entries and the rows that were told, and is written again where all its
 // entries count.
 fn is_read(alloc: Global, good: &Good) -> Result<bool, Fail> {
-    let told = &good.told;
-    let g = geometry_of(told.geometry)?;
-    let bytes = image_told(alloc, told, &g)?;
-    let whole = good.rows.len() as u64 == good.entries;
+    let g = geometry_of(good.geometry)?;
+    let bytes = bytes_of(alloc, good.bytes, image_length(&g))?;
+    let again = matches!(
+        is_written_again(alloc, &g, good.cursor, good.floor, &bytes),
+        Ok(true)
+    );
     Ok(
         has_count(alloc, &g, &bytes, good.entries)
             && has_rows(alloc, good, &g, &bytes)?
-            && is_written_again(alloc, told, &g, &bytes) == whole,
+            && again == (good.rows.len() as u64 == good.entries),
     )
 }
 
 #[test]
 fn images_from_outside_are_read_and_written_again(rt: HostRuntime) -> Result<(), Fail> {
     for good in &GOOD {
-        assert!(rt; is_read(rt.alloc(), good)?, "{}", good.told.name);
-    }
-    Ok(())
-}
-
-// The fault of a segment, unless memory ran out.
-fn told_of(fault: &SegmentFault) -> Option<FaultTold> {
-    match fault {
-        SegmentFault::BadLink { slot } => Some(FaultTold::BadLink(*slot)),
-        SegmentFault::Loop { slot } => Some(FaultTold::Loop(*slot)),
-        SegmentFault::FreeListCount { kept, found } => {
-            Some(FaultTold::FreeListCount(*kept, *found))
-        }
-        SegmentFault::Memory(_) => None,
-    }
-}
-
-// Whether this is the fault that was told.
-fn is_told(found: &ImageFault, bad: &Bad) -> bool {
-    match found {
-        ImageFault::Segment { number, fault } => {
-            *number == bad.segment && told_of(fault) == Some(bad.fault)
-        }
-        ImageFault::Memory(_) => false,
-    }
-}
-
-// Whether an image is refused with its fault as it is read.
-fn is_refused(alloc: Global, bad: &Bad, g: &Geometry, bytes: &[u8]) -> bool {
-    let told = &bad.told;
-    match read_image(alloc, g, told.cursor, told.floor, bytes) {
-        Some(Err(fault)) => is_told(&fault, bad),
-        _ => false,
-    }
-}
-
-// The same as its entries are counted.
-fn is_uncounted(alloc: Global, bad: &Bad, g: &Geometry, bytes: &[u8]) -> bool {
-    match count_image(alloc, g, bytes) {
-        Some(Err(fault)) => is_told(&fault, bad),
-        _ => false,
-    }
-}
-
-fn is_bad(alloc: Global, bad: &Bad) -> Result<bool, Fail> {
-    let g = geometry_of(bad.told.geometry)?;
-    let bytes = image_told(alloc, &bad.told, &g)?;
-    Ok(is_refused(alloc, bad, &g, &bytes) && is_uncounted(alloc, bad, &g, &bytes))
-}
-
-#[test]
-fn images_from_outside_are_refused_at_their_first_fault(rt: HostRuntime) -> Result<(), Fail> {
-    for bad in &BAD {
-        assert!(rt; is_bad(rt.alloc(), bad)?, "{}", bad.told.name);
+        assert!(rt; is_read(rt.alloc(), good)?, "{}", good.name);
     }
     Ok(())
 }

@@ -1,9 +1,11 @@
 // The power is cut behind each call of a sync, in each way: what stands is what the calls say.
+ghost use Rattle.std.specs.Prelude.{◌≤◌};
+
 use crate::devices::{BodyFound, CopyFound};
-use crate::stripes::{Stripe, Way, trial_stripe};
-use crate::trials::{Report, Trial, cut_behind};
+use crate::stripes::{Stripe, Way, small_geometry, trial_stripe};
+use crate::trials::{NONE, Report, Trial, cut_behind};
 use device_log::CutChoice;
-use std::alloc::Global;
+use std::alloc::{AllocError, Global};
 use std::test::Fail;
 use stripe_header::Side;
 
@@ -45,25 +47,25 @@ fn wanted(trial: &Trial, last: u64) -> Report {
     let left = last.saturating_sub(trial.calls);
     Report {
         done: left == 0,
-        this: Some(CopyFound {
+        this: CopyFound {
             open: is_open(trial.calls, left, trial.choice),
             body: body_behind(trial.calls, left, trial.choice),
-        }),
-        other: Some(CopyFound {
+        },
+        other: CopyFound {
             open: true,
             body: BodyFound::Old,
-        }),
+        },
     }
 }
 
-// Behind how many calls a cut first leaves something else.
-fn first_unlike(
+// Whether each cut leaves what its calls say.
+fn are_as_told(
     alloc: Global,
     stripe: &Stripe,
     way: Way,
     last: u64,
     side: Side,
-) -> Result<Option<u64>, Fail> {
+) -> Result<bool, AllocError> {
     for choice in CHOICES {
         for calls in 0..10u64 {
             let trial = Trial {
@@ -72,33 +74,41 @@ fn first_unlike(
                 calls,
                 choice,
             };
-            if cut_behind(alloc, stripe, &trial)? != wanted(&trial, last) {
-                return Ok(Some(calls));
+            let mut report = NONE;
+            cut_behind(alloc, stripe, &trial, &mut report)?;
+            if report != wanted(&trial, last) {
+                return Ok(false);
             }
         }
     }
-    Ok(None)
+    Ok(true)
 }
 
 // The same of both copies of a stripe with such a directory.
-fn sweep(alloc: Global, directory: u64, way: Way, last: u64) -> Result<Option<u64>, Fail> {
-    let stripe = trial_stripe(alloc, directory)?.ok_or("no stripe")?;
-    match first_unlike(alloc, &stripe, way, last, Side::A)? {
-        Some(calls) => Ok(Some(calls)),
-        None => first_unlike(alloc, &stripe, way, last, Side::B),
-    }
+fn sweep(alloc: Global, directory: u64, way: Way, last: u64) -> Result<bool, AllocError>
+    requires some { 1 ≤ directory }
+    requires few { directory ≤ 1000 }
+{
+    let Some(geometry) = small_geometry() else {
+        return Ok(false);
+    };
+    let stripe = trial_stripe(alloc, geometry, directory)?;
+    Ok(
+        are_as_told(alloc, &stripe, way, last, Side::A)?
+            && are_as_told(alloc, &stripe, way, last, Side::B)?,
+    )
 }
 
 #[test]
 fn a_cut_of_a_whole_sync_leaves_what_its_calls_say(rt: HostRuntime) -> Result<(), Fail> {
-    assert_eq!(rt; sweep(rt.alloc(), 1, Way::Whole, 6)?, None);
-    assert_eq!(rt; sweep(rt.alloc(), 130, Way::Whole, 6)?, None);
+    assert!(rt; sweep(rt.alloc(), 1, Way::Whole, 6)?);
+    assert!(rt; sweep(rt.alloc(), 130, Way::Whole, 6)?);
     Ok(())
 }
 
 #[test]
 fn a_cut_of_a_sync_in_parts_leaves_what_its_calls_say(rt: HostRuntime) -> Result<(), Fail> {
-    assert_eq!(rt; sweep(rt.alloc(), 1, Way::Parts, 6)?, None);
-    assert_eq!(rt; sweep(rt.alloc(), 130, Way::Parts, 8)?, None);
+    assert!(rt; sweep(rt.alloc(), 1, Way::Parts, 6)?);
+    assert!(rt; sweep(rt.alloc(), 130, Way::Parts, 8)?);
     Ok(())
 }

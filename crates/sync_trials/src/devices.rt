@@ -3,7 +3,6 @@ ghost use Rattle.std.specs.Prelude.{◌≡◌, ◌≤◌, ◌<◌, ◌*◌, leng
 ghost use Rattle.stripe_header.specs.Layout.{body_blocks, device_blocks};
 ghost use Rattle.logged_disk.specs.MemDisk.{mem_state};
 
-use edge_io::Failed;
 use logged_disk::{Disk, MemDisk};
 use std::alloc::{AllocError, Global};
 use stripe_header::{Area, Side};
@@ -13,6 +12,7 @@ const BLOCK: usize = 512;
 /// Which body a copy has.
 #[derive(Clone, Copy, PartialEq, Eq)]
 pub enum BodyFound {
+    Unread,
     Old,
     New,
     /// Neither the old one nor the new one.
@@ -24,12 +24,6 @@ pub enum BodyFound {
 pub struct CopyFound {
     pub open: bool,
     pub body: BodyFound,
-}
-
-fn open_block() -> [u8; BLOCK] {
-    let mut block = [0; BLOCK];
-    block[0] = 1;
-    block
 }
 
 /// Puts a copy behind an open gate, and leaves nothing pending; whether no call failed.
@@ -45,19 +39,18 @@ pub fn lay_copy(
 {
     disk.make_room(3, area.body_blocks() + 1)?;
     let body_is = disk.write(area.body(side), body).is_ok();
-    let gate_is = disk.write(side.gate(), &open_block()).is_ok();
+    let gate_is = disk.write(side.gate(), &[1; BLOCK]).is_ok();
     let synced = disk.sync().is_ok();
     Ok(body_is && gate_is && synced)
 }
 
 // Whether a gate is open.
-fn is_open(disk: &mut MemDisk, side: Side) -> Result<bool, Failed>
+fn is_open(disk: &mut MemDisk, side: Side) -> bool
     requires within { 2 < (mem_state disk.old).size }
     ensures size { (mem_state disk.new).size ≡ (mem_state disk.old).size }
 {
     let mut gate = [0; BLOCK];
-    disk.read(side.gate(), &mut gate)?;
-    Ok(gate[0] == 1)
+    disk.read(side.gate(), &mut gate).is_ok() && gate[0] == 1
 }
 
 fn body_found(found: &[u8], old: &[u8], new: &[u8]) -> BodyFound {
@@ -70,7 +63,7 @@ fn body_found(found: &[u8], old: &[u8], new: &[u8]) -> BodyFound {
     }
 }
 
-/// What stands of a copy; none where a read fails.
+/// Finds what stands of a copy, where nothing was found of it yet.
 pub fn find_copy(
     alloc: Global,
     disk: &mut MemDisk,
@@ -78,18 +71,15 @@ pub fn find_copy(
     side: Side,
     old: &[u8],
     new: &[u8],
-) -> Result<Option<CopyFound>, AllocError>
+    copy: &mut CopyFound,
+) -> Result<(), AllocError>
     requires within { device_blocks area.now ≤ (mem_state disk.old).size }
     ensures size { (mem_state disk.new).size ≡ (mem_state disk.old).size }
 {
     let mut found = vec![in alloc; 0u8; BLOCK * area.body_blocks() as usize]?;
-    let open = match is_open(disk, side) {
-        Err(Failed) => return Ok(None),
-        Ok(open) => open,
-    };
-    if disk.read(area.body(side), &mut found).is_err() {
-        return Ok(None);
+    copy.open = is_open(disk, side);
+    if disk.read(area.body(side), &mut found).is_ok() {
+        copy.body = body_found(&found, old, new);
     }
-    let body = body_found(&found, old, new);
-    Ok(Some(CopyFound { open, body }))
+    Ok(())
 }

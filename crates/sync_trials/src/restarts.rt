@@ -1,11 +1,11 @@
 // Each call of a sync fails once. It is begun again, and the power is cut behind each later call.
-ghost use Rattle.std.specs.Prelude.{◌<◌};
+ghost use Rattle.std.specs.Prelude.{◌<◌, ◌≤◌};
 
 use crate::devices::{BodyFound, CopyFound};
-use crate::stripes::{Stripe, Way, trial_stripe};
-use crate::trials::{Report, Trial, cut_behind_restart};
+use crate::stripes::{Stripe, Way, small_geometry, trial_stripe};
+use crate::trials::{NONE, Report, Trial, cut_behind_restart};
 use device_log::CutChoice;
-use std::alloc::Global;
+use std::alloc::{AllocError, Global};
 use std::test::Fail;
 use stripe_header::Side;
 
@@ -42,8 +42,10 @@ impl Met {
 
 // Whether the other copy is untouched, and this one shut or whole, and the new one where it was
 // done.
-fn is_safe(report: &Report, this: CopyFound) -> bool {
-    report.other == Some(UNTOUCHED)
+fn is_safe(report: &Report) -> bool {
+    let this = report.this;
+    report.other == UNTOUCHED
+        && this.body != BodyFound::Unread
         && (!this.open || this.body != BodyFound::Mixed)
         && (!report.done || this == REPLACED)
 }
@@ -54,13 +56,13 @@ fn try_one(
     trial: &Trial,
     nth: u64,
     met: &mut Met,
-) -> Result<(), Fail>
+) -> Result<(), AllocError>
     requires { 0 < nth }
 {
-    let report = cut_behind_restart(alloc, stripe, trial, nth)?;
-    let this = report.this.ok_or("no copy was read")?;
-    met.all_safe = met.all_safe && is_safe(&report, this);
-    met.add(this);
+    let mut report = NONE;
+    cut_behind_restart(alloc, stripe, trial, nth, &mut report)?;
+    met.all_safe &= is_safe(&report);
+    met.add(report.this);
     Ok(())
 }
 
@@ -72,7 +74,7 @@ fn try_fault(
     way: Way,
     nth: u64,
     met: &mut Met,
-) -> Result<(), Fail>
+) -> Result<(), AllocError>
     requires { 0 < nth }
 {
     for choice in [
@@ -96,8 +98,20 @@ fn try_fault(
 
 // Those of each fault of a sync of so many calls: whether all were safe, and each of the three ways
 // was met.
-fn is_met(alloc: Global, directory: u64, way: Way, last: u64, side: Side) -> Result<bool, Fail> {
-    let stripe = trial_stripe(alloc, directory)?.ok_or("no stripe")?;
+fn is_met(
+    alloc: Global,
+    directory: u64,
+    way: Way,
+    last: u64,
+    side: Side,
+) -> Result<bool, AllocError>
+    requires some { 1 ≤ directory }
+    requires few { directory ≤ 1000 }
+{
+    let Some(geometry) = small_geometry() else {
+        return Ok(false);
+    };
+    let stripe = trial_stripe(alloc, geometry, directory)?;
     let mut met = Met {
         before: 0,
         shut: 0,

@@ -53,27 +53,23 @@ fn body_of(alloc: Global, area: &Area, serial: u8) -> Result<Vec<u8>, AllocError
     Ok(body)
 }
 
-fn small_geometry() -> Option<Geometry> {
+pub fn small_geometry() -> Option<Geometry> {
     Geometry::check(1, 2, 64, 16, 32, 1000, 7).ok()
 }
 
-/// A stripe whose directory has so many blocks; none where it has none, or too many.
-pub fn trial_stripe(alloc: Global, directory: u64) -> Result<Option<Stripe>, AllocError> {
-    let geometry = match small_geometry() {
-        None => return Ok(None),
-        Some(geometry) => geometry,
-    };
-    if !(1..=1000).contains(&directory) {
-        return Ok(None);
-    }
+/// A stripe whose directory has so many blocks.
+pub fn trial_stripe(alloc: Global, geometry: Geometry, directory: u64) -> Result<Stripe, AllocError>
+    requires some { 1 ≤ directory }
+    requires few { directory ≤ 1000 }
+{
     let area = Area {
         geometry,
         directory,
     };
-    Ok(Some(Stripe {
+    Ok(Stripe {
         area,
         old: body_of(alloc, &area, 3)?,
         other: body_of(alloc, &area, 4)?,
         new: body_of(alloc, &area, 5)?,
-    }))
+    })
 }

@@ -1,35 +1,14 @@
 // A sync on a device in memory, with the room that each of its calls needs.
-ghost use Rattle.std.specs.Prelude.{◌≡◌, ◌≤◌, ◌<◌, ◌*◌, length, IfOk, IfErr, false};
-ghost use Rattle.stripe_header.specs.Layout.{body_blocks, device_blocks};
+ghost use Rattle.std.specs.Prelude.{◌≡◌, ◌≤◌};
+ghost use Rattle.stripe_header.specs.Layout.{device_blocks};
 ghost use Rattle.logged_disk.specs.MemDisk.{mem_state};
 ghost use Rattle.dir_sync.specs.Runs.{left_of};
 
-use crate::stripes::{Way, state_of};
+use crate::stripes::Way;
 use dir_sync::SyncRun;
 use logged_disk::{Disk, MemDisk};
 use std::alloc::AllocError;
-use stripe_header::{Area, Side};
-
-/// Begins the sync of serial 5, or hands the body back.
-pub fn begin_sync(
-    disk: &mut MemDisk,
-    area: &Area,
-    side: Side,
-    body: Vec<u8>,
-) -> Result<Result<SyncRun, Vec<u8>>, AllocError>
-    requires whole { length body.items ≡ 512 * body_blocks area.now }
-    requires within { device_blocks area.now ≤ (mem_state disk.old).size }
-    ensures size { (mem_state disk.new).size ≡ (mem_state disk.old).size }
-    ensures run { IfOk result (λ r. IfOk r (λ run. run.area ≡ area.now)) }
-    ensures back { IfOk result (λ r. IfErr r (λ back.
-        length back.items ≡ 512 * body_blocks area.now)) }
-{
-    disk.make_room(2, 1)?;
-    match SyncRun::begin(disk, area, side, false, state_of(5), body) {
-        Ok(run) => Ok(Ok(run)),
-        Err((_, back)) => Ok(Err(back)),
-    }
-}
+use stripe_header::Area;
 
 // Writes all that is left; whether no call failed.
 fn write_whole(disk: &mut MemDisk, area: &Area, run: &mut SyncRun) -> Result<bool, AllocError>

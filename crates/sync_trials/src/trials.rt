@@ -3,9 +3,9 @@ ghost use Rattle.std.specs.Prelude.{◌≡◌, ◌≤◌, ◌<◌, ◌*◌, leng
 ghost use Rattle.stripe_header.specs.Layout.{body_blocks, device_blocks};
 ghost use Rattle.logged_disk.specs.MemDisk.{mem_state};
 
-use crate::devices::{CopyFound, find_copy, lay_copy};
-use crate::stripes::{Stripe, Way, bare_body};
-use crate::syncing::{begin_sync, go_on};
+use crate::devices::{BodyFound, CopyFound, find_copy, lay_copy};
+use crate::stripes::{Stripe, Way, bare_body, state_of};
+use crate::syncing::go_on;
 use device_log::CutChoice;
 use dir_sync::SyncRun;
 use logged_disk::{Disk, MemDisk, PowerDisk};
@@ -25,18 +25,30 @@ pub struct Trial {
 #[derive(Clone, Copy, PartialEq, Eq)]
 pub struct Report {
     pub done: bool,
-    pub this: Option<CopyFound>,
-    pub other: Option<CopyFound>,
+    pub this: CopyFound,
+    pub other: CopyFound,
 }
 
-// A device with the two copies of the stripe.
-fn device_with(alloc: Global, stripe: &Stripe, side: Side) -> Result<MemDisk, AllocError>
-    ensures size { IfOk result (λ disk. (mem_state disk).size ≡ device_blocks stripe.now.area) }
+const UNREAD: CopyFound = CopyFound {
+    open: false,
+    body: BodyFound::Unread,
+};
+
+/// That of no trial yet.
+pub const NONE: Report = Report {
+    done: false,
+    this: UNREAD,
+    other: UNREAD,
+};
+
+// Puts the two copies of the stripe on a device.
+fn lay_copies(disk: &mut MemDisk, stripe: &Stripe, side: Side) -> Result<(), AllocError>
+    requires within { device_blocks stripe.now.area ≤ (mem_state disk.old).size }
+    ensures size { (mem_state disk.new).size ≡ (mem_state disk.old).size }
 {
-    let mut disk = MemDisk::new(alloc, 0, stripe.area.blocks());
-    lay_copy(&mut disk, &stripe.area, side, &stripe.old)?;
-    lay_copy(&mut disk, &stripe.area, side.other(), &stripe.other)?;
-    Ok(disk)
+    lay_copy(disk, &stripe.area, side, &stripe.old)?;
+    lay_copy(disk, &stripe.area, side.other(), &stripe.other)?;
+    Ok(())
 }
 
 // All calls behind so many fail.
@@ -64,19 +76,32 @@ fn look(
     disk: &mut MemDisk,
     stripe: &Stripe,
     trial: &Trial,
-    done: bool,
-) -> Result<Report, AllocError>
+    report: &mut Report,
+) -> Result<(), AllocError>
     requires within { device_blocks stripe.now.area ≤ (mem_state disk.old).size }
 {
     disk.make_room(1, 0)?;
     disk.cut(trial.choice);
     let area = &stripe.area;
-    let other = trial.side.other();
-    Ok(Report {
-        done,
-        this: find_copy(alloc, disk, area, trial.side, &stripe.old, &stripe.new)?,
-        other: find_copy(alloc, disk, area, other, &stripe.other, &stripe.new)?,
-    })
+    let side = trial.side;
+    find_copy(
+        alloc,
+        disk,
+        area,
+        side,
+        &stripe.old,
+        &stripe.new,
+        &mut report.this,
+    )?;
+    find_copy(
+        alloc,
+        disk,
+        area,
+        side.other(),
+        &stripe.other,
+        &stripe.new,
+        &mut report.other,
+    )
 }
 
 // Begins a sync and goes on with it; whether it came to its end.
@@ -90,7 +115,8 @@ fn sync_once(
     requires within { device_blocks stripe.now.area ≤ (mem_state disk.old).size }
     ensures size { (mem_state disk.new).size ≡ (mem_state disk.old).size }
 {
-    match begin_sync(disk, &stripe.area, trial.side, body)? {
+    disk.make_room(2, 1)?;
+    match SyncRun::begin(disk, &stripe.area, trial.side, false, state_of(5), body) {
         Err(_) => Ok(false),
         Ok(run) => {
             let mut run = run;
@@ -100,12 +126,18 @@ fn sync_once(
 }
 
 /// A sync that stops behind so many calls, and a power cut.
-pub fn cut_behind(alloc: Global, stripe: &Stripe, trial: &Trial) -> Result<Report, AllocError> {
-    let mut disk = device_with(alloc, stripe, trial.side)?;
+pub fn cut_behind(
+    alloc: Global,
+    stripe: &Stripe,
+    trial: &Trial,
+    report: &mut Report,
+) -> Result<(), AllocError> {
+    let mut disk = MemDisk::new(alloc, 0, stripe.area.blocks());
+    lay_copies(&mut disk, stripe, trial.side)?;
     let body = bare_body(alloc, &stripe.area, 5)?;
     stop_behind(&mut disk, trial.calls)?;
-    let done = sync_once(&mut disk, stripe, trial, body)?;
-    look(alloc, &mut disk, stripe, trial, done)
+    report.done = sync_once(&mut disk, stripe, trial, body)?;
+    look(alloc, &mut disk, stripe, trial, report)
 }
 
 // Goes on with a sync that was begun, and once more where a call fails, but then stops behind so
@@ -139,9 +171,10 @@ fn sync_twice(
     requires within { device_blocks stripe.now.area ≤ (mem_state disk.old).size }
     ensures size { (mem_state disk.new).size ≡ (mem_state disk.old).size }
 {
-    match begin_sync(disk, &stripe.area, trial.side, body)? {
+    disk.make_room(2, 1)?;
+    match SyncRun::begin(disk, &stripe.area, trial.side, false, state_of(5), body) {
         Ok(run) => go_on_twice(disk, stripe, trial, run),
-        Err(back) => {
+        Err((_, back)) => {
             stop_behind(disk, trial.calls)?;
             sync_once(disk, stripe, trial, back)
         }
@@ -155,12 +188,14 @@ pub fn cut_behind_restart(
     stripe: &Stripe,
     trial: &Trial,
     nth: u64,
-) -> Result<Report, AllocError>
+    report: &mut Report,
+) -> Result<(), AllocError>
     requires { 0 < nth }
 {
-    let mut disk = device_with(alloc, stripe, trial.side)?;
+    let mut disk = MemDisk::new(alloc, 0, stripe.area.blocks());
+    lay_copies(&mut disk, stripe, trial.side)?;
     let body = bare_body(alloc, &stripe.area, 5)?;
     fail_at(&mut disk, nth)?;
-    let done = sync_twice(&mut disk, stripe, trial, body)?;
-    look(alloc, &mut disk, stripe, trial, done)
+    report.done = sync_twice(&mut disk, stripe, trial, body)?;
+    look(alloc, &mut disk, stripe, trial, report)
 }
