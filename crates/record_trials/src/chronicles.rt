@@ -39,7 +39,9 @@ fn place(chronicle: &mut FullChronicle, piece: PieceId, place: u64) -> Result<()
 
 // A session on 64 blocks of content, with a buffer of 8.
 fn begin(chronicle: &mut FullChronicle) -> Result<(), Fail> {
-    let geometry = Geometry::check(1, 64, 64, 8, 16, 4, 7).map_err(|_| "refused")?;
+    let Ok(geometry) = Geometry::check(1, 64, 64, 8, 16, 4, 7) else {
+        return Err("refused".into());
+    };
     add(chronicle, Rec::Formatted { geometry })?;
     let began = Rec::Began {
         cursor: 64,
@@ -78,12 +80,14 @@ fn commit(
     put: u64,
     spelled: &[u8],
 ) -> Result<(), Fail> {
-    let read = Vector::decode(rt.alloc(), spelled);
+    let Ok(alternates) = Vector::decode(rt.alloc(), spelled) else {
+        return Err("the bytes are no vector".into());
+    };
     let rec = Rec::Committed {
         put,
         key: Key::new([1; 16]),
         length: 0,
-        alternates: read.ok().ok_or("the bytes are a vector")?,
+        alternates,
     };
     Ok(add(chronicle, rec)?)
 }

@@ -27,8 +27,9 @@ const TWO_LINES: [u8; 52] = [
 
 #[test]
 fn a_vector_is_read_and_spelled_behind_what_is_there(rt: HostRuntime) -> Result<(), Fail> {
-    let read = Vector::decode(rt.alloc(), &TWO_LINES);
-    let vector = read.ok().ok_or("the bytes are a vector")?;
+    let Ok(vector) = Vector::decode(rt.alloc(), &TWO_LINES) else {
+        return Err("the bytes are no vector".into());
+    };
     if vector.len() == 0 {
         return Err("the vector is empty".into());
     }
