@@ -86,7 +86,7 @@ copies_part (row ∷ rows) (NoRoom ∷ outcomes) = skip (copies_part rows outcom
 copies_part (row ∷ rows) (Spoiled found ∷ outcomes) = skip (copies_part rows outcomes)
 copies_part (row ∷ rows) (Refused count ∷ outcomes) = skip (copies_part rows outcomes)
 
-copies_within : (p : Permit) (s : State) (left : ℕ) (rows : List Row) (outcomes : List Outcome) → AreOutcomes p s left rows outcomes → blocks_of_copies (copies_of rows outcomes) ≤ left
+pub copies_within : (p : Permit) (s : State) (left : ℕ) (rows : List Row) (outcomes : List Outcome) → AreOutcomes p s left rows outcomes → blocks_of_copies (copies_of rows outcomes) ≤ left
 copies_within p s left [] outcomes h = omega arith
 copies_within p s left (row ∷ rows) [] h = absurd h
 copies_within p s left (row ∷ rows) (NoRoom ∷ outcomes) h = copies_within p (after_all s (records_of row NoRoom)) left rows outcomes h.1

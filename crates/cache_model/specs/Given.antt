@@ -53,9 +53,13 @@ pub record AreUpTo (p : Permit) (calls : List Call) : Type 0 where
   pub later : List Call
   pub is : p.events ≡ later ++ calls
 
+-- a block is one of so many from a first one on
+abbrev pub stands_in : (start blocks at : ℕ) → Bool
+stands_in start blocks at = nat_le start at && nat_lt at (start + blocks)
+
 -- how many blocks from a first one on stand up to one of so many behind it, and none where it is not one of these
 abbrev pub stand_to : (start blocks end : ℕ) → (at : ℕ) → ℕ
-stand_to start blocks end at = if nat_le start at && nat_lt at (start + blocks) then end - start else 0
+stand_to start blocks end at = if stands_in start blocks at then end - start else 0
 
 -- how many blocks behind a place of the content area the last write to that area left to stand, where it wrote to some of
 -- so many blocks from there on; a refused one may have spoiled all that it was to write
@@ -67,10 +71,19 @@ last_written area start blocks (RefusedCall (ToWrite at n left) count ∷ older)
     if nat_le area at then stand_to start blocks at at else last_written area start blocks older
 last_written area start blocks (call ∷ older) = last_written area start blocks older
 
--- the same of what was written before the last sync of the device
+-- a block of the content area is none of a buffer that begins there
+abbrev pub is_of_another : (area start blocks at : ℕ) → Bool
+is_of_another area start blocks at = nat_le area at && not (stands_in start blocks at)
+
+-- how many blocks of a buffer were written before the last sync of the device; what is older than a write of another buffer
+-- is of the lap before
 abbrev pub made_durable : (area start blocks : ℕ) → List Call → ℕ
 made_durable area start blocks [] = 0
 made_durable area start blocks (Synced ∷ older) = last_written area start blocks older
+made_durable area start blocks (Wrote at bytes ∷ older) =
+    if is_of_another area start blocks at then 0 else made_durable area start blocks older
+made_durable area start blocks (RefusedCall (ToWrite at n left) count ∷ older) =
+    if is_of_another area start blocks at then 0 else made_durable area start blocks older
 made_durable area start blocks (call ∷ older) = made_durable area start blocks older
 
 -- how many blocks of the buffer stand already behind these calls of the step, durably: some may where a call failed since
@@ -216,28 +229,35 @@ is_asked_write area syncs_next at bytes older =
     || is_of_body area at (length bytes / 512)
     || (is_gate at && length bytes == 512 && (not (opens at bytes) || (syncs_next && has_body area at older)))
 
--- a body was written in these calls, and no gate since
+-- the newest of these calls ended one of the two bodies
+abbrev pub ends_some_body : (area : ℕ) → List Call → Bool
+ends_some_body area calls = ends_body area 1 calls || ends_body area 2 calls
+
+-- a body was written to its end in these calls, and since then no gate was asked for
 abbrev pub has_body_since : (area : ℕ) → List Call → Bool
 has_body_since area [] = false
-has_body_since area (Wrote at bytes ∷ older) = is_of_body area at (length bytes / 512) || (not (is_gate at) && has_body_since area older)
+has_body_since area (Wrote at bytes ∷ older) = ends_some_body area (Wrote at bytes ∷ older) || (not (is_gate at) && has_body_since area older)
+has_body_since area (RefusedCall (ToWrite at n left) count ∷ older) = not (is_gate at) && has_body_since area older
 has_body_since area (call ∷ older) = has_body_since area older
 
--- a refused write of a gate may leave it open: it is asked for before a body, which shuts the gate, or right behind one
+-- a refused write of a gate may leave it open: it is asked for where no body was written since the last one, or right behind
+-- a body; these are the calls of the session before it
 abbrev pub is_asked_refusal : (area at : ℕ) → List Call → Bool
 is_asked_refusal area at older = not (is_gate at) || not (has_body_since area older) || has_body area at older
 
--- what calls do beside reading and writing, the oldest first: a sync of the device behind an opened gate ends a sync
-abbrev pub effects_synced : (area : ℕ) (syncs_next : Bool) → List Call → List Effect
-effects_synced area syncs_next [] = []
-effects_synced area syncs_next (Read at bytes ∷ older) = effects_synced area false older
-effects_synced area syncs_next (Wrote at bytes ∷ older) =
-    effects_synced area false older ++ (if is_asked_write area syncs_next at bytes older then [] else Unasked ∷ [])
-effects_synced area syncs_next (Synced ∷ older) = effects_synced area true older ++ (if opens_gate older then Finished ∷ [] else [])
-effects_synced area syncs_next (RefusedCall ToSync count ∷ older) = effects_synced area true older ++ Denied count ∷ []
-effects_synced area syncs_next (RefusedCall (ToWrite at n left) count ∷ older) =
-    effects_synced area false older ++ Denied count ∷ (if is_asked_refusal area at older then [] else Unasked ∷ [])
-effects_synced area syncs_next (RefusedCall (ToRead at n) count ∷ older) = effects_synced area false older ++ Denied count ∷ []
-effects_synced area syncs_next (call ∷ older) = effects_synced area false older ++ Unasked ∷ []
+-- what calls do beside reading and writing, the oldest first, behind those of the session before them: a sync of the device
+-- behind an opened gate ends a sync
+abbrev pub effects_synced : (area : ℕ) (past : List Call) (syncs_next : Bool) → List Call → List Effect
+effects_synced area past syncs_next [] = []
+effects_synced area past syncs_next (Read at bytes ∷ older) = effects_synced area past false older
+effects_synced area past syncs_next (Wrote at bytes ∷ older) =
+    effects_synced area past false older ++ (if is_asked_write area syncs_next at bytes older then [] else Unasked ∷ [])
+effects_synced area past syncs_next (Synced ∷ older) = effects_synced area past true older ++ (if opens_gate older then Finished ∷ [] else [])
+effects_synced area past syncs_next (RefusedCall ToSync count ∷ older) = effects_synced area past true older ++ Denied count ∷ []
+effects_synced area past syncs_next (RefusedCall (ToWrite at n left) count ∷ older) =
+    effects_synced area past false older ++ Denied count ∷ (if is_asked_refusal area at (older ++ past) then [] else Unasked ∷ [])
+effects_synced area past syncs_next (RefusedCall (ToRead at n) count ∷ older) = effects_synced area past false older ++ Denied count ∷ []
+effects_synced area past syncs_next (call ∷ older) = effects_synced area past false older ++ Unasked ∷ []
 
 -- what records tell of these
 abbrev pub syncs_told : List Rec → List Effect
@@ -296,7 +316,7 @@ is_calm (call ∷ older) = is_calm older
 -- these records come before a write, and these calls: they tell the same ends of syncs and refusals, nothing but reads was
 -- refused, and no more buffers were written than have begun
 pub record AreBeforeWrite (p : Permit) (before : List Rec) (older : List Call) : Type 0 where
-  pub order : syncs_told before ≡ effects_synced p.area false older
+  pub order : syncs_told before ≡ effects_synced p.area p.past false older
   pub calm : is_calm older ≡ true
   pub turn : content_writes p.area older ≤ buffers_begun before
 
@@ -323,7 +343,7 @@ AreOfBuffers p s added (call ∷ older) = AreOfBuffers p s added older
 -- written where there is a sync, and the content area with what is left of a buffer, once for each buffer that begins, and
 -- once more at most where a fault ends the step
 pub record AreSyncsTold (p : Permit) (s : State) (added : List Rec) (refused : Option Reason) : Type 0 where
-  pub effects : syncs_told added ≡ effects_synced p.area false p.events
+  pub effects : syncs_told added ≡ effects_synced p.area p.past false p.events
   pub copies : writes_below p.area p.events ≡ true → has_sync s added ≡ true
   pub content : AreOfBuffers p s added p.events
   pub writes : content_writes p.area p.events ≤ buffers_begun added + faults_of refused

@@ -14,7 +14,7 @@ use Rattle.cache_model.specs.declared.record.Rec.TheVariants as rec
 use Rattle.cache_model.specs.State.{State, Row, cursor_next, live_rows, place_now, without}
 use Rattle.cache_model.specs.Permit.{Permit}
 
--- below this a placed piece ends, a buffer begins, and the numbers of puts stand; copies may end above it
+-- below this each piece ends that is placed or copied, and the numbers of puts and the serials of syncs stand
 abbrev pub limit : ℕ
 limit = 2 ^ 62
 
@@ -39,9 +39,13 @@ greatest_pin alternates = fold (λ pin (a : Stored). max pin a.pin) 0 alternates
 abbrev pub has_room : State → ℕ → Bool
 has_room s bytes = nat_le (s.filled + blocks_of bytes) s.geometry.agg
 
--- the next buffer would begin at the limit or above
+-- where the half of the next buffer ends that takes the copies of a flush
+abbrev pub copies_end : State → ℕ
+copies_end s = cursor_next s + budget_of s.geometry
+
+-- that half would end at the limit or above; then the buffer is not written out, whether or not a copy would come so far
 abbrev pub is_flush_exhausted : State → Bool
-is_flush_exhausted s = nat_le limit (cursor_next s)
+is_flush_exhausted s = nat_le limit (copies_end s)
 
 -- a document with so many bytes of payload may be placed now
 pub record HasPlace (s : State) (bytes : ℕ) : Type 0 where

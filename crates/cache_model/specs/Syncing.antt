@@ -89,9 +89,11 @@ behind_records k s =
     (if needs_sync k s then ended_records s else [])
     ++ (if needs_whole k s then sync_records k s (cursor_next s) else [])
 
--- the cursor of the next buffer or the serial of the next sync would reach the limit
+-- the copies of the flush that is to be made, or the serial of the next sync, would reach the limit; an empty buffer is not
+-- flushed
 abbrev pub is_sync_exhausted : Syncing → State → Bool
-is_sync_exhausted k s = is_flush_exhausted s || (needs_whole k (at_first k s) && nat_le limit (next_serial s))
+is_sync_exhausted k s =
+    (nat_lt 0 s.filled && is_flush_exhausted s) || (needs_whole k (at_first k s) && nat_le limit (next_serial s))
 
 -- ---- a buffer that is written out
 
