@@ -23,6 +23,7 @@ pub mod Buckets
 mod Purged
 pub mod Fitting
 mod Tenths
+mod Below
 pub mod FewerRows
 pub mod Fits
 mod Possible

@@ -1,7 +1,7 @@
 -- What a stripe does of syncs it does as one that syncs, and in one group of records.
 use Rattle.std.proofs.Common.{◌≡◌, List, sym, ◌∙◌, subst, refl, Bool, true, false}
-use Rattle.std.specs.Prelude.{◌&&◌, ◌||◌}
-use Rattle.std.proofs.lemmas.Bool.{and_parts}
+use Rattle.std.specs.Prelude.{◌&&◌, ◌||◌, nat_lt}
+use Rattle.std.proofs.lemmas.Bool.{and_parts, lt-ltb}
 use Rattle.cache_model.specs.declared.record.Rec.{Rec}
 use Rattle.cache_model.specs.State.{State}
 use Rattle.cache_model.specs.Permit.{Permit, End, Stays}
@@ -95,5 +95,13 @@ neither : (a b : Bool) → (a || b) ≡ false → a ≡ false
 neither false b h = refl
 neither true b h = no_truth h
 
+not_other : (a b : Bool) → a ≡ true → (a && b) ≡ false → b ≡ false
+not_other true b is h = h
+not_other false b is h = no_truth (sym is)
+
 pub may_flush : {p : Permit} {k : Syncing} {s : State} {added : List Rec} → MaySyncBehind p k s added → CanFlush s
-may_flush {s = s} m = record { quiet = m.can.may.quiet; filled = m.filled; below = neither (is_flush_exhausted s) _ m.can.below }
+may_flush {s = s} m = record {
+  quiet = m.can.may.quiet;
+  filled = m.filled;
+  below = not_other (nat_lt 0 s.filled) (is_flush_exhausted s) (lt-ltb 0 s.filled m.filled) (neither (nat_lt 0 s.filled && is_flush_exhausted s) _ m.can.below);
+}

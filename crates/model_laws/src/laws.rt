@@ -4,7 +4,7 @@ ghost use Rattle.model_laws.specs.PlaceLaws.{PlaceFollows, PlaceIsLast, MovedIsT
 ghost use Rattle.model_laws.specs.Choices.{GroupIsFixed, AskedIsAnswered, AnsweredIsTried, HitIsRead, GivenIsRead};
 ghost use Rattle.model_laws.specs.StepLaws.{RefusalEnds, NumbersFollow, FaultsRise, OneGroup, NothingAsked, FragmentIsCut, LiveIsRemoved, EmptyFlush, LookupIsOne, TooLargeIsNotPlaced, AllIsCutFirst, ReaderIsClosed, WriterIsEnded, TroubleIsBacked};
 ghost use Rattle.model_laws.specs.VerdictLaws.{HitMatches, CompleteIsHit, RemovedIsMissed, PassedIsMissed, FormattedIsEmpty, GivenIsOwn, EndIsWhole, FollowedIsClosed, WaitsForOpen};
-ghost use Rattle.model_laws.specs.TapeLaws.{OpeningsAreSound, StepsAreSound, LegalIsSound, LiveIsKnown};
+ghost use Rattle.model_laws.specs.TapeLaws.{LegalIsBelow, OpeningsAreSound, PlacesStayBelow, StepsAreSound, LegalIsSound, LiveIsKnown};
 ghost use Rattle.model_laws.specs.FlushLaws.{DueAreFound, FlushIsSound, FrontIsBacked, GivenAreTried, KeptAreChosen, OutcomesAreFixed, OutcomesAreFound, OutcomesAreTried, StoppedIsBacked, StoppedIsSound, WalkFinds, WalkGoesOn};
 ghost use Rattle.model_laws.specs.Agreeing.{GroupsAgree, OtherCopiesAreBytes, StepsAgree};
 ghost use Rattle.model_laws.specs.PairLaws.{CopiedIsDueAndFits, LookupReadsItsKey, NothingAskedReadsNone, PairsAreBytes, PairsAreGiven, ReaderReadsItsNext};
@@ -174,6 +174,12 @@ pub fn steps_are_sound()
 /// Each legal chronicle has its places in order.
 pub fn legal_is_sound()
     ensures { LegalIsSound }
+{}
+
+/// In each legal chronicle each piece that is placed, copied or found ends below the limit.
+pub fn places_stay_below()
+    ensures records { PlacesStayBelow }
+    ensures legal { LegalIsBelow }
 {}
 
 /// A live piece is the one that is known at its place.
