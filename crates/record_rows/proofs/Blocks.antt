@@ -1,14 +1,26 @@
--- A buffer of one block, as it is written.
-use Rattle.std.proofs.Common.{◌≡◌, ◌∙◌, ℕ, List, [], ◌∷◌, refl, sym, ap, lit<, lit≤}
-use Rattle.std.specs.Prelude.{◌+◌, ◌/◌, take}
+-- What a buffer is made of, and a buffer of one block as it is written.
+use Rattle.std.proofs.Common.{◌≡◌, ◌∙◌, ℕ, List, [], ◌∷◌, true, refl, sym, ap, arith, lit<, lit≤}
+use Rattle.std.specs.Prelude.{◌+◌, ◌/◌, ◌≤◌, ◌<◌, nat_lt, take}
+use Rattle.std.specs.List.{AllByRecursion, list_all}
+use Rattle.std.proofs.lemmas.Bool.{and_parts, ltb-true}
 use Rattle.std.proofs.Math.Seq.{take-length}
 use Rattle.device_log.specs.Calls.{Call, Wrote}
 use Rattle.doc_header.specs.Reading.{document_digest}
 use Rattle.cache_model.specs.declared.record.Rec.{Rec}
 use Rattle.cache_model.specs.Given
 use Rattle.cache_model.specs.Given.{IsOfBuffer, IsRestOf, TakesRest}
+use Rattle.cache_model.specs.State.{Row}
 use Rattle.record_rows.specs.Refused.{IsBlock, with_one}
 use Rattle.record_rows.specs.Steps.{with_calls}
+
+-- what stands below the buffer is not looked at
+pub below : (cursor : ℕ) (Q : Row → Type 0) (rows : List Row) → list_all (λ (row : Row). nat_lt row.place cursor) rows ≡ true
+    → AllByRecursion (λ (row : Row). cursor ≤ row.place → Q row) rows
+below cursor Q [] h = tt
+below cursor Q (row ∷ rows) h =
+    let parts = and_parts (nat_lt row.place cursor) (list_all (λ (row : Row). nat_lt row.place cursor) rows) h in
+    let less : row.place < cursor = ltb-true row.place cursor parts.0 in
+    ((λ from. absurd (omega (arith, less, from))), below cursor Q rows parts.1)
 
 -- a block that is taken alone
 pub taken : (block : List ℕ) → IsBlock block → take 512 block ≡ block

@@ -1,3 +1,4 @@
 mod Fronts
 mod Blocks
 mod Ends
+mod Backs

@@ -3,3 +3,5 @@ pub mod Rows
 pub mod Steps
 pub mod Unlike
 pub mod Refused
+pub mod Limit
+pub mod Laps

@@ -90,6 +90,24 @@ abbrev pub AGateRefusedEarlyIsNoStep : Type 0
 AGateRefusedEarlyIsNoStep = (digest : Digest) (body bytes left : List ℕ) → IsBody body
     → IsStep (with_calls (RefusedCall (ToWrite 2 1 left) 1 ∷ Wrote 11 body ∷ Synced ∷ Wrote 19 bytes ∷ [])) (with_one digest) (Sync ∷ []) stopped_once (Some (Faulted 1)) → ⊥
 
+-- or in a later step, which writes no body
+abbrev pub left_body : (body block : List ℕ) → List Call
+left_body body block = RefusedCall ToSync 1 ∷ Wrote 11 body ∷ Wrote 19 block ∷ []
+
+abbrev pub stopped_again : List Rec
+stopped_again = rec.SyncBegun 3 65 false false ∷ rec.Fault 2 ∷ []
+
+abbrev pub AGateRefusedBehindALeftBodyIsNoStep : Type 0
+AGateRefusedBehindALeftBodyIsNoStep = (digest : Digest) (body block bytes left : List ℕ) → IsBody body → IsBlock bytes
+    → IsStep (behind_calls (left_body body block) (RefusedCall (ToWrite 2 1 left) 2 ∷ Wrote 19 bytes ∷ [])) (after_all (with_one digest) stopped_once)
+    (Sync ∷ []) stopped_again (Some (Faulted 2)) → ⊥
+
+-- it is asked to behind the body, which that step writes anew
+abbrev pub AGateMayBeRefusedInALaterStep : Type 0
+AGateMayBeRefusedInALaterStep = (body block again left : List ℕ) → IsBody body → IsBlock block → IsBody again
+    → IsStep (behind_calls (left_body body block) (RefusedCall (ToWrite 2 1 left) 2 ∷ Synced ∷ Wrote 11 again ∷ Synced ∷ Wrote 19 block ∷ []))
+    (after_all (with_one (document_digest block)) stopped_once) (Sync ∷ []) stopped_again (Some (Faulted 2))
+
 -- it is written only behind that gate
 abbrev pub AWriteBehindARefusedGateIsNoStep : Type 0
 AWriteBehindARefusedGateIsNoStep = (digest : Digest) (body bytes left : List ℕ)

@@ -1,11 +1,11 @@
 -- Steps of a stripe that syncs, with the calls of the device on which they rest, each worked by hand; and records that are
 -- no step, since a call is missing or is another one.
-use Rattle.std.specs.Prelude.{ℕ, ◌≡◌, ◌*◌, ◌≤◌, true, false, List, [], ◌∷◌, ◌++◌, Some, None, length}
+use Rattle.std.specs.Prelude.{ℕ, ◌≡◌, ◌*◌, ◌-◌, ◌^◌, ◌≤◌, true, false, List, [], ◌∷◌, ◌++◌, Some, None, length}
 use Rattle.std.specs.List.{repeat}
 use Rattle.device_log.specs.Calls.{Call, RefusedCall, Synced, ToWrite, Wrote}
 use Rattle.cache_model.specs.declared.record.Rec.TheVariants as rec
 use Rattle.cache_model.specs.Legal.{IsStep, format_records}
-use Rattle.cache_model.specs.Permit.{CleanSync, Drain, Faulted, Flush, NoSync, Permit, Sync, SyncBegin, SyncRuns, SyncStep}
+use Rattle.cache_model.specs.Permit.{CleanSync, Drain, Exhausted, Faulted, Flush, NoSync, Permit, Sync, SyncBegin, SyncRuns, SyncStep}
 use Rattle.cache_model.specs.State.{State, after_all, nothing_yet}
 use Rattle.record_rows.specs.Worked.{behind_format, behind_opening, synced, wide}
 use Rattle.record_rows.specs.Rows.{at_end_in_parts, clean_sync, once_refused, while_it_runs}
@@ -40,7 +40,19 @@ abbrev pub AnEmptySyncIsAStep : Type 0
 AnEmptySyncIsAStep = (body : List ℕ) → IsBody body
     → IsStep (with_calls (calls_of_sync body)) (behind_format []) (Sync ∷ []) (synced 2 64 false) None
 
--- and not without them
+-- also where the buffer begins right below 2^62, since it takes no place
+abbrev pub at_tape_end : State
+at_tape_end = behind_format (rec.Began (2 ^ 62 - 1) (2 ^ 62 - 49) ∷ [])
+
+abbrev pub AnEmptySyncAtTheTapeEndIsAStep : Type 0
+AnEmptySyncAtTheTapeEndIsAStep = (body : List ℕ) → IsBody body
+    → IsStep (with_calls (calls_of_sync body)) at_tape_end (Sync ∷ []) (synced 2 (2 ^ 62 - 1) false) None
+
+-- there it is not refused
+abbrev pub ARefusedSyncAtTheTapeEndIsNoStep : Type 0
+ARefusedSyncAtTheTapeEndIsNoStep = IsStep (with_calls []) at_tape_end (Sync ∷ []) [] (Some Exhausted) → ⊥
+
+-- and it is none without its calls
 abbrev pub ASyncWithoutCallsIsNoStep : Type 0
 ASyncWithoutCallsIsNoStep = IsStep (with_calls []) (behind_format []) (Sync ∷ []) (synced 2 64 false) None → ⊥
 

@@ -1,8 +1,10 @@
 //! Sessions with openings and syncs, worked by hand and computed by the definitions over records.
 #![tactic(auto)]
 
-ghost use Rattle.record_rows.specs.Steps.{ABodyWithoutASyncIsNoStep, AGateOpenedEarlyIsNoStep, APartIsAStep, AWriteOfNoBufferIsNoStep, AClosedStripeIsAStep, ALastPartIsAStep, AMarkedStripeMayBeClosed, APartWithoutAWriteIsNoStep, ARefusedEndIsAStep, ARefusedPartIsAStep, ARefusedPartLeavesTheSync, ASecondOneIsRefused, ASyncBehindAShutGateIsNoStep, ASyncWithoutCallsIsNoStep, AnEmptySyncIsAStep, AnEndBehindItIsNoStep, NoPartWithoutASync};
-ghost use Rattle.record_rows.specs.Refused.{AGateMayBeRefused, AGateRefusedEarlyIsNoStep, AnOpenGateMayStaySo, ASecondWriteIsNoStep, ASpoiledBufferIsWrittenAgain, ASpoiledBufferThatIsLeftIsNoStep, ASyncMayBeginInParts, AWriteAgainIsNoStep, AWriteBeforeARefusedGateIsNoStep, AWriteBeforeItsSyncIsAStep, AWriteBehindAnOpenGateIsNoStep, AWriteBehindARefusedGateIsNoStep, AWriteBehindItsSyncIsNoStep, AWriteBehindTheEndIsAStep, AWriteOutOfReachIsNoStep, AWriteThatIsNotSyncedIsNoStep, AWriteUnderAMarkIsNoStep, AWriteWithoutAFlushIsNoStep, SwappedBuffersAreNoStep, TwoBuffersAreAStep};
+ghost use Rattle.record_rows.specs.Refused.{AGateMayBeRefused, AGateMayBeRefusedInALaterStep, AGateRefusedBehindALeftBodyIsNoStep, AGateRefusedEarlyIsNoStep, AnOpenGateMayStaySo, ASecondWriteIsNoStep, ASpoiledBufferIsWrittenAgain, ASpoiledBufferThatIsLeftIsNoStep, ASyncMayBeginInParts, AWriteAgainIsNoStep, AWriteBeforeARefusedGateIsNoStep, AWriteBeforeItsSyncIsAStep, AWriteBehindAnOpenGateIsNoStep, AWriteBehindARefusedGateIsNoStep, AWriteBehindItsSyncIsNoStep, AWriteBehindTheEndIsAStep, AWriteOutOfReachIsNoStep, AWriteThatIsNotSyncedIsNoStep, AWriteUnderAMarkIsNoStep, AWriteWithoutAFlushIsNoStep, SwappedBuffersAreNoStep, TwoBuffersAreAStep};
+ghost use Rattle.record_rows.specs.Limit.{ACopyAboveTheLimitIsNoStep, ACopyMayEndBelowTheLimit, AFlushAtTheLimitIsRefused};
+ghost use Rattle.record_rows.specs.Steps.{ABodyWithoutASyncIsNoStep, AGateOpenedEarlyIsNoStep, APartIsAStep, AWriteOfNoBufferIsNoStep, AClosedStripeIsAStep, ALastPartIsAStep, AMarkedStripeMayBeClosed, APartWithoutAWriteIsNoStep, ARefusedEndIsAStep, ARefusedPartIsAStep, ARefusedPartLeavesTheSync, ARefusedSyncAtTheTapeEndIsNoStep, ASecondOneIsRefused, ASyncBehindAShutGateIsNoStep, ASyncWithoutCallsIsNoStep, AnEmptySyncAtTheTapeEndIsAStep, AnEmptySyncIsAStep, AnEndBehindItIsNoStep, NoPartWithoutASync};
+ghost use Rattle.record_rows.specs.Laps.{ABufferIsWrittenInEachLap, ABufferOfTheLapBeforeDoesNotStand};
 ghost use Rattle.record_rows.specs.Unlike.{ACopyOfItIsDamage, AnUnlikePayloadIsDamage, AnUnlikePayloadIsNotGiven, AnUnlikePayloadMayBeFound};
 ghost use Rattle.record_rows.specs.Rows.{AClosedStripeOpensClean, AFinishedSyncIsTaken, AFormatMayBeOpened, AFoundVectorIsKnown, AFullSegmentLosesATenth, ALapEndsWithASync, AnOpeningFollows, AnotherPutMerges, ARemovalComesBack, ARunningSyncIsEndedFirst, ARunningSyncMayBeTaken, AShortBufferEndsTheLap, AnEmptyPutEndsItFirst, LaterPutsAreLost, TwoVectorsMayBeFound, WhatIsWrittenUnmarks};
 
@@ -96,7 +98,17 @@ pub fn an_empty_sync_is_a_step()
     ensures { AnEmptySyncIsAStep }
 {}
 
-/// Without them it is none.
+/// Also right below the end of the tape.
+pub fn an_empty_sync_at_the_tape_end_is_a_step()
+    ensures { AnEmptySyncAtTheTapeEndIsAStep }
+{}
+
+/// Where it is not refused.
+pub fn a_refused_sync_at_the_tape_end_is_no_step()
+    ensures { ARefusedSyncAtTheTapeEndIsNoStep }
+{}
+
+/// Without its calls it is none.
 pub fn a_sync_without_calls_is_no_step()
     ensures { ASyncWithoutCallsIsNoStep }
 {}
@@ -206,6 +218,16 @@ pub fn a_gate_refused_early_is_no_step()
     ensures { AGateRefusedEarlyIsNoStep }
 {}
 
+/// Nor in a later step, which writes no body.
+pub fn a_gate_refused_behind_a_left_body_is_no_step()
+    ensures { AGateRefusedBehindALeftBodyIsNoStep }
+{}
+
+/// But where that step writes the body anew.
+pub fn a_gate_may_be_refused_in_a_later_step()
+    ensures { AGateMayBeRefusedInALaterStep }
+{}
+
 /// Nor is the buffer written only behind that.
 pub fn a_write_behind_a_refused_gate_is_no_step()
     ensures { AWriteBehindARefusedGateIsNoStep }
@@ -271,6 +293,16 @@ pub fn a_spoiled_buffer_that_is_left_is_no_step()
     ensures { ASpoiledBufferThatIsLeftIsNoStep }
 {}
 
+/// A buffer is written, whatever was written to its blocks a lap ago.
+pub fn a_buffer_is_written_in_each_lap()
+    ensures { ABufferIsWrittenInEachLap }
+{}
+
+/// It is not left for that.
+pub fn a_buffer_of_the_lap_before_does_not_stand()
+    ensures { ABufferOfTheLapBeforeDoesNotStand }
+{}
+
 /// An opening may find a fragment with another payload than the one that its vector lists.
 pub fn an_unlike_payload_may_be_found()
     ensures { AnUnlikePayloadMayBeFound }
@@ -289,4 +321,19 @@ pub fn an_unlike_payload_is_not_given()
 /// So it is of its copy in a buffer that is not written out.
 pub fn a_copy_of_it_is_damage()
     ensures { ACopyOfItIsDamage }
+{}
+
+/// A copy may end right below 2^62.
+pub fn a_copy_may_end_below_the_limit()
+    ensures { ACopyMayEndBelowTheLimit }
+{}
+
+/// A flush whose copy would end above it is no step.
+pub fn a_copy_above_the_limit_is_no_step()
+    ensures { ACopyAboveTheLimitIsNoStep }
+{}
+
+/// It is refused, and no device is asked.
+pub fn a_flush_at_the_limit_is_refused()
+    ensures { AFlushAtTheLimitIsRefused }
 {}

@@ -8,24 +8,15 @@ use Rattle.cache_model.specs.Given
 use Rattle.cache_model.specs.Given.{TakesRest}
 use Rattle.cache_model.specs.Legal
 use Rattle.cache_model.specs.Legal.{DoesFlush}
-use Rattle.cache_model.specs.Permit.{End, Flush, Permit, Stays}
+use Rattle.cache_model.specs.Permit.{End, Flush, Permit}
 use Rattle.cache_model.specs.State.{State}
 use Rattle.cache_model.specs.Syncing
 use Rattle.cache_model.specs.Syncing.{DoesSync, StopsBehind, WhereDue}
 use Rattle.cache_model.proofs.Found.{no_truth}
 use Rattle.cache_model.proofs.Steps.{alone}
 use Rattle.record_rows.specs.Refused.{behind_calls, once_spoiled, spoiling}
-use Rattle.record_rows.proofs.Ends.{sync_ends}
+use Rattle.record_rows.proofs.Ends.{flush_ends}
 use Rattle.record_rows.proofs.a_spoiled_buffer_that_is_left_is_no_step.Goals as goal
-
--- ---- one group
-
-flush_ends : {p : Permit} {s : State} (added : List Rec) (e : End) → DoesFlush p s added e → e ≡ Stays → ⊥
-flush_ends added e (Legal.DoesFlush.empty quiet none is) h = cc
-flush_ends added e (Legal.DoesFlush.flushes m) h = cc
-flush_ends added e (Legal.DoesFlush.stops count m) h = cc
-flush_ends added e (Legal.DoesFlush.exhausted quiet some high is) h = cc
-flush_ends added e (Legal.DoesFlush.syncs d) h = sync_ends d h
 
 -- ---- no call
 

@@ -24,6 +24,6 @@ returns c = λ digest body bytes step.
     let p : Permit = with_calls (Wrote 19 bytes ∷ calls_of_sync body) in
     let older : List Call = calls_of_sync body in
     let of = (step.synced refl).content.0 (omega arith) in
-    let told : syncs_told of.before ≡ Finished ∷ [] = of.follows.order ∙ (sym (append-nil (effects_synced 19 false older)) ∙ sym (step.synced refl).effects) in
+    let told : syncs_told of.before ≡ Finished ∷ [] = of.follows.order ∙ (sym (append-nil (effects_synced 19 [] false older)) ∙ sym (step.synced refl).effects) in
     of_front (λ before. syncs_told before ≡ Finished ∷ [] → IsWriteOfRest p (after_all (with_one digest) before) older 19 bytes → ⊥) synced_once of.before of.behind of.is
     ((λ t w. cc), ((λ t w. cc), ((λ t w. named digest p older bytes w), (λ t w. emptied digest p older bytes w)))) told of.write

@@ -1,7 +1,5 @@
-use Rattle.std.proofs.Common.{◌≡◌, ℕ, List, [], ◌∷◌, true, refl, ap, arith, lit<, lit≤}
-use Rattle.std.proofs.lemmas.Bool.{and_parts, ltb-true}
-use Rattle.std.specs.Prelude.{◌+◌, ◌/◌, ◌≤◌, ◌<◌, nat_lt}
-use Rattle.std.specs.List.{AllByRecursion, list_all}
+use Rattle.std.proofs.Common.{◌≡◌, ℕ, List, [], ◌∷◌, refl, ap, arith, lit<, lit≤}
+use Rattle.std.specs.Prelude.{◌+◌, ◌/◌, ◌≤◌}
 use Rattle.device_log.specs.Calls.{Call, Wrote}
 use Rattle.doc_header.specs.Reading.{document_digest}
 use Rattle.cache_model.specs.declared.record.Rec.TheVariants as rec
@@ -17,17 +15,8 @@ use Rattle.record_rows.specs.Refused.{IsBlock, ends_fifth, out_of_reach}
 use Rattle.record_rows.specs.Rows.{once_refused}
 use Rattle.record_rows.specs.Steps.{with_calls}
 use Rattle.record_rows.specs.Worked.{b}
-use Rattle.record_rows.proofs.Blocks.{taken}
+use Rattle.record_rows.proofs.Blocks.{below, taken}
 use Rattle.record_rows.proofs.a_write_behind_the_end_is_a_step.Goals as goal
-
--- what stands below the buffer is not looked at
-below : (cursor : ℕ) (Q : Row → Type 0) (rows : List Row) → list_all (λ (row : Row). nat_lt row.place cursor) rows ≡ true
-    → AllByRecursion (λ (row : Row). cursor ≤ row.place → Q row) rows
-below cursor Q [] h = tt
-below cursor Q (row ∷ rows) h =
-    let parts = and_parts (nat_lt row.place cursor) (list_all (λ (row : Row). nat_lt row.place cursor) rows) h in
-    let less : row.place < cursor = ltb-true row.place cursor parts.0 in
-    ((λ from. absurd (omega (arith, less, from))), below cursor Q rows parts.1)
 
 abbrev Holds : List ℕ → Row → Type 0
 Holds block row = document_digest (bytes_behind 128 block row) ≡ row.digest
