@@ -6,12 +6,12 @@ use Rattle.device_log.specs.Calls.{Call, Read, Wrote, RefusedCall, ToRead, ToSyn
 use Rattle.cache_model.specs.declared.record.Rec.{Rec}
 use Rattle.cache_model.specs.declared.record.Rec.TheVariants as rec
 use Rattle.cache_model.specs.State.{State, after_all, state_after}
-use Rattle.cache_model.specs.Given.{AreBeforeWrite, AreOfBuffers, AreUpTo, Effect, Took, Denied, Finished, IsOfBuffer, IsWriteOfRest, begins_sync, buffers_begun, content_writes, denials, effects_in, effects_synced, effects_told, faults_of, has_body_since, has_sync, is_asked_refusal, is_calm, opens_gate, syncs_told, writes_below}
+use Rattle.cache_model.specs.Given.{AreBeforeWrite, AreOfBuffers, AreUpTo, Effect, Took, Denied, Finished, IsOfBuffer, IsWriteOfRest, begins_sync, buffers_begun, content_writes, denials, effects_in, effects_synced, effects_told, faults_of, has_sync, is_asked_refusal, is_calm, opens_gate, syncs_told, writes_below}
 use Rattle.cache_model.specs.Permit.{Intent, Permit, Reason}
 use Rattle.cache_model.proofs.Steps.{after_all-append}
 use Rattle.call_laws.specs.Progress.{AllDone, IfLeaving, Leaves, MayWrite, Progress, Stops, UnlessWanting, Wants}
 use Rattle.call_laws.specs.Happens.{AgreeBehind, AreOfBuffersBehind, AreWrittenFirst, IsOfBufferBehind, TellsSyncs, are_asked_refusals}
-use Rattle.call_laws.specs.Serves.{InStep, LetsGoOn, WritesBuffers}
+use Rattle.call_laws.specs.Serves.{InStep, WritesBuffers}
 
 -- ---- effects
 
@@ -91,7 +91,7 @@ first_runs s a b h =
 
 pub tells_nothing : (area : ℕ) (s : State) → TellsSyncs area s [] []
 tells_nothing area s = record {
-  effects = λ earlier shut asked. sym (append-nil (effects_synced area false earlier));
+  effects = λ past earlier shut asked. sym (append-nil (effects_synced area past false earlier));
   shut = λ earlier shut. shut;
   copies = λ e. absurd (no e);
 }
@@ -114,28 +114,32 @@ all_of true b c = refl
 all_of false b c = refl
 
 -- refused writes that were to be asked for, of two calls
-asked_append : (area : ℕ) (earlier c d : List Call)
-    → are_asked_refusals area earlier (d ++ c) ≡ are_asked_refusals area (c ++ earlier) d && are_asked_refusals area earlier c
-asked_append area earlier c [] = refl
-asked_append area earlier c (RefusedCall (ToWrite at n left) count ∷ d) =
-    ap (λ calls. is_asked_refusal area at calls && are_asked_refusals area earlier (d ++ c)) (append_assoc d c earlier)
-    ∙ (ap (λ b. is_asked_refusal area at (d ++ (c ++ earlier)) && b) (asked_append area earlier c d)
-    ∙ all_of (is_asked_refusal area at (d ++ (c ++ earlier))) (are_asked_refusals area (c ++ earlier) d) (are_asked_refusals area earlier c))
-asked_append area earlier c (call ∷ d) = asked_append area earlier c d
+asked_append : (area : ℕ) (before c d : List Call)
+    → are_asked_refusals area before (d ++ c) ≡ are_asked_refusals area (c ++ before) d && are_asked_refusals area before c
+asked_append area before c [] = refl
+asked_append area before c (RefusedCall (ToWrite at n left) count ∷ d) =
+    ap (λ calls. is_asked_refusal area at calls && are_asked_refusals area before (d ++ c)) (append_assoc d c before)
+    ∙ (ap (λ b. is_asked_refusal area at (d ++ (c ++ before)) && b) (asked_append area before c d)
+    ∙ all_of (is_asked_refusal area at (d ++ (c ++ before))) (are_asked_refusals area (c ++ before) d) (are_asked_refusals area before c))
+asked_append area before c (call ∷ d) = asked_append area before c d
+
+-- the same behind the calls of the session before the step
+behind_both : (area : ℕ) (past earlier c d : List Call) → are_asked_refusals area ((c ++ earlier) ++ past) d ≡ are_asked_refusals area (c ++ (earlier ++ past)) d
+behind_both area past earlier c d = ap (λ before. are_asked_refusals area before d) (append_assoc c earlier past)
 
 -- where none was refused all are
-pub calm_asked : (area : ℕ) (earlier calls : List Call) → is_calm calls ≡ true → are_asked_refusals area earlier calls ≡ true
-calm_asked area earlier [] e = refl
-calm_asked area earlier (RefusedCall (ToWrite at n left) count ∷ calls) e = absurd (no e)
+pub calm_asked : (area : ℕ) (before calls : List Call) → is_calm calls ≡ true → are_asked_refusals area before calls ≡ true
+calm_asked area before [] e = refl
+calm_asked area before (RefusedCall (ToWrite at n left) count ∷ calls) e = absurd (no e)
   where
     no : false ≡ true → ⊥
     no e = cc
-calm_asked area earlier (RefusedCall ToSync count ∷ calls) e = absurd (no e)
+calm_asked area before (RefusedCall ToSync count ∷ calls) e = absurd (no e)
   where
     no : false ≡ true → ⊥
     no e = cc
-calm_asked area earlier (RefusedCall (ToRead at n) count ∷ calls) e = calm_asked area earlier calls e
-calm_asked area earlier (call ∷ calls) e = calm_asked area earlier calls e
+calm_asked area before (RefusedCall (ToRead at n) count ∷ calls) e = calm_asked area before calls e
+calm_asked area before (call ∷ calls) e = calm_asked area before calls e
 
 calm_both : (c d : List Call) → is_calm c ≡ true → is_calm d ≡ true → is_calm (d ++ c) ≡ true
 calm_both c [] f l = f
@@ -151,21 +155,23 @@ calm_both c (RefusedCall (ToRead at n) count ∷ d) f l = calm_both c d f l
 calm_both c (call ∷ d) f l = calm_both c d f l
 
 -- what a call tells behind another one it tells with that
-agree_both : (area : ℕ) (s : State) (c d : List Call) (a b : List Rec) (earlier : List Call) → TellsSyncs area s c a → AgreeBehind area (c ++ earlier) d b
-    → AgreeBehind area earlier (d ++ c) (a ++ b)
-agree_both area s c d a b earlier f l shut asked =
-    let each : (are_asked_refusals area (c ++ earlier) d ≡ true) × (are_asked_refusals area earlier c ≡ true) =
-    both_of (are_asked_refusals area (c ++ earlier) d) (are_asked_refusals area earlier c) (sym (asked_append area earlier c d) ∙ asked) in
-    ap (λ calls. effects_synced area false calls) (append_assoc d c earlier)
-    ∙ (l (f.shut earlier shut) each.0
-    ∙ (ap (λ es. es ++ syncs_told b) (f.effects earlier shut each.1)
-    ∙ (append_assoc (effects_synced area false earlier) (syncs_told a) (syncs_told b)
-    ∙ ap (λ es. effects_synced area false earlier ++ es) (sym (syncs_append a b)))))
+agree_both : (area : ℕ) (s : State) (c d : List Call) (a b : List Rec) (past earlier : List Call) → TellsSyncs area s c a
+    → AgreeBehind area past (c ++ earlier) d b
+    → AgreeBehind area past earlier (d ++ c) (a ++ b)
+agree_both area s c d a b past earlier f l shut asked =
+    let each : (are_asked_refusals area (c ++ (earlier ++ past)) d ≡ true) × (are_asked_refusals area (earlier ++ past) c ≡ true) =
+    both_of (are_asked_refusals area (c ++ (earlier ++ past)) d) (are_asked_refusals area (earlier ++ past) c)
+    (sym (asked_append area (earlier ++ past) c d) ∙ asked) in
+    ap (λ calls. effects_synced area past false calls) (append_assoc d c earlier)
+    ∙ (l (f.shut earlier shut) (behind_both area past earlier c d ∙ each.0)
+    ∙ (ap (λ es. es ++ syncs_told b) (f.effects past earlier shut each.1)
+    ∙ (append_assoc (effects_synced area past false earlier) (syncs_told a) (syncs_told b)
+    ∙ ap (λ es. effects_synced area past false earlier ++ es) (sym (syncs_append a b)))))
 
 pub tells_both : (area : ℕ) (s : State) (c d : List Call) (a b : List Rec) → TellsSyncs area s c a → TellsSyncs area (after_all s a) d b
     → TellsSyncs area s (d ++ c) (a ++ b)
 tells_both area s c d a b f l = record {
-  effects = λ earlier. agree_both area s c d a b earlier f (l.effects (c ++ earlier));
+  effects = λ past earlier. agree_both area s c d a b past earlier f (l.effects past (c ++ earlier));
   shut = λ earlier shut. ap opens_gate (append_assoc d c earlier) ∙ l.shut (c ++ earlier) (f.shut earlier shut);
   copies = λ wrote. first_or (writes_below area d) (writes_below area c) _ (sym (writes_append area d c) ∙ wrote)
       (λ later. runs_before s a b (l.copies later)) (λ earlier. first_runs s a b (f.copies earlier));
@@ -217,7 +223,7 @@ of_buffer_later p s a b earlier c older at bytes tells calm times h = record {
   before = a ++ h.before;
   behind = h.behind;
   is = ap (λ rs. a ++ rs) h.is ∙ sym (append_assoc a h.before h.behind);
-  order = agree_both p.area s c older a h.before earlier tells h.order;
+  order = agree_both p.area s c older a h.before p.past earlier tells h.order;
   calm = calm_both c older calm h.calm;
   turn = subst (λ n. n ≤ buffers_begun (a ++ h.before)) (sym (content_append p.area older c))
       (subst (λ n. content_writes p.area c + content_writes p.area older ≤ n) (sym (begun_append a h.before))
@@ -281,7 +287,7 @@ of_buffer_whole : (p : Permit) (s : State) (a : List Rec) (older : List Call) (a
     → IsOfBuffer p s a older at bytes
 of_buffer_whole p s a older at bytes there firsts h =
     let follows : AreBeforeWrite p h.before older = record {
-      order = sym (ap (λ calls. effects_synced p.area false calls) (sym (append-nil older)) ∙ h.order refl (calm_asked p.area [] older h.calm));
+      order = sym (ap (λ calls. effects_synced p.area p.past false calls) (sym (append-nil older)) ∙ h.order refl (calm_asked p.area p.past older h.calm));
       calm = h.calm;
       turn = h.turn;
     } in
@@ -345,13 +351,13 @@ WrittenBoth p s a b earlier c d o last all = TellsSyncs p.area s c a → UnlessW
     → UnlessWanting all (WritesBuffers all (stands p s earlier (d ++ c) (a ++ b)))
 
 -- a call that made none
-nothing_written : (o : Progress) (p : Permit) (s : State) (earlier : List Call) (a : List Rec) → IfLeaving o (LetsGoOn (stands p s earlier [] a))
+nothing_written : (o : Progress) (p : Permit) (s : State) (earlier : List Call) (a : List Rec) → IfLeaving o (true ≡ true)
     → WritesBuffers o (stands p s earlier [] a)
-nothing_written o p s earlier a going = record { content = tt; times = no_writes o (buffers_begun a); asked = λ none. refl; going = going }
+nothing_written o p s earlier a going = record { content = tt; times = no_writes o (buffers_begun a); asked = refl; going = going }
 
 pub none_written : (o : Progress) (p : Permit) (s : State) (earlier : List Call) (a : List Rec)
     → UnlessWanting o (WritesBuffers o (stands p s earlier [] a))
-none_written (Leaves left) p s earlier a = nothing_written (Leaves left) p s earlier a (record { calm = refl; gated = λ none. none })
+none_written (Leaves left) p s earlier a = nothing_written (Leaves left) p s earlier a refl
 none_written (Stops why) p s earlier a = nothing_written (Stops why) p s earlier a tt
 none_written Wants p s earlier a = tt
 
@@ -359,30 +365,27 @@ none_written Wants p s earlier a = tt
 pub left_written : (left more : List Intent) (c : InStep) → WritesBuffers (Leaves left) c → WritesBuffers (Leaves more) c
 left_written left more c h = record { content = h.content; times = h.times; asked = h.asked; going = h.going }
 
--- refused writes that were to be asked for, behind a call that lets the step go on
-asked_on : (area : ℕ) (earlier c d : List Call) → are_asked_refusals area earlier c ≡ true → are_asked_refusals area (c ++ earlier) d ≡ true
-    → are_asked_refusals area earlier (d ++ c) ≡ true
-asked_on area earlier c d f l = asked_append area earlier c d ∙ both (are_asked_refusals area (c ++ earlier) d) (are_asked_refusals area earlier c) l f
+-- refused writes that were to be asked for, of two calls of a step
+asked_on : (area : ℕ) (past earlier c d : List Call) → are_asked_refusals area (earlier ++ past) c ≡ true
+    → are_asked_refusals area ((c ++ earlier) ++ past) d ≡ true → are_asked_refusals area (earlier ++ past) (d ++ c) ≡ true
+asked_on area past earlier c d f l =
+    asked_append area (earlier ++ past) c d
+    ∙ both (are_asked_refusals area (c ++ (earlier ++ past)) d) (are_asked_refusals area (earlier ++ past) c) (sym (behind_both area past earlier c d) ∙ l) f
 
-going_on : (p : Permit) (s : State) (a b : List Rec) (earlier c d : List Call) (o : Progress) → LetsGoOn (stands p s earlier c a)
-    → IfLeaving o (LetsGoOn (stands p (after_all s a) (c ++ earlier) d b))
-    → IfLeaving o (LetsGoOn (stands p s earlier (d ++ c) (a ++ b)))
-going_on p s a b earlier c d (Leaves left) f l = record {
-  calm = calm_both c d f.calm l.calm;
-  gated = λ none. ap (has_body_since p.area) (append_assoc d c earlier) ∙ l.gated (f.gated none);
-}
-going_on p s a b earlier c d (Stops why) f l = tt
-going_on p s a b earlier c d Wants f l = tt
+going_on : (c d : List Call) (o : Progress) → is_calm c ≡ true → IfLeaving o (is_calm d ≡ true) → IfLeaving o (is_calm (d ++ c) ≡ true)
+going_on c d (Leaves left) f l = calm_both c d f l
+going_on c d (Stops why) f l = tt
+going_on c d Wants f l = tt
 
 going_written : (p : Permit) (s : State) (a b : List Rec) (earlier c d : List Call) (left : List Intent) (o : Progress) → TellsSyncs p.area s c a
     → WritesBuffers (Leaves left) (stands p s earlier c a) → WritesBuffers o (stands p (after_all s a) (c ++ earlier) d b)
     → WritesBuffers o (stands p s earlier (d ++ c) (a ++ b))
 going_written p s a b earlier c d left o tells f l = record {
-  content = buffers_both p s a b earlier c d tells f.going.calm f.times f.content l.content;
+  content = buffers_both p s a b earlier c d tells f.going f.times f.content l.content;
   times = writes_both p.area o c d a b
       (writes_on left o (buffers_begun a) (buffers_begun b) (content_writes p.area c) (content_writes p.area d) f.times l.times);
-  asked = λ none. asked_on p.area earlier c d (f.asked none) (l.asked (f.going.gated none));
-  going = going_on p s a b earlier c d o f.going l.going;
+  asked = asked_on p.area p.past earlier c d f.asked l.asked;
+  going = going_on c d o f.going l.going;
 }
 
 -- what is left is asked next
@@ -399,6 +402,6 @@ written_behind p s a b earlier c d why none tells f l = record {
   content = buffers_none p s a b earlier c d (subst (λ n. content_writes p.area d ≤ n) none l.times) f.content;
   times = writes_both p.area (Stops why) c d a b
       (writes_behind why (buffers_begun a) (buffers_begun b) (content_writes p.area c) (content_writes p.area d) f.times l.times);
-  asked = λ free. asked_on p.area earlier c d (f.asked free) (calm_asked p.area (c ++ earlier) d l.going.calm);
+  asked = asked_on p.area p.past earlier c d f.asked (calm_asked p.area ((c ++ earlier) ++ p.past) d l.going);
   going = tt;
 }

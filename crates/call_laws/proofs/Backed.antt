@@ -16,7 +16,7 @@ among_first x [] b h = absurd h
 among_first x (y ∷ a) b (inl e) = inl e
 among_first x (y ∷ a) b (inr h) = inr (among_first x a b h)
 
-among_later : {X : Type 0} (x : X) (a b : List X) → IsAmong x b → IsAmong x (a ++ b)
+pub among_later : {X : Type 0} (x : X) (a b : List X) → IsAmong x b → IsAmong x (a ++ b)
 among_later x [] b h = h
 among_later x (y ∷ a) b h = inr (among_later x a b h)
 

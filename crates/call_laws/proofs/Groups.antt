@@ -43,7 +43,8 @@ happens_unasked {a} added setting past adds effects syncs = record {
   faults = ap denials effects;
   effects = λ u. effects;
   synced = λ s. record {
-    effects = λ earlier shut asked. sym (ap (λ es. effects_synced a.setting.area false earlier ++ es) syncs ∙ append-nil (effects_synced a.setting.area false earlier));
+    effects = λ past earlier shut asked.
+        sym (ap (λ es. effects_synced a.setting.area past false earlier ++ es) syncs ∙ append-nil (effects_synced a.setting.area past false earlier));
     shut = λ earlier shut. shut;
     copies = λ e. absurd (no e);
   };
@@ -55,14 +56,18 @@ happens_unasked {a} added setting past adds effects syncs = record {
 -- ---- one group
 
 -- of a stripe that does not sync
-pub acts_plainly : {now : ℕ} {a b : At} {group : Groups} {o : Progress} (calls : List Call) (added : List Rec) → a.setting.syncs ≡ false
-    → Happens a b calls added
-    → ((p : Permit) (earlier : List Call) → Encloses now a.setting p earlier calls → group p (state_of a.kept) added) → Acts now a b group o
+pub acts_plainly : {now : ℕ} {a b : At} {group : Groups} {o : Progress} {before : Facts} (calls : List Call) (added : List Rec)
+    → a.setting.syncs ≡ false → Happens a b calls added
+    → ((p : Permit) (earlier : List Call) → Encloses now a.setting p earlier calls → before (so_far p earlier) (state_of a.kept)
+    → group p (state_of a.kept) added)
+    → Acts now a b group o before
 acts_plainly {a = a} calls added unsynced happens does = record {
   calls = calls;
   added = added;
   happens = happens;
-  does = λ p earlier step. record { is = does p earlier step; buffers = λ syncs. absurd (no (sym step.set.syncs ∙ syncs)) };
+  does = λ p earlier step. record {
+    from = λ k. record { is = does p earlier step k; buffers = λ syncs. absurd (no (sym step.set.syncs ∙ syncs)) };
+  };
 }
   where
     no : a.setting.syncs ≡ true → ⊥
@@ -85,32 +90,33 @@ pub serves_group : {P : Documents} {now : ℕ} {a b : At} {group : Groups} {befo
     → ((p : Permit) (earlier calls : List Call) (added : List Rec) → Encloses now a.setting p earlier calls → Happens a b calls added → before (so_far p earlier) (state_of a.kept)
     → group p (state_of a.kept) added
     → Does p (state_of a.kept) i added e × known (so_far p (calls ++ earlier)) (after_all (state_of a.kept) added) ⊎ IsPair P p (state_of a.kept) i)
-    → Acts now a b group (progress_of_group e) → ServesFrom P now a b (i ∷ []) (progress_of i e) before known
+    → Acts now a b group (progress_of_group e) before → ServesFrom P now a b (i ∷ []) (progress_of i e) before known
 serves_group {P} {a = a} i e law f = call_as (λ p earlier calls added step happens h. record {
-  from = λ k. elim (law p earlier calls added step happens k h.is) [
+  from = λ k. elim (law p earlier calls added step happens k (h.from k).is) [
     | inl v ↦ inl (record {
       spends = one_spends p (state_of a.kept) i added e v.0;
       behind = v.1;
-      buffers = λ syncs. group_writes i e (record { step = p; earlier = earlier; calls = calls; state = state_of a.kept; added = added }) (h.buffers syncs);
+      buffers = λ syncs. group_writes i e (record { step = p; earlier = earlier; calls = calls; state = state_of a.kept; added = added })
+          ((h.from k).buffers syncs);
     })
     | inr pair ↦ inr (shown_at_once P p (state_of a.kept) i [] added pair)
   ];
 }) f
 
--- whatever is known
+-- it is one for what is asked, whatever is known
 pub acts_serve : {P : Documents} {now : ℕ} {a b : At} {group : Groups} {before : Facts} (i : Intent) (e : End)
-    → ((p : Permit) (s : State) (added : List Rec) → group p s added → Does p s i added e) → Acts now a b group (progress_of_group e)
+    → ((p : Permit) (s : State) (added : List Rec) → group p s added → Does p s i added e) → Acts now a b group (progress_of_group e) before
     → ServesFrom P now a b (i ∷ []) (progress_of i e) before NothingKnown
 acts_serve {a = a} i e law f = serves_group i e (λ p earlier calls added step happens k h. inl (law p (state_of a.kept) added h, tt)) f
 
 -- a call that adds nothing has begun whatever is asked
-pub acts_want : {P : Documents} {now : ℕ} {a b : At} {before : Facts} (is : List Intent) → Acts now a b (λ p s added. added ≡ []) Wants
+pub acts_want : {P : Documents} {now : ℕ} {a b : At} {before : Facts} (is : List Intent) → Acts now a b (λ p s added. added ≡ []) Wants before
     → ServesFrom P now a b is Wants before NothingKnown
 acts_want {a = a} is f = call_as (λ p earlier calls added step happens h. record {
   from = λ k. inl (record {
-    spends = (to_do is, subst (λ rs. MayGrow p (state_of a.kept) (to_do is) rs (to_do is)) (sym h.is) nothing);
+    spends = (to_do is, subst (λ rs. MayGrow p (state_of a.kept) (to_do is) rs (to_do is)) (sym (h.from k).is) nothing);
     behind = tt;
-    buffers = h.buffers;
+    buffers = (h.from k).buffers;
   });
 }) f
 

@@ -19,7 +19,7 @@ then_more old mid new a b first last =
     last ∙ (ap (λ k. with_records k b) first
     ∙ ap (λ recs. let k : Kept = record { told = old.told; base = old.base; since = recs } in k) (append_assoc old.since a b))
 
-nothing_more : (k : Kept) → k ≡ with_records k []
+pub nothing_more : (k : Kept) → k ≡ with_records k []
 nothing_more k = sym (ap (λ recs. let x : Kept = record { told = k.told; base = k.base; since = recs } in x) (append-nil k.since))
 
 -- what these records stand for

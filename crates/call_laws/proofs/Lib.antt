@@ -11,4 +11,5 @@ mod Backed
 mod Asking
 mod Example
 mod SyncExample
+mod StepExample
 mod Tries

@@ -8,7 +8,8 @@ use Rattle.cache_model.specs.declared.record.Rec.{Rec}
 use Rattle.cache_model.specs.declared.record.Rec.TheVariants as rec
 use Rattle.cache_model.specs.State.{State, after_all}
 use Rattle.cache_model.specs.Permit.{Permit, Faulted}
-use Rattle.cache_model.specs.Given.{Denied, Finished, IsRestOf, IsWriteOfRest, Unasked, content_writes, effects_synced, has_body_since, is_asked_refusal, is_of_body}
+use Rattle.cache_model.specs.Given.{Denied, Finished, IsRestOf, IsWriteOfRest, Unasked, content_writes, effects_synced, ends_some_body, has_body_since, is_asked_refusal}
+use Rattle.call_laws.specs.Moments.{so_far}
 use Rattle.call_laws.specs.Progress.{AllDone, Stops}
 use Rattle.call_laws.specs.Happens.{IsOfBufferBehind, TellsSyncs, are_asked_refusals}
 use Rattle.call_laws.specs.Serves.{WritesBuffers}
@@ -33,8 +34,8 @@ three_none : {X : Type 0} (xs : List X) → ((xs ++ []) ++ []) ++ [] ≡ xs
 three_none xs = append-nil ((xs ++ []) ++ []) ∙ two_none xs
 
 -- that ends a sync
-ends : (earlier : List Call) → effects_synced 9 false (ended_calls ++ earlier) ≡ effects_synced 9 false earlier ++ Finished ∷ []
-ends earlier = ap (λ es. es ++ Finished ∷ []) (three_none (effects_synced 9 false earlier))
+ends : (past earlier : List Call) → effects_synced 9 past false (ended_calls ++ earlier) ≡ effects_synced 9 past false earlier ++ Finished ∷ []
+ends past earlier = ap (λ es. es ++ Finished ∷ []) (three_none (effects_synced 9 past false earlier))
 
 -- ---- a whole sync
 
@@ -44,8 +45,8 @@ or_begun false = refl
 
 sync_tells : (s : State) (serial cursor : ℕ) → TellsSyncs 9 s sync_calls (rec.SyncBegun serial cursor false false ∷ rec.SyncDone serial ∷ [])
 sync_tells s serial cursor = record {
-  effects = λ earlier shut asked.
-      ends (Synced ∷ Wrote 1 (gate 0) ∷ earlier) ∙ ap (λ es. es ++ Finished ∷ []) (two_none (effects_synced 9 false earlier));
+  effects = λ past earlier shut asked.
+      ends past (Synced ∷ Wrote 1 (gate 0) ∷ earlier) ∙ ap (λ es. es ++ Finished ∷ []) (two_none (effects_synced 9 past false earlier));
   shut = λ earlier shut. refl;
   copies = λ wrote. or_begun (is_some s.running);
 }
@@ -62,7 +63,7 @@ flushed serial cursor floor = rec.SyncDone serial ∷ rec.Began cursor floor ∷
 flush_tells : (s : State) (serial cursor floor : ℕ) (bytes : List ℕ) → is_some s.running ≡ true
     → TellsSyncs 9 s (flush_calls bytes) (flushed serial cursor floor)
 flush_tells s serial cursor floor bytes runs = record {
-  effects = λ earlier shut asked. append-nil (effects_synced 9 false (ended_calls ++ earlier)) ∙ ends earlier;
+  effects = λ past earlier shut asked. append-nil (effects_synced 9 past false (ended_calls ++ earlier)) ∙ ends past earlier;
   shut = λ earlier shut. refl;
   copies = λ wrote. ap (λ b. b || false) runs;
 }
@@ -71,22 +72,20 @@ flush_tells s serial cursor floor bytes runs = record {
 below : (area at : ℕ) → area ≡ 9 → at < 9 → area ≤ at → ⊥
 below area at here low above = omega arith
 
--- it is of no body, where it has some blocks
-one_of : (a b : Bool) → a ≡ false → b ≡ false → (true && a) || (true && b) ≡ false
-one_of a b first second = rw (first, second) refl
+-- it ends no body, where it has some blocks
+one_of : (a b u v x y : Bool) → a ≡ false → b ≡ false → ((true && a) && u && v) || ((true && b) && x && y) ≡ false
+one_of a b u v x y first second = rw (first, second) refl
 
-of_no_body : (blocks : ℕ) → 0 < blocks → is_of_body 9 9 blocks ≡ false
-of_no_body blocks some =
-    one_of (leb (9 + blocks) 6) (leb (9 + blocks) 9) (lt-leb (9 + blocks) 6 (omega arith)) (lt-leb (9 + blocks) 9 (omega arith))
+ends_none : (bytes : List ℕ) (older : List Call) → 0 < length bytes / 512 → ends_some_body 9 (Wrote 9 bytes ∷ older) ≡ false
+ends_none bytes older some =
+    let blocks : ℕ = length bytes / 512 in
+    one_of (leb (9 + blocks) 6) (leb (9 + blocks) 9) _ _ _ _ (lt-leb (9 + blocks) 6 (omega arith)) (lt-leb (9 + blocks) 9 (omega arith))
 
 some_blocks : {p : Permit} {s : State} {front at : ℕ} {bytes : List ℕ} → IsRestOf p s front at bytes → 0 < length bytes / 512
 some_blocks {s = s} {front = front} {bytes = bytes} h = more_than (length bytes / 512) front s.filled h.whole h.some
   where
     more_than : (n front filled : ℕ) → n + front ≡ filled → front < filled → 0 < n
     more_than n front filled sum less = omega arith
-
-no_body : (b : Bool) → b ≡ false → b || false ≡ false
-no_body b e = rw e refl
 
 -- where the buffer is of what is left behind that end, its write is one of a buffer, and the only one
 module _ (p : Permit) (s : State) (serial cursor floor : ℕ) (bytes : List ℕ) (earlier : List Call) (here : p.area ≡ 9)
@@ -96,8 +95,9 @@ module _ (p : Permit) (s : State) (serial cursor floor : ℕ) (bytes : List ℕ)
     before = rec.SyncDone serial ∷ [];
     behind = rec.Began cursor floor ∷ [];
     is = refl;
-    order = λ shut asked. subst (λ area. effects_synced area false (ended_calls ++ earlier) ≡ effects_synced area false earlier ++ Finished ∷ [])
-        (sym here) (ends earlier);
+    order = λ shut asked.
+        subst (λ area. effects_synced area p.past false (ended_calls ++ earlier) ≡ effects_synced area p.past false earlier ++ Finished ∷ [])
+        (sym here) (ends p.past earlier);
     calm = refl;
     turn = subst (λ area. content_writes area ended_calls ≤ 0) (sym here) (lit≤ tt);
     write = write;
@@ -108,12 +108,8 @@ module _ (p : Permit) (s : State) (serial cursor floor : ℕ) (bytes : List ℕ)
   flush_writes = record {
     content = ((λ above. of_buffer), ((λ above. absurd (below p.area 1 here (lit< tt) above)), ((λ above. absurd (below p.area 3 here (lit< tt) above)), tt)));
     times = subst (λ area. content_writes area (flush_calls bytes) ≤ 1) (sym here) (lit≤ tt);
-    asked = λ none. refl;
-    going = record {
-      calm = refl;
-      gated = λ none. subst (λ area. has_body_since area (flush_calls bytes ++ earlier) ≡ false) (sym here)
-          (no_body (is_of_body 9 9 (length bytes / 512)) (of_no_body (length bytes / 512) (some_blocks write.rest)));
-    };
+    asked = refl;
+    going = refl;
   }
 
 -- ---- a flush that is stopped
@@ -127,30 +123,30 @@ stopped serial cursor count = rec.SyncBegun serial cursor false false ∷ rec.Fa
 
 stop_tells : (s : State) (serial cursor count : ℕ) (bytes : List ℕ) → TellsSyncs 9 s (stopped_calls bytes count) (stopped serial cursor count)
 stop_tells s serial cursor count bytes = record {
-  effects = λ earlier shut asked.
-      ap (λ b. (effects_synced 9 false earlier ++ []) ++ Denied count ∷ (if b then [] else Unasked ∷ []))
-      (both_of (is_asked_refusal 9 1 (Wrote 9 bytes ∷ earlier)) true asked).0
-      ∙ ap (λ es. es ++ Denied count ∷ []) (append-nil (effects_synced 9 false earlier));
+  effects = λ past earlier shut asked.
+      ap (λ b. (effects_synced 9 past false earlier ++ []) ++ Denied count ∷ (if b then [] else Unasked ∷ []))
+      (both_of (is_asked_refusal 9 1 (Wrote 9 bytes ∷ (earlier ++ past))) true asked).0
+      ∙ ap (λ es. es ++ Denied count ∷ []) (append-nil (effects_synced 9 past false earlier));
   shut = λ earlier shut. refl;
   copies = λ wrote. or_begun (is_some s.running);
 }
 
--- its gate is one to ask for where no body was left before
+-- its gate is one to ask for where the session has left no body without a gate
 asked_for : (a b : Bool) → a ≡ false → b ≡ false → ((false || not (a || (true && b))) || false) && true ≡ true
 asked_for a b first second = rw (first, second) refl
 
 -- its write is the one for which no buffer begins
 stop_writes : (p : Permit) (s : State) (serial cursor count : ℕ) (bytes : List ℕ) (earlier : List Call) → p.area ≡ 9
-    → IsWriteOfRest p s earlier 9 bytes
+    → has_body_since p.area (so_far p earlier) ≡ false → IsWriteOfRest p s earlier 9 bytes
     → WritesBuffers (Stops (Faulted count))
     (record { step = p; earlier = earlier; calls = stopped_calls bytes count; state = s; added = stopped serial cursor count })
-stop_writes p s serial cursor count bytes earlier here write = record {
+stop_writes p s serial cursor count bytes earlier here none write = record {
   content = (
     (λ above. record {
       before = [];
       behind = stopped serial cursor count;
       is = refl;
-      order = λ shut asked. sym (append-nil (effects_synced p.area false earlier));
+      order = λ shut asked. sym (append-nil (effects_synced p.area p.past false earlier));
       calm = refl;
       turn = lit≤ tt;
       write = write;
@@ -158,7 +154,8 @@ stop_writes p s serial cursor count bytes earlier here write = record {
     tt,
   );
   times = subst (λ area. content_writes area (stopped_calls bytes count) ≤ 1) (sym here) (lit≤ tt);
-  asked = subst (λ area. has_body_since area earlier ≡ false → are_asked_refusals area earlier (stopped_calls bytes count) ≡ true) (sym here)
-      (λ none. asked_for (is_of_body 9 9 (length bytes / 512)) (has_body_since 9 earlier) (of_no_body (length bytes / 512) (some_blocks write.rest)) none);
+  asked = subst (λ area. are_asked_refusals area (so_far p earlier) (stopped_calls bytes count) ≡ true) (sym here)
+      (asked_for (ends_some_body 9 (Wrote 9 bytes ∷ so_far p earlier)) (has_body_since 9 (so_far p earlier))
+      (ends_none bytes (so_far p earlier) (some_blocks write.rest)) (subst (λ area. has_body_since area (so_far p earlier) ≡ false) here none));
   going = tt;
 }

@@ -1,5 +1,5 @@
 -- What the statement lets through: tries that went through, each of which wants another clause where it matters.
-use Rattle.std.proofs.Common.{◌≡◌, ℕ, ◌<◌, ◌≤◌, arith, true, false, List, [], ◌∷◌, ◌++◌, refl, sym, ◌∙◌, ap, append-nil, inl}
+use Rattle.std.proofs.Common.{◌≡◌, ℕ, ◌<◌, ◌≤◌, arith, true, false, List, [], ◌∷◌, ◌++◌, refl, ◌∙◌, inl}
 use Rattle.std.specs.Prelude.{take, Some}
 use Rattle.device_log.specs.Calls.{Call, Read}
 use Rattle.logged_disk.specs.Device.{State as Device}
@@ -7,7 +7,6 @@ use Rattle.tape_base.specs.Digest.{Collide}
 use Rattle.doc_header.specs.Reading.{extent_of}
 use Rattle.cache_model.specs.declared.record.Rec.{Rec}
 use Rattle.cache_model.specs.State.{Row, State, live_row_of}
-use Rattle.cache_model.specs.Kept.{Kept, with_records}
 use Rattle.cache_model.specs.Permit.{HasCopies, Intent, Permit, Reason, to_do}
 use Rattle.cache_model.specs.Legal.{nothing}
 use Rattle.cache_model.specs.Pair.{Documents, IsPairOf, ShowsPair}
@@ -18,6 +17,7 @@ use Rattle.call_laws.specs.Serves.{InStep, IsCall, Serves, ServesFrom, Upshots, 
 use Rattle.call_laws.proofs.Accounts.{no_writes}
 use Rattle.call_laws.proofs.Groups.{happens_plainly}
 use Rattle.call_laws.proofs.Grown.{shown_first}
+use Rattle.call_laws.proofs.Joined.{nothing_more}
 use Rattle.call_laws.proofs.Served.{serves_begins, serves_fails, serves_still, serves_then}
 
 -- ---- a call that does nothing
@@ -43,7 +43,7 @@ one_read : {P : Documents} {now : ℕ} {a b : At} {before : Facts} (at : ℕ) (b
 one_read {a = a} at bytes unsynced setting kept past = record {
   calls = Read at bytes ∷ [];
   added = [];
-  happens = happens_plainly (Read at bytes ∷ []) [] unsynced setting past (kept ∙ same a.kept) refl;
+  happens = happens_plainly (Read at bytes ∷ []) [] unsynced setting past (kept ∙ nothing_more a.kept) refl;
   does = λ p earlier step. record {
     from = λ k. inl (record {
       spends = nothing;
@@ -51,15 +51,12 @@ one_read {a = a} at bytes unsynced setting kept past = record {
       buffers = λ syncs. record {
         content = tt;
         times = no_writes AllDone 0;
-        asked = λ none. refl;
-        going = record { calm = refl; gated = λ none. none };
+        asked = refl;
+        going = refl;
       };
     });
   };
 }
-  where
-    same : (k : Kept) → k ≡ with_records k []
-    same k = sym (ap (λ recs. let x : Kept = record { told = k.told; base = k.base; since = recs } in x) (append-nil k.since))
 
 module _ {P : Documents} {now : ℕ} {a b c : At} {asked : List Intent} {before known : Facts} (at : ℕ) (bytes : List ℕ) (unsynced : b.setting.syncs ≡ false)
     (setting : c.setting ≡ b.setting) (kept : c.kept ≡ b.kept) (past : c.device.past ≡ Read at bytes ∷ b.device.past) where

@@ -49,7 +49,7 @@ syncs_whole : (p : Permit) (s : State) (added : List Rec) (o : Progress) (why : 
     → AreWrittenFirst p s added → WritesBuffers o (record { step = p; earlier = []; calls = p.events; state = s; added = added })
     → AreSyncsTold p s added why
 syncs_whole p s added o why ends tells firsts buffers = record {
-  effects = sym (ap (λ calls. effects_synced p.area false calls) (sym (append-nil p.events)) ∙ tells.effects [] refl (buffers.asked refl));
+  effects = sym (ap (λ calls. effects_synced p.area p.past false calls) (sym (append-nil p.events)) ∙ tells.effects p.past [] refl buffers.asked);
   copies = tells.copies;
   content = buffers_whole p s added p.events (record { later = []; is = refl }) firsts buffers.content;
   writes = writes_whole o why (buffers_begun added) (content_writes p.area p.events) ends buffers.times;

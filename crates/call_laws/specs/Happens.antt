@@ -9,23 +9,24 @@ use Rattle.cache_model.specs.Permit.{Permit}
 use Rattle.cache_model.specs.Given.{AreBeforeWrite, IsWriteOfRest, IsWrittenFirst, AreUpTo, buffers_begun, content_writes, denials, effects_in, effects_synced, effects_told, has_sync, is_asked_refusal, is_calm, opens_gate, syncs_told, writes_below}
 use Rattle.call_laws.specs.Moments.{At}
 
--- behind these earlier calls each write that was refused was one to ask for
-abbrev pub are_asked_refusals : (area : ℕ) → (earlier calls : List Call) → Bool
-are_asked_refusals area earlier [] = true
-are_asked_refusals area earlier (RefusedCall (ToWrite at n left) count ∷ older) =
-    is_asked_refusal area at (older ++ earlier) && are_asked_refusals area earlier older
-are_asked_refusals area earlier (call ∷ older) = are_asked_refusals area earlier older
+-- behind the calls of the session so far each write that was refused was one to ask for
+abbrev pub are_asked_refusals : (area : ℕ) → (so_far calls : List Call) → Bool
+are_asked_refusals area so_far [] = true
+are_asked_refusals area so_far (RefusedCall (ToWrite at n left) count ∷ older) =
+    is_asked_refusal area at (older ++ so_far) && are_asked_refusals area so_far older
+are_asked_refusals area so_far (call ∷ older) = are_asked_refusals area so_far older
 
--- of a stripe that syncs: behind calls that leave no gate open, and behind which each refused write was one to ask for, each of
--- these calls that ended a sync or failed has its record among these, in order, and no other is there
-abbrev pub AgreeBehind : (area : ℕ) → (earlier calls : List Call) → List Rec → Type 0
-AgreeBehind area earlier calls recs = opens_gate earlier ≡ false → are_asked_refusals area earlier calls ≡ true
-    → effects_synced area false (calls ++ earlier) ≡ effects_synced area false earlier ++ syncs_told recs
+-- of a stripe that syncs: behind those of its session and earlier ones of its step, which leave no gate open, and behind which
+-- each refused write was one to ask for, each of these calls that ended a sync or failed has its record among these, in order,
+-- and no other is there
+abbrev pub AgreeBehind : (area : ℕ) → (past earlier calls : List Call) → List Rec → Type 0
+AgreeBehind area past earlier calls recs = opens_gate earlier ≡ false → are_asked_refusals area (earlier ++ past) calls ≡ true
+    → effects_synced area past false (calls ++ earlier) ≡ effects_synced area past false earlier ++ syncs_told recs
 
 -- so it is of the calls and the records of a call, which leave no gate open; and where the copies of the directory were written
 -- there is a sync
 pub record TellsSyncs (area : ℕ) (s : State) (calls : List Call) (added : List Rec) : Type 0 where
-  pub effects : (earlier : List Call) → AgreeBehind area earlier calls added
+  pub effects : (past earlier : List Call) → AgreeBehind area past earlier calls added
   pub shut : (earlier : List Call) → opens_gate earlier ≡ false → opens_gate (calls ++ earlier) ≡ false
   pub copies : writes_below area calls ≡ true → has_sync s added ≡ true
 
@@ -46,7 +47,7 @@ pub record IsOfBufferBehind (p : Permit) (s : State) (added : List Rec) (earlier
   pub before : List Rec
   pub behind : List Rec
   pub is : added ≡ before ++ behind
-  pub order : AgreeBehind p.area earlier older before
+  pub order : AgreeBehind p.area p.past earlier older before
   pub calm : is_calm older ≡ true
   pub turn : content_writes p.area older ≤ buffers_begun before
   pub write : IsWriteOfRest p (after_all s before) (older ++ earlier) at bytes

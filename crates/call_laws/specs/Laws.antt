@@ -100,11 +100,11 @@ CallsJoin first last both = (now : ℕ) (a b c : At) → ComeTogether (state_of 
 
 -- ---- one group of records
 
--- a call that makes a group of records serves what is asked by it, whatever is known
+-- a call that makes a group of records serves what is asked by it
 abbrev pub ActsServe : Documents → (before : Facts) → Groups → Type 0
 ActsServe IsPlaced before group = (now : ℕ) (a b : At) (i : Intent) (e : End)
     → ((p : Permit) (s : State) (added : List Rec) → group p s added → Does p s i added e)
-    → Acts now a b group (progress_of_group e) → ServesFrom IsPlaced now a b (i ∷ []) (progress_of i e) before NothingKnown
+    → Acts now a b group (progress_of_group e) before → ServesFrom IsPlaced now a b (i ∷ []) (progress_of i e) before NothingKnown
 
 -- by what is known before, such a group is one for what is asked, and that is known behind it, or a pair is shown of a piece
 -- that is read for it
@@ -119,7 +119,7 @@ GroupServes IsPlaced before known group now old new i e = (p : Permit) (earlier 
 abbrev pub ActsServeKnown : Documents → (before known : Facts) → Groups → Type 0
 ActsServeKnown IsPlaced before known group = (now : ℕ) (a b : At) (i : Intent) (e : End)
     → GroupServes IsPlaced before known group now a b i e
-    → Acts now a b group (progress_of_group e) → ServesFrom IsPlaced now a b (i ∷ []) (progress_of i e) before known
+    → Acts now a b group (progress_of_group e) before → ServesFrom IsPlaced now a b (i ∷ []) (progress_of i e) before known
 
 -- one whose records rest on no call of the device serves what is asked by them
 abbrev pub RecordsServe : Documents → (before : Facts) → Type 0
@@ -134,7 +134,7 @@ NoneServes IsPlaced known = (now : ℕ) (a b : At) (i : Intent) (e : End) → Is
 -- a call that adds nothing has begun whatever is asked
 abbrev pub ActsWant : Documents → (before : Facts) → Type 0
 ActsWant IsPlaced before = (now : ℕ) (a b : At) (asked : List Intent)
-    → Acts now a b (λ p s added. added ≡ []) Wants → ServesFrom IsPlaced now a b asked Wants before NothingKnown
+    → Acts now a b (λ p s added. added ≡ []) Wants before → ServesFrom IsPlaced now a b asked Wants before NothingKnown
 
 -- ---- what is known
 

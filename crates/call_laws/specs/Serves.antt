@@ -1,11 +1,11 @@
 -- What a call did: one statement for all of them.
-use Rattle.std.specs.Prelude.{ℕ, ◌≡◌, ◌⊎◌, true, false, List, ◌++◌}
+use Rattle.std.specs.Prelude.{ℕ, ◌≡◌, ◌⊎◌, true, List, ◌++◌}
 use Rattle.device_log.specs.Calls.{Call}
 use Rattle.cache_model.specs.declared.record.Rec.{Rec}
 use Rattle.cache_model.specs.State.{State, after_all}
 use Rattle.cache_model.specs.Kept.{state_of}
 use Rattle.cache_model.specs.Permit.{Intent, Permit}
-use Rattle.cache_model.specs.Given.{buffers_begun, content_writes, has_body_since, is_calm}
+use Rattle.cache_model.specs.Given.{buffers_begun, content_writes, is_calm}
 use Rattle.cache_model.specs.Pair.{Documents, ShowsPair}
 use Rattle.cache_model.specs.Vectors.{IsVectorAs}
 use Rattle.call_laws.specs.Moments.{NothingKnown, At, Encloses, Facts, IsToldAt, so_far}
@@ -33,19 +33,13 @@ pub record IsCall (now : ℕ) (old new : At) (comes : Upshots) : Type 0 where
   pub does : (p : Permit) (earlier : List Call) → Encloses now old.setting p earlier calls
       → comes (record { step = p; earlier = earlier; calls = calls; state = state_of old.kept; added = added })
 
--- a call of a stripe that syncs lets its step go on: no write or sync of the device was refused in it, and it leaves no body
--- without a gate behind it, where none was left before
-pub record LetsGoOn (c : InStep) : Type 0 where
-  pub calm : is_calm c.calls ≡ true
-  pub gated : has_body_since c.step.area c.earlier ≡ false → has_body_since c.step.area (c.calls ++ c.earlier) ≡ false
-
 -- what a call of a stripe that syncs wrote: each write to the content area is of a buffer, there are no more than its progress
--- allows, and where no body was left without a gate before it, each refused write was one to ask for
+-- allows, each refused write was one to ask for, and one that lets its step go on had no write or sync of the device refused
 pub record WritesBuffers (o : Progress) (c : InStep) : Type 0 where
   pub content : AreOfBuffersBehind c.step c.state c.added c.earlier c.calls
   pub times : MayWrite o (buffers_begun c.added) (content_writes c.step.area c.calls)
-  pub asked : has_body_since c.step.area c.earlier ≡ false → are_asked_refusals c.step.area c.earlier c.calls ≡ true
-  pub going : IfLeaving o (LetsGoOn c)
+  pub asked : are_asked_refusals c.step.area (so_far c.step c.earlier) c.calls ≡ true
+  pub going : IfLeaving o (is_calm c.calls ≡ true)
 
 -- ---- a call that makes one group of records
 
@@ -58,9 +52,14 @@ pub record IsGroup (group : Groups) (o : Progress) (c : InStep) : Type 0 where
   pub is : group c.step c.state c.added
   pub buffers : c.step.syncs ≡ true → UnlessWanting o (WritesBuffers o c)
 
--- a call whose records are such a group, for whatever asks for that: it was done, was refused, or wanted memory
-abbrev pub Acts : (now : ℕ) → (old new : At) → Groups → Progress → Type 0
-Acts now old new group o = IsCall now old new (IsGroup group o)
+-- so it is where this is known before
+pub record MakesGroup (group : Groups) (o : Progress) (before : Facts) (c : InStep) : Type 0 where
+  pub from : before (so_far c.step c.earlier) c.state → IsGroup group o c
+
+-- a call whose records are such a group, for whatever asks for that, from what is known before: it was done, was refused, or
+-- wanted memory
+abbrev pub Acts : (now : ℕ) → (old new : At) → Groups → Progress → (before : Facts) → Type 0
+Acts now old new group o before = IsCall now old new (MakesGroup group o before)
 
 -- ---- a call that does what it is asked
 
