@@ -1,0 +1,32 @@
+-- What every call keeps is kept by several, and a plain cache has steps.
+use Rattle.std.proofs.Common.{◌≡◌, true, false, sym, ◌∙◌, arith}
+use Rattle.logged_disk.proofs.GoingOn.{goes_further, stays_put}
+use Rattle.call_laws.specs.Moments.{At}
+use Rattle.call_laws.proofs.Whole.{encloses_own}
+use Rattle.cache_calls.specs.Keeping.{Goes, IsUnharmed, Keeps, PlainHasSteps}
+
+module _ {S : Type 0} {at : S → At} {holds : S → Type 0} where
+  pub goes_still : (a : S) → holds a → Goes at holds a a
+  goes_still a h = record { holds_then = h; goes = stays_put (at a).device; later = omega arith }
+
+  pub goes_then : {a b c : S} → Goes at holds a b → Goes at holds b c → Goes at holds a c
+  goes_then {a} {b} {c} first next = record {
+    holds_then = next.holds_then;
+    goes = goes_further (at a).device (at b).device (at c).device first.goes next.goes;
+    later = omega (arith, first.later, next.later);
+  }
+
+  pub keeps_still : (a : S) → holds a → Keeps at holds a a
+  keeps_still a h = record { goes_on = goes_still a h; unharmed = λ (u : IsUnharmed (at a)). u }
+
+  pub keeps_then : {a b c : S} → Keeps at holds a b → Keeps at holds b c → Keeps at holds a c
+  keeps_then {a} first next = record {
+    goes_on = goes_then first.goes_on next.goes_on;
+    unharmed = λ (u : IsUnharmed (at a)). next.unharmed (first.unharmed u);
+  }
+
+clash : false ≡ true → ⊥
+clash e = cc
+
+pub plain_has_steps : PlainHasSteps
+plain_has_steps setting plain now past calls = encloses_own now setting past calls (λ syncs. absurd (clash (sym plain.syncs ∙ syncs)))

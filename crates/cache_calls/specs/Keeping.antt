@@ -1,0 +1,87 @@
+-- What holds of a cache between calls, and what each call keeps.
+use Rattle.std.specs.Prelude.{ℕ, ◌≡◌, ◌/◌, ◌<◌, ◌≤◌, false, List, [], ◌∷◌, ◌++◌, length, map}
+use Rattle.std.specs.List.{AllByRecursion}
+use Rattle.device_log.specs.Calls.{Call, Read}
+use Rattle.device_log.specs.Image.{span}
+use Rattle.logged_disk.specs.Device.{IsAfter, IsTrusted, State as Device, TellsAll, seen}
+use Rattle.cache_model.specs.State.{PutRow, ReaderRow, State}
+use Rattle.cache_model.specs.Damage.{has_damage}
+use Rattle.cache_model.specs.Kept.{state_of}
+use Rattle.cache_model.specs.Legal.{IsQuiet}
+use Rattle.cache_model.specs.Permit.{Setting}
+use Rattle.call_laws.specs.Moments.{At, Encloses, permit_of}
+
+-- what the records of a cache stand for
+abbrev pub state_at : At → State
+state_at a = state_of a.kept
+
+-- ---- between calls
+
+-- numbers that fall, from below `high` and down to no less than 1
+abbrev pub FallBelow : ℕ → List ℕ → Type 0
+FallBelow high [] = 1 ≤ high
+FallBelow high (n ∷ ns) = (n < high) × FallBelow n ns
+
+-- a cache that neither displaces nor syncs
+pub record IsPlain (setting : Setting) : Type 0 where
+  pub packed : setting.packed ≡ false
+  pub syncs : setting.syncs ≡ false
+
+-- such a cache has a step of any calls, at each moment and behind any others: what is said of each step is said of one
+abbrev pub PlainHasSteps : Type 0
+PlainHasSteps = (setting : Setting) → IsPlain setting → (now : ℕ) (past calls : List Call)
+    → Encloses now setting (permit_of now setting past calls) [] calls
+
+-- no vector is placed that is not committed, each put and each reader has a number of its own, below the next one, and the
+-- cache is a plain one
+pub record IsAtRest (a : At) : Type 0 where
+  pub quiet : IsQuiet (state_at a)
+  pub puts : FallBelow (state_at a).next_put (map (λ (w : PutRow). w.put) (state_at a).puts)
+  pub readers : FallBelow (state_at a).next_reader (map (λ (r : ReaderRow). r.reader) (state_at a).readers)
+  pub plain : IsPlain a.setting
+
+-- ---- behind a call
+
+-- where the device tells its content, no piece was told as damaged
+pub record IsUnharmed (a : At) : Type 0 where
+  pub unharmed : TellsAll a.device → has_damage (state_at a) ≡ false
+
+-- and so it stays
+abbrev pub StaysUnharmed : (old new : At) → Type 0
+StaysUnharmed old new = IsUnharmed old → IsUnharmed new
+
+-- a cache goes on: the same holds between calls, its device is the same, later on, and counts no less
+pub record Goes {S : Type 0} (at : S → At) (holds : S → Type 0) (old new : S) : Type 0 where
+  pub holds_then : holds new
+  pub goes : IsAfter (at old).device (at new).device
+  pub later : (at old).device.faults ≤ (at new).device.faults
+
+-- and what it tells is not harmed
+pub record Keeps {S : Type 0} (at : S → At) (holds : S → Type 0) (old new : S) : Type 0 where
+  pub goes_on : Goes at holds old new
+  pub unharmed : StaysUnharmed (at old) (at new)
+
+-- so it does where nothing was done, and behind two calls
+abbrev pub GoOn : {S : Type 0} → (S → At) → (S → Type 0) → Type 0
+GoOn {S} at holds = ((a : S) → holds a → Goes at holds a a) × ((a b c : S) → Goes at holds a b → Goes at holds b c → Goes at holds a c)
+
+-- and keeps it
+abbrev pub KeepOn : {S : Type 0} → (S → At) → (S → Type 0) → Type 0
+KeepOn {S} at holds = ((a : S) → holds a → Keeps at holds a a) × ((a b c : S) → Keeps at holds a b → Keeps at holds b c → Keeps at holds a c)
+
+-- ---- what the device did
+
+-- it was asked for nothing
+pub record IsIdle (old new : At) : Type 0 where
+  pub past : new.device.past ≡ old.device.past
+  pub faults : new.device.faults ≡ old.device.faults
+
+-- a read gave what is seen there
+abbrev pub IsSeenOn : Device → Call → Type 0
+IsSeenOn device (Read at bytes) = bytes ≡ span (seen device) at (length bytes / 512)
+IsSeenOn device _ = Unit {0}
+
+-- where it is trusted, what was read meanwhile is what is seen
+abbrev pub AreSeen : (old new : At) → Type 0
+AreSeen old new = (made : List Call) → new.device.past ≡ made ++ old.device.past → IsTrusted new.device
+    → AllByRecursion (IsSeenOn new.device) made

@@ -1,0 +1,8 @@
+//! What a cache is called for: one trait over the records, which knows no stripe.
+#![tactic(auto)]
+
+mod calls;
+mod laws;
+
+pub use calls::{Calls, Flushed, NextPiece, Opened, Receipt, Refusal, Removal};
+pub use laws::{calls_keep, others_stay, readers_stay, reads_leave_others, writers_stay};
