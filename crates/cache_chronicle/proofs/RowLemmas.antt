@@ -8,8 +8,9 @@ use Rattle.tape_base.proofs.NameLaws.{same_piece-true, same_piece-same}
 use Rattle.tape_base.specs.declared.digests.Digest.{Digest}
 use Rattle.cache_model.specs.State.{Row, moved_row, row_in, without}
 use Rattle.cache_model.proofs.Lists.{row_in-copied}
-use Rattle.cache_chronicle.specs.declared.pieces.Standing.{Standing}
-use Rattle.cache_chronicle.specs.Tables.{HasRows, standing_of}
+use Rattle.cache_chronicle.specs.declared.pieces.KeptPiece.{KeptPiece}
+use Rattle.cache_chronicle.specs.LivePieces.{kept_piece}
+use Rattle.cache_chronicle.specs.Tables.{HasRows}
 
 named_by : (rows : List Row) (id : PieceId) (row there : Row) (b : Bool) → same_piece row.id id ≡ b → (row_in rows id ≡ Some there → there.id ≡ id)
     → cond b (Some row) (row_in rows id) ≡ Some there → there.id ≡ id
@@ -98,37 +99,37 @@ known_anew f row other rows = option_map-cond f (same_piece row.id other) (Some 
 
 -- ---- a piece that is copied
 
-abbrev moved_standing : ℕ → Digest → Standing → Standing
+abbrev moved_standing : ℕ → Digest → KeptPiece → KeptPiece
 moved_standing place digest standing = record standing { place = place; digest = digest }
 
 copied_known : (place : ℕ) (digest : Digest) (b : Bool) (o : Option Row)
-    → cond b (option_map (moved_standing place digest) (option_map standing_of o)) (option_map standing_of o) ≡ option_map standing_of (cond b (option_map (moved_row place digest) o) o)
+    → cond b (option_map (moved_standing place digest) (option_map kept_piece o)) (option_map kept_piece o) ≡ option_map kept_piece (cond b (option_map (moved_row place digest) o) o)
 copied_known place digest true (Some row) = refl
 copied_known place digest true None = refl
 copied_known place digest false o = refl
 
-at_piece : {S : Type 0} (m : HashMap PieceId Standing S) (piece id : PieceId) (place : ℕ) (digest : Digest) (found : Option Standing) (b : Bool) → get same_piece m piece ≡ found → same_piece piece id ≡ b
+at_piece : {S : Type 0} (m : HashMap PieceId KeptPiece S) (piece id : PieceId) (place : ℕ) (digest : Digest) (found : Option KeptPiece) (b : Bool) → get same_piece m piece ≡ found → same_piece piece id ≡ b
     → cond b (option_map (moved_standing place digest) found) (get same_piece m id) ≡ cond b (option_map (moved_standing place digest) (get same_piece m id)) (get same_piece m id)
 at_piece m piece id place digest found true h e = ap (option_map (moved_standing place digest)) (sym h ∙ ap (get same_piece m) (same_piece-true piece id e))
 at_piece m piece id place digest found false h e = refl
 
 -- a table in which what stands under a name gets another place and digest has the rows with that piece copied
-pub known_copied : {S : Type 0} (m : HashMap PieceId Standing S) (piece id : PieceId) (place : ℕ) (digest : Digest) (found : Option Standing) (rows : List Row) → HasRows m rows → get same_piece m piece ≡ found
+pub known_copied : {S : Type 0} (m : HashMap PieceId KeptPiece S) (piece id : PieceId) (place : ℕ) (digest : Digest) (found : Option KeptPiece) (rows : List Row) → HasRows m rows → get same_piece m piece ≡ found
     → cond (same_piece piece id) (option_map (moved_standing place digest) found) (get same_piece m id)
-    ≡ option_map standing_of (row_in (without piece rows ++ map (moved_row place digest) (option_to_list (row_in rows piece))) id)
+    ≡ option_map kept_piece (row_in (without piece rows ++ map (moved_row place digest) (option_to_list (row_in rows piece))) id)
 known_copied m piece id place digest found rows has h =
     at_piece m piece id place digest found (same_piece piece id) h refl
     ∙ (ap (λ o. cond (same_piece piece id) (option_map (moved_standing place digest) o) o) (has id)
     ∙ (copied_known place digest (same_piece piece id) (row_in rows id)
-    ∙ sym (ap (option_map standing_of) (row_in-copied piece id rows place digest))))
+    ∙ sym (ap (option_map kept_piece) (row_in-copied piece id rows place digest))))
 
-same_where_none : {S : Type 0} (m : HashMap PieceId Standing S) (piece id : PieceId) (b : Bool) → get same_piece m piece ≡ None → same_piece piece id ≡ b
+same_where_none : {S : Type 0} (m : HashMap PieceId KeptPiece S) (piece id : PieceId) (b : Bool) → get same_piece m piece ≡ None → same_piece piece id ≡ b
     → get same_piece m id ≡ cond b None (get same_piece m id)
 same_where_none m piece id true h e = ap (get same_piece m) (sym (same_piece-true piece id e)) ∙ h
 same_where_none m piece id false h e = refl
 
 -- where nothing stands under a name, nothing changes
-pub nowhere_copied : {S : Type 0} (m : HashMap PieceId Standing S) (piece id : PieceId) (place : ℕ) (digest : Digest) (rows : List Row) → HasRows m rows → get same_piece m piece ≡ None
-    → get same_piece m id ≡ option_map standing_of (row_in (without piece rows ++ map (moved_row place digest) (option_to_list (row_in rows piece))) id)
+pub nowhere_copied : {S : Type 0} (m : HashMap PieceId KeptPiece S) (piece id : PieceId) (place : ℕ) (digest : Digest) (rows : List Row) → HasRows m rows → get same_piece m piece ≡ None
+    → get same_piece m id ≡ option_map kept_piece (row_in (without piece rows ++ map (moved_row place digest) (option_to_list (row_in rows piece))) id)
 nowhere_copied m piece id place digest rows has h =
     same_where_none m piece id (same_piece piece id) h refl ∙ known_copied m piece id place digest None rows has h

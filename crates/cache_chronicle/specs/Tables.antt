@@ -12,34 +12,20 @@ use Rattle.fragment_table.specs.Table.{TableRow}
 use Rattle.cache_model.specs.declared.cause.Cause.{Cause}
 use Rattle.cache_model.specs.State.{Row, row_in}
 use Rattle.cache_model.specs.State as state
-use Rattle.cache_model.specs.Verdict.{digest_in}
 use Rattle.cache_chronicle.specs.declared.payloads.Payload.{Payload}
-use Rattle.cache_chronicle.specs.declared.pieces.Standing.{Standing}
+use Rattle.cache_chronicle.specs.declared.pieces.KeptPiece.{KeptPiece}
 use Rattle.cache_chronicle.specs.declared.vectors.LastVector.{LastVector}
 use Rattle.cache_chronicle.specs.declared.vectors.LastVector.TheVariants.{Complete, TakenOut}
-
--- a payload as it is kept
-abbrev pub kept_payload : TableRow → Payload
-kept_payload entry = record { length = entry.length; digest = digest_in entry }
+use Rattle.cache_chronicle.specs.LivePieces.{kept_payload, kept_piece}
 
 -- what was cut last is that of the state
 abbrev pub HasCut : Option Payload → Option TableRow → Type 0
 HasCut kept cut = kept ≡ option_map kept_payload cut
 
--- what is kept of a row: all beside its name but the alternates that it lists
-abbrev pub standing_of : Row → Standing
-standing_of row = record {
-  place = row.place;
-  blocks = row.blocks;
-  digest = row.digest;
-  payload = option_map kept_payload row.payload;
-  pin = row.pin;
-}
-
 -- a row of this name of which this is kept
-pub record IsRowOf (piece : PieceId) (standing : Standing) (row : Row) : Type 0 where
+pub record IsRowOf (piece : PieceId) (standing : KeptPiece) (row : Row) : Type 0 where
   pub name : row.id ≡ piece
-  pub stands : standing ≡ standing_of row
+  pub stands : standing ≡ kept_piece row
 
 -- the last vector as the state has it
 abbrev pub told_vector : LastVector → state.LastVector
@@ -47,8 +33,8 @@ told_vector (Complete put) = state.Complete put
 told_vector (TakenOut put) = state.TakenOut put
 
 -- of each piece its row, where it has one
-abbrev pub HasRows : {S : Type 0} → HashMap PieceId Standing S → List Row → Type 0
-HasRows m rows = (id : PieceId) → get same_piece m id ≡ option_map standing_of (row_in rows id)
+abbrev pub HasRows : {S : Type 0} → HashMap PieceId KeptPiece S → List Row → Type 0
+HasRows m rows = (id : PieceId) → get same_piece m id ≡ option_map kept_piece (row_in rows id)
 
 -- of each piece why it was lost last
 abbrev pub HasLosses : {S : Type 0} → HashMap PieceId Cause S → List (PieceId × Cause) → Type 0

@@ -1,20 +1,20 @@
 // A chronicle that keeps every record.
 ghost use Rattle.std.specs.Prelude.{◌≡◌, ◌-◌, ◌<◌, [], length, slice_get, Some, option_map};
 ghost use Rattle.std.specs.HashMap.{get};
-ghost use Rattle.cache_model.specs.State.{count_of_vector, floor_now, live_row_of, row_of, vector_piece};
+ghost use Rattle.cache_model.specs.State.{count_of_vector, floor_now, row_of, vector_piece};
 ghost use Rattle.cache_model.specs.Verdict.{cause_of_piece, cause_of_vector, cause_without_vector};
 ghost use Rattle.cache_model.specs.Kept.{all_of};
 ghost use Rattle.cache_chronicle.specs.Full.{state_in, kept_of};
-ghost use Rattle.cache_chronicle.specs.Tables.{standing_of};
+ghost use Rattle.cache_chronicle.specs.LivePieces.{kept_piece};
 
 use crate::Chronicle;
-use crate::pieces::{Standing, vector_piece};
+use crate::pieces::{KeptPiece, vector_piece};
 use crate::tables::Tables;
 use crate::vectors::{LastVector, last_of};
 use cache_model::{Cause, Rec};
 use std::alloc::{AllocError, Global};
 use std::marker::Model;
-use tape_base::{Digest, Key, PieceId};
+use tape_base::{Key, PieceId};
 
 /// Every record, and beside them tables of what they say last of each piece, place and key.
 #[derive(Drop)]
@@ -65,22 +65,10 @@ impl FullChronicle {
     }
 
     // Where a piece stands, also below the floor.
-    fn standing_of(&self, id: PieceId) -> Option<Standing>
-        ensures { result ≡ option_map standing_of (row_of (state_in self.now) id) }
+    fn standing_of(&self, id: PieceId) -> Option<KeptPiece>
+        ensures { result ≡ option_map kept_piece (row_of (state_in self.now) id) }
     {
         self.tables.pieces.get(&id).copied()
-    }
-
-    // What is recorded of a piece that may be read.
-    fn live_of(&self, id: PieceId) -> Option<Standing>
-        ensures { result ≡ option_map standing_of (live_row_of (state_in self.now) id) }
-    {
-        let standing = self.standing_of(id)?;
-        if self.floor() <= standing.place {
-            Some(standing)
-        } else {
-            None
-        }
     }
 
     fn cause_of_piece(&self, id: PieceId) -> Cause
@@ -171,34 +159,17 @@ impl Chronicle for FullChronicle {
         }
     }
 
-    fn piece_at(&self, place: u64) -> Option<PieceId> {
-        let id = self.tables.places.get(&place).copied()?;
-        let standing = self.live_of(id)?;
-        if standing.place == place {
-            Some(id)
+    fn live_of(&self, id: PieceId) -> Option<KeptPiece> {
+        let standing = self.standing_of(id)?;
+        if self.floor() <= standing.place {
+            Some(standing)
         } else {
             None
         }
     }
 
-    fn digest_of(&self, id: PieceId) -> Option<Digest> {
-        let standing = self.live_of(id)?;
-        Some(standing.digest)
-    }
-
-    fn payload_of(&self, id: PieceId) -> Option<Digest> {
-        let payload = self.live_of(id)?.payload?;
-        Some(payload.digest)
-    }
-
-    fn size_of(&self, id: PieceId) -> Option<u32> {
-        let standing = self.live_of(id)?;
-        Some(standing.blocks)
-    }
-
-    fn pin_of(&self, id: PieceId) -> Option<u64> {
-        let standing = self.live_of(id)?;
-        Some(standing.pin)
+    fn last_at(&self, place: u64) -> Option<PieceId> {
+        self.tables.places.get(&place).copied()
     }
 
     fn dropped(&self) -> u64 {

@@ -15,3 +15,5 @@ mod vectors;
 pub use cache_model::{Cause, NextAnswer, ReadAnswer, Rec};
 pub use chronicle::Chronicle;
 pub use full::FullChronicle;
+pub use payloads::Payload;
+pub use pieces::KeptPiece;

@@ -10,7 +10,7 @@ ghost use Rattle.cache_chronicle.specs.Tables.{HasCounts, HasPlaces, HasRows, Ha
 use crate::counts::Counts;
 use crate::losses::Places;
 use crate::payloads::payload_of_found;
-use crate::pieces::{Pieces, Standing};
+use crate::pieces::{KeptPiece, Pieces};
 use crate::vectors::{LastVector, Vectors};
 use alternate_vector::Vector;
 use cache_model::{FoundList, FoundRow};
@@ -36,7 +36,7 @@ fn note_first_piece(pieces: &mut Pieces, found: &FoundRow)
 {
     let noted: Result<_, _> = pieces.insert(
         found.id,
-        Standing {
+        KeptPiece {
             place: found.place,
             blocks: found.blocks,
             digest: found.digest,

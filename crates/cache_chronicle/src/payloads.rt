@@ -1,16 +1,17 @@
 // The payloads of fragments: what was cut last, and what of it a piece has.
 ghost use Rattle.std.specs.Prelude.{◌≡◌, option_map};
 ghost use Rattle.cache_model.specs.State.{State, payload_of_found, payload_placed, state_after};
-ghost use Rattle.cache_chronicle.specs.Tables.{HasCut, kept_payload};
+ghost use Rattle.cache_chronicle.specs.LivePieces.{kept_payload};
+ghost use Rattle.cache_chronicle.specs.Tables.{HasCut};
 
 use cache_model::{FoundRow, Rec};
 use tape_base::{Digest, PieceId};
 
 /// The bytes of a fragment's payload, and their digest.
-#[derive(Clone, Copy)]
-pub(crate) struct Payload {
-    pub(crate) length: u32,
-    pub(crate) digest: Digest,
+#[derive(Clone, Copy, Debug, PartialEq, Eq)]
+pub struct Payload {
+    pub length: u32,
+    pub digest: Digest,
 }
 
 /// The payload of the fragment that was cut last, behind one more record.

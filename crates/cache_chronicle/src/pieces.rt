@@ -12,18 +12,19 @@ use cache_model::Rec;
 use std::collections::HashMap;
 use tape_base::{Digest, Key, PieceId};
 
-/// What is recorded of a piece that was placed and not taken out.
-#[derive(Clone, Copy)]
-pub(crate) struct Standing {
-    pub(crate) place: u64,
-    pub(crate) blocks: u32,
-    pub(crate) digest: Digest,
-    // None of a vector.
-    pub(crate) payload: Option<Payload>,
-    pub(crate) pin: u64,
+/// What is kept of a piece that was placed and not taken out.
+#[derive(Clone, Copy, Debug, PartialEq, Eq)]
+pub struct KeptPiece {
+    pub place: u64,
+    pub blocks: u32,
+    /// Of its document.
+    pub digest: Digest,
+    /// None of a vector.
+    pub payload: Option<Payload>,
+    pub pin: u64,
 }
 
-pub(crate) type Pieces = HashMap<PieceId, Standing>;
+pub(crate) type Pieces = HashMap<PieceId, KeptPiece>;
 
 pub(crate) fn vector_piece(key: Key, put: u64) -> PieceId
     ensures { result ≡ vector_piece key put }
@@ -62,7 +63,7 @@ pub(crate) fn note_piece(
         } => put(
             pieces,
             piece,
-            Standing {
+            KeptPiece {
                 place,
                 blocks,
                 digest,
@@ -85,7 +86,7 @@ pub(crate) fn note_piece(
     }
 }
 
-fn put(pieces: &mut Pieces, piece: PieceId, standing: Standing)
+fn put(pieces: &mut Pieces, piece: PieceId, standing: KeptPiece)
     requires { 0 < spare pieces.old }
     ensures has { (rows : List Row) (row : Row) → IsRowOf piece standing row → HasRows pieces.old rows
         → HasRows pieces.new (without piece rows ++ row ∷ []) }
@@ -106,7 +107,7 @@ fn move_to(pieces: &mut Pieces, piece: PieceId, place: u64, digest: Digest)
         Some(standing) => {
             let noted: Result<_, _> = pieces.insert(
                 piece,
-                Standing {
+                KeptPiece {
                     place,
                     digest,
                     ..standing
