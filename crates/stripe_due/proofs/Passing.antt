@@ -10,9 +10,11 @@ use Rattle.cache_model.specs.State.{State, Row, floor_next, floor_now, is_live, 
 use Rattle.cache_model.specs.Verdict.{if_at, if_still_at, piece_at}
 use Rattle.cache_model.specs.Tape.{IsSound}
 use Rattle.cache_model.specs.Due.{is_awaited, is_due, rows_from}
-use Rattle.cache_model.proofs.Found.{none_is, same_some}
+use Rattle.cache_model.proofs.Found.{none_is}
 use Rattle.cache_model.proofs.Lists.{own_piece}
 use Rattle.cache_model.proofs.Walks.{due_are_found, walk_finds, walk_goes_on}
+use Rattle.cache_chronicle.specs.declared.pieces.KeptPiece.{KeptPiece}
+use Rattle.cache_chronicle.specs.LivePieces.{kept_if_at, kept_live_at, kept_piece, kept_still_at}
 use Rattle.stripe_due.specs.Finding.{candidate_of, candidates_of}
 use Rattle.stripe_due.specs.Walk.{candidates_from, pinned, row_at}
 
@@ -59,25 +61,29 @@ begins s place id (Some other) h = begins_where s place id other (live_row_of s 
 known_begins : (s : State) (place : ℕ) (id : PieceId) → piece_at s place ≡ Some id → Begins s place id
 known_begins s place id h = begins s place id (lookup (λ p. p == place) s.places) h
 
--- the live piece that begins at a place, as it is asked for
-found_by : (s : State) (place : ℕ) (id : PieceId) (o : Option Row) → live_row_of s id ≡ o → piece_at s place ≡ Some id → (blocks pin : ℕ)
-    → Some blocks ≡ option_map (λ (row : Row). row.blocks) o → Some pin ≡ option_map (λ (row : Row). row.pin) o
-    → Some (record { id = id; place = place; blocks = blocks }, pin) ≡ option_map pinned o
-found_by s place id None e here blocks pin f g = cc
-found_by s place id (Some row) e here blocks pin f g =
-    let name : row.id ≡ id = live_is_own s id row e in
-    let known = known_begins s place id here in
-    let same : known.row ≡ row = same_some known.row row (live_row_of s id) known.live e in
-    let at : row.place ≡ place = ap (λ (r : Row). r.place) (sym same) ∙ known.at in
-    let size : blocks ≡ row.blocks = cc in
-    let pins : pin ≡ row.pin = cc in
-    rw (size, pins, sym name, sym at) refl
+-- a piece as the choice takes it, beside its pin, by what is kept of it
+abbrev pub kept_pinned : ℕ → PieceId × KeptPiece → Candidate × ℕ
+kept_pinned place piece = (record { id = piece.0; place = place; blocks = piece.1.blocks }, piece.1.pin)
 
-pub found_at : (s : State) (place : ℕ) (id : PieceId) (blocks pin : ℕ) → piece_at s place ≡ Some id
-    → Some blocks ≡ option_map (λ (row : Row). row.blocks) (live_row_of s id) → Some pin ≡ option_map (λ (row : Row). row.pin) (live_row_of s id)
-    → Some (record { id = id; place = place; blocks = blocks }, pin) ≡ option_map pinned (row_at s place)
-found_at s place id blocks pin here f g =
-    found_by s place id (live_row_of s id) refl here blocks pin f g ∙ ap (λ (o : Option PieceId). option_map pinned (option_and_then (live_row_of s) o)) (sym here)
+-- its row is found by its name again
+at_by : (s : State) (place : ℕ) (id : PieceId) (row : Row) (b : Bool) → live_row_of s id ≡ Some row → (row.place == place) ≡ b
+    → option_map (kept_pinned place) (if b then Some (id, kept_piece row) else None) ≡ option_map pinned (option_and_then (live_row_of s) (if b then Some id else None))
+at_by s place id row true e at = rw (e, sym (live_is_own s id row e), sym (eqb-true row.place place at)) refl
+at_by s place id row false e at = refl
+
+at_row : (s : State) (place : ℕ) (id : PieceId) (o : Option Row) → live_row_of s id ≡ o
+    → option_map (kept_pinned place) (option_and_then (kept_if_at place id) o) ≡ option_map pinned (option_and_then (live_row_of s) (option_and_then (if_at place id) o))
+at_row s place id None e = refl
+at_row s place id (Some row) e = at_by s place id row (row.place == place) e refl
+
+at_place : (s : State) (place : ℕ) (o : Option PieceId)
+    → option_map (kept_pinned place) (option_and_then (kept_still_at s place) o) ≡ option_map pinned (option_and_then (live_row_of s) (option_and_then (if_still_at s place) o))
+at_place s place None = refl
+at_place s place (Some id) = at_row s place id (live_row_of s id) refl
+
+-- the live piece that begins at a place, as it is asked for
+pub pinned_at : (s : State) (place : ℕ) → option_map (kept_pinned place) (kept_live_at s place) ≡ option_map pinned (row_at s place)
+pinned_at s place = at_place s place (lookup (λ p. p == place) s.places)
 
 -- ---- one step
 

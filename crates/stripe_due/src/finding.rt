@@ -87,10 +87,13 @@ fn bring(piece: Candidate, due: bool, into: &mut Vec<Candidate>)
 pub(crate) fn piece_at<C: Chronicle>(chronicle: &C, place: u64) -> Option<(Candidate, u64)>
     ensures { result ≡ option_map pinned (row_at (state_of (C.kept chronicle.now)) place) }
 {
-    let id = chronicle.piece_at(place)?;
-    let blocks = chronicle.size_of(id)?;
-    let pin = chronicle.pin_of(id)?;
-    Some((Candidate { id, place, blocks }, pin))
+    let (id, piece) = chronicle.live_at(place)?;
+    let candidate = Candidate {
+        id,
+        place,
+        blocks: piece.blocks,
+    };
+    Some((candidate, piece.pin))
 }
 
 // The piece is pinned past the moment, or a reader has still to be given it.
