@@ -45,17 +45,18 @@ pub record Seen : Type 0 where
   pub device : State
 
 -- a cyclone as contracts see it, by what its directory and its device tell of themselves
-abbrev pub seen : {D R : Type 0} → DiskGhosts D → DirectoryGhosts R → Cyclone D R → Seen
-seen disk directory c = record {
-  geometry = c.geometry;
-  buffer = c.buffer;
-  window = directory.window c.directory;
-  rows = plain_rows (directory.rows c.directory);
-  stored = directory.rows c.directory;
-  spare = directory.spare c.directory;
-  displaced = directory.displaced c.directory;
-  device = disk.state c.disk;
-}
+module _ {D R : Type 0} {d : DiskGhosts D} {r : DirectoryGhosts R} where
+  abbrev pub seen : Cyclone D R d r → Seen
+  seen c = record {
+    geometry = c.geometry;
+    buffer = c.buffer;
+    window = r.window c.directory;
+    rows = plain_rows (r.rows c.directory);
+    stored = r.rows c.directory;
+    spare = r.spare c.directory;
+    displaced = r.displaced c.directory;
+    device = d.state c.disk;
+  }
 
 -- what holds of a cyclone between calls
 pub record IsTurning (c : Seen) : Type 0 where
@@ -73,8 +74,8 @@ pub record IsTurning (c : Seen) : Type 0 where
   pub entered : All (λ r. r.place < next_place_of c.buffer) c.rows
 
 -- so it is of a cyclone, whatever its directory and its device are
-abbrev pub IsCyclone : {D R : Type 0} → DiskGhosts D → DirectoryGhosts R → Cyclone D R → Type 0
-IsCyclone disk directory c = IsTurning (seen disk directory c)
+abbrev pub IsCyclone : {D R : Type 0} {d : DiskGhosts D} {r : DirectoryGhosts R} → Cyclone D R d r → Type 0
+IsCyclone c = IsTurning (seen c)
 
 -- nothing was put yet
 pub record IsFresh (c : Seen) (g : Geometry) (device : State) : Type 0 where

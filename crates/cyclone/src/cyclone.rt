@@ -30,6 +30,8 @@ pub struct Cyclone<D: Disk, R: Directory + Drop> {
     disk: D,
     directory: R,
     buffer: AggBuffer,
+    // Of any device: with it the type carries what `D` and `R` tell of themselves.
+    ghost told: { 0 ≤ (D.state disk).faults },
 }
 
 /// The digests of a piece that was put: of its payload, and of its document.
@@ -46,8 +48,8 @@ impl<D: Disk, R: Directory + Drop> Cyclone<D, R> {
     /// device back.
     pub fn new(alloc: Global, disk: D, g: Geometry) -> Result<Cyclone<D, R>, (AllocError, D)>
         requires { g.content ≤ (D.state disk).size }
-        ensures ok { IfOk result (λ c. IsCyclone D.Disk R.Directory c) }
-        ensures fresh { IfOk result (λ c. IsFresh (seen D.Disk R.Directory c) g (D.state disk)) }
+        ensures ok { IfOk result (λ c. IsCyclone c) }
+        ensures fresh { IfOk result (λ c. IsFresh (seen c) g (D.state disk)) }
         ensures back { IfErr result (λ refused. refused.1 ≡ disk) }
     {
         match parts(alloc, &g) {
@@ -63,7 +65,7 @@ impl<D: Disk, R: Directory + Drop> Cyclone<D, R> {
 
     /// Gives the device back.
     pub fn into_disk(self) -> D
-        ensures { D.state result ≡ (seen D.Disk R.Directory self).device }
+        ensures { D.state result ≡ (seen self).device }
     {
         let Cyclone {
             geometry: _,
@@ -75,64 +77,65 @@ impl<D: Disk, R: Directory + Drop> Cyclone<D, R> {
     }
 
     pub fn disk(&self) -> &D
-        ensures { D.state result.now ≡ (seen D.Disk R.Directory self.now).device }
+        ensures { D.state result.now ≡ (seen self.now).device }
     {
         &self.disk
     }
 
     pub fn geometry(&self) -> &Geometry
-        ensures { result.now ≡ (seen D.Disk R.Directory self.now).geometry }
+        ensures { result.now ≡ (seen self.now).geometry }
     {
         &self.geometry
     }
 
     /// Where the buffer begins.
     pub fn cursor(&self) -> u64
-        ensures { result ≡ (seen D.Disk R.Directory self.now).buffer.cursor }
+        ensures { result ≡ (seen self.now).buffer.cursor }
     {
         self.buffer.cursor()
     }
 
     /// The place of the next piece.
     pub fn next_place(&self) -> u64
-        ensures { result ≡ next_place_of (seen D.Disk R.Directory self.now).buffer }
+        ensures { result ≡ next_place_of (seen self.now).buffer }
     {
         self.buffer.next_place()
     }
 
     /// How many blocks the buffer still takes.
     pub fn room(&self) -> u32
-        ensures { result ≡ room_of (seen D.Disk R.Directory self.now).buffer }
+        ensures { result ≡ room_of (seen self.now).buffer }
     {
         self.buffer.room()
     }
 
     /// Where the next buffer begins, if this one is flushed now.
     pub fn next_cursor(&self) -> u64
-        requires { IsCyclone D.Disk R.Directory self.now }
-        ensures { result ≡ cursor_next (seen D.Disk R.Directory self.now) }
+        requires { IsCyclone self.now }
+        ensures { result ≡ cursor_next (seen self.now) }
     {
         next_cursor(&self.geometry, self.buffer.cursor(), self.buffer.filled())
     }
 
     /// The least place that may be read.
     pub fn floor(&self) -> u64
-        requires { IsCyclone D.Disk R.Directory self.now }
-        ensures { result ≡ floor_of (seen D.Disk R.Directory self.now).geometry (seen D.Disk R.Directory self.now).buffer.cursor }
+        requires { IsCyclone self.now }
+        ensures { result ≡ floor_of (seen self.now).geometry (seen self.now).buffer.cursor }
     {
         floor_of(&self.geometry, self.buffer.cursor())
     }
 
     /// Makes room for so many pieces, and on the device for at least so many flushes.
     pub fn prepare(&mut self, pieces: usize, flushes: u32) -> Result<(), AllocError>
-        requires turns { IsCyclone D.Disk R.Directory self.old }
-        ensures turns { IsCyclone D.Disk R.Directory self.new }
-        ensures same { SameButRoom (seen D.Disk R.Directory self.old) (seen D.Disk R.Directory self.new) }
-        ensures pieces { OnOk result (pieces ≤ (seen D.Disk R.Directory self.new).spare) }
-        ensures device { let old = (seen D.Disk R.Directory self.old).device in
-            OnOk result (Affords flushes (flushes * (seen D.Disk R.Directory self.old).geometry.agg) old (seen D.Disk R.Directory self.new).device) }
-        ensures none { OnErr result (Affords 0 0 (seen D.Disk R.Directory self.old).device (seen D.Disk R.Directory self.new).device) }
-        ensures keeps { Keeps 0 0 (seen D.Disk R.Directory self.old).device (seen D.Disk R.Directory self.new).device }
+        requires turns { IsCyclone self.old }
+        ensures turns { IsCyclone self.new }
+        ensures same { SameButRoom (seen self.old) (seen self.new) }
+        ensures pieces { OnOk result (pieces ≤ (seen self.new).spare) }
+        ensures device { let old = (seen self.old).device in
+            OnOk result (Affords flushes (flushes * (seen self.old).geometry.agg) old
+            (seen self.new).device) }
+        ensures none { OnErr result (Affords 0 0 (seen self.old).device (seen self.new).device) }
+        ensures keeps { Keeps 0 0 (seen self.old).device (seen self.new).device }
     {
         self.directory.reserve(pieces)?;
         self.disk
@@ -142,14 +145,14 @@ impl<D: Disk, R: Directory + Drop> Cyclone<D, R> {
     /// Puts a piece into the buffer as a document, and enters it. The document is spelled in its
     /// place, and is not written before the next flush.
     pub fn put(&mut self, doc: &Doc, payload: &[u8]) -> Put
-        requires turns { IsCyclone D.Disk R.Directory self.old }
-        requires spare { 1 ≤ (seen D.Disk R.Directory self.old).spare }
-        requires place { doc.now.place ≡ next_place_of (seen D.Disk R.Directory self.old).buffer }
+        requires turns { IsCyclone self.old }
+        requires spare { 1 ≤ (seen self.old).spare }
+        requires place { doc.now.place ≡ next_place_of (seen self.old).buffer }
         requires size { length payload.now ≤ 2 ^ 31 }
-        requires room { blocks_of (length payload.now) ≤ room_of (seen D.Disk R.Directory self.old).buffer }
-        ensures turns { IsCyclone D.Disk R.Directory self.new }
-        ensures put { IsPut R.purges (seen D.Disk R.Directory self.old) (seen D.Disk R.Directory self.new) doc.now payload.now }
-        ensures entered { EntersDoc R.purges (seen D.Disk R.Directory self.old) (seen D.Disk R.Directory self.new) doc.now payload.now }
+        requires room { blocks_of (length payload.now) ≤ room_of (seen self.old).buffer }
+        ensures turns { IsCyclone self.new }
+        ensures put { IsPut R.purges (seen self.old) (seen self.new) doc.now payload.now }
+        ensures entered { EntersDoc R.purges (seen self.old) (seen self.new) doc.now payload.now }
         ensures payload { result.payload ≡ digest_of payload.now }
         ensures document { result.document ≡ digest_of_document doc.now payload.now }
         // Who reads it back finds this digest.
@@ -173,15 +176,18 @@ impl<D: Disk, R: Directory + Drop> Cyclone<D, R> {
     /// in place of the old entry. It gives the digest of what stands in the buffer now, and does not
     /// ask whether the bytes are a document.
     pub fn move_piece(&mut self, id: PieceId, from: u64, pinned: bool, bytes: &[u8]) -> Digest
-        requires turns { IsCyclone D.Disk R.Directory self.old }
-        requires spare { 1 ≤ (seen D.Disk R.Directory self.old).spare }
+        requires turns { IsCyclone self.old }
+        requires spare { 1 ≤ (seen self.old).spare }
         requires whole { IsWholePiece bytes.now }
-        requires room { blocks_in bytes.now ≤ room_of (seen D.Disk R.Directory self.old).buffer }
-        ensures turns { IsCyclone D.Disk R.Directory self.new }
-        ensures moved { IsMoved R.purges (seen D.Disk R.Directory self.old) (seen D.Disk R.Directory self.new) id from bytes.now }
-        ensures entered { EntersCopy R.purges (seen D.Disk R.Directory self.old) (seen D.Disk R.Directory self.new) id from (blocks_in bytes.now) pinned }
-        ensures document { result ≡ document_digest (moved_to (next_place_of (seen D.Disk R.Directory self.old).buffer) bytes.now) }
-        ensures size { length (moved_to (next_place_of (seen D.Disk R.Directory self.old).buffer) bytes.now) ≡ length bytes.now }
+        requires room { blocks_in bytes.now ≤ room_of (seen self.old).buffer }
+        ensures turns { IsCyclone self.new }
+        ensures moved { IsMoved R.purges (seen self.old) (seen self.new) id from bytes.now }
+        ensures entered { EntersCopy R.purges (seen self.old) (seen self.new) id from
+            (blocks_in bytes.now) pinned }
+        ensures document { result ≡ document_digest
+            (moved_to (next_place_of (seen self.old).buffer) bytes.now) }
+        ensures size { length (moved_to (next_place_of (seen self.old).buffer) bytes.now)
+            ≡ length bytes.now }
     {
         let place = self.buffer.next_place();
         let blocks = (bytes.len() / BLOCK) as u32;
@@ -195,14 +201,14 @@ impl<D: Disk, R: Directory + Drop> Cyclone<D, R> {
     /// Writes the buffer out by one write. The blocks that are written may hold any bytes where the
     /// device refuses.
     pub fn write_out(&mut self) -> Result<(), Failed>
-        requires turns { IsCyclone D.Disk R.Directory self.old }
-        requires some { 0 < filled_of (seen D.Disk R.Directory self.old).buffer }
-        requires calls { 1 ≤ (seen D.Disk R.Directory self.old).device.calls }
-        requires blocks { filled_of (seen D.Disk R.Directory self.old).buffer ≤ (seen D.Disk R.Directory self.old).device.blocks }
-        ensures turns { IsCyclone D.Disk R.Directory self.new }
-        ensures same { SameTape (seen D.Disk R.Directory self.old) (seen D.Disk R.Directory self.new) }
-        ensures ok { OnOk result (HasBuffer (seen D.Disk R.Directory self.new)) }
-        ensures device { WritesBuffer (seen D.Disk R.Directory self.old) (seen D.Disk R.Directory self.new) result }
+        requires turns { IsCyclone self.old }
+        requires some { 0 < filled_of (seen self.old).buffer }
+        requires calls { 1 ≤ (seen self.old).device.calls }
+        requires blocks { filled_of (seen self.old).buffer ≤ (seen self.old).device.blocks }
+        ensures turns { IsCyclone self.new }
+        ensures same { SameTape (seen self.old) (seen self.new) }
+        ensures ok { OnOk result (HasBuffer (seen self.new)) }
+        ensures device { WritesBuffer (seen self.old) (seen self.new) result }
     {
         let first = slot(&self.geometry, self.buffer.cursor());
         self.disk.write(first, self.buffer.bytes())
@@ -210,10 +216,10 @@ impl<D: Disk, R: Directory + Drop> Cyclone<D, R> {
 
     /// Begins the next buffer, and forgets what is in this one.
     pub fn begin_next(&mut self)
-        requires turns { IsCyclone D.Disk R.Directory self.old }
-        requires below { cursor_next (seen D.Disk R.Directory self.old) < 2 ^ 62 }
-        ensures turns { IsCyclone D.Disk R.Directory self.new }
-        ensures begins { BeginsNext (seen D.Disk R.Directory self.old) (seen D.Disk R.Directory self.new) }
+        requires turns { IsCyclone self.old }
+        requires below { cursor_next (seen self.old) < 2 ^ 62 }
+        ensures turns { IsCyclone self.new }
+        ensures begins { BeginsNext (seen self.old) (seen self.new) }
     {
         let cursor = self.buffer.cursor();
         let here = Cursor {
@@ -227,16 +233,16 @@ impl<D: Disk, R: Directory + Drop> Cyclone<D, R> {
 
     /// Reads the blocks from a place on, from the buffer where they stand there.
     pub fn read(&mut self, place: u64, into: &mut [u8]) -> Result<(), Failed>
-        requires turns { IsCyclone D.Disk R.Directory self.old }
+        requires turns { IsCyclone self.old }
         requires whole { IsWhole (length into.old) }
-        requires stored { IsStored (seen D.Disk R.Directory self.old) place (length into.old / 512) }
-        ensures turns { IsCyclone D.Disk R.Directory self.new }
-        ensures same { SameTape (seen D.Disk R.Directory self.old) (seen D.Disk R.Directory self.new) }
-        ensures reads { Reads (seen D.Disk R.Directory self.old) (seen D.Disk R.Directory self.new) place (length into.old / 512) result into.new }
-        ensures buffered { (seen D.Disk R.Directory self.old).buffer.cursor ≤ place → IsOk result }
+        requires stored { IsStored (seen self.old) place (length into.old / 512) }
+        ensures turns { IsCyclone self.new }
+        ensures same { SameTape (seen self.old) (seen self.new) }
+        ensures reads { Reads (seen self.old) (seen self.new) place
+            (length into.old / 512) result into.new }
+        ensures buffered { (seen self.old).buffer.cursor ≤ place → IsOk result }
         // What stands in the buffer is read without the device.
-        ensures quiet { (seen D.Disk R.Directory self.old).buffer.cursor ≤ place
-            → seen D.Disk R.Directory self.new ≡ seen D.Disk R.Directory self.old }
+        ensures quiet { (seen self.old).buffer.cursor ≤ place → seen self.new ≡ seen self.old }
     {
         if place < self.buffer.cursor() {
             return self.disk.read(slot(&self.geometry, place), into);
@@ -248,25 +254,26 @@ impl<D: Disk, R: Directory + Drop> Cyclone<D, R> {
 
     /// Takes a piece out of the directory, and says whether it stood there.
     pub fn take_out(&mut self, id: PieceId, place: u64) -> bool
-        requires turns { IsCyclone D.Disk R.Directory self.old }
-        ensures turns { IsCyclone D.Disk R.Directory self.new }
-        ensures found { result ≡ has_row (row_of_piece (seen D.Disk R.Directory self.old) id place) (seen D.Disk R.Directory self.old).rows }
-        ensures same { SameButRows (seen D.Disk R.Directory self.old) (seen D.Disk R.Directory self.new) }
-        ensures gone { OnTrue result (IsPermutation (seen D.Disk R.Directory self.old).rows
-            (row_of_piece (seen D.Disk R.Directory self.old) id place ∷ (seen D.Disk R.Directory self.new).rows)) }
-        ensures none { result ≡ false → (seen D.Disk R.Directory self.new).rows ≡ (seen D.Disk R.Directory self.old).rows }
-        ensures stored { TakesOutStored (row_of_piece (seen D.Disk R.Directory self.old) id place)
-            (seen D.Disk R.Directory self.old).stored (seen D.Disk R.Directory self.new).stored }
+        requires turns { IsCyclone self.old }
+        ensures turns { IsCyclone self.new }
+        ensures found { result ≡ has_row (row_of_piece (seen self.old) id place)
+            (seen self.old).rows }
+        ensures same { SameButRows (seen self.old) (seen self.new) }
+        ensures gone { OnTrue result (IsPermutation (seen self.old).rows
+            (row_of_piece (seen self.old) id place ∷ (seen self.new).rows)) }
+        ensures none { result ≡ false → (seen self.new).rows ≡ (seen self.old).rows }
+        ensures stored { TakesOutStored (row_of_piece (seen self.old) id place)
+            (seen self.old).stored (seen self.new).stored }
     {
         self.directory.delete(Key::of_piece(id), place)
     }
 
     /// The directory, for walks.
     pub fn directory(&self) -> &R
-        ensures rows { plain_rows (R.rows result.now) ≡ (seen D.Disk R.Directory self.now).rows }
-        ensures stored { R.rows result.now ≡ (seen D.Disk R.Directory self.now).stored }
-        ensures window { R.window result.now ≡ (seen D.Disk R.Directory self.now).window }
-        ensures displaced { R.displaced result.now ≡ (seen D.Disk R.Directory self.now).displaced }
+        ensures rows { plain_rows (R.rows result.now) ≡ (seen self.now).rows }
+        ensures stored { R.rows result.now ≡ (seen self.now).stored }
+        ensures window { R.window result.now ≡ (seen self.now).window }
+        ensures displaced { R.displaced result.now ≡ (seen self.now).displaced }
     {
         &self.directory
     }

@@ -6,6 +6,3 @@ mod laws;
 
 pub use cyclone::{Cyclone, Put};
 pub use laws::buffers_stand_behind_writes;
-
-#[cfg(test)]
-mod tests;

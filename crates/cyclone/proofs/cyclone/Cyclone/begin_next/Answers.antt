@@ -20,7 +20,7 @@ wrap-requires-clause-above g c =
 pub returns-clause-begins : goal.returns-clause-begins
 returns-clause-begins g c =
     let geometry = c.args.self.now.geometry in
-    let old = seen g.D.Disk g.R.Directory c.args.self.now in
+    let old = seen c.args.self.now in
     let before = g.R.Directory.rows c.args.self.now.directory in
     let after = g.R.Directory.rows c.wrap.new.self in
     let next : c.plan-next.result.cursor ≡ cursor_next old =
@@ -42,7 +42,7 @@ returns-clause-begins g c =
 pub returns-clause-turns : goal.returns-clause-turns
 returns-clause-turns g c =
     let geometry = c.args.self.now.geometry in
-    let next : c.plan-next.result.cursor ≡ cursor_next (seen g.D.Disk g.R.Directory c.args.self.now) =
+    let next : c.plan-next.result.cursor ≡ cursor_next (seen c.args.self.now) =
     c.plan-next.ensures.cursor ∙ (ap (λ n. next_cursor_of geometry n c.filled.result) c.cursor-cursor.ensures ∙ ap (λ n. next_cursor_of geometry c.args.self.now.buffer.cursor n) c.filled.ensures.filled) in
     let here : FitsInLap geometry c.cursor-cursor.result = rw c.cursor-cursor.ensures c.requires.turns.lap in
     next_turns _ _ c.requires.turns (returns-clause-begins g c)
