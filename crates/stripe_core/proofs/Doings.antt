@@ -2,6 +2,7 @@
 use Rattle.std.proofs.Common.{◌≡◌, ℕ, ◌+◌, ◌-◌, ◌^◌, ◌<◌, ◌≤◌, List, [], ◌∷◌, refl, sym, ◌∙◌, ap, subst, arith, Result, Ok, Err, length}
 use Rattle.std.specs.Prelude.{Option, Some, None, IfOk, IsSome, option_and_then, IfSome}
 use Rattle.tape_base.specs.declared.actors.Actor.{Actor}
+use Rattle.tape_base.specs.declared.digests.Digest.{Digest}
 use Rattle.tape_base.specs.declared.keys.Key.{Key}
 use Rattle.tape_base.specs.declared.pieces.PieceId.{PieceId}
 use Rattle.fragment_table.specs.Table.{total_length}
@@ -10,20 +11,22 @@ use Rattle.alternate_vector.specs.Alternates.{Stored}
 use Rattle.cyclone.specs.Cyclone.{Seen}
 use Rattle.cache_model.specs.declared.answer.NextAnswer.{NextAnswer}
 use Rattle.cache_model.specs.declared.answer.NextAnswer.TheVariants as next
+use Rattle.cache_model.specs.declared.answer.ReadAnswer.{ReadAnswer}
+use Rattle.cache_model.specs.declared.cause.Cause.TheVariants as cause
 use Rattle.cache_model.specs.declared.record.Rec.{Rec}
 use Rattle.cache_model.specs.declared.record.Rec.TheVariants as rec
 use Rattle.cache_model.specs.State.{Row, State, list_of_piece, live_row_of, row_in, state_after, vector_piece}
 use Rattle.cache_model.specs.Verdict.{cuts_of, live_vector_of, vector_of}
 use Rattle.cache_model.specs.Kept.{Kept, state_of, with_records}
 use Rattle.cache_model.specs.Permit.{Commit, Done, Exhausted, Fails, GiveUp, ManyWriters, Permit, Remove, Write}
-use Rattle.cache_model.specs.Legal.{Does, DoesCommit, DoesGiveUp, DoesRemove, DoesWrite, IsQuiet, answer_record, most_writers, open_writers}
+use Rattle.cache_model.specs.Legal.{Does, DoesCommit, DoesGiveUp, DoesLook, DoesReadOn, DoesRemove, DoesStopReading, DoesWrite, IsQuiet, ReadTrouble, answer_record, most_writers, open_writers}
 use Rattle.cache_model.specs.Room.{limit}
 use Rattle.cache_model.proofs.Sound.{LeavesTape, later_leaves, leaves_one}
 use Rattle.cache_model.proofs.Lists.{own_piece}
 use Rattle.cache_model.proofs.Found.{cuts_found, number_of}
 use Rattle.stripe_core.specs.declared.refusal.Refusal.{Refusal}
 use Rattle.stripe_core.specs.declared.refusal.Refusal.TheVariants as refusal
-use Rattle.stripe_core.specs.Acts.{IsCommitting, IsGivingUp, IsRefusedPut, OpensAsAsked, RefusesAsAsked, committed_record, opened_record}
+use Rattle.stripe_core.specs.Acts.{EndsReadAsAsked, IsCommitting, IsGivingUp, IsRefusedPut, LooksAsAsked, MarksAsAsked, NotesAsAsked, OpensAsAsked, RefusesAsAsked, committed_record, opened_record}
 use Rattle.stripe_core.specs.Covers.{Uses}
 use Rattle.stripe_core.specs.Held.{IsHeld}
 use Rattle.stripe_core.specs.Stripe.{IsSpared}
@@ -154,3 +157,21 @@ refused_opens s who key request response pin _ quiet h = absurd h
 pub refusals_open : (s : State) (why : Option Refusal) → IsQuiet s → IsRefusedPut s why → IfSome why (RefusesAsAsked s)
 refusals_open s (Some why) quiet h = λ who key request response pin. refused_opens s who key request response pin why quiet h
 refusals_open s None quiet h = tt
+
+-- ---- readers
+
+pub looks : (t : State) (who : Actor) (key : Key) (request : List Field) (answer : ReadAnswer) → LooksAsAsked t who key request answer
+looks t who key request answer = λ p s before number quiet right.
+    DoesLook.looks (record { who = who; before = before; answer = answer; number = refl; quiet = quiet; right = right; is = refl })
+
+pub notes : (reader : ℕ) (answer : NextAnswer) → NotesAsAsked reader answer
+notes reader answer = λ p s r before quiet reading right. DoesReadOn.reads_on answer (record { r = r; before = before; quiet = quiet; reading = reading; right = right; is = refl })
+
+pub marks : (s : State) (id : PieceId) (kept found : Digest) → MarksAsAsked s id kept found
+marks s id kept found = λ p row entry live lists read unlike.
+    let name : row.id ≡ id = own_piece id s.rows row (live_is s (row_in s.rows id) row live).0 in
+    subst (λ (i : PieceId). ReadTrouble p s row entry (rec.Damaged i row.place kept found ∷ []) (cause.Damaged row.place kept found)) name
+    (subst (λ (d : Digest). ReadTrouble p s row entry (rec.Damaged row.id row.place d found ∷ []) (cause.Damaged row.place d found)) lists (ReadTrouble.mismatched found read unlike))
+
+pub ends_read : (s : State) (reader : ℕ) → EndsReadAsAsked s reader
+ends_read s reader = λ r quiet found p. DoesStopReading.closes r quiet found refl

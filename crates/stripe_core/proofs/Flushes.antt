@@ -9,10 +9,10 @@ use Rattle.cyclone.proofs.Calls.{reads_ask, reads_go_on, reads_same, write_goes_
 use Rattle.logged_disk.proofs.GoingOn.{asked_further, asked_nothing, goes_further, stays_put}
 use Rattle.cache_model.specs.declared.record.Rec.{Rec}
 use Rattle.cache_model.specs.declared.record.Rec.TheVariants as rec
-use Rattle.cache_model.specs.State.{State, after_all, cursor_next, state_after}
+use Rattle.cache_model.specs.State.{State, after_all, state_after}
 use Rattle.cache_model.specs.Kept.{Kept, state_of, with_records}
 use Rattle.cache_model.specs.Permit.{Permit, Flush, Done, Fails, Exhausted}
-use Rattle.cache_model.specs.Room.{limit}
+use Rattle.cache_model.specs.Room.{copies_end, limit}
 use Rattle.cache_model.specs.Legal
 use Rattle.cache_model.specs.Legal.{Does, IsQuiet}
 use Rattle.cache_model.specs.Tape.{IsSound}
@@ -38,11 +38,11 @@ with_records-nil k = ap (λ recs. record { told = k.told; base = k.base; since =
 pub empty_does : (p : Permit) (s : State) → IsQuiet s → s.filled ≡ 0 → Does p s Flush [] Done
 empty_does p s quiet h = Legal.DoesFlush.empty quiet h refl
 
-pub can : (s : State) → IsQuiet s → 0 < s.filled → cursor_next s < limit → Legal.CanFlush s
-can s quiet some below = record { quiet = quiet; filled = some; below = lt-leb limit (cursor_next s) below }
+pub can : (s : State) → IsQuiet s → 0 < s.filled → copies_end s < limit → Legal.CanFlush s
+can s quiet some below = record { quiet = quiet; filled = some; below = lt-leb limit (copies_end s) below }
 
-pub exhausted_does : (p : Permit) (s : State) → IsQuiet s → 0 < s.filled → limit ≤ cursor_next s → Does p s Flush [] (Fails Exhausted)
-exhausted_does p s quiet some above = Legal.DoesFlush.exhausted quiet some (le-leb limit (cursor_next s) above) refl
+pub exhausted_does : (p : Permit) (s : State) → IsQuiet s → 0 < s.filled → limit ≤ copies_end s → Does p s Flush [] (Fails Exhausted)
+exhausted_does p s quiet some above = Legal.DoesFlush.exhausted quiet some (le-leb limit (copies_end s) above) refl
 
 -- ---- what is held then
 

@@ -15,10 +15,10 @@ use Rattle.logged_disk.specs.Device.{State as Device, TellsAll}
 use Rattle.cache_model.specs.declared.record.Rec.{Rec}
 use Rattle.cache_model.specs.declared.record.Rec.TheVariants as rec
 use Rattle.cache_model.specs.Verdict.{cuts_of}
-use Rattle.cache_model.specs.State.{PutRow, Row, State, list_of_put, moved_row, put_of, row_of, vector_piece, after_all, cursor_next, place_now, state_after}
+use Rattle.cache_model.specs.State.{PutRow, Row, State, list_of_put, moved_row, put_of, row_of, vector_piece, after_all, place_now, state_after}
 use Rattle.cache_model.specs.Kept.{Kept, state_of, with_records}
 use Rattle.cache_model.specs.Permit.{End, Exhausted, Fails, Finish, Fragment, Intent, Permit, Stays, work_after}
-use Rattle.cache_model.specs.Room.{greatest_pin, MayDisplace, has_room, is_full_for, limit, placed_record}
+use Rattle.cache_model.specs.Room.{copies_end, greatest_pin, MayDisplace, has_room, is_full_for, limit, placed_record}
 use Rattle.cache_model.specs.Syncing.{must_unmark}
 use Rattle.cache_model.specs.Legal.{AreLiveTo, Does, DoesFinish, DoesFragment, vector_length, vector_payload, MakesRoom, MayGrow, next_fragment_of}
 use Rattle.cache_model.proofs.Lists.{row_in-copied, row_in-without}
@@ -218,7 +218,7 @@ module _ (now : ℕ) (old mid : Kept) (before : List Call) (device : Device) (id
       subst (λ xs. IsStoppedAs s faults payload xs (stop.Exhausted number)) (sym (append-nil r.added)) (record {
         kinds = r.kinds;
         live = subst (LiveBefore s) mid_is r.live;
-        why_is = (at.0 ∙ sym (ap (λ b. if b then place_now t + blocks_of (length payload) else cursor_next t) room), at.1);
+        why_is = (at.0 ∙ sym (ap (λ b. if b then place_now t + blocks_of (length payload) else copies_end t) room), at.1);
       })
   shape_by faults (Err (stop.DeviceFault count)) room at = absurd at
 
@@ -261,7 +261,7 @@ stopped_by : (s : State) (faults bytes : ℕ) (added : List Rec) (why : Stop) �
 stopped_by s faults bytes added (stop.DeviceFault count) full stops none = (stops, full)
 stopped_by s faults bytes added (stop.Exhausted number) full stops none =
     subst (λ t. ReachesLimit t bytes number) (sym (ap (after_all s) none))
-    (stops.0 ∙ sym (ap (λ b. if b then place_now s + blocks_of bytes else cursor_next s) full), stops.1)
+    (stops.0 ∙ sym (ap (λ b. if b then place_now s + blocks_of bytes else copies_end s) full), stops.1)
 
 pub cuts_stop : (now : ℕ) (old new : Kept) (before : List Call) (after : Device) (id : PieceId) (pin start : ℕ) (payload : List ℕ) (why : Stop) → IsFragmentOf (state_of old) id pin start payload
     → has_room (state_of old) (length payload) ≡ false → StopsWith (state_of old) after.faults why → RoomsAsAsked now old new before after (length payload) (Err why)

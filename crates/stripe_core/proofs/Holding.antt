@@ -1,12 +1,15 @@
 -- What a cyclone holds stays what the records say, record by record.
-use Rattle.std.proofs.Common.{◌≡◌, ℕ, ◌+◌, ◌≤◌, arith, sym, ◌∙◌, ap, subst}
-use Rattle.std.specs.Prelude.{map, max, nat_le}
+use Rattle.std.proofs.Common.{◌≡◌, ℕ, ◌+◌, ◌<◌, ◌≤◌, arith, sym, ◌∙◌, ap, subst}
+use Rattle.std.specs.Prelude.{◌^◌, map, max, nat_le}
+use Rattle.std.proofs.lemmas.Bool.Decides.{nat_tests}
 use Rattle.tape_base.specs.declared.geometries.Geometry.{Geometry}
+use Rattle.tape_base.specs.Geometry.{budget_of}
 use Rattle.tape_base.specs.Place.{floor_of, next_cursor_of}
 use Rattle.dir_table.specs.declared.rows.DirRow.{DirRow}
 use Rattle.dir_table.specs.Window.{is_in_range}
 use Rattle.agg_buffer.specs.Buffer.{filled_of, next_place_of}
 use Rattle.cyclone.specs.Cyclone.{Seen, IsTurning, cursor_next as cursor_behind}
+use Rattle.cache_model.specs.Room.{copies_end}
 use Rattle.cache_model.specs.State.{State, cursor_next, floor_now, live_rows, place_now}
 use Rattle.stripe_core.specs.Held.{IsHeld, SameRows, entry_of, rows_in_range, times}
 use Rattle.stripe_core.proofs.Entries.{kept, times-below, times-entries, times-filter}
@@ -56,3 +59,20 @@ pub next_is : (s : State) (c : Seen) → IsHeld s c → cursor_behind c ≡ curs
 next_is s c h =
     ap (λ g. next_cursor_of g c.buffer.cursor (filled_of c.buffer)) h.geometry
     ∙ (ap (λ n. next_cursor_of s.geometry n (filled_of c.buffer)) h.cursor ∙ ap (next_cursor_of s.geometry s.cursor) h.filled)
+
+-- where the copies in it end at the latest
+pub copies_end_is : (s : State) (c : Seen) (g : Geometry) → IsHeld s c → g ≡ c.geometry → cursor_behind c + budget_of g ≡ copies_end s
+copies_end_is s c g h is =
+    ap (λ n. n + budget_of g) (next_is s c h) ∙ ap (λ x. cursor_next s + budget_of x) (is ∙ h.geometry)
+
+-- it begins less than a lap behind this one
+next_within : (g : Geometry) (cursor filled : ℕ) → next_cursor_of g cursor filled ≤ cursor + filled + g.content
+next_within g cursor filled = grind (arith, nat_tests)
+
+-- so 64 bits are enough for that place
+pub copies_end_fits : (c : Seen) → IsTurning c → cursor_behind c + budget_of c.geometry < 2 ^ 64
+copies_end_fits c t =
+    let next = next_within c.geometry c.buffer.cursor (filled_of c.buffer) in
+    let content = c.geometry.accepted.content_fits.1 in
+    let small = c.geometry.accepted.agg_fits.1 in
+    omega (arith, next, content, small, t.few, t.below)

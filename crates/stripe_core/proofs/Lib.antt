@@ -32,8 +32,10 @@ mod Naming
 mod Asked
 mod Making
 pub mod Between
+pub mod Continuing
 mod ReadAhead
 mod Noting
 pub mod OneMore
 mod Kept
 mod Due
+pub mod Stills

@@ -1,22 +1,26 @@
 -- What writers and readers do, and when they may.
-use Rattle.std.specs.Prelude.{ℕ, ◌≡◌, ◌+◌, ◌<◌, ◌≤◌, true, List, [], ◌∷◌, length, Option, Some, None, Result, Ok, Err}
+use Rattle.std.specs.Prelude.{ℕ, ◌≡◌, ◌+◌, ◌<◌, ◌≤◌, true, List, [], ◌∷◌, ◌++◌, length, Option, Some, None, Result, Ok, Err}
 use Rattle.tape_base.specs.declared.actors.Actor.{Actor}
+use Rattle.tape_base.specs.declared.digests.Digest.{Digest}
 use Rattle.tape_base.specs.declared.keys.Key.{Key}
-use Rattle.fragment_table.specs.Table.{total_length}
+use Rattle.tape_base.specs.declared.pieces.PieceId.{PieceId}
+use Rattle.fragment_table.specs.Table.{TableRow, total_length}
 use Rattle.alternate_vector.specs.Field.{Field}
 use Rattle.alternate_vector.specs.Alternates.{Stored}
 use Rattle.cache_model.specs.declared.answer.NextAnswer.{NextAnswer}
 use Rattle.cache_model.specs.declared.answer.NextAnswer.TheVariants as next
 use Rattle.cache_model.specs.declared.answer.ReadAnswer.{ReadAnswer}
 use Rattle.cache_model.specs.declared.answer.ReadAnswer.TheVariants as read
+use Rattle.cache_model.specs.declared.cause.Cause.TheVariants as cause
 use Rattle.cache_model.specs.declared.record.Rec.{Rec}
 use Rattle.cache_model.specs.declared.record.Rec.TheVariants as rec
-use Rattle.cache_model.specs.State.{Open, PutRow, State, list_of_piece, put_of, state_after, vector_piece, most_fragments}
+use Rattle.cache_model.specs.State.{Open, PutRow, ReaderRow, Row, State, list_of_piece, live_row_of, put_of, reader_of, state_after, vector_piece, most_fragments}
 use Rattle.stripe_actors.specs.Actors.{AreActors, Seen}
-use Rattle.cache_model.specs.Verdict.{cuts_of}
-use Rattle.cache_model.specs.Permit.{Commit, Done, Exhausted, Fails, GiveUp, ManyWriters, Permit, Remove, Write}
+use Rattle.cache_model.specs.Verdict.{cuts_of, digest_in}
+use Rattle.cache_model.specs.Permit.{Commit, Done, Exhausted, Fails, GiveUp, Look, ManyWriters, Permit, ReadOn, Remove, StopReading, Write}
+use Rattle.cache_model.specs.Given.{IsRead}
 use Rattle.cache_model.specs.Room.{limit}
-use Rattle.cache_model.specs.Legal.{Does, IsWriting, is_writing, most_writers, open_writers}
+use Rattle.cache_model.specs.Legal.{Does, IsLookup, IsQuiet, IsReading, IsUnlike, IsWriting, ReadTrouble, answer_record, is_writing, most_writers, open_writers}
 use Rattle.stripe_actors.specs.Calls.{HasNumber}
 use Rattle.stripe_core.specs.declared.refusal.Refusal.{Refusal}
 use Rattle.stripe_core.specs.declared.refusal.Refusal.TheVariants as refusal
@@ -102,3 +106,24 @@ IsGivable (next.Broke why) = Unit {0}
 abbrev pub AnswersLookup : ℕ → ReadAnswer → Seen → Seen → Type 0
 AnswersLookup reader answer old new = (s : State) (who : Actor) (key : Key) (request : List Field) → IsFollowable s answer → AreActors s old
     → AreActors (state_after s (rec.ReadOpened reader who key request answer)) new
+
+-- Of a step in which a vector is not pending and that has this number still to give: where any trouble with the key's vector is
+-- recorded first, and this is the answer, the reader's record behind it does what a lookup asks.
+abbrev pub LooksAsAsked : State → Actor → Key → List Field → ReadAnswer → Type 0
+LooksAsAsked t who key request answer = (p : Permit) (s : State) (before : List Rec) → s.next_reader ≡ t.next_reader → IsQuiet s → IsLookup p s key request before answer
+    → Does p s (Look who.0 key request) (before ++ rec.ReadOpened s.next_reader who key request answer ∷ []) Done
+
+-- where any trouble with the next fragment is recorded first, and this is the answer, its record behind it does what reading on
+-- asks, in any step
+abbrev pub NotesAsAsked : ℕ → NextAnswer → Type 0
+NotesAsAsked reader answer = (p : Permit) (s : State) (r : ReaderRow) (before : List Rec) → IsQuiet s → reader_of s reader ≡ Some r → IsReading p s r before answer
+    → Does p s (ReadOn reader) (before ++ answer_record reader answer ∷ []) Done
+
+-- of a live piece that was read, and whose payload is not the one that a table lists, it tells the trouble, in any step
+abbrev pub MarksAsAsked : State → PieceId → (kept found : Digest) → Type 0
+MarksAsAsked s id kept found = (p : Permit) (row : Row) (entry : TableRow) → live_row_of s id ≡ Some row → digest_in entry ≡ kept → IsRead p s row → IsUnlike row entry found
+    → ReadTrouble p s row entry (rec.Damaged id row.place kept found ∷ []) (cause.Damaged row.place kept found)
+
+-- where no vector is pending and the reader is open, the record of its end does what closing it asks, in any step
+abbrev pub EndsReadAsAsked : State → ℕ → Type 0
+EndsReadAsAsked s reader = (r : ReaderRow) → IsQuiet s → reader_of s reader ≡ Some r → (p : Permit) → Does p s (StopReading reader) (rec.ReadClosed reader ∷ []) Done

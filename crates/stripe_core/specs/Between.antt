@@ -1,12 +1,14 @@
--- What every call of a stripe keeps: how its device went on, and that what the device took and refused is told.
+-- What every call of a stripe keeps: the stripe, how its device went on, and that what the device took and refused is told.
+use Rattle.std.specs.Prelude.{◌≤◌}
 use Rattle.logged_disk.specs.Device.{IsAfter, State as Device}
 use Rattle.logged_disk.specs.declared.device.Disk.{Ghosts as DiskGhosts}
 use Rattle.dir_table.specs.declared.directory.Directory.{Ghosts as DirectoryGhosts}
 use Rattle.cache_chronicle.specs.declared.chronicle.Chronicle.{Ghosts as ChronicleGhosts}
 use Rattle.cache_model.specs.Kept.{Kept, state_of}
+use Rattle.cache_model.specs.Legal.{IsQuiet}
 use Rattle.stripe_core.specs.declared.stripe.Stripe.{Stripe}
 use Rattle.stripe_core.specs.Faults.{IsAccounted}
-use Rattle.stripe_core.specs.Stripe.{kept_in, seen_in}
+use Rattle.stripe_core.specs.Stripe.{IsStripe, kept_in, seen_in, state_in}
 use Rattle.stripe_core.specs.Unharmed.{IsUnharmed}
 
 -- what a call keeps: the device goes on, what it took and refused is told, and where it tells its content no more pieces are told as
@@ -17,6 +19,29 @@ pub record IsBetween (old_device new_device : Device) (old new : Kept) : Type 0 
   pub unharmed : IsUnharmed old_device (state_of old) → IsUnharmed new_device (state_of new)
 
 -- so it is of a stripe before a call and behind it
-abbrev pub Between : {D R C : Type 0} → DiskGhosts D → DirectoryGhosts R → ChronicleGhosts C → (old new : Stripe D R C) → Type 0
-Between disk directory chronicle old new =
-    IsBetween (seen_in disk directory old).device (seen_in disk directory new).device (kept_in chronicle old) (kept_in chronicle new)
+module _ {D R C : Type 0} {d : DiskGhosts D} {r : DirectoryGhosts R} {c : ChronicleGhosts C} where
+  abbrev pub Between : (old new : Stripe D R C d r c) → Type 0
+  Between old new = IsBetween (seen_in old).device (seen_in new).device (kept_in old) (kept_in new)
+
+  -- a stripe at rest: no vector waits for the commit of its put
+  pub record IsResting (t : Stripe D R C d r c) : Type 0 where
+    pub stripe : IsStripe t
+    pub quiet : IsQuiet (state_in t)
+
+  -- what every call keeps, also one in the midst of another
+  pub record Continues (old new : Stripe D R C d r c) : Type 0 where
+    pub stripe : IsStripe new
+    pub between : Between old new
+    pub later : (seen_in old).device.faults ≤ (seen_in new).device.faults
+
+  -- what a call keeps that leaves the stripe at rest
+  pub record Rests (old new : Stripe D R C d r c) : Type 0 where
+    pub resting : IsResting new
+    pub between : Between old new
+    pub later : (seen_in old).device.faults ≤ (seen_in new).device.faults
+
+  -- what a call keeps that may tell a piece as damaged, whatever its device tells of its content
+  pub record Proceeds (old new : Stripe D R C d r c) : Type 0 where
+    pub goes : IsAfter (seen_in old).device (seen_in new).device
+    pub accounted : IsAccounted (seen_in old).device.past (seen_in new).device.past (kept_in old) (kept_in new)
+    pub later : (seen_in old).device.faults ≤ (seen_in new).device.faults

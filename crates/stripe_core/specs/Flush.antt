@@ -6,10 +6,10 @@ use Rattle.device_log.specs.Calls.{Call}
 use Rattle.logged_disk.specs.Device.{State as Device, TellsAll}
 use Rattle.cache_model.specs.declared.record.Rec.{Rec}
 use Rattle.cache_model.specs.declared.record.Rec.TheVariants as rec
-use Rattle.cache_model.specs.State.{Row, State, cursor_next, floor_now, live_row_of}
+use Rattle.cache_model.specs.State.{Row, State, floor_now, live_row_of}
 use Rattle.cache_model.specs.Kept.{Kept, state_of, with_records}
 use Rattle.cache_model.specs.Permit.{Permit, End, Done, Fails, Exhausted, Faulted, Flush}
-use Rattle.cache_model.specs.Room.{limit}
+use Rattle.cache_model.specs.Room.{copies_end, limit}
 use Rattle.cache_model.specs.Given.{effects_told}
 use Rattle.cache_model.specs.Legal.{Does}
 use Rattle.stripe_core.specs.declared.refusal.Flushed.{Flushed}
@@ -64,10 +64,10 @@ pub record Tells (s t : State) (flushed : Flushed) : Type 0 where
   pub cursor : flushed.cursor ≡ t.cursor
   pub floor : flushed.floor ≡ floor_now t
 
--- why it stops, with its number
+-- why it stops, with its number: at the limit that is where its copies end at the latest
 abbrev pub StopsWith : State → ℕ → Stop → Type 0
 StopsWith s faults (stop.DeviceFault count) = count ≡ faults
-StopsWith s faults (stop.Exhausted number) = (number ≡ cursor_next s) × (limit ≤ number)
+StopsWith s faults (stop.Exhausted number) = (number ≡ copies_end s) × (limit ≤ number)
 
 -- a flush at a moment, over a device that had made these calls before, and that stands so then: the records that it
 -- added, and that in any step at that moment that covers it these are the records of a flush

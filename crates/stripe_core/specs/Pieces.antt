@@ -11,21 +11,22 @@ use Rattle.cache_chronicle.specs.declared.chronicle.Chronicle.{Ghosts as Chronic
 use Rattle.stripe_core.specs.Held.{IsHeld}
 use Rattle.stripe_core.specs.declared.pieces.Pieces.{Pieces}
 
--- the records of the pieces, as their chronicle keeps them
-abbrev pub kept_of : {D R C : Type 0} → ChronicleGhosts C → Pieces D R C → Kept
-kept_of chronicle p = chronicle.kept p.chronicle
+module _ {D R C : Type 0} {d : DiskGhosts D} {r : DirectoryGhosts R} {c : ChronicleGhosts C} where
+  -- the records of the pieces, as their chronicle keeps them
+  abbrev pub kept_of : Pieces D R C d r c → Kept
+  kept_of p = c.kept p.chronicle
 
--- what these records stand for
-abbrev pub state_now : {D R C : Type 0} → ChronicleGhosts C → Pieces D R C → State
-state_now chronicle p = state_of (kept_of chronicle p)
+  -- what these records stand for
+  abbrev pub state_now : Pieces D R C d r c → State
+  state_now p = state_of (kept_of p)
 
--- the cyclone that has the pieces, as contracts see it
-abbrev pub seen_of : {D R C : Type 0} → DiskGhosts D → DirectoryGhosts R → Pieces D R C → Seen
-seen_of disk directory p = seen disk directory p.cyclone
+  -- the cyclone that has the pieces, as contracts see it
+  abbrev pub seen_of : Pieces D R C d r c → Seen
+  seen_of p = seen p.cyclone
 
--- what holds of the pieces between calls
-abbrev pub ArePieces : {D R C : Type 0} → DiskGhosts D → DirectoryGhosts R → ChronicleGhosts C → Pieces D R C → Type 0
-ArePieces disk directory chronicle p = IsHeld (state_now chronicle p) (seen_of disk directory p)
+  -- what holds of the pieces between calls
+  abbrev pub ArePieces : Pieces D R C d r c → Type 0
+  ArePieces p = IsHeld (state_now p) (seen_of p)
 
 -- the place of a live piece
 abbrev pub live_place_of : State → PieceId → Option ℕ

@@ -11,12 +11,12 @@ use Rattle.cache_model.specs.declared.record.Rec.{Rec}
 use Rattle.cache_model.specs.declared.record.Rec.TheVariants as rec
 use Rattle.device_log.specs.Calls.{Call}
 use Rattle.logged_disk.specs.Device.{State as Device, TellsAll}
-use Rattle.cache_model.specs.State.{PutRow, State, after_all, cursor_next, list_of_put, place_now, row_of, vector_piece}
+use Rattle.cache_model.specs.State.{PutRow, State, after_all, list_of_put, place_now, row_of, vector_piece}
 use Rattle.cache_model.specs.Kept.{Kept, state_of, with_records}
 use Rattle.cache_model.specs.Verdict.{cuts_of}
 use Rattle.cache_model.specs.Permit.{Done, End, Finish, Fragment, Permit, Stays}
 use Rattle.cache_model.specs.Given.{effects_told}
-use Rattle.cache_model.specs.Room.{greatest_pin, has_room, limit, placed_record}
+use Rattle.cache_model.specs.Room.{copies_end, greatest_pin, has_room, limit, placed_record}
 use Rattle.cache_model.specs.Legal.{AreLiveTo, Does, IsCut, IsNext, IsWriting, MakesRoom, next_fragment_of, vector_length, vector_payload}
 use Rattle.stripe_core.specs.declared.refusal.Placed.{Placed}
 use Rattle.stripe_core.specs.declared.refusal.Stop.{Stop}
@@ -43,9 +43,9 @@ pub record RoomsAsAsked (now : ℕ) (old new : Kept) (before : List Call) (after
   pub faults : HasEffects before after.past (effects_told added)
   pub does : (p : Permit) → p.now ≡ now → Covers p before after.past → RoomIsMade p (state_of old) bytes added result
 
--- where a piece of so many bytes would end; or where it has no room, where the next buffer would begin
+-- where a piece of so many bytes would end; or where it has no room, where the copies of the flush before it end at the latest
 abbrev pub number_over : State → ℕ → ℕ
-number_over t bytes = if has_room t bytes then place_now t + blocks_of bytes else cursor_next t
+number_over t bytes = if has_room t bytes then place_now t + blocks_of bytes else copies_end t
 
 -- that is the number, and it is the limit or above
 abbrev pub ReachesLimit : State → ℕ → ℕ → Type 0

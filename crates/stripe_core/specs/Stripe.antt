@@ -23,29 +23,30 @@ use Rattle.stripe_core.specs.Named.{IsNamed}
 use Rattle.stripe_core.specs.Units.{entries_of_unit, records_of_unit}
 use Rattle.stripe_core.specs.Pieces.{ArePieces, kept_of, seen_of, state_now}
 
--- the records of a stripe, as its chronicle keeps them
-abbrev pub kept_in : {D R C : Type 0} → ChronicleGhosts C → Stripe D R C → Kept
-kept_in chronicle t = kept_of chronicle t.pieces
+module _ {D R C : Type 0} {d : DiskGhosts D} {r : DirectoryGhosts R} {c : ChronicleGhosts C} where
+  -- the records of a stripe, as its chronicle keeps them
+  abbrev pub kept_in : Stripe D R C d r c → Kept
+  kept_in t = kept_of t.pieces
 
--- what these records stand for
-abbrev pub state_in : {D R C : Type 0} → ChronicleGhosts C → Stripe D R C → State
-state_in chronicle t = state_now chronicle t.pieces
+  -- what these records stand for
+  abbrev pub state_in : Stripe D R C d r c → State
+  state_in t = state_now t.pieces
 
--- the cyclone of a stripe, as contracts see it
-abbrev pub seen_in : {D R C : Type 0} → DiskGhosts D → DirectoryGhosts R → Stripe D R C → Seen
-seen_in disk directory t = seen_of disk directory t.pieces
+  -- the cyclone of a stripe, as contracts see it
+  abbrev pub seen_in : Stripe D R C d r c → Seen
+  seen_in t = seen_of t.pieces
 
--- where its memory comes from
-abbrev pub alloc_in : {D R C : Type 0} → Stripe D R C → Global
-alloc_in t = t.alloc
+  -- where its memory comes from
+  abbrev pub alloc_in : Stripe D R C d r c → Global
+  alloc_in t = t.alloc
 
--- for how many calls memory is made
-abbrev pub units_in : {D R C : Type 0} → Stripe D R C → ℕ
-units_in t = t.units
+  -- for how many calls memory is made
+  abbrev pub units_in : Stripe D R C d r c → ℕ
+  units_in t = t.units
 
--- for how many flushes the device has room
-abbrev pub flushes_in : {D R C : Type 0} → Stripe D R C → ℕ
-flushes_in t = t.flushes
+  -- for how many flushes the device has room
+  abbrev pub flushes_in : Stripe D R C d r c → ℕ
+  flushes_in t = t.flushes
 
 -- memory is made for so many calls: of each a flush, a piece, and their records; `IsStripe` has the readers
 pub record IsSpared (units flushes room : ℕ) (c : Seen) : Type 0 where
@@ -76,20 +77,20 @@ abbrev pub RowIsMade : PieceId → Actors → Type 0
 RowIsMade id a = is_vector id ≡ false → 0 < room_for id.put a
 
 -- what holds of a stripe between calls
-pub record IsStripe {D R C : Type 0} (disk : DiskGhosts D) (directory : DirectoryGhosts R) (chronicle : ChronicleGhosts C) (t : Stripe D R C) : Type 0 where
-  pub pieces : ArePieces disk directory chronicle t.pieces
-  pub actors : AreActors (state_in chronicle t) t.actors
+pub record IsStripe {D R C : Type 0} {d : DiskGhosts D} {r : DirectoryGhosts R} {c : ChronicleGhosts C} (t : Stripe D R C d r c) : Type 0 where
+  pub pieces : ArePieces t.pieces
+  pub actors : AreActors (state_in t) t.actors
   -- its directory displaces nothing
-  pub plain : directory.purges ≡ false
-  pub spared : IsSpared t.units t.flushes (chronicle.room t.pieces.chronicle) (seen_in disk directory t)
+  pub plain : r.purges ≡ false
+  pub spared : IsSpared t.units t.flushes (c.room t.pieces.chronicle) (seen_in t)
   -- each piece of an index that a put may have is one of a put that has begun, and of an open put one that it has cut
-  pub named : IsNamed (state_in chronicle t)
+  pub named : IsNamed (state_in t)
   -- a call may open a reader
   pub readers : t.units ≤ reader_room_of t.actors
   -- there is memory for what a flush copies
-  pub ahead : IsMadeFor (state_in chronicle t).geometry t.ahead
+  pub ahead : IsMadeFor (state_in t).geometry t.ahead
   -- each reader has a record
-  pub numbered : (state_in chronicle t).next_reader < count_of (kept_in chronicle t)
+  pub numbered : (state_in t).next_reader < count_of (kept_in t)
 
 -- what a call answers that the tape may stop: what holds of the answer, and what holds where memory is
 -- wanting
@@ -109,6 +110,18 @@ HasMemory _ = Unit {0}
 abbrev pub Wanting : {X : Type 0} → Result X Refusal → Type 0 → Type 0
 Wanting (Err (refusal.Memory e)) holds = holds
 Wanting _ holds = Unit {0}
+
+-- what is wanting is memory
+abbrev pub IsWanting : Refusal → Type 0
+IsWanting (refusal.Memory e) = Unit {0}
+IsWanting _ = ⊥
+
+-- what holds where a call is refused, but not by the tape
+abbrev pub Unstopped : {X : Type 0} → Result X Refusal → Type 0 → Type 0
+Unstopped (Ok x) holds = Unit {0}
+Unstopped (Err (refusal.DeviceFault count)) holds = Unit {0}
+Unstopped (Err (refusal.Exhausted number)) holds = Unit {0}
+Unstopped (Err _) holds = holds
 
 -- the refusal of a call that the tape stopped
 abbrev pub refusal_of : Stop → Refusal

@@ -7,7 +7,7 @@ ghost use Rattle.cache_model.specs.Verdict.{live_vector_of};
 ghost use Rattle.cache_model.specs.State.{State};
 ghost use Rattle.stripe_actors.specs.Actors.{AreActors, reader_room_of};
 ghost use Rattle.stripe_actors.specs.Calls.{HasNumber, KeepUpWith, StayInStep};
-ghost use Rattle.stripe_core.specs.Acts.{AnswersLookup, CommitsAsAsked, GivesUpAsAsked, IsCommitting, IsFollowable, IsGivable, IsGivingUp, IsRefusedPut, OpensAsAsked, RefusesAsAsked, RemovesAsAsked, committed_record, opened_record};
+ghost use Rattle.stripe_core.specs.Acts.{AnswersLookup, CommitsAsAsked, EndsReadAsAsked, GivesUpAsAsked, IsCommitting, IsFollowable, IsGivable, IsGivingUp, IsRefusedPut, LooksAsAsked, MarksAsAsked, NotesAsAsked, OpensAsAsked, RefusesAsAsked, RemovesAsAsked, committed_record, opened_record};
 
 use crate::pieces::records_of;
 use crate::refusal::Refusal;
@@ -25,20 +25,19 @@ use tape_base::{Actor, Digest, Key, LIMIT, MAX_WRITERS, PieceId};
 impl<D: Disk, R: Directory + Drop, C: Chronicle> Stripe<D, R, C> {
     ghost use Rattle.stripe_core.specs.Pieces.{live_place_of};
     ghost use Rattle.stripe_core.specs.Stripe.{IsStill, IsStripe, kept_in, seen_in, state_in, units_in};
-    ghost use Rattle.stripe_core.specs.Between.{Between};
+    ghost use Rattle.stripe_core.specs.Between.{Continues, IsResting};
 
     /// Commits a put, whose vector is the piece that was placed last and lists these alternates.
     /// The key's vector before it goes.
     pub fn commit(&mut self, put: u64, key: Key, alternates: Vector)
-        requires stripe { IsStripe D.Disk R.Directory C.Chronicle self.old }
+        requires stripe { IsStripe self.old }
         requires unit { 1 ≤ units_in self.old }
-        requires committing { IsCommitting (state_in C.Chronicle self.old) put key }
-        ensures stripe { IsStripe D.Disk R.Directory C.Chronicle self.new }
-        ensures unharmed { Between D.Disk R.Directory C.Chronicle self.old self.new }
-        ensures adds { kept_in C.Chronicle self.new
-            ≡ with_records (kept_in C.Chronicle self.old) (committed_record (state_in C.Chronicle self.old) put key alternates ∷ []) }
-        ensures does { CommitsAsAsked (state_in C.Chronicle self.old) put key alternates }
-        ensures still { (seen_in D.Disk R.Directory self.new).device ≡ (seen_in D.Disk R.Directory self.old).device }
+        requires committing { IsCommitting (state_in self.old) put key }
+        ensures continues { Continues self.old self.new }
+        ensures adds { kept_in self.new ≡ with_records (kept_in self.old)
+            (committed_record (state_in self.old) put key alternates ∷ []) }
+        ensures does { CommitsAsAsked (state_in self.old) put key alternates }
+        ensures still { (seen_in self.new).device ≡ (seen_in self.old).device }
         ensures unit { units_in self.new + 1 ≡ units_in self.old }
     {
         let length = self.actors.open_directory().length(put);
@@ -49,14 +48,14 @@ impl<D: Disk, R: Directory + Drop, C: Chronicle> Stripe<D, R, C> {
 
     /// Gives a put up that is open.
     pub fn give_up(&mut self, put: u64, key: Key)
-        requires stripe { IsStripe D.Disk R.Directory C.Chronicle self.old }
+        requires stripe { IsStripe self.old }
         requires unit { 1 ≤ units_in self.old }
-        requires writing { IsGivingUp (state_in C.Chronicle self.old) put key }
-        ensures stripe { IsStripe D.Disk R.Directory C.Chronicle self.new }
-        ensures unharmed { Between D.Disk R.Directory C.Chronicle self.old self.new }
-        ensures adds { kept_in C.Chronicle self.new ≡ with_records (kept_in C.Chronicle self.old) (rec.Aborted put key ∷ []) }
-        ensures does { GivesUpAsAsked (state_in C.Chronicle self.old) put key }
-        ensures still { (seen_in D.Disk R.Directory self.new).device ≡ (seen_in D.Disk R.Directory self.old).device }
+        requires writing { IsGivingUp (state_in self.old) put key }
+        ensures continues { Continues self.old self.new }
+        ensures adds { kept_in self.new ≡ with_records (kept_in self.old)
+            (rec.Aborted put key ∷ []) }
+        ensures does { GivesUpAsAsked (state_in self.old) put key }
+        ensures still { (seen_in self.new).device ≡ (seen_in self.old).device }
         ensures unit { units_in self.new + 1 ≡ units_in self.old }
     {
         records::aborted(&mut self.pieces.chronicle, put, key);
@@ -66,15 +65,14 @@ impl<D: Disk, R: Directory + Drop, C: Chronicle> Stripe<D, R, C> {
 
     /// Takes a key's live vector out, and gives its put.
     pub fn take_out(&mut self, key: Key) -> u64
-        requires stripe { IsStripe D.Disk R.Directory C.Chronicle self.old }
+        requires resting { IsResting self.old }
         requires unit { 1 ≤ units_in self.old }
-        requires quiet { IsQuiet (state_in C.Chronicle self.old) }
-        requires live { IsSome (live_vector_of (state_in C.Chronicle self.old) key) }
-        ensures stripe { IsStripe D.Disk R.Directory C.Chronicle self.new }
-        ensures unharmed { Between D.Disk R.Directory C.Chronicle self.old self.new }
-        ensures adds { kept_in C.Chronicle self.new ≡ with_records (kept_in C.Chronicle self.old) (rec.Removed result key ∷ []) }
-        ensures does { RemovesAsAsked (state_in C.Chronicle self.old) key result }
-        ensures still { (seen_in D.Disk R.Directory self.new).device ≡ (seen_in D.Disk R.Directory self.old).device }
+        requires live { IsSome (live_vector_of (state_in self.old) key) }
+        ensures continues { Continues self.old self.new }
+        ensures adds { kept_in self.new ≡ with_records (kept_in self.old)
+            (rec.Removed result key ∷ []) }
+        ensures does { RemovesAsAsked (state_in self.old) key result }
+        ensures still { (seen_in self.new).device ≡ (seen_in self.old).device }
         ensures unit { units_in self.new + 1 ≡ units_in self.old }
     {
         let put = self.pieces.remove(key);
@@ -85,13 +83,15 @@ impl<D: Disk, R: Directory + Drop, C: Chronicle> Stripe<D, R, C> {
     /// Records that the payload of a live piece, which was found in this step, is not its own, and
     /// takes its entry out.
     pub fn mark_damaged(&mut self, id: PieceId, kept: Digest, found: Digest)
-        requires stripe { IsStripe D.Disk R.Directory C.Chronicle self.old }
+        requires stripe { IsStripe self.old }
         requires unit { 1 ≤ units_in self.old }
-        requires live { IsSome (live_place_of (state_in C.Chronicle self.old) id) }
-        ensures stripe { IsStripe D.Disk R.Directory C.Chronicle self.new }
-        ensures adds { (place : ℕ) → live_place_of (state_in C.Chronicle self.old) id ≡ Some place
-            → kept_in C.Chronicle self.new ≡ with_records (kept_in C.Chronicle self.old) (rec.Damaged id place kept found ∷ []) }
-        ensures still { (seen_in D.Disk R.Directory self.new).device ≡ (seen_in D.Disk R.Directory self.old).device }
+        requires live { IsSome (live_place_of (state_in self.old) id) }
+        ensures stripe { IsStripe self.new }
+        ensures adds { (place : ℕ) → live_place_of (state_in self.old) id ≡ Some place
+            → kept_in self.new ≡ with_records (kept_in self.old)
+            (rec.Damaged id place kept found ∷ []) }
+        ensures does { MarksAsAsked (state_in self.old) id kept found }
+        ensures still { (seen_in self.new).device ≡ (seen_in self.old).device }
         ensures unit { units_in self.new + 1 ≡ units_in self.old }
     {
         let place = self.pieces.whereabouts(id).unwrap();
@@ -101,13 +101,14 @@ impl<D: Disk, R: Directory + Drop, C: Chronicle> Stripe<D, R, C> {
 
     /// Records what a reader was answered, which goes on behind a fragment that it was given.
     pub fn note(&mut self, reader: u64, answer: NextAnswer)
-        requires stripe { IsStripe D.Disk R.Directory C.Chronicle self.old }
+        requires stripe { IsStripe self.old }
         requires unit { 1 ≤ units_in self.old }
         requires few { IsGivable answer }
-        ensures stripe { IsStripe D.Disk R.Directory C.Chronicle self.new }
-        ensures unharmed { Between D.Disk R.Directory C.Chronicle self.old self.new }
-        ensures adds { kept_in C.Chronicle self.new ≡ with_records (kept_in C.Chronicle self.old) (answer_record reader answer ∷ []) }
-        ensures still { (seen_in D.Disk R.Directory self.new).device ≡ (seen_in D.Disk R.Directory self.old).device }
+        ensures continues { Continues self.old self.new }
+        ensures adds { kept_in self.new ≡ with_records (kept_in self.old)
+            (answer_record reader answer ∷ []) }
+        ensures does { NotesAsAsked reader answer }
+        ensures still { (seen_in self.new).device ≡ (seen_in self.old).device }
         ensures unit { units_in self.new + 1 ≡ units_in self.old }
     {
         records::answered(&mut self.pieces.chronicle, reader, answer);
@@ -117,12 +118,13 @@ impl<D: Disk, R: Directory + Drop, C: Chronicle> Stripe<D, R, C> {
 
     /// Closes a reader.
     pub fn end_read(&mut self, reader: u64)
-        requires stripe { IsStripe D.Disk R.Directory C.Chronicle self.old }
+        requires stripe { IsStripe self.old }
         requires unit { 1 ≤ units_in self.old }
-        ensures stripe { IsStripe D.Disk R.Directory C.Chronicle self.new }
-        ensures unharmed { Between D.Disk R.Directory C.Chronicle self.old self.new }
-        ensures adds { kept_in C.Chronicle self.new ≡ with_records (kept_in C.Chronicle self.old) (rec.ReadClosed reader ∷ []) }
-        ensures still { (seen_in D.Disk R.Directory self.new).device ≡ (seen_in D.Disk R.Directory self.old).device }
+        ensures continues { Continues self.old self.new }
+        ensures adds { kept_in self.new ≡ with_records (kept_in self.old)
+            (rec.ReadClosed reader ∷ []) }
+        ensures does { EndsReadAsAsked (state_in self.old) reader }
+        ensures still { (seen_in self.new).device ≡ (seen_in self.old).device }
         ensures unit { units_in self.new + 1 ≡ units_in self.old }
     {
         records::read_closed(&mut self.pieces.chronicle, reader);
@@ -138,15 +140,16 @@ impl<D: Disk, R: Directory + Drop, C: Chronicle> Stripe<D, R, C> {
         request: Fields,
         answer: ReadAnswer,
     ) -> Result<u64, AllocError>
-        requires stripe { IsStripe D.Disk R.Directory C.Chronicle self.old }
-        requires follows { IsFollowable (state_in C.Chronicle self.old) answer }
-        ensures stripe { IsStripe D.Disk R.Directory C.Chronicle self.new }
-        ensures unharmed { Between D.Disk R.Directory C.Chronicle self.old self.new }
-        ensures adds { IfOk result (λ reader. kept_in C.Chronicle self.new
-            ≡ with_records (kept_in C.Chronicle self.old) (rec.ReadOpened reader actor key request answer ∷ [])) }
-        ensures reader { IfOk result (λ reader. reader ≡ (state_in C.Chronicle self.old).next_reader) }
-        ensures err { OnErr result (kept_in C.Chronicle self.new ≡ kept_in C.Chronicle self.old) }
-        ensures still { IsStill (seen_in D.Disk R.Directory self.old).device (seen_in D.Disk R.Directory self.new).device }
+        requires stripe { IsStripe self.old }
+        requires follows { IsFollowable (state_in self.old) answer }
+        ensures continues { Continues self.old self.new }
+        ensures adds { IfOk result (λ reader. kept_in self.new
+            ≡ with_records (kept_in self.old)
+            (rec.ReadOpened reader actor key request answer ∷ [])) }
+        ensures reader { IfOk result (λ reader. reader ≡ (state_in self.old).next_reader) }
+        ensures does { OnOk result (LooksAsAsked (state_in self.old) actor key request answer) }
+        ensures err { OnErr result (kept_in self.new ≡ kept_in self.old) }
+        ensures still { IsStill (seen_in self.old).device (seen_in self.new).device }
         ensures memory { 0 < units_in self.old → IsOk result }
         ensures unit { units_in self.old ≤ units_in self.new + 1 }
     {
@@ -167,9 +170,10 @@ impl<D: Disk, R: Directory + Drop, C: Chronicle> Stripe<D, R, C> {
 
     /// Why no put can be opened now; there is no other reason but want of memory.
     pub fn put_refusal(&self) -> Option<Refusal>
-        requires { IsStripe D.Disk R.Directory C.Chronicle self.now }
-        ensures why { IsRefusedPut (state_in C.Chronicle self.now) result }
-        ensures does { IsQuiet (state_in C.Chronicle self.now) → IfSome result (RefusesAsAsked (state_in C.Chronicle self.now)) }
+        requires { IsStripe self.now }
+        ensures why { IsRefusedPut (state_in self.now) result }
+        ensures does { IsQuiet (state_in self.now)
+            → IfSome result (RefusesAsAsked (state_in self.now)) }
     {
         put_refusal(&self.actors)
     }
@@ -183,15 +187,14 @@ impl<D: Disk, R: Directory + Drop, C: Chronicle> Stripe<D, R, C> {
         response: Fields,
         pin: u64,
     ) -> Result<u64, Refusal>
-        requires stripe { IsStripe D.Disk R.Directory C.Chronicle self.old }
-        requires quiet { IsQuiet (state_in C.Chronicle self.old) }
-        ensures stripe { IsStripe D.Disk R.Directory C.Chronicle self.new }
-        ensures unharmed { Between D.Disk R.Directory C.Chronicle self.old self.new }
-        ensures adds { OnOk result (kept_in C.Chronicle self.new
-            ≡ with_records (kept_in C.Chronicle self.old) (opened_record (state_in C.Chronicle self.old) actor key request response pin ∷ [])) }
-        ensures err { OnErr result (kept_in C.Chronicle self.new ≡ kept_in C.Chronicle self.old) }
-        ensures does { OpensAsAsked (state_in C.Chronicle self.old) actor key request response pin result }
-        ensures still { (seen_in D.Disk R.Directory self.new).device ≡ (seen_in D.Disk R.Directory self.old).device }
+        requires resting { IsResting self.old }
+        ensures continues { Continues self.old self.new }
+        ensures adds { OnOk result (kept_in self.new
+            ≡ with_records (kept_in self.old)
+            (opened_record (state_in self.old) actor key request response pin ∷ [])) }
+        ensures err { OnErr result (kept_in self.new ≡ kept_in self.old) }
+        ensures does { OpensAsAsked (state_in self.old) actor key request response pin result }
+        ensures still { (seen_in self.new).device ≡ (seen_in self.old).device }
         ensures unit { units_in self.new ≡ units_in self.old }
     {
         match put_refusal(&self.actors) {
@@ -208,16 +211,15 @@ impl<D: Disk, R: Directory + Drop, C: Chronicle> Stripe<D, R, C> {
         response: Fields,
         pin: u64,
     ) -> Result<u64, Refusal>
-        requires stripe { IsStripe D.Disk R.Directory C.Chronicle self.old }
-        requires quiet { IsQuiet (state_in C.Chronicle self.old) }
-        requires number { HasNumber (state_in C.Chronicle self.old) }
-        ensures stripe { IsStripe D.Disk R.Directory C.Chronicle self.new }
-        ensures unharmed { Between D.Disk R.Directory C.Chronicle self.old self.new }
-        ensures adds { OnOk result (kept_in C.Chronicle self.new
-            ≡ with_records (kept_in C.Chronicle self.old) (opened_record (state_in C.Chronicle self.old) actor key request response pin ∷ [])) }
-        ensures err { OnErr result (kept_in C.Chronicle self.new ≡ kept_in C.Chronicle self.old) }
-        ensures does { OpensAsAsked (state_in C.Chronicle self.old) actor key request response pin result }
-        ensures still { (seen_in D.Disk R.Directory self.new).device ≡ (seen_in D.Disk R.Directory self.old).device }
+        requires resting { IsResting self.old }
+        requires number { HasNumber (state_in self.old) }
+        ensures continues { Continues self.old self.new }
+        ensures adds { OnOk result (kept_in self.new
+            ≡ with_records (kept_in self.old)
+            (opened_record (state_in self.old) actor key request response pin ∷ [])) }
+        ensures err { OnErr result (kept_in self.new ≡ kept_in self.old) }
+        ensures does { OpensAsAsked (state_in self.old) actor key request response pin result }
+        ensures still { (seen_in self.new).device ≡ (seen_in self.old).device }
         ensures unit { units_in self.new ≡ units_in self.old }
     {
         let kept_request = request.copy()?;

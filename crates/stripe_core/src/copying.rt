@@ -25,22 +25,27 @@ impl<D: Disk, R: Directory + Drop, C: Chronicle> Pieces<D, R, C> {
     /// Behind a buffer that was written: tells what is not copied, begins the next buffer, and copies
     /// what was read into it.
     pub(crate) fn go_on(&mut self, next: u64, ahead: &Ahead)
-        requires pieces { ArePieces D.Disk R.Directory C.Chronicle self.old }
+        requires pieces { ArePieces self.old }
         requires plain { R.purges ≡ false }
-        requires next { next ≡ cursor_next (state_now C.Chronicle self.old) }
+        requires next { next ≡ cursor_next (state_now self.old) }
         requires below { next < 2 ^ 62 }
-        requires written { HasBuffer (seen_of D.Disk R.Directory self.old) }
-        requires told { AreTellable true (state_now C.Chronicle self.old) (seen_of D.Disk R.Directory self.old).device.faults ahead.now.due.items ahead.now.fates.items }
-        requires copied { AreCopyable (begun_behind (state_now C.Chronicle self.old) (told_of true ahead.now.due.items ahead.now.fates.items))
-            0 ahead.now.due.items ahead.now.fates.items ahead.now.bytes.items }
+        requires written { HasBuffer (seen_of self.old) }
+        requires told { AreTellable true (state_now self.old)
+            (seen_of self.old).device.faults ahead.now.due.items ahead.now.fates.items }
+        requires copied { AreCopyable (begun_behind (state_now self.old)
+            (told_of true ahead.now.due.items ahead.now.fates.items)) 0 ahead.now.due.items
+            ahead.now.fates.items ahead.now.bytes.items }
         requires records { length (told_of true ahead.now.due.items ahead.now.fates.items) + 1 + copies_among ahead.now.fates.items ≤ C.room self.old.chronicle }
-        requires entries { copies_among ahead.now.fates.items ≤ (seen_of D.Disk R.Directory self.old).spare }
-        ensures pieces { ArePieces D.Disk R.Directory C.Chronicle self.new }
-        ensures adds { kept_of C.Chronicle self.new ≡ with_records (kept_of C.Chronicle self.old)
-            (done_records (state_now C.Chronicle self.old) ahead.now.due.items ahead.now.fates.items ahead.now.bytes.items) }
-        ensures still { (seen_of D.Disk R.Directory self.new).device ≡ (seen_of D.Disk R.Directory self.old).device }
-        ensures uses { Uses (length (told_of true ahead.now.due.items ahead.now.fates.items) + 1 + copies_among ahead.now.fates.items) (copies_among ahead.now.fates.items) 0 0
-            (C.room self.old.chronicle) (C.room self.new.chronicle) (seen_of D.Disk R.Directory self.old) (seen_of D.Disk R.Directory self.new) }
+        requires entries { copies_among ahead.now.fates.items ≤ (seen_of self.old).spare }
+        ensures pieces { ArePieces self.new }
+        ensures adds { kept_of self.new ≡ with_records (kept_of self.old)
+            (done_records (state_now self.old) ahead.now.due.items ahead.now.fates.items
+            ahead.now.bytes.items) }
+        ensures still { (seen_of self.new).device ≡ (seen_of self.old).device }
+        ensures uses { Uses (length (told_of true ahead.now.due.items ahead.now.fates.items) + 1
+            + copies_among ahead.now.fates.items) (copies_among ahead.now.fates.items) 0 0
+            (C.room self.old.chronicle) (C.room self.new.chronicle) (seen_of self.old)
+            (seen_of self.new) }
     {
         self.tell(ahead, true);
         self.begin(next);
@@ -49,17 +54,18 @@ impl<D: Disk, R: Directory + Drop, C: Chronicle> Pieces<D, R, C> {
 
     // The next buffer begins, and that is recorded.
     fn begin(&mut self, next: u64)
-        requires pieces { ArePieces D.Disk R.Directory C.Chronicle self.old }
-        requires next { next ≡ cursor_next (state_now C.Chronicle self.old) }
+        requires pieces { ArePieces self.old }
+        requires next { next ≡ cursor_next (state_now self.old) }
         requires below { next < 2 ^ 62 }
-        requires written { HasBuffer (seen_of D.Disk R.Directory self.old) }
+        requires written { HasBuffer (seen_of self.old) }
         requires record { 1 ≤ C.room self.old.chronicle }
-        ensures pieces { ArePieces D.Disk R.Directory C.Chronicle self.new }
-        ensures adds { let s = state_now C.Chronicle self.old in
-            kept_of C.Chronicle self.new ≡ with_records (kept_of C.Chronicle self.old) (Began (cursor_next s) (floor_next s) ∷ []) }
-        ensures still { (seen_of D.Disk R.Directory self.new).device ≡ (seen_of D.Disk R.Directory self.old).device }
+        ensures pieces { ArePieces self.new }
+        ensures adds { let s = state_now self.old in
+            kept_of self.new ≡ with_records (kept_of self.old)
+            (Began (cursor_next s) (floor_next s) ∷ []) }
+        ensures still { (seen_of self.new).device ≡ (seen_of self.old).device }
         ensures uses { Uses 1 0 0 0 (C.room self.old.chronicle) (C.room self.new.chronicle)
-            (seen_of D.Disk R.Directory self.old) (seen_of D.Disk R.Directory self.new) }
+            (seen_of self.old) (seen_of self.new) }
     {
         self.cyclone.begin_next();
         records::began(&mut self.chronicle, next, self.cyclone.floor());
@@ -67,16 +73,19 @@ impl<D: Disk, R: Directory + Drop, C: Chronicle> Pieces<D, R, C> {
 
     /// Behind a buffer that the device refused: tells of damage and of faults, this one the last.
     pub(crate) fn stop(&mut self, ahead: &Ahead) -> Stop
-        requires pieces { ArePieces D.Disk R.Directory C.Chronicle self.old }
-        requires told { AreTellable false (state_now C.Chronicle self.old) (seen_of D.Disk R.Directory self.old).device.faults ahead.now.due.items ahead.now.fates.items }
+        requires pieces { ArePieces self.old }
+        requires told { AreTellable false (state_now self.old)
+            (seen_of self.old).device.faults ahead.now.due.items ahead.now.fates.items }
         requires records { length (told_of false ahead.now.due.items ahead.now.fates.items) + 1 ≤ C.room self.old.chronicle }
-        ensures pieces { ArePieces D.Disk R.Directory C.Chronicle self.new }
-        ensures adds { kept_of C.Chronicle self.new ≡ with_records (kept_of C.Chronicle self.old)
-            (told_of false ahead.now.due.items ahead.now.fates.items ++ Fault (seen_of D.Disk R.Directory self.old).device.faults ∷ []) }
-        ensures why { result ≡ DeviceFault (seen_of D.Disk R.Directory self.old).device.faults }
-        ensures still { (seen_of D.Disk R.Directory self.new).device ≡ (seen_of D.Disk R.Directory self.old).device }
-        ensures uses { Uses (length (told_of false ahead.now.due.items ahead.now.fates.items) + 1) 0 0 0
-            (C.room self.old.chronicle) (C.room self.new.chronicle) (seen_of D.Disk R.Directory self.old) (seen_of D.Disk R.Directory self.new) }
+        ensures pieces { ArePieces self.new }
+        ensures adds { kept_of self.new ≡ with_records (kept_of self.old)
+            (told_of false ahead.now.due.items ahead.now.fates.items ++ Fault
+            (seen_of self.old).device.faults ∷ []) }
+        ensures why { result ≡ DeviceFault (seen_of self.old).device.faults }
+        ensures still { (seen_of self.new).device ≡ (seen_of self.old).device }
+        ensures uses { Uses (length (told_of false ahead.now.due.items ahead.now.fates.items)
+            + 1) 0 0 0 (C.room self.old.chronicle) (C.room self.new.chronicle) (seen_of self.old)
+            (seen_of self.new) }
     {
         let count = self.cyclone.disk().faults();
         self.tell(ahead, false);
@@ -87,12 +96,14 @@ impl<D: Disk, R: Directory + Drop, C: Chronicle> Pieces<D, R, C> {
     // Records what came of each piece that is not copied; that it is not saved only of a flush that is
     // done.
     fn tell(&mut self, ahead: &Ahead, done: bool)
-        requires pieces { ArePieces D.Disk R.Directory C.Chronicle self.old }
-        requires told { AreTellable done (state_now C.Chronicle self.old) (seen_of D.Disk R.Directory self.old).device.faults ahead.now.due.items ahead.now.fates.items }
+        requires pieces { ArePieces self.old }
+        requires told { AreTellable done (state_now self.old)
+            (seen_of self.old).device.faults ahead.now.due.items ahead.now.fates.items }
         requires records { length (told_of done ahead.now.due.items ahead.now.fates.items) ≤ C.room self.old.chronicle }
-        ensures pieces { ArePieces D.Disk R.Directory C.Chronicle self.new }
-        ensures adds { kept_of C.Chronicle self.new ≡ with_records (kept_of C.Chronicle self.old) (told_of done ahead.now.due.items ahead.now.fates.items) }
-        ensures rest { SameButRows (seen_of D.Disk R.Directory self.old) (seen_of D.Disk R.Directory self.new) }
+        ensures pieces { ArePieces self.new }
+        ensures adds { kept_of self.new ≡ with_records (kept_of self.old)
+            (told_of done ahead.now.due.items ahead.now.fates.items) }
+        ensures rest { SameButRows (seen_of self.old) (seen_of self.new) }
         ensures room { C.room self.old.chronicle ≤ C.room self.new.chronicle + length (told_of done ahead.now.due.items ahead.now.fates.items) }
     {
         for i in 0..ahead.due.len() {
@@ -101,12 +112,14 @@ impl<D: Disk, R: Directory + Drop, C: Chronicle> Pieces<D, R, C> {
     }
 
     fn tell_of(&mut self, candidate: Candidate, fate: Fate, done: bool)
-        requires pieces { ArePieces D.Disk R.Directory C.Chronicle self.old }
-        requires told { IsTellable (state_now C.Chronicle self.old) (seen_of D.Disk R.Directory self.old).device.faults candidate fate }
+        requires pieces { ArePieces self.old }
+        requires told { IsTellable (state_now self.old)
+            (seen_of self.old).device.faults candidate fate }
         requires records { length (told_by done candidate fate) ≤ C.room self.old.chronicle }
-        ensures pieces { ArePieces D.Disk R.Directory C.Chronicle self.new }
-        ensures adds { kept_of C.Chronicle self.new ≡ with_records (kept_of C.Chronicle self.old) (told_by done candidate fate) }
-        ensures rest { SameButRows (seen_of D.Disk R.Directory self.old) (seen_of D.Disk R.Directory self.new) }
+        ensures pieces { ArePieces self.new }
+        ensures adds { kept_of self.new ≡ with_records (kept_of self.old)
+            (told_by done candidate fate) }
+        ensures rest { SameButRows (seen_of self.old) (seen_of self.new) }
         ensures room { C.room self.old.chronicle ≤ C.room self.new.chronicle + length (told_by done candidate fate) }
     {
         let Candidate { id, place, .. } = candidate;
@@ -122,10 +135,11 @@ impl<D: Disk, R: Directory + Drop, C: Chronicle> Pieces<D, R, C> {
     }
 
     fn leave(&mut self, candidate: Candidate, fault: bool, done: bool)
-        requires pieces { ArePieces D.Disk R.Directory C.Chronicle self.old }
+        requires pieces { ArePieces self.old }
         requires records { length (left_records done candidate fault) ≤ C.room self.old.chronicle }
-        ensures pieces { ArePieces D.Disk R.Directory C.Chronicle self.new }
-        ensures adds { kept_of C.Chronicle self.new ≡ with_records (kept_of C.Chronicle self.old) (left_records done candidate fault) }
+        ensures pieces { ArePieces self.new }
+        ensures adds { kept_of self.new ≡ with_records (kept_of self.old)
+            (left_records done candidate fault) }
         ensures cyclone { self.new.cyclone ≡ self.old.cyclone }
         ensures room { C.room self.old.chronicle ≤ C.room self.new.chronicle + length (left_records done candidate fault) }
     {
@@ -136,17 +150,20 @@ impl<D: Disk, R: Directory + Drop, C: Chronicle> Pieces<D, R, C> {
 
     // Copies the documents that stand in memory into the buffer.
     fn copy(&mut self, ahead: &Ahead)
-        requires pieces { ArePieces D.Disk R.Directory C.Chronicle self.old }
+        requires pieces { ArePieces self.old }
         requires plain { R.purges ≡ false }
-        requires copied { AreCopyable (state_now C.Chronicle self.old) 0 ahead.now.due.items ahead.now.fates.items ahead.now.bytes.items }
+        requires copied { AreCopyable (state_now self.old) 0 ahead.now.due.items
+            ahead.now.fates.items ahead.now.bytes.items }
         requires records { copies_among ahead.now.fates.items ≤ C.room self.old.chronicle }
-        requires entries { copies_among ahead.now.fates.items ≤ (seen_of D.Disk R.Directory self.old).spare }
-        ensures pieces { ArePieces D.Disk R.Directory C.Chronicle self.new }
-        ensures adds { kept_of C.Chronicle self.new ≡ with_records (kept_of C.Chronicle self.old)
-            (copied_of (state_now C.Chronicle self.old) 0 ahead.now.due.items ahead.now.fates.items ahead.now.bytes.items) }
-        ensures still { (seen_of D.Disk R.Directory self.new).device ≡ (seen_of D.Disk R.Directory self.old).device }
-        ensures uses { Uses (copies_among ahead.now.fates.items) (copies_among ahead.now.fates.items) 0 0
-            (C.room self.old.chronicle) (C.room self.new.chronicle) (seen_of D.Disk R.Directory self.old) (seen_of D.Disk R.Directory self.new) }
+        requires entries { copies_among ahead.now.fates.items ≤ (seen_of self.old).spare }
+        ensures pieces { ArePieces self.new }
+        ensures adds { kept_of self.new ≡ with_records (kept_of self.old)
+            (copied_of (state_now self.old) 0 ahead.now.due.items ahead.now.fates.items
+            ahead.now.bytes.items) }
+        ensures still { (seen_of self.new).device ≡ (seen_of self.old).device }
+        ensures uses { Uses (copies_among ahead.now.fates.items)
+            (copies_among ahead.now.fates.items) 0 0 (C.room self.old.chronicle)
+            (C.room self.new.chronicle) (seen_of self.old) (seen_of self.new) }
     {
         let mut at = 0;
         for i in 0..ahead.due.len() {
@@ -163,16 +180,17 @@ impl<D: Disk, R: Directory + Drop, C: Chronicle> Pieces<D, R, C> {
 
     // Copies a piece, where its document was read and is its own.
     fn copy_one(&mut self, candidate: Candidate, fate: Fate, bytes: &[u8])
-        requires pieces { ArePieces D.Disk R.Directory C.Chronicle self.old }
+        requires pieces { ArePieces self.old }
         requires plain { R.purges ≡ false }
-        requires copied { IsCopyableWhereCopied (state_now C.Chronicle self.old) candidate fate bytes.now }
+        requires copied { IsCopyableWhereCopied (state_now self.old) candidate fate bytes.now }
         requires records { copies_by fate ≤ C.room self.old.chronicle }
-        requires entries { copies_by fate ≤ (seen_of D.Disk R.Directory self.old).spare }
-        ensures pieces { ArePieces D.Disk R.Directory C.Chronicle self.new }
-        ensures adds { kept_of C.Chronicle self.new ≡ with_records (kept_of C.Chronicle self.old) (copied_by (state_now C.Chronicle self.old) candidate fate bytes.now) }
-        ensures still { (seen_of D.Disk R.Directory self.new).device ≡ (seen_of D.Disk R.Directory self.old).device }
-        ensures uses { Uses (copies_by fate) (copies_by fate) 0 0
-            (C.room self.old.chronicle) (C.room self.new.chronicle) (seen_of D.Disk R.Directory self.old) (seen_of D.Disk R.Directory self.new) }
+        requires entries { copies_by fate ≤ (seen_of self.old).spare }
+        ensures pieces { ArePieces self.new }
+        ensures adds { kept_of self.new ≡ with_records (kept_of self.old)
+            (copied_by (state_now self.old) candidate fate bytes.now) }
+        ensures still { (seen_of self.new).device ≡ (seen_of self.old).device }
+        ensures uses { Uses (copies_by fate) (copies_by fate) 0 0 (C.room self.old.chronicle)
+            (C.room self.new.chronicle) (seen_of self.old) (seen_of self.new) }
     {
         match fate {
             Fate::Copied { pinned } => self.move_here(candidate, pinned, bytes),
@@ -183,16 +201,17 @@ impl<D: Disk, R: Directory + Drop, C: Chronicle> Pieces<D, R, C> {
     }
 
     fn move_here(&mut self, candidate: Candidate, pinned: bool, bytes: &[u8])
-        requires pieces { ArePieces D.Disk R.Directory C.Chronicle self.old }
+        requires pieces { ArePieces self.old }
         requires plain { R.purges ≡ false }
-        requires copied { IsCopyable (state_now C.Chronicle self.old) candidate bytes.now }
+        requires copied { IsCopyable (state_now self.old) candidate bytes.now }
         requires record { 1 ≤ C.room self.old.chronicle }
-        requires entry { 1 ≤ (seen_of D.Disk R.Directory self.old).spare }
-        ensures pieces { ArePieces D.Disk R.Directory C.Chronicle self.new }
-        ensures adds { kept_of C.Chronicle self.new ≡ with_records (kept_of C.Chronicle self.old) (copied_record (state_now C.Chronicle self.old) candidate bytes.now ∷ []) }
-        ensures still { (seen_of D.Disk R.Directory self.new).device ≡ (seen_of D.Disk R.Directory self.old).device }
+        requires entry { 1 ≤ (seen_of self.old).spare }
+        ensures pieces { ArePieces self.new }
+        ensures adds { kept_of self.new ≡ with_records (kept_of self.old)
+            (copied_record (state_now self.old) candidate bytes.now ∷ []) }
+        ensures still { (seen_of self.new).device ≡ (seen_of self.old).device }
         ensures uses { Uses 1 1 0 0 (C.room self.old.chronicle) (C.room self.new.chronicle)
-            (seen_of D.Disk R.Directory self.old) (seen_of D.Disk R.Directory self.new) }
+            (seen_of self.old) (seen_of self.new) }
     {
         let Candidate {
             id,

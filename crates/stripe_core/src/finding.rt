@@ -27,19 +27,20 @@ impl<D: Disk, R: Directory + Drop, C: Chronicle> Pieces<D, R, C> {
     /// Reads a live piece and brings its payload to the front of `into`, which has room for its blocks,
     /// or tells why there is none. Bytes that are not its own are recorded, and its entry goes.
     pub fn find(&mut self, id: PieceId, into: &mut [u8]) -> Found
-        requires pieces { ArePieces D.Disk R.Directory C.Chronicle self.old }
+        requires pieces { ArePieces self.old }
         requires record { 1 ≤ C.room self.old.chronicle }
-        requires into { HasRoomFor (state_now C.Chronicle self.old) id into.old }
-        ensures pieces { ArePieces D.Disk R.Directory C.Chronicle self.new }
-        ensures adds { kept_of C.Chronicle self.new
-            ≡ with_records (kept_of C.Chronicle self.old) (find_adds (state_now C.Chronicle self.old) id result) }
-        ensures finds { Finds (state_now C.Chronicle self.old) (seen_of D.Disk R.Directory self.old).device
-            (seen_of D.Disk R.Directory self.new).device id result into.new }
+        requires into { HasRoomFor (state_now self.old) id into.old }
+        ensures pieces { ArePieces self.new }
+        ensures adds { kept_of self.new
+            ≡ with_records (kept_of self.old) (find_adds (state_now self.old) id result) }
+        ensures finds { Finds (state_now self.old) (seen_of self.old).device
+            (seen_of self.new).device id result into.new }
         // A device that tells its content shows each piece as it was placed.
-        ensures unharmed { TellsAll (seen_of D.Disk R.Directory self.new).device → TellNoDamage (find_adds (state_now C.Chronicle self.old) id result) }
-        ensures unwritten { IsUnwritten (seen_of D.Disk R.Directory self.old).device (seen_of D.Disk R.Directory self.new).device }
+        ensures unharmed { TellsAll (seen_of self.new).device
+            → TellNoDamage (find_adds (state_now self.old) id result) }
+        ensures unwritten { IsUnwritten (seen_of self.old).device (seen_of self.new).device }
         ensures uses { Uses 1 0 0 0 (C.room self.old.chronicle) (C.room self.new.chronicle)
-            (seen_of D.Disk R.Directory self.old) (seen_of D.Disk R.Directory self.new) }
+            (seen_of self.old) (seen_of self.new) }
     {
         match self.whereabouts(id) {
             Some(place) => self.read(id, place, into),
@@ -48,20 +49,21 @@ impl<D: Disk, R: Directory + Drop, C: Chronicle> Pieces<D, R, C> {
     }
 
     fn read(&mut self, id: PieceId, place: u64, into: &mut [u8]) -> Found
-        requires pieces { ArePieces D.Disk R.Directory C.Chronicle self.old }
+        requires pieces { ArePieces self.old }
         requires record { 1 ≤ C.room self.old.chronicle }
-        requires into { HasRoomFor (state_now C.Chronicle self.old) id into.old }
-        requires live { live_place_of (state_now C.Chronicle self.old) id ≡ Some place }
-        ensures pieces { ArePieces D.Disk R.Directory C.Chronicle self.new }
-        ensures adds { kept_of C.Chronicle self.new
-            ≡ with_records (kept_of C.Chronicle self.old) (find_adds (state_now C.Chronicle self.old) id result) }
-        ensures finds { Finds (state_now C.Chronicle self.old) (seen_of D.Disk R.Directory self.old).device
-            (seen_of D.Disk R.Directory self.new).device id result into.new }
+        requires into { HasRoomFor (state_now self.old) id into.old }
+        requires live { live_place_of (state_now self.old) id ≡ Some place }
+        ensures pieces { ArePieces self.new }
+        ensures adds { kept_of self.new
+            ≡ with_records (kept_of self.old) (find_adds (state_now self.old) id result) }
+        ensures finds { Finds (state_now self.old) (seen_of self.old).device
+            (seen_of self.new).device id result into.new }
         // A device that tells its content shows each piece as it was placed.
-        ensures unharmed { TellsAll (seen_of D.Disk R.Directory self.new).device → TellNoDamage (find_adds (state_now C.Chronicle self.old) id result) }
-        ensures unwritten { IsUnwritten (seen_of D.Disk R.Directory self.old).device (seen_of D.Disk R.Directory self.new).device }
+        ensures unharmed { TellsAll (seen_of self.new).device
+            → TellNoDamage (find_adds (state_now self.old) id result) }
+        ensures unwritten { IsUnwritten (seen_of self.old).device (seen_of self.new).device }
         ensures uses { Uses 1 0 0 0 (C.room self.old.chronicle) (C.room self.new.chronicle)
-            (seen_of D.Disk R.Directory self.old) (seen_of D.Disk R.Directory self.new) }
+            (seen_of self.old) (seen_of self.new) }
     {
         let (blocks, kept) = self.recorded(id, place);
         match load(&mut self.cyclone, place, blocks, into) {
@@ -76,16 +78,15 @@ impl<D: Disk, R: Directory + Drop, C: Chronicle> Pieces<D, R, C> {
 
     // The blocks and the digest of a live piece.
     fn recorded(&self, id: PieceId, place: u64) -> (u32, Digest)
-        requires pieces { ArePieces D.Disk R.Directory C.Chronicle self.now }
-        requires live { live_place_of (state_now C.Chronicle self.now) id ≡ Some place }
-        ensures recorded { IsRecorded (state_now C.Chronicle self.now) id place result.0 result.1 }
+        requires pieces { ArePieces self.now }
+        requires live { live_place_of (state_now self.now) id ≡ Some place }
+        ensures recorded { IsRecorded (state_now self.now) id place result.0 result.1 }
         ensures some { 0 < result.0 }
-        ensures few { result.0 ≤ budget_of (state_now C.Chronicle self.now).geometry }
-        ensures stored { IsStored (seen_of D.Disk R.Directory self.now) place result.0 }
+        ensures few { result.0 ≤ budget_of (state_now self.now).geometry }
+        ensures stored { IsStored (seen_of self.now) place result.0 }
     {
-        let blocks = self.chronicle.size_of(id).unwrap();
-        let digest = self.chronicle.digest_of(id).unwrap();
-        (blocks, digest)
+        let piece = self.chronicle.live_of(id).unwrap();
+        (piece.blocks, piece.digest)
     }
 
     // What was read in front of `into` is the piece, or is damaged.
@@ -97,18 +98,19 @@ impl<D: Disk, R: Directory + Drop, C: Chronicle> Pieces<D, R, C> {
         blocks: u32,
         into: &mut [u8],
     ) -> Found
-        requires pieces { ArePieces D.Disk R.Directory C.Chronicle self.old }
+        requires pieces { ArePieces self.old }
         requires record { 1 ≤ C.room self.old.chronicle }
-        requires live { live_place_of (state_now C.Chronicle self.old) id ≡ Some place }
+        requires live { live_place_of (state_now self.old) id ≡ Some place }
         requires some { 0 < blocks }
         requires within { 512 * blocks ≤ length into.old }
         requires few { 512 * blocks ≤ 2 ^ 31 }
-        ensures pieces { ArePieces D.Disk R.Directory C.Chronicle self.new }
-        ensures adds { kept_of C.Chronicle self.new ≡ with_records (kept_of C.Chronicle self.old) (judged_records id place result) }
+        ensures pieces { ArePieces self.new }
+        ensures adds { kept_of self.new ≡ with_records (kept_of self.old)
+            (judged_records id place result) }
         ensures judges { IsJudged place kept (take (512 * blocks) into.old) result into.new }
-        ensures still { (seen_of D.Disk R.Directory self.new).device ≡ (seen_of D.Disk R.Directory self.old).device }
+        ensures still { (seen_of self.new).device ≡ (seen_of self.old).device }
         ensures uses { Uses 1 0 0 0 (C.room self.old.chronicle) (C.room self.new.chronicle)
-            (seen_of D.Disk R.Directory self.old) (seen_of D.Disk R.Directory self.new) }
+            (seen_of self.old) (seen_of self.new) }
     {
         let size = blocks as usize * BLOCK;
         let found = document_digest(&into[..size]);
@@ -130,14 +132,15 @@ pub(crate) fn load<D: Disk, R: Directory + Drop>(
     blocks: u32,
     into: &mut [u8],
 ) -> Result<(), Failed>
-    requires turns { IsCyclone D.Disk R.Directory cyclone.old }
+    requires turns { IsCyclone cyclone.old }
     requires some { 0 < blocks }
     requires within { 512 * blocks ≤ length into.old }
-    requires stored { IsStored (seen D.Disk R.Directory cyclone.old) place blocks }
-    ensures turns { IsCyclone D.Disk R.Directory cyclone.new }
-    ensures same { SameTape (seen D.Disk R.Directory cyclone.old) (seen D.Disk R.Directory cyclone.new) }
-    ensures reads { Reads (seen D.Disk R.Directory cyclone.old) (seen D.Disk R.Directory cyclone.new) place blocks result (take (512 * blocks) into.new) }
-    ensures buffered { (seen D.Disk R.Directory cyclone.old).buffer.cursor ≤ place → IsOk result }
+    requires stored { IsStored (seen cyclone.old) place blocks }
+    ensures turns { IsCyclone cyclone.new }
+    ensures same { SameTape (seen cyclone.old) (seen cyclone.new) }
+    ensures reads { Reads (seen cyclone.old) (seen cyclone.new) place blocks result
+        (take (512 * blocks) into.new) }
+    ensures buffered { (seen cyclone.old).buffer.cursor ≤ place → IsOk result }
     ensures length { length into.new ≡ length into.old }
 {
     cyclone.read(place, &mut into[..blocks as usize * BLOCK])

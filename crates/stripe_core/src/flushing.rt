@@ -21,46 +21,52 @@ use logged_disk::Disk;
 use stripe_actors::Actors;
 use tape_base::{LIMIT, blocks_of};
 
-// Where no buffer begins, and no piece that is placed ends. The copies of a flush may stand above.
+// No piece that is placed or copied ends at the limit: a buffer is written out only where the half of
+// the next one that takes the copies ends below it.
 impl<D: Disk, R: Directory + Drop, C: Chronicle> Pieces<D, R, C> {
     ghost use Rattle.stripe_core.specs.Pieces.{ArePieces, kept_of, seen_of, state_now};
 
     /// Writes the buffer out where it is not empty, begins the next one, and copies into it what is
     /// due at a moment. What is due is read before the buffer is written.
     pub fn flush(&mut self, now: u64, actors: &Actors, ahead: &mut Ahead) -> Result<Flushed, Stop>
-        requires pieces { ArePieces D.Disk R.Directory C.Chronicle self.old }
-        requires quiet { IsQuiet (state_now C.Chronicle self.old) }
+        requires pieces { ArePieces self.old }
+        requires quiet { IsQuiet (state_now self.old) }
         requires plain { R.purges ≡ false }
-        requires actors { AreActors (state_now C.Chronicle self.old) actors.now }
-        requires ahead { IsMadeFor (state_now C.Chronicle self.old).geometry ahead.old }
-        requires records { 2 * most_passed (state_now C.Chronicle self.old).geometry + 1 ≤ C.room self.old.chronicle }
-        requires entries { budget_of (state_now C.Chronicle self.old).geometry ≤ (seen_of D.Disk R.Directory self.old).spare }
-        requires calls { 1 ≤ (seen_of D.Disk R.Directory self.old).device.calls }
-        requires blocks { (seen_of D.Disk R.Directory self.old).geometry.agg ≤ (seen_of D.Disk R.Directory self.old).device.blocks }
-        ensures pieces { ArePieces D.Disk R.Directory C.Chronicle self.new }
-        ensures does { FlushesAsAsked now (kept_of C.Chronicle self.old) (kept_of C.Chronicle self.new) (seen_of D.Disk R.Directory self.old).device.past
-            (seen_of D.Disk R.Directory self.new).device result }
-        ensures tells { IfOk result (Tells (state_now C.Chronicle self.old) (state_now C.Chronicle self.new)) }
-        ensures stops { IfErr result (StopsWith (state_now C.Chronicle self.old) (seen_of D.Disk R.Directory self.new).device.faults) }
-        ensures ahead { IsMadeFor (state_now C.Chronicle self.old).geometry ahead.new }
-        ensures uses { let g = (seen_of D.Disk R.Directory self.old).geometry in Uses (2 * most_passed g + 1) (budget_of g) 1 g.agg
-            (C.room self.old.chronicle) (C.room self.new.chronicle) (seen_of D.Disk R.Directory self.old) (seen_of D.Disk R.Directory self.new) }
+        requires actors { AreActors (state_now self.old) actors.now }
+        requires ahead { IsMadeFor (state_now self.old).geometry ahead.old }
+        requires records { 2 * most_passed (state_now self.old).geometry + 1
+            ≤ C.room self.old.chronicle }
+        requires entries { budget_of (state_now self.old).geometry ≤ (seen_of self.old).spare }
+        requires calls { 1 ≤ (seen_of self.old).device.calls }
+        requires blocks { (seen_of self.old).geometry.agg ≤ (seen_of self.old).device.blocks }
+        ensures pieces { ArePieces self.new }
+        ensures does { FlushesAsAsked now (kept_of self.old) (kept_of self.new)
+            (seen_of self.old).device.past (seen_of self.new).device result }
+        ensures tells { IfOk result (Tells (state_now self.old) (state_now self.new)) }
+        ensures stops { IfErr result (StopsWith (state_now self.old)
+            (seen_of self.new).device.faults) }
+        ensures ahead { IsMadeFor (state_now self.old).geometry ahead.new }
+        ensures uses { let g = (seen_of self.old).geometry in
+            Uses (2 * most_passed g + 1) (budget_of g) 1 g.agg (C.room self.old.chronicle)
+            (C.room self.new.chronicle) (seen_of self.old) (seen_of self.new) }
         // Half of the buffer at least is free then.
-        ensures room { OnOk result ((state_now C.Chronicle self.new).filled ≤ budget_of (state_now C.Chronicle self.new).geometry) }
+        ensures room { OnOk result ((state_now self.new).filled
+            ≤ budget_of (state_now self.new).geometry) }
         // An empty buffer asks no device.
-        ensures still { (state_now C.Chronicle self.old).filled ≡ 0
-            → (seen_of D.Disk R.Directory self.new).device ≡ (seen_of D.Disk R.Directory self.old).device }
-        // Nor does one whose next buffer would begin at the end of the tape.
-        ensures ended { is_flush_exhausted (state_now C.Chronicle self.old) ≡ true
-            → (seen_of D.Disk R.Directory self.new).device ≡ (seen_of D.Disk R.Directory self.old).device }
+        ensures still { (state_now self.old).filled ≡ 0
+            → (seen_of self.new).device ≡ (seen_of self.old).device }
+        // Nor does one whose copies might reach the end of the tape.
+        ensures ended { is_flush_exhausted (state_now self.old) ≡ true
+            → (seen_of self.new).device ≡ (seen_of self.old).device }
     {
         let blocks = (self.cyclone.next_place() - self.cyclone.cursor()) as u32;
         if blocks == 0 {
             return Ok(self.flushed(blocks));
         }
         let next = self.cyclone.next_cursor();
-        if next >= LIMIT {
-            return Err(Stop::Exhausted { number: next });
+        let end = next + (self.cyclone.geometry().agg / 2) as u64;
+        if end >= LIMIT {
+            return Err(Stop::Exhausted { number: end });
         }
         self.look_ahead(now, actors, ahead);
         match self.cyclone.write_out() {
@@ -73,10 +79,10 @@ impl<D: Disk, R: Directory + Drop, C: Chronicle> Pieces<D, R, C> {
     }
 
     fn flushed(&self, blocks: u32) -> Flushed
-        requires { ArePieces D.Disk R.Directory C.Chronicle self.now }
+        requires { ArePieces self.now }
         ensures blocks { result.blocks ≡ blocks }
-        ensures cursor { result.cursor ≡ (state_now C.Chronicle self.now).cursor }
-        ensures floor { result.floor ≡ floor_now (state_now C.Chronicle self.now) }
+        ensures cursor { result.cursor ≡ (state_now self.now).cursor }
+        ensures floor { result.floor ≡ floor_now (state_now self.now) }
     {
         Flushed {
             blocks,
@@ -93,28 +99,31 @@ impl<D: Disk, R: Directory + Drop, C: Chronicle> Pieces<D, R, C> {
         actors: &Actors,
         ahead: &mut Ahead,
     ) -> Result<(), Stop>
-        requires pieces { ArePieces D.Disk R.Directory C.Chronicle self.old }
-        requires quiet { IsQuiet (state_now C.Chronicle self.old) }
+        requires pieces { ArePieces self.old }
+        requires quiet { IsQuiet (state_now self.old) }
         requires plain { R.purges ≡ false }
-        requires actors { AreActors (state_now C.Chronicle self.old) actors.now }
-        requires ahead { IsMadeFor (state_now C.Chronicle self.old).geometry ahead.old }
-        requires small { blocks_of bytes ≤ budget_of (state_now C.Chronicle self.old).geometry }
+        requires actors { AreActors (state_now self.old) actors.now }
+        requires ahead { IsMadeFor (state_now self.old).geometry ahead.old }
+        requires small { blocks_of bytes ≤ budget_of (state_now self.old).geometry }
         requires size { bytes ≤ 2147483648 }
-        requires records { 2 * most_passed (state_now C.Chronicle self.old).geometry + 1 ≤ C.room self.old.chronicle }
-        requires entries { budget_of (state_now C.Chronicle self.old).geometry ≤ (seen_of D.Disk R.Directory self.old).spare }
-        requires calls { 1 ≤ (seen_of D.Disk R.Directory self.old).device.calls }
-        requires blocks { (seen_of D.Disk R.Directory self.old).geometry.agg ≤ (seen_of D.Disk R.Directory self.old).device.blocks }
-        ensures pieces { ArePieces D.Disk R.Directory C.Chronicle self.new }
-        ensures does { RoomsAsAsked now (kept_of C.Chronicle self.old) (kept_of C.Chronicle self.new) (seen_of D.Disk R.Directory self.old).device.past
-            (seen_of D.Disk R.Directory self.new).device bytes result }
-        ensures room { OnOk result (has_room (state_now C.Chronicle self.new) bytes ≡ true) }
-        ensures full { OnErr result (has_room (state_now C.Chronicle self.old) bytes ≡ false) }
-        ensures stops { IfErr result (StopsWith (state_now C.Chronicle self.old) (seen_of D.Disk R.Directory self.new).device.faults) }
-        ensures ahead { IsMadeFor (state_now C.Chronicle self.old).geometry ahead.new }
-        ensures still { has_room (state_now C.Chronicle self.old) bytes ≡ true
-            → (seen_of D.Disk R.Directory self.new).device ≡ (seen_of D.Disk R.Directory self.old).device }
-        ensures uses { let g = (seen_of D.Disk R.Directory self.old).geometry in Uses (2 * most_passed g + 1) (budget_of g) 1 g.agg
-            (C.room self.old.chronicle) (C.room self.new.chronicle) (seen_of D.Disk R.Directory self.old) (seen_of D.Disk R.Directory self.new) }
+        requires records { 2 * most_passed (state_now self.old).geometry + 1
+            ≤ C.room self.old.chronicle }
+        requires entries { budget_of (state_now self.old).geometry ≤ (seen_of self.old).spare }
+        requires calls { 1 ≤ (seen_of self.old).device.calls }
+        requires blocks { (seen_of self.old).geometry.agg ≤ (seen_of self.old).device.blocks }
+        ensures pieces { ArePieces self.new }
+        ensures does { RoomsAsAsked now (kept_of self.old) (kept_of self.new)
+            (seen_of self.old).device.past (seen_of self.new).device bytes result }
+        ensures room { OnOk result (has_room (state_now self.new) bytes ≡ true) }
+        ensures full { OnErr result (has_room (state_now self.old) bytes ≡ false) }
+        ensures stops { IfErr result (StopsWith (state_now self.old)
+            (seen_of self.new).device.faults) }
+        ensures ahead { IsMadeFor (state_now self.old).geometry ahead.new }
+        ensures still { has_room (state_now self.old) bytes ≡ true
+            → (seen_of self.new).device ≡ (seen_of self.old).device }
+        ensures uses { let g = (seen_of self.old).geometry in
+            Uses (2 * most_passed g + 1) (budget_of g) 1 g.agg (C.room self.old.chronicle)
+            (C.room self.new.chronicle) (seen_of self.old) (seen_of self.new) }
     {
         if blocks_of(bytes) <= self.cyclone.room() {
             return Ok(());

@@ -28,16 +28,16 @@ impl<D: Disk, R: Directory + Drop, C: Chronicle> Pieces<D, R, C> {
 
     /// Finds what is due at a moment, and reads what the budget keeps of it.
     pub(crate) fn look_ahead(&mut self, now: u64, actors: &Actors, ahead: &mut Ahead)
-        requires pieces { ArePieces D.Disk R.Directory C.Chronicle self.old }
-        requires actors { AreActors (state_now C.Chronicle self.old) actors.now }
-        requires ahead { IsMadeFor (state_now C.Chronicle self.old).geometry ahead.old }
-        ensures pieces { ArePieces D.Disk R.Directory C.Chronicle self.new }
+        requires pieces { ArePieces self.old }
+        requires actors { AreActors (state_now self.old) actors.now }
+        requires ahead { IsMadeFor (state_now self.old).geometry ahead.old }
+        ensures pieces { ArePieces self.new }
         ensures chronicle { self.new.chronicle ≡ self.old.chronicle }
-        ensures same { SameTape (seen_of D.Disk R.Directory self.old) (seen_of D.Disk R.Directory self.new) }
-        ensures asked { IsAsked (seen_of D.Disk R.Directory self.old).device (seen_of D.Disk R.Directory self.new).device }
-        ensures ahead { IsMadeFor (state_now C.Chronicle self.old).geometry ahead.new }
-        ensures looks { LooksAhead now (state_now C.Chronicle self.old) (seen_of D.Disk R.Directory self.old).device
-            (seen_of D.Disk R.Directory self.new).device ahead.new }
+        ensures same { SameTape (seen_of self.old) (seen_of self.new) }
+        ensures asked { IsAsked (seen_of self.old).device (seen_of self.new).device }
+        ensures ahead { IsMadeFor (state_now self.old).geometry ahead.new }
+        ensures looks { LooksAhead now (state_now self.old) (seen_of self.old).device
+            (seen_of self.new).device ahead.new }
     {
         let g = self.cyclone.geometry();
         let next = floor_of(g, self.cyclone.next_cursor());
@@ -56,21 +56,22 @@ impl<D: Disk, R: Directory + Drop, C: Chronicle> Pieces<D, R, C> {
 
     // Reads the pieces that are kept, one behind the other into memory, and notes what came of each.
     fn read_kept(&mut self, ahead: &mut Ahead)
-        requires pieces { ArePieces D.Disk R.Directory C.Chronicle self.old }
-        requires ahead { IsMadeFor (state_now C.Chronicle self.old).geometry ahead.old }
-        requires rows { HasRows (state_now C.Chronicle self.old) ahead.old.due.items }
-        requires few { length ahead.old.due.items ≤ most_passed (state_now C.Chronicle self.old).geometry }
-        requires choice { IsChoice (budget_of (state_now C.Chronicle self.old).geometry) (blocks_of_all ahead.old.due.items)
+        requires pieces { ArePieces self.old }
+        requires ahead { IsMadeFor (state_now self.old).geometry ahead.old }
+        requires rows { HasRows (state_now self.old) ahead.old.due.items }
+        requires few { length ahead.old.due.items ≤ most_passed (state_now self.old).geometry }
+        requires choice { IsChoice (budget_of (state_now self.old).geometry)
+            (blocks_of_all ahead.old.due.items)
             (take (length ahead.old.due.items) ahead.old.kept.items) }
-        ensures pieces { ArePieces D.Disk R.Directory C.Chronicle self.new }
+        ensures pieces { ArePieces self.new }
         ensures chronicle { self.new.chronicle ≡ self.old.chronicle }
-        ensures same { SameTape (seen_of D.Disk R.Directory self.old) (seen_of D.Disk R.Directory self.new) }
-        ensures asked { IsAsked (seen_of D.Disk R.Directory self.old).device (seen_of D.Disk R.Directory self.new).device }
-        ensures ahead { IsMadeFor (state_now C.Chronicle self.old).geometry ahead.new }
+        ensures same { SameTape (seen_of self.old) (seen_of self.new) }
+        ensures asked { IsAsked (seen_of self.old).device (seen_of self.new).device }
+        ensures ahead { IsMadeFor (state_now self.old).geometry ahead.new }
         ensures due { ahead.new.due.items ≡ ahead.old.due.items }
-        ensures looked { (rows : List Row) → AreOfRows (state_now C.Chronicle self.old) ahead.old.due.items rows
-            → (end : ℕ) × Looked (state_now C.Chronicle self.old) (seen_of D.Disk R.Directory self.old).device
-            (seen_of D.Disk R.Directory self.new).device rows end ahead.new }
+        ensures looked { (rows : List Row) → AreOfRows (state_now self.old) ahead.old.due.items rows
+            → (end : ℕ) × Looked (state_now self.old) (seen_of self.old).device
+            (seen_of self.new).device rows end ahead.new }
     {
         ahead.fates.clear();
         let mut at = 0;
@@ -81,28 +82,30 @@ impl<D: Disk, R: Directory + Drop, C: Chronicle> Pieces<D, R, C> {
 
     // Reads a piece behind those before it, if it is kept, and notes what came of it.
     fn look_at(&mut self, i: usize, at: usize, ahead: &mut Ahead) -> usize
-        requires pieces { ArePieces D.Disk R.Directory C.Chronicle self.old }
-        requires ahead { IsMadeFor (state_now C.Chronicle self.old).geometry ahead.old }
+        requires pieces { ArePieces self.old }
+        requires ahead { IsMadeFor (state_now self.old).geometry ahead.old }
         requires within { i < length ahead.old.due.items }
-        requires few { length ahead.old.due.items ≤ most_passed (state_now C.Chronicle self.old).geometry }
-        requires rows { HasRows (state_now C.Chronicle self.old) ahead.old.due.items }
+        requires few { length ahead.old.due.items ≤ most_passed (state_now self.old).geometry }
+        requires rows { HasRows (state_now self.old) ahead.old.due.items }
         requires fates { length ahead.old.fates.items ≡ i }
-        requires room { at ≤ budget_of (state_now C.Chronicle self.old).geometry }
+        requires room { at ≤ budget_of (state_now self.old).geometry }
         requires choice { slice_get ahead.old.kept.items i
-            ≡ Some (nat_le (slice_index (blocks_of_all ahead.old.due.items) i + at) (budget_of (state_now C.Chronicle self.old).geometry)) }
-        ensures pieces { ArePieces D.Disk R.Directory C.Chronicle self.new }
+            ≡ Some (nat_le (slice_index (blocks_of_all ahead.old.due.items) i + at)
+            (budget_of (state_now self.old).geometry)) }
+        ensures pieces { ArePieces self.new }
         ensures chronicle { self.new.chronicle ≡ self.old.chronicle }
-        ensures same { SameTape (seen_of D.Disk R.Directory self.old) (seen_of D.Disk R.Directory self.new) }
-        ensures asked { IsAsked (seen_of D.Disk R.Directory self.old).device (seen_of D.Disk R.Directory self.new).device }
-        ensures ahead { IsMadeFor (state_now C.Chronicle self.old).geometry ahead.new }
+        ensures same { SameTape (seen_of self.old) (seen_of self.new) }
+        ensures asked { IsAsked (seen_of self.old).device (seen_of self.new).device }
+        ensures ahead { IsMadeFor (state_now self.old).geometry ahead.new }
         ensures due { ahead.new.due ≡ ahead.old.due }
         ensures kept { ahead.new.kept ≡ ahead.old.kept }
         ensures fates { length ahead.new.fates.items ≡ i + 1 }
         ensures taken { result ≡ at + blocks_kept ahead.old.due.items ahead.old.kept.items i }
-        ensures room { result ≤ budget_of (state_now C.Chronicle self.old).geometry }
-        ensures looks { (row : Row) → slice_get ahead.old.due.items i ≡ Some (candidate_of row) → MayBeCopied (state_now C.Chronicle self.old) row
-            → LooksOn (state_now C.Chronicle self.old) (seen_of D.Disk R.Directory self.old).device
-            (seen_of D.Disk R.Directory self.new).device row at result ahead.old ahead.new }
+        ensures room { result ≤ budget_of (state_now self.old).geometry }
+        ensures looks { (row : Row) → slice_get ahead.old.due.items i ≡ Some (candidate_of row)
+            → MayBeCopied (state_now self.old) row
+            → LooksOn (state_now self.old) (seen_of self.old).device
+            (seen_of self.new).device row at result ahead.old ahead.new }
     {
         if !ahead.kept[i] {
             ahead.fates.push(Fate::NoRoom).unwrap();
@@ -117,16 +120,17 @@ impl<D: Disk, R: Directory + Drop, C: Chronicle> Pieces<D, R, C> {
 
     // Reads a piece that is to be copied, and compares it with its digest.
     fn read_ahead(&mut self, candidate: Candidate, into: &mut [u8]) -> Fate
-        requires pieces { ArePieces D.Disk R.Directory C.Chronicle self.old }
-        requires row { HasRow (state_now C.Chronicle self.old) candidate }
+        requires pieces { ArePieces self.old }
+        requires row { HasRow (state_now self.old) candidate }
         requires into { length into.old ≡ 512 * candidate.blocks }
-        ensures pieces { ArePieces D.Disk R.Directory C.Chronicle self.new }
+        ensures pieces { ArePieces self.new }
         ensures chronicle { self.new.chronicle ≡ self.old.chronicle }
-        ensures same { SameTape (seen_of D.Disk R.Directory self.old) (seen_of D.Disk R.Directory self.new) }
-        ensures asked { IsAsked (seen_of D.Disk R.Directory self.old).device (seen_of D.Disk R.Directory self.new).device }
-        ensures comes { (row : Row) → candidate ≡ candidate_of row → MayBeCopied (state_now C.Chronicle self.old) row
-            → Comes (state_now C.Chronicle self.old) (seen_of D.Disk R.Directory self.old).device
-            (seen_of D.Disk R.Directory self.new).device row result into.new }
+        ensures same { SameTape (seen_of self.old) (seen_of self.new) }
+        ensures asked { IsAsked (seen_of self.old).device (seen_of self.new).device }
+        ensures comes { (row : Row) → candidate ≡ candidate_of row
+            → MayBeCopied (state_now self.old) row
+            → Comes (state_now self.old) (seen_of self.old).device
+            (seen_of self.new).device row result into.new }
     {
         match load(&mut self.cyclone, candidate.place, candidate.blocks, into) {
             Ok(()) => self.compare(candidate, into),
@@ -137,18 +141,22 @@ impl<D: Disk, R: Directory + Drop, C: Chronicle> Pieces<D, R, C> {
     }
 
     fn compare(&self, candidate: Candidate, bytes: &[u8]) -> Fate
-        requires row { HasRow (state_now C.Chronicle self.now) candidate }
+        requires row { HasRow (state_now self.now) candidate }
         requires some { 0 < length bytes.now }
-        ensures { (row : Row) → candidate ≡ candidate_of row → MayBeCopied (state_now C.Chronicle self.now) row → IsJudgedAs row bytes.now result }
+        ensures { (row : Row) → candidate ≡ candidate_of row → MayBeCopied (state_now self.now) row
+            → IsJudgedAs row bytes.now result }
     {
-        let kept = self.chronicle.digest_of(candidate.id).unwrap();
+        let piece = self.chronicle.live_of(candidate.id).unwrap();
         let found = document_digest(bytes);
-        if found == kept {
+        if found == piece.digest {
             Fate::Copied {
-                pinned: self.chronicle.pin_of(candidate.id).unwrap() != 0,
+                pinned: piece.pin != 0,
             }
         } else {
-            Fate::Spoiled { kept, found }
+            Fate::Spoiled {
+                kept: piece.digest,
+                found,
+            }
         }
     }
 }

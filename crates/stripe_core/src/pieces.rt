@@ -27,6 +27,9 @@ const RECORDS: usize = 4;
 pub struct Pieces<D: Disk, R: Directory + Drop, C: Chronicle> {
     pub(crate) cyclone: Cyclone<D, R>,
     pub(crate) chronicle: C,
+    // Of any chronicle: with it the type carries what `C` tells of itself, beside what the cyclone's
+    // type carries.
+    ghost told: { 0 ≤ C.room chronicle },
 }
 
 impl<D: Disk, R: Directory + Drop, C: Chronicle> Pieces<D, R, C> {
@@ -41,9 +44,9 @@ impl<D: Disk, R: Directory + Drop, C: Chronicle> Pieces<D, R, C> {
     ) -> Result<Pieces<D, R, C>, (AllocError, D, C)>
         requires sized { g.content ≤ (D.state disk).size }
         requires empty { C.kept chronicle ≡ all_of [] }
-        ensures pieces { IfOk result (ArePieces D.Disk R.Directory C.Chronicle) }
-        ensures records { IfOk result (λ p. kept_of C.Chronicle p ≡ all_of (format_records g)) }
-        ensures device { IfOk result (λ p. (seen_of D.Disk R.Directory p).device ≡ D.state disk) }
+        ensures pieces { IfOk result ArePieces }
+        ensures records { IfOk result (λ p. kept_of p ≡ all_of (format_records g)) }
+        ensures device { IfOk result (λ p. (seen_of p).device ≡ D.state disk) }
         ensures back { IfErr result (λ r. (r.1 ≡ disk) × (C.kept r.2 ≡ all_of [])) }
     {
         let mut chronicle = chronicle;
@@ -57,11 +60,12 @@ impl<D: Disk, R: Directory + Drop, C: Chronicle> Pieces<D, R, C> {
     }
 
     fn begun(cyclone: Cyclone<D, R>, chronicle: C) -> Pieces<D, R, C>
-        requires turns { IsCyclone D.Disk R.Directory cyclone }
+        requires turns { IsCyclone cyclone }
         requires room { 2 ≤ C.room chronicle }
         requires empty { C.kept chronicle ≡ all_of [] }
         ensures same { result.cyclone ≡ cyclone }
-        ensures records { C.kept result.chronicle ≡ all_of (format_records (seen D.Disk R.Directory cyclone).geometry) }
+        ensures records { C.kept result.chronicle
+            ≡ all_of (format_records (seen cyclone).geometry) }
     {
         let mut chronicle = chronicle;
         records::formatted(&mut chronicle, cyclone.geometry());
@@ -71,17 +75,20 @@ impl<D: Disk, R: Directory + Drop, C: Chronicle> Pieces<D, R, C> {
     /// Makes room for so many calls, each with its pieces and records, and on the device for at
     /// least so many flushes.
     pub fn prepare(&mut self, units: u32, flushes: u32) -> Result<(), AllocError>
-        requires { ArePieces D.Disk R.Directory C.Chronicle self.old }
-        ensures pieces { ArePieces D.Disk R.Directory C.Chronicle self.new }
-        ensures records { kept_of C.Chronicle self.new ≡ kept_of C.Chronicle self.old }
-        ensures same { SameButRoom (seen_of D.Disk R.Directory self.old) (seen_of D.Disk R.Directory self.new) }
-        ensures record { OnOk result (records_of_unit (seen_of D.Disk R.Directory self.old).geometry * units ≤ C.room self.new.chronicle) }
+        requires { ArePieces self.old }
+        ensures pieces { ArePieces self.new }
+        ensures records { kept_of self.new ≡ kept_of self.old }
+        ensures same { SameButRoom (seen_of self.old) (seen_of self.new) }
+        ensures record { OnOk result (records_of_unit (seen_of self.old).geometry * units ≤ C.room self.new.chronicle) }
         ensures room { C.room self.old.chronicle ≤ C.room self.new.chronicle }
-        ensures spare { OnOk result (entries_of_unit (seen_of D.Disk R.Directory self.old).geometry * units ≤ (seen_of D.Disk R.Directory self.new).spare) }
-        ensures device { let old = (seen_of D.Disk R.Directory self.old).device in
-            OnOk result (Affords flushes (flushes * (seen_of D.Disk R.Directory self.old).geometry.agg) old (seen_of D.Disk R.Directory self.new).device) }
-        ensures none { OnErr result (Affords 0 0 (seen_of D.Disk R.Directory self.old).device (seen_of D.Disk R.Directory self.new).device) }
-        ensures keeps { Keeps 0 0 (seen_of D.Disk R.Directory self.old).device (seen_of D.Disk R.Directory self.new).device }
+        ensures spare { OnOk result (entries_of_unit (seen_of self.old).geometry * units
+            ≤ (seen_of self.new).spare) }
+        ensures device { let old = (seen_of self.old).device in
+            OnOk result (Affords flushes (flushes * (seen_of self.old).geometry.agg) old
+            (seen_of self.new).device) }
+        ensures none { OnErr result (Affords 0 0 (seen_of self.old).device
+            (seen_of self.new).device) }
+        ensures keeps { Keeps 0 0 (seen_of self.old).device (seen_of self.new).device }
     {
         let g = self.cyclone.geometry();
         let entries = (g.agg as usize / 2 + 1) * units as usize;
@@ -91,15 +98,15 @@ impl<D: Disk, R: Directory + Drop, C: Chronicle> Pieces<D, R, C> {
 
     /// Gives the device and the chronicle back.
     pub fn into_parts(self) -> (D, C)
-        ensures device { D.state result.0 ≡ (seen_of D.Disk R.Directory self).device }
-        ensures records { C.kept result.1 ≡ kept_of C.Chronicle self }
+        ensures device { D.state result.0 ≡ (seen_of self).device }
+        ensures records { C.kept result.1 ≡ kept_of self }
     {
         let Pieces { cyclone, chronicle } = self;
         (cyclone.into_disk(), chronicle)
     }
 
     pub fn chronicle(&self) -> &C
-        ensures { C.kept result.now ≡ kept_of C.Chronicle self.now }
+        ensures { C.kept result.now ≡ kept_of self.now }
     {
         &self.chronicle
     }
@@ -107,8 +114,8 @@ impl<D: Disk, R: Directory + Drop, C: Chronicle> Pieces<D, R, C> {
     /// The place of a live piece, by a walk over the places that its key may have. It reads no
     /// device.
     pub fn whereabouts(&self, id: PieceId) -> Option<u64>
-        requires { ArePieces D.Disk R.Directory C.Chronicle self.now }
-        ensures { result ≡ live_place_of (state_now C.Chronicle self.now) id }
+        requires { ArePieces self.now }
+        ensures { result ≡ live_place_of (state_now self.now) id }
     {
         let directory = self.cyclone.directory();
         let mut walk = directory.candidates(Key::of_piece(id));

@@ -34,25 +34,28 @@ impl<D: Disk, R: Directory + Drop, C: Chronicle> Pieces<D, R, C> {
         actors: &Actors,
         ahead: &mut Ahead,
     ) -> Result<Placed, Stop>
-        requires pieces { ArePieces D.Disk R.Directory C.Chronicle self.old }
+        requires pieces { ArePieces self.old }
         requires plain { R.purges ≡ false }
-        requires actors { AreActors (state_now C.Chronicle self.old) actors.now }
-        requires ahead { IsMadeFor (state_now C.Chronicle self.old).geometry ahead.old }
-        requires new { IsNew (state_now C.Chronicle self.old) id payload.now }
+        requires actors { AreActors (state_now self.old) actors.now }
+        requires ahead { IsMadeFor (state_now self.old).geometry ahead.old }
+        requires new { IsNew (state_now self.old) id payload.now }
         requires size { length payload.now ≤ 2 ^ 31 }
-        requires fragment { IsFragmentOf (state_now C.Chronicle self.old) id pin start payload.now }
-        requires records { 2 * most_passed (state_now C.Chronicle self.old).geometry + 3 ≤ C.room self.old.chronicle }
-        requires entries { budget_of (state_now C.Chronicle self.old).geometry + 1 ≤ (seen_of D.Disk R.Directory self.old).spare }
-        requires calls { 1 ≤ (seen_of D.Disk R.Directory self.old).device.calls }
-        requires blocks { (seen_of D.Disk R.Directory self.old).geometry.agg ≤ (seen_of D.Disk R.Directory self.old).device.blocks }
-        ensures pieces { ArePieces D.Disk R.Directory C.Chronicle self.new }
-        ensures does { CutsAsAsked now (kept_of C.Chronicle self.old) (kept_of C.Chronicle self.new) (seen_of D.Disk R.Directory self.old).device.past
-            (seen_of D.Disk R.Directory self.new).device id pin start payload.now result }
-        ensures ahead { IsMadeFor (state_now C.Chronicle self.old).geometry ahead.new }
-        ensures still { has_room (state_now C.Chronicle self.old) (length payload.now) ≡ true
-            → (seen_of D.Disk R.Directory self.new).device ≡ (seen_of D.Disk R.Directory self.old).device }
-        ensures uses { let g = (seen_of D.Disk R.Directory self.old).geometry in Uses (2 * most_passed g + 3) (budget_of g + 1) 1 g.agg
-            (C.room self.old.chronicle) (C.room self.new.chronicle) (seen_of D.Disk R.Directory self.old) (seen_of D.Disk R.Directory self.new) }
+        requires fragment { IsFragmentOf (state_now self.old) id pin start payload.now }
+        requires records { 2 * most_passed (state_now self.old).geometry + 3
+            ≤ C.room self.old.chronicle }
+        requires entries { budget_of (state_now self.old).geometry + 1 ≤ (seen_of self.old).spare }
+        requires calls { 1 ≤ (seen_of self.old).device.calls }
+        requires blocks { (seen_of self.old).geometry.agg ≤ (seen_of self.old).device.blocks }
+        ensures pieces { ArePieces self.new }
+        ensures does { CutsAsAsked now (kept_of self.old) (kept_of self.new)
+            (seen_of self.old).device.past
+            (seen_of self.new).device id pin start payload.now result }
+        ensures ahead { IsMadeFor (state_now self.old).geometry ahead.new }
+        ensures still { has_room (state_now self.old) (length payload.now) ≡ true
+            → (seen_of self.new).device ≡ (seen_of self.old).device }
+        ensures uses { let g = (seen_of self.old).geometry in
+            Uses (2 * most_passed g + 3) (budget_of g + 1) 1 g.agg (C.room self.old.chronicle)
+            (C.room self.new.chronicle) (seen_of self.old) (seen_of self.new) }
     {
         match self.make_room(payload.len() as u32, now, actors, ahead) {
             Ok(()) => self.place(id, pin, start, payload),
@@ -68,20 +71,20 @@ impl<D: Disk, R: Directory + Drop, C: Chronicle> Pieces<D, R, C> {
         start: u64,
         payload: &[u8],
     ) -> Result<Placed, Stop>
-        requires pieces { ArePieces D.Disk R.Directory C.Chronicle self.old }
+        requires pieces { ArePieces self.old }
         requires plain { R.purges ≡ false }
-        requires new { IsNew (state_now C.Chronicle self.old) id payload.now }
+        requires new { IsNew (state_now self.old) id payload.now }
         requires size { length payload.now ≤ 2 ^ 31 }
-        requires room { has_room (state_now C.Chronicle self.old) (length payload.now) ≡ true }
+        requires room { has_room (state_now self.old) (length payload.now) ≡ true }
         requires records { 2 ≤ C.room self.old.chronicle }
-        requires entry { 1 ≤ (seen_of D.Disk R.Directory self.old).spare }
-        ensures pieces { ArePieces D.Disk R.Directory C.Chronicle self.new }
-        ensures adds { kept_of C.Chronicle self.new
-            ≡ with_records (kept_of C.Chronicle self.old) (place_adds (state_now C.Chronicle self.old) id pin start payload.now result) }
-        ensures at { PlacesAt (state_now C.Chronicle self.old) payload.now result }
-        ensures still { (seen_of D.Disk R.Directory self.new).device ≡ (seen_of D.Disk R.Directory self.old).device }
+        requires entry { 1 ≤ (seen_of self.old).spare }
+        ensures pieces { ArePieces self.new }
+        ensures adds { kept_of self.new ≡ with_records (kept_of self.old)
+            (place_adds (state_now self.old) id pin start payload.now result) }
+        ensures at { PlacesAt (state_now self.old) payload.now result }
+        ensures still { (seen_of self.new).device ≡ (seen_of self.old).device }
         ensures uses { Uses 2 1 0 0 (C.room self.old.chronicle) (C.room self.new.chronicle)
-            (seen_of D.Disk R.Directory self.old) (seen_of D.Disk R.Directory self.new) }
+            (seen_of self.old) (seen_of self.new) }
     {
         let place = self.cyclone.next_place();
         let end = place + blocks_of(payload.len() as u32) as u64;
@@ -100,21 +103,21 @@ impl<D: Disk, R: Directory + Drop, C: Chronicle> Pieces<D, R, C> {
     }
 
     fn put(&mut self, doc: &Doc, payload: &[u8]) -> Digest
-        requires pieces { ArePieces D.Disk R.Directory C.Chronicle self.old }
+        requires pieces { ArePieces self.old }
         requires plain { R.purges ≡ false }
-        requires new { IsNew (state_now C.Chronicle self.old) doc.now.id payload.now }
-        requires doc { let d = doc.now in d ≡ doc_at (state_now C.Chronicle self.old) d.id d.pin d.start }
+        requires new { IsNew (state_now self.old) doc.now.id payload.now }
+        requires doc { let d = doc.now in d ≡ doc_at (state_now self.old) d.id d.pin d.start }
         requires size { length payload.now ≤ 2 ^ 31 }
-        requires room { has_room (state_now C.Chronicle self.old) (length payload.now) ≡ true }
+        requires room { has_room (state_now self.old) (length payload.now) ≡ true }
         requires records { 2 ≤ C.room self.old.chronicle }
-        requires entry { 1 ≤ (seen_of D.Disk R.Directory self.old).spare }
-        ensures pieces { ArePieces D.Disk R.Directory C.Chronicle self.new }
-        ensures adds { let d = doc.now in kept_of C.Chronicle self.new
-            ≡ with_records (kept_of C.Chronicle self.old) (piece_records (state_now C.Chronicle self.old) d.id d.pin d.start payload.now) }
+        requires entry { 1 ≤ (seen_of self.old).spare }
+        ensures pieces { ArePieces self.new }
+        ensures adds { let d = doc.now in kept_of self.new ≡ with_records (kept_of self.old)
+            (piece_records (state_now self.old) d.id d.pin d.start payload.now) }
         ensures digest { result ≡ digest_of payload.now }
-        ensures still { (seen_of D.Disk R.Directory self.new).device ≡ (seen_of D.Disk R.Directory self.old).device }
+        ensures still { (seen_of self.new).device ≡ (seen_of self.old).device }
         ensures uses { Uses 2 1 0 0 (C.room self.old.chronicle) (C.room self.new.chronicle)
-            (seen_of D.Disk R.Directory self.old) (seen_of D.Disk R.Directory self.new) }
+            (seen_of self.old) (seen_of self.new) }
     {
         let length = payload.len() as u32;
         let put = self.cyclone.put(doc, payload);

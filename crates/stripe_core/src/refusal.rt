@@ -37,7 +37,8 @@ pub enum Found {
 pub enum Stop {
     /// The device refused a call, and its count of faults then stood at `count`.
     DeviceFault { count: u64 },
-    /// This place would reach the end of the tape.
+    /// This place would reach the end of the tape: that at which a piece would end, or, where the
+    /// buffer was to be written out, the latest at which its copies end.
     Exhausted { number: u64 },
 }
 

@@ -4,7 +4,7 @@ ghost use Rattle.tape_base.specs.Blocks.{blocks_of};
 ghost use Rattle.tape_base.specs.Geometry.{budget_of};
 ghost use Rattle.cache_model.specs.State.{floor_now};
 ghost use Rattle.cache_model.specs.Kept.{all_of, with_records};
-ghost use Rattle.cache_model.specs.Legal.{IsQuiet, format_records};
+ghost use Rattle.cache_model.specs.Legal.{format_records};
 ghost use Rattle.cache_model.specs.Room.{has_room, is_flush_exhausted};
 ghost use Rattle.cache_model.specs.Verdict.{payload_of_piece};
 ghost use Rattle.stripe_core.specs.Flush.{FlushesAsAsked, StopsWith, Tells};
@@ -38,8 +38,8 @@ pub struct Stripe<D: Disk, R: Directory + Drop, C: Chronicle> {
 
 impl<D: Disk, R: Directory + Drop, C: Chronicle> Stripe<D, R, C> {
     ghost use Rattle.stripe_core.specs.Pieces.{live_place_of};
-    ghost use Rattle.stripe_core.specs.Stripe.{Answers, HasMemory, IsSpared, IsStill, IsStripe, IsUnwritten, RowIsMade, Wanting, alloc_in, flushes_in, kept_in, room_for, seen_in, state_in, units_in};
-    ghost use Rattle.stripe_core.specs.Between.{Between};
+    ghost use Rattle.stripe_core.specs.Stripe.{alloc_in, Answers, flushes_in, HasMemory, IsSpared, IsStill, IsStripe, IsUnwritten, IsWanting, kept_in, room_for, RowIsMade, seen_in, state_in, units_in, Wanting};
+    ghost use Rattle.stripe_core.specs.Between.{Continues, IsResting};
 
     /// Begins a session on an empty content area. A refusal gives back the device and the chronicle.
     pub fn format(
@@ -51,11 +51,12 @@ impl<D: Disk, R: Directory + Drop, C: Chronicle> Stripe<D, R, C> {
         requires sized { g.content ≤ (D.state disk).size }
         requires empty { C.kept chronicle ≡ all_of [] }
         requires plain { R.purges ≡ false }
-        ensures stripe { IfOk result (IsStripe D.Disk R.Directory C.Chronicle) }
-        ensures records { IfOk result (λ t. kept_in C.Chronicle t ≡ all_of (format_records g)) }
-        ensures device { IfOk result (λ t. (seen_in D.Disk R.Directory t).device ≡ D.state disk) }
+        ensures stripe { IfOk result IsStripe }
+        ensures records { IfOk result (λ t. kept_in t ≡ all_of (format_records g)) }
+        ensures device { IfOk result (λ t. (seen_in t).device ≡ D.state disk) }
         ensures alloc { IfOk result (λ t. alloc_in t ≡ alloc) }
         ensures back { IfErr result (λ r. (r.1 ≡ disk) × (C.kept r.2 ≡ all_of [])) }
+        ensures memory { IfErr result (λ r. IsWanting r.0) }
     {
         let ahead = match Ahead::new(alloc, &g) {
             Ok(ahead) => ahead,
@@ -76,8 +77,8 @@ impl<D: Disk, R: Directory + Drop, C: Chronicle> Stripe<D, R, C> {
 
     /// Gives the device and the chronicle back.
     pub fn into_parts(self) -> (D, C)
-        ensures device { D.state result.0 ≡ (seen_in D.Disk R.Directory self).device }
-        ensures records { C.kept result.1 ≡ kept_in C.Chronicle self }
+        ensures device { D.state result.0 ≡ (seen_in self).device }
+        ensures records { C.kept result.1 ≡ kept_in self }
     {
         let Stripe { pieces, .. } = self;
         pieces.into_parts()
@@ -91,44 +92,44 @@ impl<D: Disk, R: Directory + Drop, C: Chronicle> Stripe<D, R, C> {
     }
 
     pub fn chronicle(&self) -> &C
-        ensures { C.kept result.now ≡ kept_in C.Chronicle self.now }
+        ensures { C.kept result.now ≡ kept_in self.now }
     {
         self.pieces.chronicle()
     }
 
     pub fn disk(&self) -> &D
-        ensures { D.state result.now ≡ (seen_in D.Disk R.Directory self.now).device }
+        ensures { D.state result.now ≡ (seen_in self.now).device }
     {
         self.pieces.cyclone.disk()
     }
 
     pub fn geometry(&self) -> &Geometry
-        requires { IsStripe D.Disk R.Directory C.Chronicle self.now }
-        ensures { result.now ≡ (state_in C.Chronicle self.now).geometry }
+        requires { IsStripe self.now }
+        ensures { result.now ≡ (state_in self.now).geometry }
     {
         self.pieces.cyclone.geometry()
     }
 
     /// Where the buffer begins.
     pub fn cursor(&self) -> u64
-        requires { IsStripe D.Disk R.Directory C.Chronicle self.now }
-        ensures { result ≡ (state_in C.Chronicle self.now).cursor }
+        requires { IsStripe self.now }
+        ensures { result ≡ (state_in self.now).cursor }
     {
         self.pieces.cyclone.cursor()
     }
 
     /// The least place that may be read.
     pub fn floor(&self) -> u64
-        requires { IsStripe D.Disk R.Directory C.Chronicle self.now }
-        ensures { result ≡ floor_now (state_in C.Chronicle self.now) }
+        requires { IsStripe self.now }
+        ensures { result ≡ floor_now (state_in self.now) }
     {
         self.pieces.cyclone.floor()
     }
 
     /// How many blocks the buffer still takes.
     pub fn room(&self) -> u32
-        requires { IsStripe D.Disk R.Directory C.Chronicle self.now }
-        ensures { let s = state_in C.Chronicle self.now in result + s.filled ≡ s.geometry.agg }
+        requires { IsStripe self.now }
+        ensures { let s = state_in self.now in result + s.filled ≡ s.geometry.agg }
     {
         self.pieces.cyclone.room()
     }
@@ -141,8 +142,8 @@ impl<D: Disk, R: Directory + Drop, C: Chronicle> Stripe<D, R, C> {
 
     /// The place of a live piece. It reads no device and takes no memory.
     pub fn whereabouts(&self, id: PieceId) -> Option<u64>
-        requires { IsStripe D.Disk R.Directory C.Chronicle self.now }
-        ensures { result ≡ live_place_of (state_in C.Chronicle self.now) id }
+        requires { IsStripe self.now }
+        ensures { result ≡ live_place_of (state_in self.now) id }
     {
         self.pieces.whereabouts(id)
     }
@@ -150,7 +151,7 @@ impl<D: Disk, R: Directory + Drop, C: Chronicle> Stripe<D, R, C> {
     /// The digest of the payload of a live fragment, as the records tell it. It reads no device and takes
     /// no memory.
     pub fn payload_of(&self, id: PieceId) -> Option<Digest>
-        ensures { result ≡ payload_of_piece (state_in C.Chronicle self.now) id }
+        ensures { result ≡ payload_of_piece (state_in self.now) id }
     {
         self.pieces.chronicle().payload_of(id)
     }
@@ -159,22 +160,25 @@ impl<D: Disk, R: Directory + Drop, C: Chronicle> Stripe<D, R, C> {
     /// a buffer, what the next floor passes of pieces that are pinned past `now` or that an open reader
     /// has still to be given.
     pub fn flush(&mut self, now: u64) -> Result<Flushed, Refusal>
-        requires stripe { IsStripe D.Disk R.Directory C.Chronicle self.old }
-        requires quiet { IsQuiet (state_in C.Chronicle self.old) }
-        ensures stripe { IsStripe D.Disk R.Directory C.Chronicle self.new }
-        ensures unharmed { Between D.Disk R.Directory C.Chronicle self.old self.new }
-        ensures does { Answers result (FlushesAsAsked now (kept_in C.Chronicle self.old) (kept_in C.Chronicle self.new)
-            (seen_in D.Disk R.Directory self.old).device.past (seen_in D.Disk R.Directory self.new).device) (kept_in C.Chronicle self.new ≡ kept_in C.Chronicle self.old) }
+        requires resting { IsResting self.old }
+        ensures continues { Continues self.old self.new }
+        ensures does { Answers result (FlushesAsAsked now (kept_in self.old) (kept_in self.new)
+            (seen_in self.old).device.past (seen_in self.new).device) (kept_in self.new
+            ≡ kept_in self.old) }
         ensures row { (put : ℕ) → room_for put self.new.actors ≡ room_for put self.old.actors }
-        ensures tells { IfOk result (Tells (state_in C.Chronicle self.old) (state_in C.Chronicle self.new)) }
-        ensures room { OnOk result ((state_in C.Chronicle self.new).filled ≤ budget_of (state_in C.Chronicle self.new).geometry) }
-        ensures stops { Answers result (λ r. IfErr r (StopsWith (state_in C.Chronicle self.old) (seen_in D.Disk R.Directory self.new).device.faults)) (Unit {0}) }
-        ensures later { (seen_in D.Disk R.Directory self.old).device.faults ≤ (seen_in D.Disk R.Directory self.new).device.faults }
+        ensures tells { IfOk result (Tells (state_in self.old) (state_in self.new)) }
+        ensures room { OnOk result ((state_in self.new).filled
+            ≤ budget_of (state_in self.new).geometry) }
+        ensures stops { Answers result (λ r. IfErr r
+            (StopsWith (state_in self.old) (seen_in self.new).device.faults)) (Unit {0}) }
         // Where nothing is written the device stays as it is, but for the memory of its calls.
-        ensures still { (state_in C.Chronicle self.old).filled ≡ 0 → IsStill (seen_in D.Disk R.Directory self.old).device (seen_in D.Disk R.Directory self.new).device }
-        ensures ended { is_flush_exhausted (state_in C.Chronicle self.old) ≡ true → IsStill (seen_in D.Disk R.Directory self.old).device (seen_in D.Disk R.Directory self.new).device }
+        ensures still { (state_in self.old).filled ≡ 0
+            → IsStill (seen_in self.old).device (seen_in self.new).device }
+        ensures ended { is_flush_exhausted (state_in self.old) ≡ true
+            → IsStill (seen_in self.old).device (seen_in self.new).device }
         // Memory comes before the device is asked.
-        ensures untouched { Wanting result (IsStill (seen_in D.Disk R.Directory self.old).device (seen_in D.Disk R.Directory self.new).device) }
+        ensures untouched { Wanting result (IsStill (seen_in self.old).device
+            (seen_in self.new).device) }
         ensures memory { 0 < units_in self.old → HasMemory result }
         ensures unit { units_in self.old ≤ units_in self.new + 1 }
     {
@@ -190,21 +194,22 @@ impl<D: Disk, R: Directory + Drop, C: Chronicle> Stripe<D, R, C> {
 
     /// Flushes where a piece with so many bytes of payload has no room.
     pub fn make_room(&mut self, bytes: u32, now: u64) -> Result<(), Refusal>
-        requires stripe { IsStripe D.Disk R.Directory C.Chronicle self.old }
-        requires quiet { IsQuiet (state_in C.Chronicle self.old) }
-        requires small { blocks_of bytes ≤ budget_of (state_in C.Chronicle self.old).geometry }
-        ensures stripe { IsStripe D.Disk R.Directory C.Chronicle self.new }
-        ensures unharmed { Between D.Disk R.Directory C.Chronicle self.old self.new }
-        ensures does { Answers result (RoomsAsAsked now (kept_in C.Chronicle self.old) (kept_in C.Chronicle self.new)
-            (seen_in D.Disk R.Directory self.old).device.past (seen_in D.Disk R.Directory self.new).device bytes) (kept_in C.Chronicle self.new ≡ kept_in C.Chronicle self.old) }
-        ensures room { OnOk result (has_room (state_in C.Chronicle self.new) bytes ≡ true) }
-        ensures full { OnErr result (has_room (state_in C.Chronicle self.old) bytes ≡ false) }
-        ensures stops { Answers result (λ r. IfErr r (StopsWith (state_in C.Chronicle self.old) (seen_in D.Disk R.Directory self.new).device.faults)) (Unit {0}) }
-        ensures later { (seen_in D.Disk R.Directory self.old).device.faults ≤ (seen_in D.Disk R.Directory self.new).device.faults }
+        requires resting { IsResting self.old }
+        requires small { blocks_of bytes ≤ budget_of (state_in self.old).geometry }
+        ensures continues { Continues self.old self.new }
+        ensures does { Answers result (RoomsAsAsked now (kept_in self.old) (kept_in self.new)
+            (seen_in self.old).device.past (seen_in self.new).device bytes) (kept_in self.new
+            ≡ kept_in self.old) }
+        ensures room { OnOk result (has_room (state_in self.new) bytes ≡ true) }
+        ensures full { OnErr result (has_room (state_in self.old) bytes ≡ false) }
+        ensures stops { Answers result (λ r. IfErr r
+            (StopsWith (state_in self.old) (seen_in self.new).device.faults)) (Unit {0}) }
         ensures row { (put : ℕ) → room_for put self.new.actors ≡ room_for put self.old.actors }
         // With room the device is not asked.
-        ensures still { has_room (state_in C.Chronicle self.old) bytes ≡ true → IsStill (seen_in D.Disk R.Directory self.old).device (seen_in D.Disk R.Directory self.new).device }
-        ensures untouched { Wanting result (IsStill (seen_in D.Disk R.Directory self.old).device (seen_in D.Disk R.Directory self.new).device) }
+        ensures still { has_room (state_in self.old) bytes ≡ true
+            → IsStill (seen_in self.old).device (seen_in self.new).device }
+        ensures untouched { Wanting result (IsStill (seen_in self.old).device
+            (seen_in self.new).device) }
         ensures memory { 0 < units_in self.old → HasMemory result }
         ensures unit { units_in self.old ≤ units_in self.new + 1 }
     {
@@ -220,19 +225,18 @@ impl<D: Disk, R: Directory + Drop, C: Chronicle> Stripe<D, R, C> {
     /// Reads a live piece and brings its payload to the front of `into`, which has room for its blocks,
     /// or tells why there is none. Bytes that are not its own are recorded, and its entry goes.
     pub fn find_piece(&mut self, id: PieceId, into: &mut [u8]) -> Result<Found, AllocError>
-        requires stripe { IsStripe D.Disk R.Directory C.Chronicle self.old }
-        requires into { HasRoomFor (state_in C.Chronicle self.old) id into.old }
-        ensures stripe { IsStripe D.Disk R.Directory C.Chronicle self.new }
-        ensures unharmed { Between D.Disk R.Directory C.Chronicle self.old self.new }
-        ensures adds { IfOk result (λ found. kept_in C.Chronicle self.new
-            ≡ with_records (kept_in C.Chronicle self.old) (find_adds (state_in C.Chronicle self.old) id found)) }
-        ensures finds { IfOk result (λ found. Finds (state_in C.Chronicle self.old) (seen_in D.Disk R.Directory self.old).device
-            (seen_in D.Disk R.Directory self.new).device id found into.new) }
-        ensures err { OnErr result (kept_in C.Chronicle self.new ≡ kept_in C.Chronicle self.old) }
+        requires stripe { IsStripe self.old }
+        requires into { HasRoomFor (state_in self.old) id into.old }
+        ensures continues { Continues self.old self.new }
+        ensures adds { IfOk result (λ found. kept_in self.new
+            ≡ with_records (kept_in self.old) (find_adds (state_in self.old) id found)) }
+        ensures finds { IfOk result (λ found. Finds (state_in self.old) (seen_in self.old).device
+            (seen_in self.new).device id found into.new) }
+        ensures err { OnErr result (kept_in self.new ≡ kept_in self.old) }
         // The device shows what it showed, whatever it answers.
-        ensures unwritten { IsUnwritten (seen_in D.Disk R.Directory self.old).device (seen_in D.Disk R.Directory self.new).device }
-        ensures untouched { OnErr result (IsStill (seen_in D.Disk R.Directory self.old).device (seen_in D.Disk R.Directory self.new).device) }
-        ensures later { (seen_in D.Disk R.Directory self.old).device.faults ≤ (seen_in D.Disk R.Directory self.new).device.faults }
+        ensures unwritten { IsUnwritten (seen_in self.old).device (seen_in self.new).device }
+        ensures untouched { OnErr result (IsStill (seen_in self.old).device
+            (seen_in self.new).device) }
         ensures row { (put : ℕ) → room_for put self.new.actors ≡ room_for put self.old.actors }
         ensures memory { 0 < units_in self.old → IsOk result }
         ensures unit { units_in self.old ≤ units_in self.new + 1 }
@@ -243,15 +247,14 @@ impl<D: Disk, R: Directory + Drop, C: Chronicle> Stripe<D, R, C> {
 
     /// Makes memory for so many calls, and for the next fragment of a put.
     pub fn prepare(&mut self, put: Option<u64>, units: u32) -> Result<(), AllocError>
-        requires stripe { IsStripe D.Disk R.Directory C.Chronicle self.old }
-        requires open { IfSome put (λ n. is_writing (state_in C.Chronicle self.old) n ≡ true) }
-        ensures stripe { IsStripe D.Disk R.Directory C.Chronicle self.new }
-        ensures unharmed { Between D.Disk R.Directory C.Chronicle self.old self.new }
-        ensures records { kept_in C.Chronicle self.new ≡ kept_in C.Chronicle self.old }
+        requires stripe { IsStripe self.old }
+        requires open { IfSome put (λ n. is_writing (state_in self.old) n ≡ true) }
+        ensures continues { Continues self.old self.new }
+        ensures records { kept_in self.new ≡ kept_in self.old }
         ensures units { OnOk result (units ≤ units_in self.new) }
         ensures row { OnOk result (IfSome put (λ n. 0 < room_for n self.new.actors)) }
         ensures more { units_in self.old ≤ units_in self.new }
-        ensures still { IsStill (seen_in D.Disk R.Directory self.old).device (seen_in D.Disk R.Directory self.new).device }
+        ensures still { IsStill (seen_in self.old).device (seen_in self.new).device }
     {
         self.make_row(put)?;
         self.make_units(units)
@@ -259,14 +262,13 @@ impl<D: Disk, R: Directory + Drop, C: Chronicle> Stripe<D, R, C> {
 
     // Makes memory for the next fragment of a put.
     fn make_row(&mut self, put: Option<u64>) -> Result<(), AllocError>
-        requires stripe { IsStripe D.Disk R.Directory C.Chronicle self.old }
-        requires open { IfSome put (λ n. is_writing (state_in C.Chronicle self.old) n ≡ true) }
-        ensures stripe { IsStripe D.Disk R.Directory C.Chronicle self.new }
-        ensures unharmed { Between D.Disk R.Directory C.Chronicle self.old self.new }
-        ensures records { kept_in C.Chronicle self.new ≡ kept_in C.Chronicle self.old }
+        requires stripe { IsStripe self.old }
+        requires open { IfSome put (λ n. is_writing (state_in self.old) n ≡ true) }
+        ensures continues { Continues self.old self.new }
+        ensures records { kept_in self.new ≡ kept_in self.old }
         ensures row { OnOk result (IfSome put (λ n. 0 < room_for n self.new.actors)) }
         ensures units { units_in self.new ≡ units_in self.old }
-        ensures still { seen_in D.Disk R.Directory self.new ≡ seen_in D.Disk R.Directory self.old }
+        ensures still { seen_in self.new ≡ seen_in self.old }
     {
         match put {
             Some(put) => self.actors.reserve_cut(put),
@@ -284,17 +286,17 @@ impl<D: Disk, R: Directory + Drop, C: Chronicle> Stripe<D, R, C> {
         payload: &[u8],
         now: u64,
     ) -> Result<Placed, Refusal>
-        requires stripe { IsStripe D.Disk R.Directory C.Chronicle self.old }
-        requires placing { IsPlacing (state_in C.Chronicle self.old) id pin start payload.now }
-        ensures stripe { IsStripe D.Disk R.Directory C.Chronicle self.new }
-        ensures unharmed { Between D.Disk R.Directory C.Chronicle self.old self.new }
-        ensures does { Answers result (PlacesAsAsked now (kept_in C.Chronicle self.old) (kept_in C.Chronicle self.new) (seen_in D.Disk R.Directory self.old).device.past
-            (seen_in D.Disk R.Directory self.new).device id pin start payload.now) (kept_in C.Chronicle self.new ≡ kept_in C.Chronicle self.old) }
+        requires stripe { IsStripe self.old }
+        requires placing { IsPlacing (state_in self.old) id pin start payload.now }
+        ensures continues { Continues self.old self.new }
+        ensures does { Answers result (PlacesAsAsked now (kept_in self.old) (kept_in self.new)
+            (seen_in self.old).device.past (seen_in self.new).device id pin start payload.now)
+            (kept_in self.new ≡ kept_in self.old) }
         // Without a flush the device stays as it is, but for the memory of its calls.
-        ensures still { has_room (state_in C.Chronicle self.old) (length payload.now) ≡ true
-            → IsStill (seen_in D.Disk R.Directory self.old).device (seen_in D.Disk R.Directory self.new).device }
-        ensures untouched { Wanting result (IsStill (seen_in D.Disk R.Directory self.old).device (seen_in D.Disk R.Directory self.new).device) }
-        ensures later { (seen_in D.Disk R.Directory self.old).device.faults ≤ (seen_in D.Disk R.Directory self.new).device.faults }
+        ensures still { has_room (state_in self.old) (length payload.now) ≡ true
+            → IsStill (seen_in self.old).device (seen_in self.new).device }
+        ensures untouched { Wanting result (IsStill (seen_in self.old).device
+            (seen_in self.new).device) }
         // Of a fragment, memory of a row is made too.
         ensures memory { 0 < units_in self.old → RowIsMade id self.old.actors → HasMemory result }
         ensures unit { units_in self.old ≤ units_in self.new + 1 }
@@ -314,15 +316,16 @@ impl<D: Disk, R: Directory + Drop, C: Chronicle> Stripe<D, R, C> {
         start: u64,
         payload: &[u8],
     ) -> Result<Placed, Refusal>
-        requires stripe { IsStripe D.Disk R.Directory C.Chronicle self.old }
-        requires spared { IsSpared (units_in self.old + 1) (flushes_in self.old) (C.room self.old.pieces.chronicle) (seen_in D.Disk R.Directory self.old) }
+        requires stripe { IsStripe self.old }
+        requires spared { IsSpared (units_in self.old + 1) (flushes_in self.old)
+            (C.room self.old.pieces.chronicle) (seen_in self.old) }
         requires kind { id.index ≡ 0 }
-        requires vector { IsVectorFor (state_in C.Chronicle self.old) id start payload.now }
-        ensures stripe { IsStripe D.Disk R.Directory C.Chronicle self.new }
-        ensures unharmed { Between D.Disk R.Directory C.Chronicle self.old self.new }
-        ensures does { Answers result (PlacesVector (kept_in C.Chronicle self.old) (kept_in C.Chronicle self.new) (seen_in D.Disk R.Directory self.old).device.past
-            (seen_in D.Disk R.Directory self.new).device.past id pin start payload.now) ⊥ }
-        ensures still { (seen_in D.Disk R.Directory self.new).device ≡ (seen_in D.Disk R.Directory self.old).device }
+        requires vector { IsVectorFor (state_in self.old) id start payload.now }
+        ensures continues { Continues self.old self.new }
+        ensures does { Answers result (PlacesVector (kept_in self.old) (kept_in self.new)
+            (seen_in self.old).device.past
+            (seen_in self.new).device.past id pin start payload.now) ⊥ }
+        ensures still { (seen_in self.new).device ≡ (seen_in self.old).device }
         ensures unit { units_in self.new ≡ units_in self.old }
     {
         match self.pieces.place(id, pin, start, payload) {
@@ -339,17 +342,17 @@ impl<D: Disk, R: Directory + Drop, C: Chronicle> Stripe<D, R, C> {
         payload: &[u8],
         now: u64,
     ) -> Result<Placed, Refusal>
-        requires stripe { IsStripe D.Disk R.Directory C.Chronicle self.old }
-        requires spared { IsSpared (units_in self.old + 1) (flushes_in self.old) (C.room self.old.pieces.chronicle) (seen_in D.Disk R.Directory self.old) }
-        requires fragment { IsFragmentOf (state_in C.Chronicle self.old) id pin start payload.now }
-        ensures stripe { IsStripe D.Disk R.Directory C.Chronicle self.new }
-        ensures unharmed { Between D.Disk R.Directory C.Chronicle self.old self.new }
-        ensures does { Answers result (CutsAsAsked now (kept_in C.Chronicle self.old) (kept_in C.Chronicle self.new) (seen_in D.Disk R.Directory self.old).device.past
-            (seen_in D.Disk R.Directory self.new).device id pin start payload.now) (kept_in C.Chronicle self.new ≡ kept_in C.Chronicle self.old) }
-        ensures still { has_room (state_in C.Chronicle self.old) (length payload.now) ≡ true
-            → (seen_in D.Disk R.Directory self.new).device ≡ (seen_in D.Disk R.Directory self.old).device }
-        ensures untouched { Wanting result ((seen_in D.Disk R.Directory self.new).device ≡ (seen_in D.Disk R.Directory self.old).device) }
-        ensures later { (seen_in D.Disk R.Directory self.old).device.faults ≤ (seen_in D.Disk R.Directory self.new).device.faults }
+        requires stripe { IsStripe self.old }
+        requires spared { IsSpared (units_in self.old + 1) (flushes_in self.old)
+            (C.room self.old.pieces.chronicle) (seen_in self.old) }
+        requires fragment { IsFragmentOf (state_in self.old) id pin start payload.now }
+        ensures continues { Continues self.old self.new }
+        ensures does { Answers result (CutsAsAsked now (kept_in self.old) (kept_in self.new)
+            (seen_in self.old).device.past (seen_in self.new).device id pin start payload.now)
+            (kept_in self.new ≡ kept_in self.old) }
+        ensures still { has_room (state_in self.old) (length payload.now) ≡ true
+            → (seen_in self.new).device ≡ (seen_in self.old).device }
+        ensures untouched { Wanting result ((seen_in self.new).device ≡ (seen_in self.old).device) }
         ensures memory { 0 < room_for id.put self.old.actors → HasMemory result }
         ensures unit { units_in self.new ≡ units_in self.old }
     {
@@ -369,16 +372,16 @@ impl<D: Disk, R: Directory + Drop, C: Chronicle> Stripe<D, R, C> {
 
     // Uses up a unit of memory, and makes one where there is none.
     pub(crate) fn take_unit(&mut self) -> Result<(), AllocError>
-        requires { IsStripe D.Disk R.Directory C.Chronicle self.old }
-        ensures stripe { IsStripe D.Disk R.Directory C.Chronicle self.new }
-        ensures unharmed { Between D.Disk R.Directory C.Chronicle self.old self.new }
-        ensures records { kept_in C.Chronicle self.new ≡ kept_in C.Chronicle self.old }
-        ensures spared { OnOk result (IsSpared (units_in self.new + 1) (flushes_in self.new) (C.room self.new.pieces.chronicle) (seen_in D.Disk R.Directory self.new)) }
+        requires { IsStripe self.old }
+        ensures continues { Continues self.old self.new }
+        ensures records { kept_in self.new ≡ kept_in self.old }
+        ensures spared { OnOk result (IsSpared (units_in self.new + 1) (flushes_in self.new)
+            (C.room self.new.pieces.chronicle) (seen_in self.new)) }
         ensures actors { self.new.actors ≡ with_room_of_readers (reader_room_of self.new.actors) self.old.actors }
         ensures readers { OnOk result (units_in self.new + 1 ≤ reader_room_of self.new.actors) }
         ensures memory { 0 < units_in self.old → IsOk result }
         ensures unit { units_in self.old ≤ units_in self.new + 1 }
-        ensures still { IsStill (seen_in D.Disk R.Directory self.old).device (seen_in D.Disk R.Directory self.new).device }
+        ensures still { IsStill (seen_in self.old).device (seen_in self.new).device }
     {
         self.make_units(1)?;
         self.units -= 1;
@@ -387,15 +390,14 @@ impl<D: Disk, R: Directory + Drop, C: Chronicle> Stripe<D, R, C> {
 
     // Makes memory for so many calls.
     fn make_units(&mut self, units: u32) -> Result<(), AllocError>
-        requires { IsStripe D.Disk R.Directory C.Chronicle self.old }
-        ensures stripe { IsStripe D.Disk R.Directory C.Chronicle self.new }
-        ensures unharmed { Between D.Disk R.Directory C.Chronicle self.old self.new }
-        ensures records { kept_in C.Chronicle self.new ≡ kept_in C.Chronicle self.old }
+        requires { IsStripe self.old }
+        ensures continues { Continues self.old self.new }
+        ensures records { kept_in self.new ≡ kept_in self.old }
         ensures units { OnOk result (units ≤ units_in self.new) }
         ensures actors { self.new.actors ≡ with_room_of_readers (reader_room_of self.new.actors) self.old.actors }
         ensures memory { units ≤ units_in self.old → IsOk result }
         ensures more { units_in self.old ≤ units_in self.new }
-        ensures still { IsStill (seen_in D.Disk R.Directory self.old).device (seen_in D.Disk R.Directory self.new).device }
+        ensures still { IsStill (seen_in self.old).device (seen_in self.new).device }
     {
         if units > self.units {
             let flushes = self.flushes.max(units);

@@ -22,15 +22,16 @@ impl<D: Disk, R: Directory + Drop, C: Chronicle> Pieces<D, R, C> {
 
     /// Records that the bytes of a live piece are not its own, and takes its entry out.
     pub fn damage(&mut self, id: PieceId, place: u64, kept: Digest, found: Digest)
-        requires pieces { ArePieces D.Disk R.Directory C.Chronicle self.old }
+        requires pieces { ArePieces self.old }
         requires record { 1 ≤ C.room self.old.chronicle }
-        requires live { live_place_of (state_now C.Chronicle self.old) id ≡ Some place }
-        ensures pieces { ArePieces D.Disk R.Directory C.Chronicle self.new }
-        ensures adds { kept_of C.Chronicle self.new ≡ with_records (kept_of C.Chronicle self.old) (Damaged id place kept found ∷ []) }
-        ensures rest { SameButRows (seen_of D.Disk R.Directory self.old) (seen_of D.Disk R.Directory self.new) }
-        ensures still { (seen_of D.Disk R.Directory self.new).device ≡ (seen_of D.Disk R.Directory self.old).device }
+        requires live { live_place_of (state_now self.old) id ≡ Some place }
+        ensures pieces { ArePieces self.new }
+        ensures adds { kept_of self.new ≡ with_records (kept_of self.old)
+            (Damaged id place kept found ∷ []) }
+        ensures rest { SameButRows (seen_of self.old) (seen_of self.new) }
+        ensures still { (seen_of self.new).device ≡ (seen_of self.old).device }
         ensures uses { Uses 1 0 0 0 (C.room self.old.chronicle) (C.room self.new.chronicle)
-            (seen_of D.Disk R.Directory self.old) (seen_of D.Disk R.Directory self.new) }
+            (seen_of self.old) (seen_of self.new) }
     {
         self.cyclone.take_out(id, place);
         records::damaged(&mut self.chronicle, id, place, kept, found);
@@ -39,10 +40,11 @@ impl<D: Disk, R: Directory + Drop, C: Chronicle> Pieces<D, R, C> {
     /// Takes the entry of a piece out, where it is live. What is held then is what any state says
     /// that has the pieces without this one.
     fn take_entry(&mut self, id: PieceId)
-        requires pieces { ArePieces D.Disk R.Directory C.Chronicle self.old }
-        ensures gone { (t : State) → IsWithout (state_now C.Chronicle self.old) t id → IsHeld t (seen_of D.Disk R.Directory self.new) }
+        requires pieces { ArePieces self.old }
+        ensures gone { (t : State) → IsWithout (state_now self.old) t id
+            → IsHeld t (seen_of self.new) }
         ensures chronicle { self.new.chronicle ≡ self.old.chronicle }
-        ensures rest { SameButRows (seen_of D.Disk R.Directory self.old) (seen_of D.Disk R.Directory self.new) }
+        ensures rest { SameButRows (seen_of self.old) (seen_of self.new) }
     {
         if let Some(place) = self.whereabouts(id) {
             self.cyclone.take_out(id, place);
@@ -51,11 +53,12 @@ impl<D: Disk, R: Directory + Drop, C: Chronicle> Pieces<D, R, C> {
 
     /// Takes the vector of a key out, where that is not the put's own.
     fn take_earlier(&mut self, put: u64, key: Key)
-        requires pieces { ArePieces D.Disk R.Directory C.Chronicle self.old }
+        requires pieces { ArePieces self.old }
         ensures held { (length : ℕ) (list : List Stored)
-            → IsHeld (state_after (state_now C.Chronicle self.old) (Committed put key length list)) (seen_of D.Disk R.Directory self.new) }
+            → IsHeld (state_after (state_now self.old) (Committed put key length list))
+            (seen_of self.new) }
         ensures chronicle { self.new.chronicle ≡ self.old.chronicle }
-        ensures rest { SameButRows (seen_of D.Disk R.Directory self.old) (seen_of D.Disk R.Directory self.new) }
+        ensures rest { SameButRows (seen_of self.old) (seen_of self.new) }
     {
         match self.chronicle.vector_of(key) {
             Some(earlier) if earlier.put != put => self.take_entry(earlier),
@@ -67,14 +70,14 @@ impl<D: Disk, R: Directory + Drop, C: Chronicle> Pieces<D, R, C> {
     /// Records that a put of so many bytes is complete, and what its vector lists. The key's vector
     /// before it goes.
     pub fn commit(&mut self, put: u64, key: Key, length: u64, alternates: Vector)
-        requires pieces { ArePieces D.Disk R.Directory C.Chronicle self.old }
+        requires pieces { ArePieces self.old }
         requires record { 1 ≤ C.room self.old.chronicle }
-        ensures pieces { ArePieces D.Disk R.Directory C.Chronicle self.new }
-        ensures adds { kept_of C.Chronicle self.new
-            ≡ with_records (kept_of C.Chronicle self.old) (Committed put key length alternates ∷ []) }
-        ensures still { (seen_of D.Disk R.Directory self.new).device ≡ (seen_of D.Disk R.Directory self.old).device }
+        ensures pieces { ArePieces self.new }
+        ensures adds { kept_of self.new
+            ≡ with_records (kept_of self.old) (Committed put key length alternates ∷ []) }
+        ensures still { (seen_of self.new).device ≡ (seen_of self.old).device }
         ensures uses { Uses 1 0 0 0 (C.room self.old.chronicle) (C.room self.new.chronicle)
-            (seen_of D.Disk R.Directory self.old) (seen_of D.Disk R.Directory self.new) }
+            (seen_of self.old) (seen_of self.new) }
     {
         self.take_earlier(put, key);
         records::committed(&mut self.chronicle, put, key, length, alternates);
@@ -82,15 +85,16 @@ impl<D: Disk, R: Directory + Drop, C: Chronicle> Pieces<D, R, C> {
 
     /// Records that a key's live vector was removed, takes it out, and gives its put.
     pub fn remove(&mut self, key: Key) -> u64
-        requires pieces { ArePieces D.Disk R.Directory C.Chronicle self.old }
+        requires pieces { ArePieces self.old }
         requires record { 1 ≤ C.room self.old.chronicle }
-        requires live { IsSome (live_vector_of (state_now C.Chronicle self.old) key) }
-        ensures pieces { ArePieces D.Disk R.Directory C.Chronicle self.new }
-        ensures adds { kept_of C.Chronicle self.new ≡ with_records (kept_of C.Chronicle self.old) (Removed result key ∷ []) }
-        ensures put { vector_of (state_now C.Chronicle self.old) key ≡ Some (vector_piece key result) }
-        ensures still { (seen_of D.Disk R.Directory self.new).device ≡ (seen_of D.Disk R.Directory self.old).device }
+        requires live { IsSome (live_vector_of (state_now self.old) key) }
+        ensures pieces { ArePieces self.new }
+        ensures adds { kept_of self.new ≡ with_records (kept_of self.old)
+            (Removed result key ∷ []) }
+        ensures put { vector_of (state_now self.old) key ≡ Some (vector_piece key result) }
+        ensures still { (seen_of self.new).device ≡ (seen_of self.old).device }
         ensures uses { Uses 1 0 0 0 (C.room self.old.chronicle) (C.room self.new.chronicle)
-            (seen_of D.Disk R.Directory self.old) (seen_of D.Disk R.Directory self.new) }
+            (seen_of self.old) (seen_of self.new) }
     {
         let vector = self.chronicle.vector_of(key).unwrap();
         self.take_entry(vector);

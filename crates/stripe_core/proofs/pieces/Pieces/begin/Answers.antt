@@ -14,9 +14,9 @@ returns-clause-adds g c = grind (arith, common_steps)
 
 pub returns-clause-pieces : goal.returns-clause-pieces
 returns-clause-pieces g c =
-    let s = state_now g.C.Chronicle c.args.self.now in
+    let s = state_now c.args.self.now in
     let disk = c.args.self.now.cyclone.disk in
-    let after = seen g.D.Disk g.R.Directory c.begin_next.new.self in
-    held_behind (kept_of g.C.Chronicle c.args.self.now) (g.C.Chronicle.kept c.began.new.chronicle) (rec.Began (cursor_next s) (floor_next s) ∷ []) after (returns-clause-adds g c)
-    (begun_is_held s (seen_of g.D.Disk g.R.Directory c.args.self.now) after c.requires.pieces
+    let after = seen c.begin_next.new.self in
+    held_behind (kept_of c.args.self.now) (g.C.Chronicle.kept c.began.new.chronicle) (rec.Began (cursor_next s) (floor_next s) ∷ []) after (returns-clause-adds g c)
+    (begun_is_held s (seen_of c.args.self.now) after c.requires.pieces
     (record { whole = (seen_image (g.D.Disk.state disk) (g.met.D.Disk.was_image disk) (g.met.D.Disk.is_log disk)).whole; written = c.requires.written }) c.begin_next.ensures.begins c.begin_next.ensures.turns)

@@ -8,7 +8,7 @@ use Rattle.stripe_core.proofs.pieces.Pieces.commit.Goals as goal
 
 pub returns-clause-pieces : goal.returns-clause-pieces
 returns-clause-pieces g c =
-    subst (λ t. IsHeld t (seen_of g.D.Disk g.R.Directory c.take_earlier.new.self))
+    subst (λ t. IsHeld t (seen_of c.take_earlier.new.self))
     (sym (ap state_of (c.committed.ensures.kept ∙ ap (λ x. Rattle.cache_model.specs.Kept.with_records (g.C.Chronicle.kept x) (rec.Committed c.args.put c.args.key c.args.length c.args.alternates ∷ [])) c.take_earlier.ensures.chronicle)
-    ∙ state_of-with_records (kept_of g.C.Chronicle c.args.self.now) (rec.Committed c.args.put c.args.key c.args.length c.args.alternates ∷ [])))
+    ∙ state_of-with_records (kept_of c.args.self.now) (rec.Committed c.args.put c.args.key c.args.length c.args.alternates ∷ [])))
     (c.take_earlier.ensures.held c.args.length c.args.alternates)

@@ -6,6 +6,6 @@ use Rattle.stripe_core.proofs.pieces.Pieces.leave.Goals as goal
 
 pub returns-then-done-clause-pieces : goal.returns-then-done-clause-pieces
 returns-then-done-clause-pieces g c =
-    let seen = seen_of g.D.Disk g.R.Directory c.args.self.now in
-    held_behind (kept_of g.C.Chronicle c.args.self.now) (g.C.Chronicle.kept c.unsaved.new.chronicle) (rec.Unsaved c.args.candidate.id c.args.candidate.place c.args.fault ∷ []) seen c.unsaved.ensures.kept
-    (unsaved_is_held (state_now g.C.Chronicle c.args.self.now) seen c.args.candidate.id c.args.candidate.place c.args.fault c.requires.pieces)
+    let seen = seen_of c.args.self.now in
+    held_behind (kept_of c.args.self.now) (g.C.Chronicle.kept c.unsaved.new.chronicle) (rec.Unsaved c.args.candidate.id c.args.candidate.place c.args.fault ∷ []) seen c.unsaved.ensures.kept
+    (unsaved_is_held (state_now c.args.self.now) seen c.args.candidate.id c.args.candidate.place c.args.fault c.requires.pieces)

@@ -10,7 +10,7 @@ pub slice_bounds-read_ahead-end : goal.slice_bounds-read_ahead-end
 slice_bounds-read_ahead-end g c =
     let d = c.index-candidate.result.now in
     let due = c.args.ahead.now.due.items in
-    let budget = budget_of (state_now g.C.Chronicle c.args.self.now).geometry in
+    let budget = budget_of (state_now c.args.self.now).geometry in
     let here : slice_get due c.args.i ≡ Some d = read_at due c.args.i d c.requires.within c.index-candidate.ensures in
     let fits : c.args.at + d.blocks ≤ budget =
     kept_fits due c.args.ahead.now.kept.items c.args.i c.args.at budget d c.index.result.now here c.index.ensures c.if-not-index.false c.requires.choice in
@@ -20,11 +20,11 @@ pub read_ahead-fate-requires-clause-row : goal.read_ahead-fate-requires-clause-r
 read_ahead-fate-requires-clause-row g c =
     let d = c.index-candidate.result.now in
     let due = c.args.ahead.now.due.items in
-    row_of_candidate (state_now g.C.Chronicle c.args.self.now) due c.args.i d c.requires.rows (read_at due c.args.i d c.requires.within c.index-candidate.ensures)
+    row_of_candidate (state_now c.args.self.now) due c.args.i d c.requires.rows (read_at due c.args.i d c.requires.within c.index-candidate.ensures)
 
 pub returns-clause-looks : goal.returns-clause-looks
 returns-clause-looks g c row at may =
-    let s = state_now g.C.Chronicle c.args.self.now in
+    let s = state_now c.args.self.now in
     let d = c.index-candidate.result.now in
     let due = c.args.ahead.now.due.items in
     let memory = c.args.ahead.now.bytes.items in
@@ -35,13 +35,13 @@ returns-clause-looks g c row at may =
     kept_fits due c.args.ahead.now.kept.items c.args.i c.args.at (budget_of s.geometry) d c.index.result.now here c.index.ensures c.if-not-index.false c.requires.choice in
     let long : 512 * (c.args.at + d.blocks) ≤ length memory = omega (arith, fits, c.requires.ahead.bytes) in
     let written = vector_written c.args.ahead.now.bytes c.deref_mut.result.now c.read_ahead-fate.new.into c.args.at d.blocks c.deref_mut.ensures.value long c.read_ahead-fate.auto.into in
-    notes_read s (seen_of g.D.Disk g.R.Directory c.args.self.now).device (seen_of g.D.Disk g.R.Directory c.read_ahead-fate.new.self).device d row c.args.at c.read_ahead-fate.result c.args.ahead.now _
+    notes_read s (seen_of c.args.self.now).device (seen_of c.read_ahead-fate.new.self).device d row c.args.at c.read_ahead-fate.result c.args.ahead.now _
     c.read_ahead-fate.new.into is fits (c.read_ahead-fate.ensures.comes row is may) (rw c.unwrap-2.ensures at c.push-2.ensures.items) written
 
 pub returns-then-not-index-clause-looks : goal.returns-then-not-index-clause-looks
 returns-then-not-index-clause-looks g c row at may =
-    let s = state_now g.C.Chronicle c.args.self.now in
-    notes_none s (seen_of g.D.Disk g.R.Directory c.args.self.now).device row c.args.at c.args.ahead.now _ c.requires.room
+    let s = state_now c.args.self.now in
+    notes_none s (seen_of c.args.self.now).device row c.args.at c.args.ahead.now _ c.requires.room
     (left_out c.args.ahead.now.due.items c.args.ahead.now.kept.items c.args.i c.args.at (budget_of s.geometry) (candidate_of row) c.index.result.now at c.index.ensures c.if-not-index.true c.requires.choice)
     (rw c.unwrap.ensures at c.push.ensures.items) refl
 

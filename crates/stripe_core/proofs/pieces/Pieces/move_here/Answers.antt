@@ -12,10 +12,10 @@ returns-clause-adds g c = grind (arith, common_steps)
 
 pub returns-clause-pieces : goal.returns-clause-pieces
 returns-clause-pieces g c =
-    let s = state_now g.C.Chronicle c.args.self.now in
-    let before = seen_of g.D.Disk g.R.Directory c.args.self.now in
-    let after = Rattle.cyclone.specs.Cyclone.seen g.D.Disk g.R.Directory c.move_piece-digest.new.self in
-    held_behind (kept_of g.C.Chronicle c.args.self.now) (g.C.Chronicle.kept c.moved.new.chronicle) (copied_record s c.args.candidate c.args.bytes.now ∷ []) after
+    let s = state_now c.args.self.now in
+    let before = seen_of c.args.self.now in
+    let after = Rattle.cyclone.specs.Cyclone.seen c.move_piece-digest.new.self in
+    held_behind (kept_of c.args.self.now) (g.C.Chronicle.kept c.moved.new.chronicle) (copied_record s c.args.candidate c.args.bytes.now ∷ []) after
     (returns-clause-adds g c)
     (copied_is_held s before after c.args.candidate c.args.bytes.now c.requires.pieces c.requires.copied
     (subst (λ b. IsMoved b before after c.args.candidate.id c.args.candidate.place c.args.bytes.now) c.requires.plain c.move_piece-digest.ensures.moved) c.move_piece-digest.ensures.turns)

@@ -8,7 +8,7 @@ use Rattle.stripe_core.proofs.pieces.Pieces.prepare.Goals as goal
 
 pub returns-clause-pieces : goal.returns-clause-pieces
 returns-clause-pieces g c =
-    let new = seen g.D.Disk g.R.Directory c.prepare.new.self in
+    let new = seen c.prepare.new.self in
     subst (λ k. IsHeld (state_of k) new) (sym c.reserve.ensures.kept)
-    (room_may_grow (state_now g.C.Chronicle c.args.self.now) (seen_of g.D.Disk g.R.Directory c.args.self.now) new c.requires c.prepare.ensures.same c.prepare.ensures.turns
-    (steady c.prepare.result _ _ (seen_of g.D.Disk g.R.Directory c.args.self.now) _ c.prepare.ensures.keeps c.prepare.ensures.device c.prepare.ensures.none))
+    (room_may_grow (state_now c.args.self.now) (seen_of c.args.self.now) new c.requires c.prepare.ensures.same c.prepare.ensures.turns
+    (steady c.prepare.result _ _ (seen_of c.args.self.now) _ c.prepare.ensures.keeps c.prepare.ensures.device c.prepare.ensures.none))

@@ -14,12 +14,12 @@ use Rattle.stripe_core.proofs.pieces.Pieces.put.Goals as goal
 
 pub returns-clause-pieces : goal.returns-clause-pieces
 returns-clause-pieces g c =
-    let s = state_now g.C.Chronicle c.args.self.now in
-    let before = seen_of g.D.Disk g.R.Directory c.args.self.now in
-    let after = seen g.D.Disk g.R.Directory c.put-put.new.self in
+    let s = state_now c.args.self.now in
+    let before = seen_of c.args.self.now in
+    let after = seen c.put-put.new.self in
     let d = c.args.doc.now in
     let recs : List Rec = cut_record_of d.id (length c.args.payload.now) c.put-put.result.payload ++ rec.Placed d.id d.place (blocks_of (length c.args.payload.now)) c.put-put.result.document d.pin ∷ [] in
-    subst (λ t. IsHeld t after) (sym (ap state_of c.placed.ensures.kept ∙ state_of-with_records (kept_of g.C.Chronicle c.args.self.now) recs))
+    subst (λ t. IsHeld t after) (sym (ap state_of c.placed.ensures.kept ∙ state_of-with_records (kept_of c.args.self.now) recs))
     (put_is_held s before after d c.args.payload.now c.put-put.result.payload c.put-put.result.document c.requires.pieces c.requires.new (ap (λ (x : Doc). x.place) c.requires.doc) c.requires.room
     (record {
       put = subst (λ b. IsPut b before after d c.args.payload.now) c.requires.plain c.put-put.ensures.put;

@@ -14,8 +14,8 @@ use Rattle.stripe_core.proofs.pieces.Pieces.read_kept.Goals as goal
 
 pub loop-i-init : goal.loop-i-init
 loop-i-init g c =
-    let s = state_now g.C.Chronicle c.args.self.now in
-    let before = seen_of g.D.Disk g.R.Directory c.args.self.now in
+    let s = state_now c.args.self.now in
+    let before = seen_of c.args.self.now in
     record {
       pieces = c.requires.pieces;
       chronicle = refl;
@@ -32,25 +32,25 @@ loop-i-init g c =
 
 pub look_at-at-requires-clause-choice : goal.look_at-at-requires-clause-choice
 look_at-at-requires-clause-choice g c =
-    let s = state_now g.C.Chronicle c.args.self.now in
+    let s = state_now c.args.self.now in
     let inv = c.loop-i.invariant in
     let due = c.args.ahead.now.due.items in
     let within : c.loop-i.i < length due = omega (arith, c.loop-i-test.true, c.len-i-end.ensures) in
-    choice_there (budget_of s.geometry) (budget_of (state_now g.C.Chronicle c.loop-i.self).geometry) due c.loop-i.ahead.due.items c.args.ahead.now.kept.items c.loop-i.ahead.kept.items c.loop-i.i c.loop-i.at
+    choice_there (budget_of s.geometry) (budget_of (state_now c.loop-i.self).geometry) due c.loop-i.ahead.due.items c.args.ahead.now.kept.items c.loop-i.ahead.kept.items c.loop-i.i c.loop-i.at
     (ap (λ x. budget_of (state_of (g.C.Chronicle.kept x)).geometry) inv.chronicle) (ap (λ v. v.items) inv.due) (ap (λ v. v.items) inv.kept) c.requires.choice within inv.at
 
 pub loop-i-preserved : goal.loop-i-preserved
 loop-i-preserved g c =
-    let s = state_now g.C.Chronicle c.args.self.now in
+    let s = state_now c.args.self.now in
     let inv = c.loop-i.invariant in
-    let before = seen_of g.D.Disk g.R.Directory c.args.self.now in
-    let mid = seen_of g.D.Disk g.R.Directory c.loop-i.self in
-    let after = seen_of g.D.Disk g.R.Directory c.look_at-at.new.self in
+    let before = seen_of c.args.self.now in
+    let mid = seen_of c.loop-i.self in
+    let after = seen_of c.look_at-at.new.self in
     let due = c.args.ahead.now.due.items in
     let marks = c.args.ahead.now.kept.items in
     let e = c.look_at-at.ensures in
     let within : c.loop-i.i < length due = omega (arith, c.loop-i-test.true, c.len-i-end.ensures) in
-    let same : state_now g.C.Chronicle c.loop-i.self ≡ s = ap (λ x. state_of (g.C.Chronicle.kept x)) inv.chronicle in
+    let same : state_now c.loop-i.self ≡ s = ap (λ x. state_of (g.C.Chronicle.kept x)) inv.chronicle in
     record {
       pieces = e.pieces;
       chronicle = e.chronicle ∙ inv.chronicle;

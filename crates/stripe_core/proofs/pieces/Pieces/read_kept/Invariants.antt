@@ -11,11 +11,11 @@ use Rattle.stripe_core.proofs.pieces.Pieces.read_kept.Given as goal
 
 abbrev pub invariant-loop-i : goal.invariant-loop-i
 invariant-loop-i g l =
-    let s = state_now g.C.Chronicle l.fn.self in
-    let before = seen_of g.D.Disk g.R.Directory l.fn.self in
-    let after = seen_of g.D.Disk g.R.Directory l.self in
+    let s = state_now l.fn.self in
+    let before = seen_of l.fn.self in
+    let after = seen_of l.self in
     record {
-      pieces : ArePieces g.D.Disk g.R.Directory g.C.Chronicle l.self;
+      pieces : ArePieces l.self;
       chronicle : l.self.chronicle ≡ l.fn.self.chronicle;
       same : SameTape before after;
       asked : IsAsked before.device after.device;

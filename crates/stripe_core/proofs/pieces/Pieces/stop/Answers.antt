@@ -9,8 +9,8 @@ use Rattle.stripe_core.proofs.pieces.Pieces.stop.Goals as goal
 
 pub returns-clause-pieces : goal.returns-clause-pieces
 returns-clause-pieces g c =
-    let after = seen_of g.D.Disk g.R.Directory c.tell.new.self in
+    let after = seen_of c.tell.new.self in
     let count = c.faults-count.ensures ∙ ap (λ (d : Device). d.faults) c.disk.ensures in
     let same = ap (λ (y : Seen). y.device.faults) c.tell.ensures.rest.same in
-    held_behind (kept_of g.C.Chronicle c.tell.new.self) (g.C.Chronicle.kept c.fault.new.chronicle) (rec.Fault c.faults-count.result ∷ []) after c.fault.ensures.kept
-    (counted_is_held (state_now g.C.Chronicle c.tell.new.self) after c.faults-count.result c.tell.ensures.pieces (omega (arith, count, same)))
+    held_behind (kept_of c.tell.new.self) (g.C.Chronicle.kept c.fault.new.chronicle) (rec.Fault c.faults-count.result ∷ []) after c.fault.ensures.kept
+    (counted_is_held (state_now c.tell.new.self) after c.faults-count.result c.tell.ensures.pieces (omega (arith, count, same)))

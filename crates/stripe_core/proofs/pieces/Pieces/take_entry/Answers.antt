@@ -6,9 +6,9 @@ use Rattle.stripe_core.proofs.pieces.Pieces.take_entry.Goals as goal
 
 pub returns-in-Some-clause-gone : goal.returns-in-Some-clause-gone
 returns-in-Some-clause-gone g c = λ t without.
-    live_entry_goes (state_now g.C.Chronicle c.args.self.now) t (seen_of g.D.Disk g.R.Directory c.args.self.now) (seen g.D.Disk g.R.Directory c.take_out.new.self) c.args.id c.in-Some.place c.take_out.result c.requires.pieces
+    live_entry_goes (state_now c.args.self.now) t (seen_of c.args.self.now) (seen c.take_out.new.self) c.args.id c.in-Some.place c.take_out.result c.requires.pieces
     (sym c.in-Some.ensures) (record { turning = c.take_out.ensures.turns; found_is = c.take_out.ensures.found; same = c.take_out.ensures.same; gone = c.take_out.ensures.gone }) without
 
 pub returns-in_default-clause-gone : goal.returns-in_default-clause-gone
 returns-in_default-clause-gone g c = λ t without.
-    no_entry_goes (state_now g.C.Chronicle c.args.self.now) t (seen_of g.D.Disk g.R.Directory c.args.self.now) c.args.id c.requires.pieces (sym c.in_default.ensures) without
+    no_entry_goes (state_now c.args.self.now) t (seen_of c.args.self.now) c.args.id c.requires.pieces (sym c.in_default.ensures) without

@@ -4,5 +4,5 @@ use Rattle.stripe_core.proofs.pieces.Pieces.tell.Given as goal
 
 abbrev pub invariant-loop-i : goal.invariant-loop-i
 invariant-loop-i g l =
-    HasTold (kept_of g.C.Chronicle l.fn.self) (kept_of g.C.Chronicle l.self) (seen_of g.D.Disk g.R.Directory l.fn.self) (seen_of g.D.Disk g.R.Directory l.self)
+    HasTold (kept_of l.fn.self) (kept_of l.self) (seen_of l.fn.self) (seen_of l.self)
     (g.C.Chronicle.room l.fn.self.chronicle) (g.C.Chronicle.room l.self.chronicle) l.done l.ahead.due.items l.ahead.fates.items l.i

@@ -7,6 +7,6 @@ use Rattle.stripe_core.proofs.pieces.Pieces.tell_of.Goals as goal
 
 pub leave-requires-in-Refused-clause-pieces : goal.leave-requires-in-Refused-clause-pieces
 leave-requires-in-Refused-clause-pieces g c =
-    let seen = seen_of g.D.Disk g.R.Directory c.args.self.now in
-    held_behind (kept_of g.C.Chronicle c.args.self.now) (g.C.Chronicle.kept c.fault.new.chronicle) (rec.Fault c.in-Refused.count ∷ []) seen c.fault.ensures.kept
-    (counted_is_held (state_now g.C.Chronicle c.args.self.now) seen c.in-Refused.count c.requires.pieces (rw c.in-Refused.is at c.requires.told))
+    let seen = seen_of c.args.self.now in
+    held_behind (kept_of c.args.self.now) (g.C.Chronicle.kept c.fault.new.chronicle) (rec.Fault c.in-Refused.count ∷ []) seen c.fault.ensures.kept
+    (counted_is_held (state_now c.args.self.now) seen c.in-Refused.count c.requires.pieces (rw c.in-Refused.is at c.requires.told))

@@ -11,10 +11,10 @@ use Rattle.stripe_core.proofs.pieces.Pieces.whereabouts.Goals as goal
 
 pub walks-init : goal.walks-init
 walks-init g c =
-    let s = state_now g.C.Chronicle c.args.self.now in
+    let s = state_now c.args.self.now in
     let d = c.directory-directory.result.now in
     let there : (row : Row) → live_row_of s c.args.id ≡ Some row → Contains (candidates_of (g.R.Directory.window d) c.of_piece.result (plain_rows (g.R.Directory.rows d))) row.place =
-    λ row live. rw (c.directory-directory.ensures.rows, c.directory-directory.ensures.window, c.of_piece.ensures) (live_is_candidate s (seen_of g.D.Disk g.R.Directory c.args.self.now) c.args.id row c.requires live) in
+    λ row live. rw (c.directory-directory.ensures.rows, c.directory-directory.ensures.window, c.of_piece.ensures) (live_is_candidate s (seen_of c.args.self.now) c.args.id row c.requires live) in
     record {
       walks = c.candidates-walk.ensures.walks;
       ahead = λ row live. subst (λ ps. Contains ps row.place) (sym c.candidates-walk.ensures.rest) (there row live);
@@ -25,7 +25,7 @@ walks-smaller g c = let gives : g.R.Directory.rest c.directory-directory.result.
 
 pub walks-preserved : goal.walks-preserved
 walks-preserved g c =
-    let s = state_now g.C.Chronicle c.args.self.now in
+    let s = state_now c.args.self.now in
     let gives : g.R.Directory.rest c.directory-directory.result.now c.walks.walk ≡ c.in-Some.place ∷ g.R.Directory.rest c.directory-directory.result.now c.step.new.walk = c.in-Some.ensures.gives in
     record {
       walks = c.step.ensures.walks;

@@ -9,26 +9,32 @@ use Rattle.stripe_core.proofs.Flushes.{state_of-with_records}
 use Rattle.stripe_core.proofs.Doings.{commits, one_less, reader_behind}
 use Rattle.stripe_core.proofs.Sparing.{made_behind, numbered_by}
 use Rattle.stripe_core.proofs.Naming.{named_behind, named_committed}
+use Rattle.stripe_core.proofs.Between.{between-tells}
+use Rattle.stripe_core.proofs.Continuing.{no_less}
 use Rattle.stripe_core.proofs.stripe.Stripe.commit.Goals as goal
 
-pub returns-clause-stripe : goal.returns-clause-stripe
-returns-clause-stripe g c =
-    let s = state_in g.C.Chronicle c.args.self.now in
-    let kept = kept_in g.C.Chronicle c.args.self.now in
+pub returns-clause-continues : goal.returns-clause-continues
+returns-clause-continues g c =
+    let s = state_in c.args.self.now in
+    let kept = kept_in c.args.self.now in
     let told = rec.Committed c.args.put c.args.key c.length-length.result c.args.alternates in
     let after = g.C.Chronicle.kept c.commit.new.self.chronicle in
     let reader = reader_behind kept after told c.commit.ensures.adds in
     record {
-      pieces = c.commit.ensures.pieces;
-      actors = subst (λ t. AreActors t c.close.new.self) (sym (ap state_of c.commit.ensures.adds ∙ state_of-with_records kept (told ∷ []))) (c.close.ensures.commits c.args.key c.length-length.result c.args.alternates s c.requires.stripe.actors);
-      plain = c.requires.stripe.plain;
-      spared = one_less c.args.self.now.units c.args.self.now.flushes _ _ (seen_in g.D.Disk g.R.Directory c.args.self.now) (seen_of g.D.Disk g.R.Directory c.commit.new.self) c.requires.unit c.requires.stripe.spared c.commit.ensures.uses;
-      named = named_behind kept _ told c.commit.ensures.adds
-          (named_committed s c.args.put c.length-length.result c.args.key c.args.alternates (c.requires.committing.pending ∙ ap (λ k. Some (vector_piece k c.args.put)) c.requires.committing.key_is) c.requires.stripe.named);
-      readers = omega (arith, c.requires.stripe.readers, c.close.ensures.readers);
-      ahead = made_behind kept after told c.args.self.now.ahead c.commit.ensures.adds refl c.requires.stripe.ahead;
-      numbered = numbered_by kept after (told ∷ []) 0 c.commit.ensures.adds (omega (arith, reader)) (omega arith) c.requires.stripe.numbered;
+      stripe = record {
+        pieces = c.commit.ensures.pieces;
+        actors = subst (λ t. AreActors t c.close.new.self) (sym (ap state_of c.commit.ensures.adds ∙ state_of-with_records kept (told ∷ []))) (c.close.ensures.commits c.args.key c.length-length.result c.args.alternates s c.requires.stripe.actors);
+        plain = c.requires.stripe.plain;
+        spared = one_less c.args.self.now.units c.args.self.now.flushes _ _ (seen_in c.args.self.now) (seen_of c.commit.new.self) c.requires.unit c.requires.stripe.spared c.commit.ensures.uses;
+        named = named_behind kept _ told c.commit.ensures.adds
+            (named_committed s c.args.put c.length-length.result c.args.key c.args.alternates (c.requires.committing.pending ∙ ap (λ k. Some (vector_piece k c.args.put)) c.requires.committing.key_is) c.requires.stripe.named);
+        readers = omega (arith, c.requires.stripe.readers, c.close.ensures.readers);
+        ahead = made_behind kept after told c.args.self.now.ahead c.commit.ensures.adds refl c.requires.stripe.ahead;
+        numbered = numbered_by kept after (told ∷ []) 0 c.commit.ensures.adds (omega (arith, reader)) (omega arith) c.requires.stripe.numbered;
+      };
+      between = between-tells _ _ kept after (told ∷ []) c.commit.ensures.still c.commit.ensures.adds refl (refl, tt);
+      later = no_less _ _ c.commit.ensures.still;
     }
 
 pub returns-clause-does : goal.returns-clause-does
-returns-clause-does g c = λ lists p. commits p (state_in g.C.Chronicle c.args.self.now) c.args.put c.args.key c.args.alternates c.requires.committing lists
+returns-clause-does g c = λ lists p. commits p (state_in c.args.self.now) c.args.put c.args.key c.args.alternates c.requires.committing lists

@@ -12,42 +12,41 @@ use Rattle.logged_disk.proofs.GoingOn.{goes_further}
 use Rattle.stripe_core.proofs.Between.{between-adds, between-trans}
 use Rattle.stripe_core.proofs.stripe.Stripe.find_piece.Goals as goal
 
-pub returns-clause-stripe : goal.returns-clause-stripe
-returns-clause-stripe g c =
-    let taken = state_in g.C.Chronicle c.take_unit.new.self in
-    let kept = kept_in g.C.Chronicle c.take_unit.new.self in
+pub returns-clause-continues : goal.returns-clause-continues
+returns-clause-continues g c =
+    let taken = state_in c.take_unit.new.self in
+    let kept = kept_in c.take_unit.new.self in
     let adds = find_adds taken c.args.id c.find.result in
     record {
-      pieces = c.find.ensures.pieces;
-      actors = actors_with kept _ c.take_unit.new.self.actors adds c.find.ensures.adds (find_are_others taken c.args.id c.find.result) c.take_unit.ensures.stripe.actors;
-      plain = c.requires.stripe.plain;
-      spared = spent_calm (units_in c.take_unit.new.self) (flushes_in c.take_unit.new.self) _ _ 1 0 (seen_in g.D.Disk g.R.Directory c.take_unit.new.self) (seen_of g.D.Disk g.R.Directory c.find.new.self)
-          c.in_ok-take_unit.ensures.spared c.find.ensures.uses (omega arith) (omega arith);
-      named = named_with kept _ adds c.find.ensures.adds (find_leaves taken c.args.id c.find.result) c.take_unit.ensures.stripe.named;
-      readers = c.take_unit.ensures.stripe.readers;
-      ahead = made_still taken _ (seen_in g.D.Disk g.R.Directory c.take_unit.new.self) (seen_of g.D.Disk g.R.Directory c.find.new.self) c.take_unit.new.self.ahead
-          c.take_unit.ensures.stripe.pieces c.find.ensures.pieces c.find.ensures.uses.same c.take_unit.ensures.stripe.ahead;
-      numbered = numbered_others kept _ adds c.find.ensures.adds (find_are_others taken c.args.id c.find.result) c.take_unit.ensures.stripe.numbered;
+      stripe = record {
+        pieces = c.find.ensures.pieces;
+        actors = actors_with kept _ c.take_unit.new.self.actors adds c.find.ensures.adds (find_are_others taken c.args.id c.find.result) c.take_unit.ensures.continues.stripe.actors;
+        plain = c.requires.stripe.plain;
+        spared = spent_calm (units_in c.take_unit.new.self) (flushes_in c.take_unit.new.self) _ _ 1 0 (seen_in c.take_unit.new.self) (seen_of c.find.new.self)
+            c.in_ok-take_unit.ensures.spared c.find.ensures.uses (omega arith) (omega arith);
+        named = named_with kept _ adds c.find.ensures.adds (find_leaves taken c.args.id c.find.result) c.take_unit.ensures.continues.stripe.named;
+        readers = c.take_unit.ensures.continues.stripe.readers;
+        ahead = made_still taken _ (seen_in c.take_unit.new.self) (seen_of c.find.new.self) c.take_unit.new.self.ahead
+            c.take_unit.ensures.continues.stripe.pieces c.find.ensures.pieces c.find.ensures.uses.same c.take_unit.ensures.continues.stripe.ahead;
+        numbered = numbered_others kept _ adds c.find.ensures.adds (find_are_others taken c.args.id c.find.result) c.take_unit.ensures.continues.stripe.numbered;
+      };
+      between = between-trans _ _ _ _ _ _ c.take_unit.ensures.continues.between
+          (between-adds _ _ kept _ adds c.find.ensures.adds c.find.ensures.uses.goes c.find.ensures.finds.faults c.find.ensures.unharmed);
+      later = omega (arith, c.take_unit.ensures.continues.later, c.find.ensures.uses.later);
     }
 
 pub returns-clause-finds : goal.returns-clause-finds
 returns-clause-finds g c =
-    let s = state_in g.C.Chronicle c.args.self.now in
+    let s = state_in c.args.self.now in
     let finds = c.find.ensures.finds in
-    let moved : Finds s (seen_in g.D.Disk g.R.Directory c.take_unit.new.self).device (seen_of g.D.Disk g.R.Directory c.find.new.self).device c.args.id c.find.result c.find.new.into =
-    subst (λ t. Finds t (seen_in g.D.Disk g.R.Directory c.take_unit.new.self).device (seen_of g.D.Disk g.R.Directory c.find.new.self).device c.args.id c.find.result c.find.new.into) (ap state_of c.take_unit.ensures.records) finds in
+    let moved : Finds s (seen_in c.take_unit.new.self).device (seen_of c.find.new.self).device c.args.id c.find.result c.find.new.into =
+    subst (λ t. Finds t (seen_in c.take_unit.new.self).device (seen_of c.find.new.self).device c.args.id c.find.result c.find.new.into) (ap state_of c.take_unit.ensures.records) finds in
     record {
       seen = λ made is. moved.seen made (is ∙ ap (λ calls. made ++ calls) (sym c.take_unit.ensures.still.past));
-      faults = subst (λ calls. HasEffects calls (seen_of g.D.Disk g.R.Directory c.find.new.self).device.past (effects_told (find_adds s c.args.id c.find.result))) c.take_unit.ensures.still.past moved.faults;
+      faults = subst (λ calls. HasEffects calls (seen_of c.find.new.self).device.past (effects_told (find_adds s c.args.id c.find.result))) c.take_unit.ensures.still.past moved.faults;
       counted = moved.counted;
-      answers = λ p covers. moved.answers p (subst (λ calls. Covers p calls (seen_of g.D.Disk g.R.Directory c.find.new.self).device.past) (sym c.take_unit.ensures.still.past) covers);
+      answers = λ p covers. moved.answers p (subst (λ calls. Covers p calls (seen_of c.find.new.self).device.past) (sym c.take_unit.ensures.still.past) covers);
     }
-
-pub returns-clause-unharmed : goal.returns-clause-unharmed
-returns-clause-unharmed g c =
-    let kept = kept_in g.C.Chronicle c.take_unit.new.self in
-    between-trans _ _ _ _ _ _ c.take_unit.ensures.unharmed
-    (between-adds _ _ kept _ (find_adds (state_in g.C.Chronicle c.take_unit.new.self) c.args.id c.find.result) c.find.ensures.adds c.find.ensures.uses.goes c.find.ensures.finds.faults c.find.ensures.unharmed)
 
 pub returns-clause-unwritten : goal.returns-clause-unwritten
 returns-clause-unwritten g c = record {

@@ -13,89 +13,75 @@ use Rattle.stripe_core.proofs.stripe.Stripe.flush.Goals as goal
 
 pub returns-in-Err-clause-does : goal.returns-in-Err-clause-does
 returns-in-Err-clause-does g c =
-    let kept = kept_in g.C.Chronicle c.args.self.now in
-    let taken = kept_in g.C.Chronicle c.take_unit.new.self in
-    let first = (seen_in g.D.Disk g.R.Directory c.args.self.now).device.past in
-    let before = (seen_in g.D.Disk g.R.Directory c.take_unit.new.self).device.past in
-    let new = kept_of g.C.Chronicle c.flush.new.self in
-    let device = (seen_of g.D.Disk g.R.Directory c.flush.new.self).device in
+    let kept = kept_in c.args.self.now in
+    let taken = kept_in c.take_unit.new.self in
+    let first = (seen_in c.args.self.now).device.past in
+    let before = (seen_in c.take_unit.new.self).device.past in
+    let new = kept_of c.flush.new.self in
+    let device = (seen_of c.flush.new.self).device in
     let asked = FlushesAsAsked c.args.now kept new first device in
     subst (λ r. Answers (Err r) asked (new ≡ kept)) (sym c.from.ensures)
     (answers_stop c.in-Err.stop asked _
     (behind_unit (λ k n. FlushesAsAsked c.args.now k new n device (Err c.in-Err.stop)) taken kept before first c.take_unit.ensures.records c.take_unit.ensures.still.past c.in-Err.ensures.does))
 
-pub returns-in-Ok-clause-stripe : goal.returns-in-Ok-clause-stripe
-returns-in-Ok-clause-stripe g c =
-    let taken = state_in g.C.Chronicle c.take_unit.new.self in
-    let kept = kept_in g.C.Chronicle c.take_unit.new.self in
-    let before = seen_in g.D.Disk g.R.Directory c.take_unit.new.self in
-    let after = seen_of g.D.Disk g.R.Directory c.flush.new.self in
+pub returns-in-Ok-clause-continues : goal.returns-in-Ok-clause-continues
+returns-in-Ok-clause-continues g c =
+    let taken = state_in c.take_unit.new.self in
+    let kept = kept_in c.take_unit.new.self in
+    let before = seen_in c.take_unit.new.self in
+    let after = seen_of c.flush.new.self in
     let does = c.in-Ok.ensures.does in
     let others = flush_is_others does.added does.kinds in
     record {
-      pieces = c.flush.ensures.pieces;
-      actors = actors_with kept _ c.take_unit.new.self.actors does.added does.adds others c.take_unit.ensures.stripe.actors;
-      plain = c.requires.stripe.plain;
-      spared = spent_by (nat_lt c.cursor.result c.next_place.result) (units_in c.take_unit.new.self) (flushes_in c.take_unit.new.self) c.one_where.result _ _ _ _ before after
-          c.one_where.ensures c.in_ok-take_unit.ensures.spared c.flush.ensures.uses (omega arith) (omega arith)
-          (λ none. c.flush.ensures.still (nothing_in_buffer taken before c.cursor.result c.next_place.result c.take_unit.ensures.stripe.pieces c.cursor.ensures c.next_place.ensures none));
-      named = named_with kept _ does.added does.adds (flush_leaves does.added does.kinds) c.take_unit.ensures.stripe.named;
-      readers = c.take_unit.ensures.stripe.readers;
-      ahead = made_still taken _ before after c.flush.new.ahead c.take_unit.ensures.stripe.pieces c.flush.ensures.pieces c.flush.ensures.uses.same c.flush.ensures.ahead;
-      numbered = numbered_others kept _ does.added does.adds others c.take_unit.ensures.stripe.numbered;
+      stripe = record {
+        pieces = c.flush.ensures.pieces;
+        actors = actors_with kept _ c.take_unit.new.self.actors does.added does.adds others c.take_unit.ensures.continues.stripe.actors;
+        plain = c.requires.resting.stripe.plain;
+        spared = spent_by (nat_lt c.cursor.result c.next_place.result) (units_in c.take_unit.new.self) (flushes_in c.take_unit.new.self) c.one_where.result _ _ _ _ before after
+            c.one_where.ensures c.in_ok-take_unit.ensures.spared c.flush.ensures.uses (omega arith) (omega arith)
+            (λ none. c.flush.ensures.still (nothing_in_buffer taken before c.cursor.result c.next_place.result c.take_unit.ensures.continues.stripe.pieces c.cursor.ensures c.next_place.ensures none));
+        named = named_with kept _ does.added does.adds (flush_leaves does.added does.kinds) c.take_unit.ensures.continues.stripe.named;
+        readers = c.take_unit.ensures.continues.stripe.readers;
+        ahead = made_still taken _ before after c.flush.new.ahead c.take_unit.ensures.continues.stripe.pieces c.flush.ensures.pieces c.flush.ensures.uses.same c.flush.ensures.ahead;
+        numbered = numbered_others kept _ does.added does.adds others c.take_unit.ensures.continues.stripe.numbered;
+      };
+      between = between-trans _ _ _ _ _ _ c.take_unit.ensures.continues.between
+          (between-adds _ _ kept _ does.added does.adds c.flush.ensures.uses.goes does.faults does.unharmed);
+      later = omega (arith, c.take_unit.ensures.continues.later, c.flush.ensures.uses.later);
     }
 
-pub returns-in-Err-clause-stripe : goal.returns-in-Err-clause-stripe
-returns-in-Err-clause-stripe g c =
-    let taken = state_in g.C.Chronicle c.take_unit.new.self in
-    let kept = kept_in g.C.Chronicle c.take_unit.new.self in
-    let before = seen_in g.D.Disk g.R.Directory c.take_unit.new.self in
-    let after = seen_of g.D.Disk g.R.Directory c.flush.new.self in
+pub returns-in-Err-clause-continues : goal.returns-in-Err-clause-continues
+returns-in-Err-clause-continues g c =
+    let taken = state_in c.take_unit.new.self in
+    let kept = kept_in c.take_unit.new.self in
+    let before = seen_in c.take_unit.new.self in
+    let after = seen_of c.flush.new.self in
     let does = c.in-Err.ensures.does in
     let others = flush_is_others does.added does.kinds in
     record {
-      pieces = c.flush.ensures.pieces;
-      actors = actors_with kept _ c.take_unit.new.self.actors does.added does.adds others c.take_unit.ensures.stripe.actors;
-      plain = c.requires.stripe.plain;
-      spared = spent_by (nat_lt c.cursor.result c.next_place.result) (units_in c.take_unit.new.self) (flushes_in c.take_unit.new.self) c.one_where.result _ _ _ _ before after
-          c.one_where.ensures c.in_ok-take_unit.ensures.spared c.flush.ensures.uses (omega arith) (omega arith)
-          (λ none. c.flush.ensures.still (nothing_in_buffer taken before c.cursor.result c.next_place.result c.take_unit.ensures.stripe.pieces c.cursor.ensures c.next_place.ensures none));
-      named = named_with kept _ does.added does.adds (flush_leaves does.added does.kinds) c.take_unit.ensures.stripe.named;
-      readers = c.take_unit.ensures.stripe.readers;
-      ahead = made_still taken _ before after c.flush.new.ahead c.take_unit.ensures.stripe.pieces c.flush.ensures.pieces c.flush.ensures.uses.same c.flush.ensures.ahead;
-      numbered = numbered_others kept _ does.added does.adds others c.take_unit.ensures.stripe.numbered;
+      stripe = record {
+        pieces = c.flush.ensures.pieces;
+        actors = actors_with kept _ c.take_unit.new.self.actors does.added does.adds others c.take_unit.ensures.continues.stripe.actors;
+        plain = c.requires.resting.stripe.plain;
+        spared = spent_by (nat_lt c.cursor.result c.next_place.result) (units_in c.take_unit.new.self) (flushes_in c.take_unit.new.self) c.one_where.result _ _ _ _ before after
+            c.one_where.ensures c.in_ok-take_unit.ensures.spared c.flush.ensures.uses (omega arith) (omega arith)
+            (λ none. c.flush.ensures.still (nothing_in_buffer taken before c.cursor.result c.next_place.result c.take_unit.ensures.continues.stripe.pieces c.cursor.ensures c.next_place.ensures none));
+        named = named_with kept _ does.added does.adds (flush_leaves does.added does.kinds) c.take_unit.ensures.continues.stripe.named;
+        readers = c.take_unit.ensures.continues.stripe.readers;
+        ahead = made_still taken _ before after c.flush.new.ahead c.take_unit.ensures.continues.stripe.pieces c.flush.ensures.pieces c.flush.ensures.uses.same c.flush.ensures.ahead;
+        numbered = numbered_others kept _ does.added does.adds others c.take_unit.ensures.continues.stripe.numbered;
+      };
+      between = between-trans _ _ _ _ _ _ c.take_unit.ensures.continues.between
+          (between-adds _ _ kept _ does.added does.adds c.flush.ensures.uses.goes does.faults does.unharmed);
+      later = omega (arith, c.take_unit.ensures.continues.later, c.flush.ensures.uses.later);
     }
-
-pub returns-in-Ok-clause-unharmed : goal.returns-in-Ok-clause-unharmed
-returns-in-Ok-clause-unharmed g c =
-    let does = c.in-Ok.ensures.does in
-    between-trans _ _ _ _ _ _ c.take_unit.ensures.unharmed
-    (between-adds _ _ (kept_in g.C.Chronicle c.take_unit.new.self) _ does.added does.adds c.flush.ensures.uses.goes does.faults does.unharmed)
-
-pub returns-in-Err-clause-unharmed : goal.returns-in-Err-clause-unharmed
-returns-in-Err-clause-unharmed g c =
-    let does = c.in-Err.ensures.does in
-    between-trans _ _ _ _ _ _ c.take_unit.ensures.unharmed
-    (between-adds _ _ (kept_in g.C.Chronicle c.take_unit.new.self) _ does.added does.adds c.flush.ensures.uses.goes does.faults does.unharmed)
 
 pub returns-in-Err-clause-stops : goal.returns-in-Err-clause-stops
 returns-in-Err-clause-stops g c =
-    let s = state_in g.C.Chronicle c.args.self.now in
-    let faults = (seen_of g.D.Disk g.R.Directory c.flush.new.self).device.faults in
+    let s = state_in c.args.self.now in
+    let faults = (seen_of c.flush.new.self).device.faults in
     subst (λ r. Answers {X = Flushed} (Err r) (λ x. IfErr x (StopsWith s faults)) (Unit {0})) (sym c.from.ensures)
     (answers_stop c.in-Err.stop (λ x. IfErr x (StopsWith s faults)) (Unit {0}) (subst (λ t. StopsWith t faults c.in-Err.stop) (ap state_of c.take_unit.ensures.records) c.in-Err.ensures.stops))
 
 pub returns-in-Err-clause-memory : goal.returns-in-Err-clause-memory
 returns-in-Err-clause-memory g c = λ some. subst (λ r. HasMemory {X = Flushed} (Err r)) (sym c.from.ensures) (stop_has_memory Flushed c.in-Err.stop)
-
-pub returns-in-Ok-clause-later : goal.returns-in-Ok-clause-later
-returns-in-Ok-clause-later g c =
-    let taken = c.take_unit.ensures.still.faults in
-    let later = c.flush.ensures.uses.later in
-    omega (arith, taken, later)
-
-pub returns-in-Err-clause-later : goal.returns-in-Err-clause-later
-returns-in-Err-clause-later g c =
-    let taken = c.take_unit.ensures.still.faults in
-    let later = c.flush.ensures.uses.later in
-    omega (arith, taken, later)

@@ -4,33 +4,35 @@ use Rattle.cache_model.specs.Kept.{state_of}
 use Rattle.stripe_actors.specs.Actors.{AreActors}
 use Rattle.stripe_core.specs.Stripe.{kept_in, seen_in, state_in}
 use Rattle.stripe_core.proofs.Flushes.{state_of-with_records}
-use Rattle.stripe_core.proofs.Doings.{answer_keeps_readers, answer_leaves, answer_leaves_tape, held_behind, one_record, reader_behind}
+use Rattle.stripe_core.proofs.Doings.{answer_keeps_readers, answer_leaves, answer_leaves_tape, held_behind, notes, one_record, reader_behind}
 use Rattle.stripe_core.proofs.Sparing.{made_behind, numbered_by}
 use Rattle.stripe_core.proofs.Naming.{answer_leaves_names, named_behind}
 use Rattle.stripe_core.proofs.Between.{answer_tells_no_fault, answer_tells_none, between-tells}
 use Rattle.stripe_core.proofs.stripe.Stripe.note.Goals as goal
 
-pub returns-clause-stripe : goal.returns-clause-stripe
-returns-clause-stripe g c =
-    let s = state_in g.C.Chronicle c.args.self.now in
-    let kept = kept_in g.C.Chronicle c.args.self.now in
-    let before = seen_in g.D.Disk g.R.Directory c.args.self.now in
+pub returns-clause-continues : goal.returns-clause-continues
+returns-clause-continues g c =
+    let s = state_in c.args.self.now in
+    let kept = kept_in c.args.self.now in
+    let before = seen_in c.args.self.now in
     let told = answer_record c.args.reader c.args.answer in
     let reader = reader_behind kept (g.C.Chronicle.kept c.answered.new.chronicle) told c.answered.ensures.kept ∙ answer_keeps_readers s c.args.reader c.args.answer in
     let leaves = answer_leaves s c.args.reader c.args.answer in
     record {
-      pieces = held_behind kept (g.C.Chronicle.kept c.answered.new.chronicle) before told c.answered.ensures.kept (answer_leaves_tape c.args.reader c.args.answer) leaves c.requires.stripe.pieces;
-      actors = subst (λ t. AreActors t c.go_on.new.actors) (sym (ap state_of c.answered.ensures.kept ∙ state_of-with_records kept (told ∷ []))) (c.go_on.ensures.keeps s c.requires.stripe.actors);
-      plain = c.requires.stripe.plain;
-      spared = one_record c.args.self.now.units c.args.self.now.flushes _ _ before c.requires.unit c.requires.stripe.spared c.answered.ensures.room;
-      named = named_behind kept _ told c.answered.ensures.kept (answer_leaves_names s c.args.reader c.args.answer c.requires.stripe.named);
-      readers = omega (arith, c.requires.stripe.readers, c.go_on.ensures.readers);
-      ahead = made_behind kept _ told c.args.self.now.ahead c.answered.ensures.kept leaves.geometry c.requires.stripe.ahead;
-      numbered = numbered_by kept (g.C.Chronicle.kept c.answered.new.chronicle) (told ∷ []) 0 c.answered.ensures.kept (omega (arith, reader)) (omega arith) c.requires.stripe.numbered;
+      stripe = record {
+        pieces = held_behind kept (g.C.Chronicle.kept c.answered.new.chronicle) before told c.answered.ensures.kept (answer_leaves_tape c.args.reader c.args.answer) leaves c.requires.stripe.pieces;
+        actors = subst (λ t. AreActors t c.go_on.new.actors) (sym (ap state_of c.answered.ensures.kept ∙ state_of-with_records kept (told ∷ []))) (c.go_on.ensures.keeps s c.requires.stripe.actors);
+        plain = c.requires.stripe.plain;
+        spared = one_record c.args.self.now.units c.args.self.now.flushes _ _ before c.requires.unit c.requires.stripe.spared c.answered.ensures.room;
+        named = named_behind kept _ told c.answered.ensures.kept (answer_leaves_names s c.args.reader c.args.answer c.requires.stripe.named);
+        readers = omega (arith, c.requires.stripe.readers, c.go_on.ensures.readers);
+        ahead = made_behind kept _ told c.args.self.now.ahead c.answered.ensures.kept leaves.geometry c.requires.stripe.ahead;
+        numbered = numbered_by kept (g.C.Chronicle.kept c.answered.new.chronicle) (told ∷ []) 0 c.answered.ensures.kept (omega (arith, reader)) (omega arith) c.requires.stripe.numbered;
+      };
+      between = between-tells before.device before.device kept (g.C.Chronicle.kept c.answered.new.chronicle) (told ∷ []) refl c.answered.ensures.kept
+          (answer_tells_no_fault c.args.reader c.args.answer) (answer_tells_none c.args.reader c.args.answer, tt);
+      later = omega arith;
     }
 
-pub returns-clause-unharmed : goal.returns-clause-unharmed
-returns-clause-unharmed g c =
-    let device = (seen_in g.D.Disk g.R.Directory c.args.self.now).device in
-    between-tells device device (kept_in g.C.Chronicle c.args.self.now) (g.C.Chronicle.kept c.answered.new.chronicle) (answer_record c.args.reader c.args.answer ∷ []) refl c.answered.ensures.kept
-    (answer_tells_no_fault c.args.reader c.args.answer) (answer_tells_none c.args.reader c.args.answer, tt)
+pub returns-clause-does : goal.returns-clause-does
+returns-clause-does g c = notes c.args.reader c.args.answer

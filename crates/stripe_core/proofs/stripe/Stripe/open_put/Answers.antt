@@ -25,48 +25,45 @@ opened_as actor put pin key kept reserved after request given_request response g
     ∙ (ap (λ q. with_records kept (rec.WriteOpened actor put key q given_response pin ∷ [])) first
     ∙ ap (λ q. with_records kept (rec.WriteOpened actor put key request q pin ∷ [])) second))
 
-pub returns-in-Ok-clause-stripe : goal.returns-in-Ok-clause-stripe
-returns-in-Ok-clause-stripe g c =
-    let s = state_in g.C.Chronicle c.args.self.now in
-    let kept = kept_in g.C.Chronicle c.args.self.now in
-    let before = seen_in g.D.Disk g.R.Directory c.args.self.now in
+pub returns-in-Ok-clause-continues : goal.returns-in-Ok-clause-continues
+returns-in-Ok-clause-continues g c =
+    let s = state_in c.args.self.now in
+    let kept = kept_in c.args.self.now in
+    let before = seen_in c.args.self.now in
     let told = rec.WriteOpened c.args.actor c.in-Ok.put c.args.key c.args.request c.args.response c.args.pin in
     let after = g.C.Chronicle.kept c.write_opened.new.chronicle in
     let is : after ≡ with_records kept (told ∷ []) =
     opened_as c.args.actor c.in-Ok.put c.args.pin c.args.key kept (g.C.Chronicle.kept c.reserve.new.self) after c.args.request c.in_ok-kept_request.kept_request c.args.response c.in_ok-kept_response.kept_response c.write_opened.ensures.kept c.reserve.ensures.kept c.in_ok-kept_request.ensures.copy c.in_ok-kept_response.ensures.copy in
     let reader = reader_behind kept after told is in
     record {
-      pieces = held_behind kept after before told is tt (record { geometry = refl; cursor = refl; filled = refl; rows = refl; fault = refl }) c.requires.stripe.pieces;
-      actors = subst (λ t. AreActors t c.open_put.new.self) (sym (ap state_of is ∙ state_of-with_records kept (told ∷ []))) (c.in-Ok.ensures.ok.opened c.args.actor c.args.pin s c.requires.stripe.actors);
-      plain = c.requires.stripe.plain;
-      spared = record {
-        for_records =
-            subst (λ geometry. records_of_unit geometry * c.args.self.now.units ≤ g.C.Chronicle.room c.write_opened.new.chronicle) c.geometry.ensures
-            (behind_one _ c.records_of-most.result (g.C.Chronicle.room c.reserve.new.self) _ c.records_of-most.ensures.count c.in_ok-reserve.ensures.room c.write_opened.ensures.room);
-        entries = c.requires.stripe.spared.entries;
-        one_each = c.requires.stripe.spared.one_each;
-        calls = c.requires.stripe.spared.calls;
-        blocks = omega (arith, c.requires.stripe.spared);
+      stripe = record {
+        pieces = held_behind kept after before told is tt (record { geometry = refl; cursor = refl; filled = refl; rows = refl; fault = refl }) c.requires.resting.stripe.pieces;
+        actors = subst (λ t. AreActors t c.open_put.new.self) (sym (ap state_of is ∙ state_of-with_records kept (told ∷ []))) (c.in-Ok.ensures.ok.opened c.args.actor c.args.pin s c.requires.resting.stripe.actors);
+        plain = c.requires.resting.stripe.plain;
+        spared = record {
+          for_records =
+              subst (λ geometry. records_of_unit geometry * c.args.self.now.units ≤ g.C.Chronicle.room c.write_opened.new.chronicle) c.geometry.ensures
+              (behind_one _ c.records_of-most.result (g.C.Chronicle.room c.reserve.new.self) _ c.records_of-most.ensures.count c.in_ok-reserve.ensures.room c.write_opened.ensures.room);
+          entries = c.requires.resting.stripe.spared.entries;
+          one_each = c.requires.resting.stripe.spared.one_each;
+          calls = c.requires.resting.stripe.spared.calls;
+          blocks = omega (arith, c.requires.resting.stripe.spared);
+        };
+        named = named_behind kept after told is
+            (subst (λ n. IsNamed (state_after s (rec.WriteOpened c.args.actor n c.args.key c.args.request c.args.response c.args.pin))) (sym (c.in-Ok.ensures.ok.number ∙ c.requires.resting.stripe.actors.next_put))
+            (named_opened s c.args.actor c.args.key c.args.request c.args.response c.args.pin c.requires.resting.stripe.named));
+        readers = omega (arith, c.requires.resting.stripe.readers, c.open_put.ensures.readers);
+        ahead = made_behind kept after told c.args.self.now.ahead is refl c.requires.resting.stripe.ahead;
+        numbered = numbered_by kept after (told ∷ []) 0 is (omega (arith, reader)) (omega arith) c.requires.resting.stripe.numbered;
       };
-      named = named_behind kept after told is
-          (subst (λ n. IsNamed (state_after s (rec.WriteOpened c.args.actor n c.args.key c.args.request c.args.response c.args.pin))) (sym (c.in-Ok.ensures.ok.number ∙ c.requires.stripe.actors.next_put))
-          (named_opened s c.args.actor c.args.key c.args.request c.args.response c.args.pin c.requires.stripe.named));
-      readers = omega (arith, c.requires.stripe.readers, c.open_put.ensures.readers);
-      ahead = made_behind kept after told c.args.self.now.ahead is refl c.requires.stripe.ahead;
-      numbered = numbered_by kept after (told ∷ []) 0 is (omega (arith, reader)) (omega arith) c.requires.stripe.numbered;
+      between = between-tells _ _ kept after (told ∷ []) refl is refl (refl, tt);
+      later = omega arith;
     }
 
 pub returns-in-Ok-clause-does : goal.returns-in-Ok-clause-does
 returns-in-Ok-clause-does g c =
-    let s = state_in g.C.Chronicle c.args.self.now in (
-      c.in-Ok.ensures.ok.number ∙ c.requires.stripe.actors.next_put,
-      λ p. opens p s c.args.actor c.args.key c.args.request c.args.response c.args.pin c.requires.quiet c.requires.number.few c.requires.number.below
+    let s = state_in c.args.self.now in (
+      c.in-Ok.ensures.ok.number ∙ c.requires.resting.stripe.actors.next_put,
+      λ p. opens p s c.args.actor c.args.key c.args.request c.args.response c.args.pin c.requires.resting.quiet c.requires.number.few c.requires.number.below
           c.in_ok-kept_request.ensures.fields c.in_ok-kept_response.ensures.fields (omega arith),
     )
-
-pub returns-in-Ok-clause-unharmed : goal.returns-in-Ok-clause-unharmed
-returns-in-Ok-clause-unharmed g c =
-    let told = rec.WriteOpened c.args.actor c.in-Ok.put c.args.key c.args.request c.args.response c.args.pin in
-    let kept = kept_in g.C.Chronicle c.args.self.now in
-    let after = g.C.Chronicle.kept c.write_opened.new.chronicle in
-    between-tells _ _ kept after (told ∷ []) refl (opened_as c.args.actor c.in-Ok.put c.args.pin c.args.key kept (g.C.Chronicle.kept c.reserve.new.self) after c.args.request c.in_ok-kept_request.kept_request c.args.response c.in_ok-kept_response.kept_response c.write_opened.ensures.kept c.reserve.ensures.kept c.in_ok-kept_request.ensures.copy c.in_ok-kept_response.ensures.copy) refl (refl, tt)

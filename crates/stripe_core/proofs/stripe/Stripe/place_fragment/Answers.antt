@@ -14,13 +14,13 @@ use Rattle.stripe_core.proofs.Naming.{begun_put, flush_leaves, fragment_named, f
 use Rattle.stripe_core.proofs.Between.{between-adds}
 use Rattle.stripe_core.proofs.stripe.Stripe.place_fragment.Goals as goal
 
-pub returns-in-Ok-clause-stripe : goal.returns-in-Ok-clause-stripe
-returns-in-Ok-clause-stripe g c =
-    let s = state_in g.C.Chronicle c.args.self.now in
-    let kept = kept_in g.C.Chronicle c.args.self.now in
-    let new = kept_of g.C.Chronicle c.place_fragment.new.self in
-    let before = seen_in g.D.Disk g.R.Directory c.args.self.now in
-    let after = seen_of g.D.Disk g.R.Directory c.place_fragment.new.self in
+pub returns-in-Ok-clause-continues : goal.returns-in-Ok-clause-continues
+returns-in-Ok-clause-continues g c =
+    let s = state_in c.args.self.now in
+    let kept = kept_in c.args.self.now in
+    let new = kept_of c.place_fragment.new.self in
+    let before = seen_in c.args.self.now in
+    let after = seen_of c.place_fragment.new.self in
     let id = c.args.id in
     let payload = c.args.payload.now in
     let kind = no_vector_id s id c.args.pin c.args.start payload c.requires.fragment in
@@ -29,82 +29,74 @@ returns-in-Ok-clause-stripe g c =
     let behind : state_of new ≡ after_all s (shape.room ++ piece_records (after_all s shape.room) id c.args.pin c.args.start payload) =
     ap state_of does.adds ∙ (state_of-with_records kept does.added ∙ ap (after_all s) shape.is) in
     record {
-      pieces = c.place_fragment.ensures.pieces;
-      actors = subst (λ t. AreActors t c.cut.new.self) (sym behind)
-          (fragment_actors s id c.args.pin c.args.start payload shape.room shape.kinds kind c.reserve_cut.new.self c.cut.new.self c.in-Ok.placed.payload shape.payload_is c.cut.ensures.cuts
-          (c.reserve_cut.ensures.step s c.requires.stripe.actors));
-      plain = c.requires.stripe.plain;
-      spared = spent_by (nat_lt c.room.result c.blocks_of.result) (units_in c.args.self.now) (flushes_in c.args.self.now) c.one_where.result _ _ _ _ before after
-          c.one_where.ensures c.requires.spared c.place_fragment.ensures.uses (omega arith) (omega arith)
-          (λ none. c.place_fragment.ensures.still (room_for_it s before (length payload) c.blocks_of.result c.room.result c.requires.stripe.pieces c.blocks_of.ensures c.room.ensures none));
-      named =
-          fragment_named s _ id _ _ c.args.pin c.args.start _ payload shape.room _ _ c.requires.fragment shape.kinds c.requires.stripe.named
-          (begun_put s c.args.self.now.actors id.put c.requires.fragment.w c.requires.stripe.actors c.requires.fragment.next.writing.found)
-          (behind ∙ placed_state s id c.args.pin c.args.start payload shape.room shape.kinds kind);
-      readers = omega (arith, c.requires.stripe.readers, c.reserve_cut.ensures.readers, c.cut.ensures.readers);
-      ahead = made_still s _ before after c.place_fragment.new.ahead c.requires.stripe.pieces c.place_fragment.ensures.pieces c.place_fragment.ensures.uses.same c.place_fragment.ensures.ahead;
-      numbered =
-          let same : (state_of new).next_reader ≡ s.next_reader =
-          ap (λ (t : State). t.next_reader) behind ∙ fragment_readers s id c.args.pin c.args.start payload shape.room shape.kinds kind in
-          numbered_by kept new does.added 0 does.adds (omega (arith, same)) (omega arith) c.requires.stripe.numbered;
+      stripe = record {
+        pieces = c.place_fragment.ensures.pieces;
+        actors = subst (λ t. AreActors t c.cut.new.self) (sym behind)
+            (fragment_actors s id c.args.pin c.args.start payload shape.room shape.kinds kind c.reserve_cut.new.self c.cut.new.self c.in-Ok.placed.payload shape.payload_is c.cut.ensures.cuts
+            (c.reserve_cut.ensures.step s c.requires.stripe.actors));
+        plain = c.requires.stripe.plain;
+        spared = spent_by (nat_lt c.room.result c.blocks_of.result) (units_in c.args.self.now) (flushes_in c.args.self.now) c.one_where.result _ _ _ _ before after
+            c.one_where.ensures c.requires.spared c.place_fragment.ensures.uses (omega arith) (omega arith)
+            (λ none. c.place_fragment.ensures.still (room_for_it s before (length payload) c.blocks_of.result c.room.result c.requires.stripe.pieces c.blocks_of.ensures c.room.ensures none));
+        named =
+            fragment_named s _ id _ _ c.args.pin c.args.start _ payload shape.room _ _ c.requires.fragment shape.kinds c.requires.stripe.named
+            (begun_put s c.args.self.now.actors id.put c.requires.fragment.w c.requires.stripe.actors c.requires.fragment.next.writing.found)
+            (behind ∙ placed_state s id c.args.pin c.args.start payload shape.room shape.kinds kind);
+        readers = omega (arith, c.requires.stripe.readers, c.reserve_cut.ensures.readers, c.cut.ensures.readers);
+        ahead = made_still s _ before after c.place_fragment.new.ahead c.requires.stripe.pieces c.place_fragment.ensures.pieces c.place_fragment.ensures.uses.same c.place_fragment.ensures.ahead;
+        numbered =
+            let same : (state_of new).next_reader ≡ s.next_reader =
+            ap (λ (t : State). t.next_reader) behind ∙ fragment_readers s id c.args.pin c.args.start payload shape.room shape.kinds kind in
+            numbered_by kept new does.added 0 does.adds (omega (arith, same)) (omega arith) c.requires.stripe.numbered;
+      };
+      between = between-adds _ _ kept _ does.added does.adds c.place_fragment.ensures.uses.goes does.faults does.unharmed;
+      later = c.place_fragment.ensures.uses.later;
     }
 
-pub returns-in-Err-clause-stripe : goal.returns-in-Err-clause-stripe
-returns-in-Err-clause-stripe g c =
-    let s = state_in g.C.Chronicle c.args.self.now in
-    let kept = kept_in g.C.Chronicle c.args.self.now in
-    let before = seen_in g.D.Disk g.R.Directory c.args.self.now in
-    let after = seen_of g.D.Disk g.R.Directory c.place_fragment.new.self in
+pub returns-in-Err-clause-continues : goal.returns-in-Err-clause-continues
+returns-in-Err-clause-continues g c =
+    let s = state_in c.args.self.now in
+    let kept = kept_in c.args.self.now in
+    let before = seen_in c.args.self.now in
+    let after = seen_of c.place_fragment.new.self in
     let payload = c.args.payload.now in
     let does = c.in-Err.ensures.does in
     let shape : IsStoppedAs s after.device.faults payload does.added c.in-Err.stop = does.shape in
     let others = flush_is_others does.added shape.kinds in
     record {
-      pieces = c.place_fragment.ensures.pieces;
-      actors = actors_with kept _ c.reserve_cut.new.self does.added does.adds others (c.reserve_cut.ensures.step s c.requires.stripe.actors);
-      plain = c.requires.stripe.plain;
-      spared = spent_by (nat_lt c.room.result c.blocks_of.result) (units_in c.args.self.now) (flushes_in c.args.self.now) c.one_where.result _ _ _ _ before after
-          c.one_where.ensures c.requires.spared c.place_fragment.ensures.uses (omega arith) (omega arith)
-          (λ none. c.place_fragment.ensures.still (room_for_it s before (length payload) c.blocks_of.result c.room.result c.requires.stripe.pieces c.blocks_of.ensures c.room.ensures none));
-      named = named_with kept _ does.added does.adds (flush_leaves does.added shape.kinds) c.requires.stripe.named;
-      readers = omega (arith, c.requires.stripe.readers, c.reserve_cut.ensures.readers);
-      ahead = made_still s _ before after c.place_fragment.new.ahead c.requires.stripe.pieces c.place_fragment.ensures.pieces c.place_fragment.ensures.uses.same c.place_fragment.ensures.ahead;
-      numbered = numbered_others kept _ does.added does.adds others c.requires.stripe.numbered;
+      stripe = record {
+        pieces = c.place_fragment.ensures.pieces;
+        actors = actors_with kept _ c.reserve_cut.new.self does.added does.adds others (c.reserve_cut.ensures.step s c.requires.stripe.actors);
+        plain = c.requires.stripe.plain;
+        spared = spent_by (nat_lt c.room.result c.blocks_of.result) (units_in c.args.self.now) (flushes_in c.args.self.now) c.one_where.result _ _ _ _ before after
+            c.one_where.ensures c.requires.spared c.place_fragment.ensures.uses (omega arith) (omega arith)
+            (λ none. c.place_fragment.ensures.still (room_for_it s before (length payload) c.blocks_of.result c.room.result c.requires.stripe.pieces c.blocks_of.ensures c.room.ensures none));
+        named = named_with kept _ does.added does.adds (flush_leaves does.added shape.kinds) c.requires.stripe.named;
+        readers = omega (arith, c.requires.stripe.readers, c.reserve_cut.ensures.readers);
+        ahead = made_still s _ before after c.place_fragment.new.ahead c.requires.stripe.pieces c.place_fragment.ensures.pieces c.place_fragment.ensures.uses.same c.place_fragment.ensures.ahead;
+        numbered = numbered_others kept _ does.added does.adds others c.requires.stripe.numbered;
+      };
+      between = between-adds _ _ kept _ does.added does.adds c.place_fragment.ensures.uses.goes does.faults does.unharmed;
+      later = c.place_fragment.ensures.uses.later;
     }
 
 pub returns-in-Err-clause-does : goal.returns-in-Err-clause-does
 returns-in-Err-clause-does g c =
-    let kept = kept_in g.C.Chronicle c.args.self.now in
-    let new = kept_of g.C.Chronicle c.place_fragment.new.self in
-    let before = (seen_in g.D.Disk g.R.Directory c.args.self.now).device.past in
-    let after = (seen_of g.D.Disk g.R.Directory c.place_fragment.new.self).device in
+    let kept = kept_in c.args.self.now in
+    let new = kept_of c.place_fragment.new.self in
+    let before = (seen_in c.args.self.now).device.past in
+    let after = (seen_of c.place_fragment.new.self).device in
     let cuts = CutsAsAsked c.args.now kept new before after c.args.id c.args.pin c.args.start c.args.payload.now in
     subst (λ r. Answers (Err r) cuts (new ≡ kept)) (sym c.from.ensures) (answers_stop c.in-Err.stop cuts (new ≡ kept) c.in-Err.ensures.does)
 
 pub returns-in-Err-clause-memory : goal.returns-in-Err-clause-memory
 returns-in-Err-clause-memory g c = λ some. subst (λ r. HasMemory {X = Placed} (Err r)) (sym c.from.ensures) (stop_has_memory Placed c.in-Err.stop)
 
-pub returns-in-Ok-clause-unharmed : goal.returns-in-Ok-clause-unharmed
-returns-in-Ok-clause-unharmed g c =
-    let does = c.in-Ok.ensures.does in
-    between-adds _ _ (kept_in g.C.Chronicle c.args.self.now) _ does.added does.adds c.place_fragment.ensures.uses.goes does.faults does.unharmed
-
-pub returns-in-Err-clause-unharmed : goal.returns-in-Err-clause-unharmed
-returns-in-Err-clause-unharmed g c =
-    let does = c.in-Err.ensures.does in
-    between-adds _ _ (kept_in g.C.Chronicle c.args.self.now) _ does.added does.adds c.place_fragment.ensures.uses.goes does.faults does.unharmed
-
 pub place_fragment-requires-clause-new : goal.place_fragment-requires-clause-new
 place_fragment-requires-clause-new g c =
-    fragment_new (state_in g.C.Chronicle c.args.self.now) c.args.id c.args.pin c.args.start c.args.payload.now c.requires.fragment c.requires.stripe.named
+    fragment_new (state_in c.args.self.now) c.args.id c.args.pin c.args.start c.args.payload.now c.requires.fragment c.requires.stripe.named
 
 pub place_fragment-requires-clause-size : goal.place_fragment-requires-clause-size
 place_fragment-requires-clause-size g c =
-    let s = state_in g.C.Chronicle c.args.self.now in
+    let s = state_in c.args.self.now in
     small_size s (length c.args.payload.now) (fragment_new s c.args.id c.args.pin c.args.start c.args.payload.now c.requires.fragment c.requires.stripe.named).small
-
-pub returns-in-Ok-clause-later : goal.returns-in-Ok-clause-later
-returns-in-Ok-clause-later g c = c.place_fragment.ensures.uses.later
-
-pub returns-in-Err-clause-later : goal.returns-in-Err-clause-later
-returns-in-Err-clause-later g c = c.place_fragment.ensures.uses.later

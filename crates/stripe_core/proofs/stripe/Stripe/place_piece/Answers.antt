@@ -6,17 +6,17 @@ use Rattle.stripe_core.specs.Place.{CutsAsAsked, PlacesAsAsked, PlacesVector}
 use Rattle.stripe_core.specs.Stripe.{kept_in, room_for, seen_in}
 use Rattle.stripe_core.proofs.Asked.{behind_unit}
 use Rattle.stripe_core.proofs.Sparing.{answers_map}
-use Rattle.stripe_core.proofs.Between.{between-trans}
+use Rattle.stripe_core.proofs.Continuing.{continues_then}
 use Rattle.stripe_core.proofs.stripe.Stripe.place_piece.Goals as goal
 
 pub returns-then-id-eq0-clause-does : goal.returns-then-id-eq0-clause-does
 returns-then-id-eq0-clause-does g c =
-    let old = kept_in g.C.Chronicle c.args.self.now in
-    let taken = kept_in g.C.Chronicle c.take_unit.new.self in
-    let new = kept_in g.C.Chronicle c.place_vector.new.self in
-    let first = (seen_in g.D.Disk g.R.Directory c.args.self.now).device.past in
-    let before = (seen_in g.D.Disk g.R.Directory c.take_unit.new.self).device.past in
-    let after = (seen_in g.D.Disk g.R.Directory c.place_vector.new.self).device in
+    let old = kept_in c.args.self.now in
+    let taken = kept_in c.take_unit.new.self in
+    let new = kept_in c.place_vector.new.self in
+    let first = (seen_in c.args.self.now).device.past in
+    let before = (seen_in c.take_unit.new.self).device.past in
+    let after = (seen_in c.place_vector.new.self).device in
     let id = c.args.id in
     let payload = c.args.payload.now in
     let kind : is_vector id ≡ true = eq-eqb id.index 0 c.if-id-eq0.true in
@@ -28,12 +28,12 @@ returns-then-id-eq0-clause-does g c =
 
 pub returns-else-id-eq0-clause-does : goal.returns-else-id-eq0-clause-does
 returns-else-id-eq0-clause-does g c =
-    let old = kept_in g.C.Chronicle c.args.self.now in
-    let taken = kept_in g.C.Chronicle c.take_unit.new.self in
-    let new = kept_in g.C.Chronicle c.place_fragment.new.self in
-    let first = (seen_in g.D.Disk g.R.Directory c.args.self.now).device.past in
-    let before = (seen_in g.D.Disk g.R.Directory c.take_unit.new.self).device.past in
-    let after = (seen_in g.D.Disk g.R.Directory c.place_fragment.new.self).device in
+    let old = kept_in c.args.self.now in
+    let taken = kept_in c.take_unit.new.self in
+    let new = kept_in c.place_fragment.new.self in
+    let first = (seen_in c.args.self.now).device.past in
+    let before = (seen_in c.take_unit.new.self).device.past in
+    let after = (seen_in c.place_fragment.new.self).device in
     let id = c.args.id in
     let payload = c.args.payload.now in
     let kind : is_vector id ≡ false = ne_eqb id.index 0 c.if-id-eq0.false in
@@ -43,11 +43,11 @@ returns-else-id-eq0-clause-does g c =
     (behind_unit (λ k n. CutsAsAsked c.args.now k new n after id c.args.pin c.args.start payload r) taken old before first c.take_unit.ensures.records c.take_unit.ensures.still.past h))
     (λ same. subst (λ k. new ≡ k) c.take_unit.ensures.records same) c.place_fragment.ensures.does
 
-pub returns-then-id-eq0-clause-unharmed : goal.returns-then-id-eq0-clause-unharmed
-returns-then-id-eq0-clause-unharmed g c = between-trans _ _ _ _ _ _ c.take_unit.ensures.unharmed c.place_vector.ensures.unharmed
+pub returns-then-id-eq0-clause-continues : goal.returns-then-id-eq0-clause-continues
+returns-then-id-eq0-clause-continues g c = continues_then _ _ _ c.take_unit.ensures.continues c.place_vector.ensures.continues
 
-pub returns-else-id-eq0-clause-unharmed : goal.returns-else-id-eq0-clause-unharmed
-returns-else-id-eq0-clause-unharmed g c = between-trans _ _ _ _ _ _ c.take_unit.ensures.unharmed c.place_fragment.ensures.unharmed
+pub returns-else-id-eq0-clause-continues : goal.returns-else-id-eq0-clause-continues
+returns-else-id-eq0-clause-continues g c = continues_then _ _ _ c.take_unit.ensures.continues c.place_fragment.ensures.continues
 
 pub returns-else-id-eq0-clause-memory : goal.returns-else-id-eq0-clause-memory
 returns-else-id-eq0-clause-memory g c = λ some made.

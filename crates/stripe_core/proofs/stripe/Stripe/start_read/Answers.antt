@@ -5,28 +5,37 @@ use Rattle.stripe_actors.specs.Actors.{AreActors}
 use Rattle.stripe_core.specs.Acts.{IsFollowable}
 use Rattle.stripe_core.specs.Stripe.{flushes_in, kept_in, seen_in, state_in, units_in}
 use Rattle.stripe_core.proofs.Flushes.{state_of-with_records}
-use Rattle.stripe_core.proofs.Doings.{held_behind, reader_behind}
+use Rattle.stripe_core.proofs.Doings.{held_behind, looks, reader_behind}
 use Rattle.stripe_core.proofs.Naming.{name_left, named_behind}
 use Rattle.stripe_core.proofs.Sparing.{made_behind, numbered_by, one_told}
+use Rattle.stripe_core.proofs.Between.{between-tells, between-trans}
 use Rattle.stripe_core.proofs.stripe.Stripe.start_read.Goals as goal
 
-pub returns-clause-stripe : goal.returns-clause-stripe
-returns-clause-stripe g c =
-    let taken = state_in g.C.Chronicle c.take_unit.new.self in
-    let kept = kept_in g.C.Chronicle c.take_unit.new.self in
+pub returns-clause-continues : goal.returns-clause-continues
+returns-clause-continues g c =
+    let taken = state_in c.take_unit.new.self in
+    let kept = kept_in c.take_unit.new.self in
     let told = rec.ReadOpened c.in_ok-reader.reader c.args.actor c.args.key c.args.request c.args.answer in
     let after = g.C.Chronicle.kept c.read_opened.new.chronicle in
     let follows : IsFollowable taken c.args.answer = subst (λ t. IsFollowable t c.args.answer) (sym (ap state_of c.take_unit.ensures.records)) c.requires.follows in
-    let number : c.in_ok-reader.reader ≡ taken.next_reader = c.in_ok-reader.ensures.number ∙ c.take_unit.ensures.stripe.actors.next_reader in
+    let number : c.in_ok-reader.reader ≡ taken.next_reader = c.in_ok-reader.ensures.number ∙ c.take_unit.ensures.continues.stripe.actors.next_reader in
     let reader = reader_behind kept after told c.read_opened.ensures.kept in
     record {
-      pieces = held_behind kept after (seen_in g.D.Disk g.R.Directory c.take_unit.new.self) told c.read_opened.ensures.kept tt (record { geometry = refl; cursor = refl; filled = refl; rows = refl; fault = refl }) c.take_unit.ensures.stripe.pieces;
-      actors = subst (λ t. AreActors t c.answer_lookup.new.actors) (sym (ap state_of c.read_opened.ensures.kept ∙ state_of-with_records kept (told ∷ [])))
-          (c.in_ok-reader.ensures.keeps taken c.args.actor c.args.key c.args.request follows c.take_unit.ensures.stripe.actors);
-      plain = c.requires.stripe.plain;
-      spared = one_told (units_in c.take_unit.new.self) (flushes_in c.take_unit.new.self) _ _ (seen_in g.D.Disk g.R.Directory c.take_unit.new.self) c.in_ok-take_unit.ensures.spared c.read_opened.ensures.room;
-      named = named_behind kept after told c.read_opened.ensures.kept (name_left taken told refl c.take_unit.ensures.stripe.named);
-      readers = omega (arith, c.in_ok-take_unit.ensures.readers, c.answer_lookup.ensures.room);
-      ahead = made_behind kept after told c.take_unit.new.self.ahead c.read_opened.ensures.kept refl c.take_unit.ensures.stripe.ahead;
-      numbered = numbered_by kept after (told ∷ []) 1 c.read_opened.ensures.kept (omega (arith, reader, number)) (omega arith) c.take_unit.ensures.stripe.numbered;
+      stripe = record {
+        pieces = held_behind kept after (seen_in c.take_unit.new.self) told c.read_opened.ensures.kept tt (record { geometry = refl; cursor = refl; filled = refl; rows = refl; fault = refl }) c.take_unit.ensures.continues.stripe.pieces;
+        actors = subst (λ t. AreActors t c.answer_lookup.new.actors) (sym (ap state_of c.read_opened.ensures.kept ∙ state_of-with_records kept (told ∷ [])))
+            (c.in_ok-reader.ensures.keeps taken c.args.actor c.args.key c.args.request follows c.take_unit.ensures.continues.stripe.actors);
+        plain = c.requires.stripe.plain;
+        spared = one_told (units_in c.take_unit.new.self) (flushes_in c.take_unit.new.self) _ _ (seen_in c.take_unit.new.self) c.in_ok-take_unit.ensures.spared c.read_opened.ensures.room;
+        named = named_behind kept after told c.read_opened.ensures.kept (name_left taken told refl c.take_unit.ensures.continues.stripe.named);
+        readers = omega (arith, c.in_ok-take_unit.ensures.readers, c.answer_lookup.ensures.room);
+        ahead = made_behind kept after told c.take_unit.new.self.ahead c.read_opened.ensures.kept refl c.take_unit.ensures.continues.stripe.ahead;
+        numbered = numbered_by kept after (told ∷ []) 1 c.read_opened.ensures.kept (omega (arith, reader, number)) (omega arith) c.take_unit.ensures.continues.stripe.numbered;
+      };
+      between = between-trans _ _ _ _ _ _ c.take_unit.ensures.continues.between
+          (between-tells (seen_in c.take_unit.new.self).device _ kept after (told ∷ []) refl c.read_opened.ensures.kept refl (refl, tt));
+      later = omega (arith, c.take_unit.ensures.continues.later);
     }
+
+pub returns-clause-does : goal.returns-clause-does
+returns-clause-does g c = looks (state_in c.args.self.now) c.args.actor c.args.key c.args.request c.args.answer

@@ -5,23 +5,29 @@ use Rattle.stripe_core.specs.Stripe.{kept_in, seen_in, state_in}
 use Rattle.stripe_core.proofs.Doings.{one_less, removes}
 use Rattle.stripe_core.proofs.Naming.{name_left, named_behind}
 use Rattle.stripe_core.proofs.Sparing.{actors_with, made_behind, numbered_others}
+use Rattle.stripe_core.proofs.Between.{between-tells}
+use Rattle.stripe_core.proofs.Continuing.{no_less}
 use Rattle.stripe_core.proofs.stripe.Stripe.take_out.Goals as goal
 
-pub returns-clause-stripe : goal.returns-clause-stripe
-returns-clause-stripe g c =
-    let s = state_in g.C.Chronicle c.args.self.now in
-    let kept = kept_in g.C.Chronicle c.args.self.now in
+pub returns-clause-continues : goal.returns-clause-continues
+returns-clause-continues g c =
+    let s = state_in c.args.self.now in
+    let kept = kept_in c.args.self.now in
     let told = rec.Removed c.remove-put.result c.args.key in
     record {
-      pieces = c.remove-put.ensures.pieces;
-      actors = actors_with kept _ c.args.self.now.actors (told ∷ []) c.remove-put.ensures.adds (refl, tt) c.requires.stripe.actors;
-      plain = c.requires.stripe.plain;
-      spared = one_less c.args.self.now.units c.args.self.now.flushes _ _ (seen_in g.D.Disk g.R.Directory c.args.self.now) (seen_of g.D.Disk g.R.Directory c.remove-put.new.self) c.requires.unit c.requires.stripe.spared c.remove-put.ensures.uses;
-      named = named_behind kept _ told c.remove-put.ensures.adds (name_left s told refl c.requires.stripe.named);
-      readers = omega (arith, c.requires.stripe.readers);
-      ahead = made_behind kept _ told c.args.self.now.ahead c.remove-put.ensures.adds refl c.requires.stripe.ahead;
-      numbered = numbered_others kept _ (told ∷ []) c.remove-put.ensures.adds (refl, tt) c.requires.stripe.numbered;
+      stripe = record {
+        pieces = c.remove-put.ensures.pieces;
+        actors = actors_with kept _ c.args.self.now.actors (told ∷ []) c.remove-put.ensures.adds (refl, tt) c.requires.resting.stripe.actors;
+        plain = c.requires.resting.stripe.plain;
+        spared = one_less c.args.self.now.units c.args.self.now.flushes _ _ (seen_in c.args.self.now) (seen_of c.remove-put.new.self) c.requires.unit c.requires.resting.stripe.spared c.remove-put.ensures.uses;
+        named = named_behind kept _ told c.remove-put.ensures.adds (name_left s told refl c.requires.resting.stripe.named);
+        readers = omega (arith, c.requires.resting.stripe.readers);
+        ahead = made_behind kept _ told c.args.self.now.ahead c.remove-put.ensures.adds refl c.requires.resting.stripe.ahead;
+        numbered = numbered_others kept _ (told ∷ []) c.remove-put.ensures.adds (refl, tt) c.requires.resting.stripe.numbered;
+      };
+      between = between-tells _ _ kept _ (told ∷ []) c.remove-put.ensures.still c.remove-put.ensures.adds refl (refl, tt);
+      later = no_less _ _ c.remove-put.ensures.still;
     }
 
 pub returns-clause-does : goal.returns-clause-does
-returns-clause-does g c = λ p. removes p (state_in g.C.Chronicle c.args.self.now) c.args.key c.remove-put.result c.requires.quiet c.requires.live c.remove-put.ensures.put
+returns-clause-does g c = λ p. removes p (state_in c.args.self.now) c.args.key c.remove-put.result c.requires.resting.quiet c.requires.live c.remove-put.ensures.put

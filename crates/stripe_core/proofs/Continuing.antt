@@ -1,0 +1,111 @@
+-- What every call keeps, of no call and of one behind another.
+use Rattle.std.proofs.Common.{◌≡◌, ◌≤◌, refl, sym, ap, subst, arith}
+use Rattle.logged_disk.specs.Device.{State as Device}
+use Rattle.logged_disk.specs.declared.device.Disk.{Ghosts as DiskGhosts}
+use Rattle.logged_disk.proofs.GoingOn.{goes_further, stays_as}
+use Rattle.dir_table.specs.declared.directory.Directory.{Ghosts as DirectoryGhosts}
+use Rattle.cache_chronicle.specs.declared.chronicle.Chronicle.{Ghosts as ChronicleGhosts}
+use Rattle.cache_model.specs.Kept.{state_of}
+use Rattle.cache_model.specs.Legal.{IsQuiet}
+use Rattle.stripe_core.specs.declared.stripe.Stripe.{Stripe}
+use Rattle.stripe_core.specs.Between.{Between, Continues, IsResting, Proceeds, Rests}
+use Rattle.stripe_core.specs.Stripe.{IsStripe, kept_in, seen_in, state_in}
+use Rattle.stripe_core.proofs.Between.{accounted_none, accounted_then, between-trans, between_same}
+
+-- a device that stays counts no less
+pub no_less : (a b : Device) → b ≡ a → a.faults ≤ b.faults
+no_less a b same =
+    let counts : b.faults ≡ a.faults = ap (λ (d : Device). d.faults) same in
+    omega (arith, counts)
+
+module _ {D R C : Type 0} {d : DiskGhosts D} {r : DirectoryGhosts R} {c : ChronicleGhosts C} where
+  pub between_then : (s t u : Stripe D R C d r c) → Between s t → Between t u → Between s u
+  between_then s t u first next =
+      between-trans (seen_in s).device (seen_in t).device (seen_in u).device (kept_in s) (kept_in t) (kept_in u) first next
+
+  -- ---- in the midst of a call
+
+  pub continues_same : (t : Stripe D R C d r c) → IsStripe t → Continues t t
+  continues_same t stripe = record {
+    stripe = stripe;
+    between = between_same (seen_in t).device (seen_in t).device (kept_in t) (kept_in t) refl refl;
+    later = omega arith;
+  }
+
+  pub continues_then : (s t u : Stripe D R C d r c) → Continues s t → Continues t u → Continues s u
+  continues_then s t u first next = record {
+    stripe = next.stripe;
+    between = between_then s t u first.between next.between;
+    later = omega (arith, first.later, next.later);
+  }
+
+  -- ---- from rest to rest
+
+  pub rests_same : (t : Stripe D R C d r c) → IsResting t → Rests t t
+  rests_same t resting = record {
+    resting = resting;
+    between = between_same (seen_in t).device (seen_in t).device (kept_in t) (kept_in t) refl refl;
+    later = omega arith;
+  }
+
+  pub rests_then : (s t u : Stripe D R C d r c) → Rests s t → Rests t u → Rests s u
+  rests_then s t u first next = record {
+    resting = next.resting;
+    between = between_then s t u first.between next.between;
+    later = omega (arith, first.later, next.later);
+  }
+
+  pub rests_continues : (s t : Stripe D R C d r c) → Rests s t → Continues s t
+  rests_continues s t rests = record { stripe = rests.resting.stripe; between = rests.between; later = rests.later }
+
+  pub continues_rests : (s t : Stripe D R C d r c) → Continues s t → IsQuiet (state_in t) → Rests s t
+  continues_rests s t continues quiet = record {
+    resting = record { stripe = continues.stripe; quiet = quiet };
+    between = continues.between;
+    later = continues.later;
+  }
+
+  -- behind a call that adds no record the stripe is still at rest
+  pub still_resting : (s t : Stripe D R C d r c) → IsStripe t → kept_in t ≡ kept_in s → IsResting s → IsResting t
+  still_resting s t stripe same resting = record { stripe = stripe; quiet = subst (λ k. IsQuiet (state_of k)) (sym same) resting.quiet }
+
+  pub continues_still : (s t : Stripe D R C d r c) → Continues s t → kept_in t ≡ kept_in s → IsResting s → Rests s t
+  continues_still s t continues same resting = record {
+    resting = still_resting s t continues.stripe same resting;
+    between = continues.between;
+    later = continues.later;
+  }
+
+  pub then_rests : (s t u : Stripe D R C d r c) → Continues s t → Rests t u → Rests s u
+  then_rests s t u first next = record {
+    resting = next.resting;
+    between = between_then s t u first.between next.between;
+    later = omega (arith, first.later, next.later);
+  }
+
+  pub continues_further : (s t u : Stripe D R C d r c) → Continues s t → Continues t u → IsQuiet (state_in u) → Rests s u
+  continues_further s t u first next quiet = continues_rests s u (continues_then s t u first next) quiet
+
+  -- ---- whatever the device tells
+
+  pub proceeds_same : (t : Stripe D R C d r c) → Proceeds t t
+  proceeds_same t = record {
+    goes = stays_as (seen_in t).device (seen_in t).device refl;
+    accounted = accounted_none (seen_in t).device.past (seen_in t).device.past (kept_in t) (kept_in t) refl refl;
+    later = omega arith;
+  }
+
+  pub proceeds_then : (s t u : Stripe D R C d r c) → Proceeds s t → Proceeds t u → Proceeds s u
+  proceeds_then s t u first next = record {
+    goes = goes_further (seen_in s).device (seen_in t).device (seen_in u).device first.goes next.goes;
+    accounted =
+        accounted_then (seen_in s).device.past (seen_in t).device.past (seen_in u).device.past (kept_in s) (kept_in t) (kept_in u)
+        first.accounted next.accounted;
+    later = omega (arith, first.later, next.later);
+  }
+
+  pub continues_proceeds : (s t : Stripe D R C d r c) → Continues s t → Proceeds s t
+  continues_proceeds s t continues = record { goes = continues.between.goes; accounted = continues.between.accounted; later = continues.later }
+
+  pub rests_proceeds : (s t : Stripe D R C d r c) → Rests s t → Proceeds s t
+  rests_proceeds s t rests = record { goes = rests.between.goes; accounted = rests.between.accounted; later = rests.later }
