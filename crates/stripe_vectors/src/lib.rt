@@ -1,5 +1,5 @@
 //! The alternates of a key, read back from its live vector, and the vector that a put is to have.
-#![tactic(auto, using(logged_disk::proofs::GoingOn::stays_as, stripe_core::proofs::Between::between_same))]
+#![tactic(auto, using(logged_disk::proofs::GoingOn::stays_as, stripe_core::proofs::Between::between_same, stripe_core::proofs::Continuing::continues_same, stripe_core::proofs::Continuing::rests_same))]
 
 mod laws;
 mod reading;

@@ -6,8 +6,8 @@ ghost use Rattle.cache_model.specs.State.{live_row_of};
 ghost use Rattle.cache_model.specs.Verdict.{live_vector_of, vector_of};
 ghost use Rattle.stripe_core.specs.Covers.{AreSeen};
 ghost use Rattle.stripe_core.specs.Find.{HasRoomFor};
-ghost use Rattle.stripe_core.specs.Stripe.{IsStripe, kept_in, room_for, seen_in, state_in, units_in};
-ghost use Rattle.stripe_core.specs.Between.{Between};
+ghost use Rattle.stripe_core.specs.Stripe.{IsStripe, IsUnwritten, kept_in, room_for, seen_in, state_in, units_in};
+ghost use Rattle.stripe_core.specs.Between.{Continues};
 ghost use Rattle.stripe_vectors.specs.Reading.{FindsVector, listed_in, vector_adds};
 
 use alternate_vector::{Vector, VectorFault};
@@ -35,17 +35,16 @@ pub fn read_vector<D: Disk, R: Directory + Drop, C: Chronicle>(
     stripe: &mut Stripe<D, R, C>,
     key: Key,
 ) -> Result<KeyVector, AllocError>
-    requires { IsStripe D.Disk R.Directory C.Chronicle stripe.old }
-    ensures stripe { IsStripe D.Disk R.Directory C.Chronicle stripe.new }
-    ensures unharmed { Between D.Disk R.Directory C.Chronicle stripe.old stripe.new }
-    ensures adds { IfOk result (λ answer. kept_in C.Chronicle stripe.new
-        ≡ with_records (kept_in C.Chronicle stripe.old) (vector_adds (state_in C.Chronicle stripe.old) key answer)) }
-    ensures finds { IfOk result (FindsVector (state_in C.Chronicle stripe.old) (seen_in D.Disk R.Directory stripe.old).device
-        (seen_in D.Disk R.Directory stripe.new).device key) }
+    requires { IsStripe stripe.old }
+    ensures continues { Continues stripe.old stripe.new }
+    ensures adds { IfOk result (λ answer. kept_in stripe.new
+        ≡ with_records (kept_in stripe.old) (vector_adds (state_in stripe.old) key answer)) }
+    ensures finds { IfOk result (FindsVector (state_in stripe.old) (seen_in stripe.old).device
+        (seen_in stripe.new).device key) }
     // What was read is what is seen, also where memory is wanting for it.
-    ensures seen { AreSeen (seen_in D.Disk R.Directory stripe.old).device (seen_in D.Disk R.Directory stripe.new).device }
-    ensures err { OnErr result (kept_in C.Chronicle stripe.new ≡ kept_in C.Chronicle stripe.old) }
-    ensures later { (seen_in D.Disk R.Directory stripe.old).device.faults ≤ (seen_in D.Disk R.Directory stripe.new).device.faults }
+    ensures seen { AreSeen (seen_in stripe.old).device (seen_in stripe.new).device }
+    ensures err { OnErr result (kept_in stripe.new ≡ kept_in stripe.old) }
+    ensures unwritten { IsUnwritten (seen_in stripe.old).device (seen_in stripe.new).device }
     ensures row { (put : ℕ) → room_for put stripe.new.actors ≡ room_for put stripe.old.actors }
     ensures unit { units_in stripe.old ≤ units_in stripe.new + 1 }
 {
@@ -60,9 +59,10 @@ pub fn live_vector<D: Disk, R: Directory + Drop, C: Chronicle>(
     stripe: &Stripe<D, R, C>,
     key: Key,
 ) -> Option<PieceId>
-    requires { IsStripe D.Disk R.Directory C.Chronicle stripe.now }
-    ensures none { result ≡ None → live_vector_of (state_in C.Chronicle stripe.now) key ≡ None }
-    ensures some { IfSome result (λ id. (vector_of (state_in C.Chronicle stripe.now) key ≡ Some id) × IsSome (live_row_of (state_in C.Chronicle stripe.now) id)) }
+    requires { IsStripe stripe.now }
+    ensures none { result ≡ None → live_vector_of (state_in stripe.now) key ≡ None }
+    ensures some { IfSome result (λ id. (vector_of (state_in stripe.now) key ≡ Some id)
+        × IsSome (live_row_of (state_in stripe.now) id)) }
 {
     let vector = stripe.chronicle().vector_of(key)?;
     match stripe.whereabouts(vector) {
@@ -76,19 +76,18 @@ fn read_live<D: Disk, R: Directory + Drop, C: Chronicle>(
     key: Key,
     vector: PieceId,
 ) -> Result<KeyVector, AllocError>
-    requires stripe { IsStripe D.Disk R.Directory C.Chronicle stripe.old }
-    requires vector { vector_of (state_in C.Chronicle stripe.old) key ≡ Some vector }
-    requires live { IsSome (live_row_of (state_in C.Chronicle stripe.old) vector) }
-    ensures stripe { IsStripe D.Disk R.Directory C.Chronicle stripe.new }
-    ensures unharmed { Between D.Disk R.Directory C.Chronicle stripe.old stripe.new }
-    ensures adds { IfOk result (λ answer. kept_in C.Chronicle stripe.new
-        ≡ with_records (kept_in C.Chronicle stripe.old) (vector_adds (state_in C.Chronicle stripe.old) key answer)) }
-    ensures finds { IfOk result (FindsVector (state_in C.Chronicle stripe.old) (seen_in D.Disk R.Directory stripe.old).device
-        (seen_in D.Disk R.Directory stripe.new).device key) }
+    requires stripe { IsStripe stripe.old }
+    requires vector { vector_of (state_in stripe.old) key ≡ Some vector }
+    requires live { IsSome (live_row_of (state_in stripe.old) vector) }
+    ensures continues { Continues stripe.old stripe.new }
+    ensures adds { IfOk result (λ answer. kept_in stripe.new
+        ≡ with_records (kept_in stripe.old) (vector_adds (state_in stripe.old) key answer)) }
+    ensures finds { IfOk result (FindsVector (state_in stripe.old) (seen_in stripe.old).device
+        (seen_in stripe.new).device key) }
     // What was read is what is seen, also where memory is wanting for it.
-    ensures seen { AreSeen (seen_in D.Disk R.Directory stripe.old).device (seen_in D.Disk R.Directory stripe.new).device }
-    ensures err { OnErr result (kept_in C.Chronicle stripe.new ≡ kept_in C.Chronicle stripe.old) }
-    ensures later { (seen_in D.Disk R.Directory stripe.old).device.faults ≤ (seen_in D.Disk R.Directory stripe.new).device.faults }
+    ensures seen { AreSeen (seen_in stripe.old).device (seen_in stripe.new).device }
+    ensures err { OnErr result (kept_in stripe.new ≡ kept_in stripe.old) }
+    ensures unwritten { IsUnwritten (seen_in stripe.old).device (seen_in stripe.new).device }
     ensures row { (put : ℕ) → room_for put stripe.new.actors ≡ room_for put stripe.old.actors }
     ensures unit { units_in stripe.old ≤ units_in stripe.new + 1 }
 {
@@ -105,20 +104,19 @@ fn read_through<D: Disk, R: Directory + Drop, C: Chronicle>(
     vector: PieceId,
     into: &mut [u8],
 ) -> Result<KeyVector, AllocError>
-    requires stripe { IsStripe D.Disk R.Directory C.Chronicle stripe.old }
-    requires vector { vector_of (state_in C.Chronicle stripe.old) key ≡ Some vector }
-    requires into { HasRoomFor (state_in C.Chronicle stripe.old) vector into.old }
-    requires live { IsSome (live_row_of (state_in C.Chronicle stripe.old) vector) }
-    ensures stripe { IsStripe D.Disk R.Directory C.Chronicle stripe.new }
-    ensures unharmed { Between D.Disk R.Directory C.Chronicle stripe.old stripe.new }
-    ensures adds { IfOk result (λ answer. kept_in C.Chronicle stripe.new
-        ≡ with_records (kept_in C.Chronicle stripe.old) (vector_adds (state_in C.Chronicle stripe.old) key answer)) }
-    ensures finds { IfOk result (FindsVector (state_in C.Chronicle stripe.old) (seen_in D.Disk R.Directory stripe.old).device
-        (seen_in D.Disk R.Directory stripe.new).device key) }
+    requires stripe { IsStripe stripe.old }
+    requires vector { vector_of (state_in stripe.old) key ≡ Some vector }
+    requires into { HasRoomFor (state_in stripe.old) vector into.old }
+    requires live { IsSome (live_row_of (state_in stripe.old) vector) }
+    ensures continues { Continues stripe.old stripe.new }
+    ensures adds { IfOk result (λ answer. kept_in stripe.new
+        ≡ with_records (kept_in stripe.old) (vector_adds (state_in stripe.old) key answer)) }
+    ensures finds { IfOk result (FindsVector (state_in stripe.old) (seen_in stripe.old).device
+        (seen_in stripe.new).device key) }
     // What was read is what is seen, also where memory is wanting for it.
-    ensures seen { AreSeen (seen_in D.Disk R.Directory stripe.old).device (seen_in D.Disk R.Directory stripe.new).device }
-    ensures err { OnErr result (kept_in C.Chronicle stripe.new ≡ kept_in C.Chronicle stripe.old) }
-    ensures later { (seen_in D.Disk R.Directory stripe.old).device.faults ≤ (seen_in D.Disk R.Directory stripe.new).device.faults }
+    ensures seen { AreSeen (seen_in stripe.old).device (seen_in stripe.new).device }
+    ensures err { OnErr result (kept_in stripe.new ≡ kept_in stripe.old) }
+    ensures unwritten { IsUnwritten (seen_in stripe.old).device (seen_in stripe.new).device }
     ensures row { (put : ℕ) → room_for put stripe.new.actors ≡ room_for put stripe.old.actors }
     ensures unit { units_in stripe.old ≤ units_in stripe.new + 1 }
 {
