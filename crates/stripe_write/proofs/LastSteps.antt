@@ -20,8 +20,9 @@ use Rattle.stripe_core.specs.declared.refusal.Stop.TheVariants as stop
 use Rattle.stripe_core.specs.Covers.{Covers, Spends}
 use Rattle.stripe_core.specs.Flush.{stop_end}
 use Rattle.stripe_core.specs.Place.{ReachesLimit}
-use Rattle.stripe_core.specs.Stripe.{Answers}
+use Rattle.stripe_core.specs.Stripe.{Answers, IsStill, IsUnwritten, Wanting}
 use Rattle.stripe_core.proofs.Covering.{covers_first, covers_last}
+use Rattle.stripe_core.proofs.Stills.{still_shows, still_then, unwritten_then}
 use Rattle.cache_model.specs.Pair.{IsKeyPair}
 use Rattle.stripe_write.specs.declared.finishing.Receipt.{Receipt}
 use Rattle.stripe_write.specs.declared.weighing.Vectors.{Vectors}
@@ -31,7 +32,7 @@ use Rattle.stripe_write.specs.Writes.{SameButBytes, SameWriter}
 use Rattle.stripe_write.specs.Closing.{SpendsAll, Weighs, WeighsAsAsked, WeighsWhere, close_intents, rest_intents, rest_rows, rows_at_close, weigh_end, work_behind}
 use Rattle.stripe_write.specs.Resting.{RestsAsAsked}
 use Rattle.stripe_write.specs.Finishing.{FinishesAsRead, FinishesWhere, finish_end, finish_intents}
-use Rattle.stripe_write.specs.Closes.{Closes, ClosesAsAsked, ClosesWhere, EndsAsAsked, EndsWhere, IsRested, SealsWhere, Spent, bytes_next, close_end, end_intents, is_sealed_by}
+use Rattle.stripe_write.specs.Closes.{Closes, ClosesAsAsked, ClosesWhere, EndsAsAsked, EndsWhere, IsRested, SealsWhere, Spent, UntouchedWhere, bytes_next, close_end, end_intents, is_sealed_by}
 use Rattle.stripe_write.specs.Numbers.{StopsAtLimit}
 use Rattle.stripe_write.proofs.Ended.{open_put}
 use Rattle.stripe_write.proofs.Keeping.{KeepsVectors, keeps_rest, read_kept}
@@ -301,9 +302,40 @@ sealed_by why w = record { put = w.put; key = w.key; request = w.request; respon
 
 pub refused_seals : (s : State) (w : Writer) (why : Refusal) → WeighsWhere s w (Err why) → SealsWhere w (sealed_by why w) (Err why)
 refused_seals s w (refusal.DeviceFault count) h = refl
-refused_seals s w (refusal.Memory e) h = refl
-refused_seals s w (refusal.Exhausted number) h = absurd h
-refused_seals s w _ h = tt
+refused_seals s w (refusal.Memory e) h = record { put = refl; key = refl; request = refl; response = refl; pin = refl; gathered = refl; rows = refl; sealed = refl }
+refused_seals s w (refusal.VectorTooLarge size) h = record { put = refl; key = refl; request = refl; response = refl; pin = refl; gathered = refl; rows = refl; sealed = refl }
+refused_seals s w _ h = absurd h
+
+writers_alike : (a b c : Writer) → SameWriter a b → SameWriter b c → SameWriter a c
+writers_alike a b c front back = record {
+  put = back.put ∙ front.put;
+  key = back.key ∙ front.key;
+  request = back.request ∙ front.request;
+  response = back.response ∙ front.response;
+  pin = back.pin ∙ front.pin;
+  gathered = back.gathered ∙ front.gathered;
+  rows = back.rows ∙ front.rows;
+  sealed = back.sealed ∙ front.sealed;
+}
+
+pub seals_same : (w same new : Writer) (result : Result Receipt Refusal) → SameWriter w same → SealsWhere same new result → SealsWhere w new result
+seals_same w same new (Err (refusal.Memory e)) is h = writers_alike w same new is h
+seals_same w same new (Err (refusal.VectorTooLarge size)) is h = writers_alike w same new is h
+seals_same w same new (Err refusal.NoSuchWriter) is h = writers_alike w same new is h
+seals_same w same new (Err (refusal.DeviceFault count)) is h = h
+seals_same w same new (Err (refusal.Exhausted number)) is h = h
+seals_same w same new (Err (refusal.Lost index why)) is h = tt
+seals_same w same new (Err refusal.TooManyWriters) is h = tt
+seals_same w same new (Err refusal.TooManyFragments) is h = tt
+seals_same w same new (Err refusal.Sealed) is h = tt
+seals_same w same new (Ok receipt) is h = tt
+
+pub ended_seals : (s : State) (w new : Writer) (result : Result Receipt Refusal) → EndsWhere s w result → new.sealed ≡ true → SealsWhere w new result
+ended_seals s w new (Err (refusal.DeviceFault count)) ends sealed = sealed
+ended_seals s w new (Err (refusal.Exhausted number)) ends sealed = sealed
+ended_seals s w new (Err (refusal.Lost index why)) ends sealed = tt
+ended_seals s w new (Ok receipt) ends sealed = tt
+ended_seals s w new (Err _) ends sealed = absurd ends
 
 pub refused_own : (s t : State) (w : Writer) (why : Refusal) → WeighsWhere t w (Err why) → IsWriterOf s w → IsWriterOf s (sealed_by why w)
 refused_own s t w (refusal.DeviceFault count) h own =
@@ -319,3 +351,47 @@ rested_same w same new is (inr cuts) = inr (record {
   empty = cuts.empty;
   rows = cuts.rows ∙ (ap (λ (rows : List TableRow). rows ++ rest_rows same.gathered.items) is.rows ∙ ap (λ bytes. w.table.rows ++ rest_rows bytes) is.gathered);
 })
+
+-- ---- what stands of the device
+
+pub refused_leaves : (s : State) (w : Writer) (old new : Device) (why : Refusal) → WeighsWhere s w (Err why) → IsUnwritten old new → UntouchedWhere old new (Err why)
+refused_leaves s w old new (refusal.DeviceFault count) h shows = tt
+refused_leaves s w old new (refusal.Memory e) h shows = shows
+refused_leaves s w old new (refusal.VectorTooLarge size) h shows = shows
+refused_leaves s w old new _ h shows = absurd h
+
+pub ended_leaves : (s : State) (w : Writer) (old new : Device) (result : Result Receipt Refusal) → EndsWhere s w result → UntouchedWhere old new result
+ended_leaves s w old new (Ok receipt) ends = tt
+ended_leaves s w old new (Err (refusal.DeviceFault count)) ends = tt
+ended_leaves s w old new (Err (refusal.Exhausted number)) ends = tt
+ended_leaves s w old new (Err (refusal.Lost index why)) ends = tt
+ended_leaves s w old new (Err _) ends = absurd ends
+
+pub prepared_leaves : (old mid new : Device) (result : Result Receipt Refusal) → IsStill old mid → UntouchedWhere mid new result → UntouchedWhere old new result
+prepared_leaves old mid new (Ok receipt) still h = tt
+prepared_leaves old mid new (Err refusal.TooManyWriters) still h = tt
+prepared_leaves old mid new (Err refusal.TooManyFragments) still h = tt
+prepared_leaves old mid new (Err (refusal.VectorTooLarge bytes)) still h = unwritten_then old mid new (still_shows old mid still) h
+prepared_leaves old mid new (Err (refusal.Lost index why)) still h = tt
+prepared_leaves old mid new (Err (refusal.DeviceFault count)) still h = tt
+prepared_leaves old mid new (Err refusal.Sealed) still h = tt
+prepared_leaves old mid new (Err (refusal.Exhausted number)) still h = tt
+prepared_leaves old mid new (Err refusal.NoSuchWriter) still h = still_then old mid new still h
+prepared_leaves old mid new (Err (refusal.Memory e)) still h = unwritten_then old mid new (still_shows old mid still) h
+
+-- ---- where memory is wanting
+
+pub wanting_any : {X : Type 0} (r : Result X Refusal) (P : Type 0) → P → Wanting r P
+wanting_any (Err (refusal.Memory e)) P h = h
+wanting_any (Ok x) P h = tt
+wanting_any (Err _) P h = tt
+
+pub wanting_map : {X : Type 0} (r : Result X Refusal) (P Q : Type 0) → (P → Q) → Wanting r P → Wanting r Q
+wanting_map (Err (refusal.Memory e)) P Q f h = f h
+wanting_map (Ok x) P Q f h = tt
+wanting_map (Err _) P Q f h = tt
+
+pub ended_wants : (s : State) (w : Writer) (result : Result Receipt Refusal) (P : Type 0) → EndsWhere s w result → Wanting result P
+ended_wants s w (Err (refusal.Memory e)) P ends = absurd ends
+ended_wants s w (Ok receipt) P ends = tt
+ended_wants s w (Err _) P ends = tt

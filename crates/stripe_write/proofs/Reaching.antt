@@ -5,10 +5,10 @@ use Rattle.std.proofs.lemmas.Bool.{eq-eqb, eqb-true}
 use Rattle.std.proofs.lemmas.List.{length-append}
 use Rattle.tape_base.specs.Blocks.{blocks_of}
 use Rattle.fragment_table.specs.Table.{TableRow}
-use Rattle.cache_model.specs.State.{State, cursor_next, place_now}
+use Rattle.cache_model.specs.State.{State, place_now}
 use Rattle.cache_model.specs.Verdict.{cuts_of}
 use Rattle.cache_model.specs.Legal.{vector_length}
-use Rattle.cache_model.specs.Room.{has_room}
+use Rattle.cache_model.specs.Room.{copies_end, has_room}
 use Rattle.stripe_core.specs.declared.refusal.Refusal.{Refusal}
 use Rattle.stripe_core.specs.declared.refusal.Refusal.TheVariants as refusal
 use Rattle.stripe_core.specs.declared.refusal.Stop.TheVariants as stop
@@ -24,10 +24,10 @@ use Rattle.stripe_write.specs.Numbers.{StopsAtLimit}
 -- ---- a piece with room, and one without
 
 over_place : (s : State) (bytes : ℕ) → has_room s bytes ≡ true → number_over s bytes ≡ place_now s + blocks_of bytes
-over_place s bytes room = ap (λ b. if b then place_now s + blocks_of bytes else cursor_next s) room
+over_place s bytes room = ap (λ b. if b then place_now s + blocks_of bytes else copies_end s) room
 
-over_flush : (s : State) (bytes : ℕ) → has_room s bytes ≡ false → number_over s bytes ≡ cursor_next s
-over_flush s bytes full = ap (λ b. if b then place_now s + blocks_of bytes else cursor_next s) full
+over_flush : (s : State) (bytes : ℕ) → has_room s bytes ≡ false → number_over s bytes ≡ copies_end s
+over_flush s bytes full = ap (λ b. if b then place_now s + blocks_of bytes else copies_end s) full
 
 pub place_reaches : (s : State) (payload : List ℕ) (number : ℕ) → has_room s (length payload) ≡ true → PlacesAt s payload (Err (stop.Exhausted number)) → ReachesLimit s (length payload) number
 place_reaches s payload number room at = (at.0 ∙ sym (over_place s (length payload) room), at.1)

@@ -1,6 +1,6 @@
 -- Whether a put's vector is a piece, and what comes of it.
 use Rattle.std.proofs.Common.{◌≡◌, ℕ, ◌+◌, ◌*◌, ◌<◌, ◌≤◌, List, [], ◌∷◌, ◌++◌, refl, sym, ◌∙◌, ap, subst, arith, inl, inr, ◌⊎◌, Bool, true, false, length, Result, Ok, Err, IfOk, append_assoc, append-nil}
-use Rattle.std.specs.Prelude.{Option, Some, None, ◌==◌, if◌then◌else◌}
+use Rattle.std.specs.Prelude.{Option, Some, None, IsSome, ◌==◌, if◌then◌else◌}
 use Rattle.std.proofs.lemmas.Bool.{eqb-true}
 use Rattle.std.specs.declared.alloc.AllocError.{AllocError}
 use Rattle.std.proofs.lemmas.List.{length-append}
@@ -25,9 +25,11 @@ use Rattle.cache_model.proofs.Steps.{grows_by, grows_on}
 use Rattle.stripe_core.specs.declared.refusal.Refusal.{Refusal}
 use Rattle.stripe_core.specs.declared.refusal.Refusal.TheVariants as refusal
 use Rattle.stripe_core.specs.Covers.{AreSeen, Covers, Spends}
+use Rattle.stripe_core.specs.Stripe.{Wanting}
 use Rattle.stripe_vectors.specs.declared.reading.KeyVector.{KeyVector}
+use Rattle.stripe_vectors.specs.declared.reading.KeyVector.TheVariants as found
 use Rattle.stripe_vectors.specs.declared.spelling.Spelled.{Spelled}
-use Rattle.stripe_vectors.specs.Reading.{FindsVector, ReadIsListed, vector_adds}
+use Rattle.stripe_vectors.specs.Reading.{FindsVector, ReadIsListed, trouble_records, vector_adds}
 use Rattle.stripe_vectors.specs.Spelled.{IsSpelled}
 use Rattle.stripe_write.specs.declared.weighing.Vectors.{Vectors}
 use Rattle.stripe_write.specs.declared.writer.Writer.{Writer}
@@ -35,7 +37,7 @@ use Rattle.stripe_write.specs.Closing.{AreSpelled, IsReadFor, WeighsAsAsked, Wei
 use Rattle.stripe_write.specs.Weighing.{FitsWhere, IsSpelledWith, fault_in, fit_adds, list_in}
 use Rattle.stripe_write.specs.Writers.{IsAtHand, IsWriterOf}
 use Rattle.stripe_write.proofs.Ended.{open_put, own_number}
-use Rattle.stripe_write.proofs.Spending.{state_behind}
+use Rattle.stripe_write.proofs.Spending.{nothing_more, state_behind}
 use Rattle.stripe_write.proofs.WeighingReads.{IsReadSoFar, fault_does, read_so_far}
 
 -- ---- the size of the vector
@@ -93,6 +95,21 @@ weighs_where s t list w (Err refusal.TooManyFragments) same h = absurd h
 weighs_where s t list w (Err (refusal.Lost index why)) same h = absurd h
 weighs_where s t list w (Err refusal.Sealed) same h = absurd h
 weighs_where s t list w (Err refusal.NoSuchWriter) same h = absurd h
+
+-- ---- where memory is wanting nothing was recorded
+
+none_read : (o : Option Row) (answer : KeyVector) → IsSome (list_in answer) → trouble_records o answer ≡ []
+none_read None answer h = refl
+none_read (Some row) (found.Read list) h = refl
+none_read (Some row) found.Absent h = refl
+none_read (Some row) (found.Trouble why) h = cc
+
+pub wants_nothing : (kept mid new : Kept) (w : Writer) (answer : KeyVector) (result : Result Vectors Refusal) → FitsWhere (state_of mid) (list_in answer) w result
+    → mid ≡ with_records kept (vector_adds (state_of kept) w.key answer) → new ≡ with_records mid (fit_adds w result) → Wanting result (new ≡ kept)
+wants_nothing kept mid new w answer (Err (refusal.Memory e)) h reads adds =
+    adds ∙ (nothing_more mid ∙ (reads ∙ (ap (with_records kept) (none_read (live_vector_of (state_of kept) w.key) answer h) ∙ nothing_more kept)))
+wants_nothing kept mid new w answer (Ok v) h reads adds = tt
+wants_nothing kept mid new w answer (Err _) h reads adds = tt
 
 -- ---- the last group
 

@@ -4,6 +4,7 @@ use Rattle.tape_base.specs.Blocks.{blocks_of}
 use Rattle.tape_base.specs.Geometry.{budget_of}
 use Rattle.fragment_table.specs.Table.{total_length}
 use Rattle.device_log.specs.Calls.{Call}
+use Rattle.logged_disk.specs.Device.{State as Device}
 use Rattle.cache_model.specs.declared.record.Rec.{Rec}
 use Rattle.cache_model.specs.State.{State, fragment_piece}
 use Rattle.cache_model.specs.Kept.{Kept, state_of, with_records}
@@ -15,12 +16,14 @@ use Rattle.cache_model.specs.Vectors.{AreTold, IsVectorAs}
 use Rattle.stripe_core.specs.declared.refusal.Refusal.{Refusal}
 use Rattle.stripe_core.specs.declared.refusal.Refusal.TheVariants as refusal
 use Rattle.stripe_core.specs.Covers.{Covers, Spends}
+use Rattle.stripe_core.specs.Stripe.{IsStill, IsUnwritten}
 use Rattle.cache_model.specs.Pair.{IsKeyPair}
 use Rattle.stripe_write.specs.declared.finishing.Receipt.{Receipt}
 use Rattle.stripe_write.specs.declared.weighing.Vectors.{Vectors}
 use Rattle.stripe_write.specs.declared.writer.Writer.{Writer}
 use Rattle.stripe_write.specs.Closing.{IsReadFor, SpendsAll, close_intents, rest_intents, rows_at_close, size_at_close}
 use Rattle.stripe_write.specs.Numbers.{StopsAtLimit}
+use Rattle.stripe_write.specs.Writes.{SameWriter}
 
 -- ---- when each answer comes
 
@@ -97,11 +100,14 @@ pub record Closes (p : Permit) (old new : Kept) (w : Writer) (result : Result Re
 pub record ClosesAsAsked (now : ℕ) (before after : List Call) (old new : Kept) (w : Writer) (result : Result Receipt Refusal) : Type 0 where
   pub does : (p : Permit) → p.now ≡ now → Covers p before after → AreTold (state_of old) → Closes p old new w result ⊎ IsKeyPair IsVectorAs p (state_of old) w.key
 
--- a writer that was refused by the device, or by the end of the tape, takes no more bytes
+-- a writer that was refused by the device, or by the end of the tape, takes no more bytes; one whose rest was not come to is
+-- as it was
 abbrev pub SealsWhere : Writer → Writer → Result Receipt Refusal → Type 0
 SealsWhere old new (Err (refusal.DeviceFault count)) = new.sealed ≡ true
 SealsWhere old new (Err (refusal.Exhausted number)) = new.sealed ≡ true
-SealsWhere old new (Err (refusal.Memory e)) = new.sealed ≡ old.sealed
+SealsWhere old new (Err (refusal.Memory e)) = SameWriter old new
+SealsWhere old new (Err (refusal.VectorTooLarge bytes)) = SameWriter old new
+SealsWhere old new (Err refusal.NoSuchWriter) = SameWriter old new
 SealsWhere old new _ = Unit {0}
 
 -- the writer of the same put, with what it had cut and gathered
@@ -124,3 +130,10 @@ IsRested old new = KeepsRest old new ⊎ CutsRest old new
 abbrev pub is_sealed_by : Refusal → Bool → Bool
 is_sealed_by (refusal.DeviceFault count) sealed = true
 is_sealed_by _ sealed = sealed
+
+-- where the rest was not come to, the device was asked for the key's vector at most; for nothing, where there is no such writer
+abbrev pub UntouchedWhere : Device → Device → Result Receipt Refusal → Type 0
+UntouchedWhere old new (Err refusal.NoSuchWriter) = IsStill old new
+UntouchedWhere old new (Err (refusal.Memory e)) = IsUnwritten old new
+UntouchedWhere old new (Err (refusal.VectorTooLarge bytes)) = IsUnwritten old new
+UntouchedWhere old new _ = Unit {0}

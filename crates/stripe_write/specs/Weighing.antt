@@ -1,9 +1,10 @@
 -- What a put's vector is spelled from: what was read of the key's vector, and the put's own alternate.
-use Rattle.std.specs.Prelude.{ℕ, ◌≡◌, ◌<◌, ◌≤◌, List, [], ◌∷◌, Option, Some, None, Result, Ok, Err}
+use Rattle.std.specs.Prelude.{ℕ, ◌≡◌, ◌<◌, ◌≤◌, List, [], ◌∷◌, Option, Some, None, IsSome, Result, Ok, Err}
 use Rattle.tape_base.specs.declared.geometries.Geometry.{Geometry}
 use Rattle.tape_base.specs.Blocks.{blocks_of}
 use Rattle.tape_base.specs.Geometry.{budget_of}
-use Rattle.alternate_vector.specs.Alternates.{Stored}
+use Rattle.fragment_table.specs.Table.{total_length}
+use Rattle.alternate_vector.specs.Alternates.{Stored, stored_of, vector_size}
 use Rattle.cache_model.specs.declared.cause.Cause.TheVariants as cause
 use Rattle.cache_model.specs.declared.record.Rec.{Rec}
 use Rattle.cache_model.specs.declared.record.Rec.TheVariants as rec
@@ -14,6 +15,7 @@ use Rattle.stripe_vectors.specs.declared.reading.KeyVector.{KeyVector}
 use Rattle.stripe_vectors.specs.declared.reading.KeyVector.TheVariants as found
 use Rattle.stripe_vectors.specs.declared.spelling.Spelled.{Spelled}
 use Rattle.stripe_vectors.specs.Spelled.{IsSpelled}
+use Rattle.stripe_write.specs.declared.weighing.Own.{Own}
 use Rattle.stripe_write.specs.declared.weighing.Vectors.{Vectors}
 use Rattle.stripe_write.specs.declared.writer.Writer.{Writer}
 use Rattle.stripe_write.specs.Closing.{alternate_at_close, size_at_close}
@@ -35,17 +37,28 @@ IsSpelledWith g (Some list) new None = ⊥
 IsSpelledWith g None new (Some spelled) = ⊥
 IsSpelledWith g None new None = Unit {0}
 
+-- a new alternate is spelled alone, where that is a piece
+abbrev pub IsSpelledAlone : Geometry → Stored → Option Spelled → Type 0
+IsSpelledAlone g new (Some spelled) = (blocks_of (vector_size (new ∷ [])) ≤ budget_of g) × IsSpelled g [] new spelled
+IsSpelledAlone g new None = budget_of g < blocks_of (vector_size (new ∷ []))
+
+-- what a put is to list of its own, and its vector alone
+pub record IsOwnOf (g : Geometry) (w : Writer) (own : Own) : Type 0 where
+  pub stored : stored_of own.alternate ≡ alternate_at_close w
+  pub length : own.alternate.length ≡ total_length own.alternate.table.rows
+  pub alone : IsSpelledAlone g (alternate_at_close w) own.alone
+
 -- the put's alternate alone is a piece; it is spelled, and with what was read
 pub record AreSpelledFrom (g : Geometry) (list : Option (List Stored)) (w : Writer) (v : Vectors) : Type 0 where
   pub fits : blocks_of (size_at_close w) ≤ budget_of g
   pub alone : IsSpelled g [] (alternate_at_close w) v.alone
   pub merged : IsSpelledWith g list (alternate_at_close w) v.merged
 
--- it is a piece; or is none; or memory is wanting
+-- it is a piece; or is none; or memory is wanting for what was read
 abbrev pub FitsWhere : State → Option (List Stored) → Writer → Result Vectors Refusal → Type 0
 FitsWhere s list w (Ok vectors) = AreSpelledFrom s.geometry list w vectors
 FitsWhere s list w (Err (refusal.VectorTooLarge bytes)) = (bytes ≡ size_at_close w) × (budget_of s.geometry < blocks_of bytes)
-FitsWhere s list w (Err (refusal.Memory e)) = Unit {0}
+FitsWhere s list w (Err (refusal.Memory e)) = IsSome list
 FitsWhere s list w (Err _) = ⊥
 
 -- the put is given up where it is none

@@ -1,14 +1,14 @@
 // Writers close.
 ghost use Rattle.std.specs.Prelude.{◌≡◌, ◌+◌, ◌≤◌, ◌<◌, true, OnOk, IfErr};
-ghost use Rattle.cache_model.specs.Legal.{IsQuiet, is_writing};
+ghost use Rattle.cache_model.specs.Legal.{is_writing};
 ghost use Rattle.stripe_core.specs.Counts.{IsCounted};
-ghost use Rattle.stripe_core.specs.Stripe.{IsStill, IsStripe, kept_in, room_for, seen_in, state_in, units_in};
-ghost use Rattle.stripe_core.specs.Between.{Between};
+ghost use Rattle.stripe_core.specs.Stripe.{IsStill, IsStripe, kept_in, room_for, seen_in, state_in, units_in, Wanting};
+ghost use Rattle.stripe_core.specs.Between.{Continues, IsResting, Rests};
 ghost use Rattle.stripe_write.specs.Others.{AddsOfPut};
 ghost use Rattle.stripe_write.specs.Writers.{IsWriterOf};
 ghost use Rattle.stripe_write.specs.Writes.{SameWriter};
 ghost use Rattle.stripe_write.specs.Closing.{AreSpelled};
-ghost use Rattle.stripe_write.specs.Closes.{ClosesAsAsked, ClosesWhere, EndsAsAsked, EndsWhere, IsRested, SealsWhere, is_sealed_by};
+ghost use Rattle.stripe_write.specs.Closes.{ClosesAsAsked, ClosesWhere, EndsAsAsked, EndsWhere, IsRested, SealsWhere, UntouchedWhere, is_sealed_by};
 
 use crate::Writer;
 use crate::finishing::{Receipt, finish};
@@ -34,21 +34,21 @@ pub fn close_write<D: Disk, R: Directory + Drop, C: Chronicle>(
     writer: &mut Writer,
     now: u64,
 ) -> Result<Receipt, Refusal>
-    requires stripe { IsStripe D.Disk R.Directory C.Chronicle stripe.old }
-    requires quiet { IsQuiet (state_in C.Chronicle stripe.old) }
-    requires writer { IsWriterOf (state_in C.Chronicle stripe.old) writer.old }
-    ensures stripe { IsStripe D.Disk R.Directory C.Chronicle stripe.new }
-    ensures unharmed { Between D.Disk R.Directory C.Chronicle stripe.old stripe.new }
-    ensures quiet { IsQuiet (state_in C.Chronicle stripe.new) }
-    ensures closes { ClosesWhere (state_in C.Chronicle stripe.old) (state_in C.Chronicle stripe.new) writer.old result }
-    ensures does { ClosesAsAsked now (seen_in D.Disk R.Directory stripe.old).device.past (seen_in D.Disk R.Directory stripe.new).device.past
-        (kept_in C.Chronicle stripe.old) (kept_in C.Chronicle stripe.new) writer.old result }
-    ensures writer { IsWriterOf (state_in C.Chronicle stripe.new) writer.new }
+    requires resting { IsResting stripe.old }
+    requires writer { IsWriterOf (state_in stripe.old) writer.old }
+    ensures rests { Rests stripe.old stripe.new }
+    ensures closes { ClosesWhere (state_in stripe.old) (state_in stripe.new) writer.old result }
+    ensures does { ClosesAsAsked now (seen_in stripe.old).device.past
+        (seen_in stripe.new).device.past (kept_in stripe.old)
+        (kept_in stripe.new) writer.old result }
+    ensures writer { IsWriterOf (state_in stripe.new) writer.new }
     ensures seals { SealsWhere writer.old writer.new result }
     ensures rested { IsRested writer.old writer.new }
-    ensures later { (seen_in D.Disk R.Directory stripe.old).device.faults ≤ (seen_in D.Disk R.Directory stripe.new).device.faults }
-    ensures counts { IfErr result (IsCounted (seen_in D.Disk R.Directory stripe.new).device.faults) }
-    ensures own { AddsOfPut writer.old.put (kept_in C.Chronicle stripe.old) (kept_in C.Chronicle stripe.new) }
+    ensures untouched { UntouchedWhere (seen_in stripe.old).device
+        (seen_in stripe.new).device result }
+    ensures counts { IfErr result (IsCounted (seen_in stripe.new).device.faults) }
+    ensures wanting { Wanting result (kept_in stripe.new ≡ kept_in stripe.old) }
+    ensures own { AddsOfPut writer.old.put (kept_in stripe.old) (kept_in stripe.new) }
 {
     if !is_open(stripe, writer.put) {
         return Err(Refusal::NoSuchWriter);
@@ -64,12 +64,11 @@ fn make_memory<D: Disk, R: Directory + Drop, C: Chronicle>(
     stripe: &mut Stripe<D, R, C>,
     writer: &mut Writer,
 ) -> Result<(), AllocError>
-    requires stripe { IsStripe D.Disk R.Directory C.Chronicle stripe.old }
-    requires open { is_writing (state_in C.Chronicle stripe.old) writer.old.put ≡ true }
-    ensures stripe { IsStripe D.Disk R.Directory C.Chronicle stripe.new }
-    ensures unharmed { Between D.Disk R.Directory C.Chronicle stripe.old stripe.new }
-    ensures records { kept_in C.Chronicle stripe.new ≡ kept_in C.Chronicle stripe.old }
-    ensures still { IsStill (seen_in D.Disk R.Directory stripe.old).device (seen_in D.Disk R.Directory stripe.new).device }
+    requires stripe { IsStripe stripe.old }
+    requires open { is_writing (state_in stripe.old) writer.old.put ≡ true }
+    ensures continues { Continues stripe.old stripe.new }
+    ensures records { kept_in stripe.new ≡ kept_in stripe.old }
+    ensures still { IsStill (seen_in stripe.old).device (seen_in stripe.new).device }
     ensures units { OnOk result (5 ≤ units_in stripe.new) }
     ensures row { OnOk result (0 < room_for writer.old.put stripe.new.actors) }
     ensures table { OnOk result (0 < writer.new.table.room) }
@@ -85,25 +84,25 @@ fn close_open<D: Disk, R: Directory + Drop, C: Chronicle>(
     writer: &mut Writer,
     now: u64,
 ) -> Result<Receipt, Refusal>
-    requires stripe { IsStripe D.Disk R.Directory C.Chronicle stripe.old }
-    requires quiet { IsQuiet (state_in C.Chronicle stripe.old) }
-    requires writer { IsWriterOf (state_in C.Chronicle stripe.old) writer.old }
-    requires open { is_writing (state_in C.Chronicle stripe.old) writer.old.put ≡ true }
+    requires resting { IsResting stripe.old }
+    requires writer { IsWriterOf (state_in stripe.old) writer.old }
+    requires open { is_writing (state_in stripe.old) writer.old.put ≡ true }
     requires units { 5 ≤ units_in stripe.old }
     requires row { 0 < room_for writer.old.put stripe.old.actors }
     requires table { 0 < writer.old.table.room }
-    ensures stripe { IsStripe D.Disk R.Directory C.Chronicle stripe.new }
-    ensures unharmed { Between D.Disk R.Directory C.Chronicle stripe.old stripe.new }
-    ensures quiet { IsQuiet (state_in C.Chronicle stripe.new) }
-    ensures closes { ClosesWhere (state_in C.Chronicle stripe.old) (state_in C.Chronicle stripe.new) writer.old result }
-    ensures does { ClosesAsAsked now (seen_in D.Disk R.Directory stripe.old).device.past (seen_in D.Disk R.Directory stripe.new).device.past
-        (kept_in C.Chronicle stripe.old) (kept_in C.Chronicle stripe.new) writer.old result }
-    ensures writer { IsWriterOf (state_in C.Chronicle stripe.new) writer.new }
+    ensures rests { Rests stripe.old stripe.new }
+    ensures closes { ClosesWhere (state_in stripe.old) (state_in stripe.new) writer.old result }
+    ensures does { ClosesAsAsked now (seen_in stripe.old).device.past
+        (seen_in stripe.new).device.past (kept_in stripe.old)
+        (kept_in stripe.new) writer.old result }
+    ensures writer { IsWriterOf (state_in stripe.new) writer.new }
     ensures seals { SealsWhere writer.old writer.new result }
     ensures rested { IsRested writer.old writer.new }
-    ensures later { (seen_in D.Disk R.Directory stripe.old).device.faults ≤ (seen_in D.Disk R.Directory stripe.new).device.faults }
-    ensures counts { IfErr result (IsCounted (seen_in D.Disk R.Directory stripe.new).device.faults) }
-    ensures own { AddsOfPut writer.old.put (kept_in C.Chronicle stripe.old) (kept_in C.Chronicle stripe.new) }
+    ensures untouched { UntouchedWhere (seen_in stripe.old).device
+        (seen_in stripe.new).device result }
+    ensures counts { IfErr result (IsCounted (seen_in stripe.new).device.faults) }
+    ensures wanting { Wanting result (kept_in stripe.new ≡ kept_in stripe.old) }
+    ensures own { AddsOfPut writer.old.put (kept_in stripe.old) (kept_in stripe.new) }
 {
     match weigh(stripe, writer) {
         Ok(vectors) => end(stripe, writer, vectors, now),
@@ -131,26 +130,22 @@ fn end<D: Disk, R: Directory + Drop, C: Chronicle>(
     vectors: Vectors,
     now: u64,
 ) -> Result<Receipt, Refusal>
-    requires stripe { IsStripe D.Disk R.Directory C.Chronicle stripe.old }
-    requires quiet { IsQuiet (state_in C.Chronicle stripe.old) }
-    requires writer { IsWriterOf (state_in C.Chronicle stripe.old) writer.old }
-    requires open { is_writing (state_in C.Chronicle stripe.old) writer.old.put ≡ true }
-    requires spelled { AreSpelled (state_in C.Chronicle stripe.old).geometry writer.old vectors }
+    requires resting { IsResting stripe.old }
+    requires writer { IsWriterOf (state_in stripe.old) writer.old }
+    requires open { is_writing (state_in stripe.old) writer.old.put ≡ true }
+    requires spelled { AreSpelled (state_in stripe.old).geometry writer.old vectors }
     requires units { 4 ≤ units_in stripe.old }
     requires row { 0 < room_for writer.old.put stripe.old.actors }
     requires table { 0 < writer.old.table.room }
-    ensures stripe { IsStripe D.Disk R.Directory C.Chronicle stripe.new }
-    ensures unharmed { Between D.Disk R.Directory C.Chronicle stripe.old stripe.new }
-    ensures quiet { IsQuiet (state_in C.Chronicle stripe.new) }
-    ensures ends { EndsWhere (state_in C.Chronicle stripe.new) writer.old result }
-    ensures does { EndsAsAsked now (seen_in D.Disk R.Directory stripe.old).device.past (seen_in D.Disk R.Directory stripe.new).device.past
-        (kept_in C.Chronicle stripe.old) (kept_in C.Chronicle stripe.new) writer.old vectors result }
-    ensures writer { IsWriterOf (state_in C.Chronicle stripe.new) writer.new }
+    ensures rests { Rests stripe.old stripe.new }
+    ensures ends { EndsWhere (state_in stripe.new) writer.old result }
+    ensures does { EndsAsAsked now (seen_in stripe.old).device.past (seen_in stripe.new).device.past
+        (kept_in stripe.old) (kept_in stripe.new) writer.old vectors result }
+    ensures writer { IsWriterOf (state_in stripe.new) writer.new }
     ensures sealed { writer.new.sealed ≡ true }
     ensures rested { IsRested writer.old writer.new }
-    ensures later { (seen_in D.Disk R.Directory stripe.old).device.faults ≤ (seen_in D.Disk R.Directory stripe.new).device.faults }
-    ensures counts { IfErr result (IsCounted (seen_in D.Disk R.Directory stripe.new).device.faults) }
-    ensures own { AddsOfPut writer.old.put (kept_in C.Chronicle stripe.old) (kept_in C.Chronicle stripe.new) }
+    ensures counts { IfErr result (IsCounted (seen_in stripe.new).device.faults) }
+    ensures own { AddsOfPut writer.old.put (kept_in stripe.old) (kept_in stripe.new) }
 {
     writer.sealed = true;
     match cut_rest(stripe, writer, now) {

@@ -1,7 +1,7 @@
 // How a put whose fragments are all cut is finished.
 ghost use Rattle.std.specs.Prelude.{◌≡◌, ◌+◌, ◌≤◌, ◌<◌, [], ◌∷◌, true, false, is_some, length, None, Some, IfErr, OnOk, OnErr};
 ghost use Rattle.cache_model.specs.Kept.{with_records};
-ghost use Rattle.cache_model.specs.Legal.{IsQuiet, is_writing};
+ghost use Rattle.cache_model.specs.Legal.{is_writing};
 ghost use Rattle.cache_model.specs.Room.{has_room};
 ghost use Rattle.cache_model.specs.State.{fragment_piece, live_row_of};
 ghost use Rattle.cache_model.specs.Verdict.{cause_of_piece, live_vector_of};
@@ -12,7 +12,7 @@ ghost use Rattle.stripe_core.specs.Flush.{StopsWith};
 ghost use Rattle.stripe_core.specs.Place.{RoomsAsAsked};
 ghost use Rattle.stripe_core.specs.Counts.{IsCounted};
 ghost use Rattle.stripe_core.specs.Stripe.{Answers, IsStripe, kept_in, seen_in, state_in, units_in};
-ghost use Rattle.stripe_core.specs.Between.{Between};
+ghost use Rattle.stripe_core.specs.Between.{Continues, IsResting, Rests};
 ghost use Rattle.stripe_write.specs.Others.{AddsOfPut};
 ghost use Rattle.stripe_write.specs.Writers.{IsWriterOf};
 ghost use Rattle.stripe_write.specs.Closing.{AreSpelled};
@@ -65,8 +65,8 @@ fn is_live<D: Disk, R: Directory + Drop, C: Chronicle>(
     stripe: &Stripe<D, R, C>,
     writer: &Writer,
 ) -> bool
-    requires { IsStripe D.Disk R.Directory C.Chronicle stripe.now }
-    ensures { result ≡ is_some (live_vector_of (state_in C.Chronicle stripe.now) writer.now.key) }
+    requires { IsStripe stripe.now }
+    ensures { result ≡ is_some (live_vector_of (state_in stripe.now) writer.now.key) }
 {
     live_vector(stripe, writer.key).is_some()
 }
@@ -78,23 +78,20 @@ pub(crate) fn finish<D: Disk, R: Directory + Drop, C: Chronicle>(
     vectors: Vectors,
     now: u64,
 ) -> Result<Receipt, Refusal>
-    requires stripe { IsStripe D.Disk R.Directory C.Chronicle stripe.old }
-    requires quiet { IsQuiet (state_in C.Chronicle stripe.old) }
-    requires writer { IsWriterOf (state_in C.Chronicle stripe.old) writer.now }
-    requires open { is_writing (state_in C.Chronicle stripe.old) writer.now.put ≡ true }
+    requires resting { IsResting stripe.old }
+    requires writer { IsWriterOf (state_in stripe.old) writer.now }
+    requires open { is_writing (state_in stripe.old) writer.now.put ≡ true }
     requires cut { writer.now.gathered.items ≡ [] }
-    requires spelled { AreSpelled (state_in C.Chronicle stripe.old).geometry writer.now vectors }
+    requires spelled { AreSpelled (state_in stripe.old).geometry writer.now vectors }
     requires units { 3 ≤ units_in stripe.old }
-    ensures stripe { IsStripe D.Disk R.Directory C.Chronicle stripe.new }
-    ensures unharmed { Between D.Disk R.Directory C.Chronicle stripe.old stripe.new }
-    ensures quiet { IsQuiet (state_in C.Chronicle stripe.new) }
-    ensures finishes { FinishesWhere (state_in C.Chronicle stripe.new) writer.now result }
-    ensures does { FinishesAsRead now (seen_in D.Disk R.Directory stripe.old).device.past (seen_in D.Disk R.Directory stripe.new).device.past
-        (kept_in C.Chronicle stripe.old) (kept_in C.Chronicle stripe.new) writer.now vectors result }
-    ensures later { (seen_in D.Disk R.Directory stripe.old).device.faults ≤ (seen_in D.Disk R.Directory stripe.new).device.faults }
-    ensures counts { IfErr result (IsCounted (seen_in D.Disk R.Directory stripe.new).device.faults) }
-    ensures writer { IsWriterOf (state_in C.Chronicle stripe.new) writer.now }
-    ensures own { AddsOfPut writer.now.put (kept_in C.Chronicle stripe.old) (kept_in C.Chronicle stripe.new) }
+    ensures rests { Rests stripe.old stripe.new }
+    ensures finishes { FinishesWhere (state_in stripe.new) writer.now result }
+    ensures does { FinishesAsRead now (seen_in stripe.old).device.past
+        (seen_in stripe.new).device.past (kept_in stripe.old)
+        (kept_in stripe.new) writer.now vectors result }
+    ensures counts { IfErr result (IsCounted (seen_in stripe.new).device.faults) }
+    ensures writer { IsWriterOf (state_in stripe.new) writer.now }
+    ensures own { AddsOfPut writer.now.put (kept_in stripe.old) (kept_in stripe.new) }
 {
     match make_room(stripe, writer, &vectors, now) {
         Ok(()) => end(stripe, writer, vectors, now),
@@ -109,24 +106,22 @@ fn end<D: Disk, R: Directory + Drop, C: Chronicle>(
     vectors: Vectors,
     now: u64,
 ) -> Result<Receipt, Refusal>
-    requires stripe { IsStripe D.Disk R.Directory C.Chronicle stripe.old }
-    requires quiet { IsQuiet (state_in C.Chronicle stripe.old) }
-    requires writer { IsWriterOf (state_in C.Chronicle stripe.old) writer.now }
-    requires open { is_writing (state_in C.Chronicle stripe.old) writer.now.put ≡ true }
+    requires resting { IsResting stripe.old }
+    requires writer { IsWriterOf (state_in stripe.old) writer.now }
+    requires open { is_writing (state_in stripe.old) writer.now.put ≡ true }
     requires cut { writer.now.gathered.items ≡ [] }
-    requires spelled { AreSpelled (state_in C.Chronicle stripe.old).geometry writer.now vectors }
-    requires room { has_room (state_in C.Chronicle stripe.old) (bytes_now (state_in C.Chronicle stripe.old) writer.now vectors) ≡ true }
+    requires spelled { AreSpelled (state_in stripe.old).geometry writer.now vectors }
+    requires room { has_room (state_in stripe.old)
+        (bytes_now (state_in stripe.old) writer.now vectors) ≡ true }
     requires units { 2 ≤ units_in stripe.old }
-    ensures stripe { IsStripe D.Disk R.Directory C.Chronicle stripe.new }
-    ensures unharmed { Between D.Disk R.Directory C.Chronicle stripe.old stripe.new }
-    ensures quiet { IsQuiet (state_in C.Chronicle stripe.new) }
-    ensures finishes { FinishesWhere (state_in C.Chronicle stripe.new) writer.now result }
-    ensures does { FinishesAsRead now (seen_in D.Disk R.Directory stripe.old).device.past (seen_in D.Disk R.Directory stripe.new).device.past
-        (kept_in C.Chronicle stripe.old) (kept_in C.Chronicle stripe.new) writer.now vectors result }
-    ensures later { (seen_in D.Disk R.Directory stripe.old).device.faults ≤ (seen_in D.Disk R.Directory stripe.new).device.faults }
-    ensures counts { IfErr result (IsCounted (seen_in D.Disk R.Directory stripe.new).device.faults) }
-    ensures writer { IsWriterOf (state_in C.Chronicle stripe.new) writer.now }
-    ensures own { AddsOfPut writer.now.put (kept_in C.Chronicle stripe.old) (kept_in C.Chronicle stripe.new) }
+    ensures rests { Rests stripe.old stripe.new }
+    ensures finishes { FinishesWhere (state_in stripe.new) writer.now result }
+    ensures does { FinishesAsRead now (seen_in stripe.old).device.past
+        (seen_in stripe.new).device.past (kept_in stripe.old)
+        (kept_in stripe.new) writer.now vectors result }
+    ensures counts { IfErr result (IsCounted (seen_in stripe.new).device.faults) }
+    ensures writer { IsWriterOf (state_in stripe.new) writer.now }
+    ensures own { AddsOfPut writer.now.put (kept_in stripe.old) (kept_in stripe.new) }
 {
     match first_lost(stripe, writer) {
         Some(index) => Err(lose(stripe, writer, index)),
@@ -141,19 +136,20 @@ fn make_room<D: Disk, R: Directory + Drop, C: Chronicle>(
     vectors: &Vectors,
     now: u64,
 ) -> Result<(), Refusal>
-    requires stripe { IsStripe D.Disk R.Directory C.Chronicle stripe.old }
-    requires quiet { IsQuiet (state_in C.Chronicle stripe.old) }
-    requires spelled { AreSpelled (state_in C.Chronicle stripe.old).geometry writer.now vectors.now }
+    requires resting { IsResting stripe.old }
+    requires spelled { AreSpelled (state_in stripe.old).geometry writer.now vectors.now }
     requires units { 1 ≤ units_in stripe.old }
-    ensures stripe { IsStripe D.Disk R.Directory C.Chronicle stripe.new }
-    ensures unharmed { Between D.Disk R.Directory C.Chronicle stripe.old stripe.new }
-    ensures full { OnErr result (has_room (state_in C.Chronicle stripe.old) (bytes_now (state_in C.Chronicle stripe.old) writer.now vectors.now) ≡ false) }
-    ensures does { Answers result (RoomsAsAsked now (kept_in C.Chronicle stripe.old) (kept_in C.Chronicle stripe.new) (seen_in D.Disk R.Directory stripe.old).device.past
-        (seen_in D.Disk R.Directory stripe.new).device (bytes_now (state_in C.Chronicle stripe.old) writer.now vectors.now)) ⊥ }
-    ensures stops { Answers result (λ r. IfErr r (StopsWith (state_in C.Chronicle stripe.old) (seen_in D.Disk R.Directory stripe.new).device.faults)) ⊥ }
-    ensures counts { IfErr result (IsCounted (seen_in D.Disk R.Directory stripe.new).device.faults) }
-    ensures room { OnOk result (has_room (state_in C.Chronicle stripe.new) (bytes_now (state_in C.Chronicle stripe.old) writer.now vectors.now) ≡ true) }
-    ensures later { (seen_in D.Disk R.Directory stripe.old).device.faults ≤ (seen_in D.Disk R.Directory stripe.new).device.faults }
+    ensures continues { Continues stripe.old stripe.new }
+    ensures full { OnErr result (has_room (state_in stripe.old)
+        (bytes_now (state_in stripe.old) writer.now vectors.now) ≡ false) }
+    ensures does { Answers result (RoomsAsAsked now (kept_in stripe.old) (kept_in stripe.new)
+        (seen_in stripe.old).device.past (seen_in stripe.new).device
+        (bytes_now (state_in stripe.old) writer.now vectors.now)) ⊥ }
+    ensures stops { Answers result (λ r. IfErr r
+        (StopsWith (state_in stripe.old) (seen_in stripe.new).device.faults)) ⊥ }
+    ensures counts { IfErr result (IsCounted (seen_in stripe.new).device.faults) }
+    ensures room { OnOk result (has_room (state_in stripe.new)
+        (bytes_now (state_in stripe.old) writer.now vectors.now) ≡ true) }
     ensures unit { units_in stripe.old ≤ units_in stripe.new + 1 }
 {
     let bytes = vectors.pick(is_live(stripe, writer)).bytes.len() as u32;
@@ -165,8 +161,8 @@ fn first_lost<D: Disk, R: Directory + Drop, C: Chronicle>(
     stripe: &Stripe<D, R, C>,
     writer: &Writer,
 ) -> Option<u32>
-    requires { IsStripe D.Disk R.Directory C.Chronicle stripe.now }
-    ensures { IsFirstLost (state_in C.Chronicle stripe.now) writer.now result }
+    requires { IsStripe stripe.now }
+    ensures { IsFirstLost (state_in stripe.now) writer.now result }
 {
     'fragments: for index in 1..writer.table.len() + 1 {
         let id = PieceId {
@@ -187,19 +183,20 @@ fn lose<D: Disk, R: Directory + Drop, C: Chronicle>(
     writer: &Writer,
     index: u32,
 ) -> Refusal
-    requires stripe { IsStripe D.Disk R.Directory C.Chronicle stripe.old }
-    requires quiet { IsQuiet (state_in C.Chronicle stripe.old) }
-    requires writer { IsWriterOf (state_in C.Chronicle stripe.old) writer.now }
-    requires open { is_writing (state_in C.Chronicle stripe.old) writer.now.put ≡ true }
-    requires lost { live_row_of (state_in C.Chronicle stripe.old) (fragment_piece writer.now.key writer.now.put index) ≡ None }
+    requires resting { IsResting stripe.old }
+    requires writer { IsWriterOf (state_in stripe.old) writer.now }
+    requires open { is_writing (state_in stripe.old) writer.now.put ≡ true }
+    requires lost { live_row_of (state_in stripe.old)
+        (fragment_piece writer.now.key writer.now.put index) ≡ None }
     requires units { 1 ≤ units_in stripe.old }
-    ensures stripe { IsStripe D.Disk R.Directory C.Chronicle stripe.new }
-    ensures unharmed { Between D.Disk R.Directory C.Chronicle stripe.old stripe.new }
-    ensures quiet { IsQuiet (state_in C.Chronicle stripe.new) }
-    ensures lost { result ≡ refusal.Lost index (cause_of_piece (state_in C.Chronicle stripe.new) (fragment_piece writer.now.key writer.now.put index)) }
-    ensures adds { kept_in C.Chronicle stripe.new ≡ with_records (kept_in C.Chronicle stripe.old) (rec.Aborted writer.now.put writer.now.key ∷ []) }
-    ensures still { (seen_in D.Disk R.Directory stripe.new).device ≡ (seen_in D.Disk R.Directory stripe.old).device }
-    ensures writer { IsWriterOf (state_in C.Chronicle stripe.new) writer.now }
+    ensures rests { Rests stripe.old stripe.new }
+    ensures lost { result ≡ refusal.Lost index
+        (cause_of_piece (state_in stripe.new)
+        (fragment_piece writer.now.key writer.now.put index)) }
+    ensures adds { kept_in stripe.new ≡ with_records (kept_in stripe.old)
+        (rec.Aborted writer.now.put writer.now.key ∷ []) }
+    ensures still { (seen_in stripe.new).device ≡ (seen_in stripe.old).device }
+    ensures writer { IsWriterOf (state_in stripe.new) writer.now }
 {
     let id = PieceId {
         first: writer.key,
@@ -218,25 +215,23 @@ fn complete<D: Disk, R: Directory + Drop, C: Chronicle>(
     vectors: Vectors,
     now: u64,
 ) -> Result<Receipt, Refusal>
-    requires stripe { IsStripe D.Disk R.Directory C.Chronicle stripe.old }
-    requires quiet { IsQuiet (state_in C.Chronicle stripe.old) }
-    requires writer { IsWriterOf (state_in C.Chronicle stripe.old) writer.now }
-    requires open { is_writing (state_in C.Chronicle stripe.old) writer.now.put ≡ true }
+    requires resting { IsResting stripe.old }
+    requires writer { IsWriterOf (state_in stripe.old) writer.now }
+    requires open { is_writing (state_in stripe.old) writer.now.put ≡ true }
     requires cut { writer.now.gathered.items ≡ [] }
-    requires spelled { AreSpelled (state_in C.Chronicle stripe.old).geometry writer.now vectors }
-    requires room { has_room (state_in C.Chronicle stripe.old) (bytes_now (state_in C.Chronicle stripe.old) writer.now vectors) ≡ true }
-    requires whole { AreLive (state_in C.Chronicle stripe.old) writer.now (length writer.now.table.rows) }
+    requires spelled { AreSpelled (state_in stripe.old).geometry writer.now vectors }
+    requires room { has_room (state_in stripe.old)
+        (bytes_now (state_in stripe.old) writer.now vectors) ≡ true }
+    requires whole { AreLive (state_in stripe.old) writer.now (length writer.now.table.rows) }
     requires units { 2 ≤ units_in stripe.old }
-    ensures stripe { IsStripe D.Disk R.Directory C.Chronicle stripe.new }
-    ensures unharmed { Between D.Disk R.Directory C.Chronicle stripe.old stripe.new }
-    ensures quiet { IsQuiet (state_in C.Chronicle stripe.new) }
-    ensures finishes { FinishesWhere (state_in C.Chronicle stripe.new) writer.now result }
-    ensures does { FinishesAsRead now (seen_in D.Disk R.Directory stripe.old).device.past (seen_in D.Disk R.Directory stripe.new).device.past
-        (kept_in C.Chronicle stripe.old) (kept_in C.Chronicle stripe.new) writer.now vectors result }
-    ensures later { (seen_in D.Disk R.Directory stripe.old).device.faults ≤ (seen_in D.Disk R.Directory stripe.new).device.faults }
-    ensures counts { IfErr result (IsCounted (seen_in D.Disk R.Directory stripe.new).device.faults) }
-    ensures writer { IsWriterOf (state_in C.Chronicle stripe.new) writer.now }
-    ensures own { AddsOfPut writer.now.put (kept_in C.Chronicle stripe.old) (kept_in C.Chronicle stripe.new) }
+    ensures rests { Rests stripe.old stripe.new }
+    ensures finishes { FinishesWhere (state_in stripe.new) writer.now result }
+    ensures does { FinishesAsRead now (seen_in stripe.old).device.past
+        (seen_in stripe.new).device.past (kept_in stripe.old)
+        (kept_in stripe.new) writer.now vectors result }
+    ensures counts { IfErr result (IsCounted (seen_in stripe.new).device.faults) }
+    ensures writer { IsWriterOf (state_in stripe.new) writer.now }
+    ensures own { AddsOfPut writer.now.put (kept_in stripe.old) (kept_in stripe.new) }
 {
     let live = is_live(stripe, writer);
     let spelled = vectors.pick(live);
@@ -257,18 +252,16 @@ fn commit<D: Disk, R: Directory + Drop, C: Chronicle>(
     writer: &Writer,
     alternates: Vector,
 ) -> Receipt
-    requires stripe { IsStripe D.Disk R.Directory C.Chronicle stripe.old }
-    requires committing { IsCommitting (state_in C.Chronicle stripe.old) writer.now.put writer.now.key }
+    requires stripe { IsStripe stripe.old }
+    requires committing { IsCommitting (state_in stripe.old) writer.now.put writer.now.key }
     requires unit { 1 ≤ units_in stripe.old }
-    ensures stripe { IsStripe D.Disk R.Directory C.Chronicle stripe.new }
-    ensures unharmed { Between D.Disk R.Directory C.Chronicle stripe.old stripe.new }
-    ensures quiet { IsQuiet (state_in C.Chronicle stripe.new) }
-    ensures adds { kept_in C.Chronicle stripe.new ≡ with_records (kept_in C.Chronicle stripe.old)
-        (committed_record (state_in C.Chronicle stripe.old) writer.now.put writer.now.key alternates ∷ []) }
-    ensures does { CommitsAsAsked (state_in C.Chronicle stripe.old) writer.now.put writer.now.key alternates }
+    ensures rests { Rests stripe.old stripe.new }
+    ensures adds { kept_in stripe.new ≡ with_records (kept_in stripe.old)
+        (committed_record (state_in stripe.old) writer.now.put writer.now.key alternates ∷ []) }
+    ensures does { CommitsAsAsked (state_in stripe.old) writer.now.put writer.now.key alternates }
     ensures receipt { IsReceiptOf writer.now result }
-    ensures still { (seen_in D.Disk R.Directory stripe.new).device ≡ (seen_in D.Disk R.Directory stripe.old).device }
-    ensures writer { IsWriterOf (state_in C.Chronicle stripe.new) writer.now }
+    ensures still { (seen_in stripe.new).device ≡ (seen_in stripe.old).device }
+    ensures writer { IsWriterOf (state_in stripe.new) writer.now }
 {
     stripe.commit(writer.put, writer.key, alternates);
     Receipt {

@@ -1,5 +1,5 @@
 //! Writers on a stripe: they open, take bytes, close or are given up; and objects are removed.
-#![tactic(auto, using(logged_disk::proofs::GoingOn::stays_as, stripe_core::proofs::Between::between_same))]
+#![tactic(auto, using(logged_disk::proofs::GoingOn::stays_as, stripe_core::proofs::Between::between_same, stripe_core::proofs::Continuing::continues_same, stripe_core::proofs::Continuing::rests_same))]
 
 mod closing;
 mod finishing;

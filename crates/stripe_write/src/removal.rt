@@ -1,10 +1,9 @@
 // Objects are removed.
-ghost use Rattle.std.specs.Prelude.{◌≡◌, ◌≤◌, IfOk, OnErr, is_some};
+ghost use Rattle.std.specs.Prelude.{◌≡◌, IfOk, OnErr, is_some};
 ghost use Rattle.cache_model.specs.Kept.{with_records};
-ghost use Rattle.cache_model.specs.Legal.{IsQuiet};
 ghost use Rattle.cache_model.specs.Verdict.{live_vector_of};
-ghost use Rattle.stripe_core.specs.Stripe.{IsStripe, kept_in, seen_in, state_in};
-ghost use Rattle.stripe_core.specs.Between.{Between};
+ghost use Rattle.stripe_core.specs.Stripe.{IsStill, IsStripe, kept_in, seen_in, state_in};
+ghost use Rattle.stripe_core.specs.Between.{IsResting, Rests};
 ghost use Rattle.stripe_write.specs.Removals.{RemovesAsIsAsked, RemovesWhere, removal_adds};
 
 use cache_chronicle::Chronicle;
@@ -29,16 +28,14 @@ pub fn remove<D: Disk, R: Directory + Drop, C: Chronicle>(
     stripe: &mut Stripe<D, R, C>,
     key: Key,
 ) -> Result<Removal, AllocError>
-    requires stripe { IsStripe D.Disk R.Directory C.Chronicle stripe.old }
-    requires quiet { IsQuiet (state_in C.Chronicle stripe.old) }
-    ensures stripe { IsStripe D.Disk R.Directory C.Chronicle stripe.new }
-    ensures unharmed { Between D.Disk R.Directory C.Chronicle stripe.old stripe.new }
-    ensures quiet { IsQuiet (state_in C.Chronicle stripe.new) }
-    ensures adds { IfOk result (λ answer. kept_in C.Chronicle stripe.new ≡ with_records (kept_in C.Chronicle stripe.old) (removal_adds key answer)) }
-    ensures removes { IfOk result (RemovesWhere (state_in C.Chronicle stripe.old) key) }
-    ensures does { IfOk result (RemovesAsIsAsked (state_in C.Chronicle stripe.old) key) }
-    ensures err { OnErr result (kept_in C.Chronicle stripe.new ≡ kept_in C.Chronicle stripe.old) }
-    ensures later { (seen_in D.Disk R.Directory stripe.old).device.faults ≤ (seen_in D.Disk R.Directory stripe.new).device.faults }
+    requires resting { IsResting stripe.old }
+    ensures rests { Rests stripe.old stripe.new }
+    ensures adds { IfOk result (λ answer. kept_in stripe.new
+        ≡ with_records (kept_in stripe.old) (removal_adds key answer)) }
+    ensures removes { IfOk result (RemovesWhere (state_in stripe.old) key) }
+    ensures does { IfOk result (RemovesAsIsAsked (state_in stripe.old) key) }
+    ensures err { OnErr result (kept_in stripe.new ≡ kept_in stripe.old) }
+    ensures still { IsStill (seen_in stripe.old).device (seen_in stripe.new).device }
 {
     stripe.prepare(None, 1)?;
     if is_live(stripe, key) {
@@ -50,8 +47,8 @@ pub fn remove<D: Disk, R: Directory + Drop, C: Chronicle>(
 }
 
 fn is_live<D: Disk, R: Directory + Drop, C: Chronicle>(stripe: &Stripe<D, R, C>, key: Key) -> bool
-    requires { IsStripe D.Disk R.Directory C.Chronicle stripe.now }
-    ensures { result ≡ is_some (live_vector_of (state_in C.Chronicle stripe.now) key) }
+    requires { IsStripe stripe.now }
+    ensures { result ≡ is_some (live_vector_of (state_in stripe.now) key) }
 {
     match stripe.chronicle().vector_of(key) {
         Some(vector) => stripe.whereabouts(vector).is_some(),

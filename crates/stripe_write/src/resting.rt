@@ -1,9 +1,9 @@
 // The rest that a writer gathered, which fills no fragment, is cut when the writer closes.
 ghost use Rattle.std.specs.Prelude.{◌≡◌, ◌+◌, ◌≤◌, ◌<◌, [], true, length, IfErr, OnOk, OnErr};
-ghost use Rattle.cache_model.specs.Legal.{IsQuiet, is_writing};
+ghost use Rattle.cache_model.specs.Legal.{is_writing};
 ghost use Rattle.stripe_core.specs.Counts.{IsCounted};
-ghost use Rattle.stripe_core.specs.Stripe.{Answers, IsStripe, kept_in, room_for, seen_in, state_in, units_in};
-ghost use Rattle.stripe_core.specs.Between.{Between};
+ghost use Rattle.stripe_core.specs.Stripe.{Answers, kept_in, room_for, seen_in, state_in, units_in};
+ghost use Rattle.stripe_core.specs.Between.{IsResting, Rests};
 ghost use Rattle.stripe_write.specs.Closing.{rows_at_close};
 ghost use Rattle.stripe_write.specs.Numbers.{StopsAtLimit};
 ghost use Rattle.stripe_write.specs.Resting.{RestsAsAsked};
@@ -23,27 +23,24 @@ pub(crate) fn cut_rest<D: Disk, R: Directory + Drop, C: Chronicle>(
     writer: &mut Writer,
     now: u64,
 ) -> Result<(), Refusal>
-    requires stripe { IsStripe D.Disk R.Directory C.Chronicle stripe.old }
-    requires quiet { IsQuiet (state_in C.Chronicle stripe.old) }
-    requires writer { IsWriterOf (state_in C.Chronicle stripe.old) writer.old }
-    requires open { is_writing (state_in C.Chronicle stripe.old) writer.old.put ≡ true }
+    requires resting { IsResting stripe.old }
+    requires writer { IsWriterOf (state_in stripe.old) writer.old }
+    requires open { is_writing (state_in stripe.old) writer.old.put ≡ true }
     requires sealed { writer.old.sealed ≡ true }
     requires unit { 1 ≤ units_in stripe.old }
     requires row { 0 < room_for writer.old.put stripe.old.actors }
     requires table { 0 < writer.old.table.room }
-    ensures stripe { IsStripe D.Disk R.Directory C.Chronicle stripe.new }
-    ensures unharmed { Between D.Disk R.Directory C.Chronicle stripe.old stripe.new }
-    ensures quiet { IsQuiet (state_in C.Chronicle stripe.new) }
-    ensures later { (seen_in D.Disk R.Directory stripe.old).device.faults ≤ (seen_in D.Disk R.Directory stripe.new).device.faults }
-    ensures counts { IfErr result (IsCounted (seen_in D.Disk R.Directory stripe.new).device.faults) }
+    ensures rests { Rests stripe.old stripe.new }
+    ensures counts { IfErr result (IsCounted (seen_in stripe.new).device.faults) }
     ensures unit { units_in stripe.old ≤ units_in stripe.new + 1 }
     // Memory is not wanting, and no other refusal comes.
-    ensures does { Answers result (RestsAsAsked now (kept_in C.Chronicle stripe.old) (kept_in C.Chronicle stripe.new) (seen_in D.Disk R.Directory stripe.old).device.past
-        (seen_in D.Disk R.Directory stripe.new).device writer.old) ⊥ }
+    ensures does { Answers result (RestsAsAsked now (kept_in stripe.old) (kept_in stripe.new)
+        (seen_in stripe.old).device.past (seen_in stripe.new).device writer.old) ⊥ }
     ensures some { OnErr result (0 < length writer.old.gathered.items) }
-    ensures number { IfErr result (StopsAtLimit (state_in C.Chronicle stripe.new) (length writer.old.gathered.items)) }
-    ensures writer { IsWriterOf (state_in C.Chronicle stripe.new) writer.new }
-    ensures open { OnOk result (is_writing (state_in C.Chronicle stripe.new) writer.new.put ≡ true) }
+    ensures number { IfErr result (StopsAtLimit (state_in stripe.new)
+        (length writer.old.gathered.items)) }
+    ensures writer { IsWriterOf (state_in stripe.new) writer.new }
+    ensures open { OnOk result (is_writing (state_in stripe.new) writer.new.put ≡ true) }
     ensures rows { OnOk result (writer.new.table.rows ≡ rows_at_close writer.old) }
     ensures empty { OnOk result (writer.new.gathered.items ≡ []) }
     ensures rest { SameButBytes writer.old writer.new }

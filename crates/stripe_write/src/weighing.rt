@@ -1,20 +1,19 @@
 // What is weighed before a put closes: the vector that it is to have.
-ghost use Rattle.std.specs.Prelude.{◌≡◌, ◌+◌, ◌<◌, ◌≤◌, [], ◌∷◌, true, IfOk, OnOk, nat_le, length, IfErr};
+ghost use Rattle.std.specs.Prelude.{◌≡◌, ◌+◌, ◌<◌, ◌≤◌, [], ◌∷◌, true, IfOk, OnOk, OnErr, IsSome, nat_le, length, IfErr};
 ghost use Rattle.tape_base.specs.Blocks.{blocks_of};
 ghost use Rattle.tape_base.specs.Geometry.{budget_of};
 ghost use Rattle.fragment_table.specs.Table.{total_length};
 ghost use Rattle.alternate_vector.specs.Alternates.{stored_of, vector_size};
 ghost use Rattle.cache_model.specs.Kept.{with_records};
-ghost use Rattle.cache_model.specs.Legal.{IsQuiet, is_writing};
+ghost use Rattle.cache_model.specs.Legal.{is_writing};
 ghost use Rattle.cache_model.specs.State.{most_fragments};
 ghost use Rattle.stripe_core.specs.Counts.{IsCounted};
-ghost use Rattle.stripe_core.specs.Stripe.{IsStripe, kept_in, room_for, seen_in, state_in, units_in};
-ghost use Rattle.stripe_core.specs.Between.{Between};
-ghost use Rattle.stripe_vectors.specs.Spelled.{IsSpelled};
+ghost use Rattle.stripe_core.specs.Stripe.{IsUnwritten, kept_in, room_for, seen_in, state_in, units_in, Wanting};
+ghost use Rattle.stripe_core.specs.Between.{IsResting, Rests};
 ghost use Rattle.stripe_write.specs.Others.{AddsOfPut};
 ghost use Rattle.stripe_write.specs.Writers.{IsWriterOf};
 ghost use Rattle.stripe_write.specs.Closing.{WeighsAsAsked, WeighsWhere, alternate_at_close, rows_at_close};
-ghost use Rattle.stripe_write.specs.Weighing.{FitsWhere, IsSpelledWith, fault_in, fit_adds, list_in};
+ghost use Rattle.stripe_write.specs.Weighing.{FitsWhere, IsOwnOf, IsSpelledAlone, IsSpelledWith, fault_in, fit_adds, list_in};
 
 use crate::Writer;
 use alternate_vector::{Alternate, Vector};
@@ -36,38 +35,47 @@ pub struct Vectors {
     pub(crate) alone: Spelled,
 }
 
+// The alternate that a put stands for when it closes, and its vector alone, where that is a piece.
+#[derive(Debug, Drop)]
+struct Own {
+    alternate: Alternate,
+    alone: Option<Spelled>,
+}
+
 // Reads the key's vector and spells the put's own, and gives the put up where that is no piece.
+// What is spelled without the key's vector is spelled first, so that want of memory records nothing.
 pub(crate) fn weigh<D: Disk, R: Directory + Drop, C: Chronicle>(
     stripe: &mut Stripe<D, R, C>,
     writer: &Writer,
 ) -> Result<Vectors, Refusal>
-    requires stripe { IsStripe D.Disk R.Directory C.Chronicle stripe.old }
-    requires quiet { IsQuiet (state_in C.Chronicle stripe.old) }
-    requires writer { IsWriterOf (state_in C.Chronicle stripe.old) writer.now }
-    requires open { is_writing (state_in C.Chronicle stripe.old) writer.now.put ≡ true }
+    requires resting { IsResting stripe.old }
+    requires writer { IsWriterOf (state_in stripe.old) writer.now }
+    requires open { is_writing (state_in stripe.old) writer.now.put ≡ true }
     requires units { 2 ≤ units_in stripe.old }
-    ensures stripe { IsStripe D.Disk R.Directory C.Chronicle stripe.new }
-    ensures unharmed { Between D.Disk R.Directory C.Chronicle stripe.old stripe.new }
-    ensures quiet { IsQuiet (state_in C.Chronicle stripe.new) }
-    ensures weighs { WeighsWhere (state_in C.Chronicle stripe.old) writer.now result }
-    ensures does { WeighsAsAsked (seen_in D.Disk R.Directory stripe.old).device (seen_in D.Disk R.Directory stripe.new).device
-        (kept_in C.Chronicle stripe.old) (kept_in C.Chronicle stripe.new) writer.now result }
-    ensures later { (seen_in D.Disk R.Directory stripe.old).device.faults ≤ (seen_in D.Disk R.Directory stripe.new).device.faults }
-    ensures counts { IfErr result (IsCounted (seen_in D.Disk R.Directory stripe.new).device.faults) }
-    ensures writer { IsWriterOf (state_in C.Chronicle stripe.new) writer.now }
-    ensures puts { OnOk result ((state_in C.Chronicle stripe.new).puts ≡ (state_in C.Chronicle stripe.old).puts) }
-    ensures geometry { OnOk result ((state_in C.Chronicle stripe.new).geometry ≡ (state_in C.Chronicle stripe.old).geometry) }
-    ensures displaced { OnOk result ((state_in C.Chronicle stripe.new).displaced ≡ (state_in C.Chronicle stripe.old).displaced) }
+    ensures rests { Rests stripe.old stripe.new }
+    ensures weighs { WeighsWhere (state_in stripe.old) writer.now result }
+    ensures does { WeighsAsAsked (seen_in stripe.old).device (seen_in stripe.new).device
+        (kept_in stripe.old) (kept_in stripe.new) writer.now result }
+    ensures unwritten { IsUnwritten (seen_in stripe.old).device (seen_in stripe.new).device }
+    ensures counts { IfErr result (IsCounted (seen_in stripe.new).device.faults) }
+    ensures wanting { Wanting result (kept_in stripe.new ≡ kept_in stripe.old) }
+    ensures writer { IsWriterOf (state_in stripe.new) writer.now }
+    ensures puts { OnOk result ((state_in stripe.new).puts ≡ (state_in stripe.old).puts) }
+    ensures geometry { OnOk result ((state_in stripe.new).geometry
+        ≡ (state_in stripe.old).geometry) }
+    ensures displaced { OnOk result ((state_in stripe.new).displaced
+        ≡ (state_in stripe.old).displaced) }
     ensures row { OnOk result (room_for writer.now.put stripe.new.actors ≡ room_for writer.now.put stripe.old.actors) }
     ensures unit { OnOk result (units_in stripe.old ≤ units_in stripe.new + 1) }
-    ensures own { AddsOfPut writer.now.put (kept_in C.Chronicle stripe.old) (kept_in C.Chronicle stripe.new) }
+    ensures own { AddsOfPut writer.now.put (kept_in stripe.old) (kept_in stripe.new) }
 {
     // The law tells that what was read is what the key has.
     read_is_listed();
+    let own = spell_own(stripe.alloc(), stripe.geometry(), writer)?;
     let found = read_vector(stripe, writer.key)?;
     match fault_in(&found) {
         Some(count) => Err(Refusal::DeviceFault { count }),
-        None => fit(stripe, writer, list_in(found)),
+        None => fit(stripe, writer, own, list_in(found)),
     }
 }
 
@@ -93,32 +101,45 @@ fn list_in(found: KeyVector) -> Option<Vector>
 fn fit<D: Disk, R: Directory + Drop, C: Chronicle>(
     stripe: &mut Stripe<D, R, C>,
     writer: &Writer,
+    own: Own,
     list: Option<Vector>,
 ) -> Result<Vectors, Refusal>
-    requires stripe { IsStripe D.Disk R.Directory C.Chronicle stripe.old }
-    requires quiet { IsQuiet (state_in C.Chronicle stripe.old) }
-    requires writer { IsWriterOf (state_in C.Chronicle stripe.old) writer.now }
-    requires open { is_writing (state_in C.Chronicle stripe.old) writer.now.put ≡ true }
+    requires resting { IsResting stripe.old }
+    requires writer { IsWriterOf (state_in stripe.old) writer.now }
+    requires open { is_writing (state_in stripe.old) writer.now.put ≡ true }
     requires units { 1 ≤ units_in stripe.old }
-    ensures stripe { IsStripe D.Disk R.Directory C.Chronicle stripe.new }
-    ensures unharmed { Between D.Disk R.Directory C.Chronicle stripe.old stripe.new }
-    ensures quiet { IsQuiet (state_in C.Chronicle stripe.new) }
-    ensures fits { FitsWhere (state_in C.Chronicle stripe.old) list writer.now result }
-    ensures adds { kept_in C.Chronicle stripe.new ≡ with_records (kept_in C.Chronicle stripe.old) (fit_adds writer.now result) }
-    ensures writer { IsWriterOf (state_in C.Chronicle stripe.new) writer.now }
+    requires own { IsOwnOf (state_in stripe.old).geometry writer.now own }
+    ensures rests { Rests stripe.old stripe.new }
+    ensures fits { FitsWhere (state_in stripe.old) list writer.now result }
+    ensures adds { kept_in stripe.new ≡ with_records (kept_in stripe.old)
+        (fit_adds writer.now result) }
+    ensures writer { IsWriterOf (state_in stripe.new) writer.now }
     ensures same { OnOk result (stripe.new ≡ stripe.old) }
-    ensures still { (seen_in D.Disk R.Directory stripe.new).device ≡ (seen_in D.Disk R.Directory stripe.old).device }
+    ensures still { (seen_in stripe.new).device ≡ (seen_in stripe.old).device }
 {
-    let alternate = alternate_of(stripe.geometry(), writer)?;
-    let bytes = alternate.size_alone();
-    if !is_piece(stripe.geometry(), bytes) {
-        stripe.give_up(writer.put, writer.key);
-        return Err(Refusal::VectorTooLarge {
-            bytes: bytes as u64,
-        });
+    let Own { alternate, alone } = own;
+    match alone {
+        Some(alone) => {
+            let merged = spell_with(stripe.alloc(), stripe.geometry(), list, &alternate)?;
+            Ok(Vectors { merged, alone })
+        }
+        None => {
+            let bytes = alternate.size_alone() as u64;
+            stripe.give_up(writer.put, writer.key);
+            Err(Refusal::VectorTooLarge { bytes })
+        }
     }
-    let vectors = spell_both(stripe.alloc(), stripe.geometry(), list, &alternate)?;
-    Ok(vectors)
+}
+
+// Spells what needs no other vector.
+fn spell_own(alloc: Global, g: &Geometry, writer: &Writer) -> Result<Own, AllocError>
+    requires few { length writer.now.gathered.items < g.now.fragment }
+    requires more { 0 < length writer.now.gathered.items → length writer.now.table.rows < most_fragments }
+    ensures { IfOk result (IsOwnOf g.now writer.now) }
+{
+    let alternate = alternate_of(g, writer)?;
+    let alone = spell_alone(alloc, g, &alternate)?;
+    Ok(Own { alternate, alone })
 }
 
 // The alternate that a put stands for when it closes.
@@ -162,24 +183,19 @@ fn is_piece(g: &Geometry, bytes: usize) -> bool
     bytes <= g.agg as usize / 2 * BLOCK - HEADER
 }
 
-// Spells the vector of a new alternate, which is a piece, alone and with what was read.
-fn spell_both(
-    alloc: Global,
-    g: &Geometry,
-    list: Option<Vector>,
-    new: &Alternate,
-) -> Result<Vectors, AllocError>
+// Spells the vector of a new alternate alone, where it is a piece.
+fn spell_alone(alloc: Global, g: &Geometry, new: &Alternate) -> Result<Option<Spelled>, AllocError>
     requires length { new.now.length ≡ total_length new.now.table.rows }
-    requires fits { blocks_of (vector_size (stored_of new.now ∷ [])) ≤ budget_of g.now }
-    ensures alone { IfOk result (λ v. IsSpelled g.now [] (stored_of new.now) v.alone) }
-    ensures merged { IfOk result (λ v. IsSpelledWith g.now list (stored_of new.now) v.merged) }
+    ensures { IfOk result (IsSpelledAlone g.now (stored_of new.now)) }
 {
-    Ok(Vectors {
-        merged: spell_with(alloc, g, list, new)?,
-        alone: spell(alloc, g, &Vector::new(alloc), new)?,
-    })
+    if !is_piece(g, new.size_alone()) {
+        return Ok(None);
+    }
+    Ok(Some(spell(alloc, g, &Vector::new(alloc), new)?))
 }
 
+// Spells the vector of a new alternate, which alone is a piece, with what was read; memory is
+// wanting for nothing else.
 fn spell_with(
     alloc: Global,
     g: &Geometry,
@@ -188,7 +204,8 @@ fn spell_with(
 ) -> Result<Option<Spelled>, AllocError>
     requires length { new.now.length ≡ total_length new.now.table.rows }
     requires fits { blocks_of (vector_size (stored_of new.now ∷ [])) ≤ budget_of g.now }
-    ensures { IfOk result (IsSpelledWith g.now list (stored_of new.now)) }
+    ensures merged { IfOk result (IsSpelledWith g.now list (stored_of new.now)) }
+    ensures wants { OnErr result (IsSome list) }
 {
     match list {
         Some(list) => Ok(Some(spell(alloc, g, &list, new)?)),

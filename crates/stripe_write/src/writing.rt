@@ -3,14 +3,14 @@ ghost use Rattle.std.specs.Prelude.{◌≡◌, ◌+◌, ◌≤◌, ◌<◌, [], 
 ghost use Rattle.tape_base.specs.Digest.{digest_of};
 ghost use Rattle.fragment_table.specs.Table.{made_row};
 ghost use Rattle.cache_model.specs.Kept.{with_records};
-ghost use Rattle.cache_model.specs.Legal.{IsQuiet, is_writing};
+ghost use Rattle.cache_model.specs.Legal.{is_writing};
 ghost use Rattle.cache_model.specs.State.{most_fragments};
 ghost use Rattle.stripe_actors.specs.Calls.{HasNumber};
 ghost use Rattle.stripe_core.specs.Acts.{OpensAsAsked, opened_record};
 ghost use Rattle.stripe_core.specs.Place.{CutsAsAsked};
 ghost use Rattle.stripe_core.specs.Counts.{IsCounted};
-ghost use Rattle.stripe_core.specs.Stripe.{Answers, HasMemory, IsStripe, kept_in, room_for, seen_in, state_in, units_in};
-ghost use Rattle.stripe_core.specs.Between.{Between};
+ghost use Rattle.stripe_core.specs.Stripe.{Answers, HasMemory, IsStill, IsStripe, kept_in, room_for, seen_in, state_in, units_in, Unstopped};
+ghost use Rattle.stripe_core.specs.Between.{IsResting, Rests};
 ghost use Rattle.stripe_write.specs.Numbers.{StopsAtLimit};
 ghost use Rattle.stripe_write.specs.Writers.{IsWriterOf};
 ghost use Rattle.stripe_write.specs.Writes.{AbortsAsAsked, AbortsWhere, GathersAsAsked, IsOverflow, IsReady, OverflowsAsAsked, SameButBytes, SameWriter, WritesAsAsked, WritesWhere, abort_adds, next_id, next_start, number_of, overflow_adds};
@@ -37,20 +37,18 @@ pub fn open_write<D: Disk, R: Directory + Drop, C: Chronicle>(
     response: Fields,
     pin: u64,
 ) -> Result<Writer, Refusal>
-    requires stripe { IsStripe D.Disk R.Directory C.Chronicle stripe.old }
-    requires quiet { IsQuiet (state_in C.Chronicle stripe.old) }
-    ensures stripe { IsStripe D.Disk R.Directory C.Chronicle stripe.new }
-    ensures unharmed { Between D.Disk R.Directory C.Chronicle stripe.old stripe.new }
-    ensures quiet { IsQuiet (state_in C.Chronicle stripe.new) }
-    ensures adds { OnOk result (kept_in C.Chronicle stripe.new
-        ≡ with_records (kept_in C.Chronicle stripe.old) (opened_record (state_in C.Chronicle stripe.old) actor key request response pin ∷ [])) }
-    ensures err { OnErr result (kept_in C.Chronicle stripe.new ≡ kept_in C.Chronicle stripe.old) }
-    ensures does { OpensAsAsked (state_in C.Chronicle stripe.old) actor key request response pin (number_of result) }
-    ensures writer { IfOk result (IsWriterOf (state_in C.Chronicle stripe.new)) }
+    requires resting { IsResting stripe.old }
+    ensures rests { Rests stripe.old stripe.new }
+    ensures adds { OnOk result (kept_in stripe.new
+        ≡ with_records (kept_in stripe.old)
+        (opened_record (state_in stripe.old) actor key request response pin ∷ [])) }
+    ensures err { OnErr result (kept_in stripe.new ≡ kept_in stripe.old) }
+    ensures does { OpensAsAsked (state_in stripe.old) actor key request response pin
+        (number_of result) }
+    ensures writer { IfOk result (IsWriterOf (state_in stripe.new)) }
     ensures empty { IfOk result (λ w. w.gathered.items ≡ []) }
     ensures unsealed { IfOk result (λ w. w.sealed ≡ false) }
-    ensures still { (seen_in D.Disk R.Directory stripe.new).device ≡ (seen_in D.Disk R.Directory stripe.old).device }
-    ensures later { (seen_in D.Disk R.Directory stripe.old).device.faults ≤ (seen_in D.Disk R.Directory stripe.new).device.faults }
+    ensures still { (seen_in stripe.new).device ≡ (seen_in stripe.old).device }
 {
     match stripe.put_refusal() {
         Some(refusal) => Err(refusal),
@@ -67,20 +65,20 @@ pub fn write<D: Disk, R: Directory + Drop, C: Chronicle>(
     bytes: &[u8],
     now: u64,
 ) -> Result<usize, Refusal>
-    requires stripe { IsStripe D.Disk R.Directory C.Chronicle stripe.old }
-    requires quiet { IsQuiet (state_in C.Chronicle stripe.old) }
-    requires writer { IsWriterOf (state_in C.Chronicle stripe.old) writer.old }
-    ensures stripe { IsStripe D.Disk R.Directory C.Chronicle stripe.new }
-    ensures unharmed { Between D.Disk R.Directory C.Chronicle stripe.old stripe.new }
-    ensures quiet { IsQuiet (state_in C.Chronicle stripe.new) }
-    ensures writes { WritesWhere (state_in C.Chronicle stripe.old) writer.old bytes.now result }
-    ensures number { IfErr result (StopsAtLimit (state_in C.Chronicle stripe.new) (state_in C.Chronicle stripe.old).geometry.fragment) }
-    ensures does { WritesAsAsked now (kept_in C.Chronicle stripe.old) (kept_in C.Chronicle stripe.new) (seen_in D.Disk R.Directory stripe.old).device.past
-        (seen_in D.Disk R.Directory stripe.new).device writer.old bytes.now result }
-    ensures writer { IsWriterOf (state_in C.Chronicle stripe.new) writer.new }
-    ensures gathers { IfOk result (λ n. GathersAsAsked (state_in C.Chronicle stripe.old).geometry writer.old bytes.now n writer.new) }
+    requires resting { IsResting stripe.old }
+    requires writer { IsWriterOf (state_in stripe.old) writer.old }
+    ensures rests { Rests stripe.old stripe.new }
+    ensures writes { WritesWhere (state_in stripe.old) writer.old bytes.now result }
+    ensures number { IfErr result (StopsAtLimit (state_in stripe.new)
+        (state_in stripe.old).geometry.fragment) }
+    ensures does { WritesAsAsked now (kept_in stripe.old) (kept_in stripe.new)
+        (seen_in stripe.old).device.past (seen_in stripe.new).device writer.old bytes.now result }
+    ensures writer { IsWriterOf (state_in stripe.new) writer.new }
+    ensures gathers { IfOk result (λ n. GathersAsAsked
+        (state_in stripe.old).geometry writer.old bytes.now n writer.new) }
     ensures same { OnErr result (SameWriter writer.old writer.new) }
-    ensures later { (seen_in D.Disk R.Directory stripe.old).device.faults ≤ (seen_in D.Disk R.Directory stripe.new).device.faults }
+    ensures untouched { Unstopped result (IsStill (seen_in stripe.old).device
+        (seen_in stripe.new).device) }
 {
     if !is_open(stripe, writer.put) {
         return Err(Refusal::NoSuchWriter);
@@ -102,18 +100,16 @@ pub fn abort_write<D: Disk, R: Directory + Drop, C: Chronicle>(
     stripe: &mut Stripe<D, R, C>,
     writer: &mut Writer,
 ) -> Result<u64, Refusal>
-    requires stripe { IsStripe D.Disk R.Directory C.Chronicle stripe.old }
-    requires quiet { IsQuiet (state_in C.Chronicle stripe.old) }
-    requires writer { IsWriterOf (state_in C.Chronicle stripe.old) writer.old }
-    ensures stripe { IsStripe D.Disk R.Directory C.Chronicle stripe.new }
-    ensures unharmed { Between D.Disk R.Directory C.Chronicle stripe.old stripe.new }
-    ensures quiet { IsQuiet (state_in C.Chronicle stripe.new) }
-    ensures adds { kept_in C.Chronicle stripe.new ≡ with_records (kept_in C.Chronicle stripe.old) (abort_adds writer.old.key result) }
-    ensures aborts { AbortsWhere (state_in C.Chronicle stripe.old) writer.old.put result }
-    ensures does { AbortsAsAsked (state_in C.Chronicle stripe.old) writer.old.put writer.old.key result }
-    ensures writer { IsWriterOf (state_in C.Chronicle stripe.new) writer.new }
+    requires resting { IsResting stripe.old }
+    requires writer { IsWriterOf (state_in stripe.old) writer.old }
+    ensures rests { Rests stripe.old stripe.new }
+    ensures adds { kept_in stripe.new ≡ with_records (kept_in stripe.old)
+        (abort_adds writer.old.key result) }
+    ensures aborts { AbortsWhere (state_in stripe.old) writer.old.put result }
+    ensures does { AbortsAsAsked (state_in stripe.old) writer.old.put writer.old.key result }
+    ensures writer { IsWriterOf (state_in stripe.new) writer.new }
     ensures same { writer.new ≡ writer.old }
-    ensures later { (seen_in D.Disk R.Directory stripe.old).device.faults ≤ (seen_in D.Disk R.Directory stripe.new).device.faults }
+    ensures still { IsStill (seen_in stripe.old).device (seen_in stripe.new).device }
 {
     if !is_open(stripe, writer.put) {
         return Err(Refusal::NoSuchWriter);
@@ -127,8 +123,8 @@ pub(crate) fn is_open<D: Disk, R: Directory + Drop, C: Chronicle>(
     stripe: &Stripe<D, R, C>,
     put: u64,
 ) -> bool
-    requires { IsStripe D.Disk R.Directory C.Chronicle stripe.now }
-    ensures { result ≡ is_writing (state_in C.Chronicle stripe.now) put }
+    requires { IsStripe stripe.now }
+    ensures { result ≡ is_writing (state_in stripe.now) put }
 {
     matches!(
         stripe.open_directory().put_state(put),
@@ -144,20 +140,19 @@ fn begin<D: Disk, R: Directory + Drop, C: Chronicle>(
     response: Fields,
     pin: u64,
 ) -> Result<Writer, Refusal>
-    requires stripe { IsStripe D.Disk R.Directory C.Chronicle stripe.old }
-    requires quiet { IsQuiet (state_in C.Chronicle stripe.old) }
-    requires number { HasNumber (state_in C.Chronicle stripe.old) }
-    ensures stripe { IsStripe D.Disk R.Directory C.Chronicle stripe.new }
-    ensures unharmed { Between D.Disk R.Directory C.Chronicle stripe.old stripe.new }
-    ensures quiet { IsQuiet (state_in C.Chronicle stripe.new) }
-    ensures adds { OnOk result (kept_in C.Chronicle stripe.new
-        ≡ with_records (kept_in C.Chronicle stripe.old) (opened_record (state_in C.Chronicle stripe.old) actor key request response pin ∷ [])) }
-    ensures err { OnErr result (kept_in C.Chronicle stripe.new ≡ kept_in C.Chronicle stripe.old) }
-    ensures does { OpensAsAsked (state_in C.Chronicle stripe.old) actor key request response pin (number_of result) }
-    ensures writer { IfOk result (IsWriterOf (state_in C.Chronicle stripe.new)) }
+    requires resting { IsResting stripe.old }
+    requires number { HasNumber (state_in stripe.old) }
+    ensures rests { Rests stripe.old stripe.new }
+    ensures adds { OnOk result (kept_in stripe.new
+        ≡ with_records (kept_in stripe.old)
+        (opened_record (state_in stripe.old) actor key request response pin ∷ [])) }
+    ensures err { OnErr result (kept_in stripe.new ≡ kept_in stripe.old) }
+    ensures does { OpensAsAsked (state_in stripe.old) actor key request response pin
+        (number_of result) }
+    ensures writer { IfOk result (IsWriterOf (state_in stripe.new)) }
     ensures empty { IfOk result (λ w. w.gathered.items ≡ []) }
     ensures unsealed { IfOk result (λ w. w.sealed ≡ false) }
-    ensures still { (seen_in D.Disk R.Directory stripe.new).device ≡ (seen_in D.Disk R.Directory stripe.old).device }
+    ensures still { (seen_in stripe.new).device ≡ (seen_in stripe.old).device }
 {
     let alloc = stripe.alloc();
     let kept_request = request.copy()?;
@@ -180,19 +175,17 @@ fn overflow<D: Disk, R: Directory + Drop, C: Chronicle>(
     stripe: &mut Stripe<D, R, C>,
     writer: &Writer,
 ) -> Result<usize, Refusal>
-    requires stripe { IsStripe D.Disk R.Directory C.Chronicle stripe.old }
-    requires quiet { IsQuiet (state_in C.Chronicle stripe.old) }
-    requires writer { IsWriterOf (state_in C.Chronicle stripe.old) writer.now }
-    requires open { is_writing (state_in C.Chronicle stripe.old) writer.now.put ≡ true }
+    requires resting { IsResting stripe.old }
+    requires writer { IsWriterOf (state_in stripe.old) writer.now }
+    requires open { is_writing (state_in stripe.old) writer.now.put ≡ true }
     requires full { length writer.now.table.rows ≡ most_fragments }
-    ensures stripe { IsStripe D.Disk R.Directory C.Chronicle stripe.new }
-    ensures unharmed { Between D.Disk R.Directory C.Chronicle stripe.old stripe.new }
-    ensures quiet { IsQuiet (state_in C.Chronicle stripe.new) }
+    ensures rests { Rests stripe.old stripe.new }
     ensures refused { IsOverflow result }
-    ensures adds { kept_in C.Chronicle stripe.new ≡ with_records (kept_in C.Chronicle stripe.old) (overflow_adds writer.now result) }
-    ensures does { OverflowsAsAsked (state_in C.Chronicle stripe.old) writer.now }
-    ensures writer { IsWriterOf (state_in C.Chronicle stripe.new) writer.now }
-    ensures later { (seen_in D.Disk R.Directory stripe.old).device.faults ≤ (seen_in D.Disk R.Directory stripe.new).device.faults }
+    ensures adds { kept_in stripe.new ≡ with_records (kept_in stripe.old)
+        (overflow_adds writer.now result) }
+    ensures does { OverflowsAsAsked (state_in stripe.old) writer.now }
+    ensures writer { IsWriterOf (state_in stripe.new) writer.now }
+    ensures still { IsStill (seen_in stripe.old).device (seen_in stripe.new).device }
 {
     stripe.prepare(None, 1)?;
     stripe.give_up(writer.put, writer.key);
@@ -206,23 +199,23 @@ fn take<D: Disk, R: Directory + Drop, C: Chronicle>(
     bytes: &[u8],
     now: u64,
 ) -> Result<usize, Refusal>
-    requires stripe { IsStripe D.Disk R.Directory C.Chronicle stripe.old }
-    requires quiet { IsQuiet (state_in C.Chronicle stripe.old) }
-    requires writer { IsWriterOf (state_in C.Chronicle stripe.old) writer.old }
-    requires open { is_writing (state_in C.Chronicle stripe.old) writer.old.put ≡ true }
+    requires resting { IsResting stripe.old }
+    requires writer { IsWriterOf (state_in stripe.old) writer.old }
+    requires open { is_writing (state_in stripe.old) writer.old.put ≡ true }
     requires unsealed { writer.old.sealed ≡ false }
     requires few { length writer.old.table.rows < most_fragments }
-    ensures stripe { IsStripe D.Disk R.Directory C.Chronicle stripe.new }
-    ensures unharmed { Between D.Disk R.Directory C.Chronicle stripe.old stripe.new }
-    ensures quiet { IsQuiet (state_in C.Chronicle stripe.new) }
-    ensures writes { WritesWhere (state_in C.Chronicle stripe.old) writer.old bytes.now result }
-    ensures number { IfErr result (StopsAtLimit (state_in C.Chronicle stripe.new) (state_in C.Chronicle stripe.old).geometry.fragment) }
-    ensures does { WritesAsAsked now (kept_in C.Chronicle stripe.old) (kept_in C.Chronicle stripe.new) (seen_in D.Disk R.Directory stripe.old).device.past
-        (seen_in D.Disk R.Directory stripe.new).device writer.old bytes.now result }
-    ensures writer { IsWriterOf (state_in C.Chronicle stripe.new) writer.new }
-    ensures gathers { IfOk result (λ n. GathersAsAsked (state_in C.Chronicle stripe.old).geometry writer.old bytes.now n writer.new) }
+    ensures rests { Rests stripe.old stripe.new }
+    ensures writes { WritesWhere (state_in stripe.old) writer.old bytes.now result }
+    ensures number { IfErr result (StopsAtLimit (state_in stripe.new)
+        (state_in stripe.old).geometry.fragment) }
+    ensures does { WritesAsAsked now (kept_in stripe.old) (kept_in stripe.new)
+        (seen_in stripe.old).device.past (seen_in stripe.new).device writer.old bytes.now result }
+    ensures writer { IsWriterOf (state_in stripe.new) writer.new }
+    ensures gathers { IfOk result (λ n. GathersAsAsked
+        (state_in stripe.old).geometry writer.old bytes.now n writer.new) }
     ensures same { OnErr result (SameWriter writer.old writer.new) }
-    ensures later { (seen_in D.Disk R.Directory stripe.old).device.faults ≤ (seen_in D.Disk R.Directory stripe.new).device.faults }
+    ensures untouched { Unstopped result (IsStill (seen_in stripe.old).device
+        (seen_in stripe.new).device) }
 {
     let before = writer.gathered.len();
     let room = stripe.geometry().fragment as usize - before;
@@ -248,24 +241,24 @@ pub(crate) fn cut<D: Disk, R: Directory + Drop, C: Chronicle>(
     writer: &mut Writer,
     now: u64,
 ) -> Result<Placed, Refusal>
-    requires stripe { IsStripe D.Disk R.Directory C.Chronicle stripe.old }
-    requires quiet { IsQuiet (state_in C.Chronicle stripe.old) }
-    requires ready { IsReady (state_in C.Chronicle stripe.old) writer.old }
-    ensures stripe { IsStripe D.Disk R.Directory C.Chronicle stripe.new }
-    ensures unharmed { Between D.Disk R.Directory C.Chronicle stripe.old stripe.new }
-    ensures quiet { IsQuiet (state_in C.Chronicle stripe.new) }
-    ensures does { let w = writer.old in Answers result (CutsAsAsked now (kept_in C.Chronicle stripe.old) (kept_in C.Chronicle stripe.new)
-        (seen_in D.Disk R.Directory stripe.old).device.past (seen_in D.Disk R.Directory stripe.new).device (next_id w) w.pin (next_start w) w.gathered.items)
-        (kept_in C.Chronicle stripe.new ≡ kept_in C.Chronicle stripe.old) }
-    ensures number { IfErr result (StopsAtLimit (state_in C.Chronicle stripe.new) (length writer.old.gathered.items)) }
-    ensures writer { OnOk result (IsWriterOf (state_in C.Chronicle stripe.new) writer.new) }
+    requires resting { IsResting stripe.old }
+    requires ready { IsReady (state_in stripe.old) writer.old }
+    ensures rests { Rests stripe.old stripe.new }
+    ensures does { let w = writer.old in
+        Answers result (CutsAsAsked now (kept_in stripe.old) (kept_in stripe.new)
+        (seen_in stripe.old).device.past (seen_in stripe.new).device (next_id w) w.pin
+        (next_start w) w.gathered.items) (kept_in stripe.new ≡ kept_in stripe.old) }
+    ensures number { IfErr result (StopsAtLimit (state_in stripe.new)
+        (length writer.old.gathered.items)) }
+    ensures writer { OnOk result (IsWriterOf (state_in stripe.new) writer.new) }
     ensures rest { OnOk result (SameButBytes writer.old writer.new) }
     ensures rows { let w = writer.old in OnOk result (writer.new.table.rows
         ≡ w.table.rows ++ made_row (length w.gathered.items) (digest_of w.gathered.items).0 ∷ []) }
     ensures empty { OnOk result (writer.new.gathered.items ≡ []) }
     ensures same { OnErr result (writer.new ≡ writer.old) }
-    ensures later { (seen_in D.Disk R.Directory stripe.old).device.faults ≤ (seen_in D.Disk R.Directory stripe.new).device.faults }
-    ensures counts { IfErr result (IsCounted (seen_in D.Disk R.Directory stripe.new).device.faults) }
+    ensures untouched { Unstopped result (IsStill (seen_in stripe.old).device
+        (seen_in stripe.new).device) }
+    ensures counts { IfErr result (IsCounted (seen_in stripe.new).device.faults) }
     ensures memory { 0 < units_in stripe.old → 0 < room_for writer.old.put stripe.old.actors → HasMemory result }
     ensures unit { units_in stripe.old ≤ units_in stripe.new + 1 }
 {

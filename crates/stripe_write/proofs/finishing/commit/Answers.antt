@@ -1,4 +1,4 @@
-use Rattle.std.proofs.Common.{sym, ◌∙◌, ap, subst, [], ◌∷◌}
+use Rattle.std.proofs.Common.{sym, ◌∙◌, ap, subst, [], ◌∷◌, arith}
 use Rattle.fragment_table.specs.Table.{total_length}
 use Rattle.cache_model.specs.Kept.{state_of}
 use Rattle.cache_model.specs.Verdict.{cuts_of}
@@ -7,12 +7,17 @@ use Rattle.stripe_core.specs.Acts.{committed_record}
 use Rattle.stripe_core.specs.Stripe.{kept_in, state_in}
 use Rattle.stripe_write.specs.Writers.{IsWriterOf}
 use Rattle.stripe_write.proofs.Completing.{closed_writer}
+use Rattle.std.proofs.lemmas.Grind.{common_steps}
+use Rattle.stripe_core.proofs.Continuing.{continues_rests}
 use Rattle.stripe_write.proofs.finishing.commit.Goals as goal
 
 pub returns-clause-writer : goal.returns-clause-writer
 returns-clause-writer g c =
-    let kept = kept_in g.C.Chronicle c.args.stripe.now in
-    let s = state_in g.C.Chronicle c.args.stripe.now in
+    let kept = kept_in c.args.stripe.now in
+    let s = state_in c.args.stripe.now in
     let w = c.args.writer.now in
     subst (λ t. IsWriterOf t w) (sym (ap state_of c.commit.ensures.adds ∙ after_all-append kept.base kept.since (committed_record s w.put w.key c.args.alternates ∷ [])))
     (closed_writer s w w.key (total_length (cuts_of s w.put)) c.args.alternates)
+
+pub returns-clause-rests : goal.returns-clause-rests
+returns-clause-rests g c = continues_rests _ _ c.commit.ensures.continues (grind (arith, common_steps))

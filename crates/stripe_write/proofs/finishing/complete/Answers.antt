@@ -2,7 +2,6 @@ use Rattle.std.proofs.Common.{ℕ, List, refl, ◌≡◌, sym, ◌∙◌, ap, su
 use Rattle.std.specs.Prelude.{Some}
 use Rattle.device_log.specs.Calls.{Call}
 use Rattle.cache_model.specs.Kept.{Kept, state_of}
-use Rattle.cache_model.specs.Legal.{IsQuiet}
 use Rattle.cache_model.specs.State.{vector_piece}
 use Rattle.stripe_core.specs.Acts.{IsCommitting}
 use Rattle.stripe_core.specs.Place.{PlacesVector}
@@ -15,7 +14,7 @@ use Rattle.stripe_vectors.specs.declared.spelling.Spelled.{Spelled}
 use Rattle.stripe_write.specs.Finishing.{picked}
 use Rattle.stripe_write.proofs.Owning.{owns, owns_none, owns_vector, then_owns}
 use Rattle.stripe_write.proofs.Completing.{IsClosing, completes, is_closing, not_placed, picked_lists, refused_finishes, refused_writer, vector_for, vector_of_put}
-use Rattle.stripe_core.proofs.Between.{between-trans}
+use Rattle.stripe_core.proofs.Continuing.{continues_still, then_rests}
 use Rattle.stripe_write.proofs.finishing.complete.Goals as goal
 
 -- behind its vector a put may be committed
@@ -27,62 +26,62 @@ is_committing old new before after w pin payload placed c h =
 
 pub place_piece-requires-clause-placing : goal.place_piece-requires-clause-placing
 place_piece-requires-clause-placing g c =
-    let s = state_in g.C.Chronicle c.args.stripe.now in
+    let s = state_in c.args.stripe.now in
     let w = c.args.writer.now in
-    vector_for s w c.args.vectors c.deref.result.now (is_closing s w c.requires.quiet c.requires.open c.requires.writer c.requires.cut) c.requires.spelled c.requires.room
+    vector_for s w c.args.vectors c.deref.result.now (is_closing s w c.requires.resting.quiet c.requires.open c.requires.writer c.requires.cut) c.requires.spelled c.requires.room
     (c.deref.ensures.value ∙ ap (λ (x : Spelled). x.bytes.items) (c.pick-spelled.ensures ∙ ap (picked c.args.vectors) c.is_live-live.ensures))
 
 pub returns-in-Err-clause-does : goal.returns-in-Err-clause-does
 returns-in-Err-clause-does g c =
-    let s = state_in g.C.Chronicle c.args.stripe.now in
+    let s = state_in c.args.stripe.now in
     let w = c.args.writer.now in
-    let closing = is_closing s w c.requires.quiet c.requires.open c.requires.writer c.requires.cut in
-    refused_finishes c.args.now (kept_in g.C.Chronicle c.args.stripe.now) (kept_in g.C.Chronicle c.place_piece.new.self) _ _ w c.args.vectors c.pick-spelled.result.now.pin c.deref.result.now closing
+    let closing = is_closing s w c.requires.resting.quiet c.requires.open c.requires.writer c.requires.cut in
+    refused_finishes c.args.now (kept_in c.args.stripe.now) (kept_in c.place_piece.new.self) _ _ w c.args.vectors c.pick-spelled.result.now.pin c.deref.result.now closing
     (vector_of_put s w c.args.vectors c.pick-spelled.result.now.pin c.deref.result.now closing c.requires.spelled c.requires.room
     (c.deref.ensures.value ∙ ap (λ (x : Spelled). x.bytes.items) (c.pick-spelled.ensures ∙ ap (picked c.args.vectors) c.is_live-live.ensures)) (ap (λ (x : Spelled). x.pin) (c.pick-spelled.ensures ∙ ap (picked c.args.vectors) c.is_live-live.ensures)) c.requires.whole)
     c.in-Err.why c.in-Err.ensures.does (c.in-Err.ensures.memory (omega (arith, c.requires.units)) (λ e. let clash : true ≡ false = e in cc))
 
 pub returns-in-Ok-clause-does : goal.returns-in-Ok-clause-does
 returns-in-Ok-clause-does g c =
-    let s = state_in g.C.Chronicle c.args.stripe.now in
+    let s = state_in c.args.stripe.now in
     let w = c.args.writer.now in
-    let closing = is_closing s w c.requires.quiet c.requires.open c.requires.writer c.requires.cut in
-    completes c.args.now (kept_in g.C.Chronicle c.args.stripe.now) (kept_in g.C.Chronicle c.commit.new.stripe) _ _ w c.args.vectors c.pick-spelled.result.now.pin c.deref.result.now closing
+    let closing = is_closing s w c.requires.resting.quiet c.requires.open c.requires.writer c.requires.cut in
+    completes c.args.now (kept_in c.args.stripe.now) (kept_in c.commit.new.stripe) _ _ w c.args.vectors c.pick-spelled.result.now.pin c.deref.result.now closing
     (vector_of_put s w c.args.vectors c.pick-spelled.result.now.pin c.deref.result.now closing c.requires.spelled c.requires.room
     (c.deref.ensures.value ∙ ap (λ (x : Spelled). x.bytes.items) (c.pick-spelled.ensures ∙ ap (picked c.args.vectors) c.is_live-live.ensures)) (ap (λ (x : Spelled). x.pin) (c.pick-spelled.ensures ∙ ap (picked c.args.vectors) c.is_live-live.ensures)) c.requires.whole)
-    (kept_in g.C.Chronicle c.place_piece.new.self) _ c.in-Ok.field-0 c.commit.result c.into_list.result
+    (kept_in c.place_piece.new.self) _ c.in-Ok.field-0 c.commit.result c.into_list.result
     (picked_lists s w c.args.vectors closing c.is_live-live.result c.into_list.result c.is_live-live.ensures c.into_list.ensures c.requires.spelled) (ap (λ (d : Device). d.past) c.commit.ensures.still) c.in-Ok.ensures.does
     c.commit.ensures.adds c.commit.ensures.does
 
 pub returns-in-Err-clause-writer : goal.returns-in-Err-clause-writer
 returns-in-Err-clause-writer g c =
-    refused_writer (kept_in g.C.Chronicle c.args.stripe.now) (kept_in g.C.Chronicle c.place_piece.new.self) _ _ c.args.writer.now c.pick-spelled.result.now.pin c.deref.result.now c.in-Err.why c.in-Err.ensures.does
+    refused_writer (kept_in c.args.stripe.now) (kept_in c.place_piece.new.self) _ _ c.args.writer.now c.pick-spelled.result.now.pin c.deref.result.now c.in-Err.why c.in-Err.ensures.does
     c.requires.writer
 
 pub returns-in-Err-clause-own : goal.returns-in-Err-clause-own
 returns-in-Err-clause-own g c =
-    owns_none c.args.writer.now.put (kept_in g.C.Chronicle c.args.stripe.now) (kept_in g.C.Chronicle c.place_piece.new.self)
-    (not_placed (kept_in g.C.Chronicle c.args.stripe.now) (kept_in g.C.Chronicle c.place_piece.new.self) _ _ _ c.pick-spelled.result.now.pin c.deref.result.now c.in-Err.why c.in-Err.ensures.does)
+    owns_none c.args.writer.now.put (kept_in c.args.stripe.now) (kept_in c.place_piece.new.self)
+    (not_placed (kept_in c.args.stripe.now) (kept_in c.place_piece.new.self) _ _ _ c.pick-spelled.result.now.pin c.deref.result.now c.in-Err.why c.in-Err.ensures.does)
 
 pub returns-in-Ok-clause-own : goal.returns-in-Ok-clause-own
 returns-in-Ok-clause-own g c =
-    then_owns c.args.writer.now.put (kept_in g.C.Chronicle c.args.stripe.now) (kept_in g.C.Chronicle c.place_piece.new.self) (kept_in g.C.Chronicle c.commit.new.stripe)
-    (owns_vector c.args.writer.now.put (kept_in g.C.Chronicle c.args.stripe.now) (kept_in g.C.Chronicle c.place_piece.new.self) c.args.writer.now.key c.pick-spelled.result.now.pin c.deref.result.now c.in-Ok.field-0
+    then_owns c.args.writer.now.put (kept_in c.args.stripe.now) (kept_in c.place_piece.new.self) (kept_in c.commit.new.stripe)
+    (owns_vector c.args.writer.now.put (kept_in c.args.stripe.now) (kept_in c.place_piece.new.self) c.args.writer.now.key c.pick-spelled.result.now.pin c.deref.result.now c.in-Ok.field-0
     c.in-Ok.ensures.does.adds)
-    (owns c.args.writer.now.put (kept_in g.C.Chronicle c.place_piece.new.self) (kept_in g.C.Chronicle c.commit.new.stripe) _ c.commit.ensures.adds (refl, tt))
+    (owns c.args.writer.now.put (kept_in c.place_piece.new.self) (kept_in c.commit.new.stripe) _ c.commit.ensures.adds (refl, tt))
 
-pub returns-in-Ok-clause-unharmed : goal.returns-in-Ok-clause-unharmed
-returns-in-Ok-clause-unharmed g c = between-trans _ _ _ _ _ _ c.place_piece.ensures.unharmed c.commit.ensures.unharmed
+pub returns-in-Ok-clause-rests : goal.returns-in-Ok-clause-rests
+returns-in-Ok-clause-rests g c = then_rests _ _ _ c.place_piece.ensures.continues c.commit.ensures.rests
 
 pub commit-requires-clause-committing : goal.commit-requires-clause-committing
 commit-requires-clause-committing g c =
-    let s = state_in g.C.Chronicle c.args.stripe.now in
+    let s = state_in c.args.stripe.now in
     let w = c.args.writer.now in
-    is_committing (kept_in g.C.Chronicle c.args.stripe.now) (kept_in g.C.Chronicle c.place_piece.new.self) _ _ w c.pick-spelled.result.now.pin c.deref.result.now c.in-Ok.field-0
-    (is_closing s w c.requires.quiet c.requires.open c.requires.writer c.requires.cut) c.in-Ok.ensures.does
+    is_committing (kept_in c.args.stripe.now) (kept_in c.place_piece.new.self) _ _ w c.pick-spelled.result.now.pin c.deref.result.now c.in-Ok.field-0
+    (is_closing s w c.requires.resting.quiet c.requires.open c.requires.writer c.requires.cut) c.in-Ok.ensures.does
 
-pub returns-in-Err-clause-quiet : goal.returns-in-Err-clause-quiet
-returns-in-Err-clause-quiet g c =
-    subst (λ k. IsQuiet (state_of k))
-    (sym (not_placed (kept_in g.C.Chronicle c.args.stripe.now) (kept_in g.C.Chronicle c.place_piece.new.self) _ _ _ c.pick-spelled.result.now.pin c.deref.result.now c.in-Err.why c.in-Err.ensures.does))
-    c.requires.quiet
+pub returns-in-Err-clause-rests : goal.returns-in-Err-clause-rests
+returns-in-Err-clause-rests g c =
+    continues_still _ _ c.place_piece.ensures.continues
+    (not_placed (kept_in c.args.stripe.now) (kept_in c.place_piece.new.self) _ _ _ c.pick-spelled.result.now.pin c.deref.result.now c.in-Err.why c.in-Err.ensures.does)
+    c.requires.resting

@@ -9,10 +9,10 @@ use Rattle.stripe_write.proofs.finishing.end.Goals as goal
 
 pub returns-in-Some-clause-does : goal.returns-in-Some-clause-does
 returns-in-Some-clause-does g c =
-    let s = state_in g.C.Chronicle c.args.stripe.now in
+    let s = state_in c.args.stripe.now in
     let w = c.args.writer.now in
-    loses c.args.now (kept_in g.C.Chronicle c.args.stripe.now) (kept_in g.C.Chronicle c.lose.new.stripe) _ _ w c.args.vectors (is_closing s w c.requires.quiet c.requires.open c.requires.writer c.requires.cut) c.in-Some.index _ c.lose.result
+    loses c.args.now (kept_in c.args.stripe.now) (kept_in c.lose.new.stripe) _ _ w c.args.vectors (is_closing s w c.requires.resting.quiet c.requires.open c.requires.writer c.requires.cut) c.in-Some.index _ c.lose.result
     c.requires.spelled c.requires.room (subst (IsFirstLost s w) c.in-Some.is c.first_lost.ensures) c.lose.ensures.lost c.lose.ensures.adds
 
 pub returns-in-Some-clause-own : goal.returns-in-Some-clause-own
-returns-in-Some-clause-own g c = owns c.args.writer.now.put (kept_in g.C.Chronicle c.args.stripe.now) (kept_in g.C.Chronicle c.lose.new.stripe) _ c.lose.ensures.adds (refl, tt)
+returns-in-Some-clause-own g c = owns c.args.writer.now.put (kept_in c.args.stripe.now) (kept_in c.lose.new.stripe) _ c.lose.ensures.adds (refl, tt)

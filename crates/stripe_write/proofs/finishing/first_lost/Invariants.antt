@@ -4,4 +4,4 @@ use Rattle.stripe_write.specs.Finishing.{AreLive}
 use Rattle.stripe_write.proofs.finishing.first_lost.Given as goal
 
 abbrev pub invariant-fragments : goal.invariant-fragments
-invariant-fragments g l = AreLive (state_in g.C.Chronicle l.fn.stripe) l.fn.writer (l.index - 1)
+invariant-fragments g l = AreLive (state_in l.fn.stripe) l.fn.writer (l.index - 1)

@@ -9,12 +9,12 @@ use Rattle.stripe_write.proofs.resting.cut_rest.Goals as goal
 pub returns-then-is_empty-clause-does : goal.returns-then-is_empty-clause-does
 returns-then-is_empty-clause-does g c =
     let none : length c.args.writer.now.gathered.items ≡ 0 = grind (arith, c.is_empty.ensures, c.if-is_empty.true) in
-    rest_none c.args.now (kept_in g.C.Chronicle c.args.stripe.now) _ _ c.args.writer.now tt none
+    rest_none c.args.now (kept_in c.args.stripe.now) _ _ c.args.writer.now tt none
 
 pub cut-requires-clause-ready : goal.cut-requires-clause-ready
 cut-requires-clause-ready g c =
     let some : 0 < length c.args.writer.now.gathered.items = grind (arith, c.is_empty.ensures, c.if-is_empty.false) in
-    rest_ready (state_in g.C.Chronicle c.args.stripe.now) c.args.writer.now c.requires.open c.requires.writer c.requires.sealed some c.requires.table
+    rest_ready (state_in c.args.stripe.now) c.args.writer.now c.requires.open c.requires.writer c.requires.sealed some c.requires.table
 
 pub returns-in-Err-clause-some : goal.returns-in-Err-clause-some
 returns-in-Err-clause-some g c = grind (arith, c.is_empty.ensures, c.if-is_empty.false)
@@ -22,25 +22,25 @@ returns-in-Err-clause-some g c = grind (arith, c.is_empty.ensures, c.if-is_empty
 pub returns-in-Ok-clause-open : goal.returns-in-Ok-clause-open
 returns-in-Ok-clause-open g c =
     let some : 0 < length c.args.writer.now.gathered.items = grind (arith, c.is_empty.ensures, c.if-is_empty.false) in
-    let ready : IsReady (state_in g.C.Chronicle c.args.stripe.now) c.args.writer.now =
-    rest_ready (state_in g.C.Chronicle c.args.stripe.now) c.args.writer.now c.requires.open c.requires.writer c.requires.sealed some c.requires.table in
-    cut_open c.args.now (kept_in g.C.Chronicle c.args.stripe.now) (kept_in g.C.Chronicle c.cut.new.stripe) _ _ c.args.writer.now c.cut.new.writer c.in-Ok.field-0 ready c.in-Ok.ensures.does c.in-Ok.ensures.rest.put
+    let ready : IsReady (state_in c.args.stripe.now) c.args.writer.now =
+    rest_ready (state_in c.args.stripe.now) c.args.writer.now c.requires.open c.requires.writer c.requires.sealed some c.requires.table in
+    cut_open c.args.now (kept_in c.args.stripe.now) (kept_in c.cut.new.stripe) _ _ c.args.writer.now c.cut.new.writer c.in-Ok.field-0 ready c.in-Ok.ensures.does c.in-Ok.ensures.rest.put
 
 pub returns-in-Ok-clause-does : goal.returns-in-Ok-clause-does
 returns-in-Ok-clause-does g c =
     let some : 0 < length c.args.writer.now.gathered.items = grind (arith, c.is_empty.ensures, c.if-is_empty.false) in
-    rest_cut c.args.now (kept_in g.C.Chronicle c.args.stripe.now) (kept_in g.C.Chronicle c.cut.new.stripe) _ _ c.args.writer.now c.in-Ok.field-0 tt some c.in-Ok.ensures.does
+    rest_cut c.args.now (kept_in c.args.stripe.now) (kept_in c.cut.new.stripe) _ _ c.args.writer.now c.in-Ok.field-0 tt some c.in-Ok.ensures.does
 
 pub returns-in-Err-clause-writer : goal.returns-in-Err-clause-writer
 returns-in-Err-clause-writer g c =
     let w = c.args.writer.now in
-    subst (IsWriterOf (state_in g.C.Chronicle c.cut.new.stripe)) (sym c.in-Err.ensures.same)
-    (left_writer (state_in g.C.Chronicle c.args.stripe.now) (state_in g.C.Chronicle c.cut.new.stripe) w
-    (failed_leaves c.args.now (kept_in g.C.Chronicle c.args.stripe.now) (kept_in g.C.Chronicle c.cut.new.stripe) _ _ (next_id w) w.pin (next_start w) w.gathered.items c.in-Err.refusal c.in-Err.ensures.does) c.requires.writer)
+    subst (IsWriterOf (state_in c.cut.new.stripe)) (sym c.in-Err.ensures.same)
+    (left_writer (state_in c.args.stripe.now) (state_in c.cut.new.stripe) w
+    (failed_leaves c.args.now (kept_in c.args.stripe.now) (kept_in c.cut.new.stripe) _ _ (next_id w) w.pin (next_start w) w.gathered.items c.in-Err.refusal c.in-Err.ensures.does) c.requires.writer)
 
 pub returns-in-Err-clause-does : goal.returns-in-Err-clause-does
 returns-in-Err-clause-does g c =
     let w = c.args.writer.now in
     let some : 0 < length w.gathered.items = grind (arith, c.is_empty.ensures, c.if-is_empty.false) in
-    rest_refused c.args.now (kept_in g.C.Chronicle c.args.stripe.now) (kept_in g.C.Chronicle c.cut.new.stripe) _ _ w
+    rest_refused c.args.now (kept_in c.args.stripe.now) (kept_in c.cut.new.stripe) _ _ w
     c.in-Err.refusal some (c.in-Err.ensures.memory c.requires.unit c.requires.row) c.in-Err.ensures.does

@@ -5,43 +5,46 @@ use Rattle.hex.specs.Hex.{IsBytes}
 use Rattle.cache_model.specs.Legal.{IsQuiet}
 use Rattle.stripe_core.specs.Place.{CutsAsAsked, IsFragmentOf, IsPlacing, IsVectorFor}
 use Rattle.stripe_core.specs.Stripe.{kept_in, seen_in, state_in}
+use Rattle.stripe_core.proofs.Stills.{wanting_unstopped}
 use Rattle.stripe_write.specs.Writes.{next_id, next_start}
 use Rattle.stripe_write.proofs.Cutting.{cut_quiet, cut_stops, cut_writer, cuts_behind, next_no_vector, ready_fragment, rows_behind}
 use Rattle.stripe_write.proofs.Gathering.{failed_leaves}
 use Rattle.stripe_write.proofs.Spending.{state_behind}
+use Rattle.stripe_core.proofs.Continuing.{continues_rests}
 use Rattle.stripe_write.proofs.writing.cut.Goals as goal
 
 pub place_piece-requires-clause-placing : goal.place_piece-requires-clause-placing
 place_piece-requires-clause-placing g c =
-    let s = state_in g.C.Chronicle c.args.stripe.now in
+    let s = state_in c.args.stripe.now in
     let w = c.args.writer.now in
     let here : IsPlacing s (next_id w) w.pin (next_start w) w.gathered.items =
-    subst (λ b. MatchBool b (IsVectorFor s (next_id w) (next_start w) w.gathered.items) (IsFragmentOf s (next_id w) w.pin (next_start w) w.gathered.items)) (sym (next_no_vector w)) (ready_fragment s w c.requires.quiet c.requires.ready (subst IsBytes c.deref-payload.ensures.value (λ i. omega (arith, c.type_inv.payload i)))) in
+    subst (λ b. MatchBool b (IsVectorFor s (next_id w) (next_start w) w.gathered.items) (IsFragmentOf s (next_id w) w.pin (next_start w) w.gathered.items)) (sym (next_no_vector w)) (ready_fragment s w c.requires.resting.quiet c.requires.ready (subst IsBytes c.deref-payload.ensures.value (λ i. omega (arith, c.type_inv.payload i)))) in
     rw (c.len.ensures.len, c.total.ensures, c.deref-payload.ensures.value) here
 
 pub returns-clause-does : goal.returns-clause-does
 returns-clause-does g c =
     cuts_behind c.args.writer.now c.len.result c.total.result c.deref-payload.result.now c.len.ensures.len c.total.ensures c.deref-payload.ensures.value c.args.now
-    (kept_in g.C.Chronicle c.args.stripe.now) (kept_in g.C.Chronicle c.place_piece.new.self) (seen_in g.D.Disk g.R.Directory c.args.stripe.now).device.past (seen_in g.D.Disk g.R.Directory c.place_piece.new.self).device
+    (kept_in c.args.stripe.now) (kept_in c.place_piece.new.self) (seen_in c.args.stripe.now).device.past (seen_in c.place_piece.new.self).device
     (Ok c.in_ok-placed.placed) c.in_ok-placed.ensures.does
 
-pub returns-clause-quiet : goal.returns-clause-quiet
-returns-clause-quiet g c =
-    let old = kept_in g.C.Chronicle c.args.stripe.now in
-    let new = kept_in g.C.Chronicle c.place_piece.new.self in
+pub returns-clause-rests : goal.returns-clause-rests
+returns-clause-rests g c =
+    let old = kept_in c.args.stripe.now in
+    let new = kept_in c.place_piece.new.self in
     let w = c.args.writer.now in
-    let cuts : CutsAsAsked c.args.now old new (seen_in g.D.Disk g.R.Directory c.args.stripe.now).device.past (seen_in g.D.Disk g.R.Directory c.place_piece.new.self).device (next_id w) w.pin (next_start w) w.gathered.items
+    let cuts : CutsAsAsked c.args.now old new (seen_in c.args.stripe.now).device.past (seen_in c.place_piece.new.self).device (next_id w) w.pin (next_start w) w.gathered.items
     (Ok c.in_ok-placed.placed) = returns-clause-does g c in
-    subst IsQuiet (sym (state_behind old new cuts.added cuts.adds)) (cut_quiet (state_in g.C.Chronicle c.args.stripe.now) (next_id w) w.pin (next_start w) w.gathered.items cuts.added c.in_ok-placed.placed (next_no_vector w) cuts.shape c.requires.quiet)
+    continues_rests _ _ c.place_piece.ensures.continues
+    (subst IsQuiet (sym (state_behind old new cuts.added cuts.adds)) (cut_quiet (state_in c.args.stripe.now) (next_id w) w.pin (next_start w) w.gathered.items cuts.added c.in_ok-placed.placed (next_no_vector w) cuts.shape c.requires.resting.quiet))
 
 pub returns-clause-writer : goal.returns-clause-writer
 returns-clause-writer g c =
-    let old = kept_in g.C.Chronicle c.args.stripe.now in
-    let new = kept_in g.C.Chronicle c.place_piece.new.self in
+    let old = kept_in c.args.stripe.now in
+    let new = kept_in c.place_piece.new.self in
     let w = c.args.writer.now in
-    let cuts : CutsAsAsked c.args.now old new (seen_in g.D.Disk g.R.Directory c.args.stripe.now).device.past (seen_in g.D.Disk g.R.Directory c.place_piece.new.self).device (next_id w) w.pin (next_start w) w.gathered.items
+    let cuts : CutsAsAsked c.args.now old new (seen_in c.args.stripe.now).device.past (seen_in c.place_piece.new.self).device (next_id w) w.pin (next_start w) w.gathered.items
     (Ok c.in_ok-placed.placed) = returns-clause-does g c in
-    cut_writer (state_in g.C.Chronicle c.args.stripe.now) (state_in g.C.Chronicle c.place_piece.new.self) w _ cuts.added c.in_ok-placed.placed c.requires.ready cuts.shape (state_behind old new cuts.added cuts.adds)
+    cut_writer (state_in c.args.stripe.now) (state_in c.place_piece.new.self) w _ cuts.added c.in_ok-placed.placed c.requires.ready cuts.shape (state_behind old new cuts.added cuts.adds)
     refl refl refl refl refl refl c.clear.ensures.items
     (rows_behind c.push-pushed.result c.unwrap.result w.table.rows c.push-pushed.new.self.rows c.len-size.result c.in_ok-placed.placed.payload w.gathered.items c.unwrap.ensures c.push-pushed.ensures.ok (c.len-size.ensures ∙ (sym c.deref-payload.ensures.len ∙ ap length c.deref-payload.ensures.value))
     cuts.shape.payload_is)
@@ -50,24 +53,30 @@ pub returns-in_err-placed-clause-does : goal.returns-in_err-placed-clause-does
 returns-in_err-placed-clause-does g c =
     let refused = err_from_is_err_and c.from_residual.result c.from_residual.ensures.1 in
     rw (refused.1, refused.2) (cuts_behind c.args.writer.now c.len.result c.total.result c.deref-payload.result.now c.len.ensures.len c.total.ensures c.deref-payload.ensures.value c.args.now
-    (kept_in g.C.Chronicle c.args.stripe.now) (kept_in g.C.Chronicle c.place_piece.new.self) (seen_in g.D.Disk g.R.Directory c.args.stripe.now).device.past (seen_in g.D.Disk g.R.Directory c.place_piece.new.self).device
+    (kept_in c.args.stripe.now) (kept_in c.place_piece.new.self) (seen_in c.args.stripe.now).device.past (seen_in c.place_piece.new.self).device
     (Err c.in_err-placed.field-0.0) c.in_err-placed.ensures.does)
 
 pub returns-in_err-placed-clause-number : goal.returns-in_err-placed-clause-number
 returns-in_err-placed-clause-number g c =
     let w = c.args.writer.now in
     let refused = err_from_is_err_and c.from_residual.result c.from_residual.ensures.1 in
-    rw (refused.1, refused.2) (cut_stops c.args.now (kept_in g.C.Chronicle c.args.stripe.now) (kept_in g.C.Chronicle c.place_piece.new.self) (seen_in g.D.Disk g.R.Directory c.args.stripe.now).device.past
-    (seen_in g.D.Disk g.R.Directory c.place_piece.new.self).device (next_id w) w.pin (next_start w) w.gathered.items c.in_err-placed.field-0.0
+    rw (refused.1, refused.2) (cut_stops c.args.now (kept_in c.args.stripe.now) (kept_in c.place_piece.new.self) (seen_in c.args.stripe.now).device.past
+    (seen_in c.place_piece.new.self).device (next_id w) w.pin (next_start w) w.gathered.items c.in_err-placed.field-0.0
     (cuts_behind w c.len.result c.total.result c.deref-payload.result.now c.len.ensures.len c.total.ensures c.deref-payload.ensures.value c.args.now
-    (kept_in g.C.Chronicle c.args.stripe.now) (kept_in g.C.Chronicle c.place_piece.new.self) (seen_in g.D.Disk g.R.Directory c.args.stripe.now).device.past (seen_in g.D.Disk g.R.Directory c.place_piece.new.self).device
+    (kept_in c.args.stripe.now) (kept_in c.place_piece.new.self) (seen_in c.args.stripe.now).device.past (seen_in c.place_piece.new.self).device
     (Err c.in_err-placed.field-0.0) c.in_err-placed.ensures.does))
 
-pub returns-in_err-placed-clause-quiet : goal.returns-in_err-placed-clause-quiet
-returns-in_err-placed-clause-quiet g c =
+pub returns-in_err-placed-clause-rests : goal.returns-in_err-placed-clause-rests
+returns-in_err-placed-clause-rests g c =
     let w = c.args.writer.now in
-    (failed_leaves c.args.now (kept_in g.C.Chronicle c.args.stripe.now) (kept_in g.C.Chronicle c.place_piece.new.self) (seen_in g.D.Disk g.R.Directory c.args.stripe.now).device.past
-    (seen_in g.D.Disk g.R.Directory c.place_piece.new.self).device (next_id w) w.pin (next_start w) w.gathered.items c.in_err-placed.field-0.0
+    continues_rests _ _ c.place_piece.ensures.continues
+    ((failed_leaves c.args.now (kept_in c.args.stripe.now) (kept_in c.place_piece.new.self) (seen_in c.args.stripe.now).device.past
+    (seen_in c.place_piece.new.self).device (next_id w) w.pin (next_start w) w.gathered.items c.in_err-placed.field-0.0
     (cuts_behind w c.len.result c.total.result c.deref-payload.result.now c.len.ensures.len c.total.ensures c.deref-payload.ensures.value c.args.now
-    (kept_in g.C.Chronicle c.args.stripe.now) (kept_in g.C.Chronicle c.place_piece.new.self) (seen_in g.D.Disk g.R.Directory c.args.stripe.now).device.past (seen_in g.D.Disk g.R.Directory c.place_piece.new.self).device
-    (Err c.in_err-placed.field-0.0) c.in_err-placed.ensures.does)).pending ∙ c.requires.quiet
+    (kept_in c.args.stripe.now) (kept_in c.place_piece.new.self) (seen_in c.args.stripe.now).device.past (seen_in c.place_piece.new.self).device
+    (Err c.in_err-placed.field-0.0) c.in_err-placed.ensures.does)).pending ∙ c.requires.resting.quiet)
+
+pub returns-in_err-placed-clause-untouched : goal.returns-in_err-placed-clause-untouched
+returns-in_err-placed-clause-untouched g c =
+    let refused = err_from_is_err_and c.from_residual.result c.from_residual.ensures.1 in
+    rw (refused.1, refused.2) (wanting_unstopped (Err c.in_err-placed.field-0.0) _ _ _ c.in_err-placed.ensures.does c.in_err-placed.ensures.untouched)

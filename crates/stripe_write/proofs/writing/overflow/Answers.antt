@@ -1,4 +1,4 @@
-use Rattle.std.proofs.Common.{◌≡◌, ℕ, Result, Err, sym, ◌∙◌, ap, subst, [], ◌∷◌}
+use Rattle.std.proofs.Common.{◌≡◌, ℕ, Result, Err, sym, ◌∙◌, ap, subst, [], ◌∷◌, arith}
 use Rattle.std.proofs.lemmas.Result.{err_from_is_err_and}
 use Rattle.cache_model.specs.declared.record.Rec.TheVariants as rec
 use Rattle.cache_model.specs.Kept.{state_of, with_records}
@@ -9,36 +9,44 @@ use Rattle.stripe_write.specs.Writers.{IsWriterOf}
 use Rattle.stripe_write.specs.Writes.{overflow_adds}
 use Rattle.stripe_write.proofs.Spending.{nothing_more}
 use Rattle.stripe_write.proofs.Ended.{giving_up, no_writer, overflows}
-use Rattle.stripe_core.proofs.Between.{between-trans}
+use Rattle.std.proofs.lemmas.Grind.{common_steps}
+use Rattle.stripe_core.proofs.Continuing.{continues_further, continues_still}
+use Rattle.stripe_core.proofs.Stills.{still_as, still_then}
 use Rattle.stripe_write.proofs.writing.overflow.Goals as goal
 
 pub returns-in_err-prepare-clause-does : goal.returns-in_err-prepare-clause-does
-returns-in_err-prepare-clause-does g c = λ p. overflows p (state_in g.C.Chronicle c.args.stripe.now) c.args.writer.now c.requires.quiet c.requires.open c.requires.writer c.requires.full
+returns-in_err-prepare-clause-does g c = λ p. overflows p (state_in c.args.stripe.now) c.args.writer.now c.requires.resting.quiet c.requires.open c.requires.writer c.requires.full
 
 pub returns-in_err-prepare-clause-writer : goal.returns-in_err-prepare-clause-writer
 returns-in_err-prepare-clause-writer g c = subst (λ k. IsWriterOf (state_of k) c.args.writer.now) (sym c.prepare.ensures.records) c.requires.writer
 
 pub give_up-requires-clause-writing : goal.give_up-requires-clause-writing
 give_up-requires-clause-writing g c =
-    giving_up (state_in g.C.Chronicle c.prepare.new.self) c.args.writer.now (subst (λ k. IsQuiet (state_of k)) (sym c.prepare.ensures.records) c.requires.quiet)
+    giving_up (state_in c.prepare.new.self) c.args.writer.now (subst (λ k. IsQuiet (state_of k)) (sym c.prepare.ensures.records) c.requires.resting.quiet)
     (ap (λ k. is_writing (state_of k) c.args.writer.now.put) c.prepare.ensures.records ∙ c.requires.open)
     (subst (λ k. IsWriterOf (state_of k) c.args.writer.now) (sym c.prepare.ensures.records) c.requires.writer)
 
 pub returns-clause-does : goal.returns-clause-does
-returns-clause-does g c = λ p. overflows p (state_in g.C.Chronicle c.args.stripe.now) c.args.writer.now c.requires.quiet c.requires.open c.requires.writer c.requires.full
+returns-clause-does g c = λ p. overflows p (state_in c.args.stripe.now) c.args.writer.now c.requires.resting.quiet c.requires.open c.requires.writer c.requires.full
 
 pub returns-clause-writer : goal.returns-clause-writer
 returns-clause-writer g c =
     subst (λ t. IsWriterOf t c.args.writer.now)
-    (sym (ap state_of c.give_up.ensures.adds ∙ Rattle.cache_model.proofs.Steps.after_all-append (kept_in g.C.Chronicle c.prepare.new.self).base (kept_in g.C.Chronicle c.prepare.new.self).since (rec.Aborted c.args.writer.now.put c.args.writer.now.key ∷ [])))
-    (no_writer (state_in g.C.Chronicle c.prepare.new.self) c.args.writer.now c.args.writer.now.key)
+    (sym (ap state_of c.give_up.ensures.adds ∙ Rattle.cache_model.proofs.Steps.after_all-append (kept_in c.prepare.new.self).base (kept_in c.prepare.new.self).since (rec.Aborted c.args.writer.now.put c.args.writer.now.key ∷ [])))
+    (no_writer (state_in c.prepare.new.self) c.args.writer.now c.args.writer.now.key)
 
-pub returns-clause-unharmed : goal.returns-clause-unharmed
-returns-clause-unharmed g c = between-trans _ _ _ _ _ _ c.prepare.ensures.unharmed c.give_up.ensures.unharmed
+pub returns-clause-rests : goal.returns-clause-rests
+returns-clause-rests g c = continues_further _ _ _ c.prepare.ensures.continues c.give_up.ensures.continues (grind (arith, common_steps))
 
 pub returns-in_err-prepare-clause-adds : goal.returns-in_err-prepare-clause-adds
 returns-in_err-prepare-clause-adds g c =
-    let k = kept_in g.C.Chronicle c.args.stripe.now in
+    let k = kept_in c.args.stripe.now in
     let wanting = err_from_is_err_and c.from_residual.result c.from_residual.ensures.1 in
-    subst (λ (r : Result ℕ Refusal). kept_in g.C.Chronicle c.prepare.new.self ≡ with_records k (overflow_adds c.args.writer.now r)) (sym (wanting.1 ∙ ap Err wanting.2))
+    subst (λ (r : Result ℕ Refusal). kept_in c.prepare.new.self ≡ with_records k (overflow_adds c.args.writer.now r)) (sym (wanting.1 ∙ ap Err wanting.2))
     (c.prepare.ensures.records ∙ sym (nothing_more k))
+
+pub returns-in_err-prepare-clause-rests : goal.returns-in_err-prepare-clause-rests
+returns-in_err-prepare-clause-rests g c = continues_still _ _ c.prepare.ensures.continues c.prepare.ensures.records c.requires.resting
+
+pub returns-clause-still : goal.returns-clause-still
+returns-clause-still g c = still_then _ _ _ c.prepare.ensures.still (still_as _ _ c.give_up.ensures.still)
