@@ -16,10 +16,11 @@ use Rattle.cache_model.specs.State.{Closed, GivenUp, Open, PutRow, ReaderRow, Ro
 use Rattle.cache_model.specs.Verdict.{cause_of_piece, digest_in, next_piece, next_row, reader_verdict, verdict_at_end, verdict_of_followed, verdict_of_fragment, verdict_of_writing}
 use Rattle.cache_model.specs.Permit.{Done, Permit, ReadOn}
 use Rattle.cache_model.specs.Given.{IsReadWhereLive}
-use Rattle.cache_model.specs.Legal.{Does, DoesReadOn, IsAsListed, IsNextAsListed, IsQuiet, IsReading, answer_record, live_next}
+use Rattle.cache_model.specs.Legal.{Does, IsAsListed, IsNextAsListed, IsQuiet, IsReading, answer_record, live_next}
 use Rattle.cache_model.proofs.Found.{end_gives_none, no_truth}
 use Rattle.stripe_core.specs.declared.refusal.Found.{Found}
 use Rattle.stripe_core.specs.declared.refusal.Found.TheVariants as found
+use Rattle.stripe_core.specs.Acts.{NotesAsAsked}
 use Rattle.stripe_core.specs.Counts.{IsCountedCause}
 use Rattle.stripe_core.specs.Covers.{AreSeen, Covers}
 use Rattle.stripe_core.proofs.Covering.{own_covers, own_permit}
@@ -74,10 +75,6 @@ end_as_listed s r none = λ e x cut live. let no : None ≡ Some e = sym none �
 
 -- ---- it was read on
 
-reads_on : (p : Permit) (s : State) (r : Reader) (own : IsReaderOf s r) (before : List Rec) (answer : NextAnswer) → IsQuiet s → IsReading p s (row_by own.actor r) before answer
-    → Does p s (ReadOn r.reader) (before ++ answer_record r.reader answer ∷ []) Done
-reads_on p s r own before answer quiet right = DoesReadOn.reads_on answer (record { r = row_by own.actor r; before = before; quiet = quiet; reading = own.found; right = right; is = refl })
-
 no_trouble : (o : Option Row) (index size : ℕ) → trouble_with o (piece.Piece index size) ≡ []
 no_trouble None index size = refl
 no_trouble (Some row) index size = refl
@@ -92,14 +89,14 @@ module _ (p : Permit) (s : State) (r : Reader) (entry : TableRow) (size : ℕ) (
       ap (λ recs. recs ++ answer_record r.reader (next.Gave r.next (listed_length s r)) ∷ []) (no_trouble (live_next s (as_row r)) r.next size)
       ∙ ap (λ o. answer_record r.reader (next.Gave r.next (unwrap_or (option_map (λ (x : TableRow). x.length) o) 0)) ∷ []) cut
 
-  given_does : (o : Option Row) (own : IsReaderOf s r) → IsQuiet s → live_row_of s (next_piece (as_row r)) ≡ o → IsFetched p s (next_piece (as_row r)) o entry (found.Found size) into
+  given_does : NotesAsAsked r.reader (next.Gave r.next entry.length) → (o : Option Row) (own : IsReaderOf s r) → IsQuiet s → live_row_of s (next_piece (as_row r)) ≡ o → IsFetched p s (next_piece (as_row r)) o entry (found.Found size) into
       → Does p s (ReadOn r.reader) (read_adds s r (piece.Piece r.next size)) Done
-  given_does None own quiet live h = absurd (not_missing size (cause_of_piece s (next_piece (as_row r))) h)
-  given_does (Some row) own quiet live h =
+  given_does notes None own quiet live h = absurd (not_missing size (cause_of_piece s (next_piece (as_row r))) h)
+  given_does notes (Some row) own quiet live h =
       let mine : ReaderRow = row_by own.actor r in
       let was : IsReadWhereLive p s (live_next s mine) = subst (IsReadWhereLive p s) (sym (next_live s mine entry cut ∙ live)) (is_read p s row size into h.0) in
       subst (λ recs. Does p s (ReadOn r.reader) recs Done) (sym given_adds)
-      (reads_on p s r own [] (next.Gave r.next entry.length) quiet
+      (notes p s mine [] quiet own.found
       (subst (IsReading p s mine []) (verdict_live s mine entry row cut live) (IsReading.verdict was (next_as_listed s mine entry row cut live h.1))))
 
   given_is : (o : Option Row) → live_row_of s (next_piece (as_row r)) ≡ o → IsFetched p s (next_piece (as_row r)) o entry (found.Found size) into → IsFragment p s r r.next size into
@@ -128,11 +125,11 @@ module _ (p : Permit) (s : State) (r : Reader) (entry : TableRow) (why : Cause) 
       (IsReading.verdict (subst (IsReadWhereLive p s) (sym (next_live s mine entry cut ∙ gone)) tt) (lost_as_listed s mine gone))
   broken_reading own (Some row) live h = IsReading.trouble entry row (cause_records row why) why cut live h
 
-  broken_does : (own : IsReaderOf s r) → IsQuiet s → IsFetched p s (next_piece (as_row r)) (live_row_of s (next_piece (as_row r))) entry (found.Missing why) into
+  broken_does : NotesAsAsked r.reader (next.Broke why) → (own : IsReaderOf s r) → IsQuiet s → IsFetched p s (next_piece (as_row r)) (live_row_of s (next_piece (as_row r))) entry (found.Missing why) into
       → Does p s (ReadOn r.reader) (read_adds s r (piece.Broken why)) Done
-  broken_does own quiet h =
+  broken_does notes own quiet h =
       let o : Option Row = live_row_of s (next_piece (as_row r)) in
-      subst (λ recs. Does p s (ReadOn r.reader) recs Done) (sym (broken_adds o refl)) (reads_on p s r own (trouble_with o (piece.Broken why)) (next.Broke why) quiet (broken_reading own o refl h))
+      subst (λ recs. Does p s (ReadOn r.reader) recs Done) (sym (broken_adds o refl)) (notes p s (row_by own.actor r) (trouble_with o (piece.Broken why)) quiet own.found (broken_reading own o refl h))
 
 -- ---- what the device gave
 
@@ -180,18 +177,18 @@ module _ (s : State) (old new newer : Device) (r : Reader) (id : PieceId) (cut :
       subst (λ i. IsFetched p s i (live_row_of s i) has.row answer into) id_is
       (f.answers p has.row (subst (λ (x : Device). Covers p old.past x.past) newer_is covers) has.digest_is)
 
-  pub piece_reads : (size : ℕ) → Fetches s old new id digest (found.Found size) into → ReadsOn s old newer r (piece.Piece r.next size) into
-  piece_reads size f = record {
+  pub piece_reads : NotesAsAsked r.reader (next.Gave r.next cut) → (size : ℕ) → Fetches s old new id digest (found.Found size) into → ReadsOn s old newer r (piece.Piece r.next size) into
+  piece_reads notes size f = record {
     seen = subst (AreSeen old) (sym newer_is) f.seen;
-    does = λ p covers own. given_does p s r has.row size into has.found (live_row_of s (next_piece (as_row r))) own quiet refl (fetched (found.Found size) f p covers);
+    does = λ p covers own. given_does p s r has.row size into has.found (subst (λ n. NotesAsAsked r.reader (next.Gave r.next n)) (sym has.length_is) notes) (live_row_of s (next_piece (as_row r))) own quiet refl (fetched (found.Found size) f p covers);
     gives = λ p covers. given_is p s r has.row size into has.found (live_row_of s (next_piece (as_row r))) refl (fetched (found.Found size) f p covers);
     counted = tt;
   }
 
-  pub broken_reads : (why : Cause) → (after_all s (find_adds s id (found.Missing why))).fault ≤ new.faults → Fetches s old new id digest (found.Missing why) into → ReadsOn s old newer r (piece.Broken why) into
-  broken_reads why reached f = record {
+  pub broken_reads : (why : Cause) → NotesAsAsked r.reader (next.Broke why) → (after_all s (find_adds s id (found.Missing why))).fault ≤ new.faults → Fetches s old new id digest (found.Missing why) into → ReadsOn s old newer r (piece.Broken why) into
+  broken_reads why notes reached f = record {
     seen = subst (AreSeen old) (sym newer_is) f.seen;
-    does = λ p covers own. broken_does p s r has.row why into has.found own quiet (fetched (found.Missing why) f p covers);
+    does = λ p covers own. broken_does p s r has.row why into has.found notes own quiet (fetched (found.Missing why) f p covers);
     gives = λ p covers. tt;
     counted =
         let own : Permit = own_permit 0 old.past newer.past in
@@ -229,12 +226,12 @@ module _ (s : State) (r : Reader) (answer : NextPiece) (none : next_row s (as_ro
       ap (λ o. trouble_with o answer ++ answer_record r.reader (noted (listed_length s r) answer) ∷ []) (next_none s (as_row r) none)
       ∙ ap (λ o. answer_record r.reader (noted (unwrap_or (option_map (λ (x : TableRow). x.length) o) 0) answer) ∷ []) none
 
-  stop_does : (p : Permit) (own : IsReaderOf s r) → IsQuiet s → Does p s (ReadOn r.reader) (read_adds s r answer) Done
-  stop_does p own quiet =
+  stop_does : NotesAsAsked r.reader (noted 0 answer) → (p : Permit) (own : IsReaderOf s r) → IsQuiet s → Does p s (ReadOn r.reader) (read_adds s r answer) Done
+  stop_does notes p own quiet =
       let mine : ReaderRow = row_by own.actor r in
       let verdict : reader_verdict s mine ≡ noted 0 answer = verdict_end s mine none ∙ sym is in
       subst (λ recs. Does p s (ReadOn r.reader) recs Done) (sym stop_adds)
-      (reads_on p s r own [] (noted 0 answer) quiet
+      (notes p s mine [] quiet own.found
       (subst (IsReading p s mine []) verdict (IsReading.verdict (subst (IsReadWhereLive p s) (sym (next_none s mine none)) tt) (end_as_listed s mine none))))
 
   stop_counted : (faults : ℕ) (a : NextPiece) → noted 0 a ≡ verdict_at_end s (as_row r) (rows_in r) → IsCountedBreak faults s r a
@@ -243,10 +240,10 @@ module _ (s : State) (r : Reader) (answer : NextPiece) (none : next_row s (as_ro
   stop_counted faults (piece.NotYet cut) h = tt
   stop_counted faults (piece.Broken why) h = inr (end_counted faults s (as_row r) (rows_in r) why h)
 
-  pub stop_reads : (old new : Device) (into : List ℕ) → new.past ≡ old.past → IsQuiet s → ReadsOn s old new r answer into
-  stop_reads old new into still quiet = record {
+  pub stop_reads : NotesAsAsked r.reader (noted 0 answer) → (old new : Device) (into : List ℕ) → new.past ≡ old.past → IsQuiet s → ReadsOn s old new r answer into
+  stop_reads notes old new into still quiet = record {
     seen = seen_none old new still;
-    does = λ p covers own. stop_does p own quiet;
+    does = λ p covers own. stop_does notes p own quiet;
     gives = λ p covers. gives_none p s r answer into no_piece;
     counted = stop_counted new.faults answer is;
   }

@@ -1,10 +1,9 @@
 // Readers are closed.
-ghost use Rattle.std.specs.Prelude.{◌≡◌, ◌≤◌, [], ◌∷◌, IfErr, OnOk};
+ghost use Rattle.std.specs.Prelude.{◌≡◌, [], ◌∷◌, IfErr, OnOk};
 ghost use Rattle.cache_model.specs.declared.record.Rec.TheVariants as rec;
 ghost use Rattle.cache_model.specs.Kept.{with_records};
-ghost use Rattle.cache_model.specs.Legal.{IsQuiet};
-ghost use Rattle.stripe_core.specs.Stripe.{IsStripe, kept_in, seen_in, state_in};
-ghost use Rattle.stripe_core.specs.Between.{Between};
+ghost use Rattle.stripe_core.specs.Stripe.{IsStill, kept_in, seen_in, state_in};
+ghost use Rattle.stripe_core.specs.Between.{IsResting, Rests};
 ghost use Rattle.stripe_read.specs.Readers.{ClosesAsAsked, IsOpenReader};
 ghost use Rattle.stripe_read.specs.Others.{AddsOfReader};
 
@@ -20,18 +19,16 @@ pub fn close_read<D: Disk, R: Directory + Drop, C: Chronicle>(
     stripe: &mut Stripe<D, R, C>,
     reader: Reader,
 ) -> Result<(), (AllocError, Reader)>
-    requires stripe { IsStripe D.Disk R.Directory C.Chronicle stripe.old }
-    requires quiet { IsQuiet (state_in C.Chronicle stripe.old) }
-    requires reader { IsOpenReader (state_in C.Chronicle stripe.old) reader }
-    ensures stripe { IsStripe D.Disk R.Directory C.Chronicle stripe.new }
-    ensures unharmed { Between D.Disk R.Directory C.Chronicle stripe.old stripe.new }
-    ensures quiet { IsQuiet (state_in C.Chronicle stripe.new) }
-    ensures adds { OnOk result (kept_in C.Chronicle stripe.new ≡ with_records (kept_in C.Chronicle stripe.old) (rec.ReadClosed reader.reader ∷ [])) }
-    ensures own { AddsOfReader reader.reader (kept_in C.Chronicle stripe.old) (kept_in C.Chronicle stripe.new) }
-    ensures does { ClosesAsAsked (state_in C.Chronicle stripe.old) reader }
-    ensures err { IfErr result (λ e. kept_in C.Chronicle stripe.new ≡ kept_in C.Chronicle stripe.old) }
+    requires resting { IsResting stripe.old }
+    requires reader { IsOpenReader (state_in stripe.old) reader }
+    ensures rests { Rests stripe.old stripe.new }
+    ensures adds { OnOk result (kept_in stripe.new
+        ≡ with_records (kept_in stripe.old) (rec.ReadClosed reader.reader ∷ [])) }
+    ensures own { AddsOfReader reader.reader (kept_in stripe.old) (kept_in stripe.new) }
+    ensures does { ClosesAsAsked (state_in stripe.old) reader }
+    ensures err { IfErr result (λ e. kept_in stripe.new ≡ kept_in stripe.old) }
     ensures back { IfErr result (λ e. e.1 ≡ reader) }
-    ensures later { (seen_in D.Disk R.Directory stripe.old).device.faults ≤ (seen_in D.Disk R.Directory stripe.new).device.faults }
+    ensures still { IsStill (seen_in stripe.old).device (seen_in stripe.new).device }
 {
     if let Err(e) = stripe.prepare(None, 1) {
         return Err((e, reader));

@@ -6,10 +6,8 @@ ghost use Rattle.cache_model.specs.Kept.{with_records};
 ghost use Rattle.cache_model.specs.Verdict.{next_row};
 ghost use Rattle.open_directory.specs.Directory.{table_row};
 ghost use Rattle.stripe_core.specs.Find.{find_adds};
-ghost use Rattle.logged_disk.specs.Device.{IsAfter};
-ghost use Rattle.stripe_core.specs.Stripe.{IsStripe, kept_in, seen_in, state_in, units_in};
-ghost use Rattle.stripe_core.specs.Between.{Between};
-ghost use Rattle.stripe_core.specs.Faults.{IsAccounted};
+ghost use Rattle.stripe_core.specs.Stripe.{IsStill, IsStripe, kept_in, seen_in, state_in, units_in};
+ghost use Rattle.stripe_core.specs.Between.{Between, Proceeds};
 ghost use Rattle.stripe_read.specs.Readers.{IsOpenReader, as_row};
 ghost use Rattle.stripe_read.specs.Fetches.{Fetches, IsCompared, IsOtherPiece, IsPieceAsListed, IsUnlikePiece};
 
@@ -28,9 +26,10 @@ pub(crate) fn next_row<D: Disk, R: Directory + Drop, C: Chronicle>(
     stripe: &Stripe<D, R, C>,
     reader: &Reader,
 ) -> Option<(u32, Digest)>
-    requires stripe { IsStripe D.Disk R.Directory C.Chronicle stripe.now }
-    requires reader { IsOpenReader (state_in C.Chronicle stripe.now) reader.now }
-    ensures row { result ≡ option_map table_row (next_row (state_in C.Chronicle stripe.now) (as_row reader.now)) }
+    requires stripe { IsStripe stripe.now }
+    requires reader { IsOpenReader (state_in stripe.now) reader.now }
+    ensures row { result ≡ option_map table_row
+        (next_row (state_in stripe.now) (as_row reader.now)) }
     ensures few { IfSome result (λ row. reader.now.next ≤ most_fragments) }
 {
     match &reader.table {
@@ -55,10 +54,11 @@ fn followed_row<D: Disk, R: Directory + Drop, C: Chronicle>(
     stripe: &Stripe<D, R, C>,
     reader: &Reader,
 ) -> Option<(u32, Digest)>
-    requires stripe { IsStripe D.Disk R.Directory C.Chronicle stripe.now }
-    requires reader { IsOpenReader (state_in C.Chronicle stripe.now) reader.now }
+    requires stripe { IsStripe stripe.now }
+    requires reader { IsOpenReader (state_in stripe.now) reader.now }
     requires follows { reader.now.table ≡ None }
-    ensures row { result ≡ option_map table_row (next_row (state_in C.Chronicle stripe.now) (as_row reader.now)) }
+    ensures row { result ≡ option_map table_row
+        (next_row (state_in stripe.now) (as_row reader.now)) }
     ensures few { IfSome result (λ row. reader.now.next ≤ most_fragments) }
 {
     let directory = stripe.open_directory();
@@ -75,21 +75,20 @@ pub(crate) fn fetch<D: Disk, R: Directory + Drop, C: Chronicle>(
     listed: Digest,
     into: &mut [u8],
 ) -> Result<Found, AllocError>
-    requires stripe { IsStripe D.Disk R.Directory C.Chronicle stripe.old }
+    requires stripe { IsStripe stripe.old }
     requires units { 2 ≤ units_in stripe.old }
-    requires into { length into.old ≡ 512 * budget_of (state_in C.Chronicle stripe.old).geometry }
-    ensures stripe { IsStripe D.Disk R.Directory C.Chronicle stripe.new }
-    ensures unharmed { Between D.Disk R.Directory C.Chronicle stripe.old stripe.new
-        ⊎ IsOtherPiece (state_in C.Chronicle stripe.old) id listed }
-    ensures accounted { IsAccounted (seen_in D.Disk R.Directory stripe.old).device.past (seen_in D.Disk R.Directory stripe.new).device.past
-        (kept_in C.Chronicle stripe.old) (kept_in C.Chronicle stripe.new) }
-    ensures device { IsAfter (seen_in D.Disk R.Directory stripe.old).device (seen_in D.Disk R.Directory stripe.new).device }
-    ensures adds { IfOk result (λ found. kept_in C.Chronicle stripe.new
-        ≡ with_records (kept_in C.Chronicle stripe.old) (find_adds (state_in C.Chronicle stripe.old) id found)) }
-    ensures fetches { IfOk result (λ found. Fetches (state_in C.Chronicle stripe.old) (seen_in D.Disk R.Directory stripe.old).device
-        (seen_in D.Disk R.Directory stripe.new).device id listed found into.new) }
-    ensures err { OnErr result (kept_in C.Chronicle stripe.new ≡ kept_in C.Chronicle stripe.old) }
-    ensures later { (seen_in D.Disk R.Directory stripe.old).device.faults ≤ (seen_in D.Disk R.Directory stripe.new).device.faults }
+    requires into { length into.old ≡ 512 * budget_of (state_in stripe.old).geometry }
+    ensures stripe { IsStripe stripe.new }
+    ensures proceeds { Proceeds stripe.old stripe.new }
+    ensures unharmed { Between stripe.old stripe.new
+        ⊎ IsOtherPiece (state_in stripe.old) id listed }
+    ensures adds { IfOk result (λ found. kept_in stripe.new
+        ≡ with_records (kept_in stripe.old) (find_adds (state_in stripe.old) id found)) }
+    ensures fetches { IfOk result (λ found. Fetches (state_in stripe.old)
+        (seen_in stripe.old).device (seen_in stripe.new).device id listed found into.new) }
+    ensures err { OnErr result (kept_in stripe.new ≡ kept_in stripe.old) }
+    ensures untouched { OnErr result (IsStill (seen_in stripe.old).device
+        (seen_in stripe.new).device) }
     ensures unit { units_in stripe.old ≤ units_in stripe.new + 2 }
 {
     match stripe.find_piece(id, into)? {
@@ -105,16 +104,16 @@ fn compare<D: Disk, R: Directory + Drop, C: Chronicle>(
     listed: Digest,
     size: u32,
 ) -> Found
-    requires stripe { IsStripe D.Disk R.Directory C.Chronicle stripe.old }
+    requires stripe { IsStripe stripe.old }
     requires unit { 1 ≤ units_in stripe.old }
-    ensures stripe { IsStripe D.Disk R.Directory C.Chronicle stripe.new }
-    ensures unharmed { Between D.Disk R.Directory C.Chronicle stripe.old stripe.new
-        ⊎ IsOtherPiece (state_in C.Chronicle stripe.old) id listed }
-    ensures accounted { IsAccounted (seen_in D.Disk R.Directory stripe.old).device.past (seen_in D.Disk R.Directory stripe.new).device.past
-        (kept_in C.Chronicle stripe.old) (kept_in C.Chronicle stripe.new) }
-    ensures adds { kept_in C.Chronicle stripe.new ≡ with_records (kept_in C.Chronicle stripe.old) (find_adds (state_in C.Chronicle stripe.old) id result) }
-    ensures compares { IsCompared (state_in C.Chronicle stripe.old) id listed size result }
-    ensures still { (seen_in D.Disk R.Directory stripe.new).device ≡ (seen_in D.Disk R.Directory stripe.old).device }
+    ensures stripe { IsStripe stripe.new }
+    ensures proceeds { Proceeds stripe.old stripe.new }
+    ensures unharmed { Between stripe.old stripe.new
+        ⊎ IsOtherPiece (state_in stripe.old) id listed }
+    ensures adds { kept_in stripe.new ≡ with_records (kept_in stripe.old)
+        (find_adds (state_in stripe.old) id result) }
+    ensures compares { IsCompared (state_in stripe.old) id listed size result }
+    ensures still { (seen_in stripe.new).device ≡ (seen_in stripe.old).device }
     ensures unit { units_in stripe.old ≤ units_in stripe.new + 1 }
 {
     match mismatch(stripe, id, listed) {
@@ -141,9 +140,9 @@ fn mismatch<D: Disk, R: Directory + Drop, C: Chronicle>(
     id: PieceId,
     listed: Digest,
 ) -> Option<Unlike>
-    requires { IsStripe D.Disk R.Directory C.Chronicle stripe.now }
-    ensures some { IfSome result (IsUnlikePiece (state_in C.Chronicle stripe.now) id listed) }
-    ensures none { result ≡ None → IsPieceAsListed (state_in C.Chronicle stripe.now) id listed }
+    requires { IsStripe stripe.now }
+    ensures some { IfSome result (IsUnlikePiece (state_in stripe.now) id listed) }
+    ensures none { result ≡ None → IsPieceAsListed (state_in stripe.now) id listed }
 {
     let found = stripe.payload_of(id)?;
     if found == listed {

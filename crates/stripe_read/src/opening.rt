@@ -2,11 +2,10 @@
 ghost use Rattle.std.specs.Prelude.{◌≡◌, ◌+◌, ◌≤◌, [], ◌∷◌, Some, None, IfOk, IsOk, OnErr};
 ghost use Rattle.cache_model.specs.declared.record.Rec.TheVariants as rec;
 ghost use Rattle.cache_model.specs.Kept.{with_records};
-ghost use Rattle.cache_model.specs.Legal.{IsQuiet};
 ghost use Rattle.cache_model.specs.State.{last_match};
 ghost use Rattle.stripe_core.specs.Acts.{IsFollowable};
-ghost use Rattle.stripe_core.specs.Stripe.{IsStill, IsStripe, kept_in, seen_in, state_in, units_in};
-ghost use Rattle.stripe_core.specs.Between.{Between};
+ghost use Rattle.stripe_core.specs.Stripe.{IsStill, IsStripe, IsUnwritten, kept_in, seen_in, state_in, units_in};
+ghost use Rattle.stripe_core.specs.Between.{Continues, IsResting, Rests};
 ghost use Rattle.stripe_read.specs.Readers.{IsOpenReader};
 ghost use Rattle.stripe_read.specs.Lookups.{HasTable, IfReader, IsChosen, LooksUp, Opens, Tells, answer_in, answer_of, lookup_adds, open_adds, opened_as, otherwise};
 ghost use Rattle.stripe_read.specs.Others.{AddsOfReader};
@@ -65,20 +64,19 @@ pub fn open_read<D: Disk, R: Directory + Drop, C: Chronicle>(
     key: Key,
     request: Fields,
 ) -> Result<Opened, AllocError>
-    requires stripe { IsStripe D.Disk R.Directory C.Chronicle stripe.old }
-    requires quiet { IsQuiet (state_in C.Chronicle stripe.old) }
-    ensures stripe { IsStripe D.Disk R.Directory C.Chronicle stripe.new }
-    ensures unharmed { Between D.Disk R.Directory C.Chronicle stripe.old stripe.new }
-    ensures quiet { IsQuiet (state_in C.Chronicle stripe.new) }
-    ensures adds { IfOk result (λ opened. kept_in C.Chronicle stripe.new
-        ≡ with_records (kept_in C.Chronicle stripe.old) (open_adds (state_in C.Chronicle stripe.old) actor key request (answer_in opened))) }
-    ensures own { AddsOfReader (state_in C.Chronicle stripe.old).next_reader (kept_in C.Chronicle stripe.old) (kept_in C.Chronicle stripe.new) }
-    ensures opens { IfOk result (Opens (state_in C.Chronicle stripe.old) (state_in C.Chronicle stripe.new) (seen_in D.Disk R.Directory stripe.old).device
-        (seen_in D.Disk R.Directory stripe.new).device actor key request) }
-    ensures reader { IfOk result (IfReader (IsOpenReader (state_in C.Chronicle stripe.new))) }
-    ensures tells { IfOk result (Tells (state_in C.Chronicle stripe.old).next_reader) }
-    ensures err { OnErr result (kept_in C.Chronicle stripe.new ≡ kept_in C.Chronicle stripe.old) }
-    ensures later { (seen_in D.Disk R.Directory stripe.old).device.faults ≤ (seen_in D.Disk R.Directory stripe.new).device.faults }
+    requires resting { IsResting stripe.old }
+    ensures rests { Rests stripe.old stripe.new }
+    ensures adds { IfOk result (λ opened. kept_in stripe.new
+        ≡ with_records (kept_in stripe.old)
+        (open_adds (state_in stripe.old) actor key request (answer_in opened))) }
+    ensures own { AddsOfReader (state_in stripe.old).next_reader (kept_in stripe.old)
+        (kept_in stripe.new) }
+    ensures opens { IfOk result (Opens (state_in stripe.old) (state_in stripe.new)
+        (seen_in stripe.old).device (seen_in stripe.new).device actor key request) }
+    ensures reader { IfOk result (IfReader (IsOpenReader (state_in stripe.new))) }
+    ensures tells { IfOk result (Tells (state_in stripe.old).next_reader) }
+    ensures err { OnErr result (kept_in stripe.new ≡ kept_in stripe.old) }
+    ensures unwritten { IsUnwritten (seen_in stripe.old).device (seen_in stripe.new).device }
 {
     stripe.prepare(None, 2)?;
     let looked = look_up(stripe, key, &request)?;
@@ -91,16 +89,17 @@ fn look_up<D: Disk, R: Directory + Drop, C: Chronicle>(
     key: Key,
     request: &Fields,
 ) -> Result<Looked, AllocError>
-    requires { IsStripe D.Disk R.Directory C.Chronicle stripe.old }
-    ensures stripe { IsStripe D.Disk R.Directory C.Chronicle stripe.new }
-    ensures unharmed { Between D.Disk R.Directory C.Chronicle stripe.old stripe.new }
-    ensures adds { IfOk result (λ looked. kept_in C.Chronicle stripe.new
-        ≡ with_records (kept_in C.Chronicle stripe.old) (lookup_adds (state_in C.Chronicle stripe.old) key (answer_of looked))) }
-    ensures looks { IfOk result (LooksUp (state_in C.Chronicle stripe.old) (seen_in D.Disk R.Directory stripe.old).device
-        (seen_in D.Disk R.Directory stripe.new).device key request.now) }
-    ensures follows { IfOk result (λ looked. IsFollowable (state_in C.Chronicle stripe.new) (answer_of looked)) }
-    ensures err { OnErr result (kept_in C.Chronicle stripe.new ≡ kept_in C.Chronicle stripe.old) }
-    ensures later { (seen_in D.Disk R.Directory stripe.old).device.faults ≤ (seen_in D.Disk R.Directory stripe.new).device.faults }
+    requires { IsStripe stripe.old }
+    ensures continues { Continues stripe.old stripe.new }
+    ensures adds { IfOk result (λ looked. kept_in stripe.new
+        ≡ with_records (kept_in stripe.old)
+        (lookup_adds (state_in stripe.old) key (answer_of looked))) }
+    ensures looks { IfOk result (LooksUp (state_in stripe.old) (seen_in stripe.old).device
+        (seen_in stripe.new).device key request.now) }
+    ensures follows { IfOk result (λ looked. IsFollowable (state_in stripe.new)
+        (answer_of looked)) }
+    ensures err { OnErr result (kept_in stripe.new ≡ kept_in stripe.old) }
+    ensures unwritten { IsUnwritten (seen_in stripe.old).device (seen_in stripe.new).device }
     ensures unit { units_in stripe.old ≤ units_in stripe.new + 1 }
 {
     match read_vector(stripe, key)? {
@@ -138,10 +137,10 @@ fn look_further<D: Disk, R: Directory + Drop, C: Chronicle>(
     key: Key,
     request: &Fields,
 ) -> Looked
-    requires { IsStripe D.Disk R.Directory C.Chronicle stripe.now }
-    ensures answer { answer_of result ≡ otherwise (state_in C.Chronicle stripe.now) key request.now }
-    ensures table { HasTable (state_in C.Chronicle stripe.now) key request.now result }
-    ensures follows { IsFollowable (state_in C.Chronicle stripe.now) (answer_of result) }
+    requires { IsStripe stripe.now }
+    ensures answer { answer_of result ≡ otherwise (state_in stripe.now) key request.now }
+    ensures table { HasTable (state_in stripe.now) key request.now result }
+    ensures follows { IsFollowable (state_in stripe.now) (answer_of result) }
 {
     match stripe.open_directory().follow(key, request) {
         Some(put) => Looked::Follow { put },
@@ -157,16 +156,18 @@ fn begin<D: Disk, R: Directory + Drop, C: Chronicle>(
     request: Fields,
     looked: Looked,
 ) -> Result<Opened, AllocError>
-    requires stripe { IsStripe D.Disk R.Directory C.Chronicle stripe.old }
+    requires stripe { IsStripe stripe.old }
     requires unit { 1 ≤ units_in stripe.old }
-    requires follows { IsFollowable (state_in C.Chronicle stripe.old) (answer_of looked) }
-    ensures stripe { IsStripe D.Disk R.Directory C.Chronicle stripe.new }
-    ensures unharmed { Between D.Disk R.Directory C.Chronicle stripe.old stripe.new }
-    ensures adds { IfOk result (λ opened. kept_in C.Chronicle stripe.new ≡ with_records (kept_in C.Chronicle stripe.old)
-        (rec.ReadOpened (state_in C.Chronicle stripe.old).next_reader actor key request (answer_of looked) ∷ [])) }
-    ensures opens { IfOk result (λ opened. opened ≡ opened_as (state_in C.Chronicle stripe.old).next_reader key looked) }
+    requires follows { IsFollowable (state_in stripe.old) (answer_of looked) }
+    ensures continues { Continues stripe.old stripe.new }
+    ensures adds { IfOk result (λ opened. kept_in stripe.new
+        ≡ with_records (kept_in stripe.old)
+        (rec.ReadOpened (state_in stripe.old).next_reader actor key request
+        (answer_of looked) ∷ [])) }
+    ensures opens { IfOk result (λ opened. opened
+        ≡ opened_as (state_in stripe.old).next_reader key looked) }
     ensures memory { IsOk result }
-    ensures still { IsStill (seen_in D.Disk R.Directory stripe.old).device (seen_in D.Disk R.Directory stripe.new).device }
+    ensures still { IsStill (seen_in stripe.old).device (seen_in stripe.new).device }
 {
     let reader = stripe.start_read(actor, key, request, looked.answer())?;
     Ok(looked.opened(reader, key))

@@ -2,13 +2,10 @@
 ghost use Rattle.std.specs.Prelude.{◌≡◌, ◌*◌, ◌≤◌, ◌⊎◌, ℕ, List, Some, None, IfOk, OnErr, length};
 ghost use Rattle.tape_base.specs.Geometry.{budget_of};
 ghost use Rattle.cache_model.specs.Kept.{with_records};
-ghost use Rattle.cache_model.specs.Legal.{IsQuiet};
 ghost use Rattle.cache_model.specs.State.{most_fragments};
 ghost use Rattle.cache_model.specs.Verdict.{next_piece, next_row, verdict_at_end};
-ghost use Rattle.logged_disk.specs.Device.{IsAfter};
-ghost use Rattle.stripe_core.specs.Stripe.{IsStripe, kept_in, seen_in, state_in, units_in};
-ghost use Rattle.stripe_core.specs.Between.{Between};
-ghost use Rattle.stripe_core.specs.Faults.{IsAccounted};
+ghost use Rattle.stripe_core.specs.Stripe.{IsStill, IsStripe, kept_in, seen_in, state_in, units_in};
+ghost use Rattle.stripe_core.specs.Between.{Between, IsResting, Proceeds, Rests};
 ghost use Rattle.stripe_read.specs.Readers.{IsOpenReader, IsReaderOf, as_row, rows_in};
 ghost use Rattle.stripe_read.specs.Nexts.{GoesOn, HasNext, IsOtherNext, ReadsOn, noted, read_adds};
 ghost use Rattle.stripe_read.specs.Others.{AddsOfReader};
@@ -42,28 +39,26 @@ pub fn read_next<D: Disk, R: Directory + Drop, C: Chronicle>(
     reader: &mut Reader,
     into: &mut [u8],
 ) -> Result<NextPiece, AllocError>
-    requires stripe { IsStripe D.Disk R.Directory C.Chronicle stripe.old }
-    requires quiet { IsQuiet (state_in C.Chronicle stripe.old) }
-    requires reader { IsOpenReader (state_in C.Chronicle stripe.old) reader.old }
-    requires into { length into.old ≡ 512 * budget_of (state_in C.Chronicle stripe.old).geometry }
-    ensures stripe { IsStripe D.Disk R.Directory C.Chronicle stripe.new }
-    ensures unharmed { Between D.Disk R.Directory C.Chronicle stripe.old stripe.new
-        ⊎ IsOtherNext (state_in C.Chronicle stripe.old) reader.old }
-    ensures accounted { IsAccounted (seen_in D.Disk R.Directory stripe.old).device.past (seen_in D.Disk R.Directory stripe.new).device.past
-        (kept_in C.Chronicle stripe.old) (kept_in C.Chronicle stripe.new) }
-    ensures device { IsAfter (seen_in D.Disk R.Directory stripe.old).device (seen_in D.Disk R.Directory stripe.new).device }
-    ensures quiet { IsQuiet (state_in C.Chronicle stripe.new) }
-    ensures adds { IfOk result (λ answer. kept_in C.Chronicle stripe.new
-        ≡ with_records (kept_in C.Chronicle stripe.old) (read_adds (state_in C.Chronicle stripe.old) reader.old answer)) }
-    ensures own { AddsOfReader reader.old.reader (kept_in C.Chronicle stripe.old) (kept_in C.Chronicle stripe.new) }
-    ensures reads { IfOk result (λ answer. ReadsOn (state_in C.Chronicle stripe.old) (seen_in D.Disk R.Directory stripe.old).device
-        (seen_in D.Disk R.Directory stripe.new).device reader.old answer into.new) }
+    requires resting { IsResting stripe.old }
+    requires reader { IsOpenReader (state_in stripe.old) reader.old }
+    requires into { length into.old ≡ 512 * budget_of (state_in stripe.old).geometry }
+    ensures resting { IsResting stripe.new }
+    ensures proceeds { Proceeds stripe.old stripe.new }
+    ensures unharmed { Between stripe.old stripe.new
+        ⊎ IsOtherNext (state_in stripe.old) reader.old }
+    ensures adds { IfOk result (λ answer. kept_in stripe.new
+        ≡ with_records (kept_in stripe.old) (read_adds (state_in stripe.old) reader.old answer)) }
+    ensures own { AddsOfReader reader.old.reader (kept_in stripe.old) (kept_in stripe.new) }
+    ensures reads { IfOk result (λ answer. ReadsOn (state_in stripe.old) (seen_in stripe.old).device
+        (seen_in stripe.new).device reader.old answer into.new) }
     ensures goes { IfOk result (λ answer. GoesOn reader.old answer reader.new) }
-    ensures reader { IsOpenReader (state_in C.Chronicle stripe.new) reader.new }
-    ensures keeps { IsReaderOf (state_in C.Chronicle stripe.old) reader.old → IsReaderOf (state_in C.Chronicle stripe.new) reader.new }
-    ensures err { OnErr result (kept_in C.Chronicle stripe.new ≡ kept_in C.Chronicle stripe.old) }
+    ensures reader { IsOpenReader (state_in stripe.new) reader.new }
+    ensures keeps { IsReaderOf (state_in stripe.old) reader.old
+        → IsReaderOf (state_in stripe.new) reader.new }
+    ensures err { OnErr result (kept_in stripe.new ≡ kept_in stripe.old) }
     ensures same { OnErr result (reader.new ≡ reader.old) }
-    ensures later { (seen_in D.Disk R.Directory stripe.old).device.faults ≤ (seen_in D.Disk R.Directory stripe.new).device.faults }
+    ensures untouched { OnErr result (IsStill (seen_in stripe.old).device
+        (seen_in stripe.new).device) }
 {
     stripe.prepare(None, 3)?;
     match next_row(stripe, reader) {
@@ -80,30 +75,28 @@ fn give<D: Disk, R: Directory + Drop, C: Chronicle>(
     digest: Digest,
     into: &mut [u8],
 ) -> Result<NextPiece, AllocError>
-    requires stripe { IsStripe D.Disk R.Directory C.Chronicle stripe.old }
-    requires quiet { IsQuiet (state_in C.Chronicle stripe.old) }
+    requires resting { IsResting stripe.old }
     requires units { 3 ≤ units_in stripe.old }
-    requires reader { IsOpenReader (state_in C.Chronicle stripe.old) reader.old }
-    requires next { HasNext (state_in C.Chronicle stripe.old) reader.old cut digest }
+    requires reader { IsOpenReader (state_in stripe.old) reader.old }
+    requires next { HasNext (state_in stripe.old) reader.old cut digest }
     requires few { reader.old.next ≤ most_fragments }
-    requires into { length into.old ≡ 512 * budget_of (state_in C.Chronicle stripe.old).geometry }
-    ensures stripe { IsStripe D.Disk R.Directory C.Chronicle stripe.new }
-    ensures unharmed { Between D.Disk R.Directory C.Chronicle stripe.old stripe.new
-        ⊎ IsOtherNext (state_in C.Chronicle stripe.old) reader.old }
-    ensures accounted { IsAccounted (seen_in D.Disk R.Directory stripe.old).device.past (seen_in D.Disk R.Directory stripe.new).device.past
-        (kept_in C.Chronicle stripe.old) (kept_in C.Chronicle stripe.new) }
-    ensures device { IsAfter (seen_in D.Disk R.Directory stripe.old).device (seen_in D.Disk R.Directory stripe.new).device }
-    ensures quiet { IsQuiet (state_in C.Chronicle stripe.new) }
-    ensures adds { IfOk result (λ answer. kept_in C.Chronicle stripe.new
-        ≡ with_records (kept_in C.Chronicle stripe.old) (read_adds (state_in C.Chronicle stripe.old) reader.old answer)) }
-    ensures reads { IfOk result (λ answer. ReadsOn (state_in C.Chronicle stripe.old) (seen_in D.Disk R.Directory stripe.old).device
-        (seen_in D.Disk R.Directory stripe.new).device reader.old answer into.new) }
+    requires into { length into.old ≡ 512 * budget_of (state_in stripe.old).geometry }
+    ensures resting { IsResting stripe.new }
+    ensures proceeds { Proceeds stripe.old stripe.new }
+    ensures unharmed { Between stripe.old stripe.new
+        ⊎ IsOtherNext (state_in stripe.old) reader.old }
+    ensures adds { IfOk result (λ answer. kept_in stripe.new
+        ≡ with_records (kept_in stripe.old) (read_adds (state_in stripe.old) reader.old answer)) }
+    ensures reads { IfOk result (λ answer. ReadsOn (state_in stripe.old) (seen_in stripe.old).device
+        (seen_in stripe.new).device reader.old answer into.new) }
     ensures goes { IfOk result (λ answer. GoesOn reader.old answer reader.new) }
-    ensures reader { IsOpenReader (state_in C.Chronicle stripe.new) reader.new }
-    ensures keeps { IsReaderOf (state_in C.Chronicle stripe.old) reader.old → IsReaderOf (state_in C.Chronicle stripe.new) reader.new }
-    ensures err { OnErr result (kept_in C.Chronicle stripe.new ≡ kept_in C.Chronicle stripe.old) }
+    ensures reader { IsOpenReader (state_in stripe.new) reader.new }
+    ensures keeps { IsReaderOf (state_in stripe.old) reader.old
+        → IsReaderOf (state_in stripe.new) reader.new }
+    ensures err { OnErr result (kept_in stripe.new ≡ kept_in stripe.old) }
     ensures same { OnErr result (reader.new ≡ reader.old) }
-    ensures later { (seen_in D.Disk R.Directory stripe.old).device.faults ≤ (seen_in D.Disk R.Directory stripe.new).device.faults }
+    ensures untouched { OnErr result (IsStill (seen_in stripe.old).device
+        (seen_in stripe.new).device) }
 {
     let index = reader.next;
     match fetch(stripe, reader.next_piece(), digest, into)? {
@@ -127,22 +120,20 @@ fn stop<D: Disk, R: Directory + Drop, C: Chronicle>(
     stripe: &mut Stripe<D, R, C>,
     reader: &Reader,
 ) -> NextPiece
-    requires stripe { IsStripe D.Disk R.Directory C.Chronicle stripe.old }
-    requires quiet { IsQuiet (state_in C.Chronicle stripe.old) }
+    requires resting { IsResting stripe.old }
     requires unit { 1 ≤ units_in stripe.old }
-    requires reader { IsOpenReader (state_in C.Chronicle stripe.old) reader.now }
-    requires none { next_row (state_in C.Chronicle stripe.old) (as_row reader.now) ≡ None }
-    ensures stripe { IsStripe D.Disk R.Directory C.Chronicle stripe.new }
-    ensures unharmed { Between D.Disk R.Directory C.Chronicle stripe.old stripe.new }
-    ensures quiet { IsQuiet (state_in C.Chronicle stripe.new) }
-    ensures adds { kept_in C.Chronicle stripe.new
-        ≡ with_records (kept_in C.Chronicle stripe.old) (read_adds (state_in C.Chronicle stripe.old) reader.now result) }
-    ensures reads { (into : List ℕ) → ReadsOn (state_in C.Chronicle stripe.old) (seen_in D.Disk R.Directory stripe.old).device
-        (seen_in D.Disk R.Directory stripe.new).device reader.now result into }
+    requires reader { IsOpenReader (state_in stripe.old) reader.now }
+    requires none { next_row (state_in stripe.old) (as_row reader.now) ≡ None }
+    ensures rests { Rests stripe.old stripe.new }
+    ensures adds { kept_in stripe.new
+        ≡ with_records (kept_in stripe.old) (read_adds (state_in stripe.old) reader.now result) }
+    ensures reads { (into : List ℕ) → ReadsOn (state_in stripe.old) (seen_in stripe.old).device
+        (seen_in stripe.new).device reader.now result into }
     ensures goes { GoesOn reader.now result reader.now }
-    ensures reader { IsOpenReader (state_in C.Chronicle stripe.new) reader.now }
-    ensures keeps { IsReaderOf (state_in C.Chronicle stripe.old) reader.now → IsReaderOf (state_in C.Chronicle stripe.new) reader.now }
-    ensures still { (seen_in D.Disk R.Directory stripe.new).device ≡ (seen_in D.Disk R.Directory stripe.old).device }
+    ensures reader { IsOpenReader (state_in stripe.new) reader.now }
+    ensures keeps { IsReaderOf (state_in stripe.old) reader.now
+        → IsReaderOf (state_in stripe.new) reader.now }
+    ensures still { (seen_in stripe.new).device ≡ (seen_in stripe.old).device }
 {
     let answer = at_end(stripe, reader);
     stripe.note(reader.reader, answer.noted(0));
@@ -154,9 +145,10 @@ fn at_end<D: Disk, R: Directory + Drop, C: Chronicle>(
     stripe: &Stripe<D, R, C>,
     reader: &Reader,
 ) -> NextPiece
-    requires stripe { IsStripe D.Disk R.Directory C.Chronicle stripe.now }
-    requires reader { IsOpenReader (state_in C.Chronicle stripe.now) reader.now }
-    ensures { noted 0 result ≡ verdict_at_end (state_in C.Chronicle stripe.now) (as_row reader.now) (rows_in reader.now) }
+    requires stripe { IsStripe stripe.now }
+    requires reader { IsOpenReader (state_in stripe.now) reader.now }
+    ensures { noted 0 result ≡ verdict_at_end (state_in stripe.now) (as_row reader.now)
+        (rows_in reader.now) }
 {
     match &reader.table {
         Some(table) => NextPiece::End {
@@ -170,10 +162,10 @@ fn how_put_stands<D: Disk, R: Directory + Drop, C: Chronicle>(
     stripe: &Stripe<D, R, C>,
     reader: &Reader,
 ) -> NextPiece
-    requires stripe { IsStripe D.Disk R.Directory C.Chronicle stripe.now }
-    requires reader { IsOpenReader (state_in C.Chronicle stripe.now) reader.now }
+    requires stripe { IsStripe stripe.now }
+    requires reader { IsOpenReader (state_in stripe.now) reader.now }
     requires follows { reader.now.table ≡ None }
-    ensures { noted 0 result ≡ verdict_at_end (state_in C.Chronicle stripe.now) (as_row reader.now) None }
+    ensures { noted 0 result ≡ verdict_at_end (state_in stripe.now) (as_row reader.now) None }
 {
     let directory = stripe.open_directory();
     // It is asked for what its answer tells of the directory.

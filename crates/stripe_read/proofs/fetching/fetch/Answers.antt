@@ -3,55 +3,61 @@ use Rattle.cache_model.specs.State.{live_row_of}
 use Rattle.cache_model.specs.Kept.{Kept, state_of, with_records}
 use Rattle.stripe_core.specs.Find.{Finds, find_adds}
 use Rattle.stripe_core.specs.Stripe.{kept_in, seen_in, state_in}
-use Rattle.stripe_core.proofs.Between.{accounted_then}
 use Rattle.stripe_core.proofs.Fitting.{budget_has_room}
 use Rattle.stripe_read.specs.Fetches.{Fetches, IsCompared, IsOtherPiece}
 use Rattle.stripe_read.proofs.Staying.{found_same}
 use Rattle.stripe_read.proofs.Comparing.{compared, missing}
 use Rattle.stripe_read.proofs.Harmless.{behind_unharmed}
+use Rattle.stripe_core.proofs.Continuing.{continues_proceeds, proceeds_then}
 use Rattle.stripe_read.proofs.fetching.fetch.Goals as goal
 
 pub find_piece-requires-clause-into : goal.find_piece-requires-clause-into
 find_piece-requires-clause-into g c =
-    budget_has_room (state_in g.C.Chronicle c.args.stripe.now) (seen_in g.D.Disk g.R.Directory c.args.stripe.now) c.args.id c.args.into.now c.requires.stripe.pieces c.requires.into
+    budget_has_room (state_in c.args.stripe.now) (seen_in c.args.stripe.now) c.args.id c.args.into.now c.requires.stripe.pieces c.requires.into
 
 pub returns-in-Found-clause-fetches : goal.returns-in-Found-clause-fetches
 returns-in-Found-clause-fetches g c =
-    let s = state_in g.C.Chronicle c.args.stripe.now in
-    let old = (seen_in g.D.Disk g.R.Directory c.args.stripe.now).device in
-    let new = (seen_in g.D.Disk g.R.Directory c.find_piece.new.self).device in
+    let s = state_in c.args.stripe.now in
+    let old = (seen_in c.args.stripe.now).device in
+    let new = (seen_in c.find_piece.new.self).device in
     let into = c.find_piece.new.into in
-    let same = found_same (kept_in g.C.Chronicle c.args.stripe.now) (kept_in g.C.Chronicle c.find_piece.new.self) (live_row_of s c.args.id) c.in-Found.size
-    (subst (λ f. kept_in g.C.Chronicle c.find_piece.new.self ≡ with_records (kept_in g.C.Chronicle c.args.stripe.now) (find_adds s c.args.id f)) c.in-Found.is c.in_ok-size.ensures.adds) in
+    let same = found_same (kept_in c.args.stripe.now) (kept_in c.find_piece.new.self) (live_row_of s c.args.id) c.in-Found.size
+    (subst (λ f. kept_in c.find_piece.new.self ≡ with_records (kept_in c.args.stripe.now) (find_adds s c.args.id f)) c.in-Found.is c.in_ok-size.ensures.adds) in
     subst (λ d. Fetches s old d c.args.id c.args.listed c.compare.result into) (sym c.compare.ensures.still)
     (compared s old new c.args.id c.args.listed c.in-Found.size into c.compare.result (subst (λ f. Finds s old new c.args.id f into) c.in-Found.is c.in_ok-size.ensures.finds)
     (subst (λ k. IsCompared (state_of k) c.args.id c.args.listed c.in-Found.size c.compare.result) same c.compare.ensures.compares))
 
 pub returns-in-Missing-clause-fetches : goal.returns-in-Missing-clause-fetches
 returns-in-Missing-clause-fetches g c =
-    let s = state_in g.C.Chronicle c.args.stripe.now in
-    let old = (seen_in g.D.Disk g.R.Directory c.args.stripe.now).device in
-    let new = (seen_in g.D.Disk g.R.Directory c.find_piece.new.self).device in
+    let s = state_in c.args.stripe.now in
+    let old = (seen_in c.args.stripe.now).device in
+    let new = (seen_in c.find_piece.new.self).device in
     missing s old new c.args.id c.args.listed c.in-Missing.why c.find_piece.new.into (subst (λ f. Finds s old new c.args.id f c.find_piece.new.into) c.in-Missing.is c.in_ok-size.ensures.finds)
 
 pub returns-in-Found-clause-unharmed : goal.returns-in-Found-clause-unharmed
 returns-in-Found-clause-unharmed g c =
-    let s = state_in g.C.Chronicle c.args.stripe.now in
-    let k = kept_in g.C.Chronicle c.args.stripe.now in
-    let found_kept = kept_in g.C.Chronicle c.find_piece.new.self in
+    let s = state_in c.args.stripe.now in
+    let k = kept_in c.args.stripe.now in
+    let found_kept = kept_in c.find_piece.new.self in
     let same = found_same k found_kept (live_row_of s c.args.id) c.in-Found.size
     (subst (λ f. found_kept ≡ with_records k (find_adds s c.args.id f)) c.in-Found.is c.in_ok-size.ensures.adds) in
-    behind_unharmed (seen_in g.D.Disk g.R.Directory c.args.stripe.now).device (seen_in g.D.Disk g.R.Directory c.find_piece.new.self).device (seen_in g.D.Disk g.R.Directory c.compare.new.stripe).device
-    k found_kept (kept_in g.C.Chronicle c.compare.new.stripe)
+    behind_unharmed (seen_in c.args.stripe.now).device (seen_in c.find_piece.new.self).device (seen_in c.compare.new.stripe).device
+    k found_kept (kept_in c.compare.new.stripe)
     (λ (x : IsOtherPiece (state_of found_kept) c.args.id c.args.listed). subst (λ (t : Kept). IsOtherPiece (state_of t) c.args.id c.args.listed) same x)
-    c.in_ok-size.ensures.unharmed c.compare.ensures.unharmed
+    c.in_ok-size.ensures.continues.between c.compare.ensures.unharmed
 
-pub returns-in-Found-clause-accounted : goal.returns-in-Found-clause-accounted
-returns-in-Found-clause-accounted g c = accounted_then _ _ _ _ _ _ c.find_piece.ensures.unharmed.accounted c.compare.ensures.accounted
+pub returns-in-Found-clause-proceeds : goal.returns-in-Found-clause-proceeds
+returns-in-Found-clause-proceeds g c = proceeds_then _ _ _ (continues_proceeds _ _ c.find_piece.ensures.continues) c.compare.ensures.proceeds
 
 pub returns-in-Found-clause-adds : goal.returns-in-Found-clause-adds
 returns-in-Found-clause-adds g c =
-    let s = state_in g.C.Chronicle c.args.stripe.now in
-    let same = found_same (kept_in g.C.Chronicle c.args.stripe.now) (kept_in g.C.Chronicle c.find_piece.new.self) (live_row_of s c.args.id) c.in-Found.size
-    (subst (λ f. kept_in g.C.Chronicle c.find_piece.new.self ≡ with_records (kept_in g.C.Chronicle c.args.stripe.now) (find_adds s c.args.id f)) c.in-Found.is c.in_ok-size.ensures.adds) in
+    let s = state_in c.args.stripe.now in
+    let same = found_same (kept_in c.args.stripe.now) (kept_in c.find_piece.new.self) (live_row_of s c.args.id) c.in-Found.size
+    (subst (λ f. kept_in c.find_piece.new.self ≡ with_records (kept_in c.args.stripe.now) (find_adds s c.args.id f)) c.in-Found.is c.in_ok-size.ensures.adds) in
     c.compare.ensures.adds ∙ ap (λ k. with_records k (find_adds (state_of k) c.args.id c.compare.result)) same
+
+pub returns-in-Missing-clause-proceeds : goal.returns-in-Missing-clause-proceeds
+returns-in-Missing-clause-proceeds g c = continues_proceeds _ _ c.find_piece.ensures.continues
+
+pub returns-in_err-size-clause-proceeds : goal.returns-in_err-size-clause-proceeds
+returns-in_err-size-clause-proceeds g c = continues_proceeds _ _ c.find_piece.ensures.continues

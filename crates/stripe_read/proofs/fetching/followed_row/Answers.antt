@@ -10,4 +10,4 @@ returns-clause-row g c =
     let same = c.open_directory-directory.ensures in
     c.row.ensures.row
     ∙ (ap (λ (h : Held). row_of r.next (cuts_of r.put h.puts)) same
-    ∙ followed_next (state_in g.C.Chronicle c.args.stripe.now) c.args.stripe.now.actors r c.requires.stripe.actors (subst IsHeld same c.writers-writers.ensures.held) c.requires.reader c.requires.follows)
+    ∙ followed_next (state_in c.args.stripe.now) c.args.stripe.now.actors r c.requires.stripe.actors (subst IsHeld same c.writers-writers.ensures.held) c.requires.reader c.requires.follows)
