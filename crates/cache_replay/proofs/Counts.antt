@@ -134,24 +134,23 @@ open_counts s who key request response pin n (refusal.DeviceFault count) h = abs
 open_counts s who key request response pin n (refusal.Lost index why) h = absurd h
 open_counts s who key request response pin n _ h = omega arith
 
-pub unless_counts : (n m : ℕ) (end : Result ℕ Refusal) (result : Result Receipt Refusal) → n ≤ m → IfErr result (λ why. count_of_refusal why ≤ n) → IfErr (unless_memory end result) (λ why. count_of_refusal why ≤ m)
-unless_counts n m end result later h = by end
+pub unless_counts : (n m : ℕ) (end : Result ℕ Refusal) (why : Refusal) → n ≤ m → count_of_refusal why ≤ n → count_of_refusal (unless_memory end why) ≤ m
+unless_counts n m end why later h = by end
   where
-    kept : (result : Result Receipt Refusal) → IfErr result (λ why. count_of_refusal why ≤ n) → IfErr result (λ why. count_of_refusal why ≤ m)
-    kept (Ok receipt) counts = tt
-    kept (Err why) counts = omega (arith, counts, later)
+    kept : count_of_refusal why ≤ m
+    kept = omega (arith, h, later)
 
-    by : (end : Result ℕ Refusal) → IfErr (unless_memory end result) (λ why. count_of_refusal why ≤ m)
+    by : (end : Result ℕ Refusal) → count_of_refusal (unless_memory end why) ≤ m
     by (Err (refusal.Memory e)) = omega arith
-    by (Ok put) = kept result h
-    by (Err refusal.TooManyWriters) = kept result h
-    by (Err refusal.TooManyFragments) = kept result h
-    by (Err (refusal.VectorTooLarge size)) = kept result h
-    by (Err (refusal.Lost index why)) = kept result h
-    by (Err refusal.Sealed) = kept result h
-    by (Err (refusal.Exhausted number)) = kept result h
-    by (Err (refusal.DeviceFault count)) = kept result h
-    by (Err refusal.NoSuchWriter) = kept result h
+    by (Ok put) = kept
+    by (Err refusal.TooManyWriters) = kept
+    by (Err refusal.TooManyFragments) = kept
+    by (Err (refusal.VectorTooLarge size)) = kept
+    by (Err (refusal.Lost index why)) = kept
+    by (Err refusal.Sealed) = kept
+    by (Err (refusal.Exhausted number)) = kept
+    by (Err (refusal.DeviceFault count)) = kept
+    by (Err refusal.NoSuchWriter) = kept
 
 -- ---- answers
 

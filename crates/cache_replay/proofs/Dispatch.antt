@@ -39,9 +39,9 @@ same_beside run turn state (step.Now at) needs = absurd needs
 same_beside run turn (Some s) _ needs = record { ended = refl; names = refl; now = refl }
 same_beside run turn None _ needs = same run
 
-module _ {D R C : Type 0} (disk : DiskGhosts D) (directory : DirectoryGhosts R) (chronicle : ChronicleGhosts C) where
-  moves : (run : Run) (step : Step) (new : Session D R C) (said : StepAnswer) (ledger : Ledger) → NeedsSession step → StepMoves disk directory chronicle run step new said
-      → DeviceMoves disk directory chronicle run step new said ledger ledger
+module _ {D R C : Type 0} {d : DiskGhosts D} {r : DirectoryGhosts R} {c : ChronicleGhosts C} where
+  moves : (run : Run) (step : Step) (new : Session D R C d r c) (said : StepAnswer) (ledger : Ledger) → NeedsSession step → StepMoves run step new said
+      → DeviceMoves run step new said ledger ledger
   moves run step new said ledger needs m =
       let beside = same_beside run m.turn run.state step needs in
       record {
@@ -54,8 +54,8 @@ module _ {D R C : Type 0} (disk : DiskGhosts D) (directory : DirectoryGhosts R) 
       }
 
   -- a line that sets the moment leaves the bay too
-  pub moment_moves : (run : Run) (at : ℕ) (new : Session D R C) (said : StepAnswer) (ledger : Ledger) → StepMoves disk directory chronicle run (step.Now at) new said
-      → DeviceMoves disk directory chronicle run (step.Now at) new said ledger ledger
+  pub moment_moves : (run : Run) (at : ℕ) (new : Session D R C d r c) (said : StepAnswer) (ledger : Ledger) → StepMoves run (step.Now at) new said
+      → DeviceMoves run (step.Now at) new said ledger ledger
   moment_moves run at new said ledger m = record {
     moves = m;
     harms = [];
@@ -73,24 +73,24 @@ needs_session _ h k = tt
 
 -- ---- whatever a line answers
 
-module _ {D R C : Type 0} (disk : DiskGhosts D) (directory : DirectoryGhosts R) (chronicle : ChronicleGhosts C) where
-  pub all_ends : (result : Result StepAnswer Stop) (s : Step) (old new : Session D R C) (ledger : Ledger) → NeedsSession s → IsSession disk directory chronicle old
-      → AreLater (return_of disk directory chronicle old.part) (return_of disk directory chronicle new.part) → IfOk result (TellsCount disk directory chronicle new.part)
-      → IfOk result (λ said. (run : Run) → Plays disk directory chronicle run old → StepEnds disk directory chronicle run s new said)
-      → IfOk result (λ said. (run : Run) → Plays disk directory chronicle run old → DeviceEnds disk directory chronicle run s new said ledger ledger)
+module _ {D R C : Type 0} {d : DiskGhosts D} {r : DirectoryGhosts R} {c : ChronicleGhosts C} where
+  pub all_ends : (result : Result StepAnswer Stop) (s : Step) (old new : Session D R C d r c) (ledger : Ledger) → NeedsSession s → IsSession old
+      → AreLater (return_of old.part) (return_of new.part) → IfOk result (TellsCount new.part)
+      → IfOk result (λ said. (run : Run) → Plays run old → StepEnds run s new said)
+      → IfOk result (λ said. (run : Run) → Plays run old → DeviceEnds run s new said ledger ledger)
   all_ends (Ok said) s old new ledger needs is later tells h = λ run plays.
       elim (h run plays) [
-        | inl m ↦ inl (moves disk directory chronicle run s new said ledger needs m)
+        | inl m ↦ inl (moves run s new said ledger needs m)
         | inr pair ↦ inr (record {
           turn = pair.turn;
           shows = pair.shows;
-          outlines = shown_outlines disk directory chronicle run pair.turn s old new said ledger needs later tells pair.calls (plays_outlined disk directory chronicle run old is plays);
+          outlines = shown_outlines run pair.turn s old new said ledger needs later tells pair.calls (plays_outlined run old is plays);
         })
       ]
   all_ends (Err why) s old new ledger needs is later tells h = tt
 
 -- why a line on a session ends the run
-pub all_stops : {D R C : Type 0} (result : Result StepAnswer Stop) (s : Step) (old : Session D R C) (before now : List BayCall) → NeedsSession s → IfErr result (IsSessionStop old) → IfErr result (StopsStep old s before now)
+pub all_stops : {D R C : Type 0} {d : DiskGhosts D} {r : DirectoryGhosts R} {c : ChronicleGhosts C} (result : Result StepAnswer Stop) (s : Step) (old : Session D R C d r c) (before now : List BayCall) → NeedsSession s → IfErr result (IsSessionStop old) → IfErr result (StopsStep old s before now)
 all_stops (Ok said) s old before now needs h = tt
 all_stops (Err NoCache) s old before now needs h = (needs, h)
 all_stops (Err BayFault) s old before now needs h = absurd h

@@ -44,50 +44,50 @@ closed_has : (run : Run) (s : State) (name : List ℕ) (reader : ℕ) → held_b
 closed_has run s name reader by =
     ap (still_open (state_after s (rec.ReadClosed reader))) by ∙ ap (λ (o : Option ReaderRow). if is_some o then Some (Reads reader) else None) (closed_is_none s reader)
 
-module _ {D R C : Type 0} (disk : DiskGhosts D) (directory : DirectoryGhosts R) (chronicle : ChronicleGhosts C) where
-  pub done_goes : (old new : Part D R C) (slots later : ℕ → Option Rattle.cache_replay.specs.declared.session.Holding.Holding) (n : ℕ) (r : Reader) → Took slots later n r
-      → kept_in chronicle new.stripe ≡ with_records (kept_in chronicle old.stripe) (rec.ReadClosed r.reader ∷ []) → AreApart slots
-      → Goes r.reader (state_in chronicle old.stripe) (state_in chronicle new.stripe) slots later n None
+module _ {D R C : Type 0} {d : DiskGhosts D} {r : DirectoryGhosts R} {c : ChronicleGhosts C} where
+  pub done_goes : (old new : Part D R C d r c) (slots later : ℕ → Option Rattle.cache_replay.specs.declared.session.Holding.Holding) (n : ℕ) (r : Reader) → Took slots later n r
+      → kept_in new.stripe ≡ with_records (kept_in old.stripe) (rec.ReadClosed r.reader ∷ []) → AreApart slots
+      → Goes r.reader (state_in old.stripe) (state_in new.stripe) slots later n None
   done_goes old new slots later n r taken adds apart = record {
-    leaves = kept_leaves (Some r.reader) (kept_in chronicle old.stripe) (kept_in chronicle new.stripe) (rec.ReadClosed r.reader ∷ []) adds (closed_leaves (state_in chronicle old.stripe) r.reader);
+    leaves = kept_leaves (Some r.reader) (kept_in old.stripe) (kept_in new.stripe) (rec.ReadClosed r.reader ∷ []) adds (closed_leaves (state_in old.stripe) r.reader);
     changed = taken.left;
     others = apart_else slots n r apart taken.had;
     number = tt;
   }
 
-  pub done_active : (old new : Part D R C) (slots later : ℕ → Option Rattle.cache_replay.specs.declared.session.Holding.Holding) (n : ℕ) (r : Reader) → Took slots later n r → new.page ≡ old.page
-      → IsStripe disk directory chronicle new.stripe → IsQuiet (state_in chronicle new.stripe)
-      → kept_in chronicle new.stripe ≡ with_records (kept_in chronicle old.stripe) (rec.ReadClosed r.reader ∷ [])
-      → IsActive disk directory chronicle old slots → IsActive disk directory chronicle new later
+  pub done_active : (old new : Part D R C d r c) (slots later : ℕ → Option Rattle.cache_replay.specs.declared.session.Holding.Holding) (n : ℕ) (r : Reader) → Took slots later n r → new.page ≡ old.page
+      → IsStripe new.stripe → IsQuiet (state_in new.stripe)
+      → kept_in new.stripe ≡ with_records (kept_in old.stripe) (rec.ReadClosed r.reader ∷ [])
+      → IsActive old slots → IsActive new later
   done_active old new slots later n r taken page stripe quiet adds active =
       let goes = done_goes old new slots later n r taken adds active.apart in
-      goes_active disk directory chronicle old new slots later n r.reader None active
-      (part_behind disk directory chronicle old new active.part stripe quiet (ap (λ p. length p.items) page) None (Some r.reader) goes.leaves) goes tt
+      goes_active old new slots later n r.reader None active
+      (part_behind old new active.part stripe quiet (ap (λ p. length p.items) page) None (Some r.reader) goes.leaves) goes tt
 
-  pub done_ends : (tell : GroupsTell) (own : StepsOwn) (old new : Part D R C) (before after : Seen Rattle.cache_replay.specs.declared.session.Holding.Holding) (name : List ℕ) (n : ℕ) (r : Reader)
+  pub done_ends : (tell : GroupsTell) (own : StepsOwn) (old new : Part D R C d r c) (before after : Seen Rattle.cache_replay.specs.declared.session.Holding.Holding) (name : List ℕ) (n : ℕ) (r : Reader)
       → n ≡ number_of before.names name → after.names ≡ with_actor before.names name → Took (slots_of before) (slots_of after) n r
-      → kept_in chronicle new.stripe ≡ with_records (kept_in chronicle old.stripe) (rec.ReadClosed r.reader ∷ [])
-      → Between disk directory chronicle old.stripe new.stripe → ClosesAsAsked (state_in chronicle old.stripe) r → IsQuiet (state_in chronicle new.stripe) → IsActive disk directory chronicle old (slots_of before)
-      → (run : Run) → PlaysPart chronicle run old before → PartEnds disk directory chronicle run old (step.Done name) new after answer.Done
+      → kept_in new.stripe ≡ with_records (kept_in old.stripe) (rec.ReadClosed r.reader ∷ [])
+      → Between old.stripe new.stripe → ClosesAsAsked (state_in old.stripe) r → IsQuiet (state_in new.stripe) → IsActive old (slots_of before)
+      → (run : Run) → PlaysPart run old before → PartEnds run old (step.Done name) new after answer.Done
   done_ends tell own old new before after name n r number names taken adds stays closes quiet active run plays =
-      let s : State = state_in chronicle old.stripe in
-      let p : Permit = own_permit run.now (past_of disk directory old) (past_of disk directory new) in
-      let by : held_by run name ≡ Some (Reads r.reader) = (held_reader disk directory chronicle run old before name n r number taken.had plays).0 in
+      let s : State = state_in old.stripe in
+      let p : Permit = own_permit run.now (past_of old) (past_of new) in
+      let by : held_by run name ≡ Some (Reads r.reader) = (held_reader run old before name n r number taken.had plays).0 in
       let reads : reader_by run name ≡ Some r.reader = ap (option_and_then reader_in) by in
-      line_ends disk directory chronicle tell own run old new before after (step.Done name) name n (StopReading r.reader) p (rec.ReadClosed r.reader ∷ []) [] r.reader None answer.Done
+      line_ends tell own run old new before after (step.Done name) name n (StopReading r.reader) p (rec.ReadClosed r.reader ∷ []) [] r.reader None answer.Done
       (record {
         actor = refl;
         number = number;
         names = names;
         streams = refl;
-        behind = state_behind (kept_in chronicle old.stripe) (kept_in chronicle new.stripe) (rec.ReadClosed r.reader ∷ []) adds;
+        behind = state_behind (kept_in old.stripe) (kept_in new.stripe) (rec.ReadClosed r.reader ∷ []) adds;
         quiet = quiet;
         plain = refl;
         unsynced = refl;
         content = refl;
         moment = refl;
         calls = refl;
-        effects = accounted_is (past_of disk directory old) (past_of disk directory new) (kept_in chronicle old.stripe) (kept_in chronicle new.stripe) (rec.ReadClosed r.reader ∷ []) stays.accounted adds;
+        effects = accounted_is (past_of old) (past_of new) (kept_in old.stripe) (kept_in new.stripe) (rec.ReadClosed r.reader ∷ []) stays.accounted adds;
         asks = ap (λ (o : Option ℕ). asks.if_has o (λ reader. StopReading reader ∷ [])) reads;
         does = closes p;
         gives = refl;
@@ -96,14 +96,14 @@ module _ {D R C : Type 0} (disk : DiskGhosts D) (directory : DirectoryGhosts R) 
       (ap (λ (o : Option ℕ). says.if_has o (λ reader. answer.Done)) reads)
 
   -- an actor without a reader
-  pub done_idle : (part : Part D R C) (before after : Seen Rattle.cache_replay.specs.declared.session.Holding.Holding) (name : List ℕ) (n : ℕ) (said : StepAnswer) → said ≡ says.idle
+  pub done_idle : (part : Part D R C d r c) (before after : Seen Rattle.cache_replay.specs.declared.session.Holding.Holding) (name : List ℕ) (n : ℕ) (said : StepAnswer) → said ≡ says.idle
       → n ≡ number_of before.names name → after.names ≡ with_actor before.names name → ((m : ℕ) → slots_of after m ≡ slots_of before m) → None ≡ reader_held (slots_of before n)
-      → IsActive disk directory chronicle part (slots_of before)
-      → (run : Run) → PlaysPart chronicle run part before → PartMoves disk directory chronicle run part (step.Done name) part after said
+      → IsActive part (slots_of before)
+      → (run : Run) → PlaysPart run part before → PartMoves run part (step.Done name) part after said
   done_idle part before after name n said is number names same none active run plays =
-      let reads : reader_by run name ≡ None = reads_none disk directory chronicle run part before name n number none plays in
-      still_moves disk directory chronicle run part before after (step.Done name) name n said refl number names same
+      let reads : reader_by run name ≡ None = reads_none run part before name n number none plays in
+      still_moves run part before after (step.Done name) name n said refl number names same
       (ap (λ (o : Option ℕ). asks.if_has o (λ reader. StopReading reader ∷ [])) reads) refl refl
-      (still_held disk directory chronicle run part before name n number active plays)
+      (still_held run part before name n number active plays)
       (ap (λ (o : Option ℕ). says.if_has o (λ reader. answer.Done)) reads ∙ sym is)
       active.part.quiet plays

@@ -8,12 +8,12 @@ use Rattle.logged_disk.specs.declared.device.Disk.{Ghosts as DiskGhosts}
 use Rattle.dir_table.specs.declared.directory.Directory.{Ghosts as DirectoryGhosts}
 use Rattle.cache_chronicle.specs.declared.chronicle.Chronicle.{Ghosts as ChronicleGhosts}
 use Rattle.cache_model.specs.Kept.{Kept}
-use Rattle.cache_model.specs.Legal.{IsQuiet, is_writing}
+use Rattle.cache_model.specs.Legal.{is_writing}
 use Rattle.stripe_core.specs.declared.stripe.Stripe.{Stripe}
 use Rattle.stripe_core.specs.declared.refusal.Refusal.{Refusal}
-use Rattle.stripe_core.specs.Stripe.{IsStripe, kept_in, seen_in, state_in}
-use Rattle.stripe_core.specs.Between.{Between}
-use Rattle.stripe_core.proofs.Between.{between-trans}
+use Rattle.stripe_core.specs.Stripe.{kept_in, seen_in, state_in}
+use Rattle.stripe_core.specs.Between.{Rests}
+use Rattle.stripe_core.proofs.Continuing.{rests_then}
 use Rattle.stripe_write.specs.declared.writer.Writer.{Writer}
 use Rattle.stripe_write.specs.Writers.{IsWriterOf}
 use Rattle.stripe_write.specs.Writes.{SameWriter, WritesAsAsked, WritesWhere}
@@ -28,15 +28,12 @@ Onward moment before mid old now w v bytes taken =
     (after : Device) (new : Kept) (end : Writer) (more : ℕ) (why : Option Refusal) (made : List Call) → after.past ≡ made ++ mid
     → Ends moment mid after now new v end (drop taken bytes) more why → Ends moment before after old new w end bytes (taken + more) why
 
-pub record Turned {D R C : Type 0} (disk : DiskGhosts D) (directory : DirectoryGhosts R) (chronicle : ChronicleGhosts C) (moment : ℕ) (first now : Stripe D R C) (w v : Writer) (bytes : List ℕ) (taken : ℕ) : Type 0 where
-  pub stripe : IsStripe disk directory chronicle now
-  pub quiet : IsQuiet (state_in chronicle now)
-  pub writer : IsWriterOf (state_in chronicle now) v
-  pub writing : is_writing (state_in chronicle now) v.put ≡ true
+pub record Turned {D R C : Type 0} {d : DiskGhosts D} {r : DirectoryGhosts R} {c : ChronicleGhosts C} (moment : ℕ) (first now : Stripe D R C d r c) (w v : Writer) (bytes : List ℕ) (taken : ℕ) : Type 0 where
+  pub rests : Rests first now
+  pub writer : IsWriterOf (state_in now) v
+  pub writing : is_writing (state_in now) v.put ≡ true
   pub within : taken ≤ length bytes
-  pub later : (seen_in disk directory first).device.faults ≤ (seen_in disk directory now).device.faults
-  pub unharmed : Between disk directory chronicle first now
-  pub onward : Onward moment (seen_in disk directory first).device.past (seen_in disk directory now).device.past (kept_in chronicle first) (kept_in chronicle now) w v bytes taken
+  pub onward : Onward moment (seen_in first).device.past (seen_in now).device.past (kept_in first) (kept_in now) w v bytes taken
 
 -- a write that left bytes over
 pub one_more : (moment : ℕ) (before mid : List Call) (next : Device) (old now then_ : Kept) (w v u : Writer) (bytes : List ℕ) (taken n : ℕ) (made : List Call) → next.past ≡ made ++ mid → n < length (drop taken bytes)
@@ -54,22 +51,22 @@ one_more moment before mid next old now then_ w v u bytes taken n made earlier l
 
 -- ---- a stripe between two writes
 
-module _ {D R C : Type 0} (disk : DiskGhosts D) (directory : DirectoryGhosts R) (chronicle : ChronicleGhosts C) (moment : ℕ) (first now next : Stripe D R C) (w v u : Writer) (bytes : List ℕ) (taken : ℕ)
-    (turned : Turned disk directory chronicle moment first now w v bytes taken) where
+module _ {D R C : Type 0} {d : DiskGhosts D} {r : DirectoryGhosts R} {c : ChronicleGhosts C} (moment : ℕ) (first now next : Stripe D R C d r c) (w v u : Writer) (bytes : List ℕ) (taken : ℕ)
+    (turned : Turned moment first now w v bytes taken) where
   abbrev before : List Call
-  before = (seen_in disk directory first).device.past
+  before = (seen_in first).device.past
 
   abbrev mid : List Call
-  mid = (seen_in disk directory now).device.past
+  mid = (seen_in now).device.past
 
   abbrev after : Device
-  after = (seen_in disk directory next).device
+  after = (seen_in next).device
 
   abbrev left : List ℕ
   left = drop taken bytes
 
   abbrev Writes : ℕ → Type 0
-  Writes n = Wrote moment mid after (kept_in chronicle now) (kept_in chronicle next) v u left n
+  Writes n = Wrote moment mid after (kept_in now) (kept_in next) v u left n
 
   -- what is left, as the code names it
   abbrev part : List ℕ
@@ -78,15 +75,15 @@ module _ {D R C : Type 0} (disk : DiskGhosts D) (directory : DirectoryGhosts R) 
   part_is : part ≡ left
   part_is = let cut : length left ≡ length bytes - taken = length-drop taken bytes in take_all (length bytes - taken) left (omega (arith, cut))
 
-  pub wrote : (n : ℕ) → Wrote moment mid after (kept_in chronicle now) (kept_in chronicle next) v u part n → Writes n
-  wrote n h = subst (λ xs. Wrote moment mid after (kept_in chronicle now) (kept_in chronicle next) v u xs n) part_is h
+  pub wrote : (n : ℕ) → Wrote moment mid after (kept_in now) (kept_in next) v u part n → Writes n
+  wrote n h = subst (λ xs. Wrote moment mid after (kept_in now) (kept_in next) v u xs n) part_is h
 
   left_size : length left + taken ≡ length bytes
   left_size = let cut : length left ≡ length bytes - taken = length-drop taken bytes in let in_time : taken ≤ length bytes = turned.within in omega (arith, cut, in_time)
 
   -- what a write takes is no more than what is left, and something where it leaves some
   pub bounds : (n : ℕ) → Writes n → taken + n ≤ length bytes
-  bounds n h = let most : n ≤ length left = (within moment mid after (kept_in chronicle now) (kept_in chronicle next) v u left n h).0 in omega (arith, most, left_size)
+  bounds n h = let most : n ≤ length left = (within moment mid after (kept_in now) (kept_in next) v u left n h).0 in omega (arith, most, left_size)
 
   leaves_some : (n : ℕ) → Writes n → (taken + n ≡ length bytes → ⊥) → n < length left
   leaves_some n h other = below n taken (length bytes) (length left) (bounds n h) other left_size
@@ -96,41 +93,37 @@ module _ {D R C : Type 0} (disk : DiskGhosts D) (directory : DirectoryGhosts R) 
 
   pub some_taken : (n : ℕ) → Writes n → (taken + n ≡ length bytes → ⊥) → 0 < n
   some_taken n h other =
-      let cut = cut_or_all moment mid after (kept_in chronicle now) (kept_in chronicle next) v u left n h (leaves_some n h other) in
-      let full = (cuts moment mid after (kept_in chronicle now) (kept_in chronicle next) v u left n h cut).full in
-      let less = few moment mid after (kept_in chronicle now) (kept_in chronicle next) v u left n h in
+      let cut = cut_or_all moment mid after (kept_in now) (kept_in next) v u left n h (leaves_some n h other) in
+      let full = (cuts moment mid after (kept_in now) (kept_in next) v u left n h cut).full in
+      let less = few moment mid after (kept_in now) (kept_in next) v u left n h in
       omega (arith, full, less)
 
-  pub all_ends : (n : ℕ) → Writes n → taken + n ≡ length bytes → (made : List Call) → after.past ≡ made ++ mid → Ends moment before after (kept_in chronicle first) (kept_in chronicle next) w u bytes (taken + n) None
+  pub all_ends : (n : ℕ) → Writes n → taken + n ≡ length bytes → (made : List Call) → after.past ≡ made ++ mid → Ends moment before after (kept_in first) (kept_in next) w u bytes (taken + n) None
   all_ends n h whole made later =
-      turned.onward after (kept_in chronicle next) u n None made later
-      (last_ends moment mid after (kept_in chronicle now) (kept_in chronicle next) v u left n h (omega (arith, whole, left_size)))
+      turned.onward after (kept_in next) u n None made later
+      (last_ends moment mid after (kept_in now) (kept_in next) v u left n h (omega (arith, whole, left_size)))
 
-  pub fails_ends : (why : Refusal) → WritesWhere (state_in chronicle now) v part (Err why) → WritesAsAsked moment (kept_in chronicle now) (kept_in chronicle next) mid after v part (Err why)
-      → SameWriter v u → (made : List Call) → after.past ≡ made ++ mid → Ends moment before after (kept_in chronicle first) (kept_in chronicle next) w u bytes taken (Some why)
+  pub fails_ends : (why : Refusal) → WritesWhere (state_in now) v part (Err why) → WritesAsAsked moment (kept_in now) (kept_in next) mid after v part (Err why)
+      → SameWriter v u → (made : List Call) → after.past ≡ made ++ mid → Ends moment before after (kept_in first) (kept_in next) w u bytes taken (Some why)
   fails_ends why where_ does same made later =
-      subst (λ m. Ends moment before after (kept_in chronicle first) (kept_in chronicle next) w u bytes m (Some why)) (no_more taken)
-      (turned.onward after (kept_in chronicle next) u 0 (Some why) made later
-      (refused_ends moment mid after (kept_in chronicle now) (kept_in chronicle next) v u left turned.writer turned.writing same why
-      (subst (λ xs. WritesWhere (state_in chronicle now) v xs (Err why)) part_is where_)
-      (subst (λ xs. WritesAsAsked moment (kept_in chronicle now) (kept_in chronicle next) mid after v xs (Err why)) part_is does)))
+      subst (λ m. Ends moment before after (kept_in first) (kept_in next) w u bytes m (Some why)) (no_more taken)
+      (turned.onward after (kept_in next) u 0 (Some why) made later
+      (refused_ends moment mid after (kept_in now) (kept_in next) v u left turned.writer turned.writing same why
+      (subst (λ xs. WritesWhere (state_in now) v xs (Err why)) part_is where_)
+      (subst (λ xs. WritesAsAsked moment (kept_in now) (kept_in next) mid after v xs (Err why)) part_is does)))
     where
       no_more : (k : ℕ) → k + 0 ≡ k
       no_more k = omega arith
 
-  pub goes_on : (n : ℕ) → Writes n → (taken + n ≡ length bytes → ⊥) → IsStripe disk directory chronicle next → IsQuiet (state_in chronicle next) → (seen_in disk directory now).device.faults ≤ after.faults
-      → Between disk directory chronicle now next → Turned disk directory chronicle moment first next w u bytes (taken + n)
-  goes_on n h other stripe quiet later stays =
+  pub goes_on : (n : ℕ) → Writes n → (taken + n ≡ length bytes → ⊥) → Rests now next → Turned moment first next w u bytes (taken + n)
+  goes_on n h other rests =
       let some : n < length left = leaves_some n h other in
-      let cut = cut_or_all moment mid after (kept_in chronicle now) (kept_in chronicle next) v u left n h some in
-      let c : Cuts (kept_in chronicle now) (kept_in chronicle next) v u n = cuts moment mid after (kept_in chronicle now) (kept_in chronicle next) v u left n h cut in
+      let cut = cut_or_all moment mid after (kept_in now) (kept_in next) v u left n h some in
+      let c : Cuts (kept_in now) (kept_in next) v u n = cuts moment mid after (kept_in now) (kept_in next) v u left n h cut in
       record {
-        stripe = stripe;
-        quiet = quiet;
+        rests = rests_then first now next turned.rests rests;
         writer = h.next_own;
-        writing = subst (λ q. is_writing (state_in chronicle next) q ≡ true) (sym h.gathers.put) c.stands.writing;
+        writing = subst (λ q. is_writing (state_in next) q ≡ true) (sym h.gathers.put) c.stands.writing;
         within = bounds n h;
-        later = omega (arith, turned.later, later);
-        unharmed = between-trans _ _ _ _ _ _ turned.unharmed stays;
-        onward = one_more moment before mid after (kept_in chronicle first) (kept_in chronicle now) (kept_in chronicle next) w v u bytes taken n stays.goes.made stays.goes.past some h turned.onward;
+        onward = one_more moment before mid after (kept_in first) (kept_in now) (kept_in next) w v u bytes taken n rests.between.goes.made rests.between.goes.past some h turned.onward;
       }

@@ -43,18 +43,22 @@ first_floor_is segments buckets content agg reach fragment generation alternates
     plus_minus : (a b : ℕ) → a + b - a ≡ b
     plus_minus a b = omega arith
 
-module _ {D R C : Type 0} (disk : DiskGhosts D) (directory : DirectoryGhosts R) (chronicle : ChronicleGhosts C) where
+-- a format that was done
+abbrev format_turn : Geometry → Turn
+format_turn g = record { added = format_records g; refused = None; device = no_turn.device; given = [] }
+
+module _ {D R C : Type 0} {d : DiskGhosts D} {r : DirectoryGhosts R} {c : ChronicleGhosts C} where
   -- ---- formats
 
   -- numbers that are refused change nothing
-  pub format_refused : (run : Run) (name : List ℕ) (segments buckets content agg reach fragment generation alternates number : ℕ) (bad : BadGeometry) (session : Session D R C) (ledger : Ledger)
-      → first_refusal segments buckets content agg reach fragment alternates ≡ Some bad → number ≡ number_of_bad bad → Plays disk directory chronicle run session
-      → DeviceMoves disk directory chronicle run (step.Format name segments buckets content agg reach fragment generation alternates) session (answer.Refused (refused.Geometry number) None) ledger ledger
+  pub format_refused : (run : Run) (name : List ℕ) (segments buckets content agg reach fragment generation alternates number : ℕ) (bad : BadGeometry) (session : Session D R C d r c) (ledger : Ledger)
+      → first_refusal segments buckets content agg reach fragment alternates ≡ Some bad → number ≡ number_of_bad bad → Plays run session
+      → DeviceMoves run (step.Format name segments buckets content agg reach fragment generation alternates) session (answer.Refused (refused.Geometry number) None) ledger ledger
   format_refused run name segments buckets content agg reach fragment generation alternates number bad session ledger is numbered plays = record {
     moves = record {
       turn = no_turn;
       takes = subst (λ o. FormatTakes [] segments buckets content agg reach fragment generation alternates o) (sym is) refl;
-      plays = subst (λ o. Plays disk directory chronicle (after_format run name [] o) session) (sym is) plays;
+      plays = subst (λ o. Plays (after_format run name [] o) session) (sym is) plays;
       says = ap (format_said []) is ∙ ap (λ n. answer.Refused (refused.Geometry n) None) (sym numbered);
     };
     harms = [];
@@ -64,19 +68,16 @@ module _ {D R C : Type 0} (disk : DiskGhosts D) (directory : DirectoryGhosts R) 
     deals = no_deals ledger;
   }
 
-  abbrev format_turn : Geometry → Turn
-  format_turn g = record { added = format_records g; refused = None; device = no_turn.device; given = [] }
-
   -- a session begins with the geometry of its line
-  pub format_done : (run : Run) (name : List ℕ) (segments buckets content agg reach fragment generation alternates : ℕ) (g : Geometry) (floor : ℕ) (new : Session D R C) (before now : Ledger)
+  pub format_done : (run : Run) (name : List ℕ) (segments buckets content agg reach fragment generation alternates : ℕ) (g : Geometry) (floor : ℕ) (new : Session D R C d r c) (before now : Ledger)
       → first_refusal segments buckets content agg reach fragment alternates ≡ None → floor ≡ floor_of g g.content → HasNumbers g segments buckets content agg reach fragment generation alternates
-      → Plays disk directory chronicle (formatted run name (format_records g)) new → Deals before now (harm_of run.calls run.state) (name ∷ [])
-      → DeviceMoves disk directory chronicle run (step.Format name segments buckets content agg reach fragment generation alternates) new (answer.Formatted 1 g.content floor) before now
+      → Plays (formatted run name (format_records g)) new → Deals before now (harm_of run.calls run.state) (name ∷ [])
+      → DeviceMoves run (step.Format name segments buckets content agg reach fragment generation alternates) new (answer.Formatted 1 g.content floor) before now
   format_done run name segments buckets content agg reach fragment generation alternates g floor new before now is floored numbers plays deals = record {
     moves = record {
       turn = format_turn g;
       takes = subst (λ o. FormatTakes (format_records g) segments buckets content agg reach fragment generation alternates o) (sym is) (g, numbers, refl);
-      plays = subst (λ o. Plays disk directory chronicle (after_format run name (format_records g) o) new) (sym is) plays;
+      plays = subst (λ o. Plays (after_format run name (format_records g) o) new) (sym is) plays;
       says = ap (format_said (format_records g)) is ∙ ap (λ n. answer.Formatted 1 g.content n) (sym floored);
     };
     harms = harm_of run.calls run.state;
@@ -87,14 +88,14 @@ module _ {D R C : Type 0} (disk : DiskGhosts D) (directory : DirectoryGhosts R) 
   }
 
   -- a device that was attached in vain came back behind that of the session
-  pub format_left : (harms : List Harm) (session : Session D R C) (name : List ℕ) (r0 r1 r2 r3 : List Device) (n0 n1 n2 n3 : List (List ℕ)) (d : Device) → d.past ≡ []
-      → AreReached harms (return_of disk directory chronicle session.part) → r1 ≡ r0 → r2 ≡ r1 ++ return_of disk directory chronicle session.part → r3 ≡ r2 ++ d ∷ []
+  pub format_left : (harms : List Harm) (session : Session D R C d r c) (name : List ℕ) (r0 r1 r2 r3 : List Device) (n0 n1 n2 n3 : List (List ℕ)) (d : Device) → d.past ≡ []
+      → AreReached harms (return_of session.part) → r1 ≡ r0 → r2 ≡ r1 ++ return_of session.part → r3 ≡ r2 ++ d ∷ []
       → n1 ≡ n0 ++ name ∷ [] → n2 ≡ n1 → n3 ≡ n2 → Deals (record { names = n0; returned = r0 }) (record { names = n3; returned = r3 }) (harms ++ no_harm ∷ []) (name ∷ [])
   format_left harms session name r0 r1 r2 r3 n0 n1 n2 n3 d none reached one two three four five six = record {
     back = record {
-      devices = return_of disk directory chronicle session.part ++ d ∷ [];
-      returned = three ∙ (ap (λ r. r ++ d ∷ []) (two ∙ ap (λ r. r ++ return_of disk directory chronicle session.part) one) ∙ append_assoc r0 (return_of disk directory chronicle session.part) (d ∷ []));
-      reached = reach_more harms (return_of disk directory chronicle session.part) d none reached;
+      devices = return_of session.part ++ d ∷ [];
+      returned = three ∙ (ap (λ r. r ++ d ∷ []) (two ∙ ap (λ r. r ++ return_of session.part) one) ∙ append_assoc r0 (return_of session.part) (d ∷ []));
+      reached = reach_more harms (return_of session.part) d none reached;
     };
     attached = six ∙ (five ∙ four);
   }

@@ -273,39 +273,39 @@ held_some run s n (holding.Reader r) said_ = (Reads r.reader, said_.0)
 
 -- ---- a part, and its actors
 
-module _ {D R C : Type 0} (disk : DiskGhosts D) (directory : DirectoryGhosts R) (chronicle : ChronicleGhosts C) (stay : OthersStay) (part new : Part D R C) (actors last : Seen Holding) (n : ℕ) where
+module _ {D R C : Type 0} {d : DiskGhosts D} {r : DirectoryGhosts R} {c : ChronicleGhosts C} (stay : OthersStay) (part new : Part D R C d r c) (actors last : Seen Holding) (n : ℕ) where
   abbrev s : State
-  s = state_in chronicle part.stripe
+  s = state_in part.stripe
 
   abbrev t : State
-  t = state_in chronicle new.stripe
+  t = state_in new.stripe
 
   -- what the device had been called for before, and behind it
   abbrev earlier : List Call
-  earlier = past_of disk directory part
+  earlier = past_of part
 
   abbrev later : List Call
-  later = past_of disk directory new
+  later = past_of new
 
-  pub active_by : (put : ℕ) (left : Option Writer) → IsActive disk directory chronicle part (slots_of actors) → OthersElse (slots_of actors) n (Some put) None → Changed (slots_of actors) (slots_of last) n (held_in left)
-      → IsStripe disk directory chronicle new.stripe → IsQuiet t → new.page ≡ part.page → AddsOfPut put (kept_in chronicle part.stripe) (kept_in chronicle new.stripe) → IsLeft t put left
-      → IsActive disk directory chronicle new (slots_of last)
+  pub active_by : (put : ℕ) (left : Option Writer) → IsActive part (slots_of actors) → OthersElse (slots_of actors) n (Some put) None → Changed (slots_of actors) (slots_of last) n (held_in left)
+      → IsStripe new.stripe → IsQuiet t → new.page ≡ part.page → AddsOfPut put (kept_in part.stripe) (kept_in new.stripe) → IsLeft t put left
+      → IsActive new (slots_of last)
   active_by put left old others changed stripe quiet page adds is =
-      let leaves : LeavesBut (Some put) None s t = leaves_but put (kept_in chronicle part.stripe) (kept_in chronicle new.stripe) stay adds in
+      let leaves : LeavesBut (Some put) None s t = leaves_but put (kept_in part.stripe) (kept_in new.stripe) stay adds in
       let behind = held_behind s t (slots_of actors) (slots_of last) n put left leaves changed others is old.held old.apart in
       record {
-        part = part_behind disk directory chronicle part new old.part stripe quiet (ap (λ (p : Vec ℕ). length p.items) page) (Some put) None leaves;
+        part = part_behind part new old.part stripe quiet (ap (λ (p : Vec ℕ). length p.items) page) (Some put) None leaves;
         held = behind.held;
         apart = behind.apart;
       }
 
   pub moves_by : (own : StepsOwn) (tell : StepsTell) (line : WriterLine) (run : Run) (name : List ℕ) (put : ℕ) (left : Option Writer) (said : StepAnswer) → n ≡ number_of actors.names name
-      → IsActive disk directory chronicle part (slots_of actors) → IsPutOf run s line name put → OthersElse (slots_of actors) n (Some put) None → Changed (slots_of actors) (slots_of last) n (held_in left)
-      → AddsOfPut put (kept_in chronicle part.stripe) (kept_in chronicle new.stripe) → last.names ≡ with_actor actors.names name → PlaysPart chronicle run part actors
-      → WriterEnds run name earlier later s t line left said → PartEnds disk directory chronicle run part (step_of line name) new last said
+      → IsActive part (slots_of actors) → IsPutOf run s line name put → OthersElse (slots_of actors) n (Some put) None → Changed (slots_of actors) (slots_of last) n (held_in left)
+      → AddsOfPut put (kept_in part.stripe) (kept_in new.stripe) → last.names ≡ with_actor actors.names name → PlaysPart run part actors
+      → WriterEnds run name earlier later s t line left said → PartEnds run part (step_of line name) new last said
   moves_by own tell line run name put left said is old of others changed adds names plays (inl moves) =
       let at : n ≡ number_of run.actors name = is ∙ ap (λ (all : List (List ℕ)). number_of all name) (sym plays.names) in
-      elim (plays_on own tell line run name earlier later s t (slots_of actors) (slots_of last) n put left said at old.part.stripe.pieces.sound old.part.quiet of (leaves_but put (kept_in chronicle part.stripe) (kept_in chronicle new.stripe) stay adds) changed others
+      elim (plays_on own tell line run name earlier later s t (slots_of actors) (slots_of last) n put left said at old.part.stripe.pieces.sound old.part.quiet of (leaves_but put (kept_in part.stripe) (kept_in new.stripe) stay adds) changed others
       old.held plays.at moves) [
         | inl on ↦ inl (record {
           turn = moves.turn;
@@ -326,9 +326,9 @@ module _ {D R C : Type 0} (disk : DiskGhosts D) (directory : DirectoryGhosts R) 
 
   pub ends_by : (own : StepsOwn) (tell : StepsTell) (line : WriterLine) (name : List ℕ) (w : Writer) (left : Option Writer) (answer : Option StepAnswer) (said : StepAnswer) → IsOnWriter line → answer ≡ Some said
       → n ≡ number_of actors.names name
-      → IsActive disk directory chronicle part (slots_of actors) → slots_of actors n ≡ Some (holding.Writer w) → Changed (slots_of actors) (slots_of last) n (held_in left)
-      → AddsOfPut w.put (kept_in chronicle part.stripe) (kept_in chronicle new.stripe) → last.names ≡ with_actor actors.names name
-      → (now : ℕ) → WriterDoes now earlier later s t line w left answer → (run : Run) → run.now ≡ now → PlaysPart chronicle run part actors → PartEnds disk directory chronicle run part (step_of line name) new last said
+      → IsActive part (slots_of actors) → slots_of actors n ≡ Some (holding.Writer w) → Changed (slots_of actors) (slots_of last) n (held_in left)
+      → AddsOfPut w.put (kept_in part.stripe) (kept_in new.stripe) → last.names ≡ with_actor actors.names name
+      → (now : ℕ) → WriterDoes now earlier later s t line w left answer → (run : Run) → run.now ≡ now → PlaysPart run part actors → PartEnds run part (step_of line name) new last said
   ends_by own tell line name w left None said on answered is old mine changed adds names now does = λ run moment plays. cc
   ends_by own tell line name w left (Some other) said on answered is old mine changed adds names now does = λ run moment plays.
       let same : other ≡ said = cc in
@@ -339,9 +339,9 @@ module _ {D R C : Type 0} (disk : DiskGhosts D) (directory : DirectoryGhosts R) 
 
   -- an actor that has nothing opens a writer
   pub opens_by : (own : StepsOwn) (tell : StepsTell) (name : List ℕ) (key : Key) (pin : ℕ) (request response : List Field) (left : Option Writer) (answer : Option StepAnswer) (said : StepAnswer) → answer ≡ Some said
-      → n ≡ number_of actors.names name → IsActive disk directory chronicle part (slots_of actors) → slots_of actors n ≡ None → Changed (slots_of actors) (slots_of last) n (held_in left)
-      → AddsOfPut s.next_put (kept_in chronicle part.stripe) (kept_in chronicle new.stripe) → last.names ≡ with_actor actors.names name
-      → OpenDoes earlier later s t n (Opens key pin request response) left answer → (run : Run) → PlaysPart chronicle run part actors → PartEnds disk directory chronicle run part (step.OpenWrite name key pin request response) new last said
+      → n ≡ number_of actors.names name → IsActive part (slots_of actors) → slots_of actors n ≡ None → Changed (slots_of actors) (slots_of last) n (held_in left)
+      → AddsOfPut s.next_put (kept_in part.stripe) (kept_in new.stripe) → last.names ≡ with_actor actors.names name
+      → OpenDoes earlier later s t n (Opens key pin request response) left answer → (run : Run) → PlaysPart run part actors → PartEnds run part (step.OpenWrite name key pin request response) new last said
   opens_by own tell name key pin request response left None said answered is old free changed adds names does = λ run plays. cc
   opens_by own tell name key pin request response left (Some other) said answered is old free changed adds names does = λ run plays.
       let same : other ≡ said = cc in
@@ -352,24 +352,24 @@ module _ {D R C : Type 0} (disk : DiskGhosts D) (directory : DirectoryGhosts R) 
       (inl (subst (WriterMoves run name earlier later s t (Opens key pin request response) left) same (does run name none at)))
 
   -- an actor that has something opens none
-  pub busy_in : (name : List ℕ) (key : Key) (pin : ℕ) (request response : List Field) (h : Holding) → n ≡ number_of actors.names name → IsActive disk directory chronicle part (slots_of actors) → slots_of actors n ≡ Some h
-      → ((m : ℕ) → slots_of last m ≡ slots_of actors m) → last.names ≡ with_actor actors.names name → (run : Run) → PlaysPart chronicle run part actors
-      → PartEnds disk directory chronicle run part (step.OpenWrite name key pin request response) part last busy
+  pub busy_in : (name : List ℕ) (key : Key) (pin : ℕ) (request response : List Field) (h : Holding) → n ≡ number_of actors.names name → IsActive part (slots_of actors) → slots_of actors n ≡ Some h
+      → ((m : ℕ) → slots_of last m ≡ slots_of actors m) → last.names ≡ with_actor actors.names name → (run : Run) → PlaysPart run part actors
+      → PartEnds run part (step.OpenWrite name key pin request response) part last busy
   busy_in name key pin request response h is old has same names = λ run plays.
       let x = held_some run s n h (subst (IsHeldAs run s n) has (plays.at.held n)) in
       let by : held_by run name ≡ Some x.0 = ap run.held (ap (λ (all : List (List ℕ)). number_of all name) plays.names ∙ sym is) ∙ x.1 in
-      inl (still_moves disk directory chronicle run part actors last (step.OpenWrite name key pin request response) name n busy refl is names same
+      inl (still_moves run part actors last (step.OpenWrite name key pin request response) name n busy refl is names same
       (ap (λ o. Rattle.script_run.specs.Asked.if_free o (Rattle.cache_model.specs.Permit.Write (number_of run.actors name) key request response pin ∷ [])) by) refl (ap (λ o. streams_opened run s o) by)
       (ap (λ o. or_else o (writer_at s s.next_put)) by ∙ sym by) (ap (λ o. Rattle.script_run.specs.Answers.if_free o (answer.Writer s.next_put)) by) old.part.quiet plays)
 
   -- an actor that has no writer
-  pub idles_by : (line : WriterLine) (name : List ℕ) → IsOnWriter line → n ≡ number_of actors.names name → IsActive disk directory chronicle part (slots_of actors) → HasNoWriter (slots_of actors n)
-      → ((m : ℕ) → slots_of last m ≡ slots_of actors m) → last.names ≡ with_actor actors.names name → (run : Run) → PlaysPart chronicle run part actors → PartEnds disk directory chronicle run part (step_of line name) part last idle
+  pub idles_by : (line : WriterLine) (name : List ℕ) → IsOnWriter line → n ≡ number_of actors.names name → IsActive part (slots_of actors) → HasNoWriter (slots_of actors n)
+      → ((m : ℕ) → slots_of last m ≡ slots_of actors m) → last.names ≡ with_actor actors.names name → (run : Run) → PlaysPart run part actors → PartEnds run part (step_of line name) part last idle
   idles_by line name on is old nope same names = λ run plays.
       let at : n ≡ number_of run.actors name = is ∙ ap (λ (all : List (List ℕ)). number_of all name) (sym plays.names) in
       let none = none_written run s n (slots_of actors n) nope (plays.at.held n) in
       let by = no_writer line run s s (still_turn run.now) name on (ap (λ k. option_and_then put_in (run.held k)) (sym at) ∙ none.0) in
-      inl (still_moves disk directory chronicle run part actors last (step_of line name) name n idle (actor_is line name) is names same by.0 (given_none line run s name (still_turn run.now) refl) by.1
+      inl (still_moves run part actors last (step_of line name) name n idle (actor_is line name) is names same by.0 (given_none line run s name (still_turn run.now) refl) by.1
       (holds_same line run s name on (ap (λ k. still_open s (run.held k)) (sym at) ∙ (none.1 ∙ ap run.held at))) by.2 old.part.quiet plays)
 
 -- names do not become more than one more

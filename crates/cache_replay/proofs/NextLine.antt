@@ -169,27 +169,27 @@ pub if_then : {X E : Type 0} (P Q : X → Type 0) (result : Result X E) → ((x 
 if_then P Q (Ok x) f h = f x h
 if_then P Q (Err e) f h = h
 
-module _ {D R C : Type 0} (disk : DiskGhosts D) (directory : DirectoryGhosts R) (chronicle : ChronicleGhosts C) where
+module _ {D R C : Type 0} {d : DiskGhosts D} {r : DirectoryGhosts R} {c : ChronicleGhosts C} where
   -- what is asked is that of the actor's reader
-  next_asks : (run : Run) (part : Part D R C) (before : Seen Holding) (name : List ℕ) (n : ℕ) (r : Reader) → n ≡ number_of before.names name → slots_of before n ≡ Some (holding.Reader r)
-      → PlaysPart chronicle run part before → asks.asked run (state_in chronicle part.stripe) (step.Next name) ≡ ReadOn r.reader ∷ []
+  next_asks : (run : Run) (part : Part D R C d r c) (before : Seen Holding) (name : List ℕ) (n : ℕ) (r : Reader) → n ≡ number_of before.names name → slots_of before n ≡ Some (holding.Reader r)
+      → PlaysPart run part before → asks.asked run (state_in part.stripe) (step.Next name) ≡ ReadOn r.reader ∷ []
   next_asks run part before name n r number had plays =
-      let by = held_reader disk directory chronicle run part before name n r number had plays in
+      let by = held_reader run part before name n r number had plays in
       ap (λ (o : Option ℕ). asks.if_has o (λ reader. ReadOn reader ∷ [])) (ap (option_and_then reader_in) by.0)
 
-  pub next_line_ends : (tell : GroupsTell) (own : StepsOwn) (old new : Part D R C) (before after : Seen Holding) (name : List ℕ) (n : ℕ) (r later : Reader) (said : StepAnswer)
+  pub next_line_ends : (tell : GroupsTell) (own : StepsOwn) (old new : Part D R C d r c) (before after : Seen Holding) (name : List ℕ) (n : ℕ) (r later : Reader) (said : StepAnswer)
       → n ≡ number_of before.names name → after.names ≡ with_actor before.names name → slots_of before n ≡ Some (holding.Reader r)
-      → later.reader ≡ r.reader → Goes r.reader (state_in chronicle old.stripe) (state_in chronicle new.stripe) (slots_of before) (slots_of after) n (Some later)
-      → IsActive disk directory chronicle old (slots_of before) → IsQuiet (state_in chronicle new.stripe)
-      → ((run : Run) → AreOwn (state_in chronicle old.stripe) run.streams → IsReaderOf (state_in chronicle old.stripe) r → NextEnds run (past_of disk directory old) (past_of disk directory new) (state_in chronicle old.stripe) (state_in chronicle new.stripe) r later said)
-      → (run : Run) → PlaysPart chronicle run old before → PartEnds disk directory chronicle run old (step.Next name) new after said
+      → later.reader ≡ r.reader → Goes r.reader (state_in old.stripe) (state_in new.stripe) (slots_of before) (slots_of after) n (Some later)
+      → IsActive old (slots_of before) → IsQuiet (state_in new.stripe)
+      → ((run : Run) → AreOwn (state_in old.stripe) run.streams → IsReaderOf (state_in old.stripe) r → NextEnds run (past_of old) (past_of new) (state_in old.stripe) (state_in new.stripe) r later said)
+      → (run : Run) → PlaysPart run old before → PartEnds run old (step.Next name) new after said
   next_line_ends tell own old new before after name n r later said number names had same goes active quiet ends run plays =
-      let s : State = state_in chronicle old.stripe in
-      let by = held_reader disk directory chronicle run old before name n r number had plays in
+      let s : State = state_in old.stripe in
+      let by = held_reader run old before name n r number had plays in
       let reads : reader_by run name ≡ Some r.reader = ap (option_and_then reader_in) by.0 in
       let asked_is : asks.asked run s (step.Next name) ≡ ReadOn r.reader ∷ [] = next_asks run old before name n r number had plays in
       elim (ends run plays.at.own by.1) [
-        | inl m ↦ line_ends disk directory chronicle tell own run old new before after (step.Next name) name n (ReadOn r.reader) m.device m.added m.given r.reader (Some later) said
+        | inl m ↦ line_ends tell own run old new before after (step.Next name) name n (ReadOn r.reader) m.device m.added m.given r.reader (Some later) said
             (record {
               actor = refl;
               number = number;
@@ -209,26 +209,26 @@ module _ {D R C : Type 0} (disk : DiskGhosts D) (directory : DirectoryGhosts R) 
             })
             (next_has run (after_all s m.added) name r later by.0 same (subst (λ t. IsReaderOf t later) m.behind m.keeps)) m.keeps active plays goes
             (ap (λ (o : Option ℕ). says.if_has o (λ reader. says.next_said m.given (told_in m.added))) reads ∙ m.says)
-        | inr shown ↦ inr (shows_in run (past_of disk directory old) (past_of disk directory new) s (step.Next name) (subst (ShowsAt (IsPlacedAs run.streams) run.now (past_of disk directory old) (past_of disk directory new) s) (sym asked_is) shown))
+        | inr shown ↦ inr (shows_in run (past_of old) (past_of new) s (step.Next name) (subst (ShowsAt (IsPlacedAs run.streams) run.now (past_of old) (past_of new) s) (sym asked_is) shown))
       ]
 
   -- what holds of an own reader
-  pub next_line_stays : {X : Type 0} (part : Part D R C) (before : Seen Holding) (name : List ℕ) (n : ℕ) (r : Reader) → n ≡ number_of before.names name → slots_of before n ≡ Some (holding.Reader r)
-      → ((run : Run) → AreOwn (state_in chronicle part.stripe) run.streams → IsReaderOf (state_in chronicle part.stripe) r → X)
-      → (run : Run) → PlaysPart chronicle run part before → X
-  next_line_stays part before name n r number had stays run plays = stays run plays.at.own (held_reader disk directory chronicle run part before name n r number had plays).1
+  pub next_line_stays : {X : Type 0} (part : Part D R C d r c) (before : Seen Holding) (name : List ℕ) (n : ℕ) (r : Reader) → n ≡ number_of before.names name → slots_of before n ≡ Some (holding.Reader r)
+      → ((run : Run) → AreOwn (state_in part.stripe) run.streams → IsReaderOf (state_in part.stripe) r → X)
+      → (run : Run) → PlaysPart run part before → X
+  next_line_stays part before name n r number had stays run plays = stays run plays.at.own (held_reader run part before name n r number had plays).1
 
   -- an actor without a reader
-  pub next_idle : (part : Part D R C) (before after : Seen Holding) (name : List ℕ) (n : ℕ) (said : StepAnswer) → said ≡ says.idle
+  pub next_idle : (part : Part D R C d r c) (before after : Seen Holding) (name : List ℕ) (n : ℕ) (said : StepAnswer) → said ≡ says.idle
       → n ≡ number_of before.names name → after.names ≡ with_actor before.names name → ((m : ℕ) → slots_of after m ≡ slots_of before m) → None ≡ reader_held (slots_of before n)
-      → IsActive disk directory chronicle part (slots_of before)
-      → (run : Run) → PlaysPart chronicle run part before → PartMoves disk directory chronicle run part (step.Next name) part after said
+      → IsActive part (slots_of before)
+      → (run : Run) → PlaysPart run part before → PartMoves run part (step.Next name) part after said
   next_idle part before after name n said is number names same none active run plays =
-      let s : State = state_in chronicle part.stripe in
-      let reads : reader_by run name ≡ None = reads_none disk directory chronicle run part before name n number none plays in
-      still_moves disk directory chronicle run part before after (step.Next name) name n said refl number names same
+      let s : State = state_in part.stripe in
+      let reads : reader_by run name ≡ None = reads_none run part before name n number none plays in
+      still_moves run part before after (step.Next name) name n said refl number names same
       (ap (λ (o : Option ℕ). asks.if_has o (λ reader. ReadOn reader ∷ [])) reads)
       (subst (IsNextPiece run s (still_turn run.now)) (sym reads) refl) refl
-      (still_held disk directory chronicle run part before name n number active plays)
+      (still_held run part before name n number active plays)
       (ap (λ (o : Option ℕ). says.if_has o (λ reader. says.next_said [] None)) reads ∙ sym is)
       active.part.quiet plays

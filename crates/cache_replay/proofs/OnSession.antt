@@ -109,68 +109,68 @@ on_session (step.Format name segments buckets content agg reach fragment generat
 on_session (step.Now moment) needs = absurd needs
 on_session _ needs = record { takes = λ run s turn h. h; says = λ run s turn. refl; behind = λ run s turn. refl }
 
-module _ {D R C : Type 0} (disk : DiskGhosts D) (directory : DirectoryGhosts R) (chronicle : ChronicleGhosts C) where
+module _ {D R C : Type 0} {d : DiskGhosts D} {r : DirectoryGhosts R} {c : ChronicleGhosts C} where
   -- ---- a session that has a cache
 
-  pub active : (session : Session D R C) (part : Part D R C) → session.part ≡ Some part → IsSession disk directory chronicle session → IsActive disk directory chronicle part (slots_in session)
-  active session part is h = subst (λ p. IsAt disk directory chronicle p (slots_in session)) is h
+  pub active : (session : Session D R C d r c) (part : Part D R C d r c) → session.part ≡ Some part → IsSession session → IsActive part (slots_in session)
+  active session part is h = subst (λ p. IsAt p (slots_in session)) is h
 
-  pub playing : (run : Run) (session : Session D R C) (part : Part D R C) → session.part ≡ Some part → Plays disk directory chronicle run session → PlaysIn run (state_in chronicle part.stripe) (slots_in session)
-  playing run session part is h = subst (λ p. PlaysAt disk directory chronicle run p (slots_in session)) is h.at
+  pub playing : (run : Run) (session : Session D R C d r c) (part : Part D R C d r c) → session.part ≡ Some part → Plays run session → PlaysIn run (state_in part.stripe) (slots_in session)
+  playing run session part is h = subst (λ p. PlaysAt run p (slots_in session)) is h.at
 
   -- ---- lines
 
   -- a line on a part that shows a pair, as a step on the session
-  pub shows_step : (run : Run) (old new : Session D R C) (before after : Part D R C) (step : Step) → old.part ≡ Some before → new.part ≡ Some after → IsAfter (seen_in disk directory before.stripe).device (seen_in disk directory after.stripe).device
-      → Plays disk directory chronicle run old → ShowsIn run (past_of disk directory before) (past_of disk directory after) (Some (state_in chronicle before.stripe)) step → StepPair disk directory chronicle run step new
+  pub shows_step : (run : Run) (old new : Session D R C d r c) (before after : Part D R C d r c) (step : Step) → old.part ≡ Some before → new.part ≡ Some after → IsAfter (seen_in before.stripe).device (seen_in after.stripe).device
+      → Plays run old → ShowsIn run (past_of before) (past_of after) (Some (state_in before.stripe)) step → StepPair run step new
   shows_step run old new before after step was is goes plays h = record {
     turn = h.turn;
     shows = subst (λ o. StepShows run h.turn o step) (sym (playing run old before was plays).state) h.shows;
-    calls = session_calls disk directory chronicle run (called run h.turn) old new before after h.turn.device.events was is goes h.calls refl plays.calls;
+    calls = session_calls run (called run h.turn) old new before after h.turn.device.events was is goes h.calls refl plays.calls;
   }
 
   -- where there is a session a line is as its records say
-  pub moves : (run : Run) (s : State) (turn : Turn) (step : Step) (new : Session D R C) (said : StepAnswer) → run.state ≡ Some s → Takes run turn (Some s) step → step_said run turn (Some s) step ≡ said
-      → Plays disk directory chronicle (then.behind run turn (Some s) step) new → StepMoves disk directory chronicle run step new said
+  pub moves : (run : Run) (s : State) (turn : Turn) (step : Step) (new : Session D R C d r c) (said : StepAnswer) → run.state ≡ Some s → Takes run turn (Some s) step → step_said run turn (Some s) step ≡ said
+      → Plays (then.behind run turn (Some s) step) new → StepMoves run step new said
   moves run s turn step new said state takes says plays = record {
     turn = turn;
     takes = subst (λ o. Takes run turn o step) (sym state) takes;
-    plays = subst (λ o. Plays disk directory chronicle (then.behind run turn o step) new) (sym state) plays;
+    plays = subst (λ o. Plays (then.behind run turn o step) new) (sym state) plays;
     says = subst (λ o. step_said run turn o step ≡ said) (sym state) says;
   }
 
   -- ---- lines without an actor that leave all puts and readers
 
-  pub line_session : (session : Session D R C) (old new : Part D R C) → session.part ≡ Some old → LeavesBut None None (state_in chronicle old.stripe) (state_in chronicle new.stripe)
-      → IsSession disk directory chronicle session → IsPart disk directory chronicle new → IsActive disk directory chronicle new (slots_in session)
+  pub line_session : (session : Session D R C d r c) (old new : Part D R C d r c) → session.part ≡ Some old → LeavesBut None None (state_in old.stripe) (state_in new.stripe)
+      → IsSession session → IsPart new → IsActive new (slots_in session)
   line_session session old new is leaves h part =
       let a = active session old is h in
-      record { part = part; held = still_held None None (state_in chronicle old.stripe) (state_in chronicle new.stripe) (slots_in session) leaves (none_else (slots_in session)) a.held; apart = a.apart }
+      record { part = part; held = still_held None None (state_in old.stripe) (state_in new.stripe) (slots_in session) leaves (none_else (slots_in session)) a.held; apart = a.apart }
 
   -- what a removal or a flush is for a session
-  pub line_plays : (run : Run) (session new : Session D R C) (old part : Part D R C) → session.part ≡ Some old → new.part ≡ Some part
+  pub line_plays : (run : Run) (session new : Session D R C d r c) (old part : Part D R C d r c) → session.part ≡ Some old → new.part ≡ Some part
       → names_in new ≡ names_in session → new.now ≡ session.now → ((n : ℕ) → slots_in new n ≡ slots_in session n)
-      → LeavesBut None None (state_in chronicle old.stripe) (state_in chronicle part.stripe) → Between disk directory chronicle old.stripe part.stripe → Plays disk directory chronicle run session
-      → (later : Run) (events : List Call) → events ≡ calls_since (past_of disk directory old) (past_of disk directory part) → later.calls ≡ events ++ run.calls
-      → later.actors ≡ run.actors → later.now ≡ run.now → later.streams ≡ run.streams → later.held ≡ run.held → later.state ≡ Some (state_in chronicle part.stripe)
-      → AreTold (state_in chronicle part.stripe) → AreOwn (state_in chronicle part.stripe) run.streams → Plays disk directory chronicle later new
+      → LeavesBut None None (state_in old.stripe) (state_in part.stripe) → Between old.stripe part.stripe → Plays run session
+      → (later : Run) (events : List Call) → events ≡ calls_since (past_of old) (past_of part) → later.calls ≡ events ++ run.calls
+      → later.actors ≡ run.actors → later.now ≡ run.now → later.streams ≡ run.streams → later.held ≡ run.held → later.state ≡ Some (state_in part.stripe)
+      → AreTold (state_in part.stripe) → AreOwn (state_in part.stripe) run.streams → Plays later new
   line_plays run session new old part is now names kept slots leaves stays plays later events are calls actors moment streams held state told owned =
-      let t : State = state_in chronicle part.stripe in
+      let t : State = state_in part.stripe in
       let own : AreOwn t later.streams = subst (AreOwn t) (sym streams) owned in
-      let here : PlaysIn later t (slots_in session) = still_plays None None run later (state_in chronicle old.stripe) t (slots_in session) leaves (none_else (slots_in session))
+      let here : PlaysIn later t (slots_in session) = still_plays None None run later (state_in old.stripe) t (slots_in session) leaves (none_else (slots_in session))
       (λ q no. ap (λ (f : ℕ → Rattle.script_run.specs.Run.Stream). f q) streams)
       (λ m. ap (λ (f : ℕ → Option Rattle.script_run.specs.Run.Holding). f m) held) state told own (playing run session old is plays) in
       record {
         names = actors ∙ (plays.names ∙ sym names);
         now = moment ∙ (plays.now ∙ sym kept);
-        at = subst (λ o. PlaysAt disk directory chronicle later o (slots_in new)) (sym now) (record {
+        at = subst (λ o. PlaysAt later o (slots_in new)) (sym now) (record {
           state = here.state;
           told = here.told;
           own = here.own;
           held = λ n. subst (IsHeldAs later t n) (sym (slots n)) (here.held n);
         });
-        unharmed = session_unharmed disk directory chronicle session new old part is now stays plays.unharmed;
-        calls = session_calls disk directory chronicle run later session new old part events is now stays.goes are calls plays.calls;
+        unharmed = session_unharmed session new old part is now stays plays.unharmed;
+        calls = session_calls run later session new old part events is now stays.goes are calls plays.calls;
       }
 
 -- ---- lines that are one call and have no actor
@@ -216,32 +216,32 @@ pub at_moment : (step : Step) (before after : List Call) (s t : State) (moment :
 at_moment step before after s t moment (Ok said) ends = λ run is. ends run
 at_moment step before after s t moment (Err why) ends = tt
 
-module _ {D R C : Type 0} (disk : DiskGhosts D) (directory : DirectoryGhosts R) (chronicle : ChronicleGhosts C) where
-  plain_ends : (tell : StepsTell) (owns : StepsOwn) (session new : Session D R C) (old part : Part D R C) (step : Step) (said : StepAnswer) → IsPlain step → session.part ≡ Some old → new.part ≡ Some part
-      → names_in new ≡ names_in session → new.now ≡ session.now → ((n : ℕ) → slots_in new n ≡ slots_in session n) → LeavesBut None None (state_in chronicle old.stripe) (state_in chronicle part.stripe)
-      → Between disk directory chronicle old.stripe part.stripe → IsSession disk directory chronicle session
-      → ((run : Run) → run.now ≡ session.now → Plainly run step (past_of disk directory old) (past_of disk directory part) (state_in chronicle old.stripe) (state_in chronicle part.stripe) said)
-      → (run : Run) → Plays disk directory chronicle run session → StepEnds disk directory chronicle run step new said
+module _ {D R C : Type 0} {d : DiskGhosts D} {r : DirectoryGhosts R} {c : ChronicleGhosts C} where
+  plain_ends : (tell : StepsTell) (owns : StepsOwn) (session new : Session D R C d r c) (old part : Part D R C d r c) (step : Step) (said : StepAnswer) → IsPlain step → session.part ≡ Some old → new.part ≡ Some part
+      → names_in new ≡ names_in session → new.now ≡ session.now → ((n : ℕ) → slots_in new n ≡ slots_in session n) → LeavesBut None None (state_in old.stripe) (state_in part.stripe)
+      → Between old.stripe part.stripe → IsSession session
+      → ((run : Run) → run.now ≡ session.now → Plainly run step (past_of old) (past_of part) (state_in old.stripe) (state_in part.stripe) said)
+      → (run : Run) → Plays run session → StepEnds run step new said
   plain_ends tell owns session new old part step said plain is now names kept slots leaves stays h ends run plays =
-      let s : State = state_in chronicle old.stripe in
-      let t : State = state_in chronicle part.stripe in
+      let s : State = state_in old.stripe in
+      let t : State = state_in part.stripe in
       let e = ends run plays.now in
-      let a = active disk directory chronicle session old is h in
-      let p = playing disk directory chronicle run session old is plays in
-      elim (stands_behind tell owns run (past_of disk directory old) (past_of disk directory part) s t e.turn step (slots_in session) e.calls e.takes e.behind a.part.stripe.pieces.sound a.part.quiet a.held p) [
+      let a = active session old is h in
+      let p = playing run session old is plays in
+      elim (stands_behind tell owns run (past_of old) (past_of part) s t e.turn step (slots_in session) e.calls e.takes e.behind a.part.stripe.pieces.sound a.part.quiet a.held p) [
         | inl there ↦
-            inl (moves disk directory chronicle run s e.turn step new said p.state (plain.on.takes run s e.turn e.takes)
+            inl (moves run s e.turn step new said p.state (plain.on.takes run s e.turn e.takes)
             (plain.on.says run s e.turn ∙ (ap (λ u. session_said run s u e.turn step) e.behind ∙ e.says))
-            (line_plays disk directory chronicle run session new old part is now names kept slots leaves stays plays (then.behind run e.turn (Some s) step) e.turn.device.events e.calls (plain.calls run s e.turn)
+            (line_plays run session new old part is now names kept slots leaves stays plays (then.behind run e.turn (Some s) step) e.turn.device.events e.calls (plain.calls run s e.turn)
             (plain.actors run s e.turn) (plain.moment run s e.turn) (plain.streams run s e.turn) (plain.held run s e.turn) (plain.state run s e.turn ∙ ap Some e.behind)
             there.0 (subst (AreOwn t) (plain.same run s (after_all s e.turn.added) e.turn) there.1)))
-        | inr shows ↦ inr (shows_step disk directory chronicle run session new old part step is now stays.goes plays shows)
+        | inr shows ↦ inr (shows_step run session new old part step is now stays.goes plays shows)
       ]
 
-  pub line_ends : (tell : StepsTell) (owns : StepsOwn) (session new : Session D R C) (old part : Part D R C) (step : Step) (result : Result StepAnswer Stop) → IsPlain step → session.part ≡ Some old → new.part ≡ Some part
-      → names_in new ≡ names_in session → new.now ≡ session.now → ((n : ℕ) → slots_in new n ≡ slots_in session n) → LeavesBut None None (state_in chronicle old.stripe) (state_in chronicle part.stripe)
-      → Between disk directory chronicle old.stripe part.stripe → IsSession disk directory chronicle session
-      → IfOk result (λ said. (run : Run) → run.now ≡ session.now → Plainly run step (past_of disk directory old) (past_of disk directory part) (state_in chronicle old.stripe) (state_in chronicle part.stripe) said)
-      → IfOk result (λ said. (run : Run) → Plays disk directory chronicle run session → StepEnds disk directory chronicle run step new said)
+  pub line_ends : (tell : StepsTell) (owns : StepsOwn) (session new : Session D R C d r c) (old part : Part D R C d r c) (step : Step) (result : Result StepAnswer Stop) → IsPlain step → session.part ≡ Some old → new.part ≡ Some part
+      → names_in new ≡ names_in session → new.now ≡ session.now → ((n : ℕ) → slots_in new n ≡ slots_in session n) → LeavesBut None None (state_in old.stripe) (state_in part.stripe)
+      → Between old.stripe part.stripe → IsSession session
+      → IfOk result (λ said. (run : Run) → run.now ≡ session.now → Plainly run step (past_of old) (past_of part) (state_in old.stripe) (state_in part.stripe) said)
+      → IfOk result (λ said. (run : Run) → Plays run session → StepEnds run step new said)
   line_ends tell owns session new old part step (Ok said) plain is now names kept slots leaves stays h ends = plain_ends tell owns session new old part step said plain is now names kept slots leaves stays h ends
   line_ends tell owns session new old part step (Err why) plain is now names kept slots leaves stays h ends = tt

@@ -126,43 +126,49 @@ changed_from before mid after n x same set = λ m. set m ∙ ap (λ (o : Option 
 
 -- ---- the line
 
-module _ {D R C : Type 0} (disk : DiskGhosts D) (directory : DirectoryGhosts R) (chronicle : ChronicleGhosts C) where
-  pub open_goes : (old new : Part D R C) (slots later : ℕ → Option Holding) (n : ℕ) (who : Actor) (key : Key) (request : List Field) (given : Opened)
-      → IsActive disk directory chronicle old slots → Changed slots later n (as_held (reader_opened given))
-      → kept_in chronicle new.stripe ≡ with_records (kept_in chronicle old.stripe) (open_adds (state_in chronicle old.stripe) who key request (answer_in given))
-      → Tells (state_in chronicle old.stripe).next_reader given
-      → Goes (state_in chronicle old.stripe).next_reader (state_in chronicle old.stripe) (state_in chronicle new.stripe) slots later n (reader_opened given)
+-- an actor that has something
+some_held : (run : Run) (s : State) (n : ℕ) (o : Option Holding) → is_some o ≡ true → IsHeldAs run s n o → (h : running.Holding) × (run.held n ≡ Some h)
+some_held run s n None some own = let no : false ≡ true = some in cc
+some_held run s n (Some (holding.Writer w)) some own = (running.Writes w.put, own.0)
+some_held run s n (Some (holding.Reader r)) some own = (Reads r.reader, own.0)
+
+module _ {D R C : Type 0} {d : DiskGhosts D} {r : DirectoryGhosts R} {c : ChronicleGhosts C} where
+  pub open_goes : (old new : Part D R C d r c) (slots later : ℕ → Option Holding) (n : ℕ) (who : Actor) (key : Key) (request : List Field) (given : Opened)
+      → IsActive old slots → Changed slots later n (as_held (reader_opened given))
+      → kept_in new.stripe ≡ with_records (kept_in old.stripe) (open_adds (state_in old.stripe) who key request (answer_in given))
+      → Tells (state_in old.stripe).next_reader given
+      → Goes (state_in old.stripe).next_reader (state_in old.stripe) (state_in new.stripe) slots later n (reader_opened given)
   open_goes old new slots later n who key request given active changed adds tells =
-      let s : State = state_in chronicle old.stripe in
+      let s : State = state_in old.stripe in
       record {
-        leaves = kept_leaves (Some s.next_reader) (kept_in chronicle old.stripe) (kept_in chronicle new.stripe) (open_adds s who key request (answer_in given)) adds (open_leaves s who key request (answer_in given));
+        leaves = kept_leaves (Some s.next_reader) (kept_in old.stripe) (kept_in new.stripe) (open_adds s who key request (answer_in given)) adds (open_leaves s who key request (answer_in given));
         changed = changed;
         others = others_next s slots n active.part.stripe.actors.readers_fall active.held;
         number = has_number s.next_reader given tells;
       }
 
-  pub open_line_ends : (tell : GroupsTell) (own : StepsOwn) (old new : Part D R C) (before after : Seen Holding) (name : List ℕ) (n : ℕ) (who : Actor) (key : Key) (request : List Field) (given : Opened)
+  pub open_line_ends : (tell : GroupsTell) (own : StepsOwn) (old new : Part D R C d r c) (before after : Seen Holding) (name : List ℕ) (n : ℕ) (who : Actor) (key : Key) (request : List Field) (given : Opened)
       → n ≡ number_of before.names name → who.0 ≡ n → after.names ≡ with_actor before.names name → slots_of before n ≡ None
       → Changed (slots_of before) (slots_of after) n (as_held (reader_opened given))
-      → kept_in chronicle new.stripe ≡ with_records (kept_in chronicle old.stripe) (open_adds (state_in chronicle old.stripe) who key request (answer_in given))
-      → Tells (state_in chronicle old.stripe).next_reader given
-      → Opens (state_in chronicle old.stripe) (state_in chronicle new.stripe) (seen_in disk directory old.stripe).device (seen_in disk directory new.stripe).device who key request given
-      → IsActive disk directory chronicle old (slots_of before) → IsQuiet (state_in chronicle new.stripe)
-      → Between disk directory chronicle old.stripe new.stripe → (run : Run) → PlaysPart chronicle run old before → PartEnds disk directory chronicle run old (step.OpenRead name key request) new after (opened_answer given)
+      → kept_in new.stripe ≡ with_records (kept_in old.stripe) (open_adds (state_in old.stripe) who key request (answer_in given))
+      → Tells (state_in old.stripe).next_reader given
+      → Opens (state_in old.stripe) (state_in new.stripe) (seen_in old.stripe).device (seen_in new.stripe).device who key request given
+      → IsActive old (slots_of before) → IsQuiet (state_in new.stripe)
+      → Between old.stripe new.stripe → (run : Run) → PlaysPart run old before → PartEnds run old (step.OpenRead name key request) new after (opened_answer given)
   open_line_ends tell own old new before after name n who key request given number who_is names free changed adds tells opens active quiet stays run plays =
-      let s : State = state_in chronicle old.stripe in
-      let t : State = state_in chronicle new.stripe in
+      let s : State = state_in old.stripe in
+      let t : State = state_in new.stripe in
       let recs : List Rec = open_adds s who key request (answer_in given) in
       let fall : FallBelow s.next_reader (reader_numbers s.readers) = active.part.stripe.actors.readers_fall in
-      let behind : t ≡ after_all s recs = state_behind (kept_in chronicle old.stripe) (kept_in chronicle new.stripe) recs adds in
-      let p : Permit = own_permit run.now (past_of disk directory old) (past_of disk directory new) in
-      let covers = own_covers run.now (past_of disk directory old) (past_of disk directory new) in
-      let nobody : held_by run name ≡ None = holds_none disk directory chronicle run old before name n number free plays in
+      let behind : t ≡ after_all s recs = state_behind (kept_in old.stripe) (kept_in new.stripe) recs adds in
+      let p : Permit = own_permit run.now (past_of old) (past_of new) in
+      let covers = own_covers run.now (past_of old) (past_of new) in
+      let nobody : held_by run name ≡ None = holds_none run old before name n number free plays in
       let whose : who.0 ≡ number_of run.actors name = who_is ∙ (number ∙ ap (λ all. number_of all name) (sym plays.names)) in
       let asked_is : asks.asked run s (step.OpenRead name key request) ≡ Look who.0 key request ∷ [] =
       ap (λ (o : Option running.Holding). asks.if_free o (Look (number_of run.actors name) key request ∷ [])) nobody ∙ ap (λ m. Look m key request ∷ []) (sym whose) in
       elim (opens.does p covers plays.at.told.vectors) [
-        | inl right ↦ line_ends disk directory chronicle tell own run old new before after (step.OpenRead name key request) name n (Look who.0 key request) p recs [] s.next_reader (reader_opened given) (opened_answer given)
+        | inl right ↦ line_ends tell own run old new before after (step.OpenRead name key request) name n (Look who.0 key request) p recs [] s.next_reader (reader_opened given) (opened_answer given)
             (record {
               actor = refl;
               number = number;
@@ -175,7 +181,7 @@ module _ {D R C : Type 0} (disk : DiskGhosts D) (directory : DirectoryGhosts R) 
               content = refl;
               moment = refl;
               calls = refl;
-              effects = accounted_is (past_of disk directory old) (past_of disk directory new) (kept_in chronicle old.stripe) (kept_in chronicle new.stripe) recs stays.accounted adds;
+              effects = accounted_is (past_of old) (past_of new) (kept_in old.stripe) (kept_in new.stripe) recs stays.accounted adds;
               asks = asked_is;
               does = right.0;
               gives = refl;
@@ -185,7 +191,7 @@ module _ {D R C : Type 0} (disk : DiskGhosts D) (directory : DirectoryGhosts R) 
             (ap (λ (o : Option running.Holding). says.if_free o (says.lookup_said (after_all s recs) s.next_reader (lookup_in recs))) nobody
             ∙ (ap (says.lookup_said (after_all s recs) s.next_reader) (opened_finds s who key request (answer_in given))
             ∙ opened_says (after_all s recs) s.next_reader given tells (if_behind t (after_all s recs) given behind right.1)))
-        | inr other ↦ inr (shows_in run (past_of disk directory old) (past_of disk directory new) s (step.OpenRead name key request) (record {
+        | inr other ↦ inr (shows_in run (past_of old) (past_of new) s (step.OpenRead name key request) (record {
           device = p;
           plain = refl;
           unsynced = refl;
@@ -197,47 +203,41 @@ module _ {D R C : Type 0} (disk : DiskGhosts D) (directory : DirectoryGhosts R) 
         }))
       ]
 
-  pub open_answers : (tell : GroupsTell) (own : StepsOwn) (old new : Part D R C) (before after : Seen Holding) (name : List ℕ) (n : ℕ) (who : Actor) (key : Key) (request : List Field) (given : Opened) (said : StepAnswer)
+  pub open_answers : (tell : GroupsTell) (own : StepsOwn) (old new : Part D R C d r c) (before after : Seen Holding) (name : List ℕ) (n : ℕ) (who : Actor) (key : Key) (request : List Field) (given : Opened) (said : StepAnswer)
       → said ≡ opened_answer given
       → n ≡ number_of before.names name → who.0 ≡ n → after.names ≡ with_actor before.names name → slots_of before n ≡ None
       → Changed (slots_of before) (slots_of after) n (as_held (reader_opened given))
-      → kept_in chronicle new.stripe ≡ with_records (kept_in chronicle old.stripe) (open_adds (state_in chronicle old.stripe) who key request (answer_in given))
-      → Tells (state_in chronicle old.stripe).next_reader given
-      → Opens (state_in chronicle old.stripe) (state_in chronicle new.stripe) (seen_in disk directory old.stripe).device (seen_in disk directory new.stripe).device who key request given
-      → IsActive disk directory chronicle old (slots_of before) → IsQuiet (state_in chronicle new.stripe)
-      → Between disk directory chronicle old.stripe new.stripe → (run : Run) → PlaysPart chronicle run old before → PartEnds disk directory chronicle run old (step.OpenRead name key request) new after said
+      → kept_in new.stripe ≡ with_records (kept_in old.stripe) (open_adds (state_in old.stripe) who key request (answer_in given))
+      → Tells (state_in old.stripe).next_reader given
+      → Opens (state_in old.stripe) (state_in new.stripe) (seen_in old.stripe).device (seen_in new.stripe).device who key request given
+      → IsActive old (slots_of before) → IsQuiet (state_in new.stripe)
+      → Between old.stripe new.stripe → (run : Run) → PlaysPart run old before → PartEnds run old (step.OpenRead name key request) new after said
   open_answers tell own old new before after name n who key request given said is number who_is names free changed adds tells opens active quiet stays run plays =
-      subst (PartEnds disk directory chronicle run old (step.OpenRead name key request) new after) (sym is)
+      subst (PartEnds run old (step.OpenRead name key request) new after) (sym is)
       (open_line_ends tell own old new before after name n who key request given number who_is names free changed adds tells opens active quiet stays run plays)
 
-  pub open_active : (old new : Part D R C) (slots later : ℕ → Option Holding) (n : ℕ) (who : Actor) (key : Key) (request : List Field) (given : Opened)
-      → IsActive disk directory chronicle old slots → Changed slots later n (as_held (reader_opened given))
-      → kept_in chronicle new.stripe ≡ with_records (kept_in chronicle old.stripe) (open_adds (state_in chronicle old.stripe) who key request (answer_in given))
-      → Tells (state_in chronicle old.stripe).next_reader given → new.page ≡ old.page
-      → IsStripe disk directory chronicle new.stripe → IsQuiet (state_in chronicle new.stripe) → IfReader (IsOpenReader (state_in chronicle new.stripe)) given
-      → IsActive disk directory chronicle new later
+  pub open_active : (old new : Part D R C d r c) (slots later : ℕ → Option Holding) (n : ℕ) (who : Actor) (key : Key) (request : List Field) (given : Opened)
+      → IsActive old slots → Changed slots later n (as_held (reader_opened given))
+      → kept_in new.stripe ≡ with_records (kept_in old.stripe) (open_adds (state_in old.stripe) who key request (answer_in given))
+      → Tells (state_in old.stripe).next_reader given → new.page ≡ old.page
+      → IsStripe new.stripe → IsQuiet (state_in new.stripe) → IfReader (IsOpenReader (state_in new.stripe)) given
+      → IsActive new later
   open_active old new slots later n who key request given active changed adds tells page stripe quiet mine =
       let goes = open_goes old new slots later n who key request given active changed adds tells in
-      goes_active disk directory chronicle old new slots later n (state_in chronicle old.stripe).next_reader (reader_opened given) active
-      (part_behind disk directory chronicle old new active.part stripe quiet (ap (λ p. length p.items) page) None (Some (state_in chronicle old.stripe).next_reader) goes.leaves) goes
-      (if_opened (IsOpenReader (state_in chronicle new.stripe)) given mine)
+      goes_active old new slots later n (state_in old.stripe).next_reader (reader_opened given) active
+      (part_behind old new active.part stripe quiet (ap (λ p. length p.items) page) None (Some (state_in old.stripe).next_reader) goes.leaves) goes
+      (if_opened (IsOpenReader (state_in new.stripe)) given mine)
 
-  -- an actor that has something
-  some_held : (run : Run) (s : State) (n : ℕ) (o : Option Holding) → is_some o ≡ true → IsHeldAs run s n o → (h : running.Holding) × (run.held n ≡ Some h)
-  some_held run s n None some own = let no : false ≡ true = some in cc
-  some_held run s n (Some (holding.Writer w)) some own = (running.Writes w.put, own.0)
-  some_held run s n (Some (holding.Reader r)) some own = (Reads r.reader, own.0)
-
-  pub open_busy : (part : Part D R C) (before after : Seen Holding) (name : List ℕ) (key : Key) (request : List Field) (n : ℕ) (said : StepAnswer) → said ≡ says.busy
+  pub open_busy : (part : Part D R C d r c) (before after : Seen Holding) (name : List ℕ) (key : Key) (request : List Field) (n : ℕ) (said : StepAnswer) → said ≡ says.busy
       → n ≡ number_of before.names name → after.names ≡ with_actor before.names name → ((m : ℕ) → slots_of after m ≡ slots_of before m) → is_some (slots_of before n) ≡ true
-      → IsActive disk directory chronicle part (slots_of before)
-      → (run : Run) → PlaysPart chronicle run part before
-      → PartMoves disk directory chronicle run part (step.OpenRead name key request) part after said
+      → IsActive part (slots_of before)
+      → (run : Run) → PlaysPart run part before
+      → PartMoves run part (step.OpenRead name key request) part after said
   open_busy part before after name key request n said is number names same some active run plays =
-      let s : State = state_in chronicle part.stripe in
+      let s : State = state_in part.stripe in
       let has = some_held run s n (slots_of before n) some (plays.at.held n) in
       let by : held_by run name ≡ Some has.0 = ap run.held (ap (λ all. number_of all name) plays.names ∙ sym number) ∙ has.1 in
-      still_moves disk directory chronicle run part before after (step.OpenRead name key request) name n said refl number names same
+      still_moves run part before after (step.OpenRead name key request) name n said refl number names same
       (ap (λ (o : Option running.Holding). asks.if_free o (Look (number_of run.actors name) key request ∷ [])) by) refl refl
       (ap (λ (o : Option running.Holding). or_else o (reader_at s s.next_reader)) by ∙ sym by)
       (ap (λ (o : Option running.Holding). says.if_free o (says.lookup_said s s.next_reader None)) by ∙ sym is)

@@ -108,64 +108,64 @@ other_stream streams put q body other = by (q == put) refl
     by true e = absurd (other (ap Some (sym (eqb-true q put e))))
     by false e = refl
 
-module _ {D R C : Type 0} (disk : DiskGhosts D) (directory : DirectoryGhosts R) (chronicle : ChronicleGhosts C) where
+module _ {D R C : Type 0} {d : DiskGhosts D} {r : DirectoryGhosts R} {c : ChronicleGhosts C} where
   -- no actor writes the next put
-  none_writes : (part : Part D R C) (slots : ℕ → Option Holding) → IsActive disk directory chronicle part slots → AllElse slots (Some (state_in chronicle part.stripe).next_put) None
+  none_writes : (part : Part D R C d r c) (slots : ℕ → Option Holding) → IsActive part slots → AllElse slots (Some (state_in part.stripe).next_put) None
   none_writes part slots a = λ m h is.
-      let s : State = state_in chronicle part.stripe in
+      let s : State = state_in part.stripe in
       free_of s h (next_is_free s a.part.stripe.actors.puts_fall) (subst (λ o. Rattle.std.specs.Prelude.IfSome o (IsHeld s)) is (a.held m))
 
-  pub put_session : (session : Session D R C) (old new : Part D R C) → session.part ≡ Some old → LeavesBut (Some (state_in chronicle old.stripe).next_put) None (state_in chronicle old.stripe) (state_in chronicle new.stripe)
-      → IsSession disk directory chronicle session → IsPart disk directory chronicle new → IsActive disk directory chronicle new (slots_in session)
+  pub put_session : (session : Session D R C d r c) (old new : Part D R C d r c) → session.part ≡ Some old → LeavesBut (Some (state_in old.stripe).next_put) None (state_in old.stripe) (state_in new.stripe)
+      → IsSession session → IsPart new → IsActive new (slots_in session)
   put_session session old new is leaves h part =
-      let s : State = state_in chronicle old.stripe in
-      let a = active disk directory chronicle session old is h in
-      record { part = part; held = still_held (Some s.next_put) None s (state_in chronicle new.stripe) (slots_in session) leaves (none_writes old (slots_in session) a) a.held; apart = a.apart }
+      let s : State = state_in old.stripe in
+      let a = active session old is h in
+      record { part = part; held = still_held (Some s.next_put) None s (state_in new.stripe) (slots_in session) leaves (none_writes old (slots_in session) a) a.held; apart = a.apart }
 
-  put_plays : (run : Run) (session : Session D R C) (old part : Part D R C) (key : Key) (body : List ℕ) (request response : List Field) (said : StepAnswer) → session.part ≡ Some old
-      → LeavesBut (Some (state_in chronicle old.stripe).next_put) None (state_in chronicle old.stripe) (state_in chronicle part.stripe) → IsSession disk directory chronicle session → Plays disk directory chronicle run session
-      → (x : Plainly run (step.Put key body request response) (past_of disk directory old) (past_of disk directory part) (state_in chronicle old.stripe) (state_in chronicle part.stripe) said)
-      → StandsBehind run (state_in chronicle old.stripe) (state_in chronicle part.stripe) x.turn (step.Put key body request response)
-      → PlaysIn (in_session run (state_in chronicle old.stripe) (after_all (state_in chronicle old.stripe) x.turn.added) x.turn (step.Put key body request response)) (state_in chronicle part.stripe) (slots_in session)
+  put_plays : (run : Run) (session : Session D R C d r c) (old part : Part D R C d r c) (key : Key) (body : List ℕ) (request response : List Field) (said : StepAnswer) → session.part ≡ Some old
+      → LeavesBut (Some (state_in old.stripe).next_put) None (state_in old.stripe) (state_in part.stripe) → IsSession session → Plays run session
+      → (x : Plainly run (step.Put key body request response) (past_of old) (past_of part) (state_in old.stripe) (state_in part.stripe) said)
+      → StandsBehind run (state_in old.stripe) (state_in part.stripe) x.turn (step.Put key body request response)
+      → PlaysIn (in_session run (state_in old.stripe) (after_all (state_in old.stripe) x.turn.added) x.turn (step.Put key body request response)) (state_in part.stripe) (slots_in session)
   put_plays run session old part key body request response said is leaves h plays x there =
-      let s : State = state_in chronicle old.stripe in
-      let t : State = state_in chronicle part.stripe in
+      let s : State = state_in old.stripe in
+      let t : State = state_in part.stripe in
       let later : Run = in_session run s (after_all s x.turn.added) x.turn (step.Put key body request response) in
-      still_plays (Some s.next_put) None run later s t (slots_in session) leaves (none_writes old (slots_in session) (active disk directory chronicle session old is h))
-      (λ q other. other_stream run.streams s.next_put q body other) (λ m. refl) (ap Some x.behind) there.0 there.1 (playing disk directory chronicle run session old is plays)
+      still_plays (Some s.next_put) None run later s t (slots_in session) leaves (none_writes old (slots_in session) (active session old is h))
+      (λ q other. other_stream run.streams s.next_put q body other) (λ m. refl) (ap Some x.behind) there.0 there.1 (playing run session old is plays)
 
-  put_moves : (tell : StepsTell) (owns : StepsOwn) (session new : Session D R C) (old part : Part D R C) (key : Key) (body : List ℕ) (request response : List Field) (said : StepAnswer) → session.part ≡ Some old → new.part ≡ Some part
-      → names_in new ≡ names_in session → new.now ≡ session.now → slots_in new ≡ slots_in session → LeavesBut (Some (state_in chronicle old.stripe).next_put) None (state_in chronicle old.stripe) (state_in chronicle part.stripe)
-      → Between disk directory chronicle old.stripe part.stripe → IsSession disk directory chronicle session
-      → ((run : Run) → run.now ≡ session.now → AreTold (state_in chronicle old.stripe) → Ends run (past_of disk directory old) (past_of disk directory part) (state_in chronicle old.stripe) (state_in chronicle part.stripe) key body request response said)
-      → (run : Run) → Plays disk directory chronicle run session → StepEnds disk directory chronicle run (step.Put key body request response) new said
+  put_moves : (tell : StepsTell) (owns : StepsOwn) (session new : Session D R C d r c) (old part : Part D R C d r c) (key : Key) (body : List ℕ) (request response : List Field) (said : StepAnswer) → session.part ≡ Some old → new.part ≡ Some part
+      → names_in new ≡ names_in session → new.now ≡ session.now → slots_in new ≡ slots_in session → LeavesBut (Some (state_in old.stripe).next_put) None (state_in old.stripe) (state_in part.stripe)
+      → Between old.stripe part.stripe → IsSession session
+      → ((run : Run) → run.now ≡ session.now → AreTold (state_in old.stripe) → Ends run (past_of old) (past_of part) (state_in old.stripe) (state_in part.stripe) key body request response said)
+      → (run : Run) → Plays run session → StepEnds run (step.Put key body request response) new said
   put_moves tell owns session new old part key body request response said is now names kept slots leaves stays h ends run plays =
-      let s : State = state_in chronicle old.stripe in
-      let t : State = state_in chronicle part.stripe in
+      let s : State = state_in old.stripe in
+      let t : State = state_in part.stripe in
       let line = step.Put key body request response in
-      let a = active disk directory chronicle session old is h in
-      let p = playing disk directory chronicle run session old is plays in
+      let a = active session old is h in
+      let p = playing run session old is plays in
       elim (ends run plays.now p.told) [
-        | inl x ↦ elim (stands_behind tell owns run (past_of disk directory old) (past_of disk directory part) s t x.turn line (slots_in session) x.calls x.takes x.behind a.part.stripe.pieces.sound a.part.quiet a.held p) [
+        | inl x ↦ elim (stands_behind tell owns run (past_of old) (past_of part) s t x.turn line (slots_in session) x.calls x.takes x.behind a.part.stripe.pieces.sound a.part.quiet a.held p) [
           | inl there ↦
               let later : Run = in_session run s (after_all s x.turn.added) x.turn line in
-              inl (moves disk directory chronicle run s x.turn line new said p.state x.takes (ap (λ u. session_said run s u x.turn line) x.behind ∙ x.says) (record {
+              inl (moves run s x.turn line new said p.state x.takes (ap (λ u. session_said run s u x.turn line) x.behind ∙ x.says) (record {
                 names = plays.names ∙ sym names;
                 now = plays.now ∙ sym kept;
-                at = subst (λ o. PlaysAt disk directory chronicle later o (slots_in new)) (sym now)
+                at = subst (λ o. PlaysAt later o (slots_in new)) (sym now)
                     (subst (PlaysIn later t) (sym slots) (put_plays run session old part key body request response said is leaves h plays x there));
-                unharmed = session_unharmed disk directory chronicle session new old part is now stays plays.unharmed;
-                calls = session_calls disk directory chronicle run later session new old part x.turn.device.events is now stays.goes x.calls refl plays.calls;
+                unharmed = session_unharmed session new old part is now stays plays.unharmed;
+                calls = session_calls run later session new old part x.turn.device.events is now stays.goes x.calls refl plays.calls;
               }))
-          | inr shows ↦ inr (shows_step disk directory chronicle run session new old part line is now stays.goes plays shows)
+          | inr shows ↦ inr (shows_step run session new old part line is now stays.goes plays shows)
         ]
-        | inr shows ↦ inr (shows_step disk directory chronicle run session new old part line is now stays.goes plays shows)
+        | inr shows ↦ inr (shows_step run session new old part line is now stays.goes plays shows)
       ]
 
-  pub put_ends : (tell : StepsTell) (owns : StepsOwn) (session new : Session D R C) (old part : Part D R C) (key : Key) (body : List ℕ) (request response : List Field) (result : Result StepAnswer Stop) → session.part ≡ Some old → new.part ≡ Some part
-      → names_in new ≡ names_in session → new.now ≡ session.now → slots_in new ≡ slots_in session → LeavesBut (Some (state_in chronicle old.stripe).next_put) None (state_in chronicle old.stripe) (state_in chronicle part.stripe)
-      → Between disk directory chronicle old.stripe part.stripe → IsSession disk directory chronicle session
-      → IfOk result (λ said. (run : Run) → run.now ≡ session.now → AreTold (state_in chronicle old.stripe) → Ends run (past_of disk directory old) (past_of disk directory part) (state_in chronicle old.stripe) (state_in chronicle part.stripe) key body request response said)
-      → IfOk result (λ said. (run : Run) → Plays disk directory chronicle run session → StepEnds disk directory chronicle run (step.Put key body request response) new said)
+  pub put_ends : (tell : StepsTell) (owns : StepsOwn) (session new : Session D R C d r c) (old part : Part D R C d r c) (key : Key) (body : List ℕ) (request response : List Field) (result : Result StepAnswer Stop) → session.part ≡ Some old → new.part ≡ Some part
+      → names_in new ≡ names_in session → new.now ≡ session.now → slots_in new ≡ slots_in session → LeavesBut (Some (state_in old.stripe).next_put) None (state_in old.stripe) (state_in part.stripe)
+      → Between old.stripe part.stripe → IsSession session
+      → IfOk result (λ said. (run : Run) → run.now ≡ session.now → AreTold (state_in old.stripe) → Ends run (past_of old) (past_of part) (state_in old.stripe) (state_in part.stripe) key body request response said)
+      → IfOk result (λ said. (run : Run) → Plays run session → StepEnds run (step.Put key body request response) new said)
   put_ends tell owns session new old part key body request response (Ok said) is now names kept slots leaves stays h ends = put_moves tell owns session new old part key body request response said is now names kept slots leaves stays h ends
   put_ends tell owns session new old part key body request response (Err why) is now names kept slots leaves stays h ends = tt

@@ -7,7 +7,7 @@ use Rattle.cache_model.specs.declared.record.Rec.{Rec}
 use Rattle.cache_model.specs.State.{State}
 use Rattle.cache_model.specs.Kept.{Kept, state_of, with_records}
 use Rattle.cache_model.specs.Permit.{Done, Exhausted, Faulted, GiveUp, Lost, ManyFragments, ManyWriters, NoSync, Permit, Reason, StillMoving, StillOpen, SyncRuns, TooLarge, Work}
-use Rattle.cache_model.specs.Legal.{Does, MayGrow, is_writing}
+use Rattle.cache_model.specs.Legal.{Does, IsQuiet, MayGrow, is_writing}
 use Rattle.cache_model.proofs.Steps.{grows_by, grows_on}
 use Rattle.stripe_core.specs.declared.refusal.Refusal.{Refusal}
 use Rattle.stripe_core.specs.declared.refusal.Refusal.TheVariants as refusal
@@ -15,6 +15,7 @@ use Rattle.stripe_core.proofs.Covering.{covers_first}
 use Rattle.stripe_write.specs.declared.finishing.Receipt.{Receipt}
 use Rattle.stripe_write.specs.declared.writer.Writer.{Writer}
 use Rattle.stripe_write.specs.Writes.{AbortsAsAsked, AbortsWhere, abort_adds}
+use Rattle.stripe_write.proofs.Ended.{over}
 use Rattle.stripe_write.proofs.Spending.{nothing_more, state_behind, then_more}
 use Rattle.script_run.specs.Answers.{put_said, said}
 use Rattle.cache_replay.specs.Putting.{BodyEnds, BodyEndsAsAsked, BodyEndsWhere, Fills, FillsAsAsked, FillsWhere, IsOver, left_behind, receipt_answer, unless_memory}
@@ -92,27 +93,49 @@ module _ (moment : ℕ) (before mid after : List Call) (old now new : Kept) (w :
       → said (state_of new) None why (put_said (state_of new) w.put) ≡ receipt_answer result
   same_says same why result says = subst (λ (k : Kept). said (state_of k) None why (put_said (state_of k) w.put) ≡ receipt_answer result) (sym same) says
 
-  body_ends : (end : Result ℕ Refusal) (result : Result Receipt Refusal) → FillsWhere moment before mid old now w body result → new ≡ with_records now (abort_adds key end)
-      → AbortsWhere (state_of now) w.put end → AbortsAsAsked (state_of now) w.put key end → BodyEndsWhere moment before after old new w.put body (unless_memory end result)
-  body_ends (Ok number) result fills adds where_ does =
-      ends_where result fills (λ p here. ends_with p old now new w body result (abort_adds key (Ok number)) adds (does p) here
-      (says_still (state_of now) (state_of new) w.put here.why result where_.1 here.over here.says))
-  body_ends (Err refusal.NoSuchWriter) result fills adds where_ does =
-      ends_where result fills (λ p here. ends_with p old now new w body result [] adds (does p) here (same_says (adds ∙ nothing_more now) here.why result here.says))
-  body_ends (Err (refusal.Memory e)) result fills adds where_ does = tt
-  body_ends (Err (refusal.VectorTooLarge bytes)) result fills adds where_ does = absurd where_
-  body_ends (Err (refusal.Lost index why)) result fills adds where_ does = absurd where_
-  body_ends (Err (refusal.DeviceFault count)) result fills adds where_ does = absurd where_
-  body_ends (Err (refusal.Exhausted number)) result fills adds where_ does = absurd where_
-  body_ends (Err refusal.TooManyWriters) result fills adds where_ does = absurd where_
-  body_ends (Err refusal.TooManyFragments) result fills adds where_ does = absurd where_
-  body_ends (Err refusal.Sealed) result fills adds where_ does = absurd where_
+  body_ends : (end : Result ℕ Refusal) (why : Refusal) → FillsWhere moment before mid old now w body (Err why) → new ≡ with_records now (abort_adds key end)
+      → AbortsWhere (state_of now) w.put end → AbortsAsAsked (state_of now) w.put key end → BodyEndsWhere moment before after old new w.put body (Err (unless_memory end why))
+  body_ends (Ok number) why fills adds where_ does =
+      ends_where (Err why) fills (λ p here. ends_with p old now new w body (Err why) (abort_adds key (Ok number)) adds (does p) here
+      (says_still (state_of now) (state_of new) w.put here.why (Err why) where_.1 here.over here.says))
+  body_ends (Err refusal.NoSuchWriter) why fills adds where_ does =
+      ends_where (Err why) fills (λ p here. ends_with p old now new w body (Err why) [] adds (does p) here (same_says (adds ∙ nothing_more now) here.why (Err why) here.says))
+  body_ends (Err (refusal.Memory e)) why fills adds where_ does = tt
+  body_ends (Err (refusal.VectorTooLarge bytes)) why fills adds where_ does = absurd where_
+  body_ends (Err (refusal.Lost index cause)) why fills adds where_ does = absurd where_
+  body_ends (Err (refusal.DeviceFault count)) why fills adds where_ does = absurd where_
+  body_ends (Err (refusal.Exhausted number)) why fills adds where_ does = absurd where_
+  body_ends (Err refusal.TooManyWriters) why fills adds where_ does = absurd where_
+  body_ends (Err refusal.TooManyFragments) why fills adds where_ does = absurd where_
+  body_ends (Err refusal.Sealed) why fills adds where_ does = absurd where_
 
 -- the same, where the writer that is given up is the one that was fed
-pub body_ends_at : (moment : ℕ) (before mid after : List Call) (old now new : Kept) (w v : Writer) (body : List ℕ) (end : Result ℕ Refusal) (result answer : Result Receipt Refusal) (made : List Call) → after ≡ made ++ mid
-    → v.put ≡ w.put → FillsWhere moment before mid old now w body result → new ≡ with_records now (abort_adds v.key end)
-    → AbortsWhere (state_of now) v.put end → AbortsAsAsked (state_of now) v.put v.key end → answer ≡ unless_memory end result → BodyEndsWhere moment before after old new w.put body answer
-body_ends_at moment before mid after old now new w v body end result answer made later number fills adds where_ does is =
-    subst (BodyEndsWhere moment before after old new w.put body) (sym is)
-    (body_ends moment before mid after old now new w body v.key made later end result fills adds
+pub body_ends_at : (moment : ℕ) (before mid after : List Call) (old now new : Kept) (w v : Writer) (body : List ℕ) (end : Result ℕ Refusal) (why answer : Refusal) (made : List Call) → after ≡ made ++ mid
+    → v.put ≡ w.put → FillsWhere moment before mid old now w body (Err why) → new ≡ with_records now (abort_adds v.key end)
+    → AbortsWhere (state_of now) v.put end → AbortsAsAsked (state_of now) v.put v.key end → answer ≡ unless_memory end why → BodyEndsWhere moment before after old new w.put body (Err answer)
+body_ends_at moment before mid after old now new w v body end why answer made later number fills adds where_ does is =
+    subst (λ r. BodyEndsWhere moment before after old new w.put body (Err r)) (sym is)
+    (body_ends moment before mid after old now new w body v.key made later end why fills adds
     (subst (λ q. AbortsWhere (state_of now) q end) number where_) (subst (λ q. AbortsAsAsked (state_of now) q v.key end) number does))
+
+-- ---- it is complete, so that there is nothing to give up
+
+-- what is told of a complete put is told of one that is not open
+complete_over : (t : State) (put : ℕ) (why : Option Reason) (receipt : Receipt) → IsOver t put why → said t None why (put_said t put) ≡ receipt_answer (Ok receipt) → is_writing t put ≡ false
+complete_over t put None receipt over_ says = over_
+complete_over t put (Some (Lost q index)) receipt over_ says = over_
+complete_over t put (Some ManyWriters) receipt over_ says = cc
+complete_over t put (Some Exhausted) receipt over_ says = cc
+complete_over t put (Some (ManyFragments q)) receipt over_ says = cc
+complete_over t put (Some (TooLarge q bytes)) receipt over_ says = cc
+complete_over t put (Some (Faulted count)) receipt over_ says = cc
+complete_over t put (Some (SyncRuns serial)) receipt over_ says = cc
+complete_over t put (Some NoSync) receipt over_ says = cc
+complete_over t put (Some (StillOpen writers readers)) receipt over_ says = cc
+complete_over t put (Some (StillMoving blocks)) receipt over_ says = cc
+
+pub complete_ends : (moment : ℕ) (before after : List Call) (old new : Kept) (w : Writer) (body : List ℕ) (receipt : Receipt) → IsQuiet (state_of new) → FillsWhere moment before after old new w body (Ok receipt)
+    → BodyEndsWhere moment before after old new w.put body (Ok receipt)
+complete_ends moment before after old new w body receipt quiet fills =
+    ends_asks moment before after after old new new w body w.key [] refl (Ok receipt) fills (λ p here.
+    ends_with p old new new w body (Ok receipt) [] (sym (nothing_more new)) (over p (state_of new) w.put quiet (complete_over (state_of new) w.put here.why receipt here.over here.says)) here here.says)

@@ -164,37 +164,37 @@ pub names_are : (run : Run) (s t : State) (turn : Turn) (step : Step) (name : Li
     → (in_session run s t turn step).actors ≡ after
 names_are run s t turn step name before after actor is new = ap (actors_behind run.actors) actor ∙ (ap (λ names. with_actor names name) is ∙ sym new)
 
-module _ {D R C : Type 0} (disk : DiskGhosts D) (directory : DirectoryGhosts R) (chronicle : ChronicleGhosts C) where
+module _ {D R C : Type 0} {d : DiskGhosts D} {r : DirectoryGhosts R} {c : ChronicleGhosts C} where
   -- what is known of a line that was asked one thing
-  pub record IsLine (run : Run) (old new : Part D R C) (before after : Seen Holding) (step : Step) (name : List ℕ) (n : ℕ) (i : Intent) (device : Permit) (added : List Rec) (given : List ℕ) : Type 0 where
+  pub record IsLine (run : Run) (old new : Part D R C d r c) (before after : Seen Holding) (step : Step) (name : List ℕ) (n : ℕ) (i : Intent) (device : Permit) (added : List Rec) (given : List ℕ) : Type 0 where
     pub actor : actor_of step ≡ Some name
     pub number : n ≡ number_of before.names name
     pub names : after.names ≡ with_actor before.names name
-    pub streams : streams_behind run (state_in chronicle old.stripe) (after_all (state_in chronicle old.stripe) added) (line_turn device added given) step ≡ run.streams
-    pub behind : state_in chronicle new.stripe ≡ after_all (state_in chronicle old.stripe) added
-    pub quiet : IsQuiet (state_in chronicle new.stripe)
+    pub streams : streams_behind run (state_in old.stripe) (after_all (state_in old.stripe) added) (line_turn device added given) step ≡ run.streams
+    pub behind : state_in new.stripe ≡ after_all (state_in old.stripe) added
+    pub quiet : IsQuiet (state_in new.stripe)
     pub plain : device.packed ≡ false
     pub unsynced : device.syncs ≡ false
     pub content : device.area ≡ 0
     pub moment : device.now ≡ run.now
-    pub calls : device.events ≡ calls_since (past_of disk directory old) (past_of disk directory new)
+    pub calls : device.events ≡ calls_since (past_of old) (past_of new)
     pub effects : effects_told added ≡ effects_in device.events
-    pub asks : asked run (state_in chronicle old.stripe) step ≡ i ∷ []
-    pub does : Does device (state_in chronicle old.stripe) i added Done
-    pub gives : GivesOwn run (state_in chronicle old.stripe) (line_turn device added given) step
+    pub asks : asked run (state_in old.stripe) step ≡ i ∷ []
+    pub does : Does device (state_in old.stripe) i added Done
+    pub gives : GivesOwn run (state_in old.stripe) (line_turn device added given) step
 
-  pub line_ends : (tell : GroupsTell) (own : StepsOwn) (run : Run) (old new : Part D R C) (before after : Seen Holding) (step : Step) (name : List ℕ) (n : ℕ) (i : Intent) (device : Permit) (added : List Rec) (given : List ℕ)
+  pub line_ends : (tell : GroupsTell) (own : StepsOwn) (run : Run) (old new : Part D R C d r c) (before after : Seen Holding) (step : Step) (name : List ℕ) (n : ℕ) (i : Intent) (device : Permit) (added : List Rec) (given : List ℕ)
       (reader : ℕ) (has : Option Reader) (said : StepAnswer)
       → IsLine run old new before after step name n i device added given
-      → holds_behind run (state_in chronicle old.stripe) (after_all (state_in chronicle old.stripe) added) step name ≡ as_run has
-      → IfSome has (IsReaderOf (state_in chronicle new.stripe))
-      → IsActive disk directory chronicle old (slots_of before)
-      → PlaysPart chronicle run old before
-      → Goes reader (state_in chronicle old.stripe) (state_in chronicle new.stripe) (slots_of before) (slots_of after) n has
-      → session_said run (state_in chronicle old.stripe) (after_all (state_in chronicle old.stripe) added) (line_turn device added given) step ≡ said
-      → PartEnds disk directory chronicle run old step new after said
+      → holds_behind run (state_in old.stripe) (after_all (state_in old.stripe) added) step name ≡ as_run has
+      → IfSome has (IsReaderOf (state_in new.stripe))
+      → IsActive old (slots_of before)
+      → PlaysPart run old before
+      → Goes reader (state_in old.stripe) (state_in new.stripe) (slots_of before) (slots_of after) n has
+      → session_said run (state_in old.stripe) (after_all (state_in old.stripe) added) (line_turn device added given) step ≡ said
+      → PartEnds run old step new after said
   line_ends tell own run old new before after step name n i device added given reader has said line holds mine active plays g says =
-      let s : State = state_in chronicle old.stripe in
+      let s : State = state_in old.stripe in
       let sound : IsSound s = active.part.stripe.pieces.sound in
       let turn : Turn = line_turn device added given in
       let legal : IsStep device s (asked run s step) added None =
@@ -202,7 +202,7 @@ module _ {D R C : Type 0} (disk : DiskGhosts D) (directory : DirectoryGhosts R) 
       (subst (λ is. MayGrow device s (to_do is) added (record { intents = []; refused = None })) (sym line.asks) (grows_by device s (to_do (i ∷ [])) (record { intents = []; refused = None }) added (Done, line.does, refl)))
       (subst IsQuiet line.behind line.quiet) line.effects in
       elim (tell device s i added Done sound plays.at.told line.does) [
-        | inr pair ↦ inr (shows_in run (past_of disk directory old) (past_of disk directory new) s step (record {
+        | inr pair ↦ inr (shows_in run (past_of old) (past_of new) s step (record {
           device = device;
           plain = line.plain;
           unsynced = line.unsynced;
@@ -219,7 +219,7 @@ module _ {D R C : Type 0} (disk : DiskGhosts D) (directory : DirectoryGhosts R) 
             calls = line.calls;
             plays = record {
               names = names_are run s (after_all s added) turn step name before.names after.names line.actor plays.names line.names;
-              at = plays_behind run s (state_in chronicle new.stripe) turn step name n reader (slots_of before) (slots_of after) has
+              at = plays_behind run s (state_in new.stripe) turn step name n reader (slots_of before) (slots_of after) has
                   line.actor (line.number ∙ ap (λ names. number_of names name) (sym plays.names)) line.streams holds line.behind told owned mine plays.at g;
             };
             says = says;
@@ -229,8 +229,8 @@ module _ {D R C : Type 0} (disk : DiskGhosts D) (directory : DirectoryGhosts R) 
 
   -- ---- the session behind a line
 
-  pub part_behind : (old new : Part D R C) → IsPart disk directory chronicle old → IsStripe disk directory chronicle new.stripe → IsQuiet (state_in chronicle new.stripe)
-      → length new.page.items ≡ length old.page.items → (put reader : Option ℕ) → LeavesBut put reader (state_in chronicle old.stripe) (state_in chronicle new.stripe) → IsPart disk directory chronicle new
+  pub part_behind : (old new : Part D R C d r c) → IsPart old → IsStripe new.stripe → IsQuiet (state_in new.stripe)
+      → length new.page.items ≡ length old.page.items → (put reader : Option ℕ) → LeavesBut put reader (state_in old.stripe) (state_in new.stripe) → IsPart new
   part_behind old new part stripe quiet page put reader leaves = record {
     stripe = stripe;
     quiet = quiet;
@@ -238,49 +238,49 @@ module _ {D R C : Type 0} (disk : DiskGhosts D) (directory : DirectoryGhosts R) 
     page = page ∙ (part.page ∙ ap (λ g. 512 * budget_of g) (sym leaves.geometry));
   }
 
-  pub goes_active : (old new : Part D R C) (slots later : ℕ → Option Holding) (n reader : ℕ) (has : Option Reader) → IsActive disk directory chronicle old slots → IsPart disk directory chronicle new
-      → Goes reader (state_in chronicle old.stripe) (state_in chronicle new.stripe) slots later n has → IfSome has (IsOpenReader (state_in chronicle new.stripe))
-      → IsActive disk directory chronicle new later
+  pub goes_active : (old new : Part D R C d r c) (slots later : ℕ → Option Holding) (n reader : ℕ) (has : Option Reader) → IsActive old slots → IsPart new
+      → Goes reader (state_in old.stripe) (state_in new.stripe) slots later n has → IfSome has (IsOpenReader (state_in new.stripe))
+      → IsActive new later
   goes_active old new slots later n reader has active part g mine = record {
     part = part;
-    held = goes_held reader (state_in chronicle old.stripe) (state_in chronicle new.stripe) slots later n has g active.held mine;
-    apart = goes_apart reader (state_in chronicle old.stripe) (state_in chronicle new.stripe) slots later n has g active.apart;
+    held = goes_held reader (state_in old.stripe) (state_in new.stripe) slots later n has g active.held mine;
+    apart = goes_apart reader (state_in old.stripe) (state_in new.stripe) slots later n has g active.apart;
   }
 
   -- where no actor has anything else
-  pub same_active : (part : Part D R C) (slots later : ℕ → Option Holding) → ((m : ℕ) → later m ≡ slots m) → IsActive disk directory chronicle part slots → IsActive disk directory chronicle part later
+  pub same_active : (part : Part D R C d r c) (slots later : ℕ → Option Holding) → ((m : ℕ) → later m ≡ slots m) → IsActive part slots → IsActive part later
   same_active part slots later same active = record {
     part = active.part;
-    held = λ m. subst (λ o. IfSome o (IsHeld (state_in chronicle part.stripe))) (sym (same m)) (active.held m);
+    held = λ m. subst (λ o. IfSome o (IsHeld (state_in part.stripe))) (sym (same m)) (active.held m);
     apart = λ m k a b ne ma kb. active.apart m k a b ne (sym (same m) ∙ ma) (sym (same k) ∙ kb);
   }
 
   -- where its records are as they were
-  pub kept_active : (old new : Part D R C) (slots later : ℕ → Option Holding) → IsActive disk directory chronicle old slots → IsStripe disk directory chronicle new.stripe → IsQuiet (state_in chronicle new.stripe)
-      → new.page ≡ old.page → kept_in chronicle new.stripe ≡ kept_in chronicle old.stripe → ((m : ℕ) → later m ≡ slots m) → IsActive disk directory chronicle new later
+  pub kept_active : (old new : Part D R C d r c) (slots later : ℕ → Option Holding) → IsActive old slots → IsStripe new.stripe → IsQuiet (state_in new.stripe)
+      → new.page ≡ old.page → kept_in new.stripe ≡ kept_in old.stripe → ((m : ℕ) → later m ≡ slots m) → IsActive new later
   kept_active old new slots later active stripe quiet page kept same =
-      let there : state_in chronicle new.stripe ≡ state_in chronicle old.stripe = ap state_of kept in
+      let there : state_in new.stripe ≡ state_in old.stripe = ap state_of kept in
       let still = same_active old slots later same active in
       record {
-        part = part_behind old new active.part stripe quiet (ap (λ (p : Vec ℕ). length p.items) page) None None (leaves_all None None (state_in chronicle old.stripe) (state_in chronicle new.stripe) there);
+        part = part_behind old new active.part stripe quiet (ap (λ (p : Vec ℕ). length p.items) page) None None (leaves_all None None (state_in old.stripe) (state_in new.stripe) there);
         held = subst (λ t. AreHeld t later) (sym there) still.held;
         apart = still.apart;
       }
 
   -- ---- a line that does nothing
 
-  pub still_moves : (run : Run) (part : Part D R C) (before after : Seen Holding) (step : Step) (name : List ℕ) (n : ℕ) (said : StepAnswer)
+  pub still_moves : (run : Run) (part : Part D R C d r c) (before after : Seen Holding) (step : Step) (name : List ℕ) (n : ℕ) (said : StepAnswer)
       → actor_of step ≡ Some name → n ≡ number_of before.names name → after.names ≡ with_actor before.names name → ((m : ℕ) → slots_of after m ≡ slots_of before m)
-      → asked run (state_in chronicle part.stripe) step ≡ []
-      → GivesOwn run (state_in chronicle part.stripe) (still_turn run.now) step
-      → streams_behind run (state_in chronicle part.stripe) (state_in chronicle part.stripe) (still_turn run.now) step ≡ run.streams
-      → holds_behind run (state_in chronicle part.stripe) (state_in chronicle part.stripe) step name ≡ held_by run name
-      → session_said run (state_in chronicle part.stripe) (state_in chronicle part.stripe) (still_turn run.now) step ≡ said
-      → IsQuiet (state_in chronicle part.stripe)
-      → PlaysPart chronicle run part before
-      → PartMoves disk directory chronicle run part step part after said
+      → asked run (state_in part.stripe) step ≡ []
+      → GivesOwn run (state_in part.stripe) (still_turn run.now) step
+      → streams_behind run (state_in part.stripe) (state_in part.stripe) (still_turn run.now) step ≡ run.streams
+      → holds_behind run (state_in part.stripe) (state_in part.stripe) step name ≡ held_by run name
+      → session_said run (state_in part.stripe) (state_in part.stripe) (still_turn run.now) step ≡ said
+      → IsQuiet (state_in part.stripe)
+      → PlaysPart run part before
+      → PartMoves run part step part after said
   still_moves run part before after step name n said actor number names same nothing_asked own streams holds says quiet plays =
-      let s : State = state_in chronicle part.stripe in
+      let s : State = state_in part.stripe in
       record {
         turn = still_turn run.now;
         takes = record {
@@ -292,7 +292,7 @@ module _ {D R C : Type 0} (disk : DiskGhosts D) (directory : DirectoryGhosts R) 
               (subst (λ is. MayGrow (still_permit run.now) s (to_do is) [] (record { intents = []; refused = None })) (sym nothing_asked) nothing) quiet refl;
           own = own;
         };
-        calls = none_since (past_of disk directory part);
+        calls = none_since (past_of part);
         plays = record {
           names = names_are run s s (still_turn run.now) step name before.names after.names actor plays.names names;
           at = plays_still run s step name (slots_of before) (slots_of after) actor streams holds same plays.at;
@@ -364,30 +364,30 @@ open_still run s n (Some (holding.Reader r)) own held =
     let found : reader_of s r.reader ≡ Some held.row = held.found in
     rw is (rw found refl)
 
-module _ {D R C : Type 0} (disk : DiskGhosts D) (directory : DirectoryGhosts R) (chronicle : ChronicleGhosts C) where
-  held_there : (run : Run) (actors : Seen Holding) (name : List ℕ) (n : ℕ) → run.actors ≡ actors.names → n ≡ number_of actors.names name → held_by run name ≡ run.held n
-  held_there run actors name n names number = ap run.held (ap (λ all. number_of all name) names ∙ sym number)
+held_there : (run : Run) (actors : Seen Holding) (name : List ℕ) (n : ℕ) → run.actors ≡ actors.names → n ≡ number_of actors.names name → held_by run name ≡ run.held n
+held_there run actors name n names number = ap run.held (ap (λ all. number_of all name) names ∙ sym number)
 
+module _ {D R C : Type 0} {d : DiskGhosts D} {r : DirectoryGhosts R} {c : ChronicleGhosts C} where
   -- the run says of an actor what it has
-  pub held_reader : (run : Run) (part : Part D R C) (actors : Seen Holding) (name : List ℕ) (n : ℕ) (r : Reader) → n ≡ number_of actors.names name → slots_of actors n ≡ Some (holding.Reader r)
-      → PlaysPart chronicle run part actors → (held_by run name ≡ Some (Reads r.reader)) × IsReaderOf (state_in chronicle part.stripe) r
+  pub held_reader : (run : Run) (part : Part D R C d r c) (actors : Seen Holding) (name : List ℕ) (n : ℕ) (r : Reader) → n ≡ number_of actors.names name → slots_of actors n ≡ Some (holding.Reader r)
+      → PlaysPart run part actors → (held_by run name ≡ Some (Reads r.reader)) × IsReaderOf (state_in part.stripe) r
   held_reader run part actors name n r number is plays =
-      let own : IsHeldAs run (state_in chronicle part.stripe) n (Some (holding.Reader r)) = subst (IsHeldAs run (state_in chronicle part.stripe) n) is (plays.at.held n) in
+      let own : IsHeldAs run (state_in part.stripe) n (Some (holding.Reader r)) = subst (IsHeldAs run (state_in part.stripe) n) is (plays.at.held n) in
       (held_there run actors name n plays.names number ∙ own.0, own.1)
 
-  pub reads_none : (run : Run) (part : Part D R C) (actors : Seen Holding) (name : List ℕ) (n : ℕ) → n ≡ number_of actors.names name → None ≡ reader_held (slots_of actors n)
-      → PlaysPart chronicle run part actors → reader_by run name ≡ None
+  pub reads_none : (run : Run) (part : Part D R C d r c) (actors : Seen Holding) (name : List ℕ) (n : ℕ) → n ≡ number_of actors.names name → None ≡ reader_held (slots_of actors n)
+      → PlaysPart run part actors → reader_by run name ≡ None
   reads_none run part actors name n number none plays =
-      ap (option_and_then reader_in) (held_there run actors name n plays.names number) ∙ no_reader run (state_in chronicle part.stripe) n (slots_of actors n) none (plays.at.held n)
+      ap (option_and_then reader_in) (held_there run actors name n plays.names number) ∙ no_reader run (state_in part.stripe) n (slots_of actors n) none (plays.at.held n)
 
-  pub holds_none : (run : Run) (part : Part D R C) (actors : Seen Holding) (name : List ℕ) (n : ℕ) → n ≡ number_of actors.names name → slots_of actors n ≡ None
-      → PlaysPart chronicle run part actors → held_by run name ≡ None
+  pub holds_none : (run : Run) (part : Part D R C d r c) (actors : Seen Holding) (name : List ℕ) (n : ℕ) → n ≡ number_of actors.names name → slots_of actors n ≡ None
+      → PlaysPart run part actors → held_by run name ≡ None
   holds_none run part actors name n number none plays =
-      held_there run actors name n plays.names number ∙ subst (IsHeldAs run (state_in chronicle part.stripe) n) none (plays.at.held n)
+      held_there run actors name n plays.names number ∙ subst (IsHeldAs run (state_in part.stripe) n) none (plays.at.held n)
 
-  pub still_held : (run : Run) (part : Part D R C) (actors : Seen Holding) (name : List ℕ) (n : ℕ) → n ≡ number_of actors.names name → IsActive disk directory chronicle part (slots_of actors)
-      → PlaysPart chronicle run part actors → still_open (state_in chronicle part.stripe) (held_by run name) ≡ held_by run name
+  pub still_held : (run : Run) (part : Part D R C d r c) (actors : Seen Holding) (name : List ℕ) (n : ℕ) → n ≡ number_of actors.names name → IsActive part (slots_of actors)
+      → PlaysPart run part actors → still_open (state_in part.stripe) (held_by run name) ≡ held_by run name
   still_held run part actors name n number active plays =
       let there : held_by run name ≡ run.held n = held_there run actors name n plays.names number in
-      ap (still_open (state_in chronicle part.stripe)) there
-      ∙ (open_still run (state_in chronicle part.stripe) n (slots_of actors n) (plays.at.held n) (active.held n) ∙ sym there)
+      ap (still_open (state_in part.stripe)) there
+      ∙ (open_still run (state_in part.stripe) n (slots_of actors n) (plays.at.held n) (active.held n) ∙ sym there)

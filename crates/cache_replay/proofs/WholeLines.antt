@@ -170,47 +170,47 @@ refilled n xs ws h =
     let dropped : length rest ≡ length xs - length ws = length-drop (length ws) xs in
     omega (arith, taken, both, dropped, h)
 
-module _ {D R C : Type 0} (disk : DiskGhosts D) (directory : DirectoryGhosts R) (chronicle : ChronicleGhosts C) where
-  pub part_active : (old new : Part D R C) (n : ℕ) (slots : ℕ → Option Holding) → IsPart disk directory chronicle new → LeavesBut None (Some n) (state_in chronicle old.stripe) (state_in chronicle new.stripe)
-      → reader_of (state_in chronicle old.stripe) n ≡ None → IsActive disk directory chronicle old slots → IsActive disk directory chronicle new slots
+module _ {D R C : Type 0} {d : DiskGhosts D} {r : DirectoryGhosts R} {c : ChronicleGhosts C} where
+  pub part_active : (old new : Part D R C d r c) (n : ℕ) (slots : ℕ → Option Holding) → IsPart new → LeavesBut None (Some n) (state_in old.stripe) (state_in new.stripe)
+      → reader_of (state_in old.stripe) n ≡ None → IsActive old slots → IsActive new slots
   part_active old new n slots part leaves none active = record {
     part = part;
-    held = λ m. one_held (state_in chronicle old.stripe) (state_in chronicle new.stripe) n (slots m) leaves none (active.held m);
+    held = λ m. one_held (state_in old.stripe) (state_in new.stripe) n (slots m) leaves none (active.held m);
     apart = active.apart;
   }
 
   -- the part behind a call that read to its page
-  pub read_active : (old : Part D R C) (stripe : Stripe D R C) (page : List ℕ) (n : ℕ) (slots : ℕ → Option Holding) → IsPart disk directory chronicle old → IsStripe disk directory chronicle stripe → IsQuiet (state_in chronicle stripe)
-      → LeavesBut None (Some n) (state_in chronicle old.stripe) (state_in chronicle stripe) → reader_of (state_in chronicle old.stripe) n ≡ None
-      → IsActive disk directory chronicle old slots → IsActive disk directory chronicle (record { stripe = stripe; page = with_items old.page page }) slots
+  pub read_active : (old : Part D R C d r c) (stripe : Stripe D R C d r c) (page : List ℕ) (n : ℕ) (slots : ℕ → Option Holding) → IsPart old → IsStripe stripe → IsQuiet (state_in stripe)
+      → LeavesBut None (Some n) (state_in old.stripe) (state_in stripe) → reader_of (state_in old.stripe) n ≡ None
+      → IsActive old slots → IsActive (record { stripe = stripe; page = with_items old.page page }) slots
   read_active old stripe page n slots part whole quiet leaves none active =
-      let new : Part D R C = record { stripe = stripe; page = with_items old.page page } in
-      part_active old new n slots (part_behind disk directory chronicle old new part whole quiet (refilled old.page.len old.page.items page (sym old.page.ok.0)) None (Some n) leaves) leaves none active
+      let new : Part D R C d r c = record { stripe = stripe; page = with_items old.page page } in
+      part_active old new n slots (part_behind old new part whole quiet (refilled old.page.len old.page.items page (sym old.page.ok.0)) None (Some n) leaves) leaves none active
 
-  pub session_ends : (run : Run) (old new : Session D R C) (part part2 : Part D R C) (key : Key) (request : List Field) (said : StepAnswer) → old.part ≡ Some part → new.part ≡ Some part2 → names_in new ≡ names_in old → new.now ≡ old.now
-      → ((m : ℕ) → slots_in new m ≡ slots_in old m) → Plays disk directory chronicle run old → IsActive disk directory chronicle part (slots_in old)
-      → IsAfter (seen_in disk directory part.stripe).device (seen_in disk directory part2.stripe).device
-      → ((run : Run) → AreTold (state_in chronicle part.stripe) → AreOwn (state_in chronicle part.stripe) run.streams
-      → Between disk directory chronicle part.stripe part2.stripe ⊎ ShowsAt (IsPlacedAs run.streams) run.now (past_of disk directory part) (past_of disk directory part2) (state_in chronicle part.stripe) (get_intents (state_in chronicle part.stripe) key request))
-      → ((slots : ℕ → Option Holding) → AreHeld (state_in chronicle part.stripe) slots → PlaysIn run (state_in chronicle part.stripe) slots → LineEnds run (past_of disk directory part) (past_of disk directory part2) (state_in chronicle part.stripe) (state_in chronicle part2.stripe) key request slots said)
-      → StepEnds disk directory chronicle run (step.Get key request) new said
+  pub session_ends : (run : Run) (old new : Session D R C d r c) (part part2 : Part D R C d r c) (key : Key) (request : List Field) (said : StepAnswer) → old.part ≡ Some part → new.part ≡ Some part2 → names_in new ≡ names_in old → new.now ≡ old.now
+      → ((m : ℕ) → slots_in new m ≡ slots_in old m) → Plays run old → IsActive part (slots_in old)
+      → IsAfter (seen_in part.stripe).device (seen_in part2.stripe).device
+      → ((run : Run) → AreTold (state_in part.stripe) → AreOwn (state_in part.stripe) run.streams
+      → Between part.stripe part2.stripe ⊎ ShowsAt (IsPlacedAs run.streams) run.now (past_of part) (past_of part2) (state_in part.stripe) (get_intents (state_in part.stripe) key request))
+      → ((slots : ℕ → Option Holding) → AreHeld (state_in part.stripe) slots → PlaysIn run (state_in part.stripe) slots → LineEnds run (past_of part) (past_of part2) (state_in part.stripe) (state_in part2.stripe) key request slots said)
+      → StepEnds run (step.Get key request) new said
   session_ends run old new part part2 key request said was is names kept slots plays active goes harms ends =
-      let s : State = state_in chronicle part.stripe in
-      let there = part_plays disk directory chronicle run old part was plays in
-      let shows : ShowsAt (IsPlacedAs run.streams) run.now (past_of disk directory part) (past_of disk directory part2) s (get_intents s key request) → StepPair disk directory chronicle run (step.Get key request) new =
-      λ shown. shows_step disk directory chronicle run old new part part2 (step.Get key request) was is goes plays (shows_in run (past_of disk directory part) (past_of disk directory part2) s (step.Get key request) shown) in
+      let s : State = state_in part.stripe in
+      let there = part_plays run old part was plays in
+      let shows : ShowsAt (IsPlacedAs run.streams) run.now (past_of part) (past_of part2) s (get_intents s key request) → StepPair run (step.Get key request) new =
+      λ shown. shows_step run old new part part2 (step.Get key request) was is goes plays (shows_in run (past_of part) (past_of part2) s (step.Get key request) shown) in
       elim (harms run there.at.told there.at.own) [
         | inr shown ↦ inr (shows shown)
         | inl stays ↦ elim (ends (slots_in old) active.held there.at) [
           | inr shown ↦ inr (shows shown)
-          | inl m ↦ inl (line_moved disk directory chronicle run old new part part2 (step.Get key request) said m.turn (on_session (step.Get key request) tt) was is kept plays stays m.takes m.calls
+          | inl m ↦ inl (line_moved run old new part part2 (step.Get key request) said m.turn (on_session (step.Get key request) tt) was is kept plays stays m.takes m.calls
               (record {
                 names = plays.names ∙ sym names;
                 at = record {
                   state = m.plays.state;
                   told = m.plays.told;
                   own = m.plays.own;
-                  held = λ n. subst (IsHeldAs (in_session run s (after_all s m.turn.added) m.turn (step.Get key request)) (state_in chronicle part2.stripe) n) (sym (slots n)) (m.plays.held n);
+                  held = λ n. subst (IsHeldAs (in_session run s (after_all s m.turn.added) m.turn (step.Get key request)) (state_in part2.stripe) n) (sym (slots n)) (m.plays.held n);
                 };
               }) m.says)
         ]

@@ -103,10 +103,10 @@ abbrev pub BodyEndsWhere : (now : ℕ) (before after : List Call) → (old new :
 BodyEndsWhere now before after old new put body (Err (refusal.Memory e)) = Unit {0}
 BodyEndsWhere now before after old new put body result = BodyEndsAsAsked now before after old new put body result
 
--- a result, unless memory was wanting at the end
-abbrev pub unless_memory : Result ℕ Refusal → Result Receipt Refusal → Result Receipt Refusal
-unless_memory (Err (refusal.Memory e)) result = Err (refusal.Memory e)
-unless_memory end result = result
+-- why a body was refused, unless memory was wanting to give its put up
+abbrev pub unless_memory : Result ℕ Refusal → Refusal → Refusal
+unless_memory (Err (refusal.Memory e)) why = refusal.Memory e
+unless_memory end why = why
 
 -- ---- a whole put
 

@@ -43,63 +43,63 @@ AreApart slots = (m n : ℕ) (a b : Holding) → (m ≡ n → ⊥) → slots m �
 
 -- ---- a session
 
--- the names of the actors, in the order of their first steps
-abbrev pub names_in : {D R C : Type 0} → Session D R C → List (List ℕ)
-names_in session = session.actors.names
-
 -- what the actor of a number has, from 1; nothing where there is no such actor
 abbrev pub slots_of : Seen Holding → ℕ → Option Holding
 slots_of actors n = slot_of actors.slots n
-
--- the same of a session's actors
-abbrev pub slots_in : {D R C : Type 0} → Session D R C → ℕ → Option Holding
-slots_in session n = slots_of session.actors n
 
 -- how many things there are, where there may be one
 abbrev pub parts_of : {X : Type 0} → Option X → ℕ
 parts_of None = 0
 parts_of (Some x) = 1
 
--- how many devices a session has: that of its part, once a format began one
-abbrev pub devices_of : {D R C : Type 0} → Session D R C → ℕ
-devices_of session = parts_of session.part
+module _ {D R C : Type 0} {d : DiskGhosts D} {r : DirectoryGhosts R} {c : ChronicleGhosts C} where
+  -- the names of the actors, in the order of their first steps
+  abbrev pub names_in : Session D R C d r c → List (List ℕ)
+  names_in session = session.actors.names
 
--- the calls that the device of a part made since its attach, the newest first
-abbrev pub past_of : {D R C : Type 0} → DiskGhosts D → DirectoryGhosts R → Part D R C → List Call
-past_of disk directory part = (seen_in disk directory part.stripe).device.past
+  -- what the actor of a number has in a session
+  abbrev pub slots_in : Session D R C d r c → ℕ → Option Holding
+  slots_in session n = slots_of session.actors n
 
-module _ {D R C : Type 0} (disk : DiskGhosts D) (directory : DirectoryGhosts R) (chronicle : ChronicleGhosts C) where
+  -- how many devices a session has: that of its part, once a format began one
+  abbrev pub devices_of : Session D R C d r c → ℕ
+  devices_of session = parts_of session.part
+
+  -- the calls that the device of a part made since its attach, the newest first
+  abbrev pub past_of : Part D R C d r c → List Call
+  past_of part = (seen_in part.stripe).device.past
+
   -- its stripe, none of whose pieces was lost by a fault of the device, and a page that takes any piece
-  pub record IsPart (part : Part D R C) : Type 0 where
-    pub stripe : IsStripe disk directory chronicle part.stripe
-    pub quiet : IsQuiet (state_in chronicle part.stripe)
-    pub losses : NoLossIsAFault (state_in chronicle part.stripe)
-    pub page : length part.page.items ≡ 512 * budget_of (state_in chronicle part.stripe).geometry
+  pub record IsPart (part : Part D R C d r c) : Type 0 where
+    pub stripe : IsStripe part.stripe
+    pub quiet : IsQuiet (state_in part.stripe)
+    pub losses : NoLossIsAFault (state_in part.stripe)
+    pub page : length part.page.items ≡ 512 * budget_of (state_in part.stripe).geometry
 
   -- a part beside what the actors have, which is open in it, and no two have the same
-  pub record IsActive (p : Part D R C) (slots : ℕ → Option Holding) : Type 0 where
+  pub record IsActive (p : Part D R C d r c) (slots : ℕ → Option Holding) : Type 0 where
     pub part : IsPart p
-    pub held : AreHeld (state_in chronicle p.stripe) slots
+    pub held : AreHeld (state_in p.stripe) slots
     pub apart : AreApart slots
 
   -- without a cache no actor has anything
-  abbrev pub IsAt : Option (Part D R C) → (ℕ → Option Holding) → Type 0
+  abbrev pub IsAt : Option (Part D R C d r c) → (ℕ → Option Holding) → Type 0
   IsAt None slots = (n : ℕ) → slots n ≡ None
   IsAt (Some part) slots = IsActive part slots
 
   -- what holds of a session between lines
-  abbrev pub IsSession : Session D R C → Type 0
+  abbrev pub IsSession : Session D R C d r c → Type 0
   IsSession session = IsAt session.part (slots_in session)
 
   -- the device of a session, as it would be given back
-  abbrev pub return_of : Option (Part D R C) → List Device
+  abbrev pub return_of : Option (Part D R C d r c) → List Device
   return_of None = []
-  return_of (Some part) = (seen_in disk directory part.stripe).device ∷ []
+  return_of (Some part) = (seen_in part.stripe).device ∷ []
 
   -- the count of a fault that an answer tells is no higher than that of the session's device
-  abbrev pub TellsCount : Option (Part D R C) → StepAnswer → Type 0
+  abbrev pub TellsCount : Option (Part D R C d r c) → StepAnswer → Type 0
   TellsCount None said = ⊥
-  TellsCount (Some part) said = count_in said ≤ (seen_in disk directory part.stripe).device.faults
+  TellsCount (Some part) said = count_in said ≤ (seen_in part.stripe).device.faults
 
 -- ---- a device that goes on
 

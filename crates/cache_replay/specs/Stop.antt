@@ -1,6 +1,9 @@
 -- When each reason to end the run comes.
 use Rattle.std.specs.Prelude.{ℕ, ◌≡◌, Bool, true, false, List, None, Result, MatchResult, ⊤}
 use Rattle.tape_base.specs.Limits.{first_refusal}
+use Rattle.logged_disk.specs.declared.device.Disk.{Ghosts as DiskGhosts}
+use Rattle.dir_table.specs.declared.directory.Directory.{Ghosts as DirectoryGhosts}
+use Rattle.cache_chronicle.specs.declared.chronicle.Chronicle.{Ghosts as ChronicleGhosts}
 use Rattle.device_bay.specs.Calls.{BayCall, Refusal, refusals_of}
 use Rattle.device_bay.specs.Bay.{Refuses}
 use Rattle.script_lang.specs.declared.step.Step.{Step}
@@ -39,17 +42,18 @@ IsFormatStop name blocks old new BayFault = (count : ℕ) × Refuses name blocks
 IsFormatStop name blocks old new Memory = ⊤
 IsFormatStop name blocks old new NoCache = ⊥
 
--- a line on a session does where there is none, or for want of memory
-abbrev pub IsSessionStop : {D R C : Type 0} → Session D R C → Stop → Type 0
-IsSessionStop session NoCache = session.part ≡ None
-IsSessionStop session BayFault = ⊥
-IsSessionStop session Memory = ⊤
+module _ {D R C : Type 0} {d : DiskGhosts D} {r : DirectoryGhosts R} {c : ChronicleGhosts C} where
+  -- a line on a session does where there is none, or for want of memory
+  abbrev pub IsSessionStop : Session D R C d r c → Stop → Type 0
+  IsSessionStop session NoCache = session.part ≡ None
+  IsSessionStop session BayFault = ⊥
+  IsSessionStop session Memory = ⊤
 
--- why a step ends the run, by the session before it
-abbrev pub StopsStep : {D R C : Type 0} → Session D R C → Step → (old new : List BayCall) → Stop → Type 0
-StopsStep session s old new NoCache = NeedsSession s × (session.part ≡ None)
-StopsStep session s old new BayFault = RefusesStep s old new
-StopsStep session s old new Memory = ⊤
+  -- why a step ends the run, by the session before it
+  abbrev pub StopsStep : Session D R C d r c → Step → (old new : List BayCall) → Stop → Type 0
+  StopsStep session s old new NoCache = NeedsSession s × (session.part ≡ None)
+  StopsStep session s old new BayFault = RefusesStep s old new
+  StopsStep session s old new Memory = ⊤
 
 -- a fault of the bay ended the run
 abbrev pub is_bay_stop : Stop → Bool

@@ -36,9 +36,9 @@ use tape_base::{BadGeometry, Geometry, alternates_are_last, floor_of};
 
 /// A session in which nothing was formatted yet.
 pub fn begin<D: Disk>(alloc: Global) -> Cache<D>
-    ensures session { IsSession D.Disk ⟦<ListDirectory as Directory>⟧ ⟦<FullChronicle as Chronicle>⟧ result }
-    ensures plays { Plays D.Disk ⟦<ListDirectory as Directory>⟧ ⟦<FullChronicle as Chronicle>⟧ fresh result }
-    ensures outline { IsOutlined D.Disk ⟦<ListDirectory as Directory>⟧ ⟦<FullChronicle as Chronicle>⟧ blank result }
+    ensures session { IsSession result }
+    ensures plays { Plays fresh result }
+    ensures outline { IsOutlined blank result }
     ensures devices { devices_of result ≡ 0 }
     ensures names { names_in result ≡ [] }
 {
@@ -60,10 +60,11 @@ pub fn plays_reach<D: Disk, R: Directory + Drop, C: Chronicle>()
 pub fn close<B: Bay>(session: Cache<B::Dev>, bay: &mut B)
     requires held { devices_of session ≤ out_of (B.past bay.old) }
     ensures back { (harms : List Harm)
-        → AreReached harms (return_of B.Dev.Disk ⟦<ListDirectory as Directory>⟧ ⟦<FullChronicle as Chronicle>⟧ session.part)
+        → AreReached harms (return_of session.part)
         → ComeBack (returned_by (B.past bay.old)) (returned_by (B.past bay.new)) harms }
     ensures out { out_of (B.past bay.new) + devices_of session ≡ out_of (B.past bay.old) }
-    ensures order { (own : List Device) → KeepsOrder (return_of B.Dev.Disk ⟦<ListDirectory as Directory>⟧ ⟦<FullChronicle as Chronicle>⟧ session.part ++ own) (B.past bay.old) own (B.past bay.new) }
+    ensures order { (own : List Device) → KeepsOrder (return_of session.part ++ own)
+        (B.past bay.old) own (B.past bay.new) }
     ensures names { names_of (B.past bay.new) ≡ names_of (B.past bay.old) }
     ensures refusals { RefusesNone (B.past bay.old) (B.past bay.new) }
 {
@@ -77,9 +78,10 @@ fn give_back<B: Bay, R: Directory + Drop, C: Chronicle + Drop>(
     part: Option<Part<B::Dev, R, C>>,
 )
     requires held { parts_of part ≤ out_of (B.past bay.old) }
-    ensures back { returned_by (B.past bay.new) ≡ returned_by (B.past bay.old) ++ return_of B.Dev.Disk R.Directory C.Chronicle part }
+    ensures back { returned_by (B.past bay.new) ≡ returned_by (B.past bay.old) ++ return_of part }
     ensures out { out_of (B.past bay.new) + parts_of part ≡ out_of (B.past bay.old) }
-    ensures order { (own : List Device) → KeepsOrder (return_of B.Dev.Disk R.Directory C.Chronicle part ++ own) (B.past bay.old) own (B.past bay.new) }
+    ensures order { (own : List Device) → KeepsOrder (return_of part ++ own) (B.past bay.old) own
+        (B.past bay.new) }
     ensures names { names_of (B.past bay.new) ≡ names_of (B.past bay.old) }
     ensures refusals { RefusesNone (B.past bay.old) (B.past bay.new) }
 {
@@ -90,7 +92,7 @@ fn give_back<B: Bay, R: Directory + Drop, C: Chronicle + Drop>(
 }
 
 fn into_disk<D: Disk, R: Directory + Drop, C: Chronicle + Drop>(part: Part<D, R, C>) -> D
-    ensures { D.state result ≡ (seen_in D.Disk R.Directory part.stripe).device }
+    ensures { D.state result ≡ (seen_in part.stripe).device }
 {
     let Part { stripe, .. } = part;
     let (disk, _chronicle) = stripe.into_parts();
@@ -166,9 +168,10 @@ fn end<B: Bay>(session: &mut Cache<B::Dev>, bay: &mut B)
     ensures slots { (n : ℕ) → slots_in session.new n ≡ None }
     ensures names { names_in session.new ≡ names_in session.old }
     ensures back { returned_by (B.past bay.new) ≡ returned_by (B.past bay.old)
-        ++ return_of B.Dev.Disk ⟦<ListDirectory as Directory>⟧ ⟦<FullChronicle as Chronicle>⟧ session.old.part }
+        ++ return_of session.old.part }
     ensures out { out_of (B.past bay.new) + devices_of session.old ≡ out_of (B.past bay.old) }
-    ensures order { (own : List Device) → KeepsOrder (return_of B.Dev.Disk ⟦<ListDirectory as Directory>⟧ ⟦<FullChronicle as Chronicle>⟧ session.old.part ++ own) (B.past bay.old) own (B.past bay.new) }
+    ensures order { (own : List Device) → KeepsOrder (return_of session.old.part ++ own)
+        (B.past bay.old) own (B.past bay.new) }
     ensures attached { names_of (B.past bay.new) ≡ names_of (B.past bay.old) }
     ensures refusals { RefusesNone (B.past bay.old) (B.past bay.new) }
 {
@@ -191,27 +194,25 @@ pub(crate) fn format_line<B: Bay>(
     generation: u64,
     alternates: u32,
 ) -> Result<StepAnswer, Stop>
-    requires session { IsSession B.Dev.Disk ⟦<ListDirectory as Directory>⟧ ⟦<FullChronicle as Chronicle>⟧ session.old }
+    requires session { IsSession session.old }
     requires held { devices_of session.old ≤ out_of (B.past bay.old) }
-    ensures session { IsSession B.Dev.Disk ⟦<ListDirectory as Directory>⟧ ⟦<FullChronicle as Chronicle>⟧ session.new }
-    ensures ends { IfOk result (λ said. (run : Run) → Plays B.Dev.Disk ⟦<ListDirectory as Directory>⟧ ⟦<FullChronicle as Chronicle>⟧ run session.old
-        → DeviceMoves B.Dev.Disk ⟦<ListDirectory as Directory>⟧ ⟦<FullChronicle as Chronicle>⟧ run
-        (step.Format name.now segments buckets content agg reach fragment generation alternates) session.new said
-        (ledger_of B.Bay bay.old) (ledger_of B.Bay bay.new)) }
-    ensures outline { IfOk result (λ said. (o : Outline) → IsOutlined B.Dev.Disk ⟦<ListDirectory as Directory>⟧ ⟦<FullChronicle as Chronicle>⟧ o session.old
-        → Outlines B.Dev.Disk ⟦<ListDirectory as Directory>⟧ ⟦<FullChronicle as Chronicle>⟧ o
-        (step.Format name.now segments buckets content agg reach fragment generation alternates) session.new said
-        (ledger_of B.Bay bay.old) (ledger_of B.Bay bay.new)) }
+    ensures session { IsSession session.new }
+    ensures ends { IfOk result (λ said. (run : Run) → Plays run session.old
+        → DeviceMoves run (step.Format name.now segments buckets content agg reach fragment
+        generation alternates) session.new said (ledger_of B.Bay bay.old)
+        (ledger_of B.Bay bay.new)) }
+    ensures outline { IfOk result (λ said. (o : Outline) → IsOutlined o session.old
+        → Outlines o (step.Format name.now segments buckets content agg reach fragment generation
+        alternates) session.new said (ledger_of B.Bay bay.old) (ledger_of B.Bay bay.new)) }
     ensures left { IfErr result (λ why. (harms : List Harm)
-        → AreReached harms (return_of B.Dev.Disk ⟦<ListDirectory as Directory>⟧ ⟦<FullChronicle as Chronicle>⟧ session.old.part)
-        → IsLeft B.Dev.Disk ⟦<ListDirectory as Directory>⟧ ⟦<FullChronicle as Chronicle>⟧ harms
-        (step.Format name.now segments buckets content agg reach fragment generation alternates) session.new
-        (ledger_of B.Bay bay.old) (ledger_of B.Bay bay.new) why) }
+        → AreReached harms (return_of session.old.part)
+        → IsLeft harms (step.Format name.now segments buckets content agg reach fragment generation
+        alternates) session.new (ledger_of B.Bay bay.old) (ledger_of B.Bay bay.new) why) }
     ensures stop { IfErr result (λ stop. (first_refusal segments buckets content agg reach fragment alternates ≡ None) × IsFormatStop name.now content (B.past bay.old) (B.past bay.new) stop) }
     ensures out { out_of (B.past bay.new) + devices_of session.old ≡ out_of (B.past bay.old) + devices_of session.new }
     ensures names { names_in session.new ≡ names_in session.old }
-    ensures order { KeepsOrder (return_of B.Dev.Disk ⟦<ListDirectory as Directory>⟧ ⟦<FullChronicle as Chronicle>⟧ session.old.part) (B.past bay.old)
-        (return_of B.Dev.Disk ⟦<ListDirectory as Directory>⟧ ⟦<FullChronicle as Chronicle>⟧ session.new.part) (B.past bay.new) }
+    ensures order { KeepsOrder (return_of session.old.part) (B.past bay.old)
+        (return_of session.new.part) (B.past bay.new) }
     ensures refusals { RefusesAtStop (B.past bay.old) (B.past bay.new) result }
 {
     match checked(
@@ -241,23 +242,23 @@ fn format<B: Bay>(
     name: &[u8],
     geometry: Geometry,
 ) -> Result<(), Stop>
-    requires session { IsSession B.Dev.Disk ⟦<ListDirectory as Directory>⟧ ⟦<FullChronicle as Chronicle>⟧ session.old }
+    requires session { IsSession session.old }
     requires held { devices_of session.old ≤ out_of (B.past bay.old) }
-    ensures session { IsSession B.Dev.Disk ⟦<ListDirectory as Directory>⟧ ⟦<FullChronicle as Chronicle>⟧ session.new }
-    ensures plays { OnOk result ((run : Run) → Plays B.Dev.Disk ⟦<ListDirectory as Directory>⟧ ⟦<FullChronicle as Chronicle>⟧ run session.old
-        → Plays B.Dev.Disk ⟦<ListDirectory as Directory>⟧ ⟦<FullChronicle as Chronicle>⟧ (formatted run name.now (format_records geometry)) session.new) }
-    ensures begun { OnOk result (AreReached (no_harm ∷ []) (return_of B.Dev.Disk ⟦<ListDirectory as Directory>⟧ ⟦<FullChronicle as Chronicle>⟧ session.new.part)) }
+    ensures session { IsSession session.new }
+    ensures plays { OnOk result ((run : Run) → Plays run session.old
+        → Plays (formatted run name.now (format_records geometry)) session.new) }
+    ensures begun { OnOk result (AreReached (no_harm ∷ []) (return_of session.new.part)) }
     ensures deals { OnOk result ((harms : List Harm)
-        → AreReached harms (return_of B.Dev.Disk ⟦<ListDirectory as Directory>⟧ ⟦<FullChronicle as Chronicle>⟧ session.old.part)
+        → AreReached harms (return_of session.old.part)
         → Deals (ledger_of B.Bay bay.old) (ledger_of B.Bay bay.new) harms (name.now ∷ [])) }
     ensures left { IfErr result (λ why. (harms : List Harm) (step : Step) → AttachesAs name.now step
-        → AreReached harms (return_of B.Dev.Disk ⟦<ListDirectory as Directory>⟧ ⟦<FullChronicle as Chronicle>⟧ session.old.part)
-        → IsLeft B.Dev.Disk ⟦<ListDirectory as Directory>⟧ ⟦<FullChronicle as Chronicle>⟧ harms step session.new (ledger_of B.Bay bay.old) (ledger_of B.Bay bay.new) why) }
+        → AreReached harms (return_of session.old.part)
+        → IsLeft harms step session.new (ledger_of B.Bay bay.old) (ledger_of B.Bay bay.new) why) }
     ensures stop { IfErr result (IsFormatStop name.now geometry.content (B.past bay.old) (B.past bay.new)) }
     ensures out { out_of (B.past bay.new) + devices_of session.old ≡ out_of (B.past bay.old) + devices_of session.new }
     ensures names { names_in session.new ≡ names_in session.old }
-    ensures order { KeepsOrder (return_of B.Dev.Disk ⟦<ListDirectory as Directory>⟧ ⟦<FullChronicle as Chronicle>⟧ session.old.part) (B.past bay.old)
-        (return_of B.Dev.Disk ⟦<ListDirectory as Directory>⟧ ⟦<FullChronicle as Chronicle>⟧ session.new.part) (B.past bay.new) }
+    ensures order { KeepsOrder (return_of session.old.part) (B.past bay.old)
+        (return_of session.new.part) (B.past bay.new) }
     ensures refusals { RefusesAtStop (B.past bay.old) (B.past bay.new) result }
 {
     formats_tell();
@@ -270,6 +271,7 @@ fn format<B: Bay>(
             start(session, bay, Part { stripe, page });
             Ok(())
         }
+        // A format is refused for memory alone.
         Err((_, disk, _)) => {
             end(session, bay);
             bay.give_back(disk);
@@ -289,10 +291,10 @@ fn start<B: Bay>(
     ensures slots { (n : ℕ) → slots_in session.new n ≡ None }
     ensures names { names_in session.new ≡ names_in session.old }
     ensures now { session.new.now ≡ session.old.now }
-    ensures order { KeepsOrder (return_of B.Dev.Disk ⟦<ListDirectory as Directory>⟧ ⟦<FullChronicle as Chronicle>⟧ session.old.part ++ (seen_in B.Dev.Disk ⟦<ListDirectory as Directory>⟧ part.stripe).device ∷ [])
-        (B.past bay.old) (return_of B.Dev.Disk ⟦<ListDirectory as Directory>⟧ ⟦<FullChronicle as Chronicle>⟧ session.new.part) (B.past bay.new) }
+    ensures order { KeepsOrder (return_of session.old.part ++ (seen_in part.stripe).device ∷ [])
+        (B.past bay.old) (return_of session.new.part) (B.past bay.new) }
     ensures back { returned_by (B.past bay.new) ≡ returned_by (B.past bay.old)
-        ++ return_of B.Dev.Disk ⟦<ListDirectory as Directory>⟧ ⟦<FullChronicle as Chronicle>⟧ session.old.part }
+        ++ return_of session.old.part }
     ensures out { out_of (B.past bay.new) + devices_of session.old ≡ out_of (B.past bay.old) }
     ensures attached { names_of (B.past bay.new) ≡ names_of (B.past bay.old) }
     ensures refusals { RefusesNone (B.past bay.old) (B.past bay.new) }

@@ -1,8 +1,8 @@
 // Writers are fed: bytes are given until all are taken or the writer is refused.
 ghost use Rattle.std.specs.Prelude.{◌≡◌, ◌≤◌, true, length, IfSome};
-ghost use Rattle.cache_model.specs.Legal.{IsQuiet, is_writing};
-ghost use Rattle.stripe_core.specs.Stripe.{IsStripe, kept_in, seen_in, state_in};
-ghost use Rattle.stripe_core.specs.Between.{Between};
+ghost use Rattle.cache_model.specs.Legal.{is_writing};
+ghost use Rattle.stripe_core.specs.Stripe.{kept_in, seen_in, state_in};
+ghost use Rattle.stripe_core.specs.Between.{IsResting, Rests};
 ghost use Rattle.stripe_write.specs.Others.{AddsOfPut};
 ghost use Rattle.stripe_write.specs.Writers.{IsWriterOf};
 ghost use Rattle.cache_replay.specs.Outline.{count_of_refusal};
@@ -28,24 +28,23 @@ pub(crate) fn feed<D: Disk, R: Directory + Drop, C: Chronicle>(
     bytes: &[u8],
     now: u64,
 ) -> Fed
-    requires stripe { IsStripe D.Disk R.Directory C.Chronicle stripe.old }
-    requires quiet { IsQuiet (state_in C.Chronicle stripe.old) }
-    requires writer { IsWriterOf (state_in C.Chronicle stripe.old) writer.old }
-    requires writing { is_writing (state_in C.Chronicle stripe.old) writer.old.put ≡ true }
-    ensures stripe { IsStripe D.Disk R.Directory C.Chronicle stripe.new }
-    ensures quiet { IsQuiet (state_in C.Chronicle stripe.new) }
-    ensures writer { IsWriterOf (state_in C.Chronicle stripe.new) writer.new }
-    ensures feeds { FeedsWhere now (seen_in D.Disk R.Directory stripe.old).device.past (seen_in D.Disk R.Directory stripe.new).device.past
-        (kept_in C.Chronicle stripe.old) (kept_in C.Chronicle stripe.new) writer.old bytes.now result.refused }
-    ensures counts { IfSome result.refused (λ why. count_of_refusal why ≤ (seen_in D.Disk R.Directory stripe.new).device.faults) }
+    requires resting { IsResting stripe.old }
+    requires writer { IsWriterOf (state_in stripe.old) writer.old }
+    requires writing { is_writing (state_in stripe.old) writer.old.put ≡ true }
+    ensures rests { Rests stripe.old stripe.new }
+    ensures writer { IsWriterOf (state_in stripe.new) writer.new }
+    ensures feeds { FeedsWhere now (seen_in stripe.old).device.past (seen_in stripe.new).device.past
+        (kept_in stripe.old) (kept_in stripe.new) writer.old bytes.now result.refused }
+    ensures counts { IfSome result.refused (λ why. count_of_refusal why
+        ≤ (seen_in stripe.new).device.faults) }
     ensures most { result.taken ≤ length bytes.now }
-    ensures taken { result.taken ≡ taken_of (state_in C.Chronicle stripe.new) writer.old bytes.now result.refused }
+    ensures taken { result.taken ≡ taken_of (state_in stripe.new) writer.old bytes.now
+        result.refused }
     ensures fed { IsFed writer.old bytes.now result.taken writer.new }
-    ensures cut { IsCutWhere (state_in C.Chronicle stripe.old).geometry.fragment writer.old bytes.now result.refused writer.new }
-    ensures writing { IsOpenBehind (state_in C.Chronicle stripe.new) writer.old.put result.refused }
-    ensures own { AddsOfPut writer.old.put (kept_in C.Chronicle stripe.old) (kept_in C.Chronicle stripe.new) }
-    ensures later { (seen_in D.Disk R.Directory stripe.old).device.faults ≤ (seen_in D.Disk R.Directory stripe.new).device.faults }
-    ensures unharmed { Between D.Disk R.Directory C.Chronicle stripe.old stripe.new }
+    ensures cut { IsCutWhere (state_in stripe.old).geometry.fragment writer.old bytes.now
+        result.refused writer.new }
+    ensures writing { IsOpenBehind (state_in stripe.new) writer.old.put result.refused }
+    ensures own { AddsOfPut writer.old.put (kept_in stripe.old) (kept_in stripe.new) }
 {
     let mut taken = 0;
     'feed: loop {

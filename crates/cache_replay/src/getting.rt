@@ -1,15 +1,12 @@
 // Whole bodies are read.
 ghost use Rattle.std.specs.Prelude.{ℕ, List, Option, ◌≡◌, ◌⊎◌, ◌*◌, ◌+◌, ◌<◌, ◌≤◌, [], ◌∷◌, true, length, is_some, Some, None, IfOk, IfErr, OnOk};
 ghost use Rattle.tape_base.specs.Geometry.{budget_of};
-ghost use Rattle.cache_model.specs.Legal.{IsQuiet};
 ghost use Rattle.cache_model.specs.Kept.{state_of};
 ghost use Rattle.cache_model.specs.Permit.{Permit, StopReading};
 ghost use Rattle.cache_model.specs.Vectors.{AreTold};
-ghost use Rattle.logged_disk.specs.Device.{IsAfter};
-ghost use Rattle.stripe_core.specs.Stripe.{IsStripe, kept_in, seen_in, state_in};
-ghost use Rattle.stripe_core.specs.Between.{Between};
+ghost use Rattle.stripe_core.specs.Stripe.{kept_in, seen_in, state_in};
+ghost use Rattle.stripe_core.specs.Between.{Between, IsResting, Proceeds, Rests};
 ghost use Rattle.stripe_core.specs.Covers.{Covers};
-ghost use Rattle.stripe_core.specs.Faults.{IsAccounted};
 ghost use Rattle.stripe_read.specs.Readers.{IsOpenReader, IsReaderOf};
 ghost use Rattle.script_lang.specs.declared.answer.StepAnswer.{StepAnswer};
 ghost use Rattle.script_lang.specs.declared.step.Step.TheVariants as step;
@@ -64,25 +61,30 @@ pub(crate) fn get<D: Disk, R: Directory + Drop, C: Chronicle>(
     key: Key,
     request: Fields,
 ) -> Result<Got, AllocError>
-    requires stripe { IsStripe D.Disk R.Directory C.Chronicle stripe.old }
-    requires quiet { IsQuiet (state_in C.Chronicle stripe.old) }
-    requires page { length page.old ≡ 512 * budget_of (state_in C.Chronicle stripe.old).geometry }
-    ensures stripe { IsStripe D.Disk R.Directory C.Chronicle stripe.new }
-    ensures quiet { IsQuiet (state_in C.Chronicle stripe.new) }
-    ensures gets { IfOk result (GetsAsAsked (seen_in D.Disk R.Directory stripe.old).device.past (seen_in D.Disk R.Directory stripe.new).device.past
-        (kept_in C.Chronicle stripe.old) (kept_in C.Chronicle stripe.new) key request) }
-    ensures leaves { LeavesBut None (Some (state_in C.Chronicle stripe.old).next_reader) (state_in C.Chronicle stripe.old) (state_in C.Chronicle stripe.new) }
-    ensures counts { IfOk result (λ got. NoLossIsAFault (state_in C.Chronicle stripe.old)
-        → count_in (got_answer got) ≤ (seen_in D.Disk R.Directory stripe.new).device.faults) }
-    ensures later { (seen_in D.Disk R.Directory stripe.old).device.faults ≤ (seen_in D.Disk R.Directory stripe.new).device.faults }
-    ensures unharmed { (p : Permit) (run : Run) → Covers p (seen_in D.Disk R.Directory stripe.old).device.past (seen_in D.Disk R.Directory stripe.new).device.past → AreTold (state_in C.Chronicle stripe.old) → AreOwn (state_in C.Chronicle stripe.old) run.streams
-        → Between D.Disk R.Directory C.Chronicle stripe.old stripe.new ⊎ Shows (IsPlacedAs run.streams) p (state_in C.Chronicle stripe.old) (get_intents (state_in C.Chronicle stripe.old) key request) }
-    ensures goes { IsAfter (seen_in D.Disk R.Directory stripe.old).device (seen_in D.Disk R.Directory stripe.new).device }
-    ensures accounted { IsAccounted (seen_in D.Disk R.Directory stripe.old).device.past (seen_in D.Disk R.Directory stripe.new).device.past (kept_in C.Chronicle stripe.old) (kept_in C.Chronicle stripe.new) }
+    requires resting { IsResting stripe.old }
+    requires page { length page.old ≡ 512 * budget_of (state_in stripe.old).geometry }
+    ensures resting { IsResting stripe.new }
+    ensures proceeds { Proceeds stripe.old stripe.new }
+    ensures gets { IfOk result (GetsAsAsked (seen_in stripe.old).device.past
+        (seen_in stripe.new).device.past (kept_in stripe.old) (kept_in stripe.new) key request) }
+    ensures leaves { LeavesBut None (Some (state_in stripe.old).next_reader) (state_in stripe.old)
+        (state_in stripe.new) }
+    ensures counts { IfOk result (λ got. NoLossIsAFault (state_in stripe.old)
+        → count_in (got_answer got) ≤ (seen_in stripe.new).device.faults) }
+    ensures unharmed { (p : Permit) (run : Run)
+        → Covers p (seen_in stripe.old).device.past (seen_in stripe.new).device.past
+        → AreTold (state_in stripe.old) → AreOwn (state_in stripe.old) run.streams
+        → Between stripe.old stripe.new
+        ⊎ Shows (IsPlacedAs run.streams) p (state_in stripe.old)
+        (get_intents (state_in stripe.old) key request) }
 {
     reads_own();
     match open_read(stripe, Actor(0), key, request)? {
-        Opened::Hit { reader, put, .. } => read_whole(alloc, stripe, page, reader, put),
+        Opened::Hit {
+            reader,
+            put,
+            length: size,
+        } => read_whole(alloc, stripe, page, reader, put, size),
         Opened::Follow { reader, put } => {
             close(stripe, reader)?;
             Ok(Got::Follow { put })
@@ -91,36 +93,38 @@ pub(crate) fn get<D: Disk, R: Directory + Drop, C: Chronicle>(
     }
 }
 
-// Reads what a reader hit to its end, and closes the reader.
+// Reads what a reader hit, which has so many bytes, to its end, and closes the reader.
 fn read_whole<D: Disk, R: Directory + Drop, C: Chronicle>(
     alloc: Global,
     stripe: &mut Stripe<D, R, C>,
     page: &mut [u8],
     reader: Reader,
     put: u64,
+    size: u64,
 ) -> Result<Got, AllocError>
-    requires stripe { IsStripe D.Disk R.Directory C.Chronicle stripe.old }
-    requires quiet { IsQuiet (state_in C.Chronicle stripe.old) }
-    requires reader { IsOpenReader (state_in C.Chronicle stripe.old) reader }
+    requires resting { IsResting stripe.old }
+    requires reader { IsOpenReader (state_in stripe.old) reader }
     requires hit { is_some reader.table ≡ true }
     requires put { put ≡ reader.put }
-    requires page { length page.old ≡ 512 * budget_of (state_in C.Chronicle stripe.old).geometry }
-    ensures stripe { IsStripe D.Disk R.Directory C.Chronicle stripe.new }
-    ensures quiet { IsQuiet (state_in C.Chronicle stripe.new) }
-    ensures answers { IfOk result (λ got. (b : Began) → IsUnderway b (seen_in D.Disk R.Directory stripe.old).device.past (kept_in C.Chronicle stripe.old) reader []
-        → IsAnswered b (seen_in D.Disk R.Directory stripe.new).device.past (kept_in C.Chronicle stripe.new) [] (given_in got) (got_answer got)) }
-    ensures leaves { LeavesBut None (Some reader.reader) (state_in C.Chronicle stripe.old) (state_in C.Chronicle stripe.new) }
-    ensures counts { IfOk result (λ got. NoLossIsAFault (state_in C.Chronicle stripe.old)
-        → count_in (got_answer got) ≤ (seen_in D.Disk R.Directory stripe.new).device.faults) }
-    ensures later { (seen_in D.Disk R.Directory stripe.old).device.faults ≤ (seen_in D.Disk R.Directory stripe.new).device.faults }
-    ensures unharmed { (b : Began) (p : Permit) (run : Run) → IsUnderway b (seen_in D.Disk R.Directory stripe.old).device.past (kept_in C.Chronicle stripe.old) reader []
-        → Covers p b.past (seen_in D.Disk R.Directory stripe.new).device.past → AreTold (state_of b.kept) → AreOwn (state_of b.kept) run.streams
-        → Between D.Disk R.Directory C.Chronicle stripe.old stripe.new ⊎ Shows (IsPlacedAs run.streams) p (state_of b.kept) b.asks }
-    ensures goes { IsAfter (seen_in D.Disk R.Directory stripe.old).device (seen_in D.Disk R.Directory stripe.new).device }
-    ensures accounted { IsAccounted (seen_in D.Disk R.Directory stripe.old).device.past (seen_in D.Disk R.Directory stripe.new).device.past (kept_in C.Chronicle stripe.old) (kept_in C.Chronicle stripe.new) }
+    requires page { length page.old ≡ 512 * budget_of (state_in stripe.old).geometry }
+    ensures resting { IsResting stripe.new }
+    ensures proceeds { Proceeds stripe.old stripe.new }
+    ensures answers { IfOk result (λ got. (b : Began)
+        → IsUnderway b (seen_in stripe.old).device.past (kept_in stripe.old) reader []
+        → IsAnswered b (seen_in stripe.new).device.past (kept_in stripe.new) [] (given_in got)
+        (got_answer got)) }
+    ensures leaves { LeavesBut None (Some reader.reader) (state_in stripe.old)
+        (state_in stripe.new) }
+    ensures counts { IfOk result (λ got. NoLossIsAFault (state_in stripe.old)
+        → count_in (got_answer got) ≤ (seen_in stripe.new).device.faults) }
+    ensures unharmed { (b : Began) (p : Permit) (run : Run)
+        → IsUnderway b (seen_in stripe.old).device.past (kept_in stripe.old) reader []
+        → Covers p b.past (seen_in stripe.new).device.past → AreTold (state_of b.kept)
+        → AreOwn (state_of b.kept) run.streams → Between stripe.old stripe.new
+        ⊎ Shows (IsPlacedAs run.streams) p (state_of b.kept) b.asks }
 {
     let mut reader = reader;
-    match read_to_end(alloc, stripe, page, &mut reader, put) {
+    match read_to_end(alloc, stripe, page, &mut reader, put, size) {
         Ok(got) => {
             close(stripe, reader)?;
             Ok(got)
@@ -129,37 +133,39 @@ fn read_whole<D: Disk, R: Directory + Drop, C: Chronicle>(
     }
 }
 
-// Reads what a reader hit to its end.
+// Reads what a reader hit to its end. Memory for its bytes is made once, before the first is read.
 fn read_to_end<D: Disk, R: Directory + Drop, C: Chronicle>(
     alloc: Global,
     stripe: &mut Stripe<D, R, C>,
     page: &mut [u8],
     reader: &mut Reader,
     put: u64,
+    size: u64,
 ) -> Result<Got, AllocError>
-    requires stripe { IsStripe D.Disk R.Directory C.Chronicle stripe.old }
-    requires quiet { IsQuiet (state_in C.Chronicle stripe.old) }
-    requires reader { IsOpenReader (state_in C.Chronicle stripe.old) reader.old }
+    requires resting { IsResting stripe.old }
+    requires reader { IsOpenReader (state_in stripe.old) reader.old }
     requires hit { is_some reader.old.table ≡ true }
     requires put { put ≡ reader.old.put }
-    requires page { length page.old ≡ 512 * budget_of (state_in C.Chronicle stripe.old).geometry }
-    ensures stripe { IsStripe D.Disk R.Directory C.Chronicle stripe.new }
-    ensures quiet { IsQuiet (state_in C.Chronicle stripe.new) }
-    ensures reader { IsOpenReader (state_in C.Chronicle stripe.new) reader.new }
+    requires page { length page.old ≡ 512 * budget_of (state_in stripe.old).geometry }
+    ensures resting { IsResting stripe.new }
+    ensures proceeds { Proceeds stripe.old stripe.new }
+    ensures reader { IsOpenReader (state_in stripe.new) reader.new }
     ensures number { reader.new.reader ≡ reader.old.reader }
-    ensures answers { IfOk result (λ got. (b : Began) → IsUnderway b (seen_in D.Disk R.Directory stripe.old).device.past (kept_in C.Chronicle stripe.old) reader.old []
-        → IsAnswered b (seen_in D.Disk R.Directory stripe.new).device.past (kept_in C.Chronicle stripe.new) (StopReading reader.old.reader ∷ []) (given_in got) (got_answer got)) }
-    ensures leaves { LeavesBut None (Some reader.old.reader) (state_in C.Chronicle stripe.old) (state_in C.Chronicle stripe.new) }
-    ensures counts { IfOk result (λ got. NoLossIsAFault (state_in C.Chronicle stripe.old)
-        → count_in (got_answer got) ≤ (seen_in D.Disk R.Directory stripe.new).device.faults) }
-    ensures later { (seen_in D.Disk R.Directory stripe.old).device.faults ≤ (seen_in D.Disk R.Directory stripe.new).device.faults }
-    ensures unharmed { (b : Began) (p : Permit) (run : Run) → IsUnderway b (seen_in D.Disk R.Directory stripe.old).device.past (kept_in C.Chronicle stripe.old) reader.old []
-        → Covers p b.past (seen_in D.Disk R.Directory stripe.new).device.past → AreTold (state_of b.kept) → AreOwn (state_of b.kept) run.streams
-        → Between D.Disk R.Directory C.Chronicle stripe.old stripe.new ⊎ Shows (IsPlacedAs run.streams) p (state_of b.kept) b.asks }
-    ensures goes { IsAfter (seen_in D.Disk R.Directory stripe.old).device (seen_in D.Disk R.Directory stripe.new).device }
-    ensures accounted { IsAccounted (seen_in D.Disk R.Directory stripe.old).device.past (seen_in D.Disk R.Directory stripe.new).device.past (kept_in C.Chronicle stripe.old) (kept_in C.Chronicle stripe.new) }
+    ensures answers { IfOk result (λ got. (b : Began)
+        → IsUnderway b (seen_in stripe.old).device.past (kept_in stripe.old) reader.old []
+        → IsAnswered b (seen_in stripe.new).device.past (kept_in stripe.new)
+        (StopReading reader.old.reader ∷ []) (given_in got) (got_answer got)) }
+    ensures leaves { LeavesBut None (Some reader.old.reader) (state_in stripe.old)
+        (state_in stripe.new) }
+    ensures counts { IfOk result (λ got. NoLossIsAFault (state_in stripe.old)
+        → count_in (got_answer got) ≤ (seen_in stripe.new).device.faults) }
+    ensures unharmed { (b : Began) (p : Permit) (run : Run)
+        → IsUnderway b (seen_in stripe.old).device.past (kept_in stripe.old) reader.old []
+        → Covers p b.past (seen_in stripe.new).device.past → AreTold (state_of b.kept)
+        → AreOwn (state_of b.kept) run.streams → Between stripe.old stripe.new
+        ⊎ Shows (IsPlacedAs run.streams) p (state_of b.kept) b.asks }
 {
-    let mut body = Vec::new(alloc);
+    let mut body = Vec::with_capacity(alloc, size as usize)?;
     loop {
         match read_more(stripe, page, reader, &mut body)? {
             NextPiece::Piece { .. } => {}
@@ -177,29 +183,29 @@ fn read_more<D: Disk, R: Directory + Drop, C: Chronicle>(
     reader: &mut Reader,
     body: &mut Vec<u8>,
 ) -> Result<NextPiece, AllocError>
-    requires stripe { IsStripe D.Disk R.Directory C.Chronicle stripe.old }
-    requires quiet { IsQuiet (state_in C.Chronicle stripe.old) }
-    requires reader { IsOpenReader (state_in C.Chronicle stripe.old) reader.old }
+    requires resting { IsResting stripe.old }
+    requires reader { IsOpenReader (state_in stripe.old) reader.old }
     requires hit { is_some reader.old.table ≡ true }
-    requires page { length page.old ≡ 512 * budget_of (state_in C.Chronicle stripe.old).geometry }
-    ensures stripe { IsStripe D.Disk R.Directory C.Chronicle stripe.new }
-    ensures quiet { IsQuiet (state_in C.Chronicle stripe.new) }
-    ensures reader { IsOpenReader (state_in C.Chronicle stripe.new) reader.new }
+    requires page { length page.old ≡ 512 * budget_of (state_in stripe.old).geometry }
+    ensures resting { IsResting stripe.new }
+    ensures proceeds { Proceeds stripe.old stripe.new }
+    ensures reader { IsOpenReader (state_in stripe.new) reader.new }
     ensures number { reader.new.reader ≡ reader.old.reader }
     ensures put { reader.new.put ≡ reader.old.put }
     ensures table { reader.new.table ≡ reader.old.table }
-    ensures comes { IfOk result (λ next. (b : Began) → IsUnderway b (seen_in D.Disk R.Directory stripe.old).device.past (kept_in C.Chronicle stripe.old) reader.old body.old.items
-        → ComesOf b (seen_in D.Disk R.Directory stripe.new).device.past (kept_in C.Chronicle stripe.new) reader.old.put reader.new body.new.items next) }
+    ensures comes { IfOk result (λ next. (b : Began)
+        → IsUnderway b (seen_in stripe.old).device.past
+        (kept_in stripe.old) reader.old body.old.items
+        → ComesOf b (seen_in stripe.new).device.past
+        (kept_in stripe.new) reader.old.put reader.new body.new.items next) }
     ensures nearer { IfOk result (λ next. IsNearer reader.old next reader.new) }
-    ensures leaves { LeavesBut None (Some reader.old.reader) (state_in C.Chronicle stripe.old) (state_in C.Chronicle stripe.new) }
-    ensures counts { IfOk result (λ next. NoLossIsAFault (state_in C.Chronicle stripe.old)
-        → count_in_piece next ≤ (seen_in D.Disk R.Directory stripe.new).device.faults) }
-    ensures later { (seen_in D.Disk R.Directory stripe.old).device.faults ≤ (seen_in D.Disk R.Directory stripe.new).device.faults }
-    ensures unharmed { (run : Run) → AreOwn (state_in C.Chronicle stripe.old) run.streams
-        → IsReaderOf (state_in C.Chronicle stripe.old) reader.old
-        → Between D.Disk R.Directory C.Chronicle stripe.old stripe.new }
-    ensures goes { IsAfter (seen_in D.Disk R.Directory stripe.old).device (seen_in D.Disk R.Directory stripe.new).device }
-    ensures accounted { IsAccounted (seen_in D.Disk R.Directory stripe.old).device.past (seen_in D.Disk R.Directory stripe.new).device.past (kept_in C.Chronicle stripe.old) (kept_in C.Chronicle stripe.new) }
+    ensures leaves { LeavesBut None (Some reader.old.reader) (state_in stripe.old)
+        (state_in stripe.new) }
+    ensures counts { IfOk result (λ next. NoLossIsAFault (state_in stripe.old)
+        → count_in_piece next ≤ (seen_in stripe.new).device.faults) }
+    ensures unharmed { (run : Run) → AreOwn (state_in stripe.old) run.streams
+        → IsReaderOf (state_in stripe.old) reader.old
+        → Between stripe.old stripe.new }
 {
     read_is_own();
     own_is_as_listed();
@@ -221,17 +227,15 @@ fn close<D: Disk, R: Directory + Drop, C: Chronicle>(
     stripe: &mut Stripe<D, R, C>,
     reader: Reader,
 ) -> Result<(), AllocError>
-    requires stripe { IsStripe D.Disk R.Directory C.Chronicle stripe.old }
-    requires quiet { IsQuiet (state_in C.Chronicle stripe.old) }
-    requires reader { IsOpenReader (state_in C.Chronicle stripe.old) reader }
-    ensures stripe { IsStripe D.Disk R.Directory C.Chronicle stripe.new }
-    ensures quiet { IsQuiet (state_in C.Chronicle stripe.new) }
+    requires resting { IsResting stripe.old }
+    requires reader { IsOpenReader (state_in stripe.old) reader }
+    ensures rests { Rests stripe.old stripe.new }
     ensures answers { OnOk result ((b : Began) (given : List ℕ) (said : StepAnswer)
-        → IsAnswered b (seen_in D.Disk R.Directory stripe.old).device.past (kept_in C.Chronicle stripe.old) (StopReading reader.reader ∷ []) given said
-        → IsAnswered b (seen_in D.Disk R.Directory stripe.new).device.past (kept_in C.Chronicle stripe.new) [] given said) }
-    ensures leaves { LeavesBut None (Some reader.reader) (state_in C.Chronicle stripe.old) (state_in C.Chronicle stripe.new) }
-    ensures later { (seen_in D.Disk R.Directory stripe.old).device.faults ≤ (seen_in D.Disk R.Directory stripe.new).device.faults }
-    ensures unharmed { Between D.Disk R.Directory C.Chronicle stripe.old stripe.new }
+        → IsAnswered b (seen_in stripe.old).device.past (kept_in stripe.old)
+        (StopReading reader.reader ∷ []) given said
+        → IsAnswered b (seen_in stripe.new).device.past (kept_in stripe.new) [] given said) }
+    ensures leaves { LeavesBut None (Some reader.reader) (state_in stripe.old)
+        (state_in stripe.new) }
 {
     match close_read(stripe, reader) {
         Ok(()) => Ok(()),
@@ -245,12 +249,12 @@ pub(crate) fn get_line<D: Disk, R: Directory + Drop, C: Chronicle>(
     key: Key,
     request: Fields,
 ) -> Result<StepAnswer, Stop>
-    requires session { IsSession D.Disk R.Directory C.Chronicle session.old }
-    ensures session { IsSession D.Disk R.Directory C.Chronicle session.new }
-    ensures ends { IfOk result (λ said. (run : Run) → Plays D.Disk R.Directory C.Chronicle run session.old
-        → StepEnds D.Disk R.Directory C.Chronicle run (step.Get key request) session.new said) }
-    ensures counts { IfOk result (TellsCount D.Disk R.Directory C.Chronicle session.new.part) }
-    ensures device { AreLater (return_of D.Disk R.Directory C.Chronicle session.old.part) (return_of D.Disk R.Directory C.Chronicle session.new.part) }
+    requires session { IsSession session.old }
+    ensures session { IsSession session.new }
+    ensures ends { IfOk result (λ said. (run : Run) → Plays run session.old
+        → StepEnds run (step.Get key request) session.new said) }
+    ensures counts { IfOk result (TellsCount session.new.part) }
+    ensures device { AreLater (return_of session.old.part) (return_of session.new.part) }
     ensures stop { IfErr result (IsSessionStop session.old) }
     ensures devices { devices_of session.new ≡ devices_of session.old }
     ensures names { length (names_in session.new) ≤ length (names_in session.old) + 1 }
@@ -271,16 +275,19 @@ fn get_in_part<D: Disk, R: Directory + Drop, C: Chronicle>(
     key: Key,
     request: Fields,
 ) -> Result<StepAnswer, AllocError>
-    requires part { IsPart D.Disk R.Directory C.Chronicle part.old }
-    ensures active { (slots : ℕ → Option Holding) → IsActive D.Disk R.Directory C.Chronicle part.old slots → IsActive D.Disk R.Directory C.Chronicle part.new slots }
-    ensures ends { IfOk result (λ said. (run : Run) (slots : ℕ → Option Holding) → AreHeld (state_in C.Chronicle part.old.stripe) slots
-        → PlaysIn run (state_in C.Chronicle part.old.stripe) slots
-        → LineEnds run (past_of D.Disk R.Directory part.old) (past_of D.Disk R.Directory part.new) (state_in C.Chronicle part.old.stripe) (state_in C.Chronicle part.new.stripe) key request slots said) }
-    ensures counts { IfOk result (TellsCount D.Disk R.Directory C.Chronicle (Some part.new)) }
-    ensures later { (seen_in D.Disk R.Directory part.old.stripe).device.faults ≤ (seen_in D.Disk R.Directory part.new.stripe).device.faults }
-    ensures unharmed { (run : Run) → AreTold (state_in C.Chronicle part.old.stripe) → AreOwn (state_in C.Chronicle part.old.stripe) run.streams
-        → Between D.Disk R.Directory C.Chronicle part.old.stripe part.new.stripe ⊎ ShowsAt (IsPlacedAs run.streams) run.now (past_of D.Disk R.Directory part.old) (past_of D.Disk R.Directory part.new) (state_in C.Chronicle part.old.stripe) (get_intents (state_in C.Chronicle part.old.stripe) key request) }
-    ensures goes { IsAfter (seen_in D.Disk R.Directory part.old.stripe).device (seen_in D.Disk R.Directory part.new.stripe).device }
+    requires part { IsPart part.old }
+    ensures active { (slots : ℕ → Option Holding) → IsActive part.old slots
+        → IsActive part.new slots }
+    ensures ends { IfOk result (λ said. (run : Run) (slots : ℕ → Option Holding)
+        → AreHeld (state_in part.old.stripe) slots → PlaysIn run (state_in part.old.stripe) slots
+        → LineEnds run (past_of part.old) (past_of part.new) (state_in part.old.stripe)
+        (state_in part.new.stripe) key request slots said) }
+    ensures counts { IfOk result (TellsCount (Some part.new)) }
+    ensures unharmed { (run : Run) → AreTold (state_in part.old.stripe)
+        → AreOwn (state_in part.old.stripe) run.streams → Between part.old.stripe part.new.stripe
+        ⊎ ShowsAt (IsPlacedAs run.streams) run.now (past_of part.old) (past_of part.new)
+        (state_in part.old.stripe) (get_intents (state_in part.old.stripe) key request) }
+    ensures proceeds { Proceeds part.old.stripe part.new.stripe }
 {
     reads_own();
     steps_tell();

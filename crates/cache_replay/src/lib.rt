@@ -1,5 +1,5 @@
 //! Sessions: the steps of a script on a cache, whose device comes from a bay.
-#![tactic(auto, using(logged_disk::proofs::GoingOn::stays_as, stripe_core::proofs::Between::between_same))]
+#![tactic(auto, using(logged_disk::proofs::GoingOn::stays_as, stripe_core::proofs::Between::between_same, stripe_core::proofs::Continuing::continues_same, stripe_core::proofs::Continuing::rests_same))]
 
 mod answers;
 mod beginning;

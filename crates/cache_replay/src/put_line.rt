@@ -1,8 +1,8 @@
 // The line of a whole put.
-ghost use Rattle.std.specs.Prelude.{◌≡◌, ◌≤◌, ◌⊎◌, Some, None, IfOk, IfErr};
+ghost use Rattle.std.specs.Prelude.{◌≡◌, ◌⊎◌, Some, None, IfOk, IfErr};
 ghost use Rattle.cache_model.specs.Vectors.{AreTold};
-ghost use Rattle.stripe_core.specs.Stripe.{seen_in, state_in};
-ghost use Rattle.stripe_core.specs.Between.{Between};
+ghost use Rattle.stripe_core.specs.Stripe.{state_in};
+ghost use Rattle.stripe_core.specs.Between.{Rests};
 ghost use Rattle.script_lang.specs.declared.step.Step.TheVariants as step;
 ghost use Rattle.script_run.specs.Run.{Run};
 ghost use Rattle.cache_replay.specs.Shown.{ShowsIn};
@@ -32,12 +32,12 @@ pub(crate) fn put_line<D: Disk, R: Directory + Drop, C: Chronicle>(
     request: Fields,
     response: Fields,
 ) -> Result<StepAnswer, Stop>
-    requires session { IsSession D.Disk R.Directory C.Chronicle session.old }
-    ensures session { IsSession D.Disk R.Directory C.Chronicle session.new }
-    ensures ends { IfOk result (λ said. (run : Run) → Plays D.Disk R.Directory C.Chronicle run session.old
-        → StepEnds D.Disk R.Directory C.Chronicle run (step.Put key body.now request response) session.new said) }
-    ensures counts { IfOk result (TellsCount D.Disk R.Directory C.Chronicle session.new.part) }
-    ensures device { AreLater (return_of D.Disk R.Directory C.Chronicle session.old.part) (return_of D.Disk R.Directory C.Chronicle session.new.part) }
+    requires session { IsSession session.old }
+    ensures session { IsSession session.new }
+    ensures ends { IfOk result (λ said. (run : Run) → Plays run session.old
+        → StepEnds run (step.Put key body.now request response) session.new said) }
+    ensures counts { IfOk result (TellsCount session.new.part) }
+    ensures device { AreLater (return_of session.old.part) (return_of session.new.part) }
     ensures stop { IfErr result (IsSessionStop session.old) }
     ensures devices { devices_of session.new ≡ devices_of session.old }
     ensures names { names_in session.new ≡ names_in session.old }
@@ -60,16 +60,19 @@ fn put_in<D: Disk, R: Directory + Drop, C: Chronicle>(
     response: Fields,
     now: u64,
 ) -> Result<StepAnswer, Stop>
-    requires part { IsPart D.Disk R.Directory C.Chronicle part.old }
-    ensures part { IsPart D.Disk R.Directory C.Chronicle part.new }
-    ensures leaves { LeavesBut (Some (state_in C.Chronicle part.old.stripe).next_put) None (state_in C.Chronicle part.old.stripe) (state_in C.Chronicle part.new.stripe) }
-    ensures ends { IfOk result (λ said. (run : Run) → run.now ≡ now → AreTold (state_in C.Chronicle part.old.stripe)
-        → Plainly run (step.Put key body.now request response) (past_of D.Disk R.Directory part.old) (past_of D.Disk R.Directory part.new) (state_in C.Chronicle part.old.stripe) (state_in C.Chronicle part.new.stripe) said
-        ⊎ ShowsIn run (past_of D.Disk R.Directory part.old) (past_of D.Disk R.Directory part.new) (Some (state_in C.Chronicle part.old.stripe)) (step.Put key body.now request response)) }
+    requires part { IsPart part.old }
+    ensures part { IsPart part.new }
+    ensures leaves { LeavesBut (Some (state_in part.old.stripe).next_put) None
+        (state_in part.old.stripe) (state_in part.new.stripe) }
+    ensures ends { IfOk result (λ said. (run : Run) → run.now ≡ now
+        → AreTold (state_in part.old.stripe)
+        → Plainly run (step.Put key body.now request response) (past_of part.old) (past_of part.new)
+        (state_in part.old.stripe) (state_in part.new.stripe) said
+        ⊎ ShowsIn run (past_of part.old) (past_of part.new) (Some (state_in part.old.stripe))
+        (step.Put key body.now request response)) }
     ensures stop { IfErr result (λ stop. stop ≡ Stop.Memory) }
-    ensures counts { IfOk result (TellsCount D.Disk R.Directory C.Chronicle (Some part.new)) }
-    ensures later { (seen_in D.Disk R.Directory part.old.stripe).device.faults ≤ (seen_in D.Disk R.Directory part.new.stripe).device.faults }
-    ensures unharmed { Between D.Disk R.Directory C.Chronicle part.old.stripe part.new.stripe }
+    ensures counts { IfOk result (TellsCount (Some part.new)) }
+    ensures rests { Rests part.old.stripe part.new.stripe }
 {
     match closed_answer(put(&mut part.stripe, key, body, request, response, now)) {
         Some(said) => Ok(said),

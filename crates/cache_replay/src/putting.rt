@@ -1,8 +1,8 @@
 // Whole bodies are put.
 ghost use Rattle.std.specs.Prelude.{◌≡◌, ◌≤◌, Some, None, true, IfErr};
-ghost use Rattle.cache_model.specs.Legal.{IsQuiet, is_writing};
-ghost use Rattle.stripe_core.specs.Stripe.{IsStripe, kept_in, seen_in, state_in};
-ghost use Rattle.stripe_core.specs.Between.{Between};
+ghost use Rattle.cache_model.specs.Legal.{is_writing};
+ghost use Rattle.stripe_core.specs.Stripe.{kept_in, seen_in, state_in};
+ghost use Rattle.stripe_core.specs.Between.{IsResting, Rests};
 ghost use Rattle.stripe_write.specs.Others.{AddsOfPut};
 ghost use Rattle.stripe_write.specs.Writers.{IsWriterOf};
 ghost use Rattle.script_run.specs.Losses.{NoLossIsAFault};
@@ -29,17 +29,14 @@ pub(crate) fn put<D: Disk, R: Directory + Drop, C: Chronicle>(
     response: Fields,
     now: u64,
 ) -> Result<Receipt, Refusal>
-    requires stripe { IsStripe D.Disk R.Directory C.Chronicle stripe.old }
-    requires quiet { IsQuiet (state_in C.Chronicle stripe.old) }
-    ensures stripe { IsStripe D.Disk R.Directory C.Chronicle stripe.new }
-    ensures quiet { IsQuiet (state_in C.Chronicle stripe.new) }
-    ensures puts { PutsWhere now (seen_in D.Disk R.Directory stripe.old).device.past (seen_in D.Disk R.Directory stripe.new).device.past
-        (kept_in C.Chronicle stripe.old) (kept_in C.Chronicle stripe.new) key body.now request response result }
-    ensures leaves { LeavesBut (Some (state_in C.Chronicle stripe.old).next_put) None (state_in C.Chronicle stripe.old) (state_in C.Chronicle stripe.new) }
-    ensures counts { IfErr result (λ why. NoLossIsAFault (state_in C.Chronicle stripe.old)
-        → count_of_refusal why ≤ (seen_in D.Disk R.Directory stripe.new).device.faults) }
-    ensures later { (seen_in D.Disk R.Directory stripe.old).device.faults ≤ (seen_in D.Disk R.Directory stripe.new).device.faults }
-    ensures unharmed { Between D.Disk R.Directory C.Chronicle stripe.old stripe.new }
+    requires resting { IsResting stripe.old }
+    ensures rests { Rests stripe.old stripe.new }
+    ensures puts { PutsWhere now (seen_in stripe.old).device.past (seen_in stripe.new).device.past
+        (kept_in stripe.old) (kept_in stripe.new) key body.now request response result }
+    ensures leaves { LeavesBut (Some (state_in stripe.old).next_put) None (state_in stripe.old)
+        (state_in stripe.new) }
+    ensures counts { IfErr result (λ why. NoLossIsAFault (state_in stripe.old)
+        → count_of_refusal why ≤ (seen_in stripe.new).device.faults) }
 {
     // The laws tell that other puts and all readers stay, and that what the records keep may be kept when the
     // put is open.
@@ -58,36 +55,34 @@ fn put_open<D: Disk, R: Directory + Drop, C: Chronicle>(
     body: &[u8],
     now: u64,
 ) -> Result<Receipt, Refusal>
-    requires stripe { IsStripe D.Disk R.Directory C.Chronicle stripe.old }
-    requires quiet { IsQuiet (state_in C.Chronicle stripe.old) }
-    requires writer { IsWriterOf (state_in C.Chronicle stripe.old) writer.old }
-    requires writing { is_writing (state_in C.Chronicle stripe.old) writer.old.put ≡ true }
+    requires resting { IsResting stripe.old }
+    requires writer { IsWriterOf (state_in stripe.old) writer.old }
+    requires writing { is_writing (state_in stripe.old) writer.old.put ≡ true }
     requires fresh { IsFresh writer.old }
-    ensures stripe { IsStripe D.Disk R.Directory C.Chronicle stripe.new }
-    ensures quiet { IsQuiet (state_in C.Chronicle stripe.new) }
-    ensures ends { BodyEndsWhere now (seen_in D.Disk R.Directory stripe.old).device.past (seen_in D.Disk R.Directory stripe.new).device.past
-        (kept_in C.Chronicle stripe.old) (kept_in C.Chronicle stripe.new) writer.old.put body.now result }
-    ensures own { AddsOfPut writer.old.put (kept_in C.Chronicle stripe.old) (kept_in C.Chronicle stripe.new) }
-    ensures counts { IfErr result (λ why. NoLossIsAFault (state_in C.Chronicle stripe.old)
-        → count_of_refusal why ≤ (seen_in D.Disk R.Directory stripe.new).device.faults) }
-    ensures later { (seen_in D.Disk R.Directory stripe.old).device.faults ≤ (seen_in D.Disk R.Directory stripe.new).device.faults }
-    ensures unharmed { Between D.Disk R.Directory C.Chronicle stripe.old stripe.new }
+    ensures rests { Rests stripe.old stripe.new }
+    ensures ends { BodyEndsWhere now (seen_in stripe.old).device.past
+        (seen_in stripe.new).device.past (kept_in stripe.old)
+        (kept_in stripe.new) writer.old.put body.now result }
+    ensures own { AddsOfPut writer.old.put (kept_in stripe.old) (kept_in stripe.new) }
+    ensures counts { IfErr result (λ why. NoLossIsAFault (state_in stripe.old)
+        → count_of_refusal why ≤ (seen_in stripe.new).device.faults) }
 {
-    let result = fill(stripe, writer, body, now);
-    let end = abort_write(stripe, writer);
-    unless_memory(end, result)
+    match fill(stripe, writer, body, now) {
+        Ok(receipt) => Ok(receipt),
+        Err(why) => {
+            let end = abort_write(stripe, writer);
+            Err(unless_memory(end, why))
+        }
+    }
 }
 
-// The result, unless memory was wanting at the end.
-fn unless_memory(
-    end: Result<u64, Refusal>,
-    filled: Result<Receipt, Refusal>,
-) -> Result<Receipt, Refusal>
-    ensures { result ≡ unless_memory end filled }
+// Why a body was refused, unless memory was wanting to give its put up.
+fn unless_memory(end: Result<u64, Refusal>, why: Refusal) -> Refusal
+    ensures { result ≡ unless_memory end why }
 {
     match end {
-        Err(Refusal::Memory(e)) => Err(Refusal::Memory(e)),
-        _ => filled,
+        Err(Refusal::Memory(e)) => Refusal::Memory(e),
+        _ => why,
     }
 }
 
@@ -98,22 +93,18 @@ fn fill<D: Disk, R: Directory + Drop, C: Chronicle>(
     body: &[u8],
     now: u64,
 ) -> Result<Receipt, Refusal>
-    requires stripe { IsStripe D.Disk R.Directory C.Chronicle stripe.old }
-    requires quiet { IsQuiet (state_in C.Chronicle stripe.old) }
-    requires writer { IsWriterOf (state_in C.Chronicle stripe.old) writer.old }
-    requires writing { is_writing (state_in C.Chronicle stripe.old) writer.old.put ≡ true }
+    requires resting { IsResting stripe.old }
+    requires writer { IsWriterOf (state_in stripe.old) writer.old }
+    requires writing { is_writing (state_in stripe.old) writer.old.put ≡ true }
     requires fresh { IsFresh writer.old }
-    ensures stripe { IsStripe D.Disk R.Directory C.Chronicle stripe.new }
-    ensures quiet { IsQuiet (state_in C.Chronicle stripe.new) }
-    ensures writer { IsWriterOf (state_in C.Chronicle stripe.new) writer.new }
+    ensures rests { Rests stripe.old stripe.new }
+    ensures writer { IsWriterOf (state_in stripe.new) writer.new }
     ensures put { writer.new.put ≡ writer.old.put }
-    ensures fills { FillsWhere now (seen_in D.Disk R.Directory stripe.old).device.past (seen_in D.Disk R.Directory stripe.new).device.past
-        (kept_in C.Chronicle stripe.old) (kept_in C.Chronicle stripe.new) writer.old body.now result }
-    ensures own { AddsOfPut writer.old.put (kept_in C.Chronicle stripe.old) (kept_in C.Chronicle stripe.new) }
-    ensures counts { IfErr result (λ why. NoLossIsAFault (state_in C.Chronicle stripe.old)
-        → count_of_refusal why ≤ (seen_in D.Disk R.Directory stripe.new).device.faults) }
-    ensures later { (seen_in D.Disk R.Directory stripe.old).device.faults ≤ (seen_in D.Disk R.Directory stripe.new).device.faults }
-    ensures unharmed { Between D.Disk R.Directory C.Chronicle stripe.old stripe.new }
+    ensures fills { FillsWhere now (seen_in stripe.old).device.past (seen_in stripe.new).device.past
+        (kept_in stripe.old) (kept_in stripe.new) writer.old body.now result }
+    ensures own { AddsOfPut writer.old.put (kept_in stripe.old) (kept_in stripe.new) }
+    ensures counts { IfErr result (λ why. NoLossIsAFault (state_in stripe.old)
+        → count_of_refusal why ≤ (seen_in stripe.new).device.faults) }
 {
     match feed(stripe, writer, body, now).refused {
         None => close_write(stripe, writer, now),

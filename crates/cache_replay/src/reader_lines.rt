@@ -1,10 +1,8 @@
 // The lines of readers: they open, read on and are closed.
 ghost use Rattle.std.specs.Prelude.{◌≡◌, ◌==◌, ◌+◌, ◌-◌, ◌*◌, ◌^◌, ◌<◌, ◌≤◌, ℕ, length, Some, None, IfOk, IfErr, if◌then◌else◌, is_some};
 ghost use Rattle.tape_base.specs.Geometry.{budget_of};
-ghost use Rattle.cache_model.specs.Legal.{IsQuiet};
-ghost use Rattle.logged_disk.specs.Device.{IsAfter};
-ghost use Rattle.stripe_core.specs.Stripe.{IsStripe, seen_in, state_in};
-ghost use Rattle.stripe_core.specs.Between.{Between};
+ghost use Rattle.stripe_core.specs.Stripe.{seen_in, state_in};
+ghost use Rattle.stripe_core.specs.Between.{Between, IsResting, Proceeds, Rests};
 ghost use Rattle.stripe_read.specs.Readers.{IsOpenReader, IsReaderOf};
 ghost use Rattle.script_lang.specs.declared.step.Step.TheVariants as step;
 ghost use Rattle.script_lang.specs.declared.answer.StepAnswer.TheVariants as answer;
@@ -41,13 +39,13 @@ pub(crate) fn open_read_line<D: Disk, R: Directory + Drop, C: Chronicle>(
     key: Key,
     request: Fields,
 ) -> Result<StepAnswer, Stop>
-    requires session { IsSession D.Disk R.Directory C.Chronicle session.old }
+    requires session { IsSession session.old }
     requires few { length (names_in session.old) < 2 ^ 32 - 1 }
-    ensures session { IsSession D.Disk R.Directory C.Chronicle session.new }
-    ensures ends { IfOk result (λ said. (run : Run) → Plays D.Disk R.Directory C.Chronicle run session.old
-        → StepEnds D.Disk R.Directory C.Chronicle run (step.OpenRead actor.now key request) session.new said) }
-    ensures counts { IfOk result (TellsCount D.Disk R.Directory C.Chronicle session.new.part) }
-    ensures device { AreLater (return_of D.Disk R.Directory C.Chronicle session.old.part) (return_of D.Disk R.Directory C.Chronicle session.new.part) }
+    ensures session { IsSession session.new }
+    ensures ends { IfOk result (λ said. (run : Run) → Plays run session.old
+        → StepEnds run (step.OpenRead actor.now key request) session.new said) }
+    ensures counts { IfOk result (TellsCount session.new.part) }
+    ensures device { AreLater (return_of session.old.part) (return_of session.new.part) }
     ensures stop { IfErr result (IsSessionStop session.old) }
     ensures devices { devices_of session.new ≡ devices_of session.old }
     ensures names { length (names_in session.new) ≤ length (names_in session.old) + 1 }
@@ -66,16 +64,15 @@ fn open_reader<D: Disk, R: Directory + Drop, C: Chronicle>(
     key: Key,
     request: Fields,
 ) -> Result<StepAnswer, Stop>
-    requires active { IsActive D.Disk R.Directory C.Chronicle part.old (slots_of actors.old) }
+    requires active { IsActive part.old (slots_of actors.old) }
     requires few { length actors.old.names < 2 ^ 32 - 1 }
-    ensures active { IsActive D.Disk R.Directory C.Chronicle part.new (slots_of actors.new) }
-    ensures ends { IfOk result (λ said. (run : Run) → PlaysPart C.Chronicle run part.old actors.old
-        → PartEnds D.Disk R.Directory C.Chronicle run part.old (step.OpenRead actor.now key request) part.new actors.new said) }
-    ensures unharmed { Between D.Disk R.Directory C.Chronicle part.old.stripe part.new.stripe }
+    ensures active { IsActive part.new (slots_of actors.new) }
+    ensures ends { IfOk result (λ said. (run : Run) → PlaysPart run part.old actors.old
+        → PartEnds run part.old (step.OpenRead actor.now key request) part.new actors.new said) }
+    ensures rests { Rests part.old.stripe part.new.stripe }
     ensures stop { IfErr result (λ why. why ≡ stop.Memory) }
     ensures names { length actors.new.names ≤ length actors.old.names + 1 }
-    ensures counts { IfOk result (TellsCount D.Disk R.Directory C.Chronicle (Some part.new)) }
-    ensures later { (seen_in D.Disk R.Directory part.old.stripe).device.faults ≤ (seen_in D.Disk R.Directory part.new.stripe).device.faults }
+    ensures counts { IfOk result (TellsCount (Some part.new)) }
 {
     groups_tell();
     steps_own();
@@ -124,13 +121,13 @@ pub(crate) fn next_line<D: Disk, R: Directory + Drop, C: Chronicle>(
     session: &mut Session<D, R, C>,
     actor: &[u8],
 ) -> Result<StepAnswer, Stop>
-    requires session { IsSession D.Disk R.Directory C.Chronicle session.old }
+    requires session { IsSession session.old }
     requires few { length (names_in session.old) < 2 ^ 32 - 1 }
-    ensures session { IsSession D.Disk R.Directory C.Chronicle session.new }
-    ensures ends { IfOk result (λ said. (run : Run) → Plays D.Disk R.Directory C.Chronicle run session.old
-        → StepEnds D.Disk R.Directory C.Chronicle run (step.Next actor.now) session.new said) }
-    ensures counts { IfOk result (TellsCount D.Disk R.Directory C.Chronicle session.new.part) }
-    ensures device { AreLater (return_of D.Disk R.Directory C.Chronicle session.old.part) (return_of D.Disk R.Directory C.Chronicle session.new.part) }
+    ensures session { IsSession session.new }
+    ensures ends { IfOk result (λ said. (run : Run) → Plays run session.old
+        → StepEnds run (step.Next actor.now) session.new said) }
+    ensures counts { IfOk result (TellsCount session.new.part) }
+    ensures device { AreLater (return_of session.old.part) (return_of session.new.part) }
     ensures stop { IfErr result (IsSessionStop session.old) }
     ensures devices { devices_of session.new ≡ devices_of session.old }
     ensures names { length (names_in session.new) ≤ length (names_in session.old) + 1 }
@@ -148,18 +145,17 @@ fn next<D: Disk, R: Directory + Drop, C: Chronicle>(
     actor: &[u8],
     alloc: Global,
 ) -> Result<StepAnswer, Stop>
-    requires active { IsActive D.Disk R.Directory C.Chronicle part.old (slots_of actors.old) }
+    requires active { IsActive part.old (slots_of actors.old) }
     requires few { length actors.old.names < 2 ^ 32 - 1 }
-    ensures active { IsActive D.Disk R.Directory C.Chronicle part.new (slots_of actors.new) }
-    ensures ends { IfOk result (λ said. (run : Run) → PlaysPart C.Chronicle run part.old actors.old
-        → PartEnds D.Disk R.Directory C.Chronicle run part.old (step.Next actor.now) part.new actors.new said) }
-    ensures unharmed { (run : Run) → PlaysPart C.Chronicle run part.old actors.old
-        → Between D.Disk R.Directory C.Chronicle part.old.stripe part.new.stripe }
-    ensures goes { IsAfter (seen_in D.Disk R.Directory part.old.stripe).device (seen_in D.Disk R.Directory part.new.stripe).device }
+    ensures active { IsActive part.new (slots_of actors.new) }
+    ensures ends { IfOk result (λ said. (run : Run) → PlaysPart run part.old actors.old
+        → PartEnds run part.old (step.Next actor.now) part.new actors.new said) }
+    ensures unharmed { (run : Run) → PlaysPart run part.old actors.old
+        → Between part.old.stripe part.new.stripe }
+    ensures proceeds { Proceeds part.old.stripe part.new.stripe }
     ensures stop { IfErr result (λ why. why ≡ stop.Memory) }
     ensures names { length actors.new.names ≤ length actors.old.names + 1 }
-    ensures counts { IfOk result (TellsCount D.Disk R.Directory C.Chronicle (Some part.new)) }
-    ensures later { (seen_in D.Disk R.Directory part.old.stripe).device.faults ≤ (seen_in D.Disk R.Directory part.new.stripe).device.faults }
+    ensures counts { IfOk result (TellsCount (Some part.new)) }
 {
     groups_tell();
     steps_own();
@@ -180,21 +176,23 @@ fn read_on<D: Disk, R: Directory + Drop, C: Chronicle>(
     reader: &mut Reader,
     alloc: Global,
 ) -> Result<StepAnswer, Stop>
-    requires part { IsPart D.Disk R.Directory C.Chronicle part.old }
-    requires reader { IsOpenReader (state_in C.Chronicle part.old.stripe) reader.old }
-    ensures part { IsPart D.Disk R.Directory C.Chronicle part.new }
-    ensures reader { IsOpenReader (state_in C.Chronicle part.new.stripe) reader.new }
+    requires part { IsPart part.old }
+    requires reader { IsOpenReader (state_in part.old.stripe) reader.old }
+    ensures part { IsPart part.new }
+    ensures reader { IsOpenReader (state_in part.new.stripe) reader.new }
     ensures same { reader.new.reader ≡ reader.old.reader }
-    ensures leaves { LeavesBut None (Some reader.old.reader) (state_in C.Chronicle part.old.stripe) (state_in C.Chronicle part.new.stripe) }
-    ensures ends { IfOk result (λ said. (run : Run) → AreOwn (state_in C.Chronicle part.old.stripe) run.streams → IsReaderOf (state_in C.Chronicle part.old.stripe) reader.old
-        → NextEnds run (past_of D.Disk R.Directory part.old) (past_of D.Disk R.Directory part.new) (state_in C.Chronicle part.old.stripe) (state_in C.Chronicle part.new.stripe) reader.old reader.new said) }
-    ensures unharmed { (run : Run) → AreOwn (state_in C.Chronicle part.old.stripe) run.streams
-        → IsReaderOf (state_in C.Chronicle part.old.stripe) reader.old
-        → Between D.Disk R.Directory C.Chronicle part.old.stripe part.new.stripe }
-    ensures goes { IsAfter (seen_in D.Disk R.Directory part.old.stripe).device (seen_in D.Disk R.Directory part.new.stripe).device }
+    ensures leaves { LeavesBut None (Some reader.old.reader) (state_in part.old.stripe)
+        (state_in part.new.stripe) }
+    ensures ends { IfOk result (λ said. (run : Run) → AreOwn (state_in part.old.stripe) run.streams
+        → IsReaderOf (state_in part.old.stripe) reader.old
+        → NextEnds run (past_of part.old) (past_of part.new) (state_in part.old.stripe)
+        (state_in part.new.stripe) reader.old reader.new said) }
+    ensures unharmed { (run : Run) → AreOwn (state_in part.old.stripe) run.streams
+        → IsReaderOf (state_in part.old.stripe) reader.old
+        → Between part.old.stripe part.new.stripe }
+    ensures proceeds { Proceeds part.old.stripe part.new.stripe }
     ensures stop { IfErr result (λ why. why ≡ stop.Memory) }
-    ensures counts { IfOk result (TellsCount D.Disk R.Directory C.Chronicle (Some part.new)) }
-    ensures later { (seen_in D.Disk R.Directory part.old.stripe).device.faults ≤ (seen_in D.Disk R.Directory part.new.stripe).device.faults }
+    ensures counts { IfOk result (TellsCount (Some part.new)) }
 {
     read_to(&mut part.stripe, reader, &mut part.page, alloc)
 }
@@ -205,25 +203,25 @@ fn read_to<D: Disk, R: Directory + Drop, C: Chronicle>(
     page: &mut [u8],
     alloc: Global,
 ) -> Result<StepAnswer, Stop>
-    requires stripe { IsStripe D.Disk R.Directory C.Chronicle stripe.old }
-    requires quiet { IsQuiet (state_in C.Chronicle stripe.old) }
-    requires reader { IsOpenReader (state_in C.Chronicle stripe.old) reader.old }
-    requires page { length page.old ≡ 512 * budget_of (state_in C.Chronicle stripe.old).geometry }
-    ensures stripe { IsStripe D.Disk R.Directory C.Chronicle stripe.new }
-    ensures quiet { IsQuiet (state_in C.Chronicle stripe.new) }
-    ensures reader { IsOpenReader (state_in C.Chronicle stripe.new) reader.new }
+    requires resting { IsResting stripe.old }
+    requires reader { IsOpenReader (state_in stripe.old) reader.old }
+    requires page { length page.old ≡ 512 * budget_of (state_in stripe.old).geometry }
+    ensures resting { IsResting stripe.new }
+    ensures proceeds { Proceeds stripe.old stripe.new }
+    ensures reader { IsOpenReader (state_in stripe.new) reader.new }
     ensures same { reader.new.reader ≡ reader.old.reader }
-    ensures leaves { LeavesBut None (Some reader.old.reader) (state_in C.Chronicle stripe.old) (state_in C.Chronicle stripe.new) }
-    ensures ends { IfOk result (λ said. (run : Run) → AreOwn (state_in C.Chronicle stripe.old) run.streams → IsReaderOf (state_in C.Chronicle stripe.old) reader.old
-        → NextEnds run (seen_in D.Disk R.Directory stripe.old).device.past (seen_in D.Disk R.Directory stripe.new).device.past (state_in C.Chronicle stripe.old) (state_in C.Chronicle stripe.new) reader.old reader.new said) }
-    ensures unharmed { (run : Run) → AreOwn (state_in C.Chronicle stripe.old) run.streams
-        → IsReaderOf (state_in C.Chronicle stripe.old) reader.old
-        → Between D.Disk R.Directory C.Chronicle stripe.old stripe.new }
-    ensures goes { IsAfter (seen_in D.Disk R.Directory stripe.old).device (seen_in D.Disk R.Directory stripe.new).device }
+    ensures leaves { LeavesBut None (Some reader.old.reader) (state_in stripe.old)
+        (state_in stripe.new) }
+    ensures ends { IfOk result (λ said. (run : Run) → AreOwn (state_in stripe.old) run.streams
+        → IsReaderOf (state_in stripe.old) reader.old
+        → NextEnds run (seen_in stripe.old).device.past (seen_in stripe.new).device.past
+        (state_in stripe.old) (state_in stripe.new) reader.old reader.new said) }
+    ensures unharmed { (run : Run) → AreOwn (state_in stripe.old) run.streams
+        → IsReaderOf (state_in stripe.old) reader.old
+        → Between stripe.old stripe.new }
     ensures stop { IfErr result (λ why. why ≡ stop.Memory) }
-    ensures counts { IfOk result (λ said. NoLossIsAFault (state_in C.Chronicle stripe.old)
-        → count_in said ≤ (seen_in D.Disk R.Directory stripe.new).device.faults) }
-    ensures later { (seen_in D.Disk R.Directory stripe.old).device.faults ≤ (seen_in D.Disk R.Directory stripe.new).device.faults }
+    ensures counts { IfOk result (λ said. NoLossIsAFault (state_in stripe.old)
+        → count_in said ≤ (seen_in stripe.new).device.faults) }
 {
     read_is_own();
     own_is_as_listed();
@@ -256,13 +254,13 @@ pub(crate) fn done_line<D: Disk, R: Directory + Drop, C: Chronicle>(
     session: &mut Session<D, R, C>,
     actor: &[u8],
 ) -> Result<StepAnswer, Stop>
-    requires session { IsSession D.Disk R.Directory C.Chronicle session.old }
+    requires session { IsSession session.old }
     requires few { length (names_in session.old) < 2 ^ 32 - 1 }
-    ensures session { IsSession D.Disk R.Directory C.Chronicle session.new }
-    ensures ends { IfOk result (λ said. (run : Run) → Plays D.Disk R.Directory C.Chronicle run session.old
-        → StepEnds D.Disk R.Directory C.Chronicle run (step.Done actor.now) session.new said) }
-    ensures counts { IfOk result (TellsCount D.Disk R.Directory C.Chronicle session.new.part) }
-    ensures device { AreLater (return_of D.Disk R.Directory C.Chronicle session.old.part) (return_of D.Disk R.Directory C.Chronicle session.new.part) }
+    ensures session { IsSession session.new }
+    ensures ends { IfOk result (λ said. (run : Run) → Plays run session.old
+        → StepEnds run (step.Done actor.now) session.new said) }
+    ensures counts { IfOk result (TellsCount session.new.part) }
+    ensures device { AreLater (return_of session.old.part) (return_of session.new.part) }
     ensures stop { IfErr result (IsSessionStop session.old) }
     ensures devices { devices_of session.new ≡ devices_of session.old }
     ensures names { length (names_in session.new) ≤ length (names_in session.old) + 1 }
@@ -279,16 +277,15 @@ fn done<D: Disk, R: Directory + Drop, C: Chronicle>(
     actors: &mut Actors<Holding>,
     actor: &[u8],
 ) -> Result<StepAnswer, Stop>
-    requires active { IsActive D.Disk R.Directory C.Chronicle part.old (slots_of actors.old) }
+    requires active { IsActive part.old (slots_of actors.old) }
     requires few { length actors.old.names < 2 ^ 32 - 1 }
-    ensures active { IsActive D.Disk R.Directory C.Chronicle part.new (slots_of actors.new) }
-    ensures ends { IfOk result (λ said. (run : Run) → PlaysPart C.Chronicle run part.old actors.old
-        → PartEnds D.Disk R.Directory C.Chronicle run part.old (step.Done actor.now) part.new actors.new said) }
-    ensures unharmed { Between D.Disk R.Directory C.Chronicle part.old.stripe part.new.stripe }
+    ensures active { IsActive part.new (slots_of actors.new) }
+    ensures ends { IfOk result (λ said. (run : Run) → PlaysPart run part.old actors.old
+        → PartEnds run part.old (step.Done actor.now) part.new actors.new said) }
+    ensures rests { Rests part.old.stripe part.new.stripe }
     ensures stop { IfErr result (λ why. why ≡ stop.Memory) }
     ensures names { length actors.new.names ≤ length actors.old.names + 1 }
-    ensures counts { IfOk result (TellsCount D.Disk R.Directory C.Chronicle (Some part.new)) }
-    ensures later { (seen_in D.Disk R.Directory part.old.stripe).device.faults ≤ (seen_in D.Disk R.Directory part.new.stripe).device.faults }
+    ensures counts { IfOk result (TellsCount (Some part.new)) }
 {
     groups_tell();
     steps_own();

@@ -18,9 +18,9 @@ use crate::reader_lines::{done_line, next_line, open_read_line};
 use crate::session::{Cache, Session};
 use crate::stop::Stop;
 use crate::writer_lines::{abort_line, close_line, data_line, open_write_line};
-use cache_chronicle::{Chronicle, FullChronicle};
+use cache_chronicle::Chronicle;
 use device_bay::Bay;
-use dir_table::{Directory, ListDirectory};
+use dir_table::Directory;
 use logged_disk::Disk;
 use script_lang::{Step, StepAnswer};
 
@@ -30,24 +30,23 @@ pub fn step<B: Bay>(
     bay: &mut B,
     step: Step,
 ) -> Result<StepAnswer, Stop>
-    requires session { IsSession B.Dev.Disk ⟦<ListDirectory as Directory>⟧ ⟦<FullChronicle as Chronicle>⟧ session.old }
+    requires session { IsSession session.old }
     requires held { devices_of session.old ≤ out_of (B.past bay.old) }
     requires few { length (names_in session.old) < 2 ^ 32 - 1 }
-    ensures session { IsSession B.Dev.Disk ⟦<ListDirectory as Directory>⟧ ⟦<FullChronicle as Chronicle>⟧ session.new }
-    ensures ends { IfOk result (λ said. (run : Run) → Plays B.Dev.Disk ⟦<ListDirectory as Directory>⟧ ⟦<FullChronicle as Chronicle>⟧ run session.old
-        → DeviceEnds B.Dev.Disk ⟦<ListDirectory as Directory>⟧ ⟦<FullChronicle as Chronicle>⟧ run step session.new said
+    ensures session { IsSession session.new }
+    ensures ends { IfOk result (λ said. (run : Run) → Plays run session.old
+        → DeviceEnds run step session.new said
         (ledger_of B.Bay bay.old) (ledger_of B.Bay bay.new)) }
-    ensures outline { IfOk result (λ said. (o : Outline) → IsOutlined B.Dev.Disk ⟦<ListDirectory as Directory>⟧ ⟦<FullChronicle as Chronicle>⟧ o session.old
-        → Outlines B.Dev.Disk ⟦<ListDirectory as Directory>⟧ ⟦<FullChronicle as Chronicle>⟧ o step session.new said
-        (ledger_of B.Bay bay.old) (ledger_of B.Bay bay.new)) }
+    ensures outline { IfOk result (λ said. (o : Outline) → IsOutlined o session.old
+        → Outlines o step session.new said (ledger_of B.Bay bay.old) (ledger_of B.Bay bay.new)) }
     ensures left { IfErr result (λ why. (harms : List Harm)
-        → AreReached harms (return_of B.Dev.Disk ⟦<ListDirectory as Directory>⟧ ⟦<FullChronicle as Chronicle>⟧ session.old.part)
-        → IsLeft B.Dev.Disk ⟦<ListDirectory as Directory>⟧ ⟦<FullChronicle as Chronicle>⟧ harms step session.new (ledger_of B.Bay bay.old) (ledger_of B.Bay bay.new) why) }
+        → AreReached harms (return_of session.old.part)
+        → IsLeft harms step session.new (ledger_of B.Bay bay.old) (ledger_of B.Bay bay.new) why) }
     ensures stop { IfErr result (StopsStep session.old step (B.past bay.old) (B.past bay.new)) }
     ensures out { out_of (B.past bay.new) + devices_of session.old ≡ out_of (B.past bay.old) + devices_of session.new }
     ensures names { length (names_in session.new) ≤ length (names_in session.old) + 1 }
-    ensures order { KeepsOrder (return_of B.Dev.Disk ⟦<ListDirectory as Directory>⟧ ⟦<FullChronicle as Chronicle>⟧ session.old.part) (B.past bay.old)
-        (return_of B.Dev.Disk ⟦<ListDirectory as Directory>⟧ ⟦<FullChronicle as Chronicle>⟧ session.new.part) (B.past bay.new) }
+    ensures order { KeepsOrder (return_of session.old.part) (B.past bay.old)
+        (return_of session.new.part) (B.past bay.new) }
     ensures refusals { RefusesAtStop (B.past bay.old) (B.past bay.new) result }
 {
     match step {
@@ -84,10 +83,10 @@ fn now_line<D: Disk, R: Directory + Drop, C: Chronicle>(
     session: &mut Session<D, R, C>,
     moment: u64,
 ) -> StepAnswer
-    requires session { IsSession D.Disk R.Directory C.Chronicle session.old }
-    ensures session { IsSession D.Disk R.Directory C.Chronicle session.new }
-    ensures moves { (run : Run) → Plays D.Disk R.Directory C.Chronicle run session.old
-        → StepMoves D.Disk R.Directory C.Chronicle run (step.Now moment) session.new result }
+    requires session { IsSession session.old }
+    ensures session { IsSession session.new }
+    ensures moves { (run : Run) → Plays run session.old
+        → StepMoves run (step.Now moment) session.new result }
     ensures answer { result ≡ answer.Now moment }
     ensures part { session.new.part ≡ session.old.part }
     ensures devices { devices_of session.new ≡ devices_of session.old }
@@ -102,14 +101,14 @@ fn in_session<D: Disk, R: Directory + Drop, C: Chronicle>(
     session: &mut Session<D, R, C>,
     step: Step,
 ) -> Result<StepAnswer, Stop>
-    requires session { IsSession D.Disk R.Directory C.Chronicle session.old }
+    requires session { IsSession session.old }
     requires few { length (names_in session.old) < 2 ^ 32 - 1 }
     requires needs { NeedsSession step }
-    ensures session { IsSession D.Disk R.Directory C.Chronicle session.new }
-    ensures ends { IfOk result (λ said. (run : Run) → Plays D.Disk R.Directory C.Chronicle run session.old
-        → StepEnds D.Disk R.Directory C.Chronicle run step session.new said) }
-    ensures counts { IfOk result (TellsCount D.Disk R.Directory C.Chronicle session.new.part) }
-    ensures device { AreLater (return_of D.Disk R.Directory C.Chronicle session.old.part) (return_of D.Disk R.Directory C.Chronicle session.new.part) }
+    ensures session { IsSession session.new }
+    ensures ends { IfOk result (λ said. (run : Run) → Plays run session.old
+        → StepEnds run step session.new said) }
+    ensures counts { IfOk result (TellsCount session.new.part) }
+    ensures device { AreLater (return_of session.old.part) (return_of session.new.part) }
     ensures stop { IfErr result (IsSessionStop session.old) }
     ensures devices { devices_of session.new ≡ devices_of session.old }
     ensures names { length (names_in session.new) ≤ length (names_in session.old) + 1 }

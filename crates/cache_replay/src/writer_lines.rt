@@ -1,8 +1,8 @@
 // Lines on the writers of actors: they open, take bytes, close and are given up.
 ghost use Rattle.std.specs.Prelude.{ℕ, ◌≡◌, ◌==◌, ◌+◌, ◌-◌, ◌^◌, ◌<◌, ◌≤◌, true, Some, None, length, if◌then◌else◌, IfOk, IfErr, IfSome};
-ghost use Rattle.cache_model.specs.Legal.{IsQuiet, is_writing};
+ghost use Rattle.cache_model.specs.Legal.{is_writing};
 ghost use Rattle.stripe_core.specs.Stripe.{IsStripe, kept_in, seen_in, state_in};
-ghost use Rattle.stripe_core.specs.Between.{Between};
+ghost use Rattle.stripe_core.specs.Between.{IsResting, Rests};
 ghost use Rattle.stripe_write.specs.Others.{AddsOfPut};
 ghost use Rattle.stripe_write.specs.Writers.{IsWriterOf};
 ghost use Rattle.script_lang.specs.declared.step.Step.TheVariants as step;
@@ -114,8 +114,8 @@ fn keep_open<D: Disk, R: Directory + Drop, C: Chronicle>(
     stripe: &Stripe<D, R, C>,
     writer: Writer,
 ) -> Option<Writer>
-    requires { IsStripe D.Disk R.Directory C.Chronicle stripe.now }
-    ensures { result ≡ (if is_writing (state_in C.Chronicle stripe.now) writer.put then Some writer else None) }
+    requires { IsStripe stripe.now }
+    ensures { result ≡ (if is_writing (state_in stripe.now) writer.put then Some writer else None) }
 {
     if is_open(stripe, writer.put()) {
         Some(writer)
@@ -125,8 +125,8 @@ fn keep_open<D: Disk, R: Directory + Drop, C: Chronicle>(
 }
 
 fn is_open<D: Disk, R: Directory + Drop, C: Chronicle>(stripe: &Stripe<D, R, C>, put: u64) -> bool
-    requires { IsStripe D.Disk R.Directory C.Chronicle stripe.now }
-    ensures { result ≡ is_writing (state_in C.Chronicle stripe.now) put }
+    requires { IsStripe stripe.now }
+    ensures { result ≡ is_writing (state_in stripe.now) put }
 {
     matches!(
         stripe.open_directory().put_state(put),
@@ -145,13 +145,13 @@ pub(crate) fn open_write_line<D: Disk, R: Directory + Drop, C: Chronicle>(
     request: Fields,
     response: Fields,
 ) -> Result<StepAnswer, Stop>
-    requires session { IsSession D.Disk R.Directory C.Chronicle session.old }
+    requires session { IsSession session.old }
     requires few { length (names_in session.old) < 2 ^ 32 - 1 }
-    ensures session { IsSession D.Disk R.Directory C.Chronicle session.new }
-    ensures ends { IfOk result (λ said. (run : Run) → Plays D.Disk R.Directory C.Chronicle run session.old
-        → StepEnds D.Disk R.Directory C.Chronicle run (step.OpenWrite actor.now key pin request response) session.new said) }
-    ensures counts { IfOk result (TellsCount D.Disk R.Directory C.Chronicle session.new.part) }
-    ensures device { AreLater (return_of D.Disk R.Directory C.Chronicle session.old.part) (return_of D.Disk R.Directory C.Chronicle session.new.part) }
+    ensures session { IsSession session.new }
+    ensures ends { IfOk result (λ said. (run : Run) → Plays run session.old
+        → StepEnds run (step.OpenWrite actor.now key pin request response) session.new said) }
+    ensures counts { IfOk result (TellsCount session.new.part) }
+    ensures device { AreLater (return_of session.old.part) (return_of session.new.part) }
     ensures stop { IfErr result (IsSessionStop session.old) }
     ensures devices { devices_of session.new ≡ devices_of session.old }
     ensures names { length (names_in session.new) ≤ length (names_in session.old) + 1 }
@@ -179,15 +179,15 @@ fn open_write_in<D: Disk, R: Directory + Drop, C: Chronicle>(
     request: Fields,
     response: Fields,
 ) -> Result<StepAnswer, Stop>
-    requires active { IsActive D.Disk R.Directory C.Chronicle part.old (slots_of actors.old) }
+    requires active { IsActive part.old (slots_of actors.old) }
     requires few { length actors.old.names < 2 ^ 32 - 1 }
-    ensures active { IsActive D.Disk R.Directory C.Chronicle part.new (slots_of actors.new) }
-    ensures ends { IfOk result (λ said. (run : Run) → PlaysPart C.Chronicle run part.old actors.old
-        → PartEnds D.Disk R.Directory C.Chronicle run part.old (step.OpenWrite actor.now key pin request response) part.new actors.new said) }
+    ensures active { IsActive part.new (slots_of actors.new) }
+    ensures ends { IfOk result (λ said. (run : Run) → PlaysPart run part.old actors.old
+        → PartEnds run part.old (step.OpenWrite actor.now key pin request response) part.new
+        actors.new said) }
     ensures stop { IfErr result (λ why. why ≡ stop.Memory) }
-    ensures counts { IfOk result (TellsCount D.Disk R.Directory C.Chronicle (Some part.new)) }
-    ensures later { (seen_in D.Disk R.Directory part.old.stripe).device.faults ≤ (seen_in D.Disk R.Directory part.new.stripe).device.faults }
-    ensures unharmed { Between D.Disk R.Directory C.Chronicle part.old.stripe part.new.stripe }
+    ensures counts { IfOk result (TellsCount (Some part.new)) }
+    ensures rests { Rests part.old.stripe part.new.stripe }
     ensures names { length actors.new.names ≤ length actors.old.names + 1 }
 {
     steps_own();
@@ -215,17 +215,16 @@ fn begin<D: Disk, R: Directory + Drop, C: Chronicle>(
     request: Fields,
     response: Fields,
 ) -> Outcome
-    requires stripe { IsStripe D.Disk R.Directory C.Chronicle stripe.old }
-    requires quiet { IsQuiet (state_in C.Chronicle stripe.old) }
-    ensures stripe { IsStripe D.Disk R.Directory C.Chronicle stripe.new }
-    ensures quiet { IsQuiet (state_in C.Chronicle stripe.new) }
-    ensures counts { IfSome result.answer (λ said. NoLossIsAFault (state_in C.Chronicle stripe.old)
-        → count_in said ≤ (seen_in D.Disk R.Directory stripe.new).device.faults) }
-    ensures later { (seen_in D.Disk R.Directory stripe.old).device.faults ≤ (seen_in D.Disk R.Directory stripe.new).device.faults }
-    ensures unharmed { Between D.Disk R.Directory C.Chronicle stripe.old stripe.new }
-    ensures own { AddsOfPut (state_in C.Chronicle stripe.old).next_put (kept_in C.Chronicle stripe.old) (kept_in C.Chronicle stripe.new) }
-    ensures left { IsLeft (state_in C.Chronicle stripe.new) (state_in C.Chronicle stripe.old).next_put result.left }
-    ensures does { OpenDoes (seen_in D.Disk R.Directory stripe.old).device.past (seen_in D.Disk R.Directory stripe.new).device.past (state_in C.Chronicle stripe.old) (state_in C.Chronicle stripe.new) actor.0 (Opens key pin request response) result.left result.answer }
+    requires resting { IsResting stripe.old }
+    ensures rests { Rests stripe.old stripe.new }
+    ensures counts { IfSome result.answer (λ said. NoLossIsAFault (state_in stripe.old)
+        → count_in said ≤ (seen_in stripe.new).device.faults) }
+    ensures own { AddsOfPut (state_in stripe.old).next_put (kept_in stripe.old)
+        (kept_in stripe.new) }
+    ensures left { IsLeft (state_in stripe.new) (state_in stripe.old).next_put result.left }
+    ensures does { OpenDoes (seen_in stripe.old).device.past (seen_in stripe.new).device.past
+        (state_in stripe.old) (state_in stripe.new) actor.0
+        (Opens key pin request response) result.left result.answer }
 {
     match open_write(stripe, actor, key, request, response, pin) {
         Ok(writer) => Outcome {
@@ -247,13 +246,13 @@ pub(crate) fn data_line<D: Disk, R: Directory + Drop, C: Chronicle>(
     actor: &[u8],
     body: &[u8],
 ) -> Result<StepAnswer, Stop>
-    requires session { IsSession D.Disk R.Directory C.Chronicle session.old }
+    requires session { IsSession session.old }
     requires few { length (names_in session.old) < 2 ^ 32 - 1 }
-    ensures session { IsSession D.Disk R.Directory C.Chronicle session.new }
-    ensures ends { IfOk result (λ said. (run : Run) → Plays D.Disk R.Directory C.Chronicle run session.old
-        → StepEnds D.Disk R.Directory C.Chronicle run (step.Feed actor.now body.now) session.new said) }
-    ensures counts { IfOk result (TellsCount D.Disk R.Directory C.Chronicle session.new.part) }
-    ensures device { AreLater (return_of D.Disk R.Directory C.Chronicle session.old.part) (return_of D.Disk R.Directory C.Chronicle session.new.part) }
+    ensures session { IsSession session.new }
+    ensures ends { IfOk result (λ said. (run : Run) → Plays run session.old
+        → StepEnds run (step.Feed actor.now body.now) session.new said) }
+    ensures counts { IfOk result (TellsCount session.new.part) }
+    ensures device { AreLater (return_of session.old.part) (return_of session.new.part) }
     ensures stop { IfErr result (IsSessionStop session.old) }
     ensures devices { devices_of session.new ≡ devices_of session.old }
     ensures names { length (names_in session.new) ≤ length (names_in session.old) + 1 }
@@ -271,15 +270,15 @@ fn data_in<D: Disk, R: Directory + Drop, C: Chronicle>(
     body: &[u8],
     now: u64,
 ) -> Result<StepAnswer, Stop>
-    requires active { IsActive D.Disk R.Directory C.Chronicle part.old (slots_of actors.old) }
+    requires active { IsActive part.old (slots_of actors.old) }
     requires few { length actors.old.names < 2 ^ 32 - 1 }
-    ensures active { IsActive D.Disk R.Directory C.Chronicle part.new (slots_of actors.new) }
-    ensures ends { IfOk result (λ said. (run : Run) → run.now ≡ now → PlaysPart C.Chronicle run part.old actors.old
-        → PartEnds D.Disk R.Directory C.Chronicle run part.old (step.Feed actor.now body.now) part.new actors.new said) }
+    ensures active { IsActive part.new (slots_of actors.new) }
+    ensures ends { IfOk result (λ said. (run : Run) → run.now ≡ now
+        → PlaysPart run part.old actors.old
+        → PartEnds run part.old (step.Feed actor.now body.now) part.new actors.new said) }
     ensures stop { IfErr result (λ why. why ≡ stop.Memory) }
-    ensures counts { IfOk result (TellsCount D.Disk R.Directory C.Chronicle (Some part.new)) }
-    ensures later { (seen_in D.Disk R.Directory part.old.stripe).device.faults ≤ (seen_in D.Disk R.Directory part.new.stripe).device.faults }
-    ensures unharmed { Between D.Disk R.Directory C.Chronicle part.old.stripe part.new.stripe }
+    ensures counts { IfOk result (TellsCount (Some part.new)) }
+    ensures rests { Rests part.old.stripe part.new.stripe }
     ensures names { length actors.new.names ≤ length actors.old.names + 1 }
 {
     steps_own();
@@ -305,19 +304,17 @@ fn give_bytes<D: Disk, R: Directory + Drop, C: Chronicle>(
     body: &[u8],
     now: u64,
 ) -> Outcome
-    requires stripe { IsStripe D.Disk R.Directory C.Chronicle stripe.old }
-    requires quiet { IsQuiet (state_in C.Chronicle stripe.old) }
-    requires writer { IsWriterOf (state_in C.Chronicle stripe.old) writer }
-    requires writing { is_writing (state_in C.Chronicle stripe.old) writer.put ≡ true }
-    ensures stripe { IsStripe D.Disk R.Directory C.Chronicle stripe.new }
-    ensures quiet { IsQuiet (state_in C.Chronicle stripe.new) }
-    ensures counts { IfSome result.answer (λ said. NoLossIsAFault (state_in C.Chronicle stripe.old)
-        → count_in said ≤ (seen_in D.Disk R.Directory stripe.new).device.faults) }
-    ensures later { (seen_in D.Disk R.Directory stripe.old).device.faults ≤ (seen_in D.Disk R.Directory stripe.new).device.faults }
-    ensures unharmed { Between D.Disk R.Directory C.Chronicle stripe.old stripe.new }
-    ensures own { AddsOfPut writer.put (kept_in C.Chronicle stripe.old) (kept_in C.Chronicle stripe.new) }
-    ensures left { IsLeft (state_in C.Chronicle stripe.new) writer.put result.left }
-    ensures does { WriterDoes now (seen_in D.Disk R.Directory stripe.old).device.past (seen_in D.Disk R.Directory stripe.new).device.past (state_in C.Chronicle stripe.old) (state_in C.Chronicle stripe.new) (Feeds body.now) writer result.left result.answer }
+    requires resting { IsResting stripe.old }
+    requires writer { IsWriterOf (state_in stripe.old) writer }
+    requires writing { is_writing (state_in stripe.old) writer.put ≡ true }
+    ensures rests { Rests stripe.old stripe.new }
+    ensures counts { IfSome result.answer (λ said. NoLossIsAFault (state_in stripe.old)
+        → count_in said ≤ (seen_in stripe.new).device.faults) }
+    ensures own { AddsOfPut writer.put (kept_in stripe.old) (kept_in stripe.new) }
+    ensures left { IsLeft (state_in stripe.new) writer.put result.left }
+    ensures does { WriterDoes now (seen_in stripe.old).device.past (seen_in stripe.new).device.past
+        (state_in stripe.old) (state_in stripe.new)
+        (Feeds body.now) writer result.left result.answer }
 {
     let Fed { taken, refused } = feed(stripe, &mut writer, body, now);
     Outcome {
@@ -342,13 +339,13 @@ pub(crate) fn close_line<D: Disk, R: Directory + Drop, C: Chronicle>(
     session: &mut Session<D, R, C>,
     actor: &[u8],
 ) -> Result<StepAnswer, Stop>
-    requires session { IsSession D.Disk R.Directory C.Chronicle session.old }
+    requires session { IsSession session.old }
     requires few { length (names_in session.old) < 2 ^ 32 - 1 }
-    ensures session { IsSession D.Disk R.Directory C.Chronicle session.new }
-    ensures ends { IfOk result (λ said. (run : Run) → Plays D.Disk R.Directory C.Chronicle run session.old
-        → StepEnds D.Disk R.Directory C.Chronicle run (step.Close actor.now) session.new said) }
-    ensures counts { IfOk result (TellsCount D.Disk R.Directory C.Chronicle session.new.part) }
-    ensures device { AreLater (return_of D.Disk R.Directory C.Chronicle session.old.part) (return_of D.Disk R.Directory C.Chronicle session.new.part) }
+    ensures session { IsSession session.new }
+    ensures ends { IfOk result (λ said. (run : Run) → Plays run session.old
+        → StepEnds run (step.Close actor.now) session.new said) }
+    ensures counts { IfOk result (TellsCount session.new.part) }
+    ensures device { AreLater (return_of session.old.part) (return_of session.new.part) }
     ensures stop { IfErr result (IsSessionStop session.old) }
     ensures devices { devices_of session.new ≡ devices_of session.old }
     ensures names { length (names_in session.new) ≤ length (names_in session.old) + 1 }
@@ -365,15 +362,15 @@ fn close_in<D: Disk, R: Directory + Drop, C: Chronicle>(
     actor: &[u8],
     now: u64,
 ) -> Result<StepAnswer, Stop>
-    requires active { IsActive D.Disk R.Directory C.Chronicle part.old (slots_of actors.old) }
+    requires active { IsActive part.old (slots_of actors.old) }
     requires few { length actors.old.names < 2 ^ 32 - 1 }
-    ensures active { IsActive D.Disk R.Directory C.Chronicle part.new (slots_of actors.new) }
-    ensures ends { IfOk result (λ said. (run : Run) → run.now ≡ now → PlaysPart C.Chronicle run part.old actors.old
-        → PartEnds D.Disk R.Directory C.Chronicle run part.old (step.Close actor.now) part.new actors.new said) }
+    ensures active { IsActive part.new (slots_of actors.new) }
+    ensures ends { IfOk result (λ said. (run : Run) → run.now ≡ now
+        → PlaysPart run part.old actors.old
+        → PartEnds run part.old (step.Close actor.now) part.new actors.new said) }
     ensures stop { IfErr result (λ why. why ≡ stop.Memory) }
-    ensures counts { IfOk result (TellsCount D.Disk R.Directory C.Chronicle (Some part.new)) }
-    ensures later { (seen_in D.Disk R.Directory part.old.stripe).device.faults ≤ (seen_in D.Disk R.Directory part.new.stripe).device.faults }
-    ensures unharmed { Between D.Disk R.Directory C.Chronicle part.old.stripe part.new.stripe }
+    ensures counts { IfOk result (TellsCount (Some part.new)) }
+    ensures rests { Rests part.old.stripe part.new.stripe }
     ensures names { length actors.new.names ≤ length actors.old.names + 1 }
 {
     steps_own();
@@ -398,19 +395,16 @@ fn finish<D: Disk, R: Directory + Drop, C: Chronicle>(
     mut writer: Writer,
     now: u64,
 ) -> Outcome
-    requires stripe { IsStripe D.Disk R.Directory C.Chronicle stripe.old }
-    requires quiet { IsQuiet (state_in C.Chronicle stripe.old) }
-    requires writer { IsWriterOf (state_in C.Chronicle stripe.old) writer }
-    requires writing { is_writing (state_in C.Chronicle stripe.old) writer.put ≡ true }
-    ensures stripe { IsStripe D.Disk R.Directory C.Chronicle stripe.new }
-    ensures quiet { IsQuiet (state_in C.Chronicle stripe.new) }
-    ensures counts { IfSome result.answer (λ said. NoLossIsAFault (state_in C.Chronicle stripe.old)
-        → count_in said ≤ (seen_in D.Disk R.Directory stripe.new).device.faults) }
-    ensures later { (seen_in D.Disk R.Directory stripe.old).device.faults ≤ (seen_in D.Disk R.Directory stripe.new).device.faults }
-    ensures unharmed { Between D.Disk R.Directory C.Chronicle stripe.old stripe.new }
-    ensures own { AddsOfPut writer.put (kept_in C.Chronicle stripe.old) (kept_in C.Chronicle stripe.new) }
-    ensures left { IsLeft (state_in C.Chronicle stripe.new) writer.put result.left }
-    ensures does { WriterDoes now (seen_in D.Disk R.Directory stripe.old).device.past (seen_in D.Disk R.Directory stripe.new).device.past (state_in C.Chronicle stripe.old) (state_in C.Chronicle stripe.new) Closes writer result.left result.answer }
+    requires resting { IsResting stripe.old }
+    requires writer { IsWriterOf (state_in stripe.old) writer }
+    requires writing { is_writing (state_in stripe.old) writer.put ≡ true }
+    ensures rests { Rests stripe.old stripe.new }
+    ensures counts { IfSome result.answer (λ said. NoLossIsAFault (state_in stripe.old)
+        → count_in said ≤ (seen_in stripe.new).device.faults) }
+    ensures own { AddsOfPut writer.put (kept_in stripe.old) (kept_in stripe.new) }
+    ensures left { IsLeft (state_in stripe.new) writer.put result.left }
+    ensures does { WriterDoes now (seen_in stripe.old).device.past (seen_in stripe.new).device.past
+        (state_in stripe.old) (state_in stripe.new) Closes writer result.left result.answer }
 {
     let result = close_write(stripe, &mut writer, now);
     Outcome {
@@ -426,13 +420,13 @@ pub(crate) fn abort_line<D: Disk, R: Directory + Drop, C: Chronicle>(
     session: &mut Session<D, R, C>,
     actor: &[u8],
 ) -> Result<StepAnswer, Stop>
-    requires session { IsSession D.Disk R.Directory C.Chronicle session.old }
+    requires session { IsSession session.old }
     requires few { length (names_in session.old) < 2 ^ 32 - 1 }
-    ensures session { IsSession D.Disk R.Directory C.Chronicle session.new }
-    ensures ends { IfOk result (λ said. (run : Run) → Plays D.Disk R.Directory C.Chronicle run session.old
-        → StepEnds D.Disk R.Directory C.Chronicle run (step.Abort actor.now) session.new said) }
-    ensures counts { IfOk result (TellsCount D.Disk R.Directory C.Chronicle session.new.part) }
-    ensures device { AreLater (return_of D.Disk R.Directory C.Chronicle session.old.part) (return_of D.Disk R.Directory C.Chronicle session.new.part) }
+    ensures session { IsSession session.new }
+    ensures ends { IfOk result (λ said. (run : Run) → Plays run session.old
+        → StepEnds run (step.Abort actor.now) session.new said) }
+    ensures counts { IfOk result (TellsCount session.new.part) }
+    ensures device { AreLater (return_of session.old.part) (return_of session.new.part) }
     ensures stop { IfErr result (IsSessionStop session.old) }
     ensures devices { devices_of session.new ≡ devices_of session.old }
     ensures names { length (names_in session.new) ≤ length (names_in session.old) + 1 }
@@ -448,15 +442,14 @@ fn abort_in<D: Disk, R: Directory + Drop, C: Chronicle>(
     actors: &mut Actors<Holding>,
     actor: &[u8],
 ) -> Result<StepAnswer, Stop>
-    requires active { IsActive D.Disk R.Directory C.Chronicle part.old (slots_of actors.old) }
+    requires active { IsActive part.old (slots_of actors.old) }
     requires few { length actors.old.names < 2 ^ 32 - 1 }
-    ensures active { IsActive D.Disk R.Directory C.Chronicle part.new (slots_of actors.new) }
-    ensures ends { IfOk result (λ said. (run : Run) → PlaysPart C.Chronicle run part.old actors.old
-        → PartEnds D.Disk R.Directory C.Chronicle run part.old (step.Abort actor.now) part.new actors.new said) }
+    ensures active { IsActive part.new (slots_of actors.new) }
+    ensures ends { IfOk result (λ said. (run : Run) → PlaysPart run part.old actors.old
+        → PartEnds run part.old (step.Abort actor.now) part.new actors.new said) }
     ensures stop { IfErr result (λ why. why ≡ stop.Memory) }
-    ensures counts { IfOk result (TellsCount D.Disk R.Directory C.Chronicle (Some part.new)) }
-    ensures later { (seen_in D.Disk R.Directory part.old.stripe).device.faults ≤ (seen_in D.Disk R.Directory part.new.stripe).device.faults }
-    ensures unharmed { Between D.Disk R.Directory C.Chronicle part.old.stripe part.new.stripe }
+    ensures counts { IfOk result (TellsCount (Some part.new)) }
+    ensures rests { Rests part.old.stripe part.new.stripe }
     ensures names { length actors.new.names ≤ length actors.old.names + 1 }
 {
     steps_own();
@@ -480,19 +473,17 @@ fn give_up<D: Disk, R: Directory + Drop, C: Chronicle>(
     stripe: &mut Stripe<D, R, C>,
     mut writer: Writer,
 ) -> Outcome
-    requires stripe { IsStripe D.Disk R.Directory C.Chronicle stripe.old }
-    requires quiet { IsQuiet (state_in C.Chronicle stripe.old) }
-    requires writer { IsWriterOf (state_in C.Chronicle stripe.old) writer }
-    requires writing { is_writing (state_in C.Chronicle stripe.old) writer.put ≡ true }
-    ensures stripe { IsStripe D.Disk R.Directory C.Chronicle stripe.new }
-    ensures quiet { IsQuiet (state_in C.Chronicle stripe.new) }
-    ensures counts { IfSome result.answer (λ said. NoLossIsAFault (state_in C.Chronicle stripe.old)
-        → count_in said ≤ (seen_in D.Disk R.Directory stripe.new).device.faults) }
-    ensures later { (seen_in D.Disk R.Directory stripe.old).device.faults ≤ (seen_in D.Disk R.Directory stripe.new).device.faults }
-    ensures unharmed { Between D.Disk R.Directory C.Chronicle stripe.old stripe.new }
-    ensures own { AddsOfPut writer.put (kept_in C.Chronicle stripe.old) (kept_in C.Chronicle stripe.new) }
-    ensures left { IsLeft (state_in C.Chronicle stripe.new) writer.put result.left }
-    ensures does { (now : ℕ) → WriterDoes now (seen_in D.Disk R.Directory stripe.old).device.past (seen_in D.Disk R.Directory stripe.new).device.past (state_in C.Chronicle stripe.old) (state_in C.Chronicle stripe.new) GivesUp writer result.left result.answer }
+    requires resting { IsResting stripe.old }
+    requires writer { IsWriterOf (state_in stripe.old) writer }
+    requires writing { is_writing (state_in stripe.old) writer.put ≡ true }
+    ensures rests { Rests stripe.old stripe.new }
+    ensures counts { IfSome result.answer (λ said. NoLossIsAFault (state_in stripe.old)
+        → count_in said ≤ (seen_in stripe.new).device.faults) }
+    ensures own { AddsOfPut writer.put (kept_in stripe.old) (kept_in stripe.new) }
+    ensures left { IsLeft (state_in stripe.new) writer.put result.left }
+    ensures does { (now : ℕ) → WriterDoes now (seen_in stripe.old).device.past
+        (seen_in stripe.new).device.past (state_in stripe.old)
+        (state_in stripe.new) GivesUp writer result.left result.answer }
 {
     writer_is_ended();
     match abort_write(stripe, &mut writer) {

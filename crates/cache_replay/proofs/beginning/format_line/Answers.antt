@@ -10,21 +10,21 @@ use Rattle.cache_replay.proofs.Order.{order_same}
 use Rattle.cache_replay.proofs.beginning.format_line.Goals as goal
 
 pub returns-in-Err-clause-ends : goal.returns-in-Err-clause-ends
-returns-in-Err-clause-ends g c = λ run plays. format_refused _ _ _ run c.args.name.now _ _ _ _ _ _ _ _ _ c.in-Err.bad c.args.session.now _ (sym c.in-Err.ensures.refused) c.number_of.ensures plays
+returns-in-Err-clause-ends g c = λ run plays. format_refused run c.args.name.now _ _ _ _ _ _ _ _ _ c.in-Err.bad c.args.session.now _ (sym c.in-Err.ensures.refused) c.number_of.ensures plays
 
 pub returns-in-Err-clause-outline : goal.returns-in-Err-clause-outline
-returns-in-Err-clause-outline g c = λ o h. refused_outlines _ _ _ o c.args.name.now _ _ _ _ _ _ _ _ _ c.in-Err.bad c.args.session.now _ (sym c.in-Err.ensures.refused) c.number_of.ensures h
+returns-in-Err-clause-outline g c = λ o h. refused_outlines o c.args.name.now _ _ _ _ _ _ _ _ _ c.in-Err.bad c.args.session.now _ (sym c.in-Err.ensures.refused) c.number_of.ensures h
 
 pub returns-in_ok-format-in-Ok-clause-ends : goal.returns-in_ok-format-in-Ok-clause-ends
 returns-in_ok-format-in-Ok-clause-ends g c = λ run plays.
-    format_done _ _ _ run c.args.name.now _ _ _ _ _ _ _ _ c.in-Ok.geometry _ _ _ _ (sym c.in-Ok.ensures.refused) c.floor_of.ensures c.in-Ok.ensures.numbers (c.in_ok-format-in-Ok.ensures.plays run plays)
-    (c.in_ok-format-in-Ok.ensures.deals (harm_of run.calls run.state) (plays_reached _ _ _ run c.args.session.now c.requires.session plays))
+    format_done run c.args.name.now _ _ _ _ _ _ _ _ c.in-Ok.geometry _ _ _ _ (sym c.in-Ok.ensures.refused) c.floor_of.ensures c.in-Ok.ensures.numbers (c.in_ok-format-in-Ok.ensures.plays run plays)
+    (c.in_ok-format-in-Ok.ensures.deals (harm_of run.calls run.state) (plays_reached run c.args.session.now c.requires.session plays))
 
 pub returns-in_ok-format-in-Ok-clause-outline : goal.returns-in_ok-format-in-Ok-clause-outline
 returns-in_ok-format-in-Ok-clause-outline g c = λ o h.
     let numbers : HasNumbers c.in-Ok.geometry _ _ _ _ _ _ _ _ = c.in-Ok.ensures.numbers in
     let low = first_floor_is _ _ _ _ _ _ _ _ c.in-Ok.geometry _ numbers c.floor_of.ensures in
-    format_outlines _ _ _ o c.args.name.now _ _ _ _ _ _ _ _ _ _ _ _ _ (sym c.in-Ok.ensures.refused) numbers.has_content low c.in_ok-format-in-Ok.ensures.begun (c.in_ok-format-in-Ok.ensures.deals (told_of o.session) h)
+    format_outlines o c.args.name.now _ _ _ _ _ _ _ _ _ _ _ _ _ (sym c.in-Ok.ensures.refused) numbers.has_content low c.in_ok-format-in-Ok.ensures.begun (c.in_ok-format-in-Ok.ensures.deals (told_of o.session) h)
 
 pub returns-in_err-format-in-Ok-clause-left : goal.returns-in_err-format-in-Ok-clause-left
 returns-in_err-format-in-Ok-clause-left g c =

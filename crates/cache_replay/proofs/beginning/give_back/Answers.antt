@@ -11,10 +11,10 @@ pub returns-in-Some-clause-order : goal.returns-in-Some-clause-order
 returns-in-Some-clause-order g c =
     let old = g.B.Bay.past c.args.bay.now in
     let new = g.B.Bay.past c.give_back.new.self in
-    subst (λ part. (own : List Device) → KeepsOrder (return_of g.B.Dev.Disk g.R.Directory g.C.Chronicle part ++ own) old own new) (sym c.in-Some.is)
-    (λ own. order_took (seen_in g.B.Dev.Disk g.R.Directory c.in-Some.part.stripe).device own old new (c.give_back.ensures.took ∙ ap (λ d. TookBack d ∷ old) c.into_disk.ensures))
+    subst (λ part. (own : List Device) → KeepsOrder (return_of part ++ own) old own new) (sym c.in-Some.is)
+    (λ own. order_took (seen_in c.in-Some.part.stripe).device own old new (c.give_back.ensures.took ∙ ap (λ d. TookBack d ∷ old) c.into_disk.ensures))
 
 pub returns-in-None-clause-order : goal.returns-in-None-clause-order
 returns-in-None-clause-order g c =
     let old = g.B.Bay.past c.args.bay.now in
-    subst (λ part. (own : List Device) → KeepsOrder (return_of g.B.Dev.Disk g.R.Directory g.C.Chronicle part ++ own) old own old) (sym c.in-None.is) (λ own. order_same own old)
+    subst (λ part. (own : List Device) → KeepsOrder (return_of part ++ own) old own old) (sym c.in-None.is) (λ own. order_same own old)

@@ -1,17 +1,17 @@
 use Rattle.std.proofs.Common.{ℕ, ◌+◌, ◌-◌, ◌<◌, ◌≤◌, arith}
 use Rattle.std.specs.Prelude.{Some, None}
 use Rattle.stripe_core.specs.Stripe.{kept_in, seen_in}
-use Rattle.stripe_core.proofs.Between.{between-trans}
 use Rattle.cache_replay.proofs.FeedEnds.{Ends}
 use Rattle.cache_replay.proofs.FeedTurns.{all_ends, bounds, fails_ends, goes_on, some_taken, wrote}
 use Rattle.cache_replay.proofs.feeding.feed.Given.{Over}
+use Rattle.stripe_core.proofs.Continuing.{rests_then}
 use Rattle.cache_replay.proofs.feeding.feed.Goals as goal
 
-refused : (g : Over) (c : goal.In-Err g) → Ends c.args.now (seen_in g.D.Disk g.R.Directory c.args.stripe.now).device.past (seen_in g.D.Disk g.R.Directory c.write.new.stripe).device
-    (kept_in g.C.Chronicle c.args.stripe.now) (kept_in g.C.Chronicle c.write.new.stripe) c.args.writer.now c.write.new.writer c.args.bytes.now c.feed.taken (Some c.in-Err.why)
+refused : (g : Over) (c : goal.In-Err g) → Ends c.args.now (seen_in c.args.stripe.now).device.past (seen_in c.write.new.stripe).device
+    (kept_in c.args.stripe.now) (kept_in c.write.new.stripe) c.args.writer.now c.write.new.writer c.args.bytes.now c.feed.taken (Some c.in-Err.why)
 refused g c =
-    fails_ends g.D.Disk g.R.Directory g.C.Chronicle c.args.now c.args.stripe.now c.feed.stripe c.write.new.stripe c.args.writer.now c.feed.writer c.write.new.writer c.args.bytes.now c.feed.taken
-    c.feed.invariant c.in-Err.why c.in-Err.ensures.writes c.in-Err.ensures.does c.in-Err.ensures.same c.write.ensures.unharmed.goes.made c.write.ensures.unharmed.goes.past
+    fails_ends c.args.now c.args.stripe.now c.feed.stripe c.write.new.stripe c.args.writer.now c.feed.writer c.write.new.writer c.args.bytes.now c.feed.taken
+    c.feed.invariant c.in-Err.why c.in-Err.ensures.writes c.in-Err.ensures.does c.in-Err.ensures.same c.write.ensures.rests.between.goes.made c.write.ensures.rests.between.goes.past
 
 pub returns-in-Err-clause-feeds : goal.returns-in-Err-clause-feeds
 returns-in-Err-clause-feeds g c = (refused g c).feeds
@@ -31,14 +31,14 @@ returns-in-Err-clause-writing g c = (refused g c).writing
 pub returns-in-Err-clause-own : goal.returns-in-Err-clause-own
 returns-in-Err-clause-own g c = (refused g c).own
 
-whole : (g : Over) (c : goal.Then-taken-bytes g) → Ends c.args.now (seen_in g.D.Disk g.R.Directory c.args.stripe.now).device.past (seen_in g.D.Disk g.R.Directory c.write.new.stripe).device
-    (kept_in g.C.Chronicle c.args.stripe.now) (kept_in g.C.Chronicle c.write.new.stripe) c.args.writer.now c.write.new.writer c.args.bytes.now (c.feed.taken + c.in-Ok.count) None
+whole : (g : Over) (c : goal.Then-taken-bytes g) → Ends c.args.now (seen_in c.args.stripe.now).device.past (seen_in c.write.new.stripe).device
+    (kept_in c.args.stripe.now) (kept_in c.write.new.stripe) c.args.writer.now c.write.new.writer c.args.bytes.now (c.feed.taken + c.in-Ok.count) None
 whole g c =
-    all_ends g.D.Disk g.R.Directory g.C.Chronicle c.args.now c.args.stripe.now c.feed.stripe c.write.new.stripe c.args.writer.now c.feed.writer c.write.new.writer c.args.bytes.now c.feed.taken
+    all_ends c.args.now c.args.stripe.now c.feed.stripe c.write.new.stripe c.args.writer.now c.feed.writer c.write.new.writer c.args.bytes.now c.feed.taken
     c.feed.invariant c.in-Ok.count
-    (wrote g.D.Disk g.R.Directory g.C.Chronicle c.args.now c.args.stripe.now c.feed.stripe c.write.new.stripe c.args.writer.now c.feed.writer c.write.new.writer c.args.bytes.now c.feed.taken c.feed.invariant c.in-Ok.count
+    (wrote c.args.now c.args.stripe.now c.feed.stripe c.write.new.stripe c.args.writer.now c.feed.writer c.write.new.writer c.args.bytes.now c.feed.taken c.feed.invariant c.in-Ok.count
     (record { own = c.feed.invariant.writer; takes = c.in-Ok.ensures.writes; does = c.in-Ok.ensures.does; gathers = c.in-Ok.ensures.gathers; next_own = c.write.ensures.writer }))
-    c.if-taken-bytes.true c.write.ensures.unharmed.goes.made c.write.ensures.unharmed.goes.past
+    c.if-taken-bytes.true c.write.ensures.rests.between.goes.made c.write.ensures.rests.between.goes.past
 
 pub returns-then-taken-bytes-clause-feeds : goal.returns-then-taken-bytes-clause-feeds
 returns-then-taken-bytes-clause-feeds g c = (whole g c).feeds
@@ -61,24 +61,24 @@ smaller len t n some le = omega (arith, some, le)
 pub feed-smaller : goal.feed-smaller
 feed-smaller g c =
     smaller _ c.feed.taken c.in-Ok.count
-    (some_taken g.D.Disk g.R.Directory g.C.Chronicle c.args.now c.args.stripe.now c.feed.stripe c.write.new.stripe c.args.writer.now c.feed.writer c.write.new.writer c.args.bytes.now c.feed.taken c.feed.invariant c.in-Ok.count
-    (wrote g.D.Disk g.R.Directory g.C.Chronicle c.args.now c.args.stripe.now c.feed.stripe c.write.new.stripe c.args.writer.now c.feed.writer c.write.new.writer c.args.bytes.now c.feed.taken c.feed.invariant c.in-Ok.count
+    (some_taken c.args.now c.args.stripe.now c.feed.stripe c.write.new.stripe c.args.writer.now c.feed.writer c.write.new.writer c.args.bytes.now c.feed.taken c.feed.invariant c.in-Ok.count
+    (wrote c.args.now c.args.stripe.now c.feed.stripe c.write.new.stripe c.args.writer.now c.feed.writer c.write.new.writer c.args.bytes.now c.feed.taken c.feed.invariant c.in-Ok.count
     (record { own = c.feed.invariant.writer; takes = c.in-Ok.ensures.writes; does = c.in-Ok.ensures.does; gathers = c.in-Ok.ensures.gathers; next_own = c.write.ensures.writer }))
     c.if-taken-bytes.false)
-    (bounds g.D.Disk g.R.Directory g.C.Chronicle c.args.now c.args.stripe.now c.feed.stripe c.write.new.stripe c.args.writer.now c.feed.writer c.write.new.writer c.args.bytes.now c.feed.taken c.feed.invariant c.in-Ok.count
-    (wrote g.D.Disk g.R.Directory g.C.Chronicle c.args.now c.args.stripe.now c.feed.stripe c.write.new.stripe c.args.writer.now c.feed.writer c.write.new.writer c.args.bytes.now c.feed.taken c.feed.invariant c.in-Ok.count
+    (bounds c.args.now c.args.stripe.now c.feed.stripe c.write.new.stripe c.args.writer.now c.feed.writer c.write.new.writer c.args.bytes.now c.feed.taken c.feed.invariant c.in-Ok.count
+    (wrote c.args.now c.args.stripe.now c.feed.stripe c.write.new.stripe c.args.writer.now c.feed.writer c.write.new.writer c.args.bytes.now c.feed.taken c.feed.invariant c.in-Ok.count
     (record { own = c.feed.invariant.writer; takes = c.in-Ok.ensures.writes; does = c.in-Ok.ensures.does; gathers = c.in-Ok.ensures.gathers; next_own = c.write.ensures.writer })))
 
 pub feed-preserved : goal.feed-preserved
 feed-preserved g c =
-    goes_on g.D.Disk g.R.Directory g.C.Chronicle c.args.now c.args.stripe.now c.feed.stripe c.write.new.stripe c.args.writer.now c.feed.writer c.write.new.writer c.args.bytes.now c.feed.taken
+    goes_on c.args.now c.args.stripe.now c.feed.stripe c.write.new.stripe c.args.writer.now c.feed.writer c.write.new.writer c.args.bytes.now c.feed.taken
     c.feed.invariant c.in-Ok.count
-    (wrote g.D.Disk g.R.Directory g.C.Chronicle c.args.now c.args.stripe.now c.feed.stripe c.write.new.stripe c.args.writer.now c.feed.writer c.write.new.writer c.args.bytes.now c.feed.taken c.feed.invariant c.in-Ok.count
+    (wrote c.args.now c.args.stripe.now c.feed.stripe c.write.new.stripe c.args.writer.now c.feed.writer c.write.new.writer c.args.bytes.now c.feed.taken c.feed.invariant c.in-Ok.count
     (record { own = c.feed.invariant.writer; takes = c.in-Ok.ensures.writes; does = c.in-Ok.ensures.does; gathers = c.in-Ok.ensures.gathers; next_own = c.write.ensures.writer }))
-    c.if-taken-bytes.false c.write.ensures.stripe c.write.ensures.quiet c.write.ensures.later c.write.ensures.unharmed
+    c.if-taken-bytes.false c.write.ensures.rests
 
-pub returns-in-Err-clause-unharmed : goal.returns-in-Err-clause-unharmed
-returns-in-Err-clause-unharmed g c = between-trans _ _ _ _ _ _ c.feed.invariant.unharmed c.write.ensures.unharmed
+pub returns-in-Err-clause-rests : goal.returns-in-Err-clause-rests
+returns-in-Err-clause-rests g c = rests_then _ _ _ c.feed.invariant.rests c.write.ensures.rests
 
-pub returns-then-taken-bytes-clause-unharmed : goal.returns-then-taken-bytes-clause-unharmed
-returns-then-taken-bytes-clause-unharmed g c = between-trans _ _ _ _ _ _ c.feed.invariant.unharmed c.write.ensures.unharmed
+pub returns-then-taken-bytes-clause-rests : goal.returns-then-taken-bytes-clause-rests
+returns-then-taken-bytes-clause-rests g c = rests_then _ _ _ c.feed.invariant.rests c.write.ensures.rests

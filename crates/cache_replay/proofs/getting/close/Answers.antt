@@ -7,10 +7,10 @@ use Rattle.cache_replay.proofs.getting.close.Goals as goal
 
 pub returns-in-Ok-clause-answers : goal.returns-in-Ok-clause-answers
 returns-in-Ok-clause-answers g c = λ b given said answered.
-    closed_comes b (seen_in g.D.Disk g.R.Directory c.args.stripe.now).device.past (seen_in g.D.Disk g.R.Directory c.close_read.new.stripe).device.past c.args.reader.reader
-    (kept_in g.C.Chronicle c.args.stripe.now) (kept_in g.C.Chronicle c.close_read.new.stripe) given said c.close_read.ensures.unharmed.goes.made c.close_read.ensures.unharmed.goes.past c.in-Ok.ensures.adds c.close_read.ensures.does answered
+    closed_comes b (seen_in c.args.stripe.now).device.past (seen_in c.close_read.new.stripe).device.past c.args.reader.reader
+    (kept_in c.args.stripe.now) (kept_in c.close_read.new.stripe) given said c.close_read.ensures.rests.between.goes.made c.close_read.ensures.rests.between.goes.past c.in-Ok.ensures.adds c.close_read.ensures.does answered
 
 pub returns-in-Ok-clause-leaves : goal.returns-in-Ok-clause-leaves
 returns-in-Ok-clause-leaves g c =
-    kept_leaves _ (kept_in g.C.Chronicle c.args.stripe.now) (kept_in g.C.Chronicle c.close_read.new.stripe) (rec.ReadClosed c.args.reader.reader ∷ []) c.in-Ok.ensures.adds
-    (closed_leaves (state_in g.C.Chronicle c.args.stripe.now) c.args.reader.reader)
+    kept_leaves _ (kept_in c.args.stripe.now) (kept_in c.close_read.new.stripe) (rec.ReadClosed c.args.reader.reader ∷ []) c.in-Ok.ensures.adds
+    (closed_leaves (state_in c.args.stripe.now) c.args.reader.reader)

@@ -11,36 +11,36 @@ use Rattle.cache_replay.proofs.getting.get_in_part.Goals as goal
 
 pub returns-in-Ok-clause-active : goal.returns-in-Ok-clause-active
 returns-in-Ok-clause-active g c = λ slots active.
-    let s = state_in g.C.Chronicle c.args.part.now.stripe in
-    read_active g.D.Disk g.R.Directory g.C.Chronicle c.args.part.now c.get.new.stripe c.get.new.page s.next_reader slots c.requires.part c.get.ensures.stripe c.get.ensures.quiet
+    let s = state_in c.args.part.now.stripe in
+    read_active c.args.part.now c.get.new.stripe c.get.new.page s.next_reader slots c.requires.part c.get.ensures.resting.stripe c.get.ensures.resting.quiet
     c.get.ensures.leaves (none_next s c.requires.part.stripe.actors.readers_fall) active
 
 pub returns-in-Err-clause-active : goal.returns-in-Err-clause-active
 returns-in-Err-clause-active g c = λ slots active.
-    let s = state_in g.C.Chronicle c.args.part.now.stripe in
-    read_active g.D.Disk g.R.Directory g.C.Chronicle c.args.part.now c.get.new.stripe c.get.new.page s.next_reader slots c.requires.part c.get.ensures.stripe c.get.ensures.quiet
+    let s = state_in c.args.part.now.stripe in
+    read_active c.args.part.now c.get.new.stripe c.get.new.page s.next_reader slots c.requires.part c.get.ensures.resting.stripe c.get.ensures.resting.quiet
     c.get.ensures.leaves (none_next s c.requires.part.stripe.actors.readers_fall) active
 
 pub returns-in-Ok-clause-ends : goal.returns-in-Ok-clause-ends
 returns-in-Ok-clause-ends g c = λ run slots held plays.
-    let s = state_in g.C.Chronicle c.args.part.now.stripe in
-    line_ends c.reads_own.ensures c.steps_tell.ensures run (seen_in g.D.Disk g.R.Directory c.args.part.now.stripe).device.past (seen_in g.D.Disk g.R.Directory c.get.new.stripe).device.past s.next_reader
-    (kept_in g.C.Chronicle c.args.part.now.stripe) (kept_in g.C.Chronicle c.get.new.stripe) c.args.key c.args.request slots c.in-Ok.got c.said_of.result c.in-Ok.ensures.gets c.get.ensures.accounted c.get.ensures.quiet c.said_of.ensures c.requires.part.stripe.pieces.sound c.get.ensures.leaves
+    let s = state_in c.args.part.now.stripe in
+    line_ends c.reads_own.ensures c.steps_tell.ensures run (seen_in c.args.part.now.stripe).device.past (seen_in c.get.new.stripe).device.past s.next_reader
+    (kept_in c.args.part.now.stripe) (kept_in c.get.new.stripe) c.args.key c.args.request slots c.in-Ok.got c.said_of.result c.in-Ok.ensures.gets c.get.ensures.proceeds.accounted c.get.ensures.resting.quiet c.said_of.ensures c.requires.part.stripe.pieces.sound c.get.ensures.leaves
     (none_next s c.requires.part.stripe.actors.readers_fall) held plays
 
 pub returns-in-Ok-clause-counts : goal.returns-in-Ok-clause-counts
-returns-in-Ok-clause-counts g c = subst (λ said. count_in said ≤ (seen_in g.D.Disk g.R.Directory c.get.new.stripe).device.faults) (sym c.said_of.ensures) (c.in-Ok.ensures.counts c.requires.part.losses)
+returns-in-Ok-clause-counts g c = subst (λ said. count_in said ≤ (seen_in c.get.new.stripe).device.faults) (sym c.said_of.ensures) (c.in-Ok.ensures.counts c.requires.part.losses)
 
 pub returns-in-Ok-clause-unharmed : goal.returns-in-Ok-clause-unharmed
 returns-in-Ok-clause-unharmed g c = λ run told owned.
-    let s = state_in g.C.Chronicle c.args.part.now.stripe in
-    let before = (seen_in g.D.Disk g.R.Directory c.args.part.now.stripe).device.past in
-    let after = (seen_in g.D.Disk g.R.Directory c.get.new.stripe).device.past in
+    let s = state_in c.args.part.now.stripe in
+    let before = (seen_in c.args.part.now.stripe).device.past in
+    let after = (seen_in c.get.new.stripe).device.past in
     in_own_step (IsPlacedAs run.streams) run.now before after s (get_intents s c.args.key c.args.request) (c.get.ensures.unharmed (own_permit run.now before after) run (own_covers run.now before after) told owned)
 
 pub returns-in-Err-clause-unharmed : goal.returns-in-Err-clause-unharmed
 returns-in-Err-clause-unharmed g c = λ run told owned.
-    let s = state_in g.C.Chronicle c.args.part.now.stripe in
-    let before = (seen_in g.D.Disk g.R.Directory c.args.part.now.stripe).device.past in
-    let after = (seen_in g.D.Disk g.R.Directory c.get.new.stripe).device.past in
+    let s = state_in c.args.part.now.stripe in
+    let before = (seen_in c.args.part.now.stripe).device.past in
+    let after = (seen_in c.get.new.stripe).device.past in
     in_own_step (IsPlacedAs run.streams) run.now before after s (get_intents s c.args.key c.args.request) (c.get.ensures.unharmed (own_permit run.now before after) run (own_covers run.now before after) told owned)

@@ -13,30 +13,30 @@ use Rattle.cache_replay.proofs.plain_lines.remove_from.Goals as goal
 
 pub returns-in-Ok-Removed-clause-ends : goal.returns-in-Ok-Removed-clause-ends
 returns-in-Ok-Removed-clause-ends g c = λ run.
-    let s = state_in g.C.Chronicle c.args.part.now.stripe in
-    let t = state_in g.C.Chronicle c.remove.new.stripe in
-    let before = (seen_in g.D.Disk g.R.Directory c.args.part.now.stripe).device.past in
-    let after = (seen_in g.D.Disk g.R.Directory c.remove.new.stripe).device.past in
+    let s = state_in c.args.part.now.stripe in
+    let t = state_in c.remove.new.stripe in
+    let before = (seen_in c.args.part.now.stripe).device.past in
+    let after = (seen_in c.remove.new.stripe).device.past in
     let a = c.in-Ok-Removed.field-0 in
     subst (λ r. Plainly run (step.Remove c.args.key) before after s t (removed_as r)) c.in-Ok-Removed.field-0-is
     (removes run before after s t c.args.key a
-    (accounted_is before after (kept_in g.C.Chronicle c.args.part.now.stripe) (kept_in g.C.Chronicle c.remove.new.stripe) (removal_adds c.args.key a) c.remove.ensures.unharmed.accounted c.in-Ok-Removed.ensures.adds)
-    (state_behind (kept_in g.C.Chronicle c.args.part.now.stripe) (kept_in g.C.Chronicle c.remove.new.stripe) (removal_adds c.args.key a) c.in-Ok-Removed.ensures.adds)
-    c.in-Ok-Removed.ensures.quiet c.in-Ok-Removed.ensures.removes c.in-Ok-Removed.ensures.does)
+    (accounted_is before after (kept_in c.args.part.now.stripe) (kept_in c.remove.new.stripe) (removal_adds c.args.key a) c.remove.ensures.rests.between.accounted c.in-Ok-Removed.ensures.adds)
+    (state_behind (kept_in c.args.part.now.stripe) (kept_in c.remove.new.stripe) (removal_adds c.args.key a) c.in-Ok-Removed.ensures.adds)
+    c.in-Ok-Removed.ensures.rests.resting.quiet c.in-Ok-Removed.ensures.removes c.in-Ok-Removed.ensures.does)
 
 pub returns-in-Ok-Absent-clause-ends : goal.returns-in-Ok-Absent-clause-ends
 returns-in-Ok-Absent-clause-ends g c = λ run.
-    let s = state_in g.C.Chronicle c.args.part.now.stripe in
-    let t = state_in g.C.Chronicle c.remove.new.stripe in
-    let before = (seen_in g.D.Disk g.R.Directory c.args.part.now.stripe).device.past in
-    let after = (seen_in g.D.Disk g.R.Directory c.remove.new.stripe).device.past in
+    let s = state_in c.args.part.now.stripe in
+    let t = state_in c.remove.new.stripe in
+    let before = (seen_in c.args.part.now.stripe).device.past in
+    let after = (seen_in c.remove.new.stripe).device.past in
     let a = c.in-Ok-Absent.field-0 in
     subst (λ r. Plainly run (step.Remove c.args.key) before after s t (removed_as r)) c.in-Ok-Absent.field-0-is
     (removes run before after s t c.args.key a
-    (accounted_is before after (kept_in g.C.Chronicle c.args.part.now.stripe) (kept_in g.C.Chronicle c.remove.new.stripe) (removal_adds c.args.key a) c.remove.ensures.unharmed.accounted c.in-Ok-Absent.ensures.adds)
-    (state_behind (kept_in g.C.Chronicle c.args.part.now.stripe) (kept_in g.C.Chronicle c.remove.new.stripe) (removal_adds c.args.key a) c.in-Ok-Absent.ensures.adds)
-    c.in-Ok-Absent.ensures.quiet c.in-Ok-Absent.ensures.removes c.in-Ok-Absent.ensures.does)
+    (accounted_is before after (kept_in c.args.part.now.stripe) (kept_in c.remove.new.stripe) (removal_adds c.args.key a) c.remove.ensures.rests.between.accounted c.in-Ok-Absent.ensures.adds)
+    (state_behind (kept_in c.args.part.now.stripe) (kept_in c.remove.new.stripe) (removal_adds c.args.key a) c.in-Ok-Absent.ensures.adds)
+    c.in-Ok-Absent.ensures.rests.resting.quiet c.in-Ok-Absent.ensures.removes c.in-Ok-Absent.ensures.does)
 
 pub returns-in-Ok-Absent-clause-counts : goal.returns-in-Ok-Absent-clause-counts
 returns-in-Ok-Absent-clause-counts g c =
-    removed_tells (state_in g.C.Chronicle c.args.part.now.stripe) c.args.key (removal.Absent c.in-Ok-Absent.why) (seen_in g.D.Disk g.R.Directory c.remove.new.stripe).device.faults c.requires.part.losses (rw c.in-Ok-Absent.field-0-is at c.in-Ok-Absent.ensures.removes)
+    removed_tells (state_in c.args.part.now.stripe) c.args.key (removal.Absent c.in-Ok-Absent.why) (seen_in c.remove.new.stripe).device.faults c.requires.part.losses (rw c.in-Ok-Absent.field-0-is at c.in-Ok-Absent.ensures.removes)

@@ -9,12 +9,12 @@ use Rattle.cache_replay.proofs.put_line.put_in.Goals as goal
 
 pub returns-in-Some-clause-ends : goal.returns-in-Some-clause-ends
 returns-in-Some-clause-ends g c = λ run moment told.
-    puts c.args.now (seen_in g.D.Disk g.R.Directory c.args.part.now.stripe).device.past (seen_in g.D.Disk g.R.Directory c.put.new.stripe).device.past
-    (kept_in g.C.Chronicle c.args.part.now.stripe) (kept_in g.C.Chronicle c.put.new.stripe) c.put.ensures.unharmed.accounted c.put.ensures.quiet c.args.key c.args.body.now c.args.request c.args.response run moment told
+    puts c.args.now (seen_in c.args.part.now.stripe).device.past (seen_in c.put.new.stripe).device.past
+    (kept_in c.args.part.now.stripe) (kept_in c.put.new.stripe) c.put.ensures.rests.between.accounted c.put.ensures.rests.resting.quiet c.args.key c.args.body.now c.args.request c.args.response run moment told
     c.put.result c.in-Some.said (sym c.closed_answer.ensures ∙ c.in-Some.is) c.put.ensures.puts
 
 pub returns-in-Some-clause-counts : goal.returns-in-Some-clause-counts
 returns-in-Some-clause-counts g c =
-    let faults = (seen_in g.D.Disk g.R.Directory c.put.new.stripe).device.faults in
+    let faults = (seen_in c.put.new.stripe).device.faults in
     some_at (λ said. count_in said ≤ faults) (closed_answer c.put.result) c.in-Some.said (sym c.closed_answer.ensures ∙ c.in-Some.is)
     (closed_counts c.put.result faults (err_now (λ why. count_of_refusal why ≤ faults) c.put.result c.requires.part.losses c.put.ensures.counts))

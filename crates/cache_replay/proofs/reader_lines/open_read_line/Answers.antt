@@ -6,16 +6,16 @@ use Rattle.cache_replay.proofs.reader_lines.open_read_line.Goals as goal
 
 pub returns-in-Some-clause-ends : goal.returns-in-Some-clause-ends
 returns-in-Some-clause-ends g c =
-    line_answers g.D.Disk g.R.Directory g.C.Chronicle c.args.session.now _ c.in-Some.part c.open_reader.new.part (step.OpenRead c.args.actor.now c.args.key c.args.request) c.open_reader.result
+    line_answers c.args.session.now _ c.in-Some.part c.open_reader.new.part (step.OpenRead c.args.actor.now c.args.key c.args.request) c.open_reader.result
     (on_session (step.OpenRead c.args.actor.now c.args.key c.args.request) tt)
-    c.in-Some.is refl refl (λ run plays. c.open_reader.ensures.unharmed) c.open_reader.ensures.ends
+    c.in-Some.is refl refl (λ run plays. c.open_reader.ensures.rests.between) c.open_reader.ensures.ends
 
 pub returns-in-Some-clause-device : goal.returns-in-Some-clause-device
 returns-in-Some-clause-device g c =
-    line_device g.D.Disk g.R.Directory g.C.Chronicle c.args.session.now c.in-Some.part c.open_reader.new.part c.in-Some.is c.open_reader.ensures.later c.open_reader.ensures.unharmed.goes
+    line_device c.args.session.now c.in-Some.part c.open_reader.new.part c.in-Some.is c.open_reader.ensures.rests.later c.open_reader.ensures.rests.between.goes
 
 pub returns-in-None-clause-device : goal.returns-in-None-clause-device
-returns-in-None-clause-device g c = no_device g.D.Disk g.R.Directory g.C.Chronicle c.args.session.now c.in-None.is
+returns-in-None-clause-device g c = no_device c.args.session.now c.in-None.is
 
 pub returns-in-Some-clause-stop : goal.returns-in-Some-clause-stop
-returns-in-Some-clause-stop g c = line_stops g.D.Disk g.R.Directory g.C.Chronicle c.args.session.now c.open_reader.result c.open_reader.ensures.stop
+returns-in-Some-clause-stop g c = line_stops c.args.session.now c.open_reader.result c.open_reader.ensures.stop

@@ -11,43 +11,43 @@ use Rattle.cache_replay.proofs.reader_lines.read_to.Goals as goal
 
 pub piece_said-requires : goal.piece_said-requires
 piece_said-requires g c =
-    reads_within (state_in g.C.Chronicle c.args.stripe.now) (seen_in g.D.Disk g.R.Directory c.args.stripe.now).device (seen_in g.D.Disk g.R.Directory c.read_next.new.stripe).device
+    reads_within (state_in c.args.stripe.now) (seen_in c.args.stripe.now).device (seen_in c.read_next.new.stripe).device
     c.args.reader.now c.in_ok-piece.piece c.read_next.new.into c.in_ok-piece.ensures.reads
 
 pub returns-in_err-piece_said-clause-leaves : goal.returns-in_err-piece_said-clause-leaves
 returns-in_err-piece_said-clause-leaves g c =
-    kept_leaves (Some c.args.reader.now.reader) (kept_in g.C.Chronicle c.args.stripe.now) (kept_in g.C.Chronicle c.read_next.new.stripe)
-    (read_adds (state_in g.C.Chronicle c.args.stripe.now) c.args.reader.now c.in_ok-piece.piece) c.in_ok-piece.ensures.adds
-    (read_leaves (state_in g.C.Chronicle c.args.stripe.now) c.args.reader.now c.in_ok-piece.piece)
+    kept_leaves (Some c.args.reader.now.reader) (kept_in c.args.stripe.now) (kept_in c.read_next.new.stripe)
+    (read_adds (state_in c.args.stripe.now) c.args.reader.now c.in_ok-piece.piece) c.in_ok-piece.ensures.adds
+    (read_leaves (state_in c.args.stripe.now) c.args.reader.now c.in_ok-piece.piece)
 
 pub returns-clause-leaves : goal.returns-clause-leaves
 returns-clause-leaves g c =
-    kept_leaves (Some c.args.reader.now.reader) (kept_in g.C.Chronicle c.args.stripe.now) (kept_in g.C.Chronicle c.read_next.new.stripe)
-    (read_adds (state_in g.C.Chronicle c.args.stripe.now) c.args.reader.now c.in_ok-piece.piece) c.in_ok-piece.ensures.adds
-    (read_leaves (state_in g.C.Chronicle c.args.stripe.now) c.args.reader.now c.in_ok-piece.piece)
+    kept_leaves (Some c.args.reader.now.reader) (kept_in c.args.stripe.now) (kept_in c.read_next.new.stripe)
+    (read_adds (state_in c.args.stripe.now) c.args.reader.now c.in_ok-piece.piece) c.in_ok-piece.ensures.adds
+    (read_leaves (state_in c.args.stripe.now) c.args.reader.now c.in_ok-piece.piece)
 
 pub returns-clause-ends : goal.returns-clause-ends
 returns-clause-ends g c = λ run owned reader.
-    subst (NextEnds run (seen_in g.D.Disk g.R.Directory c.args.stripe.now).device.past (seen_in g.D.Disk g.R.Directory c.read_next.new.stripe).device.past (state_in g.C.Chronicle c.args.stripe.now) (state_in g.C.Chronicle c.read_next.new.stripe) c.args.reader.now c.read_next.new.reader)
+    subst (NextEnds run (seen_in c.args.stripe.now).device.past (seen_in c.read_next.new.stripe).device.past (state_in c.args.stripe.now) (state_in c.read_next.new.stripe) c.args.reader.now c.read_next.new.reader)
     (sym c.in_ok-piece_said.ensures)
-    (next_ends c.read_is_own.ensures (kept_in g.C.Chronicle c.args.stripe.now) (kept_in g.C.Chronicle c.read_next.new.stripe)
-    (seen_in g.D.Disk g.R.Directory c.args.stripe.now).device (seen_in g.D.Disk g.R.Directory c.read_next.new.stripe).device
-    c.args.reader.now c.read_next.new.reader c.in_ok-piece.piece c.read_next.new.into c.in_ok-piece.ensures.adds c.in_ok-piece.ensures.accounted c.in_ok-piece.ensures.reads c.in_ok-piece.ensures.keeps c.requires.reader.first run owned reader)
+    (next_ends c.read_is_own.ensures (kept_in c.args.stripe.now) (kept_in c.read_next.new.stripe)
+    (seen_in c.args.stripe.now).device (seen_in c.read_next.new.stripe).device
+    c.args.reader.now c.read_next.new.reader c.in_ok-piece.piece c.read_next.new.into c.in_ok-piece.ensures.adds c.in_ok-piece.ensures.proceeds.accounted c.in_ok-piece.ensures.reads c.in_ok-piece.ensures.keeps c.requires.reader.first run owned reader)
 
 pub returns-in_err-piece-clause-unharmed : goal.returns-in_err-piece-clause-unharmed
 returns-in_err-piece-clause-unharmed g c =
-    next_stays c.own_is_as_listed.ensures.unlike (state_in g.C.Chronicle c.args.stripe.now) c.args.reader.now c.requires.reader.first c.read_next.ensures.unharmed
+    next_stays c.own_is_as_listed.ensures.unlike (state_in c.args.stripe.now) c.args.reader.now c.requires.reader.first c.read_next.ensures.unharmed
 
 pub returns-in_err-piece_said-clause-unharmed : goal.returns-in_err-piece_said-clause-unharmed
 returns-in_err-piece_said-clause-unharmed g c =
-    next_stays c.own_is_as_listed.ensures.unlike (state_in g.C.Chronicle c.args.stripe.now) c.args.reader.now c.requires.reader.first c.read_next.ensures.unharmed
+    next_stays c.own_is_as_listed.ensures.unlike (state_in c.args.stripe.now) c.args.reader.now c.requires.reader.first c.read_next.ensures.unharmed
 
 pub returns-clause-unharmed : goal.returns-clause-unharmed
 returns-clause-unharmed g c =
-    next_stays c.own_is_as_listed.ensures.unlike (state_in g.C.Chronicle c.args.stripe.now) c.args.reader.now c.requires.reader.first c.read_next.ensures.unharmed
+    next_stays c.own_is_as_listed.ensures.unlike (state_in c.args.stripe.now) c.args.reader.now c.requires.reader.first c.read_next.ensures.unharmed
 
 pub returns-clause-counts : goal.returns-clause-counts
 returns-clause-counts g c = λ none.
-    subst (λ said. count_in said ≤ (seen_in g.D.Disk g.R.Directory c.read_next.new.stripe).device.faults) (sym c.in_ok-piece_said.ensures)
+    subst (λ said. count_in said ≤ (seen_in c.read_next.new.stripe).device.faults) (sym c.in_ok-piece_said.ensures)
     (piece_tells c.in_ok-piece.piece c.read_next.new.into _
-    (piece_counts (state_in g.C.Chronicle c.args.stripe.now) c.args.reader.now (seen_in g.D.Disk g.R.Directory c.read_next.new.stripe).device.faults c.in_ok-piece.piece none c.in_ok-piece.ensures.reads.counted))
+    (piece_counts (state_in c.args.stripe.now) c.args.reader.now (seen_in c.read_next.new.stripe).device.faults c.in_ok-piece.piece none c.in_ok-piece.ensures.reads.counted))

@@ -6,15 +6,15 @@ use Rattle.cache_replay.proofs.writer_lines.abort_line.Goals as goal
 
 pub returns-in-Some-clause-ends : goal.returns-in-Some-clause-ends
 returns-in-Some-clause-ends g c =
-    line_answers g.D.Disk g.R.Directory g.C.Chronicle c.args.session.now _ c.in-Some.part c.abort_in.new.part (step.Abort c.args.actor.now) c.abort_in.result
-    (on_session (step.Abort c.args.actor.now) tt) c.in-Some.is refl refl (λ run plays. c.abort_in.ensures.unharmed) c.abort_in.ensures.ends
+    line_answers c.args.session.now _ c.in-Some.part c.abort_in.new.part (step.Abort c.args.actor.now) c.abort_in.result
+    (on_session (step.Abort c.args.actor.now) tt) c.in-Some.is refl refl (λ run plays. c.abort_in.ensures.rests.between) c.abort_in.ensures.ends
 
 pub returns-in-Some-clause-device : goal.returns-in-Some-clause-device
 returns-in-Some-clause-device g c =
-    line_device g.D.Disk g.R.Directory g.C.Chronicle c.args.session.now c.in-Some.part c.abort_in.new.part c.in-Some.is c.abort_in.ensures.later c.abort_in.ensures.unharmed.goes
+    line_device c.args.session.now c.in-Some.part c.abort_in.new.part c.in-Some.is c.abort_in.ensures.rests.later c.abort_in.ensures.rests.between.goes
 
 pub returns-in-None-clause-device : goal.returns-in-None-clause-device
-returns-in-None-clause-device g c = no_device g.D.Disk g.R.Directory g.C.Chronicle c.args.session.now c.in-None.is
+returns-in-None-clause-device g c = no_device c.args.session.now c.in-None.is
 
 pub returns-in-Some-clause-stop : goal.returns-in-Some-clause-stop
-returns-in-Some-clause-stop g c = line_stops g.D.Disk g.R.Directory g.C.Chronicle c.args.session.now c.abort_in.result c.abort_in.ensures.stop
+returns-in-Some-clause-stop g c = line_stops c.args.session.now c.abort_in.result c.abort_in.ensures.stop

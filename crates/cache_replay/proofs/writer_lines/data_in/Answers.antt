@@ -12,7 +12,7 @@ use Rattle.cache_replay.proofs.writer_lines.data_in.Goals as goal
 pub give_bytes-outcome-requires-clause-writer : goal.give_bytes-outcome-requires-clause-writer
 give_bytes-outcome-requires-clause-writer g c =
     let mine = taken_writer c.args.actors.now c.number.new.self c.take_writer.new.actors c.in-Ok.number c.in-Some.writer c.number.ensures.slots c.in-Some.ensures.takes in
-    (held_writer (state_in g.C.Chronicle c.args.part.now.stripe) (slots_of c.args.actors.now) c.in-Ok.number c.in-Some.writer c.requires.active.held mine).1
+    (held_writer (state_in c.args.part.now.stripe) (slots_of c.args.actors.now) c.in-Ok.number c.in-Some.writer c.requires.active.held mine).1
 
 pub returns-in-Some-clause-active : goal.returns-in-Some-clause-active
 returns-in-Some-clause-active g c =
@@ -20,8 +20,8 @@ returns-in-Some-clause-active g c =
     let n = c.in-Ok.number in
     let mine = taken_writer c.args.actors.now c.number.new.self c.take_writer.new.actors n w c.number.ensures.slots c.in-Some.ensures.takes in
     let changed = given_back c.args.actors.now c.number.new.self c.take_writer.new.actors c.set_back.new.actors n w c.give_bytes-outcome.result.left c.number.ensures.slots c.in-Some.ensures.takes c.set_back.ensures.slots in
-    active_by g.D.Disk g.R.Directory g.C.Chronicle c.others_stay.ensures c.args.part.now _ c.args.actors.now c.set_back.new.actors n w.put c.give_bytes-outcome.result.left c.requires.active
-    (others_else (slots_of c.args.actors.now) n w c.requires.active.apart mine) changed c.give_bytes-outcome.ensures.stripe c.give_bytes-outcome.ensures.quiet refl c.give_bytes-outcome.ensures.own c.give_bytes-outcome.ensures.left
+    active_by c.others_stay.ensures c.args.part.now _ c.args.actors.now c.set_back.new.actors n w.put c.give_bytes-outcome.result.left c.requires.active
+    (others_else (slots_of c.args.actors.now) n w c.requires.active.apart mine) changed c.give_bytes-outcome.ensures.rests.resting.stripe c.give_bytes-outcome.ensures.rests.resting.quiet refl c.give_bytes-outcome.ensures.own c.give_bytes-outcome.ensures.left
 
 pub returns-in-Some-clause-ends : goal.returns-in-Some-clause-ends
 returns-in-Some-clause-ends g c =
@@ -30,18 +30,18 @@ returns-in-Some-clause-ends g c =
     let mine = taken_writer c.args.actors.now c.number.new.self c.take_writer.new.actors n w c.number.ensures.slots c.in-Some.ensures.takes in
     let changed = given_back c.args.actors.now c.number.new.self c.take_writer.new.actors c.set_back.new.actors n w c.give_bytes-outcome.result.left c.number.ensures.slots c.in-Some.ensures.takes c.set_back.ensures.slots in
     ends_if c.set_back.result c.give_bytes-outcome.result.answer _ c.set_back.ensures.said (λ said answered.
-    ends_by g.D.Disk g.R.Directory g.C.Chronicle c.others_stay.ensures c.args.part.now _ c.args.actors.now c.set_back.new.actors n c.steps_own.ensures c.steps_tell.ensures (Feeds c.args.body.now) c.args.actor.now w c.give_bytes-outcome.result.left
+    ends_by c.others_stay.ensures c.args.part.now _ c.args.actors.now c.set_back.new.actors n c.steps_own.ensures c.steps_tell.ensures (Feeds c.args.body.now) c.args.actor.now w c.give_bytes-outcome.result.left
     c.give_bytes-outcome.result.answer said tt answered c.in-Ok.ensures.number c.requires.active mine changed c.give_bytes-outcome.ensures.own (c.set_back.ensures.names ∙ (c.in-Some.ensures.names ∙ c.in-Ok.ensures.names)) c.args.now c.give_bytes-outcome.ensures.does)
 
 pub returns-in-None-clause-ends : goal.returns-in-None-clause-ends
 returns-in-None-clause-ends g c = λ run moment plays.
     let n = c.in-Ok.number in
-    subst (PartEnds g.D.Disk g.R.Directory g.C.Chronicle run c.args.part.now (step.Feed c.args.actor.now c.args.body.now) c.args.part.now c.take_writer.new.actors) (sym c.idle.ensures)
-    (idles_by g.D.Disk g.R.Directory g.C.Chronicle c.others_stay.ensures c.args.part.now c.args.part.now c.args.actors.now c.take_writer.new.actors n (Feeds c.args.body.now) c.args.actor.now tt c.in-Ok.ensures.number c.requires.active
+    subst (PartEnds run c.args.part.now (step.Feed c.args.actor.now c.args.body.now) c.args.part.now c.take_writer.new.actors) (sym c.idle.ensures)
+    (idles_by c.others_stay.ensures c.args.part.now c.args.part.now c.args.actors.now c.take_writer.new.actors n (Feeds c.args.body.now) c.args.actor.now tt c.in-Ok.ensures.number c.requires.active
     (no_taken c.args.actors.now c.number.new.self c.take_writer.new.actors n c.number.ensures.slots c.in-None.ensures.takes)
     (none_changed c.args.actors.now c.number.new.self c.take_writer.new.actors n c.number.ensures.slots c.in-None.ensures.takes) (c.in-None.ensures.names ∙ c.in-Ok.ensures.names) run plays)
 
 pub returns-in-Some-clause-counts : goal.returns-in-Some-clause-counts
 returns-in-Some-clause-counts g c =
     ends_if c.set_back.result c.give_bytes-outcome.result.answer _ c.set_back.ensures.said (λ said answered.
-    answer_counts (seen_in g.D.Disk g.R.Directory c.give_bytes-outcome.new.stripe).device.faults c.give_bytes-outcome.result.answer said answered c.requires.active.part.losses c.give_bytes-outcome.ensures.counts)
+    answer_counts (seen_in c.give_bytes-outcome.new.stripe).device.faults c.give_bytes-outcome.result.answer said answered c.requires.active.part.losses c.give_bytes-outcome.ensures.counts)

@@ -12,21 +12,21 @@ use Rattle.cache_replay.proofs.writer_lines.finish.Goals as goal
 
 pub returns-clause-left : goal.returns-clause-left
 returns-clause-left g c =
-    is_left (state_in g.C.Chronicle c.close_write-result.new.stripe) c.args.writer.put c.close_write-result.new.writer c.keep_open.result
+    is_left (state_in c.close_write-result.new.stripe) c.args.writer.put c.close_write-result.new.writer c.keep_open.result
     (rested_put c.args.writer c.close_write-result.new.writer c.close_write-result.ensures.rested) c.close_write-result.ensures.writer c.keep_open.ensures
 
 pub returns-clause-does : goal.returns-clause-does
 returns-clause-does g c =
-    subst (WriterDoes c.args.now (seen_in g.D.Disk g.R.Directory c.args.stripe.now).device.past (seen_in g.D.Disk g.R.Directory c.close_write-result.new.stripe).device.past (state_in g.C.Chronicle c.args.stripe.now) (state_in g.C.Chronicle c.close_write-result.new.stripe) Closes c.args.writer c.keep_open.result) (sym c.closed_answer.ensures)
-    (closes_line c.args.now (kept_in g.C.Chronicle c.args.stripe.now) (kept_in g.C.Chronicle c.close_write-result.new.stripe) _ _ c.close_write-result.ensures.unharmed.accounted c.args.writer c.close_write-result.new.writer c.keep_open.result
-    c.close_write-result.ensures.quiet c.requires.writing c.requires.writer c.close_write-result.ensures.rested c.keep_open.ensures
+    subst (WriterDoes c.args.now (seen_in c.args.stripe.now).device.past (seen_in c.close_write-result.new.stripe).device.past (state_in c.args.stripe.now) (state_in c.close_write-result.new.stripe) Closes c.args.writer c.keep_open.result) (sym c.closed_answer.ensures)
+    (closes_line c.args.now (kept_in c.args.stripe.now) (kept_in c.close_write-result.new.stripe) _ _ c.close_write-result.ensures.rests.between.accounted c.args.writer c.close_write-result.new.writer c.keep_open.result
+    c.close_write-result.ensures.rests.resting.quiet c.requires.writing c.requires.writer c.close_write-result.ensures.rested c.keep_open.ensures
     c.close_write-result.result c.close_write-result.ensures.closes c.close_write-result.ensures.does c.close_write-result.ensures.seals)
 
 pub returns-clause-counts : goal.returns-clause-counts
 returns-clause-counts g c =
-    let faults = (seen_in g.D.Disk g.R.Directory c.close_write-result.new.stripe).device.faults in
+    let faults = (seen_in c.close_write-result.new.stripe).device.faults in
     some_when (λ said. count_in said ≤ faults) c.closed_answer.result (λ none.
     subst (λ o. IfSome o (λ said. count_in said ≤ faults)) (sym c.closed_answer.ensures)
     (closed_counts c.close_write-result.result faults
-    (close_counts (state_in g.C.Chronicle c.args.stripe.now) (state_in g.C.Chronicle c.close_write-result.new.stripe) c.args.writer faults c.close_write-result.result
+    (close_counts (state_in c.args.stripe.now) (state_in c.close_write-result.new.stripe) c.args.writer faults c.close_write-result.result
     (losses_own _ _ _ c.close_write-result.ensures.own none) c.close_write-result.ensures.closes c.close_write-result.ensures.counts)))
