@@ -1,0 +1,135 @@
+-- What the source gave fixes what the sink took.
+use Rattle.std.proofs.Common.{◌≡◌, ℕ, List, [], ◌∷◌, ◌++◌, sym, ◌∙◌, ap, subst, arith, inl, inr, ◌⊎◌, append-nil}
+use Rattle.std.specs.Prelude.{All, ⊤}
+use Rattle.std.specs.List.{AllByRecursion}
+use Rattle.std.proofs.lemmas.List.{append_cancel_right}
+use Rattle.std.proofs.lemmas.List.Elements.{All-cons, All-nil}
+use Rattle.device_log.specs.Streams.{SourceRead, taken_by}
+use Rattle.edge_io.specs.Text.{spelled, text_read}
+use Rattle.edge_io.specs.Lines.{AreLines, lines_of}
+use Rattle.edge_io.specs.Laws.{SpelledAreLines}
+use Rattle.logged_disk.specs.Device.{State as Device}
+use Rattle.script_run.specs.Run.{Harm, IsHarmless, fresh}
+use Rattle.script_run.specs.Behind.{harms_of}
+use Rattle.script_run.specs.Takes.{IsRun, output_of, run_after}
+use Rattle.script_run.specs.Ledger.{AreReached}
+use Rattle.script_laws.specs.Agreeing.{NoneHarmed, OutputIsFixed}
+use Rattle.cache_replay.specs.Lines.{TextsAreOutput, texts_of}
+use Rattle.run_promise.specs.declared.status.Status.TheVariants as status
+use Rattle.run_promise.specs.Story.{IsReadThrough, Recorded, ShownAlong, Taken, all_in}
+use Rattle.run_promise.specs.Top.{EachBack}
+use Rattle.headline.specs.Account.{ComeBackFrom, IsConcluded, Logs, OrShown}
+use Rattle.headline.specs.Fixed.{AreSteady, GiveSame, IsSteady, ShowPair, ShowsPairAmong, TakeSame}
+use Rattle.headline.proofs.Devices.{come_back}
+use Rattle.headline.proofs.Outlines.{shown_made}
+
+-- ---- steady devices
+
+none_harmed : (hs : List Harm) (ds : List Device) → AreReached hs ds → AllByRecursion IsSteady ds → All IsHarmless hs
+none_harmed [] ds r s = All-nil IsHarmless
+none_harmed (h ∷ hs) [] r s = absurd r
+none_harmed (h ∷ hs) (d ∷ ds) r s =
+    All-cons IsHarmless h hs (record { faultless = omega (arith, r.0.counted, s.0.unfaulted); undamaged = r.0.unharmed s.0.tells }) (none_harmed hs ds r.1 s.1)
+
+-- ---- a run that was read to its end
+
+module _ (l : Logs) (c : IsConcluded l status.Done) where
+  abbrev Lines : List (List ℕ)
+  Lines = c.story.lines
+
+  -- its lines are those of the text
+  text_is : text_read c.story.reads ≡ spelled Lines ++ []
+  text_is = c.story.taken.all ∙ ap (λ (xs : List ℕ). spelled Lines ++ xs) c.story.outline.behind.none
+
+  reads_are : (reads : List SourceRead) → l.read ≡ reads ++ l.first → c.story.reads ≡ reads
+  reads_are reads since = append_cancel_right c.story.reads reads l.first (sym c.story.since ∙ since)
+
+  abbrev Records : Type 0
+  Records = Recorded Lines c.story.answers (EachBack l.before l.now) (λ run. ⊤)
+
+  abbrev Pairs : Type 0
+  Pairs = ShownAlong Lines c.story.answers (EachBack l.before l.now) (λ o. IsReadThrough l.read c.held)
+
+  harmless : AreSteady l → (r : Records) → NoneHarmed (run_after fresh Lines r.turns)
+  harmless steady r =
+      none_harmed (harms_of (run_after fresh Lines r.turns)) r.devices.back.devices r.devices.back.reached (steady r.devices.back.devices r.devices.back.returned)
+
+  wrote : TextsAreOutput → (r : Records) → taken_by l.new ≡ taken_by l.old ++ output_of fresh Lines r.turns
+  wrote texts r =
+      c.story.text.taken
+      ∙ ap (λ (xs : List ℕ). taken_by l.old ++ xs) (ap texts_of r.says ∙ texts fresh Lines r.turns)
+
+  -- no byte of the text is in no line
+  taken_all : (reads : List SourceRead) → l.read ≡ reads ++ l.first → Taken (text_read reads) Lines []
+  taken_all reads since =
+      subst (λ (rs : List SourceRead). Taken (text_read rs) Lines []) (reads_are reads since)
+      (subst (λ (held : List ℕ). Taken (text_read c.story.reads) Lines held) c.story.outline.behind.none c.story.taken)
+
+  shows : Pairs → ShowsPairAmong l Lines
+  shows p = record {
+    before = p.before;
+    bytes = p.bytes;
+    later = p.after;
+    lines_are = p.is;
+    earlier = p.earlier;
+    legal = p.legal;
+    turn = p.turn;
+    shows = p.shows;
+    made = shown_made l Lines c.story.answers _ _ (λ t each. come_back l (all_in t) each.back) p;
+  }
+
+  -- the calls of its turns are in the logs of its devices
+  made : (r : Records) → ComeBackFrom l (harms_of (run_after fresh Lines r.turns))
+  made r = come_back l (harms_of (run_after fresh Lines r.turns)) r.devices.back
+
+-- ---- two of them
+
+module _ (fixed : OutputIsFixed) (texts : TextsAreOutput) (spells : SpelledAreLines) (l m : Logs) (c : IsConcluded l status.Done) (d : IsConcluded m status.Done) (same : GiveSame l m) where
+  lines_read : (lines : List (List ℕ)) → AreLines lines → lines_of (spelled lines ++ []) ≡ lines
+  lines_read lines each = spells lines [] each ∙ append-nil lines
+
+  lines_same : Lines l c ≡ Lines m d
+  lines_same =
+      let texts_same : spelled (Lines l c) ++ [] ≡ spelled (Lines m d) ++ [] =
+      sym (text_is l c) ∙ (ap text_read (reads_are l c same.reads same.since) ∙ (same.same ∙ (ap text_read (sym (reads_are m d same.others same.since_too)) ∙ text_is m d))) in
+      sym (lines_read (Lines l c) c.story.taken.each) ∙ (ap lines_of texts_same ∙ lines_read (Lines m d) d.story.taken.each)
+
+  both_told : AreSteady l → AreSteady m → Records l c → Records m d → OrShown (TakeSame l m) (ShowPair l m same)
+  both_told steady steady_too r q =
+      let lines : List (List ℕ) = Lines l c in
+      let legal_too : IsRun fresh lines q.turns = subst (λ (xs : List (List ℕ)). IsRun fresh xs q.turns) (sym lines_same) q.legal in
+      let harmless_too : NoneHarmed (run_after fresh lines q.turns) = subst (λ (xs : List (List ℕ)). NoneHarmed (run_after fresh xs q.turns)) (sym lines_same) (harmless m d steady_too q) in
+      let wrote_too : taken_by m.new ≡ taken_by m.old ++ output_of fresh lines q.turns =
+      subst (λ (xs : List (List ℕ)). taken_by m.new ≡ taken_by m.old ++ output_of fresh xs q.turns) (sym lines_same) (wrote m d texts q) in
+      elim (fixed fresh lines r.turns q.turns r.legal legal_too (harmless l c steady r) harmless_too) [
+        | inl alike ↦ inl (record {
+          output = output_of fresh lines r.turns;
+          taken = wrote l c texts r;
+          taken_too = wrote_too ∙ ap (λ (xs : List ℕ). taken_by m.old ++ xs) (sym alike.output);
+        })
+        | inr other ↦ inr (record {
+          lines = lines;
+          taken = taken_all l c same.reads same.since;
+          shows = inr (record {
+            one = r.turns;
+            other = q.turns;
+            legal = r.legal;
+            legal_too = legal_too;
+            shows = other;
+            made = made l c r;
+            made_too = subst (λ (xs : List (List ℕ)). ComeBackFrom m (harms_of (run_after fresh xs q.turns))) (sym lines_same) (made m d q);
+          });
+        })
+      ]
+
+  either : AreSteady l → AreSteady m → Records l c ⊎ Pairs l c → Records m d ⊎ Pairs m d → OrShown (TakeSame l m) (ShowPair l m same)
+  either steady steady_too (inl r) (inl q) = both_told steady steady_too r q
+  either steady steady_too (inr p) q = inr (record { lines = Lines l c; taken = taken_all l c same.reads same.since; shows = inl (inl (shows l c p)) })
+  either steady steady_too (inl r) (inr p) = inr (record {
+    lines = Lines l c;
+    taken = taken_all l c same.reads same.since;
+    shows = inl (inr (subst (λ (xs : List (List ℕ)). ShowsPairAmong m xs) (sym lines_same) (shows m d p)));
+  })
+
+  pub source_fixes_sink : AreSteady l → AreSteady m → OrShown (TakeSame l m) (ShowPair l m same)
+  source_fixes_sink steady steady_too = either steady steady_too c.story.records d.story.records

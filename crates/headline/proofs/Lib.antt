@@ -1,0 +1,12 @@
+mod Devices
+mod Outlines
+mod Places
+mod Along
+mod Counting
+mod Whole
+mod Troubles
+mod Lost
+mod Damages
+mod Endings
+mod Accounts
+mod Fixed

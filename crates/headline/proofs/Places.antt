@@ -1,0 +1,111 @@
+-- The line of a legal history that was answered so: what it did, in the run that the lines before it left.
+use Rattle.std.proofs.Common.{◌≡◌, ℕ, List, [], ◌∷◌, ◌++◌, length, refl, sym, ap, subst, arith, inl, inr, ◌⊎◌, false}
+use Rattle.std.specs.Prelude.{Option, Some, None}
+use Rattle.tape_base.specs.declared.geometries.BadGeometry.{BadGeometry}
+use Rattle.tape_base.specs.Limits.{first_refusal}
+use Rattle.cache_model.specs.declared.record.Rec.{Rec}
+use Rattle.cache_model.specs.State.{State, after_all}
+use Rattle.cache_model.proofs.Found.{same_some}
+use Rattle.script_lang.specs.declared.line.LineAnswer.{LineAnswer}
+use Rattle.script_lang.specs.declared.line.LineAnswer.TheVariants as line
+use Rattle.script_lang.specs.declared.step.Step.{Step}
+use Rattle.script_lang.specs.declared.step.Step.TheVariants as step
+use Rattle.script_lang.specs.declared.answer.StepAnswer.{StepAnswer}
+use Rattle.script_lang.specs.Grammar.{reading_of}
+use Rattle.script_run.specs.Run.{Run, fresh}
+use Rattle.script_run.specs.Turn.{Turn}
+use Rattle.script_run.specs.Answers.{format_said, session_said, step_answer, step_said}
+use Rattle.script_run.specs.Behind.{after_line, after_reading, after_step, behind, in_session}
+use Rattle.script_run.specs.Takes.{IsRun, ReadingTakes, SessionTakes, StepTakes, Takes, run_after}
+use Rattle.script_laws.specs.Runs.{answers_damage, answers_fault}
+use Rattle.cache_replay.specs.Lines.{answers_of, reading_answer}
+use Rattle.headline.specs.Account.{Account, Logs, Tells}
+
+-- the line behind these: its turn among the others, and the run that goes on behind it
+pub record Found (run : Run) (turns : List Turn) (before : List (List ℕ)) (asks : Step) (said : StepAnswer) (end : Run) : Type 0 where
+  pub earlier : List Turn
+  pub turn : Turn
+  pub later : List Turn
+  pub turns_are : turns ≡ earlier ++ turn ∷ later
+  pub legal : IsRun run before earlier
+  pub takes : StepTakes (run_after run before earlier) turn asks
+  pub is : said ≡ step_answer (run_after run before earlier) turn asks
+  pub after : List (List ℕ)
+  pub goes : IsRun (after_step (run_after run before earlier) turn asks) after later
+  pub ends : end ≡ run_after (after_step (run_after run before earlier) turn asks) after later
+
+module _ (asks : Step) (said : StepAnswer) where
+  found : (run : Run) (before : List (List ℕ)) (bytes : List ℕ) (after : List (List ℕ)) (turns : List Turn) (front rest : List (Option StepAnswer))
+      → IsRun run (before ++ bytes ∷ after) turns → reading_of bytes ≡ line.Step asks → answers_of run (before ++ bytes ∷ after) turns ≡ front ++ Some said ∷ rest
+      → length front ≡ length before → Found run turns before asks said (run_after run (before ++ bytes ∷ after) turns)
+  found run [] bytes after [] front rest is reading answers n = absurd is
+  found run [] bytes after (turn ∷ turns) [] rest is reading answers n =
+      let first : reading_answer run turn (reading_of bytes) ≡ Some said = cc in
+      record {
+        earlier = [];
+        turn = turn;
+        later = turns;
+        turns_are = refl;
+        legal = tt;
+        takes = subst (ReadingTakes run turn) reading is.0;
+        is = same_some said (step_answer run turn asks) (reading_answer run turn (reading_of bytes)) first (ap (reading_answer run turn) reading);
+        after = after;
+        goes = subst (λ (l : LineAnswer). IsRun (after_reading run turn l) after turns) reading is.1;
+        ends = ap (λ (l : LineAnswer). run_after (after_reading run turn l) after turns) reading;
+      }
+  found run [] bytes after (turn ∷ turns) (f ∷ front) rest is reading answers n = absurd (omega (arith, n))
+  found run (b ∷ before) bytes after [] front rest is reading answers n = absurd is
+  found run (b ∷ before) bytes after (turn ∷ turns) [] rest is reading answers n = absurd (omega (arith, n))
+  found run (b ∷ before) bytes after (turn ∷ turns) (f ∷ front) rest is reading answers n =
+      let tail : answers_of (after_line run turn b) (before ++ bytes ∷ after) turns ≡ front ++ Some said ∷ rest = cc in
+      let h = found (after_line run turn b) before bytes after turns front rest is.1 reading tail (omega (arith, n)) in
+      record {
+        earlier = turn ∷ h.earlier;
+        turn = h.turn;
+        later = h.later;
+        turns_are = ap (λ (xs : List Turn). turn ∷ xs) h.turns_are;
+        legal = (is.0, h.legal);
+        takes = h.takes;
+        is = h.is;
+        after = h.after;
+        goes = h.goes;
+        ends = h.ends;
+      }
+
+-- a line that an account tells
+pub told_line : (l : Logs) (a : Account l) (before : List (List ℕ)) (asks : Step) (said : StepAnswer) → Tells a before asks said
+    → Found fresh a.turns before asks said (run_after fresh a.told a.turns)
+told_line l a before asks said at =
+    let h = found asks said fresh before at.bytes at.later a.turns at.front at.rest
+    (subst (λ (xs : List (List ℕ)). IsRun fresh xs a.turns) at.lines_are a.legal) at.reading
+    (subst (λ (xs : List (List ℕ)). answers_of fresh xs a.turns ≡ at.front ++ Some said ∷ at.rest) at.lines_are at.answers_are) at.as_many in
+    subst (λ (end : Run). Found fresh a.turns before asks said end) (sym (ap (λ (xs : List (List ℕ)). run_after fresh xs a.turns) at.lines_are)) h
+
+-- ---- lines on a session
+
+-- the step is one of a session
+pub record OnSession (run : Run) (turn : Turn) (o : Option State) (asks : Step) : Type 0 where
+  pub s : State
+  pub state : o ≡ Some s
+  pub takes : SessionTakes run s turn asks
+  pub said : step_said run turn o asks ≡ session_said run s (after_all s turn.added) turn asks
+  pub next : behind run turn o asks ≡ in_session run s (after_all s turn.added) turn asks
+
+-- the answer tells no trouble
+pub record IsUntroubled (said : StepAnswer) : Type 0 where
+  pub no_fault : answers_fault said ≡ false
+  pub no_damage : answers_damage said ≡ false
+
+format_untroubled : (added : List Rec) (bad : Option BadGeometry) → IsUntroubled (format_said added bad)
+format_untroubled added None = record { no_fault = refl; no_damage = refl }
+format_untroubled added (Some bad) = record { no_fault = refl; no_damage = refl }
+
+kinds : (run : Run) (turn : Turn) (o : Option State) (asks : Step) → Takes run turn o asks → OnSession run turn o asks ⊎ IsUntroubled (step_said run turn o asks)
+kinds run turn o (step.Format name segments buckets content agg reach fragment generation alternates) takes =
+    inr (format_untroubled turn.added (first_refusal segments buckets content agg reach fragment alternates))
+kinds run turn o (step.Now at) takes = inr (record { no_fault = refl; no_damage = refl })
+kinds run turn (Some s) _ takes = inl (record { s = s; state = refl; takes = takes; said = refl; next = refl })
+kinds run turn None _ takes = absurd takes
+
+pub kind_of : (run : Run) (turn : Turn) (asks : Step) → StepTakes run turn asks → OnSession run turn run.state asks ⊎ IsUntroubled (step_answer run turn asks)
+kind_of run turn asks takes = kinds run turn run.state asks takes

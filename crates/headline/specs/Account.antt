@@ -1,0 +1,134 @@
+-- What a run that was begun tells: its lines, the answer of each, which of them a legal history has, and the devices that
+-- came back. The laws of this crate speak of accounts. What `cache_main` concludes gives one of what the sink took
+-- (`RunsAreTold`).
+use Rattle.std.specs.Prelude.{◌≡◌, ℕ, ◌+◌, ◌⊎◌, if◌then◌else◌, List, [], ◌∷◌, ◌++◌, length, Option, Some, ⊤}
+use Rattle.device_log.specs.Streams.{SourceRead, SinkWrite}
+use Rattle.edge_io.specs.Text.{text_read}
+use Rattle.logged_disk.specs.Device.{State as Device}
+use Rattle.script_lang.specs.declared.step.Step.{Step}
+use Rattle.script_lang.specs.declared.line.LineAnswer.{LineAnswer}
+use Rattle.script_lang.specs.declared.line.LineAnswer.TheVariants as line
+use Rattle.script_lang.specs.declared.answer.StepAnswer.{StepAnswer}
+use Rattle.script_lang.specs.Grammar.{reading_of}
+use Rattle.script_run.specs.Run.{Harm, Run, fresh, loosened}
+use Rattle.script_run.specs.Turn.{Turn}
+use Rattle.script_run.specs.Behind.{harms_of}
+use Rattle.script_run.specs.Takes.{IsRun, LineShows, run_after}
+use Rattle.script_run.specs.Ledger.{IsReached, Ledger}
+use Rattle.reader_laws.specs.Along.{begins_session}
+use Rattle.cache_replay.specs.Outline.{all_told, blank, called}
+use Rattle.cache_replay.specs.Lines.{AreAnswered, answers_of, outline_of}
+use Rattle.run_promise.specs.declared.status.Status.{Status}
+use Rattle.run_promise.specs.Story.{Refusals, Taken}
+use Rattle.run_promise.specs.Top.{Concludes}
+
+-- ---- the second case
+
+-- The one place where a pair is let pass, which is two different byte strings of one SHA-256: a sentence holds, or a pair
+-- is shown.
+abbrev pub OrShown : (Holds Shown : Type 0) → Type 0
+OrShown Holds Shown = Holds ⊎ Shown
+
+-- ---- logs
+
+-- what a run is known by: the reads of its source, the writes of its sink, the attaches that its bay refused, and what
+-- the bay tells of its devices, each before the run and behind it
+pub record Logs : Type 0 where
+  pub first : List SourceRead
+  pub read : List SourceRead
+  pub old : List SinkWrite
+  pub new : List SinkWrite
+  pub bay : Refusals
+  pub before : Ledger
+  pub now : Ledger
+
+-- what `cache_main` concludes of them
+abbrev pub IsConcluded : Logs → Status → Type 0
+IsConcluded l s = Concludes l.first l.read l.old l.new l.bay l.before l.now s
+
+-- ---- devices
+
+-- of each of these devices, in order, so much was told; more may have come back behind them
+abbrev pub AreBack : List Harm → List Device → Type 0
+AreBack [] devices = ⊤
+AreBack (harm ∷ harms) [] = ⊥
+AreBack (harm ∷ harms) (device ∷ devices) = IsReached (loosened harm) device × AreBack harms devices
+
+-- devices came back since, and of the first of them so much was told
+pub record ComeBackFrom (l : Logs) (harms : List Harm) : Type 0 where
+  pub devices : List Device
+  pub returned : l.now.returned ≡ l.before.returned ++ devices
+  pub told : AreBack harms devices
+
+-- how many sessions a line begins: a format whose numbers are accepted begins one
+abbrev pub begun_in : LineAnswer → ℕ
+begun_in (line.Step step) = if begins_session step then 1 else 0
+begun_in line.Nothing = 0
+begun_in (line.Bad fault) = 0
+
+-- how many sessions these lines begin, by their bytes alone
+abbrev pub sessions_begun : List (List ℕ) → ℕ
+sessions_begun [] = 0
+sessions_begun (bytes ∷ lines) = begun_in (reading_of bytes) + sessions_begun lines
+
+-- the device of a line behind these: of those that came back since, that of the session which they began last
+pub record IsDeviceBehind (l : Logs) (lines : List (List ℕ)) (device : Device) : Type 0 where
+  pub earlier : List Device
+  pub later : List Device
+  pub returned : l.now.returned ≡ l.before.returned ++ (earlier ++ device ∷ later)
+  pub which : sessions_begun lines ≡ length earlier + 1
+
+-- ---- accounts
+
+-- the first of these lines shows a pair, in the run that the lines before them left; the calls of the turn that shows it are
+-- in the log of the session's device
+abbrev pub ShowsNext : Logs → Run → List (List ℕ) → Type 0
+ShowsNext l run [] = ⊥
+ShowsNext l run (bytes ∷ lines) = (turn : Turn) × LineShows run turn bytes × ComeBackFrom l (harms_of (called run turn))
+
+-- what a run tells
+pub record Account (l : Logs) : Type 0 where
+  -- its reads, the newest first
+  pub reads : List SourceRead
+  pub since : l.read ≡ reads ++ l.first
+  -- the lines that were taken of the text of these reads, and the bytes that are in none
+  pub lines : List (List ℕ)
+  pub held : List ℕ
+  pub taken : Taken (text_read reads) lines held
+  -- the answer of each line that is a step
+  pub answers : List (Option StepAnswer)
+  pub each : AreAnswered blank lines answers
+  -- the lines that a legal history has, what each of them did, and what they were answered
+  pub told : List (List ℕ)
+  pub left : List (List ℕ)
+  pub are : lines ≡ told ++ left
+  pub turns : List Turn
+  pub legal : IsRun fresh told turns
+  pub rest : List (Option StepAnswer)
+  pub says : answers ≡ answers_of fresh told turns ++ rest
+  -- they are all of them, or the next one shows a pair
+  pub whole : OrShown (left ≡ []) (ShowsNext l (run_after fresh told turns) left)
+  -- what the answers of all lines, and the records of these, tell of the devices that came back
+  pub answered : ComeBackFrom l (all_told (outline_of blank lines answers))
+  pub recorded : ComeBackFrom l (harms_of (run_after fresh told turns))
+
+-- a line behind these asked for this step and was answered so
+pub record IsAnsweredBehind (lines : List (List ℕ)) (answers : List (Option StepAnswer)) (before : List (List ℕ))
+    (asks : Step) (said : StepAnswer) : Type 0 where
+  pub bytes : List ℕ
+  pub reading : reading_of bytes ≡ line.Step asks
+  pub later : List (List ℕ)
+  pub lines_are : lines ≡ before ++ bytes ∷ later
+  pub front : List (Option StepAnswer)
+  pub rest : List (Option StepAnswer)
+  pub answers_are : answers ≡ front ++ Some said ∷ rest
+  pub as_many : length front ≡ length before
+
+module _ {l : Logs} where
+  -- any line of the run
+  abbrev pub Answers : Account l → (lines : List (List ℕ)) → Step → StepAnswer → Type 0
+  Answers a lines asks said = IsAnsweredBehind a.lines a.answers lines asks said
+
+  -- one of those that the legal history has
+  abbrev pub Tells : Account l → (lines : List (List ℕ)) → Step → StepAnswer → Type 0
+  Tells a lines asks said = IsAnsweredBehind a.told (answers_of fresh a.told a.turns) lines asks said

@@ -1,0 +1,73 @@
+-- Determinism: what the source gave fixes what the sink took.
+use Rattle.std.specs.Prelude.{◌≡◌, ℕ, List, [], ◌∷◌, ◌++◌, ◌⊎◌}
+use Rattle.std.specs.List.{AllByRecursion}
+use Rattle.device_log.specs.Streams.{SourceRead, taken_by}
+use Rattle.edge_io.specs.Text.{text_read}
+use Rattle.logged_disk.specs.Device.{State as Device, TellsAll}
+use Rattle.script_run.specs.Run.{fresh}
+use Rattle.script_run.specs.Turn.{Turn}
+use Rattle.script_run.specs.Behind.{harms_of}
+use Rattle.script_run.specs.Takes.{IsRun, LineShows, run_after}
+use Rattle.script_laws.specs.Agreeing.{ShowsOtherAlong}
+use Rattle.cache_replay.specs.Outline.{called}
+use Rattle.run_promise.specs.declared.status.Status.TheVariants as status
+use Rattle.run_promise.specs.Story.{Taken}
+use Rattle.headline.specs.Account.{ComeBackFrom, IsConcluded, Logs, OrShown}
+
+-- a device that told its content to the end, and refused nothing
+pub record IsSteady (device : Device) : Type 0 where
+  pub tells : TellsAll device
+  pub unfaulted : device.faults ≡ 0
+
+-- so is each that came back since
+abbrev pub AreSteady : Logs → Type 0
+AreSteady l = (devices : List Device) → l.now.returned ≡ l.before.returned ++ devices → AllByRecursion IsSteady devices
+
+-- the sources of two runs gave the same text
+pub record GiveSame (l m : Logs) : Type 0 where
+  pub reads : List SourceRead
+  pub others : List SourceRead
+  pub since : l.read ≡ reads ++ l.first
+  pub since_too : m.read ≡ others ++ m.first
+  pub same : text_read reads ≡ text_read others
+
+-- their sinks took the same bytes
+pub record TakeSame (l m : Logs) : Type 0 where
+  pub output : List ℕ
+  pub taken : taken_by l.new ≡ taken_by l.old ++ output
+  pub taken_too : taken_by m.new ≡ taken_by m.old ++ output
+
+-- one of these lines shows a pair, in a legal run of those before it; the log of a device of the run has the calls of the
+-- turn that shows it, behind those of the earlier lines of its session
+pub record ShowsPairAmong (l : Logs) (lines : List (List ℕ)) : Type 0 where
+  pub before : List (List ℕ)
+  pub bytes : List ℕ
+  pub later : List (List ℕ)
+  pub lines_are : lines ≡ before ++ bytes ∷ later
+  pub earlier : List Turn
+  pub legal : IsRun fresh before earlier
+  pub turn : Turn
+  pub shows : LineShows (run_after fresh before earlier) turn bytes
+  pub made : ComeBackFrom l (harms_of (called (run_after fresh before earlier) turn))
+
+-- two legal runs of these lines come to a piece for which their devices gave two documents of one SHA-256; the logs of the
+-- devices of either run have the calls of its turns
+pub record ShowsOtherAmong (l m : Logs) (lines : List (List ℕ)) : Type 0 where
+  pub one : List Turn
+  pub other : List Turn
+  pub legal : IsRun fresh lines one
+  pub legal_too : IsRun fresh lines other
+  pub shows : ShowsOtherAlong fresh lines one other
+  pub made : ComeBackFrom l (harms_of (run_after fresh lines one))
+  pub made_too : ComeBackFrom m (harms_of (run_after fresh lines other))
+
+-- the lines of the text that both sources gave do the one in either run, or the other in both
+pub record ShowPair (l m : Logs) (same : GiveSame l m) : Type 0 where
+  pub lines : List (List ℕ)
+  pub taken : Taken (text_read same.reads) lines []
+  pub shows : (ShowsPairAmong l lines ⊎ ShowsPairAmong m lines) ⊎ ShowsOtherAmong l m lines
+
+-- two runs that were read to their end, over sources that gave the same and devices that were steady, wrote the same
+abbrev pub SourceFixesSink : Type 0
+SourceFixesSink = (l m : Logs) → IsConcluded l status.Done → IsConcluded m status.Done → (same : GiveSame l m) → AreSteady l → AreSteady m
+    → OrShown (TakeSame l m) (ShowPair l m same)

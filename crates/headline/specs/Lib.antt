@@ -1,0 +1,6 @@
+pub mod Account
+pub mod Reads
+pub mod Causes
+pub mod Troubles
+pub mod Endings
+pub mod Fixed

@@ -1,0 +1,75 @@
+-- Complete reads: what they gave is what the writer of one put took.
+use Rattle.std.specs.Prelude.{◌≡◌, ℕ, List, ◌∷◌, ◌++◌, length, Some}
+use Rattle.tape_base.specs.declared.keys.Key.{Key}
+use Rattle.alternate_vector.specs.Field.{Field}
+use Rattle.alternate_vector.specs.Alternates.{Stored}
+use Rattle.cache_model.specs.State.{State}
+use Rattle.cache_model.specs.Verdict.{hit}
+use Rattle.script_lang.specs.declared.step.Step.{Step}
+use Rattle.script_lang.specs.declared.step.Step.TheVariants as step
+use Rattle.script_lang.specs.declared.answer.StepAnswer.TheVariants as answer
+use Rattle.script_run.specs.Run.{Run, fresh}
+use Rattle.script_run.specs.Turn.{Turn}
+use Rattle.script_run.specs.Takes.{IsRun, run_after}
+use Rattle.reader_laws.specs.Laws.{WasPutFor}
+use Rattle.headline.specs.Account.{Account, Logs, Tells}
+
+-- what these lines did, and then the line behind them
+pub record DidBefore (turns : List Turn) (lines : List (List ℕ)) : Type 0 where
+  pub earlier : List Turn
+  pub turn : Turn
+  pub later : List Turn
+  pub turns_are : turns ≡ earlier ++ turn ∷ later
+  pub legal : IsRun fresh lines earlier
+
+-- in the records of the lines before, the put is the one that answers the request: of those that the key's live vector lists
+-- the last one that fits
+pub record IsChosen (run : Run) (key : Key) (request : List Field) (put : ℕ) : Type 0 where
+  pub s : State
+  pub state : run.state ≡ Some s
+  pub alternate : Stored
+  pub found : hit s key request ≡ Some alternate
+  pub put_is : alternate.put ≡ put
+
+-- the bytes are all that the writer of the put took, and so many; an earlier line of the session opened the put under this
+-- key, with lines that fit the request; and it is the one that answers it
+pub record IsWhole (turns : List Turn) (lines : List (List ℕ)) (key : Key) (request : List Field)
+    (put size : ℕ) (bytes : List ℕ) : Type 0 where
+  pub did : DidBefore turns lines
+  pub taken : bytes ≡ ((run_after fresh lines did.earlier).streams put).bytes
+  pub sized : size ≡ length bytes
+  pub put_for : WasPutFor lines did.earlier key request put
+  pub chosen : IsChosen (run_after fresh lines did.earlier) key request put
+
+-- each line answered `got` gave such bytes
+abbrev pub GotIsWhole : Type 0
+GotIsWhole = (l : Logs) (a : Account l) (lines : List (List ℕ)) (key : Key) (request : List Field) (put size : ℕ) (bytes : List ℕ)
+    → Tells a lines (step.Get key request) (answer.Got put size bytes) → IsWhole a.turns lines key request put size bytes
+
+-- the writer of the put took so many bytes; an earlier line of the session opened the put under this key, with lines that
+-- fit the request; and it is the one that answers it
+pub record IsStored (turns : List Turn) (lines : List (List ℕ)) (key : Key) (request : List Field) (put size : ℕ) : Type 0 where
+  pub did : DidBefore turns lines
+  pub sized : size ≡ length ((run_after fresh lines did.earlier).streams put).bytes
+  pub put_for : WasPutFor lines did.earlier key request put
+  pub chosen : IsChosen (run_after fresh lines did.earlier) key request put
+
+-- each line answered `hit` tells of such a put
+abbrev pub HitIsWhole : Type 0
+HitIsWhole = (l : Logs) (a : Account l) (lines : List (List ℕ)) (name : List ℕ) (key : Key) (request : List Field) (put size : ℕ)
+    → Tells a lines (step.OpenRead name key request) (answer.Hit put size) → IsStored a.turns lines key request put size
+
+-- an earlier line of the session opened the put under this key, with lines that fit the request
+pub record IsFollowed (turns : List Turn) (lines : List (List ℕ)) (key : Key) (request : List Field) (put : ℕ) : Type 0 where
+  pub did : DidBefore turns lines
+  pub put_for : WasPutFor lines did.earlier key request put
+
+-- a `get`, or a line that opens a reader, of this key with this request
+pub data AsksFor (key : Key) (request : List Field) : Step → Type 0 where
+  gets : AsksFor key request (step.Get key request)
+  opens : (name : List ℕ) → AsksFor key request (step.OpenRead name key request)
+
+-- each line answered `follow` tells of such a put
+abbrev pub FollowWasPut : Type 0
+FollowWasPut = (l : Logs) (a : Account l) (lines : List (List ℕ)) (asks : Step) (key : Key) (request : List Field) (put : ℕ)
+    → AsksFor key request asks → Tells a lines asks (answer.Follow put) → IsFollowed a.turns lines key request put

@@ -1,0 +1,104 @@
+// The sentences of the headline. These functions do nothing when they run.
+ghost use Rattle.headline.specs.Reads.{FollowWasPut, GotIsWhole, HitIsWhole};
+ghost use Rattle.headline.specs.Causes.{DamageWasGiven, FaultsWereRefused};
+ghost use Rattle.headline.specs.Troubles.{CountsAreReached, NoFalseDamage, NoFalseFaults};
+ghost use Rattle.headline.specs.Endings.{DoneWhereFine, EndsAreCaused, RunsAreTold};
+ghost use Rattle.headline.specs.Fixed.{SourceFixesSink};
+
+use cache_replay::texts_are_output;
+use edge_io::texts_have_lines;
+use model_laws::faults_rise;
+use reader_laws::{damage_is_given, follow_is_asked, got_is_put, hit_is_asked, length_is_told};
+use script_laws::{
+    answers_are_traced, damage_is_recorded, damage_stays, fault_is_recorded, output_is_fixed,
+};
+
+/// What is concluded of a run that was begun gives its account: what the sink took is the text of its answers, as far
+/// as the status says. The other laws speak of every account.
+pub fn runs_are_told()
+    ensures { RunsAreTold }
+{}
+
+/// Each line answered `got` gave all that the writer of one put took, which an earlier line opened under the
+/// asked key, with lines that fit the request, and which is the one that answers it.
+pub fn got_is_whole()
+    ensures { GotIsWhole }
+{
+    got_is_put();
+    hit_is_asked();
+    length_is_told();
+}
+
+/// Each line answered `hit` tells the length of what the writer of such a put took.
+pub fn hit_is_whole()
+    ensures { HitIsWhole }
+{
+    hit_is_asked();
+    length_is_told();
+}
+
+/// What a line is answered that it follows was opened by an earlier line under the asked key, with lines that
+/// fit the request.
+pub fn follow_was_put()
+    ensures { FollowWasPut }
+{
+    follow_is_asked();
+}
+
+/// Where a line answers a device fault, a call of that line was refused, with that count behind it.
+pub fn faults_were_refused()
+    ensures { FaultsWereRefused }
+{
+    fault_is_recorded();
+    damage_stays();
+}
+
+/// Where a line answers damage, the device gave other bytes in that line or an earlier one of its session.
+pub fn damage_was_given()
+    ensures { DamageWasGiven }
+{
+    answers_are_traced();
+    damage_is_given();
+    damage_stays();
+}
+
+/// No line answers a count above that with which its device came back.
+pub fn counts_are_reached()
+    ensures { CountsAreReached }
+{}
+
+/// Where a device came back with the count 0, no line on it answers a device fault.
+pub fn no_false_faults()
+    ensures { NoFalseFaults }
+{
+    fault_is_recorded();
+    answers_are_traced();
+    faults_rise();
+}
+
+/// Where a device told its content to the end, no line on it answers damage.
+pub fn no_false_damage()
+    ensures { NoFalseDamage }
+{
+    damage_is_recorded();
+    damage_stays();
+}
+
+/// Nothing but a refused call, want of memory, the words, or the text keeps a run from its end.
+pub fn done_where_fine()
+    ensures { DoneWhereFine }
+{}
+
+/// Each status has its cause, and the first that is met ends the run.
+pub fn ends_are_caused()
+    ensures { EndsAreCaused }
+{}
+
+/// Over devices that tell their content and refuse nothing, what the source gave fixes what the sink took.
+pub fn source_fixes_sink()
+    ensures { SourceFixesSink }
+{
+    output_is_fixed();
+    texts_are_output();
+    texts_have_lines();
+}
