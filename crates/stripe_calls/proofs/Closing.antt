@@ -1,0 +1,221 @@
+-- A writer closes.
+use Rattle.std.proofs.Common.{◌≡◌, ℕ, ◌+◌, ◌==◌, true, false, Bool, List, [], ◌∷◌, ◌++◌, refl, sym, ◌∙◌, ap, subst, Result, Ok, Err, inl, inr, ◌⊎◌, length}
+use Rattle.std.specs.Prelude.{IfErr, Option, Some, None, if◌then◌else◌, option_and_then}
+use Rattle.alternate_vector.specs.Alternates.{Stored, vector_size}
+use Rattle.fragment_table.specs.Table.{TableRow, total_length}
+use Rattle.logged_disk.specs.Device.{State as Device}
+use Rattle.cache_model.specs.declared.record.Rec.{Rec}
+use Rattle.cache_model.specs.State.{PutRow, Row, State, put_of}
+use Rattle.cache_model.specs.Kept.{Kept, state_of, with_records}
+use Rattle.cache_model.specs.Legal.{is_writing, vector_length}
+use Rattle.cache_model.specs.Pair.{IsKeyPair, ShowsPair}
+use Rattle.cache_model.specs.Permit.{Commit, Exhausted, Fails, Faulted, Finish, Intent, Lost, Permit, Reason, TooLarge, Weigh}
+use Rattle.cache_model.specs.ToRead.{to_read}
+use Rattle.cache_model.specs.Vectors.{IsVectorAs}
+use Rattle.cache_model.specs.Verdict.{cuts_of, live_vector_of}
+use Rattle.call_laws.specs.Moments.{At, IsToldAt}
+use Rattle.call_laws.specs.Progress.{AllDone, Leaves, Progress, Spends, Stops}
+use Rattle.call_laws.specs.Serves.{ServesFrom}
+use Rattle.stripe_core.specs.declared.refusal.Refusal.{Refusal}
+use Rattle.stripe_core.specs.declared.refusal.Refusal.TheVariants as refusal
+use Rattle.stripe_core.specs.Counts.{IsCounted}
+use Rattle.stripe_core.specs.Faults.{IsAccounted}
+use Rattle.stripe_write.specs.declared.finishing.Receipt.{Receipt}
+use Rattle.stripe_write.specs.declared.writer.Writer.{Writer}
+use Rattle.stripe_write.specs.Closes as closes
+use Rattle.stripe_write.specs.Closes.{ClosesAsAsked, ClosesWhere}
+use Rattle.stripe_write.specs.Closing as closing
+use Rattle.stripe_write.specs.Numbers as numbers
+use Rattle.stripe_write.specs.Writers as writers
+use Rattle.stripe_core.proofs.Between.{accounted_none}
+use Rattle.stripe_write.proofs.Ended.{open_put}
+use Rattle.stripe_write.proofs.Spending.{nothing_more}
+use Rattle.cache_calls.specs.declared.calls.Receipt as receipt
+use Rattle.cache_calls.specs.declared.calls.Refusal as refused
+use Rattle.cache_calls.specs.declared.calls.Refusal.TheVariants as said
+use Rattle.cache_calls.specs.Adds.{Adds, IsOfPut}
+use Rattle.cache_calls.specs.Asked.{close_asks, cuts_next, ending_asks, progress_at, rest_asks, rest_rows, rows_at_close}
+use Rattle.cache_calls.specs.Writers.{Closes, ClosesOpen, IsComplete, NumberAtClose, SealsWhere, StopsAtLimit, WriterCloses, bytes_next, size_at_close}
+use Rattle.stripe_calls.specs.Answers.{answer_as, receipt_as}
+use Rattle.stripe_calls.specs.Seen.{at_by, written_as}
+use Rattle.stripe_calls.proofs.Serving.{all_left, one_stays, same_added, serves_by, shows_asked, spends_done, spends_fails}
+use Rattle.stripe_calls.proofs.Words.{writer_as}
+
+-- ---- what is asked
+
+rest_rows_are : (bytes : List ℕ) → closing.rest_rows bytes ≡ rest_rows bytes
+rest_rows_are [] = refl
+rest_rows_are (byte ∷ bytes) = refl
+
+rest_asks_are : (w : Writer) (bytes : List ℕ) → closing.rest_intents w bytes ≡ rest_asks (written_as w) bytes
+rest_asks_are w [] = refl
+rest_asks_are w (byte ∷ bytes) = refl
+
+pub rows_are : (w : Writer) → closing.rows_at_close w ≡ rows_at_close (written_as w)
+rows_are w = ap (λ rows. w.table.rows ++ rows) (rest_rows_are w.gathered.items)
+
+asks_are : (w : Writer) → closing.close_intents w ≡ ending_asks (written_as w)
+asks_are w =
+    ap (λ is. Weigh w.put (length w.gathered.items) ∷ (is ++ Finish w.put (length (closing.rows_at_close w)) ∷ Commit w.put ∷ []))
+    (rest_asks_are w w.gathered.items)
+    ∙ ap (λ rows. Weigh w.put (length w.gathered.items) ∷ (rest_asks (written_as w) w.gathered.items ++ Finish w.put (length rows) ∷ Commit w.put ∷ []))
+    (rows_are w)
+
+-- ---- the number at the end of the tape
+
+next_is : (t : State) (w : Writer) → closes.bytes_next t w ≡ bytes_next t (written_as w)
+next_is t w = ap (λ rows. if length (cuts_of t w.put) == length rows then vector_length t w.put else length w.gathered.items) (rows_are w)
+
+abbrev Numbered : State → Writer → Result receipt.Receipt refused.Refusal → Type 0
+Numbered t w result = IfErr result (StopsAtLimit t (bytes_next t (written_as w)))
+
+number_at : (t : State) (w : Writer) (result : Result Receipt Refusal) → IfErr result (numbers.StopsAtLimit t (closes.bytes_next t w))
+    → Numbered t w (answer_as receipt_as result)
+number_at t w (Ok given) h = tt
+number_at t w (Err (refusal.Exhausted number)) h = subst (λ n. StopsAtLimit t n (said.Exhausted number)) (next_is t w) h
+number_at t w (Err refusal.TooManyWriters) h = tt
+number_at t w (Err refusal.TooManyFragments) h = tt
+number_at t w (Err (refusal.VectorTooLarge bytes)) h = tt
+number_at t w (Err (refusal.Lost index why)) h = tt
+number_at t w (Err (refusal.DeviceFault count)) h = tt
+number_at t w (Err refusal.Sealed) h = tt
+number_at t w (Err refusal.NoSuchWriter) h = tt
+number_at t w (Err (refusal.Memory error)) h = tt
+
+-- ---- what it serves
+
+-- the key's vector is read for what is asked first
+weighs : (s : State) (w : Writer) (row : PutRow) (rest : ℕ) → put_of s w.put ≡ Some row → row.key ≡ w.key → (vector : Row)
+    → live_vector_of s w.key ≡ Some vector → to_read s (Weigh w.put rest) ≡ Some vector
+weighs s w row rest found key vector live =
+    ap (λ o. option_and_then (λ (x : PutRow). live_vector_of s x.key) o) found ∙ (ap (live_vector_of s) key ∙ live)
+
+module _ (k l : Kept) (d e : Device) (now : ℕ) (w : Writer) (accounted : IsAccounted d.past e.past k l) where
+  abbrev Served : List Intent → Progress → Result Receipt Refusal → Type 0
+  Served asked o result = ServesFrom IsVectorAs now (at_by k d) (at_by l e) asked o IsToldAt (NumberAtClose (written_as w) (answer_as receipt_as result))
+
+  -- what is asked of an open put comes there, in each step that covers the call; or a pair is shown
+  comes : (o : Progress) (result : Result Receipt Refusal) → writers.IsWriterOf (state_of k) w → is_writing (state_of k) w.put ≡ true
+      → ((p : Permit) (added : List Rec) → closes.Spent p (state_of k) w result added → Spends p (state_of k) (closing.close_intents w) added o)
+      → ClosesAsAsked now d.past e.past k l w result → Served (ending_asks (written_as w)) o result
+  comes o result own writing law h =
+      let row = open_put (put_of (state_of k) w.put) writing in
+      subst (λ is. Served is o result) (asks_are w)
+      (serves_by accounted (closing.close_intents w) o IsToldAt accounted.added accounted.adds
+      (λ p past moment step told. elim (h.does p moment step told) [
+        | inl closed ↦ inl (
+          law p accounted.added (subst (closes.Spent p (state_of k) w result) (same_added k l closed.added accounted.added closed.adds accounted.adds) closed.does),
+          λ later. number_at (state_of l) w result closed.number,
+        )
+        | inr pair ↦ inr (shows_asked _ accounted.added
+            (λ vector live. weighs (state_of k) w row.0 (length w.gathered.items) row.1 (own row.0 row.1 row.2).key_is vector live) pair)
+      ]))
+
+  abbrev own_asks : List Intent
+  own_asks = close_asks (state_of k) (written_as w)
+
+  -- of a put that is open
+  opened : (o : Progress) (result : Result Receipt Refusal) → is_writing (state_of k) w.put ≡ true → Served (ending_asks (written_as w)) o result
+      → Served own_asks o result
+  opened o result writing h = subst (λ is. Served is o result) (ap (λ b. if b then ending_asks (written_as w) else []) (sym writing)) h
+
+  -- want of memory leaves all of it
+  wanting : (result : Result Receipt Refusal) → is_writing (state_of k) w.put ≡ true → Served (ending_asks (written_as w)) (Leaves (closing.close_intents w)) result
+      → Served own_asks (Leaves own_asks) result
+  wanting result writing h =
+      let first : closing.close_intents w ≡ own_asks = asks_are w ∙ ap (λ b. if b then ending_asks (written_as w) else []) (sym writing) in
+      subst (λ left. Served own_asks (Leaves left) result) first (opened (Leaves (closing.close_intents w)) result writing h)
+
+  pub close_serves : (result : Result Receipt Refusal) → writers.IsWriterOf (state_of k) w → is_writing (state_of k) w.put ≡ true
+      → ClosesWhere (state_of k) (state_of l) w result → ClosesAsAsked now d.past e.past k l w result
+      → Served own_asks (progress_at w.put own_asks (answer_as receipt_as result)) result
+  close_serves (Ok given) own writing is h =
+      opened AllDone (Ok given) writing (comes AllDone (Ok given) own writing (λ p added. spends_done p (state_of k) (closing.close_intents w) added) h)
+  close_serves (Err (refusal.VectorTooLarge bytes)) own writing is h =
+      opened (Stops (TooLarge w.put bytes)) (Err (refusal.VectorTooLarge bytes)) writing (comes (Stops (TooLarge w.put bytes)) (Err (refusal.VectorTooLarge bytes)) own writing (λ p added. spends_fails (TooLarge w.put bytes)) h)
+  close_serves (Err (refusal.Lost index why)) own writing is h =
+      opened (Stops (Lost w.put index)) (Err (refusal.Lost index why)) writing (comes (Stops (Lost w.put index)) (Err (refusal.Lost index why)) own writing (λ p added. spends_fails (Lost w.put index)) h)
+  close_serves (Err (refusal.DeviceFault count)) own writing is h =
+      opened (Stops (Faulted count)) (Err (refusal.DeviceFault count)) writing (comes (Stops (Faulted count)) (Err (refusal.DeviceFault count)) own writing (λ p added. spends_fails (Faulted count)) h)
+  close_serves (Err (refusal.Exhausted number)) own writing is h =
+      opened (Stops Exhausted) (Err (refusal.Exhausted number)) writing (comes (Stops Exhausted) (Err (refusal.Exhausted number)) own writing (λ p added. spends_fails Exhausted) h)
+  close_serves (Err (refusal.Memory error)) own writing is h =
+      wanting (Err (refusal.Memory error)) writing (comes (Leaves (closing.close_intents w)) (Err (refusal.Memory error)) own writing (λ p added. one_stays _) h)
+  close_serves (Err refusal.NoSuchWriter) own writing is h = let clash : true ≡ false = sym writing ∙ is in cc
+  close_serves (Err _) own writing is h = absurd is
+
+  -- of one that is not nothing is asked
+  pub not_open_serves : is_writing (state_of k) w.put ≡ false → l ≡ k → Served own_asks (Leaves own_asks) (Err refusal.NoSuchWriter)
+  not_open_serves none same = all_left accounted own_asks IsToldAt same (λ later. tt)
+
+-- nothing was done
+pub nothing_closed : (k : Kept) (d : Device) → IsAccounted d.past d.past k k
+nothing_closed k d = accounted_none d.past d.past k k refl refl
+
+pub none_added : (put : ℕ) (a : At) → Adds (IsOfPut put) a a
+none_added put a = record { added = []; adds = sym (nothing_more a.kept); own = tt }
+
+-- ---- what it gives
+
+module _ (k l : Kept) (d e : Device) (w : Writer) where
+  complete : (given : Receipt) → closes.IsComplete w given → IsComplete (written_as w) (receipt_as given)
+  complete given h = record {
+    put = h.put;
+    bytes = h.bytes ∙ ap total_length (rows_are w);
+    fragments = h.fragments ∙ ap (λ rows. length rows) (rows_are w);
+  }
+
+  size_is : closing.size_at_close w ≡ size_at_close (written_as w)
+  size_is = ap (λ (rows : List TableRow). vector_size (alternate rows ∷ [])) (rows_are w)
+    where
+      alternate : List TableRow → Stored
+      alternate rows = record {
+        put = w.put;
+        pin = w.pin;
+        length = total_length rows;
+        request = w.request;
+        response = w.response;
+        table = rows;
+      }
+
+  pub close_gives : (result : Result Receipt Refusal) → is_writing (state_of k) w.put ≡ true → ClosesWhere (state_of k) (state_of l) w result
+      → IfErr result (IsCounted e.faults) → Closes (at_by k d) (at_by l e) (written_as w) (answer_as receipt_as result)
+  close_gives (Ok given) writing is counts = (is.0, complete given is.1)
+  close_gives (Err (refusal.VectorTooLarge bytes)) writing is counts = (is.0, (is.1 ∙ size_is, is.2))
+  close_gives (Err (refusal.Lost index why)) writing is counts = (is.0, is.1)
+  close_gives (Err (refusal.DeviceFault count)) writing is counts = (is, counts)
+  close_gives (Err (refusal.Exhausted number)) writing is counts = (is.0, is.1)
+  close_gives (Err (refusal.Memory error)) writing is counts = (is, tt)
+  close_gives (Err refusal.NoSuchWriter) writing is counts = let clash : true ≡ false = sym writing ∙ is in cc
+  close_gives (Err _) writing is counts = absurd is
+
+-- ---- the writer
+
+seals_as : (old new : Writer) (result : Result Receipt Refusal) → closes.SealsWhere old new result
+    → SealsWhere (written_as old) (written_as new) (answer_as receipt_as result)
+seals_as old new (Ok given) h = tt
+seals_as old new (Err (refusal.DeviceFault count)) h = h
+seals_as old new (Err (refusal.Exhausted number)) h = h
+seals_as old new (Err (refusal.Memory error)) h = h.sealed
+seals_as old new (Err refusal.TooManyWriters) h = tt
+seals_as old new (Err refusal.TooManyFragments) h = tt
+seals_as old new (Err (refusal.VectorTooLarge bytes)) h = tt
+seals_as old new (Err (refusal.Lost index why)) h = tt
+seals_as old new (Err refusal.Sealed) h = tt
+seals_as old new (Err refusal.NoSuchWriter) h = tt
+
+pub writer_closes : (t : State) (old new : Writer) (result : Result Receipt Refusal) → writers.IsWriterOf t new → closes.SealsWhere old new result
+    → closes.IsRested old new → WriterCloses (written_as old) (answer_as receipt_as result) t (written_as new)
+writer_closes t old new result own seals rested = record {
+  seals = seals_as old new result seals;
+  rested = elim rested [
+    | inl kept ↦ inl (record { put = kept.put; gathered = kept.gathered; cuts = kept.rows })
+    | inr cut ↦ inr (record { put = cut.put; empty = cut.empty; cuts = cut.rows ∙ rows_are old })
+  ];
+  writer = writer_as t new own;
+}
+
+-- one that does not close is as it was
+pub writer_stays : (t : State) (w : Writer) → writers.IsWriterOf t w
+    → WriterCloses (written_as w) (Err said.NoSuchWriter) t (written_as w)
+writer_stays t w own = record { seals = tt; rested = inl (record { put = refl; gathered = refl; cuts = refl }); writer = writer_as t w own }

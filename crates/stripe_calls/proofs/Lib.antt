@@ -1,0 +1,9 @@
+mod Serving
+mod Words
+mod Resting
+mod Openings
+mod Feeding
+mod Closing
+mod Plain
+mod Looking
+mod Reading

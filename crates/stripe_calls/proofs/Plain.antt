@@ -1,0 +1,115 @@
+-- An object is removed, and the buffer is written out.
+use Rattle.std.proofs.Common.{◌≡◌, ℕ, ◌≤◌, true, List, [], ◌∷◌, refl, sym, ◌∙◌, subst, Result, Ok, Err}
+use Rattle.std.specs.Prelude.{IfErr, IfOk, OnErr, OnOk}
+use Rattle.std.specs.declared.alloc.AllocError.{AllocError}
+use Rattle.tape_base.specs.declared.keys.Key.{Key}
+use Rattle.tape_base.specs.Geometry.{budget_of}
+use Rattle.logged_disk.specs.Device.{State as Device}
+use Rattle.cache_model.specs.declared.record.Rec.{Rec}
+use Rattle.cache_model.specs.declared.record.Rec.TheVariants as rec
+use Rattle.cache_model.specs.State.{State}
+use Rattle.cache_model.specs.Kept.{Kept, state_of, with_records}
+use Rattle.cache_model.specs.Legal.{IsQuiet}
+use Rattle.cache_model.specs.Permit.{Done, Exhausted, Fails, Faulted, Flush, Remove}
+use Rattle.cache_model.specs.Room.{is_flush_exhausted}
+use Rattle.call_laws.specs.Moments.{IsToldAt}
+use Rattle.call_laws.specs.Serves.{ServesTold}
+use Rattle.call_laws.proofs.Joined.{state_behind}
+use Rattle.stripe_core.specs.declared.refusal.Flushed.{Flushed}
+use Rattle.stripe_core.specs.declared.refusal.Refusal.{Refusal}
+use Rattle.stripe_core.specs.declared.refusal.Refusal.TheVariants as refusal
+use Rattle.stripe_core.specs.declared.refusal.Stop.{Stop}
+use Rattle.stripe_core.specs.Faults.{IsAccounted}
+use Rattle.stripe_core.specs.Flush as flush
+use Rattle.stripe_core.specs.Flush.{AreOfFlush, FlushesAsAsked, StopsWith}
+use Rattle.stripe_core.specs.Stripe.{Answers, IsStill, Wanting}
+use Rattle.stripe_write.specs.declared.removal.Removal.{Removal}
+use Rattle.stripe_write.specs.declared.removal.Removal.TheVariants as removal
+use Rattle.stripe_write.specs.Removals.{RemovesAsIsAsked, RemovesWhere, removal_adds}
+use Rattle.stripe_write.proofs.Flushed.{flush_leaves}
+use Rattle.stripe_write.proofs.Spending.{nothing_more}
+use Rattle.cache_calls.specs.Adds.{AddsSoundly, IsOfFlush}
+use Rattle.cache_calls.specs.Asked.{progress_at, unless_wanting}
+use Rattle.cache_calls.specs.Plain.{Flushes, FlushesAs, Removes}
+use Rattle.stripe_calls.specs.Answers.{answer_as, flushed_as, given_as, removal_as}
+use Rattle.stripe_calls.specs.Seen.{at_by}
+use Rattle.stripe_calls.proofs.Serving.{adds_none, all_left, group_serves}
+use Rattle.stripe_calls.proofs.Words.{flush_records, is_idle, live_before}
+
+-- ---- an object is removed
+
+module _ (k l : Kept) (d e : Device) (key : Key) where
+  abbrev Added : Result Removal AllocError → Type 0
+  Added result = IfOk result (λ answer. l ≡ with_records k (removal_adds key answer))
+
+  pub remove_serves : (now : ℕ) → IsAccounted d.past e.past k l → (result : Result Removal AllocError) → Added result
+      → IfOk result (RemovesAsIsAsked (state_of k) key) → OnErr result (l ≡ k)
+      → ServesTold now (at_by k d) (at_by l e) (Remove key ∷ []) (unless_wanting (Remove key ∷ []) (given_as removal_as result))
+  remove_serves now accounted (Ok answer) adds does same =
+      group_serves accounted (Remove key) Done IsToldAt (removal_adds key answer) adds (λ p moment step. does p)
+  remove_serves now accounted (Err error) adds does same = all_left accounted (Remove key ∷ []) IsToldAt same (λ later. tt)
+
+  pub remove_gives : (result : Result Removal AllocError) → Added result → IfOk result (RemovesWhere (state_of k) key) → OnErr result (l ≡ k)
+      → Removes (at_by k d) (at_by l e) key (given_as removal_as result)
+  remove_gives (Ok (removal.Removed put)) adds is same = (is, adds)
+  remove_gives (Ok (removal.Absent why)) adds is same = (is.0, is.1, adds ∙ nothing_more k)
+  remove_gives (Err error) adds is same = same
+
+-- ---- the buffer is written out
+
+module _ (k l : Kept) (d e : Device) (now : ℕ) where
+  abbrev Does : Result Flushed Refusal → Type 0
+  Does result = Answers result (FlushesAsAsked now k l d.past e) (l ≡ k)
+
+  abbrev Stops : Result Flushed Refusal → Type 0
+  Stops result = Answers result (λ r. IfErr r (StopsWith (state_of k) e.faults)) (Unit {0})
+
+  pub flush_serves : IsAccounted d.past e.past k l → (result : Result Flushed Refusal) → Does result
+      → ServesTold now (at_by k d) (at_by l e) (Flush ∷ []) (progress_at 0 (Flush ∷ []) (answer_as flushed_as result))
+  flush_serves accounted (Ok flushed) h = group_serves accounted Flush Done IsToldAt h.added h.adds h.does
+  flush_serves accounted (Err (refusal.DeviceFault count)) h = group_serves accounted Flush (Fails (Faulted count)) IsToldAt h.added h.adds h.does
+  flush_serves accounted (Err (refusal.Exhausted number)) h = group_serves accounted Flush (Fails Exhausted) IsToldAt h.added h.adds h.does
+  flush_serves accounted (Err (refusal.Memory error)) h = all_left accounted (Flush ∷ []) IsToldAt h (λ later. tt)
+  flush_serves accounted (Err _) h = absurd h
+
+  sound : (r : Result Flushed Stop) → FlushesAsAsked now k l d.past e r → AddsSoundly IsOfFlush (at_by k d) (at_by l e)
+  sound r h = record { added = h.added; adds = h.adds; own = flush_records h.added h.kinds; undamaged = h.unharmed }
+
+  pub flush_owns : (result : Result Flushed Refusal) → Does result → AddsSoundly IsOfFlush (at_by k d) (at_by l e)
+  flush_owns (Ok flushed) h = sound _ h
+  flush_owns (Err (refusal.DeviceFault count)) h = sound _ h
+  flush_owns (Err (refusal.Exhausted number)) h = sound _ h
+  flush_owns (Err (refusal.Memory error)) h = record { added = []; adds = adds_none k l h; own = tt; undamaged = λ told. tt }
+  flush_owns (Err _) h = absurd h
+
+  answers : (result : Result Flushed Refusal) → Does result → IfOk result (flush.Tells (state_of k) (state_of l))
+      → OnOk result ((state_of l).filled ≤ budget_of (state_of l).geometry) → Stops result → Wanting result (IsStill d e)
+      → FlushesAs (at_by k d) (at_by l e) (answer_as flushed_as result)
+  answers (Ok flushed) h tells room stops still =
+      (record { blocks = tells.blocks; cursor = tells.cursor; floor = tells.floor; room = room }, live_before (state_of k) (state_of l) h.live)
+  answers (Err (refusal.DeviceFault count)) h tells room stops still = (stops, live_before (state_of k) (state_of l) h.live)
+  answers (Err (refusal.Exhausted number)) h tells room stops still = (stops.0, stops.1, live_before (state_of k) (state_of l) h.live)
+  answers (Err (refusal.Memory error)) h tells room stops still = (h, is_idle still)
+  answers (Err _) h tells room stops still = absurd h
+
+  pub flush_gives : (result : Result Flushed Refusal) → Does result → IfOk result (flush.Tells (state_of k) (state_of l))
+      → OnOk result ((state_of l).filled ≤ budget_of (state_of l).geometry) → Stops result → Wanting result (IsStill d e)
+      → ((state_of k).filled ≡ 0 → IsStill d e) → (is_flush_exhausted (state_of k) ≡ true → IsStill d e)
+      → Flushes (at_by k d) (at_by l e) (answer_as flushed_as result)
+  flush_gives result h tells room stops wanting still ended = record {
+    answers = answers result h tells room stops wanting;
+    still = λ empty. is_idle (still empty);
+    ended = λ over. is_idle (ended over);
+  }
+
+  -- no vector waits behind it
+  quiet_behind : (added : List Rec) → l ≡ with_records k added → AreOfFlush added → IsQuiet (state_of k) → IsQuiet (state_of l)
+  quiet_behind added adds kinds quiet =
+      subst IsQuiet (sym (state_behind k l added adds)) ((flush_leaves (state_of k) added kinds).pending ∙ quiet)
+
+  pub flush_quiet : (result : Result Flushed Refusal) → Does result → IsQuiet (state_of k) → IsQuiet (state_of l)
+  flush_quiet (Ok flushed) h quiet = quiet_behind h.added h.adds h.kinds quiet
+  flush_quiet (Err (refusal.DeviceFault count)) h quiet = quiet_behind h.added h.adds h.kinds quiet
+  flush_quiet (Err (refusal.Exhausted number)) h quiet = quiet_behind h.added h.adds h.kinds quiet
+  flush_quiet (Err (refusal.Memory error)) h quiet = subst (λ (x : Kept). IsQuiet (state_of x)) (sym h) quiet
+  flush_quiet (Err _) h quiet = absurd h

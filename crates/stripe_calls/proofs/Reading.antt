@@ -1,0 +1,149 @@
+-- A reader reads on.
+use Rattle.std.proofs.Common.{◌≡◌, ℕ, ◌+◌, ◌≤◌, List, [], ◌∷◌, ◌++◌, refl, sym, ◌∙◌, ap, subst, Result, Ok, Err, inl, inr, ◌⊎◌}
+use Rattle.std.specs.Prelude.{IfOk, OnErr, Option, Some, None, option_map}
+use Rattle.std.specs.declared.alloc.AllocError.{AllocError}
+use Rattle.fragment_table.specs.Table.{Table}
+use Rattle.logged_disk.specs.Device.{State as Device}
+use Rattle.cache_model.specs.declared.record.Rec.{Rec}
+use Rattle.cache_model.specs.State.{Row, State}
+use Rattle.cache_model.specs.Kept.{Kept, state_of, with_records}
+use Rattle.cache_model.specs.Legal.{answer_record, live_next}
+use Rattle.cache_model.specs.Permit.{Done, Intent, Permit, ReadOn}
+use Rattle.cache_model.specs.Vectors.{IsVectorAs}
+use Rattle.call_laws.specs.Moments.{NothingKnown}
+use Rattle.call_laws.specs.Progress.{AllDone}
+use Rattle.call_laws.specs.Serves.{ServesFrom}
+use Rattle.call_laws.proofs.Grown.{one_spends}
+use Rattle.stripe_core.specs.Between.{IsBetween}
+use Rattle.stripe_core.specs.Faults.{IsAccounted}
+use Rattle.stripe_read.specs.declared.reader.Reader.{Reader}
+use Rattle.stripe_read.specs.declared.reading.NextPiece.{NextPiece}
+use Rattle.stripe_read.specs.declared.reading.NextPiece.TheVariants as piece
+use Rattle.stripe_read.specs.Nexts as nexts
+use Rattle.stripe_read.specs.Nexts.{ReadsOn}
+use Rattle.stripe_read.specs.Readers as readers
+use Rattle.cache_calls.specs.Asked.{unless_wanting}
+use Rattle.cache_calls.specs.Keeping.{StaysUnharmed}
+use Rattle.cache_calls.specs.Readers.{GoesOn, IsCountedBreak, IsFragment, IsGiven, IsGivenAs, IsOtherNext, IsToldTo, ReaderGoesOn, ReadsNext, next_behind, next_trouble, noted, read_adds}
+use Rattle.stripe_calls.specs.Answers.{given_as, piece_as}
+use Rattle.stripe_calls.specs.Seen.{at_by, reading_as}
+use Rattle.stripe_calls.proofs.Serving.{all_left, covers_in, serves_by}
+use Rattle.stripe_calls.proofs.Words.{are_seen, cause_same, counted_cause, reader_as, stays_unharmed, table_as, table_is}
+
+-- ---- its records
+
+trouble_same : (o : Option Row) (given : NextPiece) → nexts.trouble_with o given ≡ next_trouble o (piece_as given)
+trouble_same None given = refl
+trouble_same (Some row) (piece.Piece index size) = refl
+trouble_same (Some row) (piece.End size) = refl
+trouble_same (Some row) (piece.NotYet cut) = refl
+trouble_same (Some row) (piece.Broken why) = sym (cause_same row why)
+
+noted_same : (listed : ℕ) (given : NextPiece) → nexts.noted listed given ≡ noted listed (piece_as given)
+noted_same listed (piece.Piece index size) = refl
+noted_same listed (piece.End size) = refl
+noted_same listed (piece.NotYet cut) = refl
+noted_same listed (piece.Broken why) = refl
+
+adds_same : (s : State) (r : Reader) (given : NextPiece) → nexts.read_adds s r given ≡ read_adds s (reading_as r) (piece_as given)
+adds_same s r given =
+    let listed : ℕ = nexts.listed_length s r in
+    ap (λ recs. recs ++ answer_record r.reader (nexts.noted listed given) ∷ []) (trouble_same (live_next s (readers.as_row r)) given)
+    ∙ ap (λ answer. next_trouble (live_next s (readers.as_row r)) (piece_as given) ++ answer_record r.reader answer ∷ []) (noted_same listed given)
+
+-- ---- what it is given
+
+given_as_fragment : (p : Permit) (s : State) (r : Reader) (index size : ℕ) (into : List ℕ) → nexts.IsFragment p s r index size into
+    → IsFragment p s (reading_as r) index size into
+given_as_fragment p s r index size into h = record {
+  entry = h.entry;
+  row = h.row;
+  index_is = h.index_is;
+  cut = h.cut;
+  live = h.live;
+  document = h.document;
+  listed = h.listed;
+}
+
+given_so : (p : Permit) (s : State) (r : Reader) (given : NextPiece) (into : List ℕ) → nexts.Gives p s r given into
+    → IsGivenAs p s (reading_as r) (piece_as given) into
+given_so p s r (piece.Piece index size) into h = given_as_fragment p s r index size into h
+given_so p s r (piece.End size) into h = tt
+given_so p s r (piece.NotYet cut) into h = tt
+given_so p s r (piece.Broken why) into h = tt
+
+counted_as : (faults : ℕ) (s : State) (r : Reader) (given : NextPiece) → nexts.IsCountedBreak faults s r given
+    → IsCountedBreak faults s (reading_as r) (piece_as given)
+counted_as faults s r (piece.Piece index size) h = tt
+counted_as faults s r (piece.End size) h = tt
+counted_as faults s r (piece.NotYet cut) h = tt
+counted_as faults s r (piece.Broken why) h = elim h [ inl is ↦ inl is | inr counted ↦ inr (counted_cause faults why counted) ]
+
+-- ---- the call
+
+module _ (k l : Kept) (d e : Device) (r : Reader) where
+  abbrev asked : List Intent
+  asked = ReadOn r.reader ∷ []
+
+  abbrev Added : Result NextPiece AllocError → Type 0
+  Added result = IfOk result (λ given. l ≡ with_records k (nexts.read_adds (state_of k) r given))
+
+  abbrev Read : Result NextPiece AllocError → List ℕ → Type 0
+  Read result into = IfOk result (λ given. ReadsOn (state_of k) d e r given into)
+
+  pub next_serves : (now : ℕ) (into : List ℕ) → IsAccounted d.past e.past k l → (result : Result NextPiece AllocError) → Added result → Read result into
+      → OnErr result (l ≡ k)
+      → ServesFrom IsVectorAs now (at_by k d) (at_by l e) asked (unless_wanting asked (given_as piece_as result)) (IsToldTo (reading_as r)) NothingKnown
+  next_serves now into accounted (Ok given) adds h same =
+      let added : List Rec = nexts.read_adds (state_of k) r given in
+      serves_by accounted asked AllDone (IsToldTo (reading_as r)) added adds
+      (λ p past moment step told. inl (one_spends p (state_of k) (ReadOn r.reader) added Done (h.does p step (table_is (state_of k) r told.1)), λ later. tt))
+  next_serves now into accounted (Err error) adds h same = all_left accounted asked (IsToldTo (reading_as r)) same (λ later. tt)
+
+  is_given : (given : NextPiece) (into : List ℕ) → ReadsOn (state_of k) d e r given into → IsGiven (at_by k d) (at_by l e) (reading_as r) (piece_as given) into
+  is_given given into h = λ now p earlier calls past step. given_so p (state_of k) r given into (h.gives p (covers_in d.past e.past past step))
+
+  pub next_gives : (into : List ℕ) (result : Result NextPiece AllocError) → Added result → Read result into → OnErr result (l ≡ k)
+      → ReadsNext (at_by k d) (at_by l e) (reading_as r) (given_as piece_as result) into
+  next_gives into (Ok given) adds h same = record {
+    adds = adds ∙ ap (with_records k) (adds_same (state_of k) r given);
+    given = is_given given into h;
+    counted = counted_as e.faults (state_of k) r given h.counted;
+    read = are_seen k l d e h.seen;
+  }
+  next_gives into (Err error) adds h same = same
+
+  other_next : nexts.IsOtherNext (state_of k) r → IsOtherNext (state_of k) (reading_as r)
+  other_next h = record { entry = h.entry; row = h.row; found = h.found; cut = h.cut; live = h.live; unlike = h.unlike }
+
+  pub next_unharmed : IsBetween d e k l ⊎ nexts.IsOtherNext (state_of k) r
+      → StaysUnharmed (at_by k d) (at_by l e) ⊎ IsOtherNext (state_of k) (reading_as r)
+  next_unharmed h = elim h [ inl between ↦ inl (stays_unharmed between) | inr other ↦ inr (other_next other) ]
+
+-- ---- the reader
+
+next_same : (index : ℕ) (given : NextPiece) → nexts.next_behind index given ≡ next_behind index (piece_as given)
+next_same index (piece.Piece given size) = refl
+next_same index (piece.End size) = refl
+next_same index (piece.NotYet cut) = refl
+next_same index (piece.Broken why) = refl
+
+pub next_goes : (s t : State) (old new : Reader) (result : Result NextPiece AllocError) → IfOk result (λ given. nexts.GoesOn old given new)
+    → OnErr result (new ≡ old) → readers.IsOpenReader t new → (readers.IsReaderOf s old → readers.IsReaderOf t new)
+    → ReaderGoesOn (reading_as old) (given_as piece_as result) s t (reading_as new)
+next_goes s t old new (Ok given) goes same own keeps = record {
+  goes = record {
+    reader = goes.reader;
+    key = goes.key;
+    put = goes.put;
+    table = ap (λ o. option_map (λ (x : Table). x.rows) o) goes.table;
+    next = goes.next ∙ next_same old.next given;
+  };
+  reader = reader_as t new own;
+  keeps = λ h. table_as t new (keeps (table_is s old h));
+}
+next_goes s t old new (Err error) goes same own keeps = record {
+  goes = ap reading_as same;
+  reader = reader_as t new own;
+  keeps = λ h. table_as t new (keeps (table_is s old h));
+}

@@ -1,0 +1,158 @@
+-- A call of a stripe serves what it is asked, by what the stripe says of it in each step that covers it.
+use Rattle.std.proofs.Common.{◌≡◌, ℕ, true, false, List, [], ◌∷◌, ◌++◌, refl, sym, ◌∙◌, ap, subst, append-nil, inl, inr, ◌⊎◌}
+use Rattle.std.specs.Prelude.{Option, Some, None}
+use Rattle.std.specs.List.{AllByRecursion}
+use Rattle.std.proofs.lemmas.List.{append_cancel_left}
+use Rattle.device_log.specs.Calls.{Call}
+use Rattle.logged_disk.specs.Device.{State as Device}
+use Rattle.cache_model.specs.declared.record.Rec.{Rec}
+use Rattle.tape_base.specs.declared.keys.Key.{Key}
+use Rattle.cache_model.specs.State.{Row, State}
+use Rattle.cache_model.specs.Verdict.{live_vector_of}
+use Rattle.cache_model.specs.Kept.{Kept, state_of, with_records}
+use Rattle.cache_model.specs.Permit.{Done, End, Fails, Intent, IsAmong, IsSetBy, Permit, Reason, Stays, to_do}
+use Rattle.cache_model.specs.Given.{effects_in, effects_told}
+use Rattle.cache_model.specs.Legal.{Does, MayGrow, nothing}
+use Rattle.cache_model.specs.Pair.{IsKeyPair, IsPair, ShowsPair}
+use Rattle.cache_model.specs.ToRead.{asked_for, to_read}
+use Rattle.cache_model.specs.Vectors.{IsVectorAs}
+use Rattle.call_laws.specs.Moments.{Encloses, Facts, NothingKnown, so_far}
+use Rattle.call_laws.specs.Progress.{AllDone, Leaves, Progress, Spends, Stops, progress_of, refused_work}
+use Rattle.call_laws.specs.Serves.{ServesFrom}
+use Rattle.call_laws.proofs.Grown.{one_spends}
+use Rattle.call_laws.proofs.Groups.{happens_plainly}
+use Rattle.call_laws.proofs.Joined.{state_behind}
+use Rattle.stripe_core.specs.Covers as covers
+use Rattle.stripe_core.specs.Covers.{Covers}
+use Rattle.stripe_core.specs.Faults.{IsAccounted}
+use Rattle.stripe_core.proofs.Covering.{made_is}
+use Rattle.stripe_write.specs.Closing.{SpendsAll}
+use Rattle.stripe_write.proofs.Spending.{nothing_more}
+use Rattle.stripe_calls.specs.Seen.{at_by, plain}
+
+-- ---- steps
+
+among_front : (x : Call) (xs ys : List Call) → IsAmong x xs → IsAmong x (xs ++ ys)
+among_front x [] ys h = absurd h
+among_front x (y ∷ xs) ys (inl is) = inl is
+among_front x (y ∷ xs) ys (inr h) = inr (among_front x xs ys h)
+
+among_behind : (x : Call) (xs ys : List Call) → IsAmong x ys → IsAmong x (xs ++ ys)
+among_behind x [] ys h = h
+among_behind x (y ∷ xs) ys h = inr (among_behind x xs ys h)
+
+all_are : (P : Call → Type 0) (xs : List Call) → ((x : Call) → IsAmong x xs → P x) → AllByRecursion P xs
+all_are P [] each = tt
+all_are P (x ∷ xs) each = (each x (inl refl), all_are P xs (λ y h. each y (inr h)))
+
+-- what has the calls of a call covers it
+pub covers_in : {now : ℕ} {p : Permit} {earlier calls : List Call} (before after : List Call) → after ≡ calls ++ before
+    → Encloses now plain p earlier calls → Covers p before after
+covers_in {p = p} {earlier = earlier} {calls = calls} before after is h = record {
+  plain = h.set.packed;
+  unsynced = h.set.syncs;
+  content = h.set.area;
+  knows = λ made there. subst (λ cs. AllByRecursion (λ call. IsAmong call p.events) cs) (sym (made_is before after made calls is there)) own;
+}
+  where
+    own : AllByRecursion (λ call. IsAmong call p.events) calls
+    own = all_are (λ call. IsAmong call p.events) calls
+        (λ x among. subst (IsAmong x) (sym h.events) (among_behind x h.later (calls ++ earlier) (among_front x calls earlier among)))
+
+-- no step of such a cache syncs
+pub never_syncs : {past : List Call} {p : Permit} → IsSetBy plain past p → p.syncs ≡ true → ⊥
+never_syncs set syncs = clash (sym set.syncs ∙ syncs)
+  where
+    clash : false ≡ true → ⊥
+    clash e = cc
+
+-- ---- records
+
+-- the same records
+pub same_added : (k l : Kept) (a b : List Rec) → l ≡ with_records k a → l ≡ with_records k b → a ≡ b
+same_added k l a b first second = append_cancel_left k.since a b (ap (λ (j : Kept). j.since) (sym first ∙ second))
+
+pub adds_none : (k l : Kept) → l ≡ k → l ≡ with_records k []
+adds_none k l same = same ∙ sym (nothing_more k)
+
+-- ---- what is asked
+
+-- all of some, or a refusal
+pub spends_done : (p : Permit) (s : State) (asked : List Intent) (added : List Rec) → SpendsAll p s asked added Done → Spends p s asked added AllDone
+spends_done p s asked added h = subst (λ is. MayGrow p s (to_do is) added (to_do [])) (append-nil asked) (h [] None)
+
+pub spends_fails : {p : Permit} {s : State} {asked : List Intent} {added : List Rec} (why : Reason)
+    → SpendsAll p s asked added (Fails why) → Spends p s asked added (Stops why)
+spends_fails {p} {s} {asked} {added} why h = subst (λ is. MayGrow p s (to_do is) added (refused_work [] why)) (append-nil asked) (h [] None)
+
+-- of one ask
+pub one_done : {p : Permit} {s : State} {i : Intent} {added : List Rec} → covers.Spends p s i added Done → Spends p s (i ∷ []) added AllDone
+one_done h = h [] None
+
+pub one_fails : {p : Permit} {s : State} {i : Intent} {added : List Rec} (why : Reason)
+    → covers.Spends p s i added (Fails why) → Spends p s (i ∷ []) added (Stops why)
+one_fails why h = h [] None
+
+pub one_stays : {p : Permit} {s : State} {i : Intent} {added : List Rec} (rest : List Intent)
+    → covers.Spends p s i added Stays → Spends p s (i ∷ rest) added (Leaves (i ∷ rest))
+one_stays rest h = h rest None
+
+-- ---- a pair
+
+pub shows_asked : {p : Permit} {s : State} {key : Key} {i : Intent} (rest : List Intent) (added : List Rec)
+    → ((row : Row) → live_vector_of s key ≡ Some row → to_read s i ≡ Some row)
+    → IsKeyPair IsVectorAs p s key → ShowsPair IsVectorAs p s (i ∷ rest) added
+shows_asked {p} {s} {key} {i} rest added reads h = record {
+  before = [];
+  rest = added;
+  left = to_do (i ∷ rest);
+  is = refl;
+  grows = nothing;
+  pair = read;
+}
+  where
+    read : IsPair IsVectorAs p s i
+    read = record { row = h.row; read = asked_for (reads h.row h.vector); pair = h.pair }
+
+-- ---- calls
+
+-- What a call brings in each step, where this is known before: what is asked there, and what is known behind; or a pair.
+abbrev pub Brings : (now : ℕ) (k l : Kept) (d e : Device) → List Intent → Progress → (before known : Facts) → List Rec → Type 0
+Brings now k l d e asked o before known added = (p : Permit) (past : List Call) → p.now ≡ now → Covers p d.past e.past → before past (state_of k)
+    → (Spends p (state_of k) asked added o × ((later : List Call) → known later (state_of l))) ⊎ ShowsPair IsVectorAs p (state_of k) asked added
+
+module _ {k l : Kept} {d e : Device} (accounted : IsAccounted d.past e.past k l) where
+  pub serves_by : {now : ℕ} {known : Facts} (asked : List Intent) (o : Progress) (before : Facts) (added : List Rec) → l ≡ with_records k added
+      → Brings now k l d e asked o before known added → ServesFrom IsVectorAs now (at_by k d) (at_by l e) asked o before known
+  serves_by {now} {known} asked o before added adds law =
+      let calls : List Call = accounted.faults.made in
+      let same : added ≡ accounted.added = same_added k l added accounted.added adds accounted.adds in
+      let effects : effects_told added ≡ effects_in calls = ap effects_told same ∙ sym accounted.faults.are in
+      record {
+        calls = calls;
+        added = added;
+        happens = happens_plainly calls added refl refl accounted.faults.past adds effects;
+        does = λ p earlier step. record {
+          from = λ told. elim (law p (so_far p earlier) step.moment (covers_in d.past e.past accounted.faults.past step) told) [
+            | inl v ↦ inl (record {
+              spends = v.0;
+              behind = subst (known (so_far p (calls ++ earlier))) (state_behind k l added adds) (v.1 (so_far p (calls ++ earlier)));
+              buffers = λ syncs. absurd (never_syncs step.set syncs);
+            })
+            | inr pair ↦ inr pair
+          ];
+        };
+      }
+
+  -- one group of records
+  pub group_serves : {now : ℕ} (i : Intent) (end : End) (before : Facts) (added : List Rec) → l ≡ with_records k added
+      → ((p : Permit) → p.now ≡ now → Covers p d.past e.past → Does p (state_of k) i added end)
+      → ServesFrom IsVectorAs now (at_by k d) (at_by l e) (i ∷ []) (progress_of i end) before NothingKnown
+  group_serves i end before added adds law = serves_by (i ∷ []) (progress_of i end) before added adds
+      (λ p past moment step told. inl (one_spends p (state_of k) i added end (law p moment step), λ later. tt))
+
+  -- no record, and all is left
+  pub all_left : {now : ℕ} {known : Facts} (asked : List Intent) (before : Facts) → l ≡ k → ((later : List Call) → known later (state_of l))
+      → ServesFrom IsVectorAs now (at_by k d) (at_by l e) asked (Leaves asked) before known
+  all_left asked before same behind =
+      serves_by asked (Leaves asked) before [] (adds_none k l same) (λ p past moment step told. inl (nothing, behind))

@@ -1,0 +1,172 @@
+-- The words of a stripe, as those of a cache.
+use Rattle.std.proofs.Common.{◌≡◌, ℕ, ◌+◌, ◌<◌, ◌≤◌, true, false, List, [], ◌∷◌, ◌++◌, refl, sym, ◌∙◌, ap, subst, inl, inr, ◌⊎◌, length}
+use Rattle.std.specs.Prelude.{Option, Some, None, is_some, option_map}
+use Rattle.std.specs.List.{AllByRecursion}
+use Rattle.tape_base.specs.declared.pieces.PieceId.{PieceId}
+use Rattle.device_log.specs.Calls.{Call, Read}
+use Rattle.fragment_table.specs.Table.{Table, TableRow, total_length}
+use Rattle.logged_disk.specs.Device.{State as Device}
+use Rattle.cache_model.specs.declared.cause.Cause.{Cause}
+use Rattle.cache_model.specs.declared.cause.Cause.TheVariants as cause
+use Rattle.cache_model.specs.declared.record.Rec.{Rec}
+use Rattle.cache_model.specs.declared.record.Rec.TheVariants as rec
+use Rattle.cache_model.specs.State.{PutRow, Row, State, live_row_of}
+use Rattle.cache_model.specs.Kept.{Kept, state_of, with_records}
+use Rattle.cache_model.proofs.Steps.{all_as}
+use Rattle.stripe_core.specs.Between.{IsBetween}
+use Rattle.stripe_core.specs.Counts as counts
+use Rattle.stripe_core.specs.Covers as covers
+use Rattle.stripe_core.specs.Find as find
+use Rattle.stripe_core.specs.Flush as flush
+use Rattle.stripe_core.specs.Stripe.{IsStill}
+use Rattle.stripe_core.specs.Unharmed as unharmed
+use Rattle.stripe_write.specs.declared.writer.Writer.{Writer}
+use Rattle.stripe_write.specs.Others as puts
+use Rattle.stripe_write.specs.Writers as writers
+use Rattle.stripe_read.specs.declared.reader.Reader.{Reader}
+use Rattle.stripe_read.specs.Others as others
+use Rattle.stripe_read.specs.Readers as readers
+use Rattle.cache_calls.specs.Actors.{IsAllCut, IsAtHand, IsOpenReader, IsReaderOf, IsWriterOf}
+use Rattle.cache_calls.specs.Adds.{Adds, IsOfFlush, IsOfPut, IsOfReader}
+use Rattle.cache_calls.specs.Keeping.{AreSeen, Goes, IsIdle, IsSeenOn, IsUnharmed, Keeps, StaysUnharmed}
+use Rattle.cache_calls.specs.Readers.{IsCountedCause, cause_records}
+use Rattle.cache_calls.specs.Writers.{LiveBefore}
+use Rattle.stripe_calls.specs.Seen.{at_by, reading_as, written_as}
+
+-- ---- writers
+
+cut_as : (w : Writer) → writers.IsAllCut w → IsAllCut (written_as w)
+cut_as w h = record { sealed = h.sealed; empty = h.empty }
+
+cut_is : (w : Writer) → IsAllCut (written_as w) → writers.IsAllCut w
+cut_is w h = record { sealed = h.sealed; empty = h.empty }
+
+pub writer_as : (s : State) (w : Writer) → writers.IsWriterOf s w → IsWriterOf s (written_as w)
+writer_as s w own = λ row found o.
+    let h = own row found o in
+    record {
+      key_is = h.key_is;
+      request_is = h.request_is;
+      response_is = h.response_is;
+      pin_is = h.pin_is;
+      cuts_are = h.cuts_are;
+      whole = elim h.whole [ inl cut ↦ inl (cut_as w cut) | inr full ↦ inr full ];
+      few = h.few;
+      more = h.more;
+    }
+
+pub writer_is : (s : State) (w : Writer) → IsWriterOf s (written_as w) → writers.IsWriterOf s w
+writer_is s w own = λ row found o.
+    let h : IsAtHand s.geometry row (written_as w) = own row found o in
+    record {
+      key_is = h.key_is;
+      request_is = h.request_is;
+      response_is = h.response_is;
+      pin_is = h.pin_is;
+      cuts_are = h.cuts_are;
+      whole = elim h.whole [ inl cut ↦ inl (cut_is w cut) | inr full ↦ inr full ];
+      few = h.few;
+      more = h.more;
+    }
+
+-- ---- readers
+
+there_is : (table : Option Table) → is_some (option_map (λ (t : Table). t.rows) table) ≡ is_some table
+there_is None = refl
+there_is (Some table) = refl
+
+pub reader_as : (s : State) (r : Reader) → readers.IsOpenReader s r → IsOpenReader s (reading_as r)
+reader_as s r h = record {
+  row = h.row;
+  found = h.found;
+  key_is = h.key_is;
+  put_is = h.put_is;
+  next_is = h.next_is;
+  hit = h.hit ∙ sym (there_is r.table);
+  first = h.first;
+}
+
+pub reader_is : (s : State) (r : Reader) → IsOpenReader s (reading_as r) → readers.IsOpenReader s r
+reader_is s r h = record {
+  row = h.row;
+  found = h.found;
+  key_is = h.key_is;
+  put_is = h.put_is;
+  next_is = h.next_is;
+  hit = h.hit ∙ there_is r.table;
+  first = h.first;
+}
+
+pub table_as : (s : State) (r : Reader) → readers.IsReaderOf s r → IsReaderOf s (reading_as r)
+table_as s r h = record { actor = h.actor; found = h.found }
+
+pub table_is : (s : State) (r : Reader) → IsReaderOf s (reading_as r) → readers.IsReaderOf s r
+table_is s r h = record { actor = h.actor; found = h.found }
+
+-- ---- whose records there are
+
+put_record : (put : ℕ) (r : Rec) → puts.IsOfPut put r → IsOfPut put r
+put_record put (rec.Formatted geometry) h = h
+put_record put _ h = h
+
+reader_record : (reader : ℕ) (r : Rec) → others.IsOfReader reader r → IsOfReader reader r
+reader_record reader (rec.Formatted geometry) h = h
+reader_record reader _ h = h
+
+flush_record : (r : Rec) → flush.IsOfFlush r → IsOfFlush r
+flush_record (rec.Formatted geometry) h = h
+flush_record _ h = h
+
+pub put_records : (put : ℕ) (recs : List Rec) → AllByRecursion (puts.IsOfPut put) recs → AllByRecursion (IsOfPut put) recs
+put_records put recs each = all_as (puts.IsOfPut put) (IsOfPut put) (put_record put) recs each
+
+pub flush_records : (recs : List Rec) → flush.AreOfFlush recs → AllByRecursion IsOfFlush recs
+flush_records recs each = all_as flush.IsOfFlush IsOfFlush flush_record recs each
+
+pub put_adds : {k l : Kept} {d e : Device} (put : ℕ) → puts.AddsOfPut put k l → Adds (IsOfPut put) (at_by k d) (at_by l e)
+put_adds put h = record { added = h.added; adds = h.adds; own = put_records put h.added h.own }
+
+pub reader_adds : {k l : Kept} {d e : Device} (reader : ℕ) → others.AddsOfReader reader k l → Adds (IsOfReader reader) (at_by k d) (at_by l e)
+reader_adds reader h = record {
+  added = h.added;
+  adds = h.adds;
+  own = all_as (others.IsOfReader reader) (IsOfReader reader) (reader_record reader) h.added h.own;
+}
+
+-- ---- the frame
+
+unharmed_as : {k : Kept} {d : Device} → unharmed.IsUnharmed d (state_of k) → IsUnharmed (at_by k d)
+unharmed_as h = record { unharmed = h.unharmed }
+
+unharmed_is : {k : Kept} {d : Device} → IsUnharmed (at_by k d) → unharmed.IsUnharmed d (state_of k)
+unharmed_is h = record { unharmed = h.unharmed }
+
+pub stays_unharmed : {k l : Kept} {d e : Device} → IsBetween d e k l → StaysUnharmed (at_by k d) (at_by l e)
+stays_unharmed {k} {l} {d} {e} h = λ (u : IsUnharmed (at_by k d)). unharmed_as (h.unharmed (unharmed_is u))
+
+pub is_idle : {k l : Kept} {d e : Device} → IsStill d e → IsIdle (at_by k d) (at_by l e)
+is_idle h = record { past = h.past; faults = h.faults }
+
+-- ---- what is live, and what is seen
+
+pub live_before : (s t : State) → flush.LiveBefore s t → LiveBefore s t
+live_before s t h = λ id row live.
+    let was = h id row live in
+    (was.0, was.1, record { id = was.2.id; blocks = was.2.blocks; payload = was.2.payload; pin = was.2.pin; alternates = was.2.alternates })
+
+seen_on : (device : Device) (call : Call) → covers.IsSeenOn device call → IsSeenOn device call
+seen_on device (Read at bytes) h = h
+seen_on device _ h = tt
+
+pub are_seen : (k l : Kept) (d e : Device) → covers.AreSeen d e → AreSeen (at_by k d) (at_by l e)
+are_seen k l d e h = λ made past trusted. all_as (covers.IsSeenOn e) (IsSeenOn e) (seen_on e) made (h made past trusted)
+
+-- ---- causes
+
+pub cause_same : (row : Row) (why : Cause) → cause_records row why ≡ find.cause_records row why
+cause_same row (cause.DeviceFault count) = refl
+cause_same row _ = refl
+
+pub counted_cause : (faults : ℕ) (why : Cause) → counts.IsCountedCause faults why → IsCountedCause faults why
+counted_cause faults (cause.DeviceFault count) h = h
+counted_cause faults _ h = tt

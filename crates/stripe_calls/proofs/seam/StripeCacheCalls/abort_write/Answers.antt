@@ -1,0 +1,33 @@
+use Rattle.std.proofs.Common.{ℕ}
+use Rattle.stripe_core.specs.Stripe.{kept_in, seen_in, state_in}
+use Rattle.stripe_calls.proofs.Openings.{abort_gives, abort_owns, abort_serves}
+use Rattle.stripe_calls.proofs.Resting.{cache_keeps}
+use Rattle.stripe_calls.proofs.Words.{writer_as, writer_is}
+use Rattle.stripe_calls.proofs.seam.StripeCacheCalls.abort_write.Goals as goal
+
+pub abort_write-requires-clause-writer : goal.abort_write-requires-clause-writer
+abort_write-requires-clause-writer g c = writer_is (state_in c.args.self.now.stripe) c.args.writer.now c.requires.writer
+
+pub returns-clause-serves : goal.returns-clause-serves
+returns-clause-serves g c = λ now. rw c.unchanged.ensures
+    (abort_serves (kept_in c.args.self.now.stripe) (kept_in c.abort_write.new.stripe)
+    (seen_in c.args.self.now.stripe).device (seen_in c.abort_write.new.stripe).device
+    c.args.writer.now now c.abort_write.ensures.rests.between.accounted c.abort_write.result c.abort_write.ensures.adds c.abort_write.ensures.aborts c.abort_write.ensures.does)
+
+pub returns-clause-gives : goal.returns-clause-gives
+returns-clause-gives g c = rw c.unchanged.ensures
+    (abort_gives (kept_in c.args.self.now.stripe) (kept_in c.abort_write.new.stripe)
+    (seen_in c.args.self.now.stripe).device (seen_in c.abort_write.new.stripe).device
+    c.args.writer.now c.abort_write.result c.abort_write.ensures.adds c.abort_write.ensures.aborts)
+
+pub returns-clause-own : goal.returns-clause-own
+returns-clause-own g c =
+    abort_owns (kept_in c.args.self.now.stripe) (kept_in c.abort_write.new.stripe)
+    (seen_in c.args.self.now.stripe).device (seen_in c.abort_write.new.stripe).device
+    c.args.writer.now c.abort_write.result c.abort_write.ensures.adds c.abort_write.ensures.aborts
+
+pub returns-clause-writer : goal.returns-clause-writer
+returns-clause-writer g c = writer_as (state_in c.abort_write.new.stripe) c.abort_write.new.writer c.abort_write.ensures.writer
+
+pub returns-clause-keeps : goal.returns-clause-keeps
+returns-clause-keeps g c = cache_keeps _ _ c.abort_write.ensures.rests

@@ -1,0 +1,38 @@
+use Rattle.std.proofs.Common.{ℕ}
+use Rattle.stripe_core.specs.Stripe.{kept_in, seen_in, state_in}
+use Rattle.stripe_calls.proofs.Reading.{next_gives, next_goes, next_serves, next_unharmed}
+use Rattle.stripe_calls.proofs.Resting.{cache_goes}
+use Rattle.stripe_calls.proofs.Words.{reader_adds, reader_is}
+use Rattle.stripe_calls.proofs.seam.StripeCacheCalls.read_next.Goals as goal
+
+pub read_next-requires-clause-reader : goal.read_next-requires-clause-reader
+read_next-requires-clause-reader g c = reader_is (state_in c.args.self.now.stripe) c.args.reader.now c.requires.reader
+
+pub returns-clause-serves : goal.returns-clause-serves
+returns-clause-serves g c = λ now. rw c.given.ensures
+    (next_serves (kept_in c.args.self.now.stripe) (kept_in c.read_next.new.stripe)
+    (seen_in c.args.self.now.stripe).device (seen_in c.read_next.new.stripe).device
+    c.args.reader.now now c.read_next.new.into c.read_next.ensures.proceeds.accounted c.read_next.result c.read_next.ensures.adds c.read_next.ensures.reads c.read_next.ensures.err)
+
+pub returns-clause-gives : goal.returns-clause-gives
+returns-clause-gives g c = rw c.given.ensures
+    (next_gives (kept_in c.args.self.now.stripe) (kept_in c.read_next.new.stripe)
+    (seen_in c.args.self.now.stripe).device (seen_in c.read_next.new.stripe).device
+    c.args.reader.now c.read_next.new.into c.read_next.result c.read_next.ensures.adds c.read_next.ensures.reads c.read_next.ensures.err)
+
+pub returns-clause-keeps : goal.returns-clause-keeps
+returns-clause-keeps g c = cache_goes _ _ c.read_next.ensures.resting c.read_next.ensures.proceeds
+
+pub returns-clause-unharmed : goal.returns-clause-unharmed
+returns-clause-unharmed g c =
+    next_unharmed (kept_in c.args.self.now.stripe) (kept_in c.read_next.new.stripe)
+    (seen_in c.args.self.now.stripe).device (seen_in c.read_next.new.stripe).device
+    c.args.reader.now c.read_next.ensures.unharmed
+
+pub returns-clause-own : goal.returns-clause-own
+returns-clause-own g c = reader_adds c.args.reader.now.reader c.read_next.ensures.own
+
+pub returns-clause-reader : goal.returns-clause-reader
+returns-clause-reader g c = rw c.given.ensures
+    (next_goes (state_in c.args.self.now.stripe) (state_in c.read_next.new.stripe) c.args.reader.now c.read_next.new.reader
+    c.read_next.result c.read_next.ensures.goes c.read_next.ensures.same c.read_next.ensures.reader c.read_next.ensures.keeps)

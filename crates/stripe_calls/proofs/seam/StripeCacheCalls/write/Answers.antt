@@ -1,0 +1,35 @@
+use Rattle.std.proofs.Common.{ℕ}
+use Rattle.stripe_core.specs.Stripe.{kept_in, seen_in, state_in}
+use Rattle.stripe_calls.proofs.Feeding.{write_gives, write_goes, write_owns, write_serves}
+use Rattle.stripe_calls.proofs.Resting.{cache_keeps}
+use Rattle.stripe_calls.proofs.Words.{writer_is}
+use Rattle.stripe_calls.proofs.seam.StripeCacheCalls.write.Goals as goal
+
+pub write-requires-clause-writer : goal.write-requires-clause-writer
+write-requires-clause-writer g c = writer_is (state_in c.args.self.now.stripe) c.args.writer.now c.requires.writer
+
+pub returns-clause-serves : goal.returns-clause-serves
+returns-clause-serves g c = rw c.unchanged.ensures
+    (write_serves (kept_in c.args.self.now.stripe) (kept_in c.write.new.stripe)
+    (seen_in c.args.self.now.stripe).device (seen_in c.write.new.stripe).device
+    c.args.now c.args.writer.now c.args.bytes.now c.write.ensures.rests.between.accounted c.write.result c.write.ensures.writes c.write.ensures.does)
+
+pub returns-clause-gives : goal.returns-clause-gives
+returns-clause-gives g c = rw c.unchanged.ensures
+    (write_gives (kept_in c.args.self.now.stripe) (kept_in c.write.new.stripe)
+    (seen_in c.args.self.now.stripe).device (seen_in c.write.new.stripe).device
+    c.args.writer.now c.args.now c.args.bytes.now c.write.result c.write.ensures.writes c.write.ensures.number c.write.ensures.does)
+
+pub returns-clause-own : goal.returns-clause-own
+returns-clause-own g c =
+    write_owns (kept_in c.args.self.now.stripe) (kept_in c.write.new.stripe)
+    (seen_in c.args.self.now.stripe).device (seen_in c.write.new.stripe).device
+    c.args.writer.now c.args.now c.args.bytes.now c.write.result c.write.ensures.does
+
+pub returns-clause-writer : goal.returns-clause-writer
+returns-clause-writer g c = rw c.unchanged.ensures
+    (write_goes (state_in c.args.self.now.stripe) (state_in c.write.new.stripe) c.args.writer.now c.write.new.writer c.args.bytes.now
+    c.write.result c.write.ensures.writer c.write.ensures.gathers c.write.ensures.same)
+
+pub returns-clause-keeps : goal.returns-clause-keeps
+returns-clause-keeps g c = cache_keeps _ _ c.write.ensures.rests

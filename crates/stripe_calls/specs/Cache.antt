@@ -1,0 +1,17 @@
+-- The stripe of a cache.
+use Rattle.logged_disk.specs.declared.device.Disk.{Ghosts as DiskGhosts}
+use Rattle.dir_table.specs.declared.directory.Directory.{Ghosts as DirectoryGhosts}
+use Rattle.cache_chronicle.specs.declared.chronicle.Chronicle.{Ghosts as ChronicleGhosts}
+use Rattle.call_laws.specs.Moments.{At}
+use Rattle.stripe_core.specs.Between.{IsResting}
+use Rattle.stripe_calls.specs.declared.cache.StripeCache.{StripeCache}
+use Rattle.stripe_calls.specs.Seen.{at_in}
+
+module _ {D R C : Type 0} {d : DiskGhosts D} {r : DirectoryGhosts R} {c : ChronicleGhosts C} where
+  -- its records and its device
+  abbrev pub at_of : StripeCache D R C d r c → At
+  at_of cache = at_in cache.stripe
+
+  -- what holds of it between calls
+  abbrev pub IsCache : StripeCache D R C d r c → Type 0
+  IsCache cache = IsResting cache.stripe

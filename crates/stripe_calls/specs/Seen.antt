@@ -1,0 +1,44 @@
+-- What a stripe, a writer and a reader are as those of a cache.
+use Rattle.std.specs.Prelude.{false}
+use Rattle.logged_disk.specs.Device.{State as Device}
+use Rattle.logged_disk.specs.declared.device.Disk.{Ghosts as DiskGhosts}
+use Rattle.dir_table.specs.declared.directory.Directory.{Ghosts as DirectoryGhosts}
+use Rattle.cache_chronicle.specs.declared.chronicle.Chronicle.{Ghosts as ChronicleGhosts}
+use Rattle.cache_model.specs.Kept.{Kept}
+use Rattle.cache_model.specs.Permit.{Setting}
+use Rattle.stripe_core.specs.declared.stripe.Stripe.{Stripe}
+use Rattle.stripe_core.specs.Stripe.{kept_in, seen_in}
+use Rattle.stripe_write.specs.declared.writer.Writer.{Writer}
+use Rattle.stripe_read.specs.declared.reader.Reader.{Reader}
+use Rattle.stripe_read.specs.Readers.{rows_in}
+use Rattle.call_laws.specs.Moments.{At}
+use Rattle.cache_calls.specs.Actors.{ReaderSeen, WriterSeen}
+
+-- its directory displaces nothing, it does not sync, and its content area begins at the first block
+abbrev pub plain : Setting
+plain = record { packed = false; syncs = false; area = 0 }
+
+-- these records and this device at a moment of such a cache
+abbrev pub at_by : Kept → Device → At
+at_by kept device = record { kept = kept; device = device; setting = plain }
+
+-- those of a stripe
+abbrev pub at_in : {D R C : Type 0} {d : DiskGhosts D} {r : DirectoryGhosts R} {c : ChronicleGhosts C} → Stripe D R C d r c → At
+at_in t = at_by (kept_in t) (seen_in t).device
+
+-- a writer
+abbrev pub written_as : Writer → WriterSeen
+written_as w = record {
+  put = w.put;
+  key = w.key;
+  request = w.request;
+  response = w.response;
+  pin = w.pin;
+  gathered = w.gathered.items;
+  cuts = w.table.rows;
+  sealed = w.sealed;
+}
+
+-- a reader
+abbrev pub reading_as : Reader → ReaderSeen
+reading_as r = record { reader = r.reader; key = r.key; put = r.put; table = rows_in r; next = r.next }
