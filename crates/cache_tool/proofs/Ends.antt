@@ -35,7 +35,7 @@ use Rattle.cache_tool.specs.declared.run.Ending.{Ending}
 use Rattle.cache_tool.specs.declared.run.Ending.TheVariants as ending
 use Rattle.cache_tool.specs.declared.run.Halt.{Halt}
 use Rattle.cache_tool.specs.declared.run.Halt.TheVariants.{Stop, WriteFault, Memory}
-use Rattle.cache_tool.specs.Story.{Story, Told, Taken, Took, Recorded, ShownAlong, GoesOn, GaveBack, IsReadThrough, Owes, OwesOrGave, SendsAll, SendsBefore, SendsFront, CutsLast, WantsInLine, Refusals, refusals, Because, all_in, own_loosened, told_by, told_in}
+use Rattle.run_promise.specs.Story.{Story, Told, Taken, Took, Recorded, ShownAlong, GoesOn, GaveBack, IsReadThrough, Owes, OwesOrGave, SendsAll, SendsBefore, SendsFront, CutsLast, WantsInLine, Refusals, refusals, Because, all_in, own_loosened, told_by, told_in}
 use Rattle.cache_tool.specs.Ending.{Ends, FailedReads, IsOfRun}
 use Rattle.cache_tool.specs.Halt.{Written, Halts, Leaves, ending_of, last_of}
 use Rattle.cache_tool.proofs.Stories.{step_more, Deals-nothing, Deals-trans, Deals-settled, answered_with, along_with, story_with}
@@ -118,46 +118,46 @@ module _ (first now : List SourceRead) (taken_first taken : List SinkWrite) (led
         stopped bay (last.BadScript given' bad) (λ o out. (counted, record { bytes = bytes; next = (unread', known); bad = e }))
 
 -- the next line is a step
-module _ {D R C : Type 0} (disk : DiskGhosts D) (directory : DirectoryGhosts R) (chronicle : ChronicleGhosts C) (old : Session D R C) (first now : List SourceRead) (taken_first taken : List SinkWrite) (ledger_first ledger : Ledger)
+module _ {D R C : Type 0} {d : DiskGhosts D} {r : DirectoryGhosts R} {c : ChronicleGhosts C} (old : Session D R C d r c) (first now : List SourceRead) (taken_first taken : List SinkWrite) (ledger_first ledger : Ledger)
     (unread unread' : List ℕ) (given given' : ℕ)
-    (story : GoesOn first taken_first ledger_first now unread given taken ledger (λ o. IsOutlined disk directory chronicle o old) (λ run. Plays disk directory chronicle run old))
+    (story : GoesOn first taken_first ledger_first now unread given taken ledger (λ o. IsOutlined o old) (λ run. Plays run old))
     (bytes : List ℕ) (known : GivesLine given unread bytes unread') (counted : given' ≡ given + 1)
-    (step : Step) (asks : reading_of bytes ≡ line.Step step) (session : Session D R C) (ledger' : Ledger) (taken' : List SinkWrite) where
+    (step : Step) (asks : reading_of bytes ≡ line.Step step) (session : Session D R C d r c) (ledger' : Ledger) (taken' : List SinkWrite) where
   -- the session before it
   abbrev Before : Outline → Type 0
-  Before = λ o. IsOutlined disk directory chronicle o old
+  Before = λ o. IsOutlined o old
 
   abbrev Reaches : List Harm → Type 0
-  Reaches = λ harms. AreReached harms (return_of disk directory chronicle session.part)
+  Reaches = λ harms. AreReached harms (return_of session.part)
 
   abbrev Wanting : List ℕ → ℕ → Told → Type 0
   Wanting = OwesOrGave ledger_first ledger' (devices_of session) Reaches
 
   -- the run goes on behind it
-  pub step_goes : IsSession disk directory chronicle old → Written disk directory chronicle old step session ledger ledger' (Took taken taken')
-      → GoesOn first taken_first ledger_first now unread' given' taken' ledger' (λ o. IsOutlined disk directory chronicle o session) (λ run. Plays disk directory chronicle run session)
+  pub step_goes : IsSession old → Written old step session ledger ledger' (Took taken taken')
+      → GoesOn first taken_first ledger_first now unread' given' taken' ledger' (λ o. IsOutlined o session) (λ run. Plays run session)
   step_goes was w =
-      step_more first now taken_first taken ledger_first ledger unread unread' given given' _ _ story bytes known counted step asks w.said ledger' disk directory chronicle session
+      step_more first now taken_first taken ledger_first ledger unread unread' given given' _ _ story bytes known counted step asks w.said ledger' session
       (SendsAll taken_first taken') (λ t. Deals ledger_first ledger' t.ended t.names) _ _ w.outlines w.ends
       (λ out appends. Took-trans taken_first taken taken' out _ appends w.text) (λ o is deals. deals) (λ run plays deals. deals) (λ o is. is) (λ run plays. plays)
 
   -- or ends with it
-  module _ (was : IsSession disk directory chronicle old) (is : IsSession disk directory chronicle session) (bay_old bay_new : List BayCall) where
+  module _ (was : IsSession old) (is : IsSession session) (bay_old bay_new : List BayCall) where
     -- what the bay refused before and behind the line
     abbrev bay : Refusals
     bay = refusals (refusals_of bay_old) (refusals_of bay_new)
 
-    written_ends : (Text : List ℕ → Type 0) (Sent : (before all : List ℕ) → Type 0) (Devices : Told → Type 0) (Behind : Outline → Type 0) (w : Written disk directory chronicle old step session ledger ledger' Text)
+    written_ends : (Text : List ℕ → Type 0) (Sent : (before all : List ℕ) → Type 0) (Devices : Told → Type 0) (Behind : Outline → Type 0) (w : Written old step session ledger ledger' Text)
         → ((out : List ℕ) → Took taken_first taken out → Sent out (out ++ answer_line w.said)) → ((t : Told) → Owes ledger_first ledger' Reaches t → Devices t) → ((o : Outline) → Behind o)
         → Story first now unread' given' Sent Devices Behind (λ run. Unit {0})
     written_ends Text Sent Devices Behind w sent owed behind =
-        step_more first now taken_first taken ledger_first ledger unread unread' given given' _ _ story bytes known counted step asks w.said ledger' disk directory chronicle session
+        step_more first now taken_first taken ledger_first ledger unread unread' given given' _ _ story bytes known counted step asks w.said ledger' session
         Sent Devices Behind (λ run. Unit {0}) w.outlines w.ends sent (λ o reached deals. owed (told_by o) (record { deals = deals; reached = reached }))
-        (λ run plays deals. owed (told_in run) (record { deals = deals; reached = plays_reach disk directory chronicle session is run plays })) (λ o reached. behind o) (λ run plays. tt)
+        (λ run plays deals. owed (told_in run) (record { deals = deals; reached = plays_reach session is run plays })) (λ o reached. behind o) (λ run plays. tt)
 
     -- what a line leaves that was not done
-    left_ends : (why : Stopped) (Devices : Told → Type 0) → ((t : Told) → Deals ledger_first ledger t.ended t.names → IsLeft disk directory chronicle t.own step session ledger ledger' why → Devices t)
-        → Leaves disk directory chronicle old step session ledger ledger' why → (Text : (before all : List ℕ) → Type 0) (Behind : Outline → Type 0) → Text (texts_before story.answers) (texts_of story.answers)
+    left_ends : (why : Stopped) (Devices : Told → Type 0) → ((t : Told) → Deals ledger_first ledger t.ended t.names → IsLeft t.own step session ledger ledger' why → Devices t)
+        → Leaves old step session ledger ledger' why → (Text : (before all : List ℕ) → Type 0) (Behind : Outline → Type 0) → Text (texts_before story.answers) (texts_of story.answers)
         → ((o : Outline) → Before o → Behind o) → Story first now unread given Text Devices Behind (λ run. Unit {0})
     left_ends why Devices settle leaves Text Behind text behind =
         let left : (o : Outline) → Deals ledger_first ledger o.ended o.names → Before o → Devices (told_by o) = λ o deals is. settle (told_by o) deals (leaves (told_of o.session) is) in
@@ -173,15 +173,15 @@ module _ {D R C : Type 0} (disk : DiskGhosts D) (directory : DirectoryGhosts R) 
           records = elim story.records [
             | inl r ↦
                 let run : Run = run_after fresh story.lines r.turns in
-                inl (record { turns = r.turns; legal = r.legal; says = r.says; devices = settle (told_in run) r.devices (leaves (harm_of run.calls run.state) (plays_reach disk directory chronicle old was run r.known)); known = tt })
+                inl (record { turns = r.turns; legal = r.legal; says = r.says; devices = settle (told_in run) r.devices (leaves (harm_of run.calls run.state) (plays_reach old was run r.known)); known = tt })
             | inr along ↦ inr (along_with story.lines story.answers (λ t. Deals ledger_first ledger t.ended t.names) Devices Before Behind left behind along)
           ];
         }
 
-    stays_owes : (t : Told) → Deals ledger_first ledger t.ended t.names → AreReached t.own (return_of disk directory chronicle session.part) → ledger' ≡ ledger → Owes ledger_first ledger' Reaches t
+    stays_owes : (t : Told) → Deals ledger_first ledger t.ended t.names → AreReached t.own (return_of session.part) → ledger' ≡ ledger → Owes ledger_first ledger' Reaches t
     stays_owes t deals reached same = record { deals = rw same deals; reached = reached }
 
-    not_ended : (by : Stopped) → (by ≡ stop.Memory → ⊥) → (t : Told) → Deals ledger_first ledger t.ended t.names → IsLeft disk directory chronicle t.own step session ledger ledger' by → Owes ledger_first ledger' Reaches t
+    not_ended : (by : Stopped) → (by ≡ stop.Memory → ⊥) → (t : Told) → Deals ledger_first ledger t.ended t.names → IsLeft t.own step session ledger ledger' by → Owes ledger_first ledger' Reaches t
     not_ended stop.Memory other t deals left = absurd (other refl)
     not_ended stop.NoCache other t deals (stays reached same) = stays_owes t deals reached same
     not_ended stop.NoCache other t deals (tried needs wanting reached same) = absurd (other wanting)
@@ -190,7 +190,7 @@ module _ {D R C : Type 0} (disk : DiskGhosts D) (directory : DirectoryGhosts R) 
     not_ended stop.BayFault other t deals (tried needs wanting reached same) = absurd (other wanting)
     not_ended stop.BayFault other t deals (ended name attaches none more wanting) = absurd (other wanting)
 
-    halted : (why : LastLine) (by : Stopped) → (by ≡ stop.Memory → ⊥) → Leaves disk directory chronicle old step session ledger ledger' by → taken' ≡ taken → ((o : Outline) → Before o → Because bay unread given o why)
+    halted : (why : LastLine) (by : Stopped) → (by ≡ stop.Memory → ⊥) → Leaves old step session ledger ledger' by → taken' ≡ taken → ((o : Outline) → Before o → Because bay unread given o why)
         → Ends first now taken_first taken' bay (Owes ledger_first ledger' Reaches) Wanting (ending.Stopped why)
     halted why by other leaves keeps because = record {
       held = unread;
@@ -199,7 +199,7 @@ module _ {D R C : Type 0} (disk : DiskGhosts D) (directory : DirectoryGhosts R) 
     }
 
     -- what is owed where memory was wanting
-    wants : (t : Told) → Deals ledger_first ledger t.ended t.names → IsLeft disk directory chronicle t.own step session ledger ledger' stop.Memory → Wanting unread given t
+    wants : (t : Told) → Deals ledger_first ledger t.ended t.names → IsLeft t.own step session ledger ledger' stop.Memory → Wanting unread given t
     wants t deals (stays reached same) = inl (stays_owes t deals reached same)
     wants t deals (tried needs wanting reached same) =
         inr (inl (record { bytes = bytes; next = (unread', known); step = step; asks = asks; needs = needs; devices = stays_owes (own_loosened t) deals reached same }))
@@ -217,12 +217,12 @@ module _ {D R C : Type 0} (disk : DiskGhosts D) (directory : DirectoryGhosts R) 
     ))
 
     -- without a session there is none in the outline
-    none_found : (told : Option Harm) (part : Option (Part D R C)) → part ≡ None → AreReached (told_of told) (return_of disk directory chronicle part) → told ≡ None
+    none_found : (told : Option Harm) (part : Option (Part D R C d r c)) → part ≡ None → AreReached (told_of told) (return_of part) → told ≡ None
     none_found None part e h = refl
     none_found (Some harm) None e h = absurd h
     none_found (Some harm) (Some part) e h = cc
 
-    halt_ends : (halt : Halt) → Halts disk directory chronicle old step session ledger ledger' taken taken' bay_old bay_new halt
+    halt_ends : (halt : Halt) → Halts old step session ledger ledger' taken taken' bay_old bay_new halt
         → Ends first now taken_first taken' bay (Owes ledger_first ledger' Reaches) Wanting (ending_of given' halt)
     halt_ends (Stop stop.NoCache) h =
         halted (last.NoCache given') stop.NoCache (λ e. absurd cc) h.0 h.1
@@ -247,7 +247,7 @@ module _ {D R C : Type 0} (disk : DiskGhosts D) (directory : DirectoryGhosts R) 
           (λ out appends. Took-kept taken_first taken taken' out appends h.text) (λ t owes. owes) (λ o. tt);
     })
 
-    pub step_ends : (halt : Halt) → Halts disk directory chronicle old step session ledger ledger' taken taken' bay_old bay_new halt
+    pub step_ends : (halt : Halt) → Halts old step session ledger ledger' taken taken' bay_old bay_new halt
         → Ends first now taken_first taken' bay (Owes ledger_first ledger' Reaches) Wanting (ending_of given' halt)
     step_ends halt h = halt_ends halt h
 
@@ -385,18 +385,18 @@ nothing_ends now taken Devices Wanting back bay = inl (record {
 
 -- ---- the device of the session comes back
 
-module _ {D R C : Type 0} (disk : DiskGhosts D) (directory : DirectoryGhosts R) (chronicle : ChronicleGhosts C) where
-  returns_none : (part : Option (Part D R C)) → parts_of part ≡ 0 → AreReached [] (return_of disk directory chronicle part)
+module _ {D R C : Type 0} {d : DiskGhosts D} {r : DirectoryGhosts R} {c : ChronicleGhosts C} where
+  returns_none : (part : Option (Part D R C d r c)) → parts_of part ≡ 0 → AreReached [] (return_of part)
   returns_none None e = tt
   returns_none (Some part) e = absurd cc
 
   -- no device is its own
-  pub none_own : (part : Option (Part D R C)) → parts_of part ≡ 0 → return_of disk directory chronicle part ≡ []
+  pub none_own : (part : Option (Part D R C d r c)) → parts_of part ≡ 0 → return_of part ≡ []
   none_own None e = refl
   none_own (Some part) e = absurd cc
 
   -- with no session nothing more comes back
-  pub gave_settled : (session : Session D R C) (a b c : Ledger) (held : List ℕ) (given : ℕ) (t : Told) → ((harms : List Harm) → AreReached harms (return_of disk directory chronicle session.part) → ComeBack b.returned c.returned harms)
+  pub gave_settled : (session : Session D R C d r c) (a b c : Ledger) (held : List ℕ) (given : ℕ) (t : Told) → ((harms : List Harm) → AreReached harms (return_of session.part) → ComeBack b.returned c.returned harms)
       → c.names ≡ b.names → devices_of session ≡ 0 → GaveBack a b held given t → GaveBack a c held given t
   gave_settled session a b c held given t back same none gave = record {
     bytes = gave.bytes;

@@ -20,7 +20,7 @@ use Rattle.script_run.specs.Ledger.{Ledger}
 use Rattle.cache_replay.proofs.Unharming.{plays_reached}
 use Rattle.cache_tool.specs.declared.run.Halt.{Halt}
 use Rattle.cache_tool.specs.declared.run.Halt.TheVariants.{Stop, WriteFault, Memory}
-use Rattle.cache_tool.specs.Story.{SendsFront, CutsLast, Took}
+use Rattle.run_promise.specs.Story.{SendsFront, CutsLast, Took}
 use Rattle.cache_tool.specs.Halt.{Halts, IsUnwritten}
 
 pub OnOk-map : {T E : Type 0} (r : Result T E) (P Q : Type 0) → (P → Q) → OnOk r P → OnOk r Q
@@ -39,18 +39,18 @@ pub either-both : {A B S T : Type 0} → (A → B) → (S → T) → A ⊎ S →
 either-both f g (inl a) = inl (f a)
 either-both f g (inr s) = inr (g s)
 
-module _ {D R C : Type 0} (disk : DiskGhosts D) (directory : DirectoryGhosts R) (chronicle : ChronicleGhosts C) where
-  pub unwritten_halts : (session : Session D R C) (step : Step) (new : Session D R C) (said : StepAnswer) (before now : Ledger) (taken_old taken_new : List SinkWrite) (bay_old bay_new : List BayCall)
-      → ((o : Outline) → IsOutlined disk directory chronicle o session → Outlines disk directory chronicle o step new said before now)
-      → ((run : Run) → Plays disk directory chronicle run session → DeviceEnds disk directory chronicle run step new said before now)
-      → (halt : Halt) → IsUnwritten taken_old taken_new (answer_line said) halt → Halts disk directory chronicle session step new before now taken_old taken_new bay_old bay_new halt
+module _ {D R C : Type 0} {d : DiskGhosts D} {r : DirectoryGhosts R} {c : ChronicleGhosts C} where
+  pub unwritten_halts : (session : Session D R C d r c) (step : Step) (new : Session D R C d r c) (said : StepAnswer) (before now : Ledger) (taken_old taken_new : List SinkWrite) (bay_old bay_new : List BayCall)
+      → ((o : Outline) → IsOutlined o session → Outlines o step new said before now)
+      → ((run : Run) → Plays run session → DeviceEnds run step new said before now)
+      → (halt : Halt) → IsUnwritten taken_old taken_new (answer_line said) halt → Halts session step new before now taken_old taken_new bay_old bay_new halt
   unwritten_halts session step new said before now taken_old taken_new bay_old bay_new outlines ends WriteFault h = record { said = said; outlines = outlines; ends = ends; text = h }
   unwritten_halts session step new said before now taken_old taken_new bay_old bay_new outlines ends Memory h = record { said = said; outlines = outlines; ends = ends; text = h }
   unwritten_halts session step new said before now taken_old taken_new bay_old bay_new outlines ends (Stop why) h = absurd h
 
   -- the device of a session is as it was told
-  pub plays_reach : (session : Session D R C) → IsSession disk directory chronicle session → (run : Run) → Plays disk directory chronicle run session → HasReached disk directory chronicle run session
-  plays_reach session is run plays = plays_reached disk directory chronicle run session is plays
+  pub plays_reach : (session : Session D R C d r c) → IsSession session → (run : Run) → Plays run session → HasReached run session
+  plays_reach session is run plays = plays_reached run session is plays
 
 -- ---- the text so far
 

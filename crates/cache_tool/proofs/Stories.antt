@@ -23,7 +23,7 @@ use Rattle.cache_replay.specs.Lines.{AreAnswered, answers_of, outline_of, outlin
 use Rattle.cache_replay.specs.Plays.{DeviceEnds, IsOutlined, Outlines}
 use Rattle.script_run.specs.Ledger.{ComeBack, Ledger, Deals}
 use Rattle.cache_replay.specs.Plays.{Plays as PlaysNow}
-use Rattle.cache_tool.specs.Story.{AnsweredFrom, Story, Told, Taken, Took, Recorded, ShownAlong, GoesOn, SendsAll, told_by, told_in}
+use Rattle.run_promise.specs.Story.{AnsweredFrom, Story, Told, Taken, Took, Recorded, ShownAlong, GoesOn, SendsAll, told_by, told_in}
 use Rattle.cache_tool.proofs.Runs.{AreAnswered-more, IsRun-more, answers_of-more, outline_of-more, run_after-more, texts_before-more, texts_of-more, AreReached-append}
 
 -- ---- the bytes of a line
@@ -238,10 +238,10 @@ module _ (first now : List SourceRead) (taken_first taken : List SinkWrite) (led
         → Deals ledger_first ledger ended names → Deals ledger ledger' more others → Deals ledger_first ledger' all called
     deals_all ended more names others all called e n first second = rw (e, n) (Deals-trans ledger_first ledger ledger' ended more names others first second)
 
-    module _ {D R C : Type 0} (disk : DiskGhosts D) (directory : DirectoryGhosts R) (chronicle : ChronicleGhosts C) (new : Session D R C) where
+    module _ {D R C : Type 0} {d : DiskGhosts D} {r : DirectoryGhosts R} {c : ChronicleGhosts C} (new : Session D R C d r c) where
       -- an outline goes on by the answer
-      step_follows : (Devices : Told → Type 0) (Behind : Outline → Type 0) (o : Outline) → Outlines disk directory chronicle o step new said ledger ledger'
-          → ((o : Outline) → IsOutlined disk directory chronicle o new → Deals ledger_first ledger' o.ended o.names → Devices (told_by o)) → ((o : Outline) → IsOutlined disk directory chronicle o new → Behind o)
+      step_follows : (Devices : Told → Type 0) (Behind : Outline → Type 0) (o : Outline) → Outlines o step new said ledger ledger'
+          → ((o : Outline) → IsOutlined o new → Deals ledger_first ledger' o.ended o.names → Devices (told_by o)) → ((o : Outline) → IsOutlined o new → Behind o)
           → Dealt (told_by o) → AnsweredFrom o (bytes ∷ []) (Some said ∷ []) Devices Behind
       step_follows Devices Behind o outlined settle behind deals = record {
         each = (rw asks outlined.answered, tt);
@@ -250,12 +250,12 @@ module _ (first now : List SourceRead) (taken_first taken : List SinkWrite) (led
       }
 
       pub step_more : (Text : (before all : List ℕ) → Type 0) (Devices : Told → Type 0) (Behind : Outline → Type 0) (Known : Run → Type 0)
-          → ((o : Outline) → Outlined o → Outlines disk directory chronicle o step new said ledger ledger')
-          → ((run : Run) → Plays run → DeviceEnds disk directory chronicle run step new said ledger ledger')
+          → ((o : Outline) → Outlined o → Outlines o step new said ledger ledger')
+          → ((run : Run) → Plays run → DeviceEnds run step new said ledger ledger')
           → ((out : List ℕ) → Took taken_first taken out → Text out (out ++ answer_line said))
-          → ((o : Outline) → IsOutlined disk directory chronicle o new → Deals ledger_first ledger' o.ended o.names → Devices (told_by o))
-          → ((run : Run) → PlaysNow disk directory chronicle run new → Deals ledger_first ledger' run.ended run.names → Devices (told_in run))
-          → ((o : Outline) → IsOutlined disk directory chronicle o new → Behind o) → ((run : Run) → PlaysNow disk directory chronicle run new → Known run)
+          → ((o : Outline) → IsOutlined o new → Deals ledger_first ledger' o.ended o.names → Devices (told_by o))
+          → ((run : Run) → PlaysNow run new → Deals ledger_first ledger' run.ended run.names → Devices (told_in run))
+          → ((o : Outline) → IsOutlined o new → Behind o) → ((run : Run) → PlaysNow run new → Known run)
           → Story first now unread' given' Text Devices Behind Known
       step_more Text Devices Behind Known outlined ends text settle settle_run behind knows =
           line_more (Some said) Text Devices Behind Known (λ o deals is. step_follows Devices Behind o (outlined o is) settle behind deals) text

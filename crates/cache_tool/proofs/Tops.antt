@@ -5,12 +5,12 @@ use Rattle.script_lang.specs.declared.last.LastLine.{LastLine}
 use Rattle.script_lang.specs.declared.last.LastLine.TheVariants as last
 use Rattle.script_lang.specs.Texts.{last_line}
 use Rattle.script_run.specs.Ledger.{Ledger}
-use Rattle.cache_tool.specs.declared.top.Status.{Status}
-use Rattle.cache_tool.specs.declared.top.Status.TheVariants as status
+use Rattle.run_promise.specs.declared.status.Status.{Status}
+use Rattle.run_promise.specs.declared.status.Status.TheVariants as status
 use Rattle.cache_tool.specs.declared.run.Ending.TheVariants as ending
-use Rattle.cache_tool.specs.Story.{Because, MeetsBayFault, Refusals, SendsAll, Took}
-use Rattle.cache_tool.specs.Ending.{FailedReads, IsOfRun, StoryUpTo, is_bay_ending}
-use Rattle.cache_tool.specs.Top.{WentOut, EachBack, ReadsFailed, AttachesRefused, RefusedOne, status_of, EndsEarly, Concludes}
+use Rattle.run_promise.specs.Story.{Because, MeetsBayFault, Refusals, SendsAll, StoryUpTo, Took}
+use Rattle.cache_tool.specs.Ending.{FailedReads, IsOfRun, is_bay_ending}
+use Rattle.run_promise.specs.Top.{WentOut, EachBack, ReadsFailed, AttachesRefused, RefusedOne, status_of, EndsEarly, Concludes}
 use Rattle.cache_tool.proofs.Halts.{Took-kept, Took-trans, front_more}
 use Rattle.cache_tool.proofs.Stories.{story_with}
 

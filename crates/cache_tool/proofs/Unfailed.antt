@@ -6,7 +6,7 @@ use Rattle.logged_disk.specs.Device.{State as Device}
 use Rattle.device_bay.specs.Calls.{BayCall, IsBayLog, IsDevice, returned_by}
 use Rattle.device_bay.proofs.BayLemmas.{untold_has_no_fault}
 use Rattle.script_run.specs.Ledger.{AreUntold, InOrder}
-use Rattle.cache_tool.specs.Top.{AreUnfailed, ComeBackUnfailed}
+use Rattle.run_promise.specs.Top.{AreUnfailed, ComeBackUnfailed}
 
 -- the devices behind others, of which all have a log that a device can have
 each_unfailed : (front devices : List Device) → All IsDevice (front ++ devices) → AreUntold devices → AreUnfailed devices

@@ -14,13 +14,13 @@ use Rattle.script_run.specs.Turn.{Turn}
 use Rattle.script_run.specs.Takes.{StepShows}
 use Rattle.cache_replay.specs.Outline.{Outline}
 use Rattle.script_run.specs.Ledger.{Ledger}
-use Rattle.cache_tool.specs.declared.top.Status.{Status}
-use Rattle.cache_tool.specs.declared.top.Status.TheVariants as status
+use Rattle.run_promise.specs.declared.status.Status.{Status}
+use Rattle.run_promise.specs.declared.status.Status.TheVariants as status
 use Rattle.cache_replay.specs.Stop.{AttachesAs}
 use Rattle.script_lang.specs.declared.line.LineAnswer.TheVariants as line
 use Rattle.script_lang.specs.Grammar.{reading_of}
-use Rattle.cache_tool.specs.Story.{Because, Refusals, GaveBack, HoldsNoLine, IsBadLine, Taken, Told}
-use Rattle.cache_tool.specs.Top.{EndsEarly, status_of}
+use Rattle.run_promise.specs.Story.{Because, Refusals, GaveBack, HoldsNoLine, IsBadLine, Taken, Told}
+use Rattle.run_promise.specs.Top.{EndsEarly, status_of}
 
 -- without a session no line shows a pair
 none_shown : (run : Run) (turn : Turn) (step : Step) → run.state ≡ None → StepShows run turn run.state step → ⊥

@@ -1,25 +1,11 @@
 -- How a run of lines ends, before its last line is written.
-use Rattle.std.specs.Prelude.{ℕ, ◌⊎◌, Bool, true, false, List, ⊤}
+use Rattle.std.specs.Prelude.{ℕ, Bool, true, false, List, ⊤}
 use Rattle.device_log.specs.Streams.{SourceRead, SinkWrite}
 use Rattle.edge_io.specs.Source.{LastReadFailed, NoReadFailed}
 use Rattle.script_lang.specs.declared.last.LastLine.TheVariants as last
-use Rattle.cache_replay.specs.Outline.{Outline}
 use Rattle.cache_tool.specs.declared.run.Ending.{Ending}
 use Rattle.cache_tool.specs.declared.run.Ending.TheVariants.{Done, Stopped, WriteFault, OutOfMemory}
-use Rattle.cache_tool.specs.Story.{Story, Told, Because, IsReadThrough, Refusals, SendsAll, SendsBefore, CutsLast}
-
--- a story up to some line, and what stands at that line
-pub record StoryUpTo (first now : List SourceRead) (Text : (before all : List ℕ) → Type 0) (Devices : (held : List ℕ) → ℕ → Told → Type 0) (Here : (held : List ℕ) → ℕ → Outline → Type 0) : Type 0 where
-  pub held : List ℕ
-  pub given : ℕ
-  pub story : Story first now held given Text (Devices held given) (Here held given) (λ run. ⊤)
-
--- memory was wanting for the next line, and the answers of all lines before it went out; or it was for the text of the
--- last answer, which alone is left out
-abbrev pub WantsMemory : (first now : List SourceRead) (taken_old taken_new : List SinkWrite) (Devices : Told → Type 0) (Wanting : (held : List ℕ) → ℕ → Told → Type 0) → Type 0
-WantsMemory first now old new Devices Wanting =
-    StoryUpTo first now (SendsAll old new) Wanting (λ held given o. ⊤)
-    ⊎ StoryUpTo first now (SendsBefore old new) (λ held given. Devices) (λ held given o. ⊤)
+use Rattle.run_promise.specs.Story.{StoryUpTo, Told, Because, IsReadThrough, Refusals, SendsAll, CutsLast, WantsMemory}
 
 -- what holds of the devices, and what does where memory was wanting for the next line
 abbrev pub Ends : (first now : List SourceRead) (taken_old taken_new : List SinkWrite) (bay : Refusals) (Devices : Told → Type 0) (Wanting : (held : List ℕ) → ℕ → Told → Type 0) → Ending → Type 0

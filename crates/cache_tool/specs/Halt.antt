@@ -25,24 +25,24 @@ use Rattle.cache_tool.specs.declared.run.Ending.{Ending}
 use Rattle.cache_tool.specs.declared.run.Ending.TheVariants as ending
 use Rattle.cache_tool.specs.declared.run.Halt.{Halt}
 use Rattle.cache_tool.specs.declared.run.Halt.TheVariants.{Stop, WriteFault, Memory}
-use Rattle.cache_tool.specs.Story.{SendsFront}
+use Rattle.run_promise.specs.Story.{SendsFront}
 
-module _ {D R C : Type 0} (disk : DiskGhosts D) (directory : DirectoryGhosts R) (chronicle : ChronicleGhosts C) where
+module _ {D R C : Type 0} {d : DiskGhosts D} {r : DirectoryGhosts R} {c : ChronicleGhosts C} where
   -- A step was answered so: each outline goes on by the answer, and each run that the session plays, or two documents of one
   -- SHA-256 are shown; and this became of the text.
-  pub record Written (old : Session D R C) (step : Step) (new : Session D R C) (before now : Ledger) (Text : List ℕ → Type 0) : Type 0 where
+  pub record Written (old : Session D R C d r c) (step : Step) (new : Session D R C d r c) (before now : Ledger) (Text : List ℕ → Type 0) : Type 0 where
     pub said : StepAnswer
-    pub outlines : (o : Outline) → IsOutlined disk directory chronicle o old → Outlines disk directory chronicle o step new said before now
-    pub ends : (run : Run) → Plays disk directory chronicle run old → DeviceEnds disk directory chronicle run step new said before now
+    pub outlines : (o : Outline) → IsOutlined o old → Outlines o step new said before now
+    pub ends : (run : Run) → Plays run old → DeviceEnds run step new said before now
     pub text : Text (answer_line said)
 
   -- what a step leaves that was not done, whatever was told of the session's device
-  abbrev pub Leaves : (old : Session D R C) → Step → (new : Session D R C) → (before now : Ledger) → Reason → Type 0
+  abbrev pub Leaves : (old : Session D R C d r c) → Step → (new : Session D R C d r c) → (before now : Ledger) → Reason → Type 0
   Leaves old step new before now why =
-      (harms : List Harm) → AreReached harms (return_of disk directory chronicle old.part) → IsLeft disk directory chronicle harms step new before now why
+      (harms : List Harm) → AreReached harms (return_of old.part) → IsLeft harms step new before now why
 
   -- what a step that ends the run leaves
-  abbrev pub Halts : (old : Session D R C) → Step → (new : Session D R C) → (before now : Ledger) → (taken_old taken_new : List SinkWrite) → (bay_old bay_new : List BayCall) → Halt → Type 0
+  abbrev pub Halts : (old : Session D R C d r c) → Step → (new : Session D R C d r c) → (before now : Ledger) → (taken_old taken_new : List SinkWrite) → (bay_old bay_new : List BayCall) → Halt → Type 0
   Halts old step new before now taken_old taken_new bay_old bay_new (Stop why) = Leaves old step new before now why × (taken_new ≡ taken_old) × StopsStep old step bay_old bay_new why
   Halts old step new before now taken_old taken_new bay_old bay_new WriteFault = Written old step new before now (SendsFront taken_old taken_new [])
   Halts old step new before now taken_old taken_new bay_old bay_new Memory = Written old step new before now (λ text. taken_new ≡ taken_old)

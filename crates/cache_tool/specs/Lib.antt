@@ -1,5 +1,3 @@
 pub mod Lines
-pub mod Story
 pub mod Ending
 pub mod Halt
-pub mod Top

@@ -11,9 +11,10 @@ mod top;
 pub use blank::Blank;
 use device_bay::HostBay;
 use edge_io::{StdSink, StdSource};
+use run_promise::Status;
 use std::process::ExitCode;
 use std::{env, io};
-pub use top::{Status, cache_main};
+pub use top::cache_main;
 
 fn main(rt: HostRuntime) -> ExitCode {
     let alloc = rt.alloc();

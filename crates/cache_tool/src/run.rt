@@ -12,17 +12,14 @@ ghost use Rattle.cache_replay.specs.Session.{IsSession, devices_of, names_in, re
 ghost use Rattle.cache_replay.specs.Plays.{IsOutlined, Plays};
 ghost use Rattle.script_run.specs.Ledger.{AreReached, KeepsOrder, Ledger, ledger_of};
 ghost use Rattle.cache_replay.specs.Stop.{RefusesNone};
-ghost use Rattle.cache_tool.specs.Story.{GoesOn, Owes, OwesOrGave, Took, refusals};
+ghost use Rattle.run_promise.specs.Story.{GoesOn, Owes, OwesOrGave, Took, refusals};
 ghost use Rattle.cache_tool.specs.Halt.{IsUnwritten, Written, Halts, is_bay_halt, last_of, ending_of};
 ghost use Rattle.cache_tool.specs.Ending.{Ends, FailedReads, IsOfRun, is_bay_ending};
 
 use crate::lines::{Reading, next_reading};
-use cache_chronicle::{Chronicle, FullChronicle};
 use cache_replay::{Cache, Stop, step};
 use device_bay::Bay;
-use dir_table::{Directory, ListDirectory};
 use edge_io::{LineFault, LineReader, MAX_LINES, Sink, Source};
-use logged_disk::Disk;
 use script_lang::{LastLine, LineAnswer, Step, StepAnswer, answer_text};
 use std::alloc::Global;
 
@@ -69,20 +66,20 @@ fn take_step<K: Sink, B: Bay>(
     session: &mut Cache<B::Dev>,
     asked: Step,
 ) -> Result<(), Halt>
-    requires session { IsSession B.Dev.Disk ⟦<ListDirectory as Directory>⟧ ⟦<FullChronicle as Chronicle>⟧ session.old }
+    requires session { IsSession session.old }
     requires held { devices_of session.old ≤ out_of (B.past bay.old) }
     requires few { length (names_in session.old) ≤ MAX_LINES }
-    ensures done { OnOk result (Written B.Dev.Disk ⟦<ListDirectory as Directory>⟧ ⟦<FullChronicle as Chronicle>⟧ session.old asked session.new
-        (ledger_of B.Bay bay.old) (ledger_of B.Bay bay.new) (Took (K.writes sink.old) (K.writes sink.new))) }
-    ensures halted { IfErr result (Halts B.Dev.Disk ⟦<ListDirectory as Directory>⟧ ⟦<FullChronicle as Chronicle>⟧ session.old asked session.new
+    ensures done { OnOk result (Written session.old asked session.new (ledger_of B.Bay bay.old)
+        (ledger_of B.Bay bay.new) (Took (K.writes sink.old) (K.writes sink.new))) }
+    ensures halted { IfErr result (Halts session.old asked session.new
         (ledger_of B.Bay bay.old) (ledger_of B.Bay bay.new) (K.writes sink.old) (K.writes sink.new)
         (B.past bay.old) (B.past bay.new)) }
-    ensures session { IsSession B.Dev.Disk ⟦<ListDirectory as Directory>⟧ ⟦<FullChronicle as Chronicle>⟧ session.new }
+    ensures session { IsSession session.new }
     ensures names { length (names_in session.new) ≤ length (names_in session.old) + 1 }
     ensures out { out_of (B.past bay.new) + devices_of session.old ≡ out_of (B.past bay.old) + devices_of session.new }
     ensures sink { Grows (K.writes sink.old) (K.writes sink.new) }
-    ensures order { KeepsOrder (return_of B.Dev.Disk ⟦<ListDirectory as Directory>⟧ ⟦<FullChronicle as Chronicle>⟧ session.old.part) (B.past bay.old)
-        (return_of B.Dev.Disk ⟦<ListDirectory as Directory>⟧ ⟦<FullChronicle as Chronicle>⟧ session.new.part) (B.past bay.new) }
+    ensures order { KeepsOrder (return_of session.old.part) (B.past bay.old)
+        (return_of session.new.part) (B.past bay.new) }
     ensures refusals { MatchResult result (λ _. RefusesNone (B.past bay.old) (B.past bay.new))
         (λ halt. is_bay_halt halt ≡ false → RefusesNone (B.past bay.old) (B.past bay.new)) }
 {
@@ -123,36 +120,38 @@ fn line<S: Source, K: Sink, B: Bay>(
     bay: &mut B,
     session: &mut Cache<B::Dev>,
 ) -> Result<(), Ending>
-    requires session { IsSession B.Dev.Disk ⟦<ListDirectory as Directory>⟧ ⟦<FullChronicle as Chronicle>⟧ session.old }
+    requires session { IsSession session.old }
     requires held { devices_of session.old ≤ out_of (B.past bay.old) }
     requires few { length (names_in session.old) ≤ lines_given reader.old }
     ensures goes { OnOk result ((first : List SourceRead) (told : List SinkWrite) (back : Ledger)
-        → GoesOn first told back (S.reads (source_of reader.old).now) (held reader.old) (lines_given reader.old) (K.writes sink.old) (ledger_of B.Bay bay.old)
-        (λ o. IsOutlined B.Dev.Disk ⟦<ListDirectory as Directory>⟧ ⟦<FullChronicle as Chronicle>⟧ o session.old)
-        (λ run. Plays B.Dev.Disk ⟦<ListDirectory as Directory>⟧ ⟦<FullChronicle as Chronicle>⟧ run session.old)
-        → GoesOn first told back (S.reads (source_of reader.new).now) (held reader.new) (lines_given reader.new) (K.writes sink.new) (ledger_of B.Bay bay.new)
-        (λ o. IsOutlined B.Dev.Disk ⟦<ListDirectory as Directory>⟧ ⟦<FullChronicle as Chronicle>⟧ o session.new)
-        (λ run. Plays B.Dev.Disk ⟦<ListDirectory as Directory>⟧ ⟦<FullChronicle as Chronicle>⟧ run session.new)) }
-    ensures ends { IfErr result (λ ending. (first : List SourceRead) (told : List SinkWrite) (back : Ledger)
-        → GoesOn first told back (S.reads (source_of reader.old).now) (held reader.old) (lines_given reader.old) (K.writes sink.old) (ledger_of B.Bay bay.old)
-        (λ o. IsOutlined B.Dev.Disk ⟦<ListDirectory as Directory>⟧ ⟦<FullChronicle as Chronicle>⟧ o session.old)
-        (λ run. Plays B.Dev.Disk ⟦<ListDirectory as Directory>⟧ ⟦<FullChronicle as Chronicle>⟧ run session.old)
-        → Ends first (S.reads (source_of reader.new).now) told (K.writes sink.new) (refusals (refusals_of (B.past bay.old)) (refusals_of (B.past bay.new)))
-        (Owes back (ledger_of B.Bay bay.new) (λ harms. AreReached harms (return_of B.Dev.Disk ⟦<ListDirectory as Directory>⟧ ⟦<FullChronicle as Chronicle>⟧ session.new.part)))
-        (OwesOrGave back (ledger_of B.Bay bay.new) (devices_of session.new) (λ harms. AreReached harms (return_of B.Dev.Disk ⟦<ListDirectory as Directory>⟧ ⟦<FullChronicle as Chronicle>⟧ session.new.part)))
-        ending) }
+        → GoesOn first told back (S.reads (source_of reader.old).now) (held reader.old)
+        (lines_given reader.old) (K.writes sink.old) (ledger_of B.Bay bay.old)
+        (λ o. IsOutlined o session.old) (λ run. Plays run session.old)
+        → GoesOn first told back (S.reads (source_of reader.new).now) (held reader.new)
+        (lines_given reader.new) (K.writes sink.new) (ledger_of B.Bay bay.new)
+        (λ o. IsOutlined o session.new) (λ run. Plays run session.new)) }
+    ensures ends { IfErr result (λ ending. (first : List SourceRead) (told : List SinkWrite)
+        (back : Ledger) → GoesOn first told back (S.reads (source_of reader.old).now)
+        (held reader.old) (lines_given reader.old) (K.writes sink.old) (ledger_of B.Bay bay.old)
+        (λ o. IsOutlined o session.old) (λ run. Plays run session.old)
+        → Ends first (S.reads (source_of reader.new).now) told (K.writes sink.new)
+        (refusals (refusals_of (B.past bay.old)) (refusals_of (B.past bay.new)))
+        (Owes back (ledger_of B.Bay bay.new)
+        (λ harms. AreReached harms (return_of session.new.part)))
+        (OwesOrGave back (ledger_of B.Bay bay.new) (devices_of session.new)
+        (λ harms. AreReached harms (return_of session.new.part))) ending) }
     ensures begun { IfErr result IsOfRun }
     ensures reads { MatchResult result (λ _. NoReadFailed (S.reads (source_of reader.old).now) (S.reads (source_of reader.new).now))
         (FailedReads (S.reads (source_of reader.old).now) (S.reads (source_of reader.new).now)) }
     ensures nearer { OnOk result ((lines_given reader.old < MAX_LINES) × (lines_given reader.new ≡ lines_given reader.old + 1)) }
-    ensures session { IsSession B.Dev.Disk ⟦<ListDirectory as Directory>⟧ ⟦<FullChronicle as Chronicle>⟧ session.new }
+    ensures session { IsSession session.new }
     ensures few { OnOk result (length (names_in session.new) ≤ lines_given reader.new) }
     ensures source { (source_of reader.new).ghost_name ≡ (source_of reader.old).ghost_name }
     ensures out { out_of (B.past bay.new) + devices_of session.old ≡ out_of (B.past bay.old) + devices_of session.new }
     ensures draws { Draws S.reads S.left (source_of reader.old).now (source_of reader.new).now }
     ensures sink { Grows (K.writes sink.old) (K.writes sink.new) }
-    ensures order { KeepsOrder (return_of B.Dev.Disk ⟦<ListDirectory as Directory>⟧ ⟦<FullChronicle as Chronicle>⟧ session.old.part) (B.past bay.old)
-        (return_of B.Dev.Disk ⟦<ListDirectory as Directory>⟧ ⟦<FullChronicle as Chronicle>⟧ session.new.part) (B.past bay.new) }
+    ensures order { KeepsOrder (return_of session.old.part) (B.past bay.old)
+        (return_of session.new.part) (B.past bay.new) }
     ensures refusals { MatchResult result (λ _. RefusesNone (B.past bay.old) (B.past bay.new))
         (λ ending. is_bay_ending ending ≡ false → RefusesNone (B.past bay.old) (B.past bay.new)) }
 {
@@ -184,24 +183,26 @@ pub(crate) fn run_lines<S: Source, K: Sink, B: Bay>(
 ) -> Ending
     requires given { lines_given reader.old ≡ 0 }
     requires held { held reader.old ≡ [] }
-    requires session { IsSession B.Dev.Disk ⟦<ListDirectory as Directory>⟧ ⟦<FullChronicle as Chronicle>⟧ session.old }
-    requires fresh { Plays B.Dev.Disk ⟦<ListDirectory as Directory>⟧ ⟦<FullChronicle as Chronicle>⟧ fresh session.old }
-    requires blank { IsOutlined B.Dev.Disk ⟦<ListDirectory as Directory>⟧ ⟦<FullChronicle as Chronicle>⟧ blank session.old }
+    requires session { IsSession session.old }
+    requires fresh { Plays fresh session.old }
+    requires blank { IsOutlined blank session.old }
     requires none { devices_of session.old ≡ 0 }
     requires names { names_in session.old ≡ [] }
-    ensures ends { Ends (S.reads (source_of reader.old).now) (S.reads (source_of reader.new).now) (K.writes sink.old) (K.writes sink.new)
+    ensures ends { Ends (S.reads (source_of reader.old).now) (S.reads (source_of reader.new).now)
+        (K.writes sink.old) (K.writes sink.new)
         (refusals (refusals_of (B.past bay.old)) (refusals_of (B.past bay.new)))
-        (Owes (ledger_of B.Bay bay.old) (ledger_of B.Bay bay.new) (λ harms. AreReached harms (return_of B.Dev.Disk ⟦<ListDirectory as Directory>⟧ ⟦<FullChronicle as Chronicle>⟧ session.new.part)))
-        (OwesOrGave (ledger_of B.Bay bay.old) (ledger_of B.Bay bay.new) (devices_of session.new) (λ harms. AreReached harms (return_of B.Dev.Disk ⟦<ListDirectory as Directory>⟧ ⟦<FullChronicle as Chronicle>⟧ session.new.part)))
-        result }
+        (Owes (ledger_of B.Bay bay.old) (ledger_of B.Bay bay.new)
+        (λ harms. AreReached harms (return_of session.new.part)))
+        (OwesOrGave (ledger_of B.Bay bay.old) (ledger_of B.Bay bay.new) (devices_of session.new)
+        (λ harms. AreReached harms (return_of session.new.part))) result }
     ensures begun { IsOfRun result }
     ensures reads { FailedReads (S.reads (source_of reader.old).now) (S.reads (source_of reader.new).now) result }
     ensures source { (source_of reader.new).ghost_name ≡ (source_of reader.old).ghost_name }
     ensures out { out_of (B.past bay.new) ≡ out_of (B.past bay.old) + devices_of session.new }
     ensures draws { Draws S.reads S.left (source_of reader.old).now (source_of reader.new).now }
     ensures sink { Grows (K.writes sink.old) (K.writes sink.new) }
-    ensures order { KeepsOrder (return_of B.Dev.Disk ⟦<ListDirectory as Directory>⟧ ⟦<FullChronicle as Chronicle>⟧ session.old.part) (B.past bay.old)
-        (return_of B.Dev.Disk ⟦<ListDirectory as Directory>⟧ ⟦<FullChronicle as Chronicle>⟧ session.new.part) (B.past bay.new) }
+    ensures order { KeepsOrder (return_of session.old.part) (B.past bay.old)
+        (return_of session.new.part) (B.past bay.new) }
     ensures refusals { is_bay_ending result ≡ false → RefusesNone (B.past bay.old) (B.past bay.new) }
 {
     'lines: loop {

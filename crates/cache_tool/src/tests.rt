@@ -1,4 +1,4 @@
-// What no clause says: worked scripts over memory, and devices and streams that fail.
+// What no clause says: streams and devices that fail, and when an answer is out.
 ghost use Rattle.std.specs.Prelude.{◌≡◌, true, false};
 ghost use Rattle.std.proofs.Common.{arith};
 ghost use Rattle.std.proofs.Props.{props};
@@ -8,160 +8,66 @@ ghost use Rattle.device_log.proofs.ReadLaws.{reads_are_prop};
 ghost use Rattle.logged_disk.specs.MemDisk.{mem_state};
 ghost use Rattle.device_bay.specs.Register.{IsRegister};
 
-use crate::{Blank, Status, cache_main};
-use device_bay::{Bay, BayFault, HostBay, MemBay, OWN_BLOCKS, Register};
+use crate::cache_main;
+use device_bay::{Bay, BayFault, MemBay, OWN_BLOCKS, Register};
 use device_log::DeviceLog;
 use edge_io::{Failed, MemSink, MemSource, Sink, Source};
 use logged_disk::{BLOCK_BYTES, Disk, MemDisk, PowerDisk};
+use run_promise::Status;
 use std::alloc::{AllocError, Global};
 use std::cell::Cell;
-use std::fs;
 use std::test::Fail;
 
 const SMALL: &str = "format mem:a 1 64 64 8 16 4 7\n";
 
 const FORMATTED: &str = "formatted serial 1 cursor 64 floor 8\n";
 
-// A small object that is pinned, in the first buffer.
-const PINNED: &str = "open-write w /a 100\ndata w 61\nclose w\nput /f 20*78\n";
-
-const PINNED_ANSWERS: &str =
-    "writer 1\ntook 1\nput 1 length 1 fragments 1\nput 2 length 20 fragments 5\n";
-
-// Buffers up to the end of the lap, and one more, with which the cursor passes the first one.
-const ROUND: &str =
-    "put /f 28*78\nput /f 28*78\nput /f 28*78\nput /f 28*78\nput /f 28*78\nput /f 28*78\nput /f 28*78\nput /f 28*78\n";
-
-const ROUND_BUT_ONE_ANSWERS: &str =
-    "put 3 length 28 fragments 7\nput 4 length 28 fragments 7\nput 5 length 28 fragments 7\nput 6 length 28 fragments 7\nput 7 length 28 fragments 7\nput 8 length 28 fragments 7\nput 9 length 28 fragments 7\n";
-
-/// The word, the source and the room of a run.
-#[derive(Clone, Copy)]
-struct Setting {
-    word: &'static str,
-    /// How many bytes a read gives at most.
-    piece: usize,
-    /// The number of the read that fails, or 0.
-    failing_read: u64,
-    room: u64,
-}
-
-const PLAIN: Setting = Setting {
-    word: "replay",
-    piece: 4096,
-    failing_read: 0,
-    room: 4096,
-};
-
-/// The status of a run, and the bytes that went out.
-fn outcome<B: Bay>(
+/// The status of a run.
+fn status_of<S: Source, K: Sink, B: Bay>(
     alloc: Global,
-    setting: &Setting,
-    script: &[u8],
+    source: &mut S,
+    sink: &mut K,
     bay: &mut B,
-) -> Result<(Status, Vec<u8>), AllocError> {
-    let mut words = Vec::new(alloc);
-    words.push(String::from_str(alloc, setting.word)?)?;
-    let fail_at = vec![in alloc; setting.failing_read]?;
-    let mut source = MemSource::new(script.to_vec(alloc)?, fail_at);
-    if setting.piece > 0 {
-        source = source.in_pieces_of(setting.piece);
-    }
-    let mut sink = MemSink::new(alloc, setting.room)?;
-    let status = cache_main(alloc, &words, &mut source, &mut sink, bay);
-    Ok((status, sink.taken().to_vec(alloc)?))
+) -> Result<Status, AllocError> {
+    let word = String::from_str(alloc, "replay")?;
+    Ok(cache_main(alloc, &[word], source, sink, bay))
 }
 
-/// The same over devices in memory, of which none fails.
-fn in_memory(
+/// The status of a run over devices in memory.
+fn status_in_memory<S: Source, K: Sink>(
     alloc: Global,
-    setting: &Setting,
-    script: &str,
-) -> Result<(Status, Vec<u8>), AllocError> {
+    source: &mut S,
+    sink: &mut K,
+) -> Result<Status, AllocError> {
     let mut bay = MemBay::new(alloc, Vec::new(alloc));
-    outcome(alloc, setting, script.as_bytes(), &mut bay)
+    status_of(alloc, source, sink, &mut bay)
 }
 
 #[test]
-fn a_run_that_cannot_go_on_says_so_in_its_last_line(rt: HostRuntime) -> Result<(), Fail> {
-    let rows: [(&str, Setting, &str, &str, Status); 6] = [
+fn a_stream_that_fails_ends_the_run(rt: HostRuntime) -> Result<(), Fail> {
+    let script = b"format mem:a 1 64 64 8 16 4 7\nget /a\n";
+    let rows = [
+        // how many bytes a read gives, the read that fails, and how many bytes the sink takes
         (
-            "words that are no command",
-            Setting {
-                word: "frob",
-                piece: 9,
-                failing_read: 0,
-                room: 99,
-            },
-            "get /a\n",
-            "error usage\n",
-            Status::Usage,
-        ),
-        (
-            "no format before",
-            Setting {
-                word: "replay",
-                piece: 9,
-                failing_read: 0,
-                room: 99,
-            },
-            "get /a\n",
-            "error no-cache line 1\n",
-            Status::NoCache,
-        ),
-        (
-            "a moment needs no format",
-            Setting {
-                word: "replay",
-                piece: 9,
-                failing_read: 0,
-                room: 99,
-            },
-            "now 7\nget /a\n",
-            "now 7\nerror no-cache line 2\n",
-            Status::NoCache,
-        ),
-        (
-            "one byte a read",
-            Setting {
-                word: "replay",
-                piece: 1,
-                failing_read: 0,
-                room: 99,
-            },
-            "format mem:a 1 64 64 8 16 4 7\nget /a\n",
+            (1, 0, 99),
             "formatted serial 1 cursor 64 floor 8\nmiss never-put\n",
             Status::Done,
         ),
         (
-            "a source that fails behind the first line",
-            Setting {
-                word: "replay",
-                piece: 30,
-                failing_read: 2,
-                room: 99,
-            },
-            "format mem:a 1 64 64 8 16 4 7\nget /a\n",
+            (30, 2, 99),
             "formatted serial 1 cursor 64 floor 8\nerror read-fault\n",
             Status::ReadFault,
         ),
-        (
-            "a sink that takes ten bytes",
-            Setting {
-                word: "replay",
-                piece: 99,
-                failing_read: 0,
-                room: 10,
-            },
-            "format mem:a 1 64 64 8 16 4 7\nget /a\n",
-            "formatted ",
-            Status::WriteFault,
-        ),
+        ((99, 0, 10), "formatted ", Status::WriteFault),
     ];
-    for (name, setting, script, output, status) in rows {
-        let (got, sent) = in_memory(rt.alloc(), &setting, script)?;
-        assert_eq!(rt; got, status, "{name}");
-        assert_eq!(rt; sent.as_slice(), output.as_bytes(), "{name}");
+    for ((piece, failing, room), answers, want) in rows {
+        let fail_at = vec![in rt.alloc(); failing]?;
+        let source = MemSource::new(script.to_vec(rt.alloc())?, fail_at);
+        let mut source = source.in_pieces_of(piece);
+        let mut sink = MemSink::new(rt.alloc(), room)?;
+        let status = status_in_memory(rt.alloc(), &mut source, &mut sink)?;
+        assert_eq!(rt; status, want, "{piece} bytes a read");
+        assert_eq!(rt; sink.taken(), answers.as_bytes(), "{piece} bytes a read");
     }
     Ok(())
 }
@@ -236,61 +142,11 @@ fn each_answer_is_out_before_the_next_line_is_read(rt: HostRuntime) -> Result<()
         sink: MemSink::new(rt.alloc(), 99)?,
         answered: &answered,
     };
-    let mut words = Vec::new(rt.alloc());
-    words.push(String::from_str(rt.alloc(), "replay")?)?;
-    let mut bay = MemBay::new(rt.alloc(), Vec::new(rt.alloc()));
-    let status = cache_main(rt.alloc(), &words, &mut source, &mut sink, &mut bay);
+    let status = status_in_memory(rt.alloc(), &mut source, &mut sink)?;
     assert_eq!(rt; status, Status::Done);
     assert_eq!(rt; sink.sink.taken(), b"now 1\nnow 2\nnow 3\n".as_slice());
     assert_eq!(rt; source.lines, 3);
     assert_eq!(rt; source.early, 0);
-    Ok(())
-}
-
-#[test]
-fn a_bay_that_fails_ends_the_run(rt: HostRuntime) -> Result<(), Fail> {
-    let fail_at = vec![in rt.alloc(); 1]?;
-    let mut bay = MemBay::new(rt.alloc(), fail_at);
-    let (status, output) = outcome(rt.alloc(), &PLAIN, SMALL.as_bytes(), &mut bay)?;
-    assert_eq!(rt; status, Status::BayFault);
-    assert_eq!(rt; output.as_slice(), b"error bay-fault\n".as_slice());
-    Ok(())
-}
-
-#[test]
-fn a_path_names_a_file_that_a_format_makes(rt: HostRuntime) -> Result<(), Fail> {
-    let mut bay: HostBay<&HostRuntime, Blank> = HostBay::new(&rt);
-    let path = "cache_tool_test.img";
-    let script = format!(in rt.alloc();
-        "{SMALL}format {path} 1 64 64 8 16 4 7\nput /a 61\nflush\nget /a\nformat word:c 1 64 64 8 16 4 7\n"
-    )?;
-    let answers = format!(in rt.alloc();
-        "{FORMATTED}{FORMATTED}put 1 length 1 fragments 1\nflushed 2 cursor 66 floor 10\ngot 1 length 1 61\nerror bay-fault\n"
-    )?;
-    let (status, output) = outcome(rt.alloc(), &PLAIN, script.as_bytes(), &mut bay)?;
-    assert_eq!(rt; status, Status::BayFault);
-    assert_eq!(rt; output.as_slice(), answers.as_bytes());
-    assert_eq!(rt; fs::metadata(&rt, path)?.len(), 64 * 512);
-    fs::remove_file(&rt, path)?;
-    Ok(())
-}
-
-#[test]
-fn a_line_above_a_mebibyte_ends_the_run(rt: HostRuntime) -> Result<(), Fail> {
-    for (length, status, output) in [
-        (1_048_576usize, Status::Done, ""),
-        (
-            1_048_577,
-            Status::LineTooLong,
-            "error line-too-long line 1\n",
-        ),
-    ] {
-        let script = vec![in rt.alloc(); b'#'; length]?;
-        let mut bay = MemBay::new(rt.alloc(), Vec::new(rt.alloc()));
-        let (got, sent) = outcome(rt.alloc(), &PLAIN, &script, &mut bay)?;
-        assert_eq!(rt; got, status, "{length} bytes");
-        assert_eq!(rt; sent.as_slice(), output.as_bytes(), "{length} bytes");
-    }
     Ok(())
 }
 
@@ -442,106 +298,174 @@ impl Bay for FaultyBay {
     ghost is_log = { λ bay. bay.is_register.is_log };
 }
 
-/// The outcome over devices that give other bytes, or of which the call of this number fails.
-fn over_faulty(
-    alloc: Global,
+/// A script over devices that give other bytes, or of which the call of this number fails, and its answers, both in parts.
+struct Row {
+    name: &'static str,
     flips: bool,
     nth: u64,
-    script: &str,
-) -> Result<(Status, Vec<u8>), AllocError> {
-    let mut bay = FaultyBay::new(flips, nth);
-    outcome(alloc, &PLAIN, script.as_bytes(), &mut bay)
+    script: &'static [&'static str],
+    answers: &'static [&'static str],
 }
+
+fn join(alloc: Global, parts: &[&str]) -> Result<Vec<u8>, AllocError> {
+    let mut joined = Vec::new(alloc);
+    for part in parts {
+        joined.extend_from_slice(part.as_bytes())?;
+    }
+    Ok(joined)
+}
+
+/// Whether a run over such devices comes to its end, with these answers.
+fn is_answered(alloc: Global, row: &Row) -> Result<bool, AllocError> {
+    let mut source = MemSource::new(join(alloc, row.script)?, Vec::new(alloc));
+    let mut sink = MemSink::new(alloc, 4096)?;
+    let mut bay = FaultyBay::new(row.flips, row.nth);
+    let status = status_of(alloc, &mut source, &mut sink, &mut bay)?;
+    let answers = join(alloc, row.answers)?;
+    Ok(status == Status::Done && sink.taken() == answers.as_slice())
+}
+
+const SHORT: &str = "put /a 61\nflush\n";
+
+const SHORT_ANSWERS: &str = "put 1 length 1 fragments 1\nflushed 2 cursor 66 floor 10\n";
+
+// A small object that is pinned, in the first buffer.
+const PINNED: &str = "open-write w /a 100\ndata w 61\nclose w\nput /f 20*78\n";
+
+const PINNED_ANSWERS: &str =
+    "writer 1\ntook 1\nput 1 length 1 fragments 1\nput 2 length 20 fragments 5\n";
+
+// Buffers up to the end of the lap, and one more, with which the cursor passes the first one.
+const ROUND: &str =
+    "put /f 28*78\nput /f 28*78\nput /f 28*78\nput /f 28*78\nput /f 28*78\nput /f 28*78\nput /f 28*78\nput /f 28*78\n";
+
+const ROUND_BUT_ONE_ANSWERS: &str =
+    "put 3 length 28 fragments 7\nput 4 length 28 fragments 7\nput 5 length 28 fragments 7\nput 6 length 28 fragments 7\nput 7 length 28 fragments 7\nput 8 length 28 fragments 7\nput 9 length 28 fragments 7\n";
+
+// The digests are those of the documents, and of these with another first byte, by hashlib. The eighth
+// flush of a round reads both pinned pieces, of which the reader is due the fragment too, and copies
+// neither: the last buffer has the eight pieces of the last put alone.
+const OTHER_BYTES: [Row; 3] = [
+    Row {
+        name: "other bytes",
+        flips: true,
+        nth: 0,
+        script: &[SMALL, SHORT, "get /a\nput /b 62\n"],
+        answers: &[
+            FORMATTED,
+            SHORT_ANSWERS,
+            "miss damaged 65 b0d35252d031487b964d1c5dee54fa184dfdd27734c955621b03495db2cc3452 ec180fa01e0f4a0e025e550fee9cbc94fd4895b7b0831a82fe470eeacdcb80e3\n",
+            "put 2 length 1 fragments 1\n",
+        ],
+    },
+    Row {
+        name: "for a copy",
+        flips: true,
+        nth: 0,
+        script: &[SMALL, PINNED, ROUND, "get /a\nflush\n"],
+        answers: &[
+            FORMATTED,
+            PINNED_ANSWERS,
+            ROUND_BUT_ONE_ANSWERS,
+            "put 10 length 28 fragments 7\n",
+            "miss damaged 65 4905c4e40f5df1ca0444566e524e7a5c898a7cc42360c5329da574bbe857c3f1 8f054ff56761af18e512aab72c7f73890bcc102005d264df6d5b5700bc40f337\n",
+            "flushed 8 cursor 136 floor 80\n",
+        ],
+    },
+    Row {
+        name: "for a copy that a reader is due",
+        flips: true,
+        nth: 0,
+        script: &[SMALL, PINNED, "open-read r /a\n", ROUND, "next r\nflush\n"],
+        answers: &[
+            FORMATTED,
+            PINNED_ANSWERS,
+            "hit 1 length 1\n",
+            ROUND_BUT_ONE_ANSWERS,
+            "put 10 length 28 fragments 7\n",
+            "broken damaged 64 709281884c7de710731f2663eafb10333ab7cf74a1c2455392801fef6a3e40ea 8effd235588f84f3e843ba3663d52b399789026a9fd34b491540457c5a3ade59\n",
+            "flushed 8 cursor 136 floor 80\n",
+        ],
+    },
+];
 
 #[test]
 fn other_bytes_than_were_put_are_damage_from_then_on(rt: HostRuntime) -> Result<(), Fail> {
-    let script = format!(in rt.alloc(); "{SMALL}put /a 61\nflush\nget /a\nput /b 62\n")?;
-    let front = format!(in rt.alloc();
-        "{FORMATTED}put 1 length 1 fragments 1\nflushed 2 cursor 66 floor 10\nmiss damaged 65 "
-    )?;
-    let (status, output) = over_faulty(rt.alloc(), true, 0, script.as_str())?;
-    assert_eq!(rt; status, Status::Done);
-    assert!(rt; output.starts_with(front.as_bytes()));
-    assert!(rt; output.ends_with(b"\nput 2 length 1 fragments 1\n"));
-    Ok(())
-}
-
-#[test]
-fn a_device_fault_is_answered_and_changes_nothing(rt: HostRuntime) -> Result<(), Fail> {
-    let rows = [
-        (
-            1u64,
-            "device-fault 1\nflushed 2 cursor 66 floor 10\ngot 1 length 1 61\n",
-        ),
-        (
-            2,
-            "flushed 2 cursor 66 floor 10\nflushed 0 cursor 66 floor 10\ndevice-fault 1\n",
-        ),
-    ];
-    for (nth, answers) in rows {
-        let script = format!(in rt.alloc(); "{SMALL}put /a 61\nflush\nflush\nget /a\n")?;
-        let answers = format!(in rt.alloc(); "{FORMATTED}put 1 length 1 fragments 1\n{answers}")?;
-        let (status, output) = over_faulty(rt.alloc(), false, nth, script.as_str())?;
-        assert_eq!(rt; status, Status::Done);
-        assert_eq!(rt; output.as_slice(), answers.as_bytes(), "call {nth} fails");
+    for row in &OTHER_BYTES {
+        assert!(rt; is_answered(rt.alloc(), row)?, "{}", row.name);
     }
     Ok(())
 }
 
-#[test]
-fn what_the_device_refuses_to_give_for_a_copy_is_unsaved(rt: HostRuntime) -> Result<(), Fail> {
-    // Seven buffers are written, and as many vectors read; then both pieces are read, and the eighth
-    // buffer is written.
-    let rows = [
-        (
-            15u64,
+// In a round seven buffers are written, and as many vectors read; then both pieces are read, and the
+// eighth buffer is written.
+const FAULTS: [Row; 5] = [
+    Row {
+        name: "the first write",
+        flips: false,
+        nth: 1,
+        script: &[SMALL, SHORT, "flush\nget /a\n"],
+        answers: &[
+            FORMATTED,
+            "put 1 length 1 fragments 1\ndevice-fault 1\n",
+            "flushed 2 cursor 66 floor 10\ngot 1 length 1 61\n",
+        ],
+    },
+    Row {
+        name: "the first read",
+        flips: false,
+        nth: 2,
+        script: &[SMALL, SHORT, "flush\nget /a\n"],
+        answers: &[
+            FORMATTED,
+            SHORT_ANSWERS,
+            "flushed 0 cursor 66 floor 10\ndevice-fault 1\n",
+        ],
+    },
+    Row {
+        name: "a read of a fragment for a copy",
+        flips: false,
+        nth: 15,
+        script: &[SMALL, PINNED, ROUND, "get /a\n"],
+        answers: &[
+            FORMATTED,
+            PINNED_ANSWERS,
+            ROUND_BUT_ONE_ANSWERS,
             "put 10 length 28 fragments 7\nbroken passed 64 80 unsaved\n",
-        ),
-        (
-            16,
+        ],
+    },
+    Row {
+        name: "a read of a vector for a copy",
+        flips: false,
+        nth: 16,
+        script: &[SMALL, PINNED, ROUND, "get /a\n"],
+        answers: &[
+            FORMATTED,
+            PINNED_ANSWERS,
+            ROUND_BUT_ONE_ANSWERS,
             "put 10 length 28 fragments 7\nmiss passed 65 80 unsaved\n",
-        ),
-        (17, "device-fault 1\ngot 1 length 1 61\n"),
-    ];
-    for (nth, end) in rows {
-        let script = format!(in rt.alloc(); "{SMALL}{PINNED}{ROUND}get /a\n")?;
-        let answers = format!(in rt.alloc();
-            "{FORMATTED}{PINNED_ANSWERS}{ROUND_BUT_ONE_ANSWERS}{end}"
-        )?;
-        let (status, output) = over_faulty(rt.alloc(), false, nth, script.as_str())?;
-        assert_eq!(rt; status, Status::Done);
-        assert_eq!(rt; output.as_slice(), answers.as_bytes(), "call {nth} fails");
-    }
-    Ok(())
-}
+        ],
+    },
+    Row {
+        name: "the write behind the copies",
+        flips: false,
+        nth: 17,
+        script: &[SMALL, PINNED, ROUND, "get /a\n"],
+        answers: &[
+            FORMATTED,
+            PINNED_ANSWERS,
+            ROUND_BUT_ONE_ANSWERS,
+            "device-fault 1\ngot 1 length 1 61\n",
+        ],
+    },
+];
 
 #[test]
-fn other_bytes_that_the_device_gives_for_a_copy_are_damage(rt: HostRuntime) -> Result<(), Fail> {
-    // The eighth flush reads both pinned pieces, of which the reader is due the fragment too, and copies
-    // neither: the last buffer has the eight pieces of the last put alone. The digests are those of the
-    // documents, and of these with another first byte, by hashlib.
-    let rows = [
-        (
-            "",
-            "",
-            "get /a\n",
-            "miss damaged 65 4905c4e40f5df1ca0444566e524e7a5c898a7cc42360c5329da574bbe857c3f1 8f054ff56761af18e512aab72c7f73890bcc102005d264df6d5b5700bc40f337\n",
-        ),
-        (
-            "open-read r /a\n",
-            "hit 1 length 1\n",
-            "next r\n",
-            "broken damaged 64 709281884c7de710731f2663eafb10333ab7cf74a1c2455392801fef6a3e40ea 8effd235588f84f3e843ba3663d52b399789026a9fd34b491540457c5a3ade59\n",
-        ),
-    ];
-    for (opens, opened, reads, damaged) in rows {
-        let script = format!(in rt.alloc(); "{SMALL}{PINNED}{opens}{ROUND}{reads}flush\n")?;
-        let answers = format!(in rt.alloc();
-            "{FORMATTED}{PINNED_ANSWERS}{opened}{ROUND_BUT_ONE_ANSWERS}put 10 length 28 fragments 7\n{damaged}flushed 8 cursor 136 floor 80\n"
-        )?;
-        let (status, output) = over_faulty(rt.alloc(), true, 0, script.as_str())?;
-        assert_eq!(rt; status, Status::Done);
-        assert_eq!(rt; output.as_slice(), answers.as_bytes());
+fn a_call_that_fails_is_answered_and_a_copy_that_it_was_for_is_unsaved(
+    rt: HostRuntime,
+) -> Result<(), Fail> {
+    for row in &FAULTS {
+        assert!(rt; is_answered(rt.alloc(), row)?, "{}", row.name);
     }
     Ok(())
 }

@@ -6,51 +6,17 @@ ghost use Rattle.device_bay.specs.Calls.{IsBayLog, gifts_of, out_of, refusals_of
 ghost use Rattle.script_lang.specs.Texts.{last_line};
 ghost use Rattle.script_run.specs.Ledger.{InOrder, ledger_of};
 ghost use Rattle.cache_replay.specs.Stop.{RefusesNone};
-ghost use Rattle.cache_tool.specs.Story.{refusals};
+ghost use Rattle.run_promise.specs.Story.{refusals};
 ghost use Rattle.cache_tool.specs.Ending.{Ends, FailedReads, IsOfRun, is_bay_ending};
-ghost use Rattle.cache_tool.specs.Top.{IsReplay, WentOut, EachBack, EachBackOrMore, ReadsFailed, status_of, exit_code, AttachesRefused, ComeBackUnfailed, Concludes};
+ghost use Rattle.run_promise.specs.Top.{IsReplay, WentOut, EachBack, EachBackOrMore, ReadsFailed, status_of, AttachesRefused, ComeBackUnfailed, Concludes};
 
 use crate::run::{Ending, run_lines};
 use cache_replay::{begin, close};
 use device_bay::Bay;
 use edge_io::{LineBuffer, LineReader, Sink, Source};
+use run_promise::Status;
 use script_lang::{LastLine, last_line_text, usage_text};
 use std::alloc::Global;
-
-/// What came of a run.
-#[derive(Clone, Copy, Debug, PartialEq, Eq)]
-pub enum Status {
-    Done,
-    Usage,
-    BadScript,
-    ReadFault,
-    WriteFault,
-    BayFault,
-    LineTooLong,
-    NoCache,
-    OutOfMemory,
-    TooManyLines,
-}
-
-impl Status {
-    /// The exit status of the program.
-    pub fn code(self) -> u8
-        ensures { result ≡ exit_code self }
-    {
-        match self {
-            Status::Done => 0,
-            Status::Usage => 2,
-            Status::BadScript => 3,
-            Status::ReadFault => 4,
-            Status::WriteFault => 5,
-            Status::BayFault => 6,
-            Status::LineTooLong => 7,
-            Status::NoCache => 8,
-            Status::OutOfMemory => 9,
-            Status::TooManyLines => 10,
-        }
-    }
-}
 
 fn is_replay(words: &[String]) -> bool
     ensures { IsTrue result ↔ IsReplay words.now }

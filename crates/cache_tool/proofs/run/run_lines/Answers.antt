@@ -4,7 +4,7 @@ use Rattle.edge_io.proofs.Draws.{draws_more, draws_nothing}
 use Rattle.script_run.specs.Ledger.{ledger_of}
 use Rattle.device_bay.specs.Calls.{refusals_of}
 use Rattle.cache_replay.proofs.Order.{order_same, order_then}
-use Rattle.cache_tool.specs.Story.{refusals}
+use Rattle.run_promise.specs.Story.{refusals}
 use Rattle.cache_tool.proofs.Ends.{begins, failed_earlier, Ends-earlier}
 use Rattle.cache_tool.proofs.Halts.{grows_more}
 use Rattle.cache_tool.proofs.run.run_lines.Goals as goal

@@ -4,28 +4,26 @@ use Rattle.edge_io.specs.declared.reader.TheConstants.{MAX_LINES}
 use Rattle.edge_io.specs.Source.{Draws, NoReadFailed}
 use Rattle.edge_io.specs.Sink.{Grows}
 use Rattle.edge_io.specs.LineReader.{held, lines_given, source_of}
-use Rattle.dir_table.specs.contracts.list.ListDirectoryDirectory.TheImpl.{ghosts as listed}
-use Rattle.cache_chronicle.specs.contracts.full.FullChronicleChronicle.TheImpl.{ghosts as chronicled}
 use Rattle.cache_replay.specs.Session.{IsSession, devices_of, names_in, return_of}
 use Rattle.cache_replay.specs.Plays.{IsOutlined, Plays}
 use Rattle.device_bay.specs.Calls.{out_of, refusals_of}
 use Rattle.script_run.specs.Ledger.{KeepsOrder, ledger_of}
-use Rattle.cache_tool.specs.Story.{GoesOn}
+use Rattle.run_promise.specs.Story.{GoesOn}
 use Rattle.cache_tool.proofs.run.run_lines.Given as goal
 
 abbrev pub invariant-lines : goal.invariant-lines
 invariant-lines g l = record {
   goes : GoesOn (g.S.Source.reads (source_of l.initial.reader).now) (g.K.Sink.writes l.initial.sink) (ledger_of g.B.Bay l.initial.bay) (g.S.Source.reads (source_of l.reader).now) (held l.reader) (lines_given l.reader) (g.K.Sink.writes l.sink) (ledger_of g.B.Bay l.bay)
-      (λ o. IsOutlined g.B.Dev.Disk listed chronicled o l.session) (λ run. Plays g.B.Dev.Disk listed chronicled run l.session);
-  session : IsSession g.B.Dev.Disk listed chronicled l.session;
+      (λ o. IsOutlined o l.session) (λ run. Plays run l.session);
+  session : IsSession l.session;
   few : length (names_in l.session) ≤ lines_given l.reader;
   out : out_of (g.B.Bay.past l.bay) ≡ out_of (g.B.Bay.past l.initial.bay) + devices_of l.session;
   source : (source_of l.reader).ghost_name ≡ (source_of l.initial.reader).ghost_name;
   draws : Draws g.S.Source.reads g.S.Source.left (source_of l.initial.reader).now (source_of l.reader).now;
   failed : NoReadFailed (g.S.Source.reads (source_of l.initial.reader).now) (g.S.Source.reads (source_of l.reader).now);
   sink : Grows (g.K.Sink.writes l.initial.sink) (g.K.Sink.writes l.sink);
-  order : KeepsOrder (return_of g.B.Dev.Disk listed chronicled l.initial.session.part) (g.B.Bay.past l.initial.bay)
-      (return_of g.B.Dev.Disk listed chronicled l.session.part) (g.B.Bay.past l.bay);
+  order : KeepsOrder (return_of l.initial.session.part) (g.B.Bay.past l.initial.bay)
+      (return_of l.session.part) (g.B.Bay.past l.bay);
   refusals : refusals_of (g.B.Bay.past l.bay) ≡ refusals_of (g.B.Bay.past l.initial.bay);
 }
 

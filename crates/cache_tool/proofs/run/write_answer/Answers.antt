@@ -1,6 +1,6 @@
 use Rattle.std.proofs.Common.{◌∙◌, ◌++◌, ◌≡◌, List, ℕ, [], ap, subst}
 use Rattle.script_lang.specs.Texts.{answer_line}
-use Rattle.cache_tool.specs.Story.{SendsFront, Took}
+use Rattle.run_promise.specs.Story.{SendsFront, Took}
 use Rattle.cache_tool.proofs.Halts.{note_grows, sends_piece, took_piece}
 use Rattle.cache_tool.proofs.run.write_answer.Goals as goal
 

@@ -1,7 +1,7 @@
 use Rattle.script_run.specs.Ledger.{ledger_of}
 use Rattle.std.proofs.Common.{[]}
 use Rattle.device_bay.specs.Calls.{refusals_of}
-use Rattle.cache_tool.specs.Story.{refusals}
+use Rattle.run_promise.specs.Story.{refusals}
 use Rattle.edge_io.proofs.Draws.{draws_nothing}
 use Rattle.cache_tool.proofs.Halts.{grows_more}
 use Rattle.cache_tool.proofs.Tops.{concludes_stopped, reads_stopped, refusals_stopped}

@@ -2,14 +2,12 @@ use Rattle.std.proofs.Common.{◌≡◌, [], inl, refl, sym, ◌∙◌, List, le
 use Rattle.edge_io.proofs.Draws.{draws_nothing}
 use Rattle.edge_io.specs.LineReader.{source_of}
 use Rattle.device_bay.specs.Calls.{gifts_of, refusals_of}
-use Rattle.dir_table.specs.contracts.list.ListDirectoryDirectory.TheImpl.{ghosts as listed}
-use Rattle.cache_chronicle.specs.contracts.full.FullChronicleChronicle.TheImpl.{ghosts as chronicled}
 use Rattle.cache_replay.specs.Session.{return_of}
 use Rattle.cache_replay.proofs.Order.{none_back, none_out, order_closed, order_then}
 use Rattle.logged_disk.specs.Device.{State as Device}
 use Rattle.script_run.specs.Ledger.{AreLast, AreReached, ledger_of}
-use Rattle.cache_tool.specs.Story.{Owes, Told, refusals}
-use Rattle.cache_tool.specs.Top.{EachBack, EachBackOrMore}
+use Rattle.run_promise.specs.Story.{Owes, Told, refusals}
+use Rattle.run_promise.specs.Top.{EachBack, EachBackOrMore}
 use Rattle.cache_tool.proofs.Stories.{Deals-settled}
 use Rattle.cache_tool.proofs.Ends.{nothing_back, none_own, nothing_ends, Ends-settled, gave_settled, wants_settled}
 use Rattle.cache_tool.proofs.Unfailed.{unfailed_in_order}
@@ -30,11 +28,11 @@ returns-clause-ends g c =
     let bay = refusals (refusals_of (g.B.Bay.past c.args.bay.now)) (refusals_of (g.B.Bay.past c.run_lines-ending.new.bay)) in
     let ledger = ledger_of g.B.Bay c.args.bay.now in
     let closed = ledger_of g.B.Bay c.close.new.bay in
-    let settle : (t : Told) → Owes ledger (ledger_of g.B.Bay c.run_lines-ending.new.bay) (λ harms. AreReached harms (return_of g.B.Dev.Disk listed chronicled c.run_lines-ending.new.session.part)) t → EachBack ledger closed t =
+    let settle : (t : Told) → Owes ledger (ledger_of g.B.Bay c.run_lines-ending.new.bay) (λ harms. AreReached harms (return_of c.run_lines-ending.new.session.part)) t → EachBack ledger closed t =
     λ t owes. Deals-settled _ _ _ t.ended _ t.names owes.deals (c.close.ensures.back t.own owes.reached) c.close.ensures.names in
     let ends = Ends-settled bay (g.S.Source.reads (source_of reader).now) (g.S.Source.reads (source_of after).now) (g.K.Sink.writes c.args.sink.now) (g.K.Sink.writes c.run_lines-ending.new.sink) _ (EachBack ledger closed)
     _ (EachBackOrMore ledger closed) settle
-    (λ held given t. wants_settled ledger _ closed _ _ held given t settle (λ none gave. gave_settled g.B.Dev.Disk listed chronicled c.run_lines-ending.new.session _ _ _ held given t c.close.ensures.back c.close.ensures.names none gave)) c.run_lines-ending.result c.run_lines-ending.ensures.ends in
+    (λ held given t. wants_settled ledger _ closed _ _ held given t settle (λ none gave. gave_settled c.run_lines-ending.new.session _ _ _ held given t c.close.ensures.back c.close.ensures.names none gave)) c.run_lines-ending.result c.run_lines-ending.ensures.ends in
     rw (back, c.close.ensures.refusals, ← c.with_buffer-reader.ensures.now) ends
 
 pub returns-clause-reads : goal.returns-clause-reads
@@ -63,7 +61,7 @@ returns-in_default-clause-order g c = none_back _ [] _ _ refl (none_out (g.B.Bay
 pub returns-clause-order : goal.returns-clause-order
 returns-clause-order g c =
     let past = g.B.Bay.past c.args.bay.now in
-    let none = none_own g.B.Dev.Disk listed chronicled c.begin-session.result.part c.begin-session.ensures.devices in
+    let none = none_own c.begin-session.result.part c.begin-session.ensures.devices in
     order_then _ _ _ _ _ _ c.run_lines-ending.ensures.order (order_closed _ [] _ _ (c.close.ensures.order [])) _
     (subst (λ (own : List Device). AreLast (length (gifts_of past)) own past) (sym none) (none_out past))
 

@@ -1,7 +1,7 @@
 use Rattle.std.proofs.Common.{List, [], ℕ, Result, Ok, Err, inl, inr}
 use Rattle.device_log.specs.Streams.{SinkWrite}
 use Rattle.edge_io.specs.Sink.{NotesWrite}
-use Rattle.cache_tool.specs.Top.{WentOut}
+use Rattle.run_promise.specs.Top.{WentOut}
 use Rattle.cache_tool.proofs.Halts.{note_grows, sends_piece, took_piece}
 use Rattle.cache_tool.proofs.top.send.Goals as goal
 
