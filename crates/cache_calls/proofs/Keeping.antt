@@ -1,5 +1,5 @@
 -- What every call keeps is kept by several, and a plain cache has steps.
-use Rattle.std.proofs.Common.{◌≡◌, true, false, sym, ◌∙◌, arith}
+use Rattle.std.proofs.Common.{◌≡◌, true, false, refl, sym, ◌∙◌, arith}
 use Rattle.logged_disk.proofs.GoingOn.{goes_further, stays_put}
 use Rattle.call_laws.specs.Moments.{At}
 use Rattle.call_laws.proofs.Whole.{encloses_own}
@@ -7,11 +7,12 @@ use Rattle.cache_calls.specs.Keeping.{Goes, IsUnharmed, Keeps, PlainHasSteps}
 
 module _ {S : Type 0} {at : S → At} {holds : S → Type 0} where
   pub goes_still : (a : S) → holds a → Goes at holds a a
-  goes_still a h = record { holds_then = h; goes = stays_put (at a).device; later = omega arith }
+  goes_still a h = record { holds_then = h; setting = refl; goes = stays_put (at a).device; later = omega arith }
 
   pub goes_then : {a b c : S} → Goes at holds a b → Goes at holds b c → Goes at holds a c
   goes_then {a} {b} {c} first next = record {
     holds_then = next.holds_then;
+    setting = next.setting ∙ first.setting;
     goes = goes_further (at a).device (at b).device (at c).device first.goes next.goes;
     later = omega (arith, first.later, next.later);
   }

@@ -9,6 +9,7 @@ use Rattle.cache_model.specs.Damage.{has_damage}
 use Rattle.cache_model.specs.Kept.{state_of}
 use Rattle.cache_model.specs.Legal.{IsQuiet}
 use Rattle.cache_model.specs.Permit.{Setting}
+use Rattle.cache_model.specs.Tape.{IsSound}
 use Rattle.call_laws.specs.Moments.{At, Encloses, permit_of}
 
 -- what the records of a cache stand for
@@ -32,10 +33,16 @@ abbrev pub PlainHasSteps : Type 0
 PlainHasSteps = (setting : Setting) → IsPlain setting → (now : ℕ) (past calls : List Call)
     → Encloses now setting (permit_of now setting past calls) [] calls
 
--- no vector is placed that is not committed, each put and each reader has a number of its own, below the next one, and the
--- cache is a plain one
+-- one of these whose content area begins at the first block of its device
+abbrev pub plain_setting : Setting
+plain_setting = record { packed = false; syncs = false; area = 0 }
+
+-- no vector is placed that is not committed, the pieces lie as those of a tape do, no fault was told above the device's count,
+-- each put and each reader has a number of its own, below the next one, and the cache is a plain one
 pub record IsAtRest (a : At) : Type 0 where
   pub quiet : IsQuiet (state_at a)
+  pub sound : IsSound (state_at a)
+  pub counted : (state_at a).fault ≤ a.device.faults
   pub puts : FallBelow (state_at a).next_put (map (λ (w : PutRow). w.put) (state_at a).puts)
   pub readers : FallBelow (state_at a).next_reader (map (λ (r : ReaderRow). r.reader) (state_at a).readers)
   pub plain : IsPlain a.setting
@@ -50,9 +57,10 @@ pub record IsUnharmed (a : At) : Type 0 where
 abbrev pub StaysUnharmed : (old new : At) → Type 0
 StaysUnharmed old new = IsUnharmed old → IsUnharmed new
 
--- a cache goes on: the same holds between calls, its device is the same, later on, and counts no less
+-- a cache goes on: the same holds between calls, its setting is the same, and so is its device, which counts no less
 pub record Goes {S : Type 0} (at : S → At) (holds : S → Type 0) (old new : S) : Type 0 where
   pub holds_then : holds new
+  pub setting : (at new).setting ≡ (at old).setting
   pub goes : IsAfter (at old).device (at new).device
   pub later : (at old).device.faults ≤ (at new).device.faults
 

@@ -1,6 +1,7 @@
 pub mod Actors
 pub mod Adds
 pub mod Keeping
+pub mod Begins
 pub mod Asked
 pub mod Writers
 pub mod Plain

@@ -120,6 +120,10 @@ pub trait Calls {
         requires { holds self.now }
         ensures { result.now ≡ (state_at (at self.now)).geometry };
 
+    /// The number of a writer's put.
+    fn put_of(&self, writer: &Self::Writer) -> u64
+        ensures { result ≡ (written writer.now).put };
+
     /// Whether the put of a writer is open.
     fn is_open(&self, writer: &Self::Writer) -> bool
         requires { holds self.now }

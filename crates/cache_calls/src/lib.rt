@@ -2,7 +2,9 @@
 #![tactic(auto)]
 
 mod calls;
+mod formats;
 mod laws;
 
 pub use calls::{Calls, Flushed, NextPiece, Opened, Receipt, Refusal, Removal};
+pub use formats::Formats;
 pub use laws::{calls_keep, others_stay, readers_stay, reads_leave_others, writers_stay};

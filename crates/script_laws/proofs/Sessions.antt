@@ -19,7 +19,8 @@ use Rattle.script_run.specs.Behind.{after_format, after_line, after_reading, beh
 use Rattle.script_run.specs.Run.{Run, fresh}
 use Rattle.script_run.specs.Takes.{FormatTakes, IsRun, ReadingTakes, SessionTakes, Takes, run_after}
 use Rattle.script_run.specs.Turn.{Turn}
-use Rattle.script_laws.specs.Sessions.{IsLegalWhere, IsOfLegal, plain_setting}
+use Rattle.cache_calls.specs.Keeping.{plain_setting}
+use Rattle.script_laws.specs.Sessions.{IsLegalWhere, IsOfLegal}
 
 -- of a stripe that does not sync nothing is asked of its copies, and none of the calls before
 set_by : (run : Run) (s : State) (turn : Turn) (step : Step) (calls : List Call) → SessionTakes run s turn step → IsSetBy plain_setting calls turn.device

@@ -1,17 +1,13 @@
 -- The records of each session of a script are a legal chronicle, so that all that holds of those holds of sessions.
-use Rattle.std.specs.Prelude.{ℕ, ◌≡◌, ⊤, false, List, Option, Some, None}
+use Rattle.std.specs.Prelude.{ℕ, ◌≡◌, ⊤, List, Option, Some, None}
 use Rattle.device_log.specs.Calls.{Call}
 use Rattle.cache_model.specs.declared.record.Rec.{Rec}
 use Rattle.cache_model.specs.State.{State, after_all, nothing_yet}
-use Rattle.cache_model.specs.Permit.{Setting}
 use Rattle.cache_model.specs.Legal.{Course, IsLegal, calls_of}
+use Rattle.cache_calls.specs.Keeping.{plain_setting}
 use Rattle.script_run.specs.Run.{fresh}
 use Rattle.script_run.specs.Turn.{Turn}
 use Rattle.script_run.specs.Takes.{IsRun, run_after}
-
--- a directory that displaces nothing, a stripe that does not sync, and a content area from the device's first block on
-abbrev pub plain_setting : Setting
-plain_setting = record { packed = false; syncs = false; area = 0 }
 
 -- the state is what the records of a legal chronicle of that setting come to, in whose steps the device made these calls
 pub record IsOfLegal (calls : List Call) (s : State) : Type 0 where

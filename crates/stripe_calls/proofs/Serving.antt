@@ -28,7 +28,8 @@ use Rattle.stripe_core.specs.Faults.{IsAccounted}
 use Rattle.stripe_core.proofs.Covering.{made_is}
 use Rattle.stripe_write.specs.Closing.{SpendsAll}
 use Rattle.stripe_write.proofs.Spending.{nothing_more}
-use Rattle.stripe_calls.specs.Seen.{at_by, plain}
+use Rattle.cache_calls.specs.Keeping.{plain_setting}
+use Rattle.stripe_calls.specs.Seen.{at_by}
 
 -- ---- steps
 
@@ -47,7 +48,7 @@ all_are P (x ∷ xs) each = (each x (inl refl), all_are P xs (λ y h. each y (in
 
 -- what has the calls of a call covers it
 pub covers_in : {now : ℕ} {p : Permit} {earlier calls : List Call} (before after : List Call) → after ≡ calls ++ before
-    → Encloses now plain p earlier calls → Covers p before after
+    → Encloses now plain_setting p earlier calls → Covers p before after
 covers_in {p = p} {earlier = earlier} {calls = calls} before after is h = record {
   plain = h.set.packed;
   unsynced = h.set.syncs;
@@ -60,7 +61,7 @@ covers_in {p = p} {earlier = earlier} {calls = calls} before after is h = record
         (λ x among. subst (IsAmong x) (sym h.events) (among_behind x h.later (calls ++ earlier) (among_front x calls earlier among)))
 
 -- no step of such a cache syncs
-pub never_syncs : {past : List Call} {p : Permit} → IsSetBy plain past p → p.syncs ≡ true → ⊥
+pub never_syncs : {past : List Call} {p : Permit} → IsSetBy plain_setting past p → p.syncs ≡ true → ⊥
 never_syncs set syncs = clash (sym set.syncs ∙ syncs)
   where
     clash : false ≡ true → ⊥

@@ -17,6 +17,8 @@ pub is_at_rest : {D R C : Type 0} {d : DiskGhosts D} {r : DirectoryGhosts R} {c 
     → IsCache cache → IsAtRest (at_of cache)
 is_at_rest cache h = record {
   quiet = h.quiet;
+  sound = h.stripe.pieces.sound;
+  counted = h.stripe.pieces.faults;
   puts = falls _ _ h.stripe.actors.puts_fall;
   readers = falls _ _ h.stripe.actors.readers_fall;
   plain = record { packed = refl; syncs = refl };

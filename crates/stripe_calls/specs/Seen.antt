@@ -1,11 +1,9 @@
 -- What a stripe, a writer and a reader are as those of a cache.
-use Rattle.std.specs.Prelude.{false}
 use Rattle.logged_disk.specs.Device.{State as Device}
 use Rattle.logged_disk.specs.declared.device.Disk.{Ghosts as DiskGhosts}
 use Rattle.dir_table.specs.declared.directory.Directory.{Ghosts as DirectoryGhosts}
 use Rattle.cache_chronicle.specs.declared.chronicle.Chronicle.{Ghosts as ChronicleGhosts}
 use Rattle.cache_model.specs.Kept.{Kept}
-use Rattle.cache_model.specs.Permit.{Setting}
 use Rattle.stripe_core.specs.declared.stripe.Stripe.{Stripe}
 use Rattle.stripe_core.specs.Stripe.{kept_in, seen_in}
 use Rattle.stripe_write.specs.declared.writer.Writer.{Writer}
@@ -13,14 +11,11 @@ use Rattle.stripe_read.specs.declared.reader.Reader.{Reader}
 use Rattle.stripe_read.specs.Readers.{rows_in}
 use Rattle.call_laws.specs.Moments.{At}
 use Rattle.cache_calls.specs.Actors.{ReaderSeen, WriterSeen}
-
--- its directory displaces nothing, it does not sync, and its content area begins at the first block
-abbrev pub plain : Setting
-plain = record { packed = false; syncs = false; area = 0 }
+use Rattle.cache_calls.specs.Keeping.{plain_setting}
 
 -- these records and this device at a moment of such a cache
 abbrev pub at_by : Kept → Device → At
-at_by kept device = record { kept = kept; device = device; setting = plain }
+at_by kept device = record { kept = kept; device = device; setting = plain_setting }
 
 -- those of a stripe
 abbrev pub at_in : {D R C : Type 0} {d : DiskGhosts D} {r : DirectoryGhosts R} {c : ChronicleGhosts C} → Stripe D R C d r c → At

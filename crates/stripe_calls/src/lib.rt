@@ -2,6 +2,7 @@
 #![tactic(auto)]
 
 mod answers;
+mod begins;
 mod cache;
 mod seam;
 

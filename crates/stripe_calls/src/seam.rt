@@ -38,6 +38,10 @@ impl<D: Disk, R: Directory + Drop, C: Chronicle> Calls for StripeCache<D, R, C> 
         self.stripe.geometry()
     }
 
+    fn put_of(&self, writer: &Writer) -> u64 {
+        writer.put()
+    }
+
     fn is_open(&self, writer: &Writer) -> bool {
         is_open(&self.stripe, writer)
     }

@@ -1,0 +1,12 @@
+use Rattle.std.proofs.Common.{refl, sym, subst}
+use Rattle.cache_model.specs.Kept.{state_of}
+use Rattle.cache_model.specs.Legal.{IsQuiet}
+use Rattle.stripe_calls.proofs.begins.StripeCacheListDirectoryFullChronicleFormats.format.Goals as goal
+
+pub returns-in-Ok-clause-begins : goal.returns-in-Ok-clause-begins
+returns-in-Ok-clause-begins g c = record {
+  holds_first = record { stripe = c.in-Ok.ensures.stripe; quiet = subst (λ k. IsQuiet (state_of k)) (sym c.in-Ok.ensures.records) refl };
+  kept = c.in-Ok.ensures.records;
+  device_is = c.in-Ok.ensures.device;
+  setting = refl;
+}

@@ -1,0 +1,31 @@
+// A stripe begins, and gives its device back, as a cache does.
+ghost use Rattle.std.specs.Prelude.{◌≡◌};
+
+use crate::cache::StripeCache;
+use cache_calls::Formats;
+use cache_chronicle::FullChronicle;
+use dir_table::ListDirectory;
+use logged_disk::Disk;
+use std::alloc::{AllocError, Global};
+use stripe_core::Stripe;
+use tape_base::Geometry;
+
+/// Its directory is a list, and its chronicle keeps each record.
+impl<D: Disk> Formats<D> for StripeCache<D, ListDirectory, FullChronicle> {
+    fn format(
+        alloc: Global,
+        device: D,
+        geometry: Geometry,
+    ) -> Result<StripeCache<D, ListDirectory, FullChronicle>, (AllocError, D)> {
+        match Stripe::format(alloc, device, FullChronicle::new(alloc), geometry) {
+            Ok(stripe) => Ok(StripeCache { stripe }),
+            // A format is refused for memory alone.
+            Err((_, device, _)) => Err((AllocError, device)),
+        }
+    }
+
+    fn into_device(self) -> D {
+        let (device, _chronicle) = self.stripe.into_parts();
+        device
+    }
+}
